@@ -1,5 +1,5 @@
 -- The messages of a source are counted as if they were handed to `check`, which writes nothing of them.
-use Rattle.std.proofs.Common.{◌≡◌, ℕ, ◌+◌, ◌≤◌, List, [], Option, None, Result, Ok, Err, inl, inr, refl, arith, ◌∙◌, sym, subst}
+use Rattle.std.proofs.Common.{◌≡◌, ℕ, List, [], Option, None, Result, Ok, Err, inl, inr, arith, subst}
 use Rattle.dbus_device.specs.Device.{RisesBy}
 use Rattle.dbus_stream.specs.CheckReading.{CheckAnswers, CheckReader}
 use Rattle.dbus_stream.specs.Cut.{CutMessage}
@@ -12,7 +12,7 @@ use Rattle.dbus_value_model.specs.declared.limits.Limits.{Limits}
 use Rattle.dbus_command.specs.declared.command.Command.TheVariants.{Check}
 use Rattle.dbus_tool.specs.Counting.{CountsSome, StopsCounting, Tallies}
 use Rattle.dbus_tool.specs.Devices.{RisesAtMost, Taken, Writing, reading, taken}
-use Rattle.dbus_tool.specs.Onward.{HasRead, HandsOn, HandsSomeOn, IsTrueEnd}
+use Rattle.dbus_tool.specs.Onward.{HasRead, HandsOn, HandsSomeOn}
 use Rattle.dbus_tool.specs.declared.ending.Cause.{Cause}
 use Rattle.dbus_tool.specs.declared.ending.Cause.TheVariants.{Memory, ReadFailed, WriteFailed, TooManyReads}
 use Rattle.dbus_tool.specs.declared.ending.Counted.{Counted}

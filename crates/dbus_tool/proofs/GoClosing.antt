@@ -1,21 +1,20 @@
 -- How a run ends that passes over refused messages.
-use Rattle.std.proofs.Common.{◌≡◌, ℕ, ◌+◌, ◌≤◌, List, [], ◌++◌, Bool, Err, Ok, Option, Result, refl, sym, ap, ◌∙◌, subst, arith, inl, inr, append_assoc, append-nil}
+use Rattle.std.proofs.Common.{ℕ, ◌≤◌, List, [], ◌++◌, Bool, Err, Ok, Option, Result, refl, sym, ap, ◌∙◌, subst, arith, inl, inr, append_assoc, append-nil}
 use Rattle.dbus_value_model.specs.declared.fault.Fault.{Fault}
 use Rattle.dbus_value_model.specs.declared.limits.Limits.{Limits}
-use Rattle.dbus_device.specs.Write.{Wrote}
 use Rattle.dbus_stream.specs.Cut.{CutOutcome, Ended, Unfinished, Refused}
 use Rattle.dbus_command.specs.declared.settings.Settings.{Settings}
 use Rattle.dbus_command.specs.declared.command.Command.{Command}
 use Rattle.dbus_tool.specs.Devices.{writing, Taken}
 use Rattle.dbus_tool.specs.Going.{first_of, second_of, is_check, HandsParts, GoesThrough, StopsWithin, IsMore, IsStopOf, IsAllRead, GotFirst, GotSecond, WritesBy}
 use Rattle.dbus_tool.specs.Output.{IsPrefixTo}
-use Rattle.dbus_tool.specs.Parts.{IsLast, tally_of, passed_count, closing_line, status_at}
+use Rattle.dbus_tool.specs.Parts.{IsLast, closing_line, status_at}
 use Rattle.dbus_tool.specs.declared.ending.Cause.TheVariants.{Memory, ReadFailed, WriteFailed, TooManyReads}
 use Rattle.dbus_tool.specs.declared.going.Stop.{Stop}
 use Rattle.dbus_tool.specs.declared.going.Stop.TheVariants.{Cause as ByCause, Second}
 use Rattle.dbus_tool.specs.declared.tally.Tally.{Tally}
 use Rattle.dbus_tool.proofs.PartLaws.{few_passed, few_passed_sizes}
-use Rattle.dbus_tool.proofs.WriteSteps.{HasTold, TellsMore, tells_more}
+use Rattle.dbus_tool.proofs.WriteSteps.{TellsMore, tells_more}
 
 last_front : (goes_on : Bool) (limits : Limits) (kept rest : List ℕ) (outcome : CutOutcome) (at_end : Type 0) → IsLast goes_on limits kept rest outcome at_end → IsPrefixTo kept rest
 last_front goes_on limits kept rest Ended at_end last = ([], last.0 ∙ sym (append-nil kept))

@@ -1,20 +1,20 @@
 -- The turns of a run that passes over refused messages. Each hands on the messages up to the next fault, tells it, and passes over that message.
-use Rattle.std.proofs.Common.{◌≡◌, ◌⊎◌, ℕ, ◌+◌, ◌-◌, ◌^◌, ◌<◌, ◌≤◌, List, [], ◌∷◌, ◌++◌, Bool, true, false, None, Some, Ok, Err, Option, Result, length, drop, refl, sym, ap, ◌∙◌, subst, arith, inl, inr, append_assoc, append-nil, length-append}
+use Rattle.std.proofs.Common.{◌≡◌, ℕ, ◌+◌, ◌-◌, ◌^◌, ◌<◌, ◌≤◌, List, [], ◌∷◌, ◌++◌, Bool, true, false, None, Some, Ok, Err, Option, Result, length, refl, sym, ap, ◌∙◌, subst, arith, inl, inr, append-nil, length-append}
 use Rattle.std.specs.Io.KnownBytes.{Consumes, IsAtEnd}
 use Rattle.std.proofs.KnownBytes.{Consumes-nil, Consumes-trans}
 use Rattle.std.proofs.lemmas.Bool.{false≢true}
 use Rattle.dbus_value_model.specs.declared.fault.Fault.{Fault}
 use Rattle.dbus_value_model.specs.declared.limits.Limits.{Limits}
-use Rattle.dbus_header.specs.MessageOutcomes.{IsRefused, IsPartial}
+use Rattle.dbus_header.specs.MessageOutcomes.{IsRefused}
 use Rattle.dbus_header.specs.StatedLengths.{StatesLength}
 use Rattle.dbus_device.specs.Device.{one_more, RisesBy}
 use Rattle.dbus_device.specs.Write.{Wrote}
-use Rattle.dbus_stream.specs.Cut.{CutMessage, BeginWith, CutOutcome, Ended, Unfinished, Refused, IsOutcome}
+use Rattle.dbus_stream.specs.Cut.{CutMessage, CutOutcome, Ended, Unfinished, Refused, IsOutcome}
 use Rattle.dbus_stream.specs.CutEnds.{fault_at_end, truncated, sizes}
 use Rattle.dbus_stream.specs.Gathering.{gathering}
 use Rattle.dbus_stream.specs.Lasting.{is_truncated}
 use Rattle.dbus_stream.specs.Next.{DeviceCounts}
-use Rattle.dbus_stream.specs.Passing.{Passing, PassAnswers, ReadsUpTo, IsRefusal, StatesAll, FallsShort, PassesOver}
+use Rattle.dbus_stream.specs.Passing.{Passing, ReadsUpTo, IsRefusal, StatesAll, FallsShort, PassesOver}
 use Rattle.dbus_stream.specs.RawReading.{IsNewReader, done_of, is_ended, kept, limits_of, most_reads_of, reads_of, source_of, stopped_of}
 use Rattle.dbus_stream.specs.declared.raw_reader.RawReader.{RawReader}
 use Rattle.dbus_stream.specs.declared.read_fault.ReadFault.{ReadFault}
@@ -23,9 +23,9 @@ use Rattle.dbus_command.specs.declared.settings.Settings.{Settings}
 use Rattle.dbus_command.specs.declared.command.Command.{Command}
 use Rattle.dbus_tool.specs.Devices.{reading, writing, taken, Taken}
 use Rattle.dbus_tool.specs.Gathering.{Passes, Breaks}
-use Rattle.dbus_tool.specs.Going.{first_of, second_of, is_check, Covers, TellsRest, IsThrough, HandsParts, StopsWithin, IsMore, IsAllOf, IsStopOf, cause_of, IsAllRead, PartsOf, GotFirst, GotSecond, TellsBy, TellsText}
+use Rattle.dbus_tool.specs.Going.{first_of, second_of, is_check, Covers, IsThrough, HandsParts, StopsWithin, IsMore, IsAllOf, IsStopOf, cause_of, IsAllRead, PartsOf, GotFirst, GotSecond, TellsBy, TellsText}
 use Rattle.dbus_tool.specs.Onward.{HasRead, HandsRawOn, HandsSomeOn, IsTrueEnd, stop_of}
-use Rattle.dbus_tool.specs.Output.{IsOutputOfAll, IsPrefixTo}
+use Rattle.dbus_tool.specs.Output.{IsOutputOfAll}
 use Rattle.dbus_tool.specs.Parts.{Part, PassedOver, sizes_of, BeginWithParts, IsCutOff, IsLast, AreTexts, IsMade, IsToldOf, IsToldLast, passed_count, passed_sizes, tally_of, closing_line}
 use Rattle.dbus_tool.specs.Telling.{IsTold}
 use Rattle.dbus_tool.specs.declared.ending.Cause.{Cause}
@@ -34,7 +34,6 @@ use Rattle.dbus_tool.specs.declared.ending.Counted.{Counted}
 use Rattle.dbus_tool.specs.declared.going.Stop.{Stop}
 use Rattle.dbus_tool.specs.declared.going.Stop.TheVariants.{Cause as ByCause, Second}
 use Rattle.dbus_tool.specs.declared.tally.Tally.{Tally}
-use Rattle.dbus_tool.specs.declared.telling.Refusal.{Refusal}
 use Rattle.dbus_tool.proofs.GatherSteps.{passes_whole}
 use Rattle.dbus_tool.proofs.PartLaws.{wholes, parts_more, parts_both, parts_of, few_parts, few_passed, few_passed_sizes, stated_bytes, sizes-both, passed-both, passed_sizes-both, length-wholes, sizes-wholes, passed-wholes, passed_sizes-wholes, texts_both, made_of, told_of, first_nothing, second_nothing, first_more}
 use Rattle.dbus_tool.proofs.ReadSteps.{read_none, read_on}

@@ -1,17 +1,17 @@
 -- The turns in which something is written of the messages of a reader, from where it stands. k is what is known of its taker, kept is what it kept
 -- there, and before is how many messages came before.
-use Rattle.std.proofs.Common.{◌≡◌, ◌⊎◌, ℕ, ◌+◌, List, [], ◌∷◌, ◌++◌, true, false, None, Some, Ok, Err, Option, Result, length, drop, refl, sym, ap, ◌∙◌, subst, arith, inl, inr}
+use Rattle.std.proofs.Common.{◌≡◌, ◌⊎◌, ℕ, ◌+◌, List, [], ◌∷◌, ◌++◌, true, None, Some, Err, Option, length, drop, refl, sym, ap, ◌∙◌, subst, arith, inl, inr}
 use Rattle.dbus_value_model.specs.declared.fault.Fault.{Fault}
 use Rattle.dbus_value_model.specs.declared.limits.Limits.{Limits}
 use Rattle.dbus_header.specs.MessageOutcomes.{IsWhole, IsRefused, IsPartial}
-use Rattle.dbus_device.specs.Device.{one_more, RisesBy}
-use Rattle.dbus_stream.specs.Cut.{CutMessage, BeginWith, CutOutcome, Unfinished, Refused, IsOutcome}
+use Rattle.dbus_device.specs.Device.{one_more}
+use Rattle.dbus_stream.specs.Cut.{CutMessage, CutOutcome, Unfinished, Refused, IsOutcome}
 use Rattle.dbus_stream.specs.CutEnds.{fault_at_end, sizes}
 use Rattle.dbus_stream.specs.Gathering.{gathering}
 use Rattle.dbus_stream.specs.Next.{DeviceCounts, IsCutShort, Reads}
 use Rattle.dbus_stream.specs.RawNext.{Advances}
 use Rattle.dbus_stream.specs.RawReading as raw
-use Rattle.dbus_stream.specs.RawReading.{kept, IsNewReader}
+use Rattle.dbus_stream.specs.RawReading.{kept}
 use Rattle.dbus_stream.specs.declared.raw_reader.RawReader.{RawReader}
 use Rattle.dbus_stream.specs.Reading.{limits_of, source_of, done_of, reads_of, most_reads_of, is_ended, stopped_of}
 use Rattle.dbus_stream.specs.Taking.{Taking}
@@ -20,13 +20,12 @@ use Rattle.dbus_stream.specs.declared.reader.Reader.{Reader}
 use Rattle.dbus_stream.specs.declared.read_fault.ReadFault.{ReadFault}
 use Rattle.dbus_stream.specs.declared.read_fault.ReadFault.TheVariants as read
 use Rattle.dbus_command.specs.declared.command.Command.{Command}
-use Rattle.dbus_stream.proofs.NextSteps.{both_ways}
-use Rattle.dbus_tool.specs.Devices.{reading, writing, RisesAtMost}
+use Rattle.dbus_tool.specs.Devices.{writing}
 use Rattle.dbus_tool.specs.Counting.{ended_by, stopped_by}
 use Rattle.dbus_tool.specs.Output.{IsOutputOf, IsOutputOfAll}
 use Rattle.dbus_tool.specs.Gathering.{Passes, Leaves, GathersOrNot}
-use Rattle.dbus_tool.specs.Handing.{HandsSome, Hands, GivesNext, IsReadCause, AreAll, IsWrittenOut}
-use Rattle.dbus_tool.specs.Onward.{HasRead, HandsAllOn, HandsSomeOn, HandsOn, RawHandsOn, StopsFor, IsTrueEnd}
+use Rattle.dbus_tool.specs.Handing.{GivesNext, AreAll, IsWrittenOut}
+use Rattle.dbus_tool.specs.Onward.{HasRead, HandsAllOn, HandsSomeOn, HandsOn, RawHandsOn, StopsFor}
 use Rattle.dbus_tool.specs.declared.ending.Cause.{Cause}
 use Rattle.dbus_tool.specs.declared.ending.Cause.TheVariants.{Memory, ReadFailed, WriteFailed, TooManyReads}
 use Rattle.dbus_tool.specs.declared.ending.Counted.{Counted}

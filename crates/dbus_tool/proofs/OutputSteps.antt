@@ -1,14 +1,9 @@
 -- What a command writes of several messages, and after them.
-use Rattle.std.proofs.Common.{◌≡◌, ℕ, suc, ◌+◌, List, [], ◌∷◌, ◌++◌, true, false, Option, length, refl, sym, ap, ◌∙◌, subst, arith, append_assoc, append-nil}
-use Rattle.dbus_value_model.specs.declared.fault.Fault.{Fault}
+use Rattle.std.proofs.Common.{◌≡◌, ℕ, suc, ◌+◌, List, [], ◌∷◌, ◌++◌, length, refl, sym, ap, ◌∙◌, subst, arith, append_assoc, append-nil}
 use Rattle.dbus_stream.specs.Cut.{CutMessage}
 use Rattle.dbus_stream.specs.CutEnds.{sizes}
 use Rattle.dbus_command.specs.declared.command.Command.{Command}
-use Rattle.dbus_tool.specs.Commands.{command_of}
-use Rattle.dbus_tool.specs.Going.{is_check}
-use Rattle.dbus_tool.specs.Output.{IsOutputOf, IsOutputOfAll, fault_line, last_line, second_output}
-use Rattle.dbus_tool.specs.declared.output.Output.{Output}
-use Rattle.dbus_tool.specs.declared.output.Output.TheVariants.{Nothing, Text, JsonLine, InOrder, Matching}
+use Rattle.dbus_tool.specs.Output.{IsOutputOf, IsOutputOfAll}
 
 -- messages after others
 pub output_both : (command : Command) (n offset : ℕ) (items more : List CutMessage) (a b : List ℕ) → IsOutputOfAll command n offset items a

@@ -1,7 +1,6 @@
 -- Parts of an input that follow one another, and what is made and told of them.
-use Rattle.std.proofs.Common.{◌≡◌, ℕ, zero, suc, ◌+◌, ◌-◌, ◌<◌, ◌≤◌, Bool, true, false, List, [], ◌∷◌, ◌++◌, length, drop, Option, None, Some, refl, sym, ap, ◌∙◌, subst, arith, append_assoc, append-nil, length-append}
+use Rattle.std.proofs.Common.{◌≡◌, ℕ, suc, ◌+◌, ◌<◌, ◌≤◌, List, [], ◌∷◌, ◌++◌, length, drop, refl, sym, ap, ◌∙◌, subst, arith, append_assoc, append-nil, length-append}
 use Rattle.std.proofs.lemmas.List.{drop-append-le}
-use Rattle.dbus_value_model.specs.declared.fault.Fault.{Fault}
 use Rattle.dbus_value_model.specs.declared.limits.Limits.{Limits}
 use Rattle.dbus_header.specs.StatedLengths.{StatesLength}
 use Rattle.dbus_header.proofs.OutcomeLaws.{whole_for_good, whole_inside}
@@ -10,11 +9,9 @@ use Rattle.dbus_stream.specs.CutEnds.{sizes}
 use Rattle.dbus_command.specs.declared.settings.Settings.{Settings}
 use Rattle.dbus_command.specs.declared.command.Command.{Command}
 use Rattle.dbus_command.specs.declared.command.Command.TheVariants.{Show, Json, Check, Swap, Filter}
-use Rattle.dbus_tool.specs.Going.{first_of, second_of, is_check}
-use Rattle.dbus_tool.specs.Lines.{counts_line}
-use Rattle.dbus_tool.specs.Output.{IsOutputOfAll, last_line}
-use Rattle.dbus_tool.specs.Parts.{Part, Whole, PassedOver, size_of, sizes_of, IsPart, BeginWithParts, AreTexts, IsMade, IsToldOf, passed_count, passed_sizes, closing_line, status_at}
-use Rattle.dbus_tool.specs.declared.tally.Tally.{Tally}
+use Rattle.dbus_tool.specs.Going.{first_of, second_of}
+use Rattle.dbus_tool.specs.Output.{IsOutputOfAll}
+use Rattle.dbus_tool.specs.Parts.{Part, Whole, PassedOver, size_of, sizes_of, IsPart, BeginWithParts, AreTexts, IsMade, IsToldOf, passed_count, passed_sizes}
 
 -- ---- the input
 
@@ -168,54 +165,3 @@ first_more Json n offset parts out told more o = refl
 first_more Check n offset parts out told more o = ap (λ l. told ++ l) (checked_nothing n offset parts more o) ∙ append-nil told
 first_more (Swap order) n offset parts out told more o = refl
 first_more (Filter selection) n offset parts out told more o = refl
-
--- more is told
-pub first_told : (command : Command) (out told text : List ℕ) → first_of command out told ++ first_of command [] text ≡ first_of command out (told ++ text)
-first_told Show out told text = append-nil out
-first_told Json out told text = append-nil out
-first_told Check out told text = refl
-first_told (Swap order) out told text = append-nil out
-first_told (Filter selection) out told text = append-nil out
-
-pub second_told : (command : Command) (told text : List ℕ) → second_of command told ++ second_of command text ≡ second_of command (told ++ text)
-second_told Show told text = refl
-second_told Json told text = refl
-second_told Check told text = refl
-second_told (Swap order) told text = refl
-second_told (Filter selection) told text = refl
-
--- a line is for one of them
-pub for_first : (command : Command) (line : List ℕ) → is_check command ≡ true → (first_of command [] line ≡ line) × (second_of command line ≡ [])
-for_first Show line e = absurd cc
-for_first Json line e = absurd cc
-for_first Check line e = (refl, refl)
-for_first (Swap order) line e = absurd cc
-for_first (Filter selection) line e = absurd cc
-
-pub for_second : (command : Command) (line : List ℕ) → is_check command ≡ false → (first_of command [] line ≡ []) × (second_of command line ≡ line)
-for_second Show line e = (refl, refl)
-for_second Json line e = (refl, refl)
-for_second Check line e = absurd cc
-for_second (Swap order) line e = (refl, refl)
-for_second (Filter selection) line e = (refl, refl)
-
--- ---- the last line
-
-pub closing_passed : (command : Command) (t : Tally) (n : ℕ) (fault : Option Fault) → 0 < n
-    → closing_line command t n fault ≡ counts_line (t.count - t.passed) (t.size - t.passed_size) t.passed t.passed_size
-closing_passed command t zero fault some = absurd (omega (arith, some))
-closing_passed command t (suc n) fault some = refl
-
-pub closing_whole : (command : Command) (t : Tally) (n : ℕ) (fault : Option Fault) → n ≡ 0 → fault ≡ None → closing_line command t n fault ≡ last_line command t.count t.size None
-closing_whole command t n fault e f = (λ i. closing_line command t (e i) (f i))
-
-pub closing_refused : (command : Command) (t : Tally) (n : ℕ) (fault : Fault) (of : Option Fault) → n ≡ 0 → of ≡ Some fault → closing_line command t n of ≡ []
-closing_refused command t n fault of e f = (λ i. closing_line command t (e i) (f i))
-
--- only `check` writes one of an input without fault
-pub no_last : (command : Command) (count size : ℕ) → is_check command ≡ false → last_line command count size None ≡ []
-no_last Show count size e = refl
-no_last Json count size e = refl
-no_last Check count size e = absurd cc
-no_last (Swap order) count size e = refl
-no_last (Filter selection) count size e = refl

@@ -1,6 +1,6 @@
 -- How a run ends that neither explains refused messages nor passes over them, of a command that tells the second writer. What it promises by parts
 -- is said of messages here.
-use Rattle.std.proofs.Common.{◌≡◌, ◌≢◌, ℕ, ◌+◌, List, [], ◌∷◌, ◌++◌, false, true, None, Some, Ok, Err, Option, Result, length, drop, refl, sym, ap, ◌∙◌, subst, append-nil, inl, inr}
+use Rattle.std.proofs.Common.{◌≡◌, ◌≢◌, ℕ, ◌+◌, List, [], ◌∷◌, ◌++◌, false, None, Some, Ok, Err, Option, Result, length, drop, refl, sym, ap, ◌∙◌, subst, append-nil, inl, inr}
 use Rattle.std.proofs.lemmas.Bool.{false≢true}
 use Rattle.dbus_value_model.specs.declared.fault.Fault.{Fault}
 use Rattle.dbus_value_model.specs.declared.limits.Limits.{Limits}

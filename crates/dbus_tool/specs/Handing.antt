@@ -1,13 +1,10 @@
 -- What was read and written where messages are handed to a command. g0 and g1 are what is gathered before and after.
 use Rattle.std.specs.Prelude.{◌≡◌, ℕ, List, [], ◌++◌, Option, Result, Ok, Err}
-use Rattle.std.specs.Io.KnownBytes.{Consumes}
 use Rattle.dbus_value_model.specs.declared.limits.Limits.{Limits}
 use Rattle.dbus_value_model.specs.declared.order.Order.{Order}
 use Rattle.dbus_message_model.specs.Messages.{MessageTree}
 use Rattle.dbus_header.specs.MessageOutcomes.{IsPartial}
 use Rattle.dbus_validate.specs.declared.validating.Validated.{Validated}
-use Rattle.dbus_device.specs.Device.{one_more, RisesBy}
-use Rattle.dbus_stream.specs.Cut.{CutMessage, BeginWith}
 use Rattle.dbus_stream.specs.Next.{DeviceCounts}
 use Rattle.dbus_stream.specs.RawNext.{Reads, Advances}
 use Rattle.dbus_stream.specs.RawReading.{kept, source_of}
@@ -17,13 +14,11 @@ use Rattle.dbus_stream.specs.declared.read_fault.ReadFault.TheVariants as read
 use Rattle.dbus_json.specs.JsonMessages.{IsJsonLine}
 use Rattle.dbus_command.specs.declared.command.Command.{Command}
 use Rattle.dbus_command.specs.declared.selection.Selection.{Selection}
-use Rattle.dbus_tool.specs.Counting.{CountsAll}
-use Rattle.dbus_tool.specs.Devices.{Reading, Writing, RisesAtMost}
-use Rattle.dbus_tool.specs.Output.{IsFiltered, IsOutputOf, IsOutputOfAll}
-use Rattle.dbus_tool.specs.Gathering.{Passes, Breaks, GathersOrNot, Leaves}
+use Rattle.dbus_tool.specs.Devices.{Writing}
+use Rattle.dbus_tool.specs.Output.{IsFiltered, IsOutputOf}
+use Rattle.dbus_tool.specs.Gathering.{Passes, Breaks, GathersOrNot}
 use Rattle.dbus_tool.specs.declared.ending.Cause.{Cause}
 use Rattle.dbus_tool.specs.declared.ending.Cause.TheVariants.{Memory, ReadFailed, WriteFailed, TooManyReads}
-use Rattle.dbus_tool.specs.declared.ending.Counted.{Counted}
 use Rattle.dbus_tool.specs.declared.ending.NoMessage.{NoMessage}
 use Rattle.dbus_tool.specs.declared.ending.NoMessage.TheVariants.{Reader, Writer}
 use Rattle.dbus_tool.specs.declared.place.Place.{Place}

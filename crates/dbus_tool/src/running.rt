@@ -1,9 +1,7 @@
 //! A command, over any reader and two writers.
-ghost use Rattle.std.specs.Prelude.{◌≡◌, ◌≤◌, ◌^◌, false};
+ghost use Rattle.std.specs.Prelude.{◌≤◌, ◌^◌, false};
 ghost use Rattle.dbus_value_model.specs.Specification.{specification};
 ghost use Rattle.dbus_tool.specs.Devices.{reading, writing};
-ghost use Rattle.dbus_tool.specs.Commands.{command_of};
-ghost use Rattle.dbus_tool.specs.Going.{is_check};
 ghost use Rattle.dbus_tool.specs.Running.{Runs};
 
 use crate::closing::{status_of, write_count};

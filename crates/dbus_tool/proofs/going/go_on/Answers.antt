@@ -1,4 +1,4 @@
-use Rattle.std.proofs.Common.{◌≡◌, inl, inr, sym, subst}
+use Rattle.std.proofs.Common.{inl, inr, sym, subst}
 use Rattle.dbus_tool.specs.Commands.{command_of}
 use Rattle.dbus_tool.specs.Devices.{reading, taken}
 use Rattle.dbus_tool.specs.Going.{GoesThrough}

@@ -1,5 +1,5 @@
-use Rattle.std.proofs.Common.{◌≡◌, ◌≤◌, ◌<◌, ◌^◌, ◌+◌, ◌-◌, ◌++◌, List, ℕ, [], None, Some, Ok, Err, Bool, true, false, not, arith, refl, sym, ap, ◌∙◌, subst}
-use Rattle.dbus_stream.specs.RawReading.{done_of, kept, most_reads_of, source_of}
+use Rattle.std.proofs.Common.{◌≡◌, ◌+◌, ◌-◌, ◌++◌, Ok, Bool, true, false, not, arith, refl, sym, ◌∙◌, subst}
+use Rattle.dbus_stream.specs.RawReading.{done_of, most_reads_of}
 use Rattle.dbus_tool.specs.Commands.{command_of}
 use Rattle.dbus_tool.specs.declared.tally.Tally.{Tally}
 use Rattle.dbus_tool.proofs.GoSteps.{HasGone, HasReached, gone_none, within, done_small, reach, stop_hand, finished, more_told, not_told, halts, stays, breaks, goes_on, Torn}
