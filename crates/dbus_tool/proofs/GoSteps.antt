@@ -26,7 +26,7 @@ use Rattle.dbus_tool.specs.Gathering.{Passes, Breaks}
 use Rattle.dbus_tool.specs.Going.{first_of, second_of, is_check, Covers, IsThrough, HandsParts, StopsWithin, IsMore, IsAllOf, IsStopOf, cause_of, IsAllRead, PartsOf, GotFirst, GotSecond, TellsBy, TellsText}
 use Rattle.dbus_tool.specs.Onward.{HasRead, HandsRawOn, HandsSomeOn, IsTrueEnd, stop_of}
 use Rattle.dbus_tool.specs.Output.{IsOutputOfAll}
-use Rattle.dbus_tool.specs.Parts.{Part, PassedOver, sizes_of, BeginWithParts, IsCutOff, IsLast, AreTexts, IsMade, IsToldOf, IsToldLast, passed_count, passed_sizes, tally_of, closing_line}
+use Rattle.dbus_tool.specs.Parts.{Part, PassedOver, sizes_of, BeginWithParts, IsCutOff, IsLast, AreTexts, IsMade, IsToldOf, passed_count, passed_sizes, tally_of, closing_line}
 use Rattle.dbus_tool.specs.Telling.{IsTold}
 use Rattle.dbus_tool.specs.declared.ending.Cause.{Cause}
 use Rattle.dbus_tool.specs.declared.ending.Cause.TheVariants.{Memory, ReadFailed, WriteFailed, TooManyReads}
@@ -62,24 +62,74 @@ refused_is limits w fault Unfinished o e not =
     absurd (false≢true (sym not ∙ ap (λ (f : Fault). is_truncated f.reason) same))
 refused_is limits w fault (Refused other) o e not = let same : other ≡ fault = cc in subst (λ f. IsRefused limits w f) same o
 
-module _ {R A W E : Type 0} (left : R → Option (List ℕ)) (calls failures : R → ℕ) (held : W → Option (List ℕ)) (write_failures : W → ℕ) (second_held : E → Option (List ℕ)) (second_failures : E → ℕ)
-    (settings : Settings) (limits : Limits) (most : ℕ) (command : Command) (old : RawReader R A) (w0 : W) (e0 : E) where
+none_is : (w : List ℕ) (outcome : CutOutcome) → None ≡ fault_at_end w outcome → outcome ≡ Ended
+none_is w Ended e = refl
+none_is w Unfinished e = absurd cc
+none_is w (Refused fault) e = absurd cc
+
+-- a message that is passed over has bytes
+pub grows : {R A : Type 0} (left : R → Option (List ℕ)) (calls : R → ℕ) (mid new : RawReader R A) → Passing left calls mid new (Ok true) → (stopped_of new ≡ None) × (done_of mid < done_of new)
+grows left calls mid new passing = elim passing [
+  | inl p ↦ (p.5.stopped, omega (arith, p.5.done, stated_bytes (limits_of mid) (kept mid) p.1 p.3))
+  | inr none ↦ absurd (let e = none.1 in cc)
+]
+
+pub done_small : {R A : Type 0} (r : RawReader R A) → done_of r ≤ 2 ^ 50
+done_small r = omega (arith, r.reader.counted, r.reader.few_reads, r.reader.low_most)
+
+-- how far a turn is
+pub record IsWithin (tally : Tally) (done : ℕ) : Type 0 where
+  pub count : tally.count ≤ done
+  pub size : tally.size ≡ done
+  pub passed : tally.passed ≤ tally.count
+  pub passed_size : tally.passed_size ≤ tally.size
+  pub small : done ≤ 2 ^ 50
+
+-- messages that were handed on are all of a stretch
+wholes_tally : (parts : List Part) (items : List CutMessage) (count size : ℕ) (tally : Tally) → tally ≡ tally_of parts → count ≡ tally.count + length items → size ≡ sizes_of parts + sizes items
+    → record tally { count = count; size = size } ≡ tally_of (parts ++ wholes items)
+wholes_tally parts items count size tally is number bytes =
+    let count_is : count ≡ length (parts ++ wholes items)
+    = omega (arith, number, ap (λ (t : Tally). t.count) is, length-append parts (wholes items), length-wholes items) in
+    let size_is : size ≡ sizes_of (parts ++ wholes items) = omega (arith, bytes, sizes-both parts (wholes items), sizes-wholes items) in
+    let passed_is : tally.passed ≡ passed_count (parts ++ wholes items)
+    = omega (arith, ap (λ (t : Tally). t.passed) is, passed-both parts (wholes items), passed-wholes items) in
+    let passed_size_is : tally.passed_size ≡ passed_sizes (parts ++ wholes items)
+    = omega (arith, ap (λ (t : Tally). t.passed_size) is, passed_sizes-both parts (wholes items), passed_sizes-wholes items) in
+    λ i. record { count = count_is i; size = size_is i; passed = passed_is i; passed_size = passed_size_is i }
+
+-- what a run begins with: the devices, and where they stand
+pub record Begun (R A W E : Type 0) : Type 0 where
+  pub left : R → Option (List ℕ)
+  pub calls : R → ℕ
+  pub failures : R → ℕ
+  pub held : W → Option (List ℕ)
+  pub write_failures : W → ℕ
+  pub second_held : E → Option (List ℕ)
+  pub second_failures : E → ℕ
+  pub settings : Settings
+  pub command : Command
+  pub old : RawReader R A
+  pub w0 : W
+  pub e0 : E
+
+module _ {R A W E : Type 0} (run : Begun R A W E) where
   -- what was read is these parts and then the rest
   pub record HasCovered (new : RawReader R A) (parts : List Part) (rest out told : List ℕ) : Type 0 where
     pub bytes : List ℕ
-    pub consumed : Consumes (left (source_of old)) (left (source_of new)) bytes
-    pub called : RisesBy (reads_of new) (calls (source_of old)) (calls (source_of new))
-    pub most_reads : most_reads_of new ≡ most
-    pub limits_are : limits_of new ≡ limits
-    pub at_end : IsTrueEnd left new.reader
-    pub begin : BeginWithParts limits bytes parts rest
-    pub made : AreTexts (IsMade command) 1 0 parts out
-    pub tells : AreTexts (IsToldOf settings) 1 0 parts told
+    pub consumed : Consumes (run.left (source_of run.old)) (run.left (source_of new)) bytes
+    pub called : RisesBy (reads_of new) (run.calls (source_of run.old)) (run.calls (source_of new))
+    pub most_reads : most_reads_of new ≡ (most_reads_of run.old)
+    pub limits_are : limits_of new ≡ run.settings.limits
+    pub at_end : IsTrueEnd run.left new.reader
+    pub begin : BeginWithParts run.settings.limits bytes parts rest
+    pub made : AreTexts (IsMade run.command) 1 0 parts out
+    pub tells : AreTexts (IsToldOf run.settings) 1 0 parts told
 
   -- more was read, and begins with more parts
   covers_read : (mid new : RawReader R A) (parts more : List Part) (from rest out told o t w : List ℕ) (items : List CutMessage) → HasCovered mid parts from out told
-      → (r : HasRead gathering left calls limits from mid.reader new.reader items w) → BeginWithParts limits (from ++ r.bytes) more rest
-      → AreTexts (IsMade command) (1 + length parts) (0 + sizes_of parts) more o → AreTexts (IsToldOf settings) (1 + length parts) (0 + sizes_of parts) more t
+      → (r : HasRead gathering run.left run.calls run.settings.limits from mid.reader new.reader items w) → BeginWithParts run.settings.limits (from ++ r.bytes) more rest
+      → AreTexts (IsMade run.command) (1 + length parts) (0 + sizes_of parts) more o → AreTexts (IsToldOf run.settings) (1 + length parts) (0 + sizes_of parts) more t
       → HasCovered new (parts ++ more) rest (out ++ o) (told ++ t)
   covers_read mid new parts more from rest out told o t w items h r begin made tells = record {
     bytes = h.bytes ++ r.bytes;
@@ -88,26 +138,14 @@ module _ {R A W E : Type 0} (left : R → Option (List ℕ)) (calls failures : R
     most_reads = r.most_reads ∙ h.most_reads;
     limits_are = r.limits_are;
     at_end = r.at_end h.at_end;
-    begin = parts_both limits (h.bytes ++ r.bytes) parts more (from ++ r.bytes) rest (parts_more limits h.bytes parts from r.bytes h.begin) begin;
-    made = texts_both (IsMade command) 1 0 parts more out o h.made made;
-    tells = texts_both (IsToldOf settings) 1 0 parts more told t h.tells tells;
+    begin = parts_both run.settings.limits (h.bytes ++ r.bytes) parts more (from ++ r.bytes) rest (parts_more run.settings.limits h.bytes parts from r.bytes h.begin) begin;
+    made = texts_both (IsMade run.command) 1 0 parts more out o h.made made;
+    tells = texts_both (IsToldOf run.settings) 1 0 parts more told t h.tells tells;
   }
-
-  covers_items : (mid new : RawReader R A) (parts : List Part) (from rest out told o : List ℕ) (items : List CutMessage) (before offset : ℕ) → before ≡ length parts → offset ≡ sizes_of parts
-      → HasCovered mid parts from out told → HasRead gathering left calls limits from mid.reader new.reader items rest → IsOutputOfAll command (before + 1) offset items o
-      → HasCovered new (parts ++ wholes items) rest (out ++ o) told
-  covers_items mid new parts from rest out told o items before offset number place h r output =
-      let n : before + 1 ≡ 1 + length parts = omega (arith, number) in
-      let at : offset ≡ 0 + sizes_of parts = omega (arith, place) in
-      let made = made_of command (1 + length parts) (0 + sizes_of parts) items o
-      (subst (λ k. IsOutputOfAll command k (0 + sizes_of parts) items o) n (subst (λ k. IsOutputOfAll command (before + 1) k items o) at output)) in
-      subst (λ (l : List ℕ). HasCovered new (parts ++ wholes items) rest (out ++ o) l) (append-nil told)
-      (covers_read mid new parts (wholes items) from rest out told o [] rest items h r (parts_of limits (from ++ r.bytes) items rest r.messages) made
-      (told_of settings (1 + length parts) (0 + sizes_of parts) items))
 
   -- as a clause says it
   covers : (new : RawReader R A) (parts : List Part) (rest out told : List ℕ) → HasCovered new parts rest out told
-      → Covers (taken (reading left calls failures (source_of old) (source_of new))) held write_failures second_held second_failures settings limits most command parts rest out told
+      → Covers (taken (reading run.left run.calls run.failures (source_of run.old) (source_of new))) run.held run.write_failures run.second_held run.second_failures run.settings run.settings.limits (most_reads_of run.old) run.command parts rest out told
   covers new parts rest out told h = record {
     bytes = h.bytes;
     consumed = h.consumed;
@@ -125,17 +163,17 @@ module _ {R A W E : Type 0} (left : R → Option (List ℕ)) (calls failures : R
     pub covered : HasCovered new parts (kept new) out told
     pub tally_is : tally ≡ tally_of parts
     pub done : done_of new ≡ sizes_of parts
-    pub failed : failures (source_of new) ≡ failures (source_of old)
-    pub wrote : HasTold held write_failures second_held second_failures command out told w0 w e0 e
+    pub failed : run.failures (source_of new) ≡ run.failures (source_of run.old)
+    pub wrote : HasTold run.held run.write_failures run.second_held run.second_failures run.command out told run.w0 w run.e0 e
 
-  pub gone_none : IsNewReader (source_of old) most limits old → HasGone old (record { count = 0; size = 0; passed = 0; passed_size = 0 }) w0 e0
+  pub gone_none : IsNewReader (source_of run.old) (most_reads_of run.old) run.settings.limits run.old → HasGone run.old (record { count = 0; size = 0; passed = 0; passed_size = 0 }) run.w0 run.e0
   gone_none new_reader = record {
     parts = [];
     out = [];
     told = [];
     covered = record {
       bytes = [];
-      consumed = Consumes-nil (left (source_of old));
+      consumed = Consumes-nil (run.left (source_of run.old));
       called = omega (arith, new_reader.reads);
       most_reads = new_reader.most_reads;
       limits_are = new_reader.limits;
@@ -148,34 +186,10 @@ module _ {R A W E : Type 0} (left : R → Option (List ℕ)) (calls failures : R
     done = new_reader.done;
     failed = refl;
     wrote = record {
-      first = subst (λ l. Wrote held write_failures w0 l w0) (sym (first_nothing command)) (wrote_nothing held write_failures w0);
-      second = subst (λ l. Wrote second_held second_failures e0 l e0) (sym (second_nothing command)) (wrote_nothing second_held second_failures e0);
+      first = subst (λ l. Wrote run.held run.write_failures run.w0 l run.w0) (sym (first_nothing run.command)) (wrote_nothing run.held run.write_failures run.w0);
+      second = subst (λ l. Wrote run.second_held run.second_failures run.e0 l run.e0) (sym (second_nothing run.command)) (wrote_nothing run.second_held run.second_failures run.e0);
     };
   }
-
-  pub done_small : (r : RawReader R A) → done_of r ≤ 2 ^ 50
-  done_small r = omega (arith, r.reader.counted, r.reader.few_reads, r.reader.low_most)
-
-  -- how far it is
-  pub record IsWithin (new : RawReader R A) (tally : Tally) : Type 0 where
-    pub count : tally.count ≤ done_of new
-    pub size : tally.size ≡ done_of new
-    pub passed : tally.passed ≤ tally.count
-    pub passed_size : tally.passed_size ≤ tally.size
-    pub small : done_of new ≤ 2 ^ 50
-
-  pub within : (new : RawReader R A) (tally : Tally) (w : W) (e : E) → HasGone new tally w e → IsWithin new tally
-  within new tally w e h =
-      let is = h.tally_is in
-      let count_is : tally.count ≡ length h.parts = ap (λ (t : Tally). t.count) is in
-      let size_is : tally.size ≡ sizes_of h.parts = ap (λ (t : Tally). t.size) is in
-      record {
-        count = omega (arith, count_is, few_parts limits h.covered.bytes h.parts (kept new) h.covered.begin, h.done);
-        size = size_is ∙ sym h.done;
-        passed = omega (arith, count_is, ap (λ (t : Tally). t.passed) is, few_passed h.parts);
-        passed_size = omega (arith, size_is, ap (λ (t : Tally). t.passed_size) is, few_passed_sizes h.parts);
-        small = done_small new;
-      }
 
   -- the messages up to a fault, or up to the end, were handed on
   pub record HasReached (new : RawReader R A) (counted : Counted) (tally : Tally) (w : W) (e : E) : Type 0 where
@@ -183,95 +197,40 @@ module _ {R A W E : Type 0} (left : R → Option (List ℕ)) (calls failures : R
     pub count_is : tally.count ≡ counted.count
     pub size_is : tally.size ≡ counted.size
     pub outcome : CutOutcome
-    pub outcome_is : IsOutcome limits (kept new) outcome
+    pub outcome_is : IsOutcome run.settings.limits (kept new) outcome
     pub fault_is : counted.fault ≡ fault_at_end (kept new) outcome
     pub stopped : stopped_of new ≡ stop_of counted.fault
     pub ended : ((f : Fault) → outcome ≡ Refused f → ⊥) → is_ended new ≡ true
-
-  -- messages that were handed on are all of a stretch
-  wholes_tally : (parts : List Part) (items : List CutMessage) (count size : ℕ) (tally : Tally) → tally ≡ tally_of parts → count ≡ tally.count + length items → size ≡ sizes_of parts + sizes items
-      → record tally { count = count; size = size } ≡ tally_of (parts ++ wholes items)
-  wholes_tally parts items count size tally is number bytes =
-      let count_is : count ≡ length (parts ++ wholes items)
-      = omega (arith, number, ap (λ (t : Tally). t.count) is, length-append parts (wholes items), length-wholes items) in
-      let size_is : size ≡ sizes_of (parts ++ wholes items) = omega (arith, bytes, sizes-both parts (wholes items), sizes-wholes items) in
-      let passed_is : tally.passed ≡ passed_count (parts ++ wholes items)
-      = omega (arith, ap (λ (t : Tally). t.passed) is, passed-both parts (wholes items), passed-wholes items) in
-      let passed_size_is : tally.passed_size ≡ passed_sizes (parts ++ wholes items)
-      = omega (arith, ap (λ (t : Tally). t.passed_size) is, passed_sizes-both parts (wholes items), passed_sizes-wholes items) in
-      λ i. record { count = count_is i; size = size_is i; passed = passed_is i; passed_size = passed_size_is i }
-
-  module _ (mid new : RawReader R A) (tally : Tally) (w1 w2 : W) (e1 : E) (h : HasGone mid tally w1 e1) where
-    number_is : tally.count ≡ length h.parts
-    number_is = ap (λ (t : Tally). t.count) h.tally_is
-
-    pub reach : (counted : Counted) → HandsRawOn left calls failures held write_failures limits command tally.count counted mid new [] [] w1 w2
-        → HasReached new counted (record tally { count = counted.count; size = counted.size }) w2 e1
-    reach counted a =
-        let parts = h.parts ++ wholes a.all.items in
-        let covered = covers_items mid new h.parts (kept mid) a.all.rest h.out h.told a.all.out a.all.items tally.count (done_of mid) number_is h.done h.covered a.all.read a.all.output in
-        let size : counted.size ≡ sizes_of h.parts + sizes a.all.items = omega (arith, a.all.size_is, h.done) in
-        record {
-          gone = record {
-            parts = parts;
-            out = h.out ++ a.all.out;
-            told = h.told;
-            covered = subst (λ (l : List ℕ). HasCovered new parts l (h.out ++ a.all.out) h.told) (sym a.kept) covered;
-            tally_is = wholes_tally h.parts a.all.items counted.count counted.size tally h.tally_is a.all.count_is size;
-            done = omega (arith, a.all.done, size, sizes-both h.parts (wholes a.all.items), sizes-wholes a.all.items);
-            failed = a.all.failed ∙ h.failed;
-            wrote = record {
-              first = subst (λ l. Wrote held write_failures w0 l w2)
-                  (first_more command (1 + length h.parts) (0 + sizes_of h.parts) (wholes a.all.items) h.out h.told a.all.out (made_items a.all.items a.all.out a.all.output))
-                  (wrote_both held write_failures (first_of command h.out h.told) a.all.out w0 w1 w2 h.wrote.first (passes_whole held write_failures a.all.out [] [] w1 w2 refl refl a.all.passes));
-              second = h.wrote.second;
-            };
-          };
-          count_is = refl;
-          size_is = refl;
-          outcome = a.all.outcome;
-          outcome_is = subst (λ (l : List ℕ). IsOutcome limits l a.all.outcome) (sym a.kept) a.all.outcome_is;
-          fault_is = a.all.fault_is ∙ ap (λ (l : List ℕ). fault_at_end l a.all.outcome) (sym a.kept);
-          stopped = a.stopped;
-          ended = a.all.ended;
-        }
-      where
-        made_items : (items : List CutMessage) (o : List ℕ) → IsOutputOfAll command (tally.count + 1) (done_of mid) items o → AreTexts (IsMade command) (1 + length h.parts) (0 + sizes_of h.parts) (wholes items) o
-        made_items items o output =
-            let n : tally.count + 1 ≡ 1 + length h.parts = omega (arith, number_is) in
-            let at : done_of mid ≡ 0 + sizes_of h.parts = omega (arith, h.done) in
-            made_of command (1 + length h.parts) (0 + sizes_of h.parts) items o
-            (subst (λ k. IsOutputOfAll command k (0 + sizes_of h.parts) items o) n (subst (λ k. IsOutputOfAll command (tally.count + 1) k items o) at output))
 
   -- ---- what a clause says
 
   -- the source before and after
   abbrev pub Took : RawReader R A → Taken
-  Took new = taken (reading left calls failures (source_of old) (source_of new))
+  Took new = taken (reading run.left run.calls run.failures (source_of run.old) (source_of new))
 
   abbrev pub Within : RawReader R A → Stop → W → E → Type 0
-  Within new stop w e = StopsWithin (Took new) held write_failures second_held second_failures settings limits most command stop w0 w e0 e
+  Within new stop w e = StopsWithin (Took new) run.held run.write_failures run.second_held run.second_failures run.settings run.settings.limits (most_reads_of run.old) run.command stop run.w0 w run.e0 e
 
   abbrev pub Torn : RawReader R A → Stop → W → E → Type 0
-  Torn new stop w e = PartsOf (Took new) held write_failures second_held second_failures settings limits most command (Err stop) w0 w e0 e
+  Torn new stop w e = PartsOf (Took new) run.held run.write_failures run.second_held run.second_failures run.settings run.settings.limits (most_reads_of run.old) run.command (Err stop) run.w0 w run.e0 e
 
   abbrev Through : RawReader R A → Tally → Option Fault → (out told text : List ℕ) → Type 0
-  Through new tally fault out told text = IsThrough (Took new) held write_failures second_held second_failures settings limits most command tally fault out told text
+  Through new tally fault out told text = IsThrough (Took new) run.held run.write_failures run.second_held run.second_failures run.settings run.settings.limits (most_reads_of run.old) run.command tally fault out told text
 
   abbrev pub Handed : RawReader R A → Tally → Option Fault → W → E → Type 0
-  Handed new tally fault w e = HandsParts (Took new) held write_failures second_held second_failures settings limits most command tally fault w0 w e0 e
+  Handed new tally fault w e = HandsParts (Took new) run.held run.write_failures run.second_held run.second_failures run.settings run.settings.limits (most_reads_of run.old) run.command tally fault run.w0 w run.e0 e
 
   abbrev pub Stopped : RawReader R A → Stop → Type 0
-  Stopped new stop = IsStopOf (Took new) held write_failures second_held second_failures settings limits most command stop
+  Stopped new stop = IsStopOf (Took new) run.held run.write_failures run.second_held run.second_failures run.settings run.settings.limits (most_reads_of run.old) run.command stop
 
   abbrev pub AllRead : RawReader R A → Stop → List Part → List ℕ → List ℕ → Type 0
-  AllRead new stop parts rest more = IsAllRead (Took new) held write_failures second_held second_failures settings limits most command stop parts rest more
+  AllRead new stop parts rest more = IsAllRead (Took new) run.held run.write_failures run.second_held run.second_failures run.settings run.settings.limits (most_reads_of run.old) run.command stop parts rest more
 
   -- ---- the messages are not all handed on
 
   -- nothing is told of the rest
   stops_plain : (cause : Cause) (new : RawReader R A) (parts : List Part) (rest out told : List ℕ) (w : W) (e : E) → HasCovered new parts rest out told → AllRead new (ByCause cause) parts rest []
-      → Stopped new (ByCause cause) → GotFirst held write_failures (ByCause cause) (first_of command out told) w0 w → Wrote second_held second_failures e0 (second_of command told) e → Torn new (ByCause cause) w e
+      → Stopped new (ByCause cause) → GotFirst run.held run.write_failures (ByCause cause) (first_of run.command out told) run.w0 w → Wrote run.second_held run.second_failures run.e0 (second_of run.command told) e → Torn new (ByCause cause) w e
   stops_plain cause new parts rest out told w e h all caused first second = (
     record {
       parts = parts;
@@ -282,97 +241,146 @@ module _ {R A W E : Type 0} (left : R → Option (List ℕ)) (calls failures : R
       more = [];
       all = all;
       caused = caused;
-      first = subst (λ (l : List ℕ). GotFirst held write_failures (ByCause cause) (first_of command out l) w0 w) (sym (append-nil told)) first;
-      second = subst (λ (l : List ℕ). Wrote second_held second_failures e0 (second_of command l) e) (sym (append-nil told)) second;
+      first = subst (λ (l : List ℕ). GotFirst run.held run.write_failures (ByCause cause) (first_of run.command out l) run.w0 w) (sym (append-nil told)) first;
+      second = subst (λ (l : List ℕ). Wrote run.second_held run.second_failures run.e0 (second_of run.command l) e) (sym (append-nil told)) second;
     },
     λ _ _. refl,
   )
 
-  all_called : (new : RawReader R A) (parts : List Part) (rest out told : List ℕ) → HasCovered new parts rest out told → reads_of new ≡ most_reads_of new → RisesBy most (calls (source_of old)) (calls (source_of new))
-  all_called new parts rest out told h e = subst (λ n. RisesBy n (calls (source_of old)) (calls (source_of new))) (e ∙ h.most_reads) h.called
+  all_called : (new : RawReader R A) (parts : List Part) (rest out told : List ℕ) → HasCovered new parts rest out told → reads_of new ≡ most_reads_of new → RisesBy (most_reads_of run.old) (run.calls (source_of run.old)) (run.calls (source_of new))
+  all_called new parts rest out told h e = subst (λ n. RisesBy n (run.calls (source_of run.old)) (run.calls (source_of new))) (e ∙ h.most_reads) h.called
 
-  module _ (mid new : RawReader R A) (tally : Tally) (w1 w2 : W) (e1 : E) (h : HasGone mid tally w1 e1) where
-    abbrev Handing : Cause → Type 0
-    Handing cause = HandsSomeOn gathering left calls limits (kept mid) failures held write_failures command tally.count cause mid.reader new.reader [] [] w1 w2
+-- ---- messages are handed on
 
-    some_covered : (cause : Cause) (s : Handing cause) → HasCovered new (h.parts ++ wholes s.items) s.rest (h.out ++ s.out) h.told
-    some_covered cause s = covers_items mid new h.parts (kept mid) s.rest h.out h.told s.out s.items tally.count (done_of mid) (ap (λ (t : Tally). t.count) h.tally_is) h.done h.covered s.read s.output
+module _ {R A W E : Type 0} {run : Begun R A W E} {mid : RawReader R A} {tally : Tally} {w1 : W} {e1 : E} (h : HasGone run mid tally w1 e1) where
+  count_parts : tally.count ≡ length h.parts
+  count_parts = ap (λ (t : Tally). t.count) h.tally_is
 
-    some_out : (cause : Cause) (s : Handing cause) → first_of command h.out h.told ++ s.out ≡ first_of command (h.out ++ s.out) h.told
-    some_out cause s =
-        let number_is : tally.count ≡ length h.parts = ap (λ (t : Tally). t.count) h.tally_is in
-        let n : tally.count + 1 ≡ 1 + length h.parts = omega (arith, number_is) in
+  size_parts : tally.size ≡ sizes_of h.parts
+  size_parts = ap (λ (t : Tally). t.size) h.tally_is
+
+  pub within : IsWithin tally (done_of mid)
+  within = record {
+    count = omega (arith, count_parts, few_parts run.settings.limits h.covered.bytes h.parts (kept mid) h.covered.begin, h.done);
+    size = size_parts ∙ sym h.done;
+    passed = omega (arith, count_parts, ap (λ (t : Tally). t.passed) h.tally_is, few_passed h.parts);
+    passed_size = omega (arith, size_parts, ap (λ (t : Tally). t.passed_size) h.tally_is, few_passed_sizes h.parts);
+    small = done_small mid;
+  }
+
+  module _ {new : RawReader R A} {w2 : W} where
+    -- they are the next parts
+    made_next : (items : List CutMessage) (o : List ℕ) → IsOutputOfAll run.command (tally.count + 1) (done_of mid) items o
+        → AreTexts (IsMade run.command) (1 + length h.parts) (0 + sizes_of h.parts) (wholes items) o
+    made_next items o output =
+        let n : tally.count + 1 ≡ 1 + length h.parts = omega (arith, count_parts) in
         let at : done_of mid ≡ 0 + sizes_of h.parts = omega (arith, h.done) in
-        first_more command (1 + length h.parts) (0 + sizes_of h.parts) (wholes s.items) h.out h.told s.out
-        (made_of command (1 + length h.parts) (0 + sizes_of h.parts) s.items s.out
-        (subst (λ k. IsOutputOfAll command k (0 + sizes_of h.parts) s.items s.out) n (subst (λ k. IsOutputOfAll command (tally.count + 1) k s.items s.out) at s.output)))
+        made_of run.command (1 + length h.parts) (0 + sizes_of h.parts) items o
+        (subst (λ k. IsOutputOfAll run.command k (0 + sizes_of h.parts) items o) n (subst (λ k. IsOutputOfAll run.command (tally.count + 1) k items o) at output))
 
-    some_wrote : (cause : Cause) (s : Handing cause) → Passes held write_failures s.out [] [] w1 w2 → Wrote held write_failures w0 (first_of command (h.out ++ s.out) h.told) w2
-    some_wrote cause s p =
-        subst (λ l. Wrote held write_failures w0 l w2) (some_out cause s)
-        (wrote_both held write_failures (first_of command h.out h.told) s.out w0 w1 w2 h.wrote.first (passes_whole held write_failures s.out [] [] w1 w2 refl refl p))
+    covered_next : (items : List CutMessage) (rest o : List ℕ) → HasRead gathering run.left run.calls run.settings.limits (kept mid) mid.reader new.reader items rest
+        → IsOutputOfAll run.command (tally.count + 1) (done_of mid) items o → HasCovered run new (h.parts ++ wholes items) rest (h.out ++ o) h.told
+    covered_next items rest o r output =
+        subst (λ (l : List ℕ). HasCovered run new (h.parts ++ wholes items) rest (h.out ++ o) l) (append-nil h.told)
+        (covers_read run mid new h.parts (wholes items) (kept mid) rest h.out h.told o [] rest items h.covered r (parts_of run.settings.limits (kept mid ++ r.bytes) items rest r.messages) (made_next items o output)
+        (told_of run.settings (1 + length h.parts) (0 + sizes_of h.parts) items))
 
-    pub stop_hand : (cause : Cause) → Handing cause → Torn new (ByCause cause) w2 e1
-    stop_hand Memory s =
-        stops_plain Memory new (h.parts ++ wholes s.items) s.rest (h.out ++ s.out) h.told w2 e1 (some_covered Memory s) (inl refl) (s.caused ∙ h.failed)
-        (some_wrote Memory s s.leaves) h.wrote.second
-    stop_hand ReadFailed s =
-        stops_plain ReadFailed new (h.parts ++ wholes s.items) s.rest (h.out ++ s.out) h.told w2 e1 (some_covered ReadFailed s) (inl (s.all, refl)) (s.caused ∙ ap one_more h.failed)
-        (some_wrote ReadFailed s s.leaves) h.wrote.second
+    out_next : (items : List CutMessage) (o : List ℕ) → IsOutputOfAll run.command (tally.count + 1) (done_of mid) items o → first_of run.command h.out h.told ++ o ≡ first_of run.command (h.out ++ o) h.told
+    out_next items o output = first_more run.command (1 + length h.parts) (0 + sizes_of h.parts) (wholes items) h.out h.told o (made_next items o output)
+
+    wrote_next : (items : List CutMessage) (o : List ℕ) → IsOutputOfAll run.command (tally.count + 1) (done_of mid) items o → Passes run.held run.write_failures o [] [] w1 w2
+        → Wrote run.held run.write_failures run.w0 (first_of run.command (h.out ++ o) h.told) w2
+    wrote_next items o output p =
+        subst (λ l. Wrote run.held run.write_failures run.w0 l w2) (out_next items o output)
+        (wrote_both run.held run.write_failures (first_of run.command h.out h.told) o run.w0 w1 w2 h.wrote.first (passes_whole run.held run.write_failures o [] [] w1 w2 refl refl p))
+
+    -- up to a fault, or up to the end
+    pub reach : (counted : Counted) (up : Tally) → up ≡ record tally { count = counted.count; size = counted.size }
+        → HandsRawOn run.left run.calls run.failures run.held run.write_failures run.settings.limits run.command tally.count counted mid new [] [] w1 w2 → HasReached run new counted up w2 e1
+    reach counted up is a =
+        let size : counted.size ≡ sizes_of h.parts + sizes a.all.items = omega (arith, a.all.size_is, h.done) in
+        record {
+          gone = record {
+            parts = h.parts ++ wholes a.all.items;
+            out = h.out ++ a.all.out;
+            told = h.told;
+            covered = subst (λ (l : List ℕ). HasCovered run new (h.parts ++ wholes a.all.items) l (h.out ++ a.all.out) h.told) (sym a.kept) (covered_next a.all.items a.all.rest a.all.out a.all.read a.all.output);
+            tally_is = is ∙ wholes_tally h.parts a.all.items counted.count counted.size tally h.tally_is a.all.count_is size;
+            done = omega (arith, a.all.done, size, sizes-both h.parts (wholes a.all.items), sizes-wholes a.all.items);
+            failed = a.all.failed ∙ h.failed;
+            wrote = record { first = wrote_next a.all.items a.all.out a.all.output a.all.passes; second = h.wrote.second };
+          };
+          count_is = ap (λ (t : Tally). t.count) is;
+          size_is = ap (λ (t : Tally). t.size) is;
+          outcome = a.all.outcome;
+          outcome_is = subst (λ (l : List ℕ). IsOutcome run.settings.limits l a.all.outcome) (sym a.kept) a.all.outcome_is;
+          fault_is = a.all.fault_is ∙ ap (λ (l : List ℕ). fault_at_end l a.all.outcome) (sym a.kept);
+          stopped = a.stopped;
+          ended = a.all.ended;
+        }
+
+    -- not all
+    abbrev Handing : Cause → Type 0
+    Handing cause = HandsSomeOn gathering run.left run.calls run.settings.limits (kept mid) run.failures run.held run.write_failures run.command tally.count cause mid.reader new.reader [] [] w1 w2
+
+    stops_some : (cause : Cause) (s : Handing cause) → AllRead run new (ByCause cause) (h.parts ++ wholes s.items) s.rest [] → Stopped run new (ByCause cause)
+        → GotFirst run.held run.write_failures (ByCause cause) (first_of run.command (h.out ++ s.out) h.told) run.w0 w2 → Torn run new (ByCause cause) w2 e1
+    stops_some cause s all caused first =
+        stops_plain run cause new (h.parts ++ wholes s.items) s.rest (h.out ++ s.out) h.told w2 e1 (covered_next s.items s.rest s.out s.read s.output) all caused first h.wrote.second
+
+    pub stop_hand : (cause : Cause) → Handing cause → Torn run new (ByCause cause) w2 e1
+    stop_hand Memory s = stops_some Memory s (inl refl) (s.caused ∙ h.failed) (wrote_next s.items s.out s.output s.leaves)
+    stop_hand ReadFailed s = stops_some ReadFailed s (inl (s.all, refl)) (s.caused ∙ ap one_more h.failed) (wrote_next s.items s.out s.output s.leaves)
     stop_hand WriteFailed s =
-        stops_plain WriteFailed new (h.parts ++ wholes s.items) s.rest (h.out ++ s.out) h.told w2 e1 (some_covered WriteFailed s) (inl refl) (s.caused ∙ h.failed)
-        (subst (λ l. Breaks held write_failures l [] w0 w2) (some_out WriteFailed s) (wrote_breaks held write_failures (first_of command h.out h.told) s.out w0 w1 w2 h.wrote.first s.leaves)) h.wrote.second
+        stops_some WriteFailed s (inl refl) (s.caused ∙ h.failed) (subst (λ l. Breaks run.held run.write_failures l [] run.w0 w2) (out_next s.items s.out s.output)
+        (wrote_breaks run.held run.write_failures (first_of run.command h.out h.told) s.out run.w0 w1 w2 h.wrote.first s.leaves))
     stop_hand TooManyReads s =
-        stops_plain TooManyReads new (h.parts ++ wholes s.items) s.rest (h.out ++ s.out) h.told w2 e1 (some_covered TooManyReads s) (inl (s.all, refl))
-        (s.caused.0 ∙ h.failed, all_called new (h.parts ++ wholes s.items) s.rest (h.out ++ s.out) h.told (some_covered TooManyReads s) s.caused.1)
-        (some_wrote TooManyReads s s.leaves) h.wrote.second
+        let covered = covered_next s.items s.rest s.out s.read s.output in
+        stops_some TooManyReads s (inl (s.all, refl))
+        (s.caused.0 ∙ h.failed, all_called run new (h.parts ++ wholes s.items) s.rest (h.out ++ s.out) h.told covered s.caused.1) (wrote_next s.items s.out s.output s.leaves)
 
-  -- ---- the input ends after a message
+-- ---- and then the input ends, or a message is refused
 
-  none_is : (w : List ℕ) (outcome : CutOutcome) → None ≡ fault_at_end w outcome → outcome ≡ Ended
-  none_is w Ended e = refl
-  none_is w Unfinished e = absurd cc
-  none_is w (Refused fault) e = absurd cc
-
-  pub finished : (new : RawReader R A) (counted : Counted) (tally : Tally) (w : W) (e : E) → HasReached new counted tally w e → counted.fault ≡ None → Handed new tally None w e
-  finished new counted tally w e h none =
+module _ {R A W E : Type 0} {run : Begun R A W E} {mid : RawReader R A} {counted : Counted} {tally : Tally} {w1 : W} {e1 : E} (h : HasReached run mid counted tally w1 e1) where
+  -- it ends after a message
+  pub finished : counted.fault ≡ None → Handed run mid tally None w1 e1
+  finished none =
       let g = h.gone in
-      let no_fault : None ≡ fault_at_end (kept new) h.outcome = sym none ∙ h.fault_is in
-      let ended : h.outcome ≡ Ended = none_is (kept new) h.outcome no_fault in
-      let at_end : IsAtEnd (left (source_of new)) = g.covered.at_end (h.ended (λ f is. absurd (let both = sym ended ∙ is in cc))) in
+      let no_fault : None ≡ fault_at_end (kept mid) h.outcome = sym none ∙ h.fault_is in
+      let ended : h.outcome ≡ Ended = none_is (kept mid) h.outcome no_fault in
+      let at_end : IsAtEnd (run.left (source_of mid)) = g.covered.at_end (h.ended (λ f is. absurd (let both = sym ended ∙ is in cc))) in
       record {
         out = g.out;
         told = g.told;
         text = [];
         through = record {
           parts = g.parts;
-          rest = kept new;
-          covers = covers new g.parts (kept new) g.out g.told g.covered;
+          rest = kept mid;
+          covers = covers run mid g.parts (kept mid) g.out g.told g.covered;
           tally_is = g.tally_is;
-          kept = kept new;
+          kept = kept mid;
           tells = record { outcome = h.outcome; outcome_is = h.outcome_is; fault_is = no_fault; told = refl };
-          last = subst (λ o. IsLast settings.keeps_going limits (kept new) (kept new) o (IsAtEnd (left (source_of new)))) (sym ended) (refl, at_end);
+          last = subst (λ o. IsLast run.settings.keeps_going run.settings.limits (kept mid) (kept mid) o (IsAtEnd (run.left (source_of mid)))) (sym ended) (refl, at_end);
           read_failed = g.failed;
         };
-        first = subst (λ (l : List ℕ). Wrote held write_failures w0 (first_of command g.out l) w) (sym (append-nil g.told)) g.wrote.first;
-        second = subst (λ (l : List ℕ). Wrote second_held second_failures e0 (second_of command l) e) (sym (append-nil g.told)) g.wrote.second;
+        first = subst (λ (l : List ℕ). Wrote run.held run.write_failures run.w0 (first_of run.command g.out l) w1) (sym (append-nil g.told)) g.wrote.first;
+        second = subst (λ (l : List ℕ). Wrote run.second_held run.second_failures run.e0 (second_of run.command l) e1) (sym (append-nil g.told)) g.wrote.second;
       }
 
   -- ---- the fault is told
 
-  module _ (mid : RawReader R A) (counted : Counted) (tally : Tally) (fault : Fault) (w1 : W) (e1 : E) (h : HasReached mid counted tally w1 e1) (faulty : counted.fault ≡ Some fault) where
+  module _ {fault : Fault} (faulty : counted.fault ≡ Some fault) where
     -- this is told of it
     abbrev Tells : List ℕ → Type 0
-    Tells text = IsTold settings (record { number = counted.count + 1; offset = counted.size; fault = fault }) (kept mid) text
+    Tells text = IsTold run.settings (record { number = counted.count + 1; offset = counted.size; fault = fault }) (kept mid) text
 
     -- by its place among the parts
-    told_last : (text : List ℕ) → Tells text → IsToldLast settings (length h.gone.parts + 1) (sizes_of h.gone.parts) (kept mid) (Some fault) text
-    told_last text told =
-        let is = h.gone.tally_is in
-        let number : counted.count ≡ length h.gone.parts = sym h.count_is ∙ ap (λ (t : Tally). t.count) is in
-        let offset : counted.size ≡ sizes_of h.gone.parts = sym h.size_is ∙ ap (λ (t : Tally). t.size) is in
-        subst (λ (n : ℕ). IsTold settings (record { number = n + 1; offset = sizes_of h.gone.parts; fault = fault }) (kept mid) text) number
-        (subst (λ (o : ℕ). IsTold settings (record { number = counted.count + 1; offset = o; fault = fault }) (kept mid) text) offset told)
+    told_at : (n : ℕ) (text : List ℕ) → n ≡ length h.gone.parts + 1 → Tells text → IsTold run.settings (record { number = n; offset = sizes_of h.gone.parts; fault = fault }) (kept mid) text
+    told_at n text e told =
+        let number : counted.count + 1 ≡ n = omega (arith, h.count_is, ap (λ (t : Tally). t.count) h.gone.tally_is, e) in
+        let offset : counted.size ≡ sizes_of h.gone.parts = sym h.size_is ∙ ap (λ (t : Tally). t.size) h.gone.tally_is in
+        subst (λ (k : ℕ). IsTold run.settings (record { number = k; offset = sizes_of h.gone.parts; fault = fault }) (kept mid) text) number
+        (subst (λ (o : ℕ). IsTold run.settings (record { number = counted.count + 1; offset = o; fault = fault }) (kept mid) text) offset told)
 
     fault_last : Some fault ≡ fault_at_end (kept mid) h.outcome
     fault_last = sym faulty ∙ h.fault_is
@@ -382,29 +390,29 @@ module _ {R A W E : Type 0} (left : R → Option (List ℕ)) (calls failures : R
 
     -- it was told, or a prefix of it
     pub more_told : (w2 : W) (e2 : E) (res : Result (Unit {0}) Stop)
-        → (told : TellsText (writing held write_failures w1 w2) (writing second_held second_failures e1 e2) command settings (record { number = counted.count + 1; offset = counted.size; fault = fault }) (kept mid) res)
-        → TellsMore held write_failures second_held second_failures command h.gone.out h.gone.told told.0 w0 w1 w2 e0 e1 e2 h.gone.wrote res
-    more_told w2 e2 res told = tells_more held write_failures second_held second_failures command h.gone.out h.gone.told told.0 w0 w1 w2 e0 e1 e2 h.gone.wrote (is_check command) res refl told.2
+        → (told : TellsText (writing run.held run.write_failures w1 w2) (writing run.second_held run.second_failures e1 e2) run.command run.settings (record { number = counted.count + 1; offset = counted.size; fault = fault }) (kept mid) res)
+        → TellsMore run.held run.write_failures run.second_held run.second_failures run.command h.gone.out h.gone.told told.0 run.w0 w1 w2 run.e0 e1 e2 h.gone.wrote res
+    more_told w2 e2 res told = tells_more run.held run.write_failures run.second_held run.second_failures run.command h.gone.out h.gone.told told.0 run.w0 w1 w2 run.e0 e1 e2 h.gone.wrote (is_check run.command) res refl told.2
 
     -- all was read up to the rest
-    through : (new : RawReader R A) (text rest : List ℕ) (outcome : CutOutcome) → Tells text → IsOutcome limits (kept mid) outcome → Some fault ≡ fault_at_end (kept mid) outcome
-        → HasCovered new h.gone.parts rest h.gone.out h.gone.told → IsLast settings.keeps_going limits (kept mid) rest outcome (IsAtEnd (left (source_of new)))
-        → failures (source_of new) ≡ failures (source_of mid) → Through new tally (Some fault) h.gone.out h.gone.told text
+    through : (new : RawReader R A) (text rest : List ℕ) (outcome : CutOutcome) → Tells text → IsOutcome run.settings.limits (kept mid) outcome → Some fault ≡ fault_at_end (kept mid) outcome
+        → HasCovered run new h.gone.parts rest h.gone.out h.gone.told → IsLast run.settings.keeps_going run.settings.limits (kept mid) rest outcome (IsAtEnd (run.left (source_of new)))
+        → run.failures (source_of new) ≡ run.failures (source_of mid) → Through run new tally (Some fault) h.gone.out h.gone.told text
     through new text rest outcome told outcome_is fault_is covered last same = record {
       parts = h.gone.parts;
       rest = rest;
-      covers = covers new h.gone.parts rest h.gone.out h.gone.told covered;
+      covers = covers run new h.gone.parts rest h.gone.out h.gone.told covered;
       tally_is = h.gone.tally_is;
       kept = kept mid;
-      tells = record { outcome = outcome; outcome_is = outcome_is; fault_is = fault_is; told = told_last text told };
+      tells = record { outcome = outcome; outcome_is = outcome_is; fault_is = fault_is; told = told_at (length h.gone.parts + 1) text refl told };
       last = last;
       read_failed = same ∙ h.gone.failed;
     }
 
     -- why nothing follows if nothing was passed over
-    last_is : (outcome : CutOutcome) → Some fault ≡ fault_at_end (kept mid) outcome → (((f : Fault) → outcome ≡ Refused f → ⊥) → IsAtEnd (left (source_of mid)))
-        → (settings.keeps_going ≡ true → (other : Fault) (n : ℕ) → IsRefusal (stopped_of mid) other → StatesAll (limits_of mid) (kept mid) n → ⊥)
-        → IsLast settings.keeps_going limits (kept mid) (kept mid) outcome (IsAtEnd (left (source_of mid)))
+    last_is : (outcome : CutOutcome) → Some fault ≡ fault_at_end (kept mid) outcome → (((f : Fault) → outcome ≡ Refused f → ⊥) → IsAtEnd (run.left (source_of mid)))
+        → (run.settings.keeps_going ≡ true → (other : Fault) (n : ℕ) → IsRefusal (stopped_of mid) other → StatesAll (limits_of mid) (kept mid) n → ⊥)
+        → IsLast run.settings.keeps_going run.settings.limits (kept mid) (kept mid) outcome (IsAtEnd (run.left (source_of mid)))
     last_is Ended e at_end none = (refl, at_end (λ f is. absurd cc))
     last_is Unfinished e at_end none = (refl, at_end (λ f is. absurd cc))
     last_is (Refused other) e at_end none =
@@ -416,28 +424,28 @@ module _ {R A W E : Type 0} (left : R → Option (List ℕ)) (calls failures : R
         )
 
     -- nothing was passed over, if the run is not to go on, or could not
-    through_there : (text : List ℕ) → Tells text → (settings.keeps_going ≡ true → (other : Fault) (n : ℕ) → IsRefusal (stopped_of mid) other → StatesAll (limits_of mid) (kept mid) n → ⊥)
-        → Through mid tally (Some fault) h.gone.out h.gone.told text
+    through_there : (text : List ℕ) → Tells text → (run.settings.keeps_going ≡ true → (other : Fault) (n : ℕ) → IsRefusal (stopped_of mid) other → StatesAll (limits_of mid) (kept mid) n → ⊥)
+        → Through run mid tally (Some fault) h.gone.out h.gone.told text
     through_there text told none =
         through mid text (kept mid) h.outcome told h.outcome_is fault_last h.gone.covered (last_is h.outcome fault_last (λ not. h.gone.covered.at_end (h.ended not)) none) refl
 
     stops_told : (stop : Stop) (text : List ℕ) (w2 : W) (e2 : E) → Tells text
-        → (IsMore (Took mid) held write_failures second_held second_failures settings limits most command h.gone.parts (kept mid) text → AllRead mid stop h.gone.parts (kept mid) text) → Stopped mid stop
-        → GotFirst held write_failures stop (first_of command h.gone.out (h.gone.told ++ text)) w0 w2 → GotSecond second_held second_failures stop (second_of command (h.gone.told ++ text)) e0 e2 → Within mid stop w2 e2
+        → (IsMore (Took run mid) run.held run.write_failures run.second_held run.second_failures run.settings run.settings.limits (most_reads_of run.old) run.command h.gone.parts (kept mid) text → AllRead run mid stop h.gone.parts (kept mid) text) → Stopped run mid stop
+        → GotFirst run.held run.write_failures stop (first_of run.command h.gone.out (h.gone.told ++ text)) run.w0 w2 → GotSecond run.second_held run.second_failures stop (second_of run.command (h.gone.told ++ text)) run.e0 e2 → Within run mid stop w2 e2
     stops_told stop text w2 e2 told all caused first second = record {
       parts = h.gone.parts;
       rest = kept mid;
       out = h.gone.out;
       told = h.gone.told;
-      covers = covers mid h.gone.parts (kept mid) h.gone.out h.gone.told h.gone.covered;
+      covers = covers run mid h.gone.parts (kept mid) h.gone.out h.gone.told h.gone.covered;
       more = text;
       all = all (inr (
         kept mid,
         Some fault,
         text,
         ([], sym (append-nil (kept mid))),
-        record { outcome = h.outcome; outcome_is = h.outcome_is; fault_is = fault_last; told = told_last text told },
-        (closing_line command (tally_of h.gone.parts) (passed_count h.gone.parts) (Some fault), refl),
+        record { outcome = h.outcome; outcome_is = h.outcome_is; fault_is = fault_last; told = told_at (length h.gone.parts + 1) text refl told },
+        (closing_line run.command (tally_of h.gone.parts) (passed_count h.gone.parts) (Some fault), refl),
       ));
       caused = caused;
       first = first;
@@ -445,12 +453,12 @@ module _ {R A W E : Type 0} (left : R → Option (List ℕ)) (calls failures : R
     }
 
     pub not_told : (w2 : W) (e2 : E) (stop : Stop)
-        → TellsBy (writing held write_failures w1 w2) (writing second_held second_failures e1 e2) command settings (record { number = counted.count + 1; offset = counted.size; fault = fault }) (kept mid) (Err stop)
-        → Torn mid stop w2 e2
+        → TellsBy (writing run.held run.write_failures w1 w2) (writing run.second_held run.second_failures e1 e2) run.command run.settings (record { number = counted.count + 1; offset = counted.size; fault = fault }) (kept mid) (Err stop)
+        → Torn run mid stop w2 e2
     not_told w2 e2 (ByCause Memory) told =
-        stops_plain Memory mid h.gone.parts (kept mid) h.gone.out h.gone.told w2 e2 h.gone.covered (inl refl) h.gone.failed
-        (subst (λ (x : W). Wrote held write_failures w0 (first_of command h.gone.out h.gone.told) x) (sym told.0) h.gone.wrote.first)
-        (subst (λ (x : E). Wrote second_held second_failures e0 (second_of command h.gone.told) x) (sym told.1) h.gone.wrote.second)
+        stops_plain run Memory mid h.gone.parts (kept mid) h.gone.out h.gone.told w2 e2 h.gone.covered (inl refl) h.gone.failed
+        (subst (λ (x : W). Wrote run.held run.write_failures run.w0 (first_of run.command h.gone.out h.gone.told) x) (sym told.0) h.gone.wrote.first)
+        (subst (λ (x : E). Wrote run.second_held run.second_failures run.e0 (second_of run.command h.gone.told) x) (sym told.1) h.gone.wrote.second)
     not_told w2 e2 (ByCause ReadFailed) told = absurd told
     not_told w2 e2 (ByCause WriteFailed) told =
         let more = more_told w2 e2 (Err (ByCause WriteFailed)) told in
@@ -475,30 +483,30 @@ module _ {R A W E : Type 0} (left : R → Option (List ℕ)) (calls failures : R
     -- ---- and the message is passed over, or not
 
     abbrev HasToldIt : List ℕ → W → E → Type 0
-    HasToldIt text w2 e2 = HasTold held write_failures second_held second_failures command h.gone.out (h.gone.told ++ text) w0 w2 e0 e2
+    HasToldIt text w2 e2 = HasTold run.held run.write_failures run.second_held run.second_failures run.command h.gone.out (h.gone.told ++ text) run.w0 w2 run.e0 e2
 
-    handed : (new : RawReader R A) (text : List ℕ) (w2 : W) (e2 : E) → HasToldIt text w2 e2 → Through new tally (Some fault) h.gone.out h.gone.told text → Handed new tally (Some fault) w2 e2
+    handed : (new : RawReader R A) (text : List ℕ) (w2 : W) (e2 : E) → HasToldIt text w2 e2 → Through run new tally (Some fault) h.gone.out h.gone.told text → Handed run new tally (Some fault) w2 e2
     handed new text w2 e2 wrote all = record { out = h.gone.out; told = h.gone.told; text = text; through = all; first = wrote.first; second = wrote.second }
 
-    pub halts : (text : List ℕ) (w2 : W) (e2 : E) → Tells text → HasToldIt text w2 e2 → settings.keeps_going ≡ false → Handed mid tally (Some fault) w2 e2
+    pub halts : (text : List ℕ) (w2 : W) (e2 : E) → Tells text → HasToldIt text w2 e2 → run.settings.keeps_going ≡ false → Handed run mid tally (Some fault) w2 e2
     halts text w2 e2 told wrote halt = handed mid text w2 e2 wrote (through_there text told (λ goes. absurd (false≢true (sym halt ∙ goes))))
 
-    module _ (new : RawReader R A) (text : List ℕ) (w2 : W) (e2 : E) (told : Tells text) (wrote : HasToldIt text w2 e2) where
-      met : (other : Fault) → IsRefusal (stopped_of mid) other → IsRefused limits (kept mid) fault
+    module _ (text : List ℕ) {w2 : W} {e2 : E} (told : Tells text) (wrote : HasToldIt text w2 e2) (new : RawReader R A) where
+      met : (other : Fault) → IsRefusal (stopped_of mid) other → IsRefused run.settings.limits (kept mid) fault
       met other refusal =
           let same : other ≡ fault = (let both = sym refusal.0 ∙ stopped_last in cc) in
-          refused_is limits (kept mid) fault h.outcome h.outcome_is fault_last (subst (λ (f : Fault). is_truncated f.reason ≡ false) same refusal.1)
+          refused_is run.settings.limits (kept mid) fault h.outcome h.outcome_is fault_last (subst (λ (f : Fault). is_truncated f.reason ≡ false) same refusal.1)
 
-      states : (n : ℕ) → StatesLength (limits_of mid) (kept mid) n → StatesLength limits (kept mid) n
+      states : (n : ℕ) → StatesLength (limits_of mid) (kept mid) n → StatesLength run.settings.limits (kept mid) n
       states n s = subst (λ (l : Limits). StatesLength l (kept mid) n) h.gone.covered.limits_are s
 
       -- what was read to pass over it
-      abbrev passing : (n : ℕ) (r : ReadsUpTo n left calls mid new) → HasRead gathering left calls limits (kept mid) mid.reader new.reader [] (kept mid ++ r.bytes)
+      abbrev passing : (n : ℕ) (r : ReadsUpTo n run.left run.calls mid new) → HasRead gathering run.left run.calls run.settings.limits (kept mid) mid.reader new.reader [] (kept mid ++ r.bytes)
       passing n r =
-          read_on gathering left calls limits (kept mid) (λ before. length (kept mid ++ before) < n) mid.reader mid.reader new.reader [] (kept mid)
-          (read_none gathering left calls limits (kept mid) mid.reader h.gone.covered.limits_are) r
+          read_on gathering run.left run.calls run.settings.limits (kept mid) (λ before. length (kept mid ++ before) < n) mid.reader mid.reader new.reader [] (kept mid)
+          (read_none gathering run.left run.calls run.settings.limits (kept mid) mid.reader h.gone.covered.limits_are) r
 
-      short_covered : (n : ℕ) (r : ReadsUpTo n left calls mid new) → HasCovered new h.gone.parts (kept mid ++ r.bytes) h.gone.out h.gone.told
+      short_covered : (n : ℕ) (r : ReadsUpTo n run.left run.calls mid new) → HasCovered run new h.gone.parts (kept mid ++ r.bytes) h.gone.out h.gone.told
       short_covered n r =
           let c = h.gone.covered in
           let p = passing n r in
@@ -509,41 +517,41 @@ module _ {R A W E : Type 0} (left : R → Option (List ℕ)) (calls failures : R
             most_reads = r.most_reads ∙ c.most_reads;
             limits_are = r.limits ∙ c.limits_are;
             at_end = p.at_end c.at_end;
-            begin = parts_more limits c.bytes h.gone.parts (kept mid) r.bytes c.begin;
+            begin = parts_more run.settings.limits c.bytes h.gone.parts (kept mid) r.bytes c.begin;
             made = c.made;
             tells = c.tells;
           }
 
-      cut_off : (n : ℕ) (bytes : List ℕ) → StatesLength (limits_of mid) (kept mid) n → FallsShort n (kept mid ++ bytes) mid new → IsCutOff limits (kept mid) (kept mid ++ bytes)
+      cut_off : (n : ℕ) (bytes : List ℕ) → StatesLength (limits_of mid) (kept mid) n → FallsShort n (kept mid ++ bytes) mid new → IsCutOff run.settings.limits (kept mid) (kept mid ++ bytes)
       cut_off n bytes s f = record { size = n; front = (bytes, refl); states = states n s; short = f.short }
 
       -- the input ends within it
-      ends_short : (goes : settings.keeps_going ≡ true) (n : ℕ) (r : ReadsUpTo n left calls mid new) (other : Fault) → IsRefusal (stopped_of mid) other → StatesLength (limits_of mid) (kept mid) n → FallsShort n (kept mid ++ r.bytes) mid new
-          → is_ended new ≡ true → failures (source_of new) ≡ failures (source_of mid) → Handed new tally (Some fault) w2 e2
+      ends_short : (goes : run.settings.keeps_going ≡ true) (n : ℕ) (r : ReadsUpTo n run.left run.calls mid new) (other : Fault) → IsRefusal (stopped_of mid) other → StatesLength (limits_of mid) (kept mid) n → FallsShort n (kept mid ++ r.bytes) mid new
+          → is_ended new ≡ true → run.failures (source_of new) ≡ run.failures (source_of mid) → Handed run new tally (Some fault) w2 e2
       ends_short goes n r other refusal s short ended same =
           let covered = short_covered n r in
           handed new text w2 e2 wrote (through new text (kept mid ++ r.bytes) (Refused fault) told (met other refusal) refl covered (inr (cut_off n r.bytes s short, covered.at_end ended, goes)) same)
 
-      pub stays : settings.keeps_going ≡ true → Passing left calls mid new (Ok false) → failures (source_of new) ≡ failures (source_of mid) → Handed new tally (Some fault) w2 e2
+      pub stays : run.settings.keeps_going ≡ true → Passing run.left run.calls mid new (Ok false) → run.failures (source_of new) ≡ run.failures (source_of mid) → Handed run new tally (Some fault) w2 e2
       stays goes passing same = elim passing [
         | inl p ↦ ends_short goes p.1 p.4 p.0 p.2 p.3 p.5.0 p.5.1 same
-        | inr none ↦ subst (λ (x : RawReader R A). Handed x tally (Some fault) w2 e2) (sym none.2) (handed mid text w2 e2 wrote (through_there text told (λ goes. none.0)))
+        | inr none ↦ subst (λ (x : RawReader R A). Handed run x tally (Some fault) w2 e2) (sym none.2) (handed mid text w2 e2 wrote (through_there text told (λ goes. none.0)))
       ]
 
       -- it was not passed over, since reading was given up
-      torn : (goes : settings.keeps_going ≡ true) (stop : Stop) (n : ℕ) (r : ReadsUpTo n left calls mid new) (other : Fault) → IsRefusal (stopped_of mid) other → StatesLength (limits_of mid) (kept mid) n → FallsShort n (kept mid ++ r.bytes) mid new
-          → (IsAllOf (Took new) held write_failures second_held second_failures settings limits most command h.gone.parts (kept mid ++ r.bytes) text → AllRead new stop h.gone.parts (kept mid ++ r.bytes) text)
-          → Stopped new stop → GotFirst held write_failures stop (first_of command h.gone.out (h.gone.told ++ text)) w0 w2
-          → GotSecond second_held second_failures stop (second_of command (h.gone.told ++ text)) e0 e2 → Torn new stop w2 e2
+      torn : (goes : run.settings.keeps_going ≡ true) (stop : Stop) (n : ℕ) (r : ReadsUpTo n run.left run.calls mid new) (other : Fault) → IsRefusal (stopped_of mid) other → StatesLength (limits_of mid) (kept mid) n → FallsShort n (kept mid ++ r.bytes) mid new
+          → (IsAllOf (Took run new) run.held run.write_failures run.second_held run.second_failures run.settings run.settings.limits (most_reads_of run.old) run.command h.gone.parts (kept mid ++ r.bytes) text → AllRead run new stop h.gone.parts (kept mid ++ r.bytes) text)
+          → Stopped run new stop → GotFirst run.held run.write_failures stop (first_of run.command h.gone.out (h.gone.told ++ text)) run.w0 w2
+          → GotSecond run.second_held run.second_failures stop (second_of run.command (h.gone.told ++ text)) run.e0 e2 → Torn run new stop w2 e2
       torn goes stop n r other refusal s short all caused first second = (
         record {
           parts = h.gone.parts;
           rest = kept mid ++ r.bytes;
           out = h.gone.out;
           told = h.gone.told;
-          covers = covers new h.gone.parts (kept mid ++ r.bytes) h.gone.out h.gone.told (short_covered n r);
+          covers = covers run new h.gone.parts (kept mid ++ r.bytes) h.gone.out h.gone.told (short_covered n r);
           more = text;
-          all = all (inr (kept mid, fault, met other refusal, cut_off n r.bytes s short, goes, told_last text told));
+          all = all (inr (kept mid, fault, met other refusal, cut_off n r.bytes s short, goes, told_at (length h.gone.parts + 1) text refl told));
           caused = caused;
           first = first;
           second = second;
@@ -551,8 +559,8 @@ module _ {R A W E : Type 0} (left : R → Option (List ℕ)) (calls failures : R
         λ halt _. absurd (false≢true (sym halt ∙ goes)),
       )
 
-      pub breaks : (goes : settings.keeps_going ≡ true) (broken : ReadFault) → Passing left calls mid new (Err broken) → DeviceCounts {T = Bool} (failures (source_of mid)) (failures (source_of new)) (Err broken)
-          → Torn new (ByCause (cause_of broken)) w2 e2
+      pub breaks : (goes : run.settings.keeps_going ≡ true) (broken : ReadFault) → Passing run.left run.calls mid new (Err broken) → DeviceCounts {T = Bool} (run.failures (source_of mid)) (run.failures (source_of new)) (Err broken)
+          → Torn run new (ByCause (cause_of broken)) w2 e2
       breaks goes read.Memory passing counts = elim passing [ inl p ↦ absurd p.5 | inr none ↦ absurd (let e = none.1 in cc) ]
       breaks goes (read.Format f) passing counts = elim passing [ inl p ↦ absurd p.5 | inr none ↦ absurd (let e = none.1 in cc) ]
       breaks goes read.Device passing counts = elim passing [
@@ -561,50 +569,44 @@ module _ {R A W E : Type 0} (left : R → Option (List ℕ)) (calls failures : R
       ]
       breaks goes read.TooManyReads passing counts = elim passing [
         | inl p ↦ torn goes (ByCause TooManyReads) p.1 p.4 p.0 p.2 p.3 p.5.0 (λ all. all)
-            (counts ∙ h.gone.failed, all_called new h.gone.parts (kept mid ++ p.4.bytes) h.gone.out h.gone.told (short_covered p.1 p.4) p.5.1) wrote.first wrote.second
+            (counts ∙ h.gone.failed, all_called run new h.gone.parts (kept mid ++ p.4.bytes) h.gone.out h.gone.told (short_covered p.1 p.4) p.5.1) wrote.first wrote.second
         | inr none ↦ absurd (let e = none.1 in cc)
       ]
 
       -- the message was passed over
-      over : (goes : settings.keeps_going ≡ true) (n : ℕ) (r : ReadsUpTo n left calls mid new) (other : Fault) → IsRefusal (stopped_of mid) other → StatesLength (limits_of mid) (kept mid) n → PassesOver n (kept mid ++ r.bytes) mid new
-          → failures (source_of new) ≡ failures (source_of mid)
-          → HasGone new (record { count = counted.count + 1; size = done_of new; passed = tally.passed + 1; passed_size = tally.passed_size + (done_of new - counted.size) }) w2 e2
-      over goes n r other refusal s p same =
-          let parts = h.gone.parts in
-          let is = h.gone.tally_is in
-          let part = PassedOver (kept mid) fault n in
-          let read = passing n r in
-          let begin : BeginWithParts limits (kept mid ++ read.bytes) (part ∷ []) (kept new) = (((r.bytes, refl), met other refusal, states n s, p.there), sym p.kept) in
-          let told_is : AreTexts (IsToldOf settings) (1 + length parts) (0 + sizes_of parts) (part ∷ []) text = (text, [], sym (append-nil text), (goes, told_next text told), refl) in
-          let covered = covers_read mid new parts (part ∷ []) (kept mid) (kept new) h.gone.out h.gone.told [] text (kept mid ++ r.bytes) [] h.gone.covered read begin ([], [], refl, refl, refl) told_is in
-          let count_is : counted.count + 1 ≡ length (parts ++ part ∷ [])
-          = omega (arith, h.count_is, ap (λ (t : Tally). t.count) is, length-append parts (part ∷ [])) in
-          let size_is : done_of new ≡ sizes_of (parts ++ part ∷ []) = omega (arith, p.done, h.gone.done, sizes-both parts (part ∷ [])) in
-          let passed_is : tally.passed + 1 ≡ passed_count (parts ++ part ∷ []) = omega (arith, ap (λ (t : Tally). t.passed) is, passed-both parts (part ∷ [])) in
-          let passed_size_is : tally.passed_size + (done_of new - counted.size) ≡ passed_sizes (parts ++ part ∷ [])
-          = omega (arith, ap (λ (t : Tally). t.passed_size) is, ap (λ (t : Tally). t.size) is, h.size_is, p.done, h.gone.done, passed_sizes-both parts (part ∷ [])) in
-          record {
-            parts = parts ++ part ∷ [];
-            out = h.gone.out;
-            told = h.gone.told ++ text;
-            covered = subst (λ (l : List ℕ). HasCovered new (parts ++ part ∷ []) (kept new) l (h.gone.told ++ text)) (append-nil h.gone.out) covered;
-            tally_is = λ i. record { count = count_is i; size = size_is i; passed = passed_is i; passed_size = passed_size_is i };
-            done = size_is;
-            failed = same ∙ h.gone.failed;
-            wrote = wrote;
-          }
-        where
-          told_next : (text : List ℕ) → Tells text → IsTold settings (record { number = 1 + length h.gone.parts; offset = 0 + sizes_of h.gone.parts; fault = fault }) (kept mid) text
-          told_next text told =
-              let number : length h.gone.parts + 1 ≡ 1 + length h.gone.parts = omega arith in
-              let offset : sizes_of h.gone.parts ≡ 0 + sizes_of h.gone.parts = omega arith in
-              subst (λ (n : ℕ). IsTold settings (record { number = n; offset = 0 + sizes_of h.gone.parts; fault = fault }) (kept mid) text) number
-              (subst (λ (o : ℕ). IsTold settings (record { number = length h.gone.parts + 1; offset = o; fault = fault }) (kept mid) text) offset (told_last text told))
-
-      pub goes_on : settings.keeps_going ≡ true → Passing left calls mid new (Ok true) → failures (source_of new) ≡ failures (source_of mid)
-          → HasGone new (record { count = counted.count + 1; size = done_of new; passed = tally.passed + 1; passed_size = tally.passed_size + (done_of new - counted.size) }) w2 e2
-          × (stopped_of new ≡ None) × (done_of mid < done_of new)
-      goes_on goes passing same = elim passing [
-        | inl p ↦ (over goes p.1 p.4 p.0 p.2 p.3 p.5 same, p.5.stopped, omega (arith, p.5.done, stated_bytes limits (kept mid) p.1 (states p.1 p.3)))
+      pub goes_on : (past : Tally) (end : ℕ) → end ≡ done_of new → past ≡ record { count = tally.count + 1; size = end; passed = tally.passed + 1; passed_size = tally.passed_size + (end - tally.size) }
+          → run.settings.keeps_going ≡ true → Passing run.left run.calls mid new (Ok true) → run.failures (source_of new) ≡ run.failures (source_of mid) → HasGone run new past w2 e2
+      goes_on past end there past_is goes passing same = elim passing [
+        | inl p ↦ over past end there past_is goes p.1 p.4 p.0 p.2 p.3 p.5 same
         | inr none ↦ absurd (let e = none.1 in cc)
       ]
+        where
+          over : (past : Tally) (end : ℕ) → end ≡ done_of new → past ≡ record { count = tally.count + 1; size = end; passed = tally.passed + 1; passed_size = tally.passed_size + (end - tally.size) }
+              → run.settings.keeps_going ≡ true → (n : ℕ) (r : ReadsUpTo n run.left run.calls mid new) (other : Fault) → IsRefusal (stopped_of mid) other → StatesLength (limits_of mid) (kept mid) n
+              → PassesOver n (kept mid ++ r.bytes) mid new → run.failures (source_of new) ≡ run.failures (source_of mid) → HasGone run new past w2 e2
+          over past end there past_is goes n r other refusal s p same =
+              let parts = h.gone.parts in
+              let is = h.gone.tally_is in
+              let part = PassedOver (kept mid) fault n in
+              let read = passing n r in
+              let begin : BeginWithParts run.settings.limits (kept mid ++ read.bytes) (part ∷ []) (kept new) = (((r.bytes, refl), met other refusal, states n s, p.there), sym p.kept) in
+              let number : 1 + length parts ≡ length parts + 1 = omega arith in
+              let offset : sizes_of parts ≡ 0 + sizes_of parts = omega arith in
+              let told_next = subst (λ (o : ℕ). IsTold run.settings (record { number = 1 + length parts; offset = o; fault = fault }) (kept mid) text) offset (told_at (1 + length parts) text number told) in
+              let told_is : AreTexts (IsToldOf run.settings) (1 + length parts) (0 + sizes_of parts) (part ∷ []) text = (text, [], sym (append-nil text), (goes, told_next), refl) in
+              let covered = covers_read run mid new parts (part ∷ []) (kept mid) (kept new) h.gone.out h.gone.told [] text (kept mid ++ r.bytes) [] h.gone.covered read begin ([], [], refl, refl, refl) told_is in
+              let count_is : tally.count + 1 ≡ length (parts ++ part ∷ []) = omega (arith, ap (λ (t : Tally). t.count) is, length-append parts (part ∷ [])) in
+              let size_is : done_of new ≡ sizes_of (parts ++ part ∷ []) = omega (arith, p.done, h.gone.done, sizes-both parts (part ∷ [])) in
+              let passed_is : tally.passed + 1 ≡ passed_count (parts ++ part ∷ []) = omega (arith, ap (λ (t : Tally). t.passed) is, passed-both parts (part ∷ [])) in
+              let passed_size_is : tally.passed_size + (end - tally.size) ≡ passed_sizes (parts ++ part ∷ [])
+              = omega (arith, there, ap (λ (t : Tally). t.passed_size) is, ap (λ (t : Tally). t.size) is, p.done, h.gone.done, passed_sizes-both parts (part ∷ [])) in
+              record {
+                parts = parts ++ part ∷ [];
+                out = h.gone.out;
+                told = h.gone.told ++ text;
+                covered = subst (λ (l : List ℕ). HasCovered run new (parts ++ part ∷ []) (kept new) l (h.gone.told ++ text)) (append-nil h.gone.out) covered;
+                tally_is = past_is ∙ (λ i. record { count = count_is i; size = (there ∙ size_is) i; passed = passed_is i; passed_size = passed_size_is i });
+                done = size_is;
+                failed = same ∙ h.gone.failed;
+                wrote = wrote;
+              }
