@@ -1,5 +1,5 @@
 -- How a run ends that passes over refused messages.
-use Rattle.std.proofs.Common.{ℕ, ◌≤◌, List, [], ◌++◌, Bool, Err, Ok, Option, Result, refl, sym, ap, ◌∙◌, subst, arith, inl, inr, append_assoc, append-nil}
+use Rattle.std.proofs.Common.{◌≡◌, ℕ, ◌≤◌, List, [], ◌++◌, Bool, Err, Ok, Option, Result, refl, sym, ap, ◌∙◌, subst, arith, inl, inr, append_assoc, append-nil}
 use Rattle.dbus_value_model.specs.declared.fault.Fault.{Fault}
 use Rattle.dbus_value_model.specs.declared.limits.Limits.{Limits}
 use Rattle.dbus_stream.specs.Cut.{CutOutcome, Ended, Unfinished, Refused}
@@ -9,6 +9,7 @@ use Rattle.dbus_tool.specs.Devices.{writing, Taken}
 use Rattle.dbus_tool.specs.Going.{first_of, second_of, is_check, HandsParts, GoesThrough, StopsWithin, IsMore, IsStopOf, IsAllRead, GotFirst, GotSecond, WritesBy}
 use Rattle.dbus_tool.specs.Output.{IsPrefixTo}
 use Rattle.dbus_tool.specs.Parts.{IsLast, closing_line, status_at}
+use Rattle.dbus_tool.specs.declared.ending.ExitStatus.{ExitStatus}
 use Rattle.dbus_tool.specs.declared.ending.Cause.TheVariants.{Memory, ReadFailed, WriteFailed, TooManyReads}
 use Rattle.dbus_tool.specs.declared.going.Stop.{Stop}
 use Rattle.dbus_tool.specs.declared.going.Stop.TheVariants.{Cause as ByCause, Second}
@@ -24,8 +25,8 @@ last_front goes_on limits kept rest (Refused fault) at_end last = elim last [
   | inr short ↦ short.0.front
 ]
 
-module _ {W E : Type 0} (t : Taken) (held : W → Option (List ℕ)) (write_failures : W → ℕ) (second_held : E → Option (List ℕ)) (second_failures : E → ℕ)
-    (settings : Settings) (limits : Limits) (most : ℕ) (command : Command) (tally : Tally) (fault : Option Fault) (w0 w1 : W) (e0 e1 : E)
+module _ {W E : Type 0} {t : Taken} {held : W → Option (List ℕ)} {write_failures : W → ℕ} {second_held : E → Option (List ℕ)} {second_failures : E → ℕ}
+    {settings : Settings} {limits : Limits} {most : ℕ} {command : Command} {tally : Tally} {fault : Option Fault} {w0 w1 : W} {e0 e1 : E}
     (h : HandsParts t held write_failures second_held second_failures settings limits most command tally fault w0 w1 e0 e1) where
   -- no more are passed over than there are
   pub few : (tally.passed ≤ tally.count) × (tally.passed_size ≤ tally.size)
@@ -45,9 +46,9 @@ module _ {W E : Type 0} (t : Taken) (held : W → Option (List ℕ)) (write_fail
         tells_more held write_failures second_held second_failures command h.out (h.told ++ h.text) (closing_line command tally tally.passed fault) w0 w1 w2 e0 e1 e2 (record { first = h.first; second = h.second })
         (is_check command) res refl w
 
-    pub closes : WritesBy (is_check command) (writing held write_failures w1 w2) (writing second_held second_failures e1 e2) (closing_line command tally tally.passed fault) (Ok tt)
-        → GoesThrough t held write_failures second_held second_failures settings limits most command w0 w2 e0 e2 (status_at tally.passed fault)
-    closes w =
+    pub closes : (end : ExitStatus) → end ≡ status_at tally.passed fault → WritesBy (is_check command) (writing held write_failures w1 w2) (writing second_held second_failures e1 e2) (closing_line command tally tally.passed fault) (Ok tt)
+        → GoesThrough t held write_failures second_held second_failures settings limits most command w0 w2 e0 e2 end
+    closes end end_is w =
         let all = more_told (Ok tt) w in
         record {
           tally = tally;
@@ -58,7 +59,7 @@ module _ {W E : Type 0} (t : Taken) (held : W → Option (List ℕ)) (write_fail
           through = h.through;
           first = all.first;
           second = all.second;
-          end_is = refl;
+          end_is = end_is;
         }
 
     stops : (stop : Stop) (more : List ℕ) → IsPrefixTo more (closing_line command tally tally.passed fault)

@@ -23,7 +23,7 @@ use Rattle.dbus_command.specs.declared.command.Command.{Command}
 use Rattle.dbus_tool.specs.Devices.{writing}
 use Rattle.dbus_tool.specs.Counting.{ended_by, stopped_by}
 use Rattle.dbus_tool.specs.Output.{IsOutputOf, IsOutputOfAll}
-use Rattle.dbus_tool.specs.Gathering.{Passes, Leaves, GathersOrNot}
+use Rattle.dbus_tool.specs.Gathering.{Passes, Breaks, Leaves, GathersOrNot}
 use Rattle.dbus_tool.specs.Handing.{GivesNext, AreAll, IsWrittenOut}
 use Rattle.dbus_tool.specs.Onward.{HasRead, HandsAllOn, HandsSomeOn, HandsOn, RawHandsOn, StopsFor}
 use Rattle.dbus_tool.specs.declared.ending.Cause.{Cause}
@@ -64,39 +64,52 @@ module _ {R T B G W : Type 0} {b : Ghosts B} (k : Taking T G) (left : R → Opti
     passes = passes_none held write_failures g w;
   }
 
-  next_output : (count : ℕ) (old mid : Reader R T B b) (rest g0 g1 : List ℕ) (w0 w1 : W) (item : CutMessage) (one : List ℕ) (h : HasHanded count old mid rest g0 g1 w0 w1)
-      → IsOutputOf command item.order item.message (count + 1) (done_of mid) one → IsOutputOfAll command (before + 1) (done_of old) (h.items ++ item ∷ []) (h.out ++ one)
-  next_output count old mid rest g0 g1 w0 w1 item one h output =
+  -- what a fault of the reader says of the bytes w that it keeps
+  abbrev pub Faults : List ℕ → Reader R T B b → Reader R T B b → ReadFault → Type 0
+  Faults w mid new read.Memory = Unit {0}
+  Faults w mid new (read.Format fault) = (done_of new ≡ done_of mid) × (IsRefused (limits_of k mid) w fault ⊎ (IsCutShort (limits_of k mid) w fault × (is_ended new ≡ true)))
+  Faults w mid new read.Device = IsPartial (limits_of k mid) w
+  Faults w mid new read.TooManyReads = IsPartial (limits_of k mid) w × (reads_of new ≡ most_reads_of new)
+
+-- what was read after that
+module _ {R T B G W : Type 0} {b : Ghosts B} {k : Taking T G} {left : R → Option (List ℕ)} {calls failures : R → ℕ} {held : W → Option (List ℕ)} {write_failures : W → ℕ}
+    {limits : Limits} {command : Command} {kept : List ℕ} {before count : ℕ} {old mid : Reader R T B b} {rest g0 g1 : List ℕ} {w0 w1 : W}
+    (h : HasHanded k left calls failures held write_failures limits command kept before count old mid rest g0 g1 w0 w1) {new : Reader R T B b} (r : Reads k left calls rest mid new) where
+  read_item : (item : CutMessage) → IsWhole (limits_of k mid) (rest ++ r.bytes) item.order item.message item.size
+      → HasRead k left calls limits kept old new (h.items ++ item ∷ []) (drop item.size (rest ++ r.bytes))
+  read_item item whole =
+      read_message k left calls limits kept old new h.items item (rest ++ r.bytes) (read_more k left calls limits kept old mid new h.items rest h.read r)
+      (subst (λ l. IsWhole l (rest ++ r.bytes) item.order item.message item.size) h.read.limits_are whole)
+
+  next_output : (item : CutMessage) (one : List ℕ) → IsOutputOf command item.order item.message (count + 1) (done_of mid) one
+      → IsOutputOfAll command (before + 1) (done_of old) (h.items ++ item ∷ []) (h.out ++ one)
+  next_output item one output =
       let number : count + 1 ≡ before + 1 + length h.items = omega (arith, h.count_is) in
       output_last command (before + 1) (done_of old) h.items item h.out one h.output
       (subst (λ n. IsOutputOf command item.order item.message n (done_of old + sizes h.items) one) number (subst (λ k. IsOutputOf command item.order item.message (count + 1) k one) h.done output))
 
   -- one more message
-  pub hands_more : (count : ℕ) (old mid new : Reader R T B b) (rest g0 g1 g2 : List ℕ) (w0 w1 w2 : W) (item : CutMessage) (one : List ℕ) → HasHanded count old mid rest g0 g1 w0 w1
-      → (r : Reads k left calls rest mid new) → IsWhole (limits_of k mid) (rest ++ r.bytes) item.order item.message item.size → done_of new ≡ done_of mid + item.size → stopped_of new ≡ None
-      → failures (source_of new) ≡ failures (source_of mid) → IsOutputOf command item.order item.message (count + 1) (done_of mid) one → Passes held write_failures one g1 g2 w1 w2
-      → HasHanded (count + 1) old new (drop item.size (rest ++ r.bytes)) g0 g2 w0 w2
-  hands_more count old mid new rest g0 g1 g2 w0 w1 w2 item one h r whole done unstopped same output p =
-      record {
-        items = h.items ++ item ∷ [];
-        read = read_message k left calls limits kept old new h.items item (rest ++ r.bytes) (read_more k left calls limits kept old mid new h.items rest h.read r)
-            (subst (λ l. IsWhole l (rest ++ r.bytes) item.order item.message item.size) h.read.limits_are whole);
-        done = omega (arith, done, h.done, sizes-last h.items item);
-        unstopped = unstopped;
-        failed = same ∙ h.failed;
-        count_is = omega (arith, h.count_is, length-last h.items item);
-        out = h.out ++ one;
-        output = next_output count old mid rest g0 g1 w0 w1 item one h output;
-        passes = passes_both held write_failures h.out one g0 g1 g2 w0 w1 w2 h.passes p;
-      }
+  pub hands_more : {g2 : List ℕ} {w2 : W} (item : CutMessage) (one : List ℕ) → IsWhole (limits_of k mid) (rest ++ r.bytes) item.order item.message item.size → done_of new ≡ done_of mid + item.size
+      → stopped_of new ≡ None → failures (source_of new) ≡ failures (source_of mid) → IsOutputOf command item.order item.message (count + 1) (done_of mid) one → Passes held write_failures one g1 g2 w1 w2
+      → HasHanded k left calls failures held write_failures limits command kept before (count + 1) old new (drop item.size (rest ++ r.bytes)) g0 g2 w0 w2
+  hands_more {g2} {w2} item one whole done unstopped same output p = record {
+    items = h.items ++ item ∷ [];
+    read = read_item item whole;
+    done = omega (arith, done, h.done, sizes-last h.items item);
+    unstopped = unstopped;
+    failed = same ∙ h.failed;
+    count_is = omega (arith, h.count_is, length-last h.items item);
+    out = h.out ++ one;
+    output = next_output item one output;
+    passes = passes_both held write_failures h.out one g0 g1 g2 w0 w1 w2 h.passes p;
+  }
 
   -- no further message comes
-  abbrev pub hands_all : (count : ℕ) (old mid new : Reader R T B b) (rest g0 g1 g2 : List ℕ) (w0 w1 w2 : W) (outcome : CutOutcome) (counted : Counted) (h : HasHanded count old mid rest g0 g1 w0 w1)
-      (r : Reads k left calls rest mid new) → counted.count ≡ count → counted.size ≡ done_of new → done_of new ≡ done_of mid → counted.fault ≡ fault_at_end (rest ++ r.bytes) outcome
-      → IsOutcome limits (rest ++ r.bytes) outcome → (((f : Fault) → outcome ≡ Refused f → ⊥) → is_ended new ≡ true)
+  abbrev pub hands_all : (g2 : List ℕ) (w2 : W) (outcome : CutOutcome) (counted : Counted) → counted.count ≡ count → counted.size ≡ done_of new → done_of new ≡ done_of mid
+      → counted.fault ≡ fault_at_end (rest ++ r.bytes) outcome → IsOutcome limits (rest ++ r.bytes) outcome → (((f : Fault) → outcome ≡ Refused f → ⊥) → is_ended new ≡ true)
       → failures (source_of new) ≡ failures (source_of mid) → Passes held write_failures [] g1 g2 w1 w2
       → HandsAllOn k left calls limits kept failures held write_failures command before counted old new g0 g2 w0 w2
-  hands_all count old mid new rest g0 g1 g2 w0 w1 w2 outcome counted h r count_is size done fault is ended same p = record {
+  hands_all g2 w2 outcome counted count_is size done fault is ended same p = record {
     items = h.items;
     rest = rest ++ r.bytes;
     outcome = outcome;
@@ -114,11 +127,10 @@ module _ {R T B G W : Type 0} {b : Ghosts B} (k : Taking T G) (left : R → Opti
   }
 
   -- reading or writing is given up
-  pub hands_some : (cause : Cause) (count : ℕ) (old mid new : Reader R T B b) (rest g0 g1 g2 : List ℕ) (w0 w1 w2 : W) (h : HasHanded count old mid rest g0 g1 w0 w1)
-      (r : Reads k left calls rest mid new) → AreAll limits cause (rest ++ r.bytes) → Leaves held write_failures cause h.out g0 g2 w0 w2
+  hands_some : (cause : Cause) (g2 : List ℕ) (w2 : W) → AreAll limits cause (rest ++ r.bytes) → Leaves held write_failures cause h.out g0 g2 w0 w2
       → StopsFor k left calls limits kept failures held write_failures command before cause old new
       → HandsSomeOn k left calls limits kept failures held write_failures command before cause old new g0 g2 w0 w2
-  hands_some cause count old mid new rest g0 g1 g2 w0 w1 w2 h r all leaves caused = record {
+  hands_some cause g2 w2 all leaves caused = record {
     items = h.items;
     rest = rest ++ r.bytes;
     read = read_more k left calls limits kept old mid new h.items rest h.read r;
@@ -129,69 +141,60 @@ module _ {R T B G W : Type 0} {b : Ghosts B} (k : Taking T G) (left : R → Opti
     caused = caused;
   }
 
-  -- what a fault of the reader says of the bytes w that it keeps
-  abbrev pub Faults : List ℕ → Reader R T B b → Reader R T B b → ReadFault → Type 0
-  Faults w mid new read.Memory = Unit {0}
-  Faults w mid new (read.Format fault) = (done_of new ≡ done_of mid) × (IsRefused (limits_of k mid) w fault ⊎ (IsCutShort (limits_of k mid) w fault × (is_ended new ≡ true)))
-  Faults w mid new read.Device = IsPartial (limits_of k mid) w
-  Faults w mid new read.TooManyReads = IsPartial (limits_of k mid) w × (reads_of new ≡ most_reads_of new)
+  pub hands_unwritten : (g2 : List ℕ) (w2 : W) → Breaks held write_failures [] g1 w1 w2 → failures (source_of new) ≡ failures (source_of mid)
+      → HandsSomeOn k left calls limits kept failures held write_failures command before WriteFailed old new g0 g2 w0 w2
+  hands_unwritten g2 w2 p same = hands_some WriteFailed g2 w2 tt (breaks_nothing held write_failures h.out g0 g1 w0 w1 w2 h.passes p) (same ∙ h.failed)
 
-  -- the bytes are no message, or end within one
-  pub hands_refused : (count : ℕ) (old mid new : Reader R T B b) (rest g0 g1 g2 : List ℕ) (w0 w1 w2 : W) (fault : Fault) (h : HasHanded count old mid rest g0 g1 w0 w1)
-      (r : Reads k left calls rest mid new) → Faults (rest ++ r.bytes) mid new (read.Format fault) → failures (source_of new) ≡ failures (source_of mid)
-      → Passes held write_failures [] g1 g2 w1 w2
-      → (a : HandsAllOn k left calls limits kept failures held write_failures command before (record { count = count; size = done_of new; fault = Some fault }) old new g0 g2 w0 w2)
-      × (a.rest ≡ rest ++ r.bytes)
-  hands_refused count old mid new rest g0 g1 g2 w0 w1 w2 fault h r answer same p = elim answer.1 [
-    | inl refused ↦ (
-      hands_all count old mid new rest g0 g1 g2 w0 w1 w2 (Refused fault) _ h r refl refl answer.0 refl
-          (subst (λ l. IsRefused l (rest ++ r.bytes) fault) h.read.limits_are refused) (λ none. absurd (none fault refl)) same p,
-      refl,
-    )
-    | inr short ↦ (
-      hands_all count old mid new rest g0 g1 g2 w0 w1 w2 Unfinished _ h r refl refl answer.0 (ap Some short.0.2)
-          (short.0.0, subst (λ l. IsPartial l (rest ++ r.bytes)) h.read.limits_are short.0.1) (λ _. short.1) same p,
-      refl,
-    )
-  ]
+  module _ (g2 : List ℕ) (w2 : W) (p : Passes held write_failures [] g1 g2 w1 w2) where
+    passed : Passes held write_failures h.out g0 g2 w0 w2
+    passed = passes_nothing held write_failures h.out g0 g1 g2 w0 w1 w2 h.passes p
 
-  -- the reader has a fault
-  pub hands_faulted : (fault : ReadFault) (count : ℕ) (old mid new : Reader R T B b) (rest g0 g1 g2 : List ℕ) (w0 w1 w2 : W) (h : HasHanded count old mid rest g0 g1 w0 w1)
-      (r : Reads k left calls rest mid new) → Faults (rest ++ r.bytes) mid new fault → DeviceCounts {T = Option G} (failures (source_of mid)) (failures (source_of new)) (Err fault)
-      → Passes held write_failures [] g1 g2 w1 w2 → IsWrittenOut fault g2
-      → HandsOn k left calls limits kept failures held write_failures command before old new g0 g2 w0 w2 (ended_by count (done_of new) fault)
-  hands_faulted (read.Format fault) count old mid new rest g0 g1 g2 w0 w1 w2 h r answer same p o = (hands_refused count old mid new rest g0 g1 g2 w0 w1 w2 fault h r answer same p).0
-  hands_faulted read.Memory count old mid new rest g0 g1 g2 w0 w1 w2 h r answer same p o =
-      hands_some Memory count old mid new rest g0 g1 g2 w0 w1 w2 h r tt (passes_nothing held write_failures h.out g0 g1 g2 w0 w1 w2 h.passes p) (same ∙ h.failed)
-  hands_faulted read.Device count old mid new rest g0 g1 g2 w0 w1 w2 h r partial counts p o =
-      hands_some ReadFailed count old mid new rest g0 g1 g2 w0 w1 w2 h r (subst (λ l. IsPartial l (rest ++ r.bytes)) h.read.limits_are partial)
-      (subst (λ g. Passes held write_failures h.out g0 g w0 w2) o (passes_nothing held write_failures h.out g0 g1 g2 w0 w1 w2 h.passes p)) (counts.0 ∙ ap one_more h.failed)
-  hands_faulted read.TooManyReads count old mid new rest g0 g1 g2 w0 w1 w2 h r answer same p o =
-      hands_some TooManyReads count old mid new rest g0 g1 g2 w0 w1 w2 h r (subst (λ l. IsPartial l (rest ++ r.bytes)) h.read.limits_are answer.0)
-      (subst (λ g. Passes held write_failures h.out g0 g w0 w2) o (passes_nothing held write_failures h.out g0 g1 g2 w0 w1 w2 h.passes p)) (same ∙ h.failed, answer.1)
+    -- the bytes are no message, or end within one
+    pub hands_refused : (fault : Fault) → Faults k left calls failures held write_failures limits command kept before (rest ++ r.bytes) mid new (read.Format fault) → failures (source_of new) ≡ failures (source_of mid)
+        → (a : HandsAllOn k left calls limits kept failures held write_failures command before (record { count = count; size = done_of new; fault = Some fault }) old new g0 g2 w0 w2)
+        × (a.rest ≡ rest ++ r.bytes)
+    hands_refused fault answer same = elim answer.1 [
+      | inl refused ↦ (
+        hands_all g2 w2 (Refused fault) _ refl refl answer.0 refl
+            (subst (λ l. IsRefused l (rest ++ r.bytes) fault) h.read.limits_are refused) (λ none. absurd (none fault refl)) same p,
+        refl,
+      )
+      | inr short ↦ (
+        hands_all g2 w2 Unfinished _ refl refl answer.0 (ap Some short.0.2)
+            (short.0.0, subst (λ l. IsPartial l (rest ++ r.bytes)) h.read.limits_are short.0.1) (λ _. short.1) same p,
+        refl,
+      )
+    ]
+
+    -- the reader has a fault
+    pub hands_faulted : (fault : ReadFault) → Faults k left calls failures held write_failures limits command kept before (rest ++ r.bytes) mid new fault
+        → DeviceCounts {T = Option G} (failures (source_of mid)) (failures (source_of new)) (Err fault) → IsWrittenOut fault g2
+        → HandsOn k left calls limits kept failures held write_failures command before old new g0 g2 w0 w2 (ended_by count (done_of new) fault)
+    hands_faulted (read.Format fault) answer same o = (hands_refused fault answer same).0
+    hands_faulted read.Memory answer same o = hands_some Memory g2 w2 tt passed (same ∙ h.failed)
+    hands_faulted read.Device partial counts o =
+        hands_some ReadFailed g2 w2 (subst (λ l. IsPartial l (rest ++ r.bytes)) h.read.limits_are partial) (subst (λ g. Passes held write_failures h.out g0 g w0 w2) o passed) (counts.0 ∙ ap one_more h.failed)
+    hands_faulted read.TooManyReads answer same o =
+        hands_some TooManyReads g2 w2 (subst (λ l. IsPartial l (rest ++ r.bytes)) h.read.limits_are answer.0) (subst (λ g. Passes held write_failures h.out g0 g w0 w2) o passed)
+        (same ∙ h.failed, answer.1)
 
   -- nothing is written of the last message that was given
-  pub hands_not : (cause : Cause) (count : ℕ) (old mid new : Reader R T B b) (rest g0 g1 g2 : List ℕ) (w0 w1 w2 : W) (item : CutMessage) (one : List ℕ) (h : HasHanded count old mid rest g0 g1 w0 w1)
-      (r : Reads k left calls rest mid new) → IsWhole (limits_of k mid) (rest ++ r.bytes) item.order item.message item.size
-      → failures (source_of new) ≡ failures (source_of mid) → IsOutputOf command item.order item.message (count + 1) (done_of mid) one
-      → GathersOrNot held write_failures one g1 g2 w1 w2 (Err cause)
+  pub hands_not : {g2 : List ℕ} {w2 : W} (cause : Cause) (item : CutMessage) (one : List ℕ) → IsWhole (limits_of k mid) (rest ++ r.bytes) item.order item.message item.size
+      → failures (source_of new) ≡ failures (source_of mid) → IsOutputOf command item.order item.message (count + 1) (done_of mid) one → GathersOrNot held write_failures one g1 g2 w1 w2 (Err cause)
       → HandsSomeOn k left calls limits kept failures held write_failures command before cause old new g0 g2 w0 w2
-  hands_not Memory count old mid new rest g0 g1 g2 w0 w1 w2 item one h r whole same output p =
-      hands_some Memory count old mid new rest g0 g1 g2 w0 w1 w2 h r tt (passes_nothing held write_failures h.out g0 g1 g2 w0 w1 w2 h.passes p) (same ∙ h.failed)
-  hands_not ReadFailed count old mid new rest g0 g1 g2 w0 w1 w2 item one h r whole same output p = absurd p
-  hands_not TooManyReads count old mid new rest g0 g1 g2 w0 w1 w2 item one h r whole same output p = absurd p
-  hands_not WriteFailed count old mid new rest g0 g1 g2 w0 w1 w2 item one h r whole same output p =
-      let more = read_more k left calls limits kept old mid new h.items rest h.read r in
-      record {
-        items = h.items ++ item ∷ [];
-        rest = drop item.size (rest ++ r.bytes);
-        read = read_message k left calls limits kept old new h.items item (rest ++ r.bytes) more (subst (λ l. IsWhole l (rest ++ r.bytes) item.order item.message item.size) h.read.limits_are whole);
-        all = tt;
-        out = h.out ++ one;
-        output = next_output count old mid rest g0 g1 w0 w1 item one h output;
-        leaves = breaks_after held write_failures h.out one g0 g1 w0 w1 w2 h.passes p;
-        caused = same ∙ h.failed;
-      }
+  hands_not {g2} {w2} Memory item one whole same output p = hands_some Memory g2 w2 tt (passes_nothing held write_failures h.out g0 g1 g2 w0 w1 w2 h.passes p) (same ∙ h.failed)
+  hands_not ReadFailed item one whole same output p = absurd p
+  hands_not TooManyReads item one whole same output p = absurd p
+  hands_not {g2} {w2} WriteFailed item one whole same output p = record {
+    items = h.items ++ item ∷ [];
+    rest = drop item.size (rest ++ r.bytes);
+    read = read_item item whole;
+    all = tt;
+    out = h.out ++ one;
+    output = next_output item one output;
+    leaves = breaks_after held write_failures h.out one g0 g1 w0 w1 w2 h.passes p;
+    caused = same ∙ h.failed;
+  }
 
 -- a reader of raw messages
 module _ {R A W : Type 0} (left : R → Option (List ℕ)) (calls failures : R → ℕ) (held : W → Option (List ℕ)) (write_failures : W → ℕ) (limits : Limits)
@@ -223,31 +226,26 @@ module _ {R A W : Type 0} (left : R → Option (List ℕ)) (calls failures : R �
   }
   hands_flushed TooManyReads old new g1 w0 w1 w2 s p = absurd p
 
-  faults : (from w : List ℕ) (mid new : RawReader R A) (fault : ReadFault) → Advances w mid new (Err fault)
-      → Faults gathering left calls failures held write_failures limits command from before w mid.reader new.reader fault
-  faults from w mid new read.Memory a = tt
-  faults from w mid new (read.Format fault) a = (a.0.done, a.2)
-  faults from w mid new read.Device a = a.2
-  faults from w mid new read.TooManyReads a = (a.2, a.3)
+module _ {R A W : Type 0} {left : R → Option (List ℕ)} {calls failures : R → ℕ} {held : W → Option (List ℕ)} {write_failures : W → ℕ} {limits : Limits} {command : Command}
+    {before count : ℕ} {old mid : RawReader R A} {g0 g1 : List ℕ} {w0 w1 : W}
+    (h : HasHanded gathering left calls failures held write_failures limits command (kept old) before count old.reader mid.reader (kept mid) g0 g1 w0 w1) (new : RawReader R A) (g2 : List ℕ) (w2 : W) where
+  faults : (w : List ℕ) (fault : ReadFault) → Advances w mid new (Err fault) → Faults gathering left calls failures held write_failures limits command (kept old) before w mid.reader new.reader fault
+  faults w read.Memory a = tt
+  faults w (read.Format fault) a = (a.0.done, a.2)
+  faults w read.Device a = a.2
+  faults w read.TooManyReads a = (a.2, a.3)
 
   -- there is no next message
-  module _ (count : ℕ) (old mid new : RawReader R A) (g0 g1 g2 : List ℕ) (w0 w1 w2 : W)
-      (h : HasHanded gathering left calls failures held write_failures limits command (kept old) before count old.reader mid.reader (kept mid) g0 g1 w0 w1) where
-    faulted : (fault : ReadFault) (given : GivesNext left calls failures mid new (writing held write_failures w1 w2) g1 g2 (Err (FromReader fault)))
-        → HandsOn gathering left calls limits (kept old) failures held write_failures command before old.reader new.reader g0 g2 w0 w2 (ended_by count (raw.done_of new) fault)
-    faulted fault given =
-        hands_faulted gathering left calls failures held write_failures limits command (kept old) before fault count old.reader mid.reader new.reader (kept mid) g0 g1 g2 w0 w1 w2 h given.0
-        (faults (kept old) (kept mid ++ given.0.bytes) mid new fault given.1) given.2 given.3 given.4
+  faulted : (fault : ReadFault) (given : GivesNext left calls failures mid new (writing held write_failures w1 w2) g1 g2 (Err (FromReader fault)))
+      → HandsOn gathering left calls limits (kept old) failures held write_failures command before old.reader new.reader g0 g2 w0 w2 (ended_by count (raw.done_of new) fault)
+  faulted fault given = hands_faulted h given.0 g2 w2 given.3 fault (faults (kept mid ++ given.0.bytes) fault given.1) given.2 given.4
 
-    pub hands_stopped : (stop : NoMessage) → GivesNext left calls failures mid new (writing held write_failures w1 w2) g1 g2 (Err stop)
-        → RawHandsOn left calls failures held write_failures limits command before old new g0 g2 w0 w2 (stopped_by count (raw.done_of new) stop)
-    hands_stopped (FromReader (read.Format fault)) given =
-        let a = hands_refused gathering left calls failures held write_failures limits command (kept old) before count old.reader mid.reader new.reader (kept mid) g0 g1 g2 w0 w1 w2 fault h given.0
-        (faults (kept old) (kept mid ++ given.0.bytes) mid new (read.Format fault) given.1) given.2 given.3 in
-        record { all = a.0; kept = given.1.0.kept ∙ sym a.1; stopped = given.1.1 }
-    hands_stopped (FromReader read.Memory) given = faulted read.Memory given
-    hands_stopped (FromReader read.Device) given = faulted read.Device given
-    hands_stopped (FromReader read.TooManyReads) given = faulted read.TooManyReads given
-    hands_stopped Writer given =
-        hands_some gathering left calls failures held write_failures limits command (kept old) before WriteFailed count old.reader mid.reader new.reader (kept mid) g0 g1 g2 w0 w1 w2 h given.0 tt
-        (breaks_nothing held write_failures h.out g0 g1 w0 w1 w2 h.passes given.1) (given.2 ∙ h.failed)
+  pub hands_stopped : (stop : NoMessage) → GivesNext left calls failures mid new (writing held write_failures w1 w2) g1 g2 (Err stop)
+      → RawHandsOn left calls failures held write_failures limits command before old new g0 g2 w0 w2 (stopped_by count (raw.done_of new) stop)
+  hands_stopped (FromReader (read.Format fault)) given =
+      let a = hands_refused h given.0 g2 w2 given.3 fault (faults (kept mid ++ given.0.bytes) (read.Format fault) given.1) given.2 in
+      record { all = a.0; kept = given.1.0.kept ∙ sym a.1; stopped = given.1.1 }
+  hands_stopped (FromReader read.Memory) given = faulted read.Memory given
+  hands_stopped (FromReader read.Device) given = faulted read.Device given
+  hands_stopped (FromReader read.TooManyReads) given = faulted read.TooManyReads given
+  hands_stopped Writer given = hands_unwritten h given.0 g2 w2 given.1 given.2

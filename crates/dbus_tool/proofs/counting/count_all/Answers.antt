@@ -47,8 +47,7 @@ messages-preserved g c =
     let item : CutMessage = record { order = gives.order; message = gives.message; size = c.in-Ok-Some.field-0-0 } in (
       drop item.size (c.messages.invariant.0 ++ given.0.bytes),
       gives.kept,
-      hands_more lengths g.R.Source.left g.R.Source.calls g.R.Source.failures unwritten.held unwritten.failures (limits_of c.args.messages.now) Check [] 0 c.messages.count c.args.messages.now c.messages.messages c.next.new.self c.messages.invariant.0 [] [] [] tt tt tt item []
-          c.messages.invariant.2 given.0 gives.whole gives.done gives.unstopped c.in-Ok-Some.ensures.failed refl (passes_none unwritten.held unwritten.failures [] tt),
+      hands_more c.messages.invariant.2 given.0 item [] gives.whole gives.done gives.unstopped c.in-Ok-Some.ensures.failed refl (passes_none unwritten.held unwritten.failures [] tt),
       c.next.ensures.same_reference ∙ c.messages.invariant.3,
     )
 
@@ -67,8 +66,7 @@ returns-in-Ok-None-clause-counts g c =
     let read = rw c.in-Ok-None.field-0-is at (c.in-Ok-None.ensures.read rest c.messages.invariant.1) in
     let answer = read.1 h.unstopped in
     tallied g.R.Source.left g.R.Source.calls g.R.Source.failures (limits_of c.args.messages.now) (most_reads_of c.args.messages.now) c.args.messages.now c.requires c.next.new.self (Ok _)
-    (hands_all lengths g.R.Source.left g.R.Source.calls g.R.Source.failures unwritten.held unwritten.failures (limits_of c.args.messages.now) Check [] 0 c.messages.count c.args.messages.now c.messages.messages c.next.new.self rest [] [] [] tt tt tt Ended _
-    h read.0 refl c.done.ensures answer.2.done refl answer.0 (λ _. answer.1) c.in-Ok-None.ensures.failed (passes_none unwritten.held unwritten.failures [] tt))
+    (hands_all h read.0 [] tt Ended _ refl c.done.ensures answer.2.done refl answer.0 (λ _. answer.1) c.in-Ok-None.ensures.failed (passes_none unwritten.held unwritten.failures [] tt))
 
 pub returns-in-Err-clause-counts : goal.returns-in-Err-clause-counts
 returns-in-Err-clause-counts g c =
@@ -79,6 +77,4 @@ returns-in-Err-clause-counts g c =
     let answer : c.ended_by.result ≡ ended_by c.messages.count (done_of c.next.new.self) fault = c.ended_by.ensures ∙ ap (λ n. ended_by c.messages.count n fault) c.done-in-Err.ensures in
     subst (λ x. Tallies (taken (reading g.R.Source.left g.R.Source.calls g.R.Source.failures (source_of c.args.messages.now) (source_of c.next.new.self))) (limits_of c.args.messages.now) (most_reads_of c.args.messages.now) x) (sym answer)
     (tallied g.R.Source.left g.R.Source.calls g.R.Source.failures (limits_of c.args.messages.now) (most_reads_of c.args.messages.now) c.args.messages.now c.requires c.next.new.self (ended_by c.messages.count (done_of c.next.new.self) fault)
-    (hands_faulted lengths g.R.Source.left g.R.Source.calls g.R.Source.failures unwritten.held unwritten.failures (limits_of c.args.messages.now) Check [] 0 fault c.messages.count c.args.messages.now c.messages.messages c.next.new.self rest [] [] [] tt tt tt
-    h read.0 (check_faults g.R.Source.left g.R.Source.calls g.R.Source.failures (limits_of c.args.messages.now) (rest ++ read.0.bytes) c.messages.messages c.next.new.self fault (read.1 h.unstopped)) c.in-Err.ensures.failed
-    (passes_none unwritten.held unwritten.failures [] tt) (written_out fault [] refl)))
+    (hands_faulted h read.0 [] tt (passes_none unwritten.held unwritten.failures [] tt) fault (check_faults g.R.Source.left g.R.Source.calls g.R.Source.failures (limits_of c.args.messages.now) (rest ++ read.0.bytes) c.messages.messages c.next.new.self fault (read.1 h.unstopped)) c.in-Err.ensures.failed (written_out fault [] refl)))

@@ -55,8 +55,7 @@ messages-preserved g c =
     let output = subst (λ k. IsOutputOf (command_of c.args.plan.output) l.gives.order l.gives.message (c.messages.count + 1) k one.0) c.done-offset.ensures one.1 in
     let gathers = gathers_after g.W.Sink.held g.W.Sink.failures one.0 (gathered_bytes c.messages.gathered) (gathered_bytes c.next_message.new.gathered) (gathered_bytes c.write_one.new.gathered)
     c.messages.first c.next_message.new.first c.write_one.new.first (Ok tt) given.3 one.2 in
-    let more = hands_more gathering g.R.Source.left g.R.Source.calls g.R.Source.failures g.W.Sink.held g.W.Sink.failures c.args.plan.settings.limits (command_of c.args.plan.output) (kept c.args.messages.now) c.args.before c.messages.count c.args.messages.now.reader mid.reader new.reader (kept mid) (gathered_bytes c.args.gathered.now) (gathered_bytes c.messages.gathered) (gathered_bytes c.write_one.new.gathered)
-    c.args.first.now c.messages.first c.write_one.new.first item one.0 c.messages.invariant.0 lent.0 l.gives.whole l.gives.done l.gives.unstopped given.2 output gathers in (
+    let more = hands_more c.messages.invariant.0 lent.0 item one.0 l.gives.whole l.gives.done l.gives.unstopped given.2 output gathers in (
       subst (λ v. HasHanded gathering g.R.Source.left g.R.Source.calls g.R.Source.failures g.W.Sink.held g.W.Sink.failures c.args.plan.settings.limits (command_of c.args.plan.output) (kept c.args.messages.now) c.args.before (c.messages.count + 1) c.args.messages.now.reader new.reader v (gathered_bytes c.args.gathered.now) (gathered_bytes c.write_one.new.gathered) c.args.first.now c.write_one.new.first) (sym l.gives.kept) more,
       c.next_message.ensures.same_reference ∙ c.messages.invariant.1,
     )
@@ -83,17 +82,14 @@ returns-in-Err-write_one-clause-hands g c =
     let output = subst (λ k. IsOutputOf (command_of c.args.plan.output) l.gives.order l.gives.message (c.messages.count + 1) k one.0) c.done-offset.ensures one.1 in
     let gathers = gathers_after g.W.Sink.held g.W.Sink.failures one.0 (gathered_bytes c.messages.gathered) (gathered_bytes c.next_message.new.gathered) (gathered_bytes c.write_one.new.gathered)
     c.messages.first c.next_message.new.first c.write_one.new.first (Err c.in-Err-write_one.cause) given.3 one.2 in
-    hands_not gathering g.R.Source.left g.R.Source.calls g.R.Source.failures g.W.Sink.held g.W.Sink.failures c.args.plan.settings.limits (command_of c.args.plan.output) (kept c.args.messages.now) c.args.before c.in-Err-write_one.cause c.messages.count c.args.messages.now.reader mid.reader new.reader (kept mid) (gathered_bytes c.args.gathered.now) (gathered_bytes c.messages.gathered) (gathered_bytes c.write_one.new.gathered)
-    c.args.first.now c.messages.first c.write_one.new.first item one.0 c.messages.invariant.0 lent.0 l.gives.whole given.2 output gathers
+    hands_not c.messages.invariant.0 lent.0 c.in-Err-write_one.cause item one.0 l.gives.whole given.2 output gathers
 
 pub returns-in-Ok-None-clause-hands : goal.returns-in-Ok-None-clause-hands
 returns-in-Ok-None-clause-hands g c =
     let given = rw c.in-Ok-None.field-0-is at c.in-Ok-None.ensures.gives in
     let ends = given.1 in
     record {
-      all = hands_all gathering g.R.Source.left g.R.Source.calls g.R.Source.failures g.W.Sink.held g.W.Sink.failures c.args.plan.settings.limits (command_of c.args.plan.output) (kept c.args.messages.now) c.args.before c.messages.count c.args.messages.now.reader c.messages.messages.reader c.next_message.new.messages.reader (kept c.messages.messages)
-          (gathered_bytes c.args.gathered.now) (gathered_bytes c.messages.gathered) (gathered_bytes c.next_message.new.gathered) c.args.first.now c.messages.first c.next_message.new.first Ended _
-          c.messages.invariant.0 given.0 refl c.done.ensures ends.2.done refl ends.0 (λ _. ends.1) given.2 given.3;
+      all = hands_all c.messages.invariant.0 given.0 (gathered_bytes c.next_message.new.gathered) c.next_message.new.first Ended _ refl c.done.ensures ends.2.done refl ends.0 (λ _. ends.1) given.2 given.3;
       kept = ends.2.kept;
       stopped = ends.3;
     }
@@ -105,6 +101,4 @@ returns-in-Err-clause-hands g c =
     = c.stopped_by.ensures ∙ ap (λ n. stopped_by c.messages.count n stop) c.done-in-Err.ensures in
     subst (λ x. RawHandsOn g.R.Source.left g.R.Source.calls g.R.Source.failures g.W.Sink.held g.W.Sink.failures c.args.plan.settings.limits (command_of c.args.plan.output) c.args.before c.args.messages.now c.next_message.new.messages
     (gathered_bytes c.args.gathered.now) (gathered_bytes c.next_message.new.gathered) c.args.first.now c.next_message.new.first x) (sym answer)
-    (hands_stopped g.R.Source.left g.R.Source.calls g.R.Source.failures g.W.Sink.held g.W.Sink.failures c.args.plan.settings.limits (command_of c.args.plan.output) c.args.before c.messages.count
-    c.args.messages.now c.messages.messages c.next_message.new.messages (gathered_bytes c.args.gathered.now) (gathered_bytes c.messages.gathered) (gathered_bytes c.next_message.new.gathered)
-    c.args.first.now c.messages.first c.next_message.new.first c.messages.invariant.0 stop c.in-Err.ensures.gives)
+    (hands_stopped c.messages.invariant.0 c.next_message.new.messages (gathered_bytes c.next_message.new.gathered) c.next_message.new.first stop c.in-Err.ensures.gives)
