@@ -2,11 +2,12 @@
 use Rattle.std.proofs.Common.{◌≡◌, ℕ, ◌≤◌, List, [], ◌++◌, Bool, Err, Ok, Option, Result, refl, sym, ap, ◌∙◌, subst, arith, inl, inr, append_assoc, append-nil}
 use Rattle.dbus_value_model.specs.declared.fault.Fault.{Fault}
 use Rattle.dbus_value_model.specs.declared.limits.Limits.{Limits}
+use Rattle.dbus_device.specs.Write.{Wrote}
 use Rattle.dbus_stream.specs.Cut.{CutOutcome, Ended, Unfinished, Refused}
 use Rattle.dbus_command.specs.declared.settings.Settings.{Settings}
 use Rattle.dbus_command.specs.declared.command.Command.{Command}
 use Rattle.dbus_tool.specs.Devices.{writing, Taken}
-use Rattle.dbus_tool.specs.Going.{first_of, second_of, is_check, HandsParts, GoesThrough, StopsWithin, IsMore, IsStopOf, IsAllRead, GotFirst, GotSecond, WritesBy}
+use Rattle.dbus_tool.specs.Going.{first_of, second_of, is_check, HandsParts, GoesThrough, StopsWithin, IsMore, IsStopOf, IsAllRead, GotFirst, GotSecond, Says}
 use Rattle.dbus_tool.specs.Output.{IsPrefixTo}
 use Rattle.dbus_tool.specs.Parts.{IsLast, closing_line, status_at}
 use Rattle.dbus_tool.specs.declared.ending.ExitStatus.{ExitStatus}
@@ -36,18 +37,19 @@ module _ {W E : Type 0} {t : Taken} {held : W → Option (List ℕ)} {write_fail
         omega (arith, ap (λ (x : Tally). x.passed_size) is, ap (λ (x : Tally). x.size) is, few_passed_sizes h.through.parts),
       )
 
-  whole : IsPrefixTo (closing_line command tally tally.passed fault) (closing_line command tally tally.passed fault)
-  whole = ([], sym (append-nil (closing_line command tally tally.passed fault)))
+  abbrev pub IsClosing : List ℕ → Type 0
+  IsClosing line = line ≡ closing_line command tally tally.passed fault
 
   module _ (w2 : W) (e2 : E) where
-    more_told : (res : Result (Unit {0}) Stop) → WritesBy (is_check command) (writing held write_failures w1 w2) (writing second_held second_failures e1 e2) (closing_line command tally tally.passed fault) res
-        → TellsMore held write_failures second_held second_failures command h.out (h.told ++ h.text) (closing_line command tally tally.passed fault) w0 w1 w2 e0 e1 e2 (record { first = h.first; second = h.second }) res
-    more_told res w =
-        tells_more held write_failures second_held second_failures command h.out (h.told ++ h.text) (closing_line command tally tally.passed fault) w0 w1 w2 e0 e1 e2 (record { first = h.first; second = h.second })
-        (is_check command) res refl w
+    abbrev Closes : Result (Unit {0}) Stop → Type 0
+    Closes res = Says (is_check command) (writing held write_failures w1 w2) (writing second_held second_failures e1 e2) IsClosing res
 
-    pub closes : (end : ExitStatus) → end ≡ status_at tally.passed fault → WritesBy (is_check command) (writing held write_failures w1 w2) (writing second_held second_failures e1 e2) (closing_line command tally tally.passed fault) (Ok tt)
-        → GoesThrough t held write_failures second_held second_failures settings limits most command w0 w2 e0 e2 end
+    more_told : (res : Result (Unit {0}) Stop) → Closes res
+        → TellsMore held write_failures second_held second_failures command h.out (h.told ++ h.text) IsClosing w0 w1 w2 e0 e1 e2 (record { first = h.first; second = h.second }) res
+    more_told res w =
+        tells_more held write_failures second_held second_failures command h.out (h.told ++ h.text) IsClosing w0 w1 w2 e0 e1 e2 (record { first = h.first; second = h.second }) res w
+
+    pub closes : (end : ExitStatus) → end ≡ status_at tally.passed fault → Closes (Ok tt) → GoesThrough t held write_failures second_held second_failures settings limits most command w0 w2 e0 e2 end
     closes end end_is w =
         let all = more_told (Ok tt) w in
         record {
@@ -57,8 +59,8 @@ module _ {W E : Type 0} {t : Taken} {held : W → Option (List ℕ)} {write_fail
           told = h.told;
           text = h.text;
           through = h.through;
-          first = all.first;
-          second = all.second;
+          first = subst (λ (l : List ℕ). Wrote held write_failures w0 (first_of command h.out ((h.told ++ h.text) ++ l)) w2) all.1 all.2.first;
+          second = subst (λ (l : List ℕ). Wrote second_held second_failures e0 (second_of command ((h.told ++ h.text) ++ l)) e2) all.1 all.2.second;
           end_is = end_is;
         }
 
@@ -91,10 +93,16 @@ module _ {W E : Type 0} {t : Taken} {held : W → Option (List ℕ)} {write_fail
           second = subst (λ (l : List ℕ). GotSecond second_held second_failures stop (second_of command l) e0 e2) (append_assoc h.told h.text more) second;
         }
 
-    pub not_closed : (stop : Stop) → WritesBy (is_check command) (writing held write_failures w1 w2) (writing second_held second_failures e1 e2) (closing_line command tally tally.passed fault) (Err stop)
+    stops_line : (stop : Stop) (line : List ℕ) → IsClosing line → ((more : List ℕ) → IsMore t held write_failures second_held second_failures settings limits most command h.through.parts h.through.rest more
+        → IsAllRead t held write_failures second_held second_failures settings limits most command stop h.through.parts h.through.rest more)
+        → IsStopOf t held write_failures second_held second_failures settings limits most command stop
+        → GotFirst held write_failures stop (first_of command h.out ((h.told ++ h.text) ++ line)) w0 w2 → GotSecond second_held second_failures stop (second_of command ((h.told ++ h.text) ++ line)) e0 e2
         → StopsWithin t held write_failures second_held second_failures settings limits most command stop w0 w2 e0 e2
+    stops_line stop line is all caused first second = stops stop line ([], sym is ∙ sym (append-nil line)) (all (h.text ++ line)) caused first second
+
+    pub not_closed : (stop : Stop) → Closes (Err stop) → StopsWithin t held write_failures second_held second_failures settings limits most command stop w0 w2 e0 e2
     not_closed (ByCause Memory) w = let more = more_told (Err (ByCause Memory)) w in stops (ByCause Memory) [] (closing_line command tally tally.passed fault, refl) (λ m. m) h.through.read_failed more.0 more.1
     not_closed (ByCause ReadFailed) w = absurd (more_told (Err (ByCause ReadFailed)) w)
-    not_closed (ByCause WriteFailed) w = let more = more_told (Err (ByCause WriteFailed)) w in stops (ByCause WriteFailed) (closing_line command tally tally.passed fault) whole (λ m. m) h.through.read_failed more.0.0 more.0.1
+    not_closed (ByCause WriteFailed) w = let more = more_told (Err (ByCause WriteFailed)) w in stops_line (ByCause WriteFailed) more.0 more.1 (λ _ m. m) h.through.read_failed more.2.0 more.2.1
     not_closed (ByCause TooManyReads) w = absurd (more_told (Err (ByCause TooManyReads)) w)
-    not_closed Second w = let more = more_told (Err Second) w in stops Second (closing_line command tally tally.passed fault) whole (λ m. m) h.through.read_failed more.0 more.1
+    not_closed Second w = let more = more_told (Err Second) w in stops_line Second more.0 more.1 (λ _ m. m) h.through.read_failed more.2 more.3

@@ -23,7 +23,7 @@ use Rattle.dbus_command.specs.declared.settings.Settings.{Settings}
 use Rattle.dbus_command.specs.declared.command.Command.{Command}
 use Rattle.dbus_tool.specs.Devices.{reading, writing, taken, Taken}
 use Rattle.dbus_tool.specs.Gathering.{Passes, Breaks}
-use Rattle.dbus_tool.specs.Going.{first_of, second_of, is_check, Covers, IsThrough, HandsParts, StopsWithin, IsMore, IsAllOf, IsStopOf, cause_of, IsAllRead, PartsOf, GotFirst, GotSecond, TellsBy, TellsText}
+use Rattle.dbus_tool.specs.Going.{first_of, second_of, Covers, IsThrough, HandsParts, StopsWithin, IsMore, IsAllOf, IsStopOf, cause_of, IsAllRead, PartsOf, GotFirst, GotSecond, TellsBy}
 use Rattle.dbus_tool.specs.Onward.{HasRead, HandsRawOn, HandsSomeOn, IsTrueEnd, stop_of}
 use Rattle.dbus_tool.specs.Output.{IsOutputOfAll}
 use Rattle.dbus_tool.specs.Parts.{Part, PassedOver, sizes_of, BeginWithParts, IsCutOff, IsLast, AreTexts, IsMade, IsToldOf, passed_count, passed_sizes, tally_of, closing_line}
@@ -230,7 +230,7 @@ module _ {R A W E : Type 0} (run : Begun R A W E) where
 
   -- nothing is told of the rest
   stops_plain : (cause : Cause) (new : RawReader R A) (parts : List Part) (rest out told : List ℕ) (w : W) (e : E) → HasCovered new parts rest out told → AllRead new (ByCause cause) parts rest []
-      → Stopped new (ByCause cause) → GotFirst run.held run.write_failures (ByCause cause) (first_of run.command out told) run.w0 w → Wrote run.second_held run.second_failures run.e0 (second_of run.command told) e → Torn new (ByCause cause) w e
+      → Stopped new (ByCause cause) → GotFirst run.held run.write_failures (ByCause cause) (first_of run.command out (told ++ [])) run.w0 w → Wrote run.second_held run.second_failures run.e0 (second_of run.command (told ++ [])) e → Torn new (ByCause cause) w e
   stops_plain cause new parts rest out told w e h all caused first second = (
     record {
       parts = parts;
@@ -241,8 +241,8 @@ module _ {R A W E : Type 0} (run : Begun R A W E) where
       more = [];
       all = all;
       caused = caused;
-      first = subst (λ (l : List ℕ). GotFirst run.held run.write_failures (ByCause cause) (first_of run.command out l) run.w0 w) (sym (append-nil told)) first;
-      second = subst (λ (l : List ℕ). Wrote run.second_held run.second_failures run.e0 (second_of run.command l) e) (sym (append-nil told)) second;
+      first = first;
+      second = second;
     },
     λ _ _. refl,
   )
@@ -326,7 +326,9 @@ module _ {R A W E : Type 0} {run : Begun R A W E} {mid : RawReader R A} {tally :
     stops_some : (cause : Cause) (s : Handing cause) → AllRead run new (ByCause cause) (h.parts ++ wholes s.items) s.rest [] → Stopped run new (ByCause cause)
         → GotFirst run.held run.write_failures (ByCause cause) (first_of run.command (h.out ++ s.out) h.told) run.w0 w2 → Torn run new (ByCause cause) w2 e1
     stops_some cause s all caused first =
-        stops_plain run cause new (h.parts ++ wholes s.items) s.rest (h.out ++ s.out) h.told w2 e1 (covered_next s.items s.rest s.out s.read s.output) all caused first h.wrote.second
+        stops_plain run cause new (h.parts ++ wholes s.items) s.rest (h.out ++ s.out) h.told w2 e1 (covered_next s.items s.rest s.out s.read s.output) all caused
+        (subst (λ (l : List ℕ). GotFirst run.held run.write_failures (ByCause cause) (first_of run.command (h.out ++ s.out) l) run.w0 w2) (sym (append-nil h.told)) first)
+        (subst (λ (l : List ℕ). Wrote run.second_held run.second_failures run.e0 (second_of run.command l) e1) (sym (append-nil h.told)) h.wrote.second)
 
     pub stop_hand : (cause : Cause) → Handing cause → Torn run new (ByCause cause) w2 e1
     stop_hand Memory s = stops_some Memory s (inl refl) (s.caused ∙ h.failed) (wrote_next s.items s.out s.output s.leaves)
@@ -389,10 +391,13 @@ module _ {R A W E : Type 0} {run : Begun R A W E} {mid : RawReader R A} {counted
     stopped_last = h.stopped ∙ ap stop_of faulty
 
     -- it was told, or a prefix of it
-    pub more_told : (w2 : W) (e2 : E) (res : Result (Unit {0}) Stop)
-        → (told : TellsText (writing run.held run.write_failures w1 w2) (writing run.second_held run.second_failures e1 e2) run.command run.settings (record { number = counted.count + 1; offset = counted.size; fault = fault }) (kept mid) res)
-        → TellsMore run.held run.write_failures run.second_held run.second_failures run.command h.gone.out h.gone.told told.0 run.w0 w1 w2 run.e0 e1 e2 h.gone.wrote res
-    more_told w2 e2 res told = tells_more run.held run.write_failures run.second_held run.second_failures run.command h.gone.out h.gone.told told.0 run.w0 w1 w2 run.e0 e1 e2 h.gone.wrote (is_check run.command) res refl told.2
+    abbrev TellsIt : W → E → Result (Unit {0}) Stop → Type 0
+    TellsIt w2 e2 res =
+        TellsBy (writing run.held run.write_failures w1 w2) (writing run.second_held run.second_failures e1 e2) run.command run.settings (record { number = counted.count + 1; offset = counted.size; fault = fault }) (kept mid) res
+
+    pub more_told : (w2 : W) (e2 : E) (res : Result (Unit {0}) Stop) → TellsIt w2 e2 res
+        → TellsMore run.held run.write_failures run.second_held run.second_failures run.command h.gone.out h.gone.told Tells run.w0 w1 w2 run.e0 e1 e2 h.gone.wrote res
+    more_told w2 e2 res told = tells_more run.held run.write_failures run.second_held run.second_failures run.command h.gone.out h.gone.told Tells run.w0 w1 w2 run.e0 e1 e2 h.gone.wrote res told
 
     -- all was read up to the rest
     through : (new : RawReader R A) (text rest : List ℕ) (outcome : CutOutcome) → Tells text → IsOutcome run.settings.limits (kept mid) outcome → Some fault ≡ fault_at_end (kept mid) outcome
@@ -452,31 +457,28 @@ module _ {R A W E : Type 0} {run : Begun R A W E} {mid : RawReader R A} {counted
       second = second;
     }
 
-    pub not_told : (w2 : W) (e2 : E) (stop : Stop)
-        → TellsBy (writing run.held run.write_failures w1 w2) (writing run.second_held run.second_failures e1 e2) run.command run.settings (record { number = counted.count + 1; offset = counted.size; fault = fault }) (kept mid) (Err stop)
-        → Torn run mid stop w2 e2
+    pub not_told : (w2 : W) (e2 : E) (stop : Stop) → TellsIt w2 e2 (Err stop) → Torn run mid stop w2 e2
     not_told w2 e2 (ByCause Memory) told =
-        stops_plain run Memory mid h.gone.parts (kept mid) h.gone.out h.gone.told w2 e2 h.gone.covered (inl refl) h.gone.failed
-        (subst (λ (x : W). Wrote run.held run.write_failures run.w0 (first_of run.command h.gone.out h.gone.told) x) (sym told.0) h.gone.wrote.first)
-        (subst (λ (x : E). Wrote run.second_held run.second_failures run.e0 (second_of run.command h.gone.told) x) (sym told.1) h.gone.wrote.second)
-    not_told w2 e2 (ByCause ReadFailed) told = absurd told
+        let more = more_told w2 e2 (Err (ByCause Memory)) told in
+        stops_plain run Memory mid h.gone.parts (kept mid) h.gone.out h.gone.told w2 e2 h.gone.covered (inl refl) h.gone.failed more.0 more.1
+    not_told w2 e2 (ByCause ReadFailed) told = absurd (more_told w2 e2 (Err (ByCause ReadFailed)) told)
     not_told w2 e2 (ByCause WriteFailed) told =
         let more = more_told w2 e2 (Err (ByCause WriteFailed)) told in
-        (stops_told (ByCause WriteFailed) told.0 w2 e2 told.1 (λ m. m) h.gone.failed more.0.0 more.0.1, λ _ other. absurd (false≢true (sym other ∙ more.1)))
-    not_told w2 e2 (ByCause TooManyReads) told = absurd told
+        (stops_told (ByCause WriteFailed) more.0 w2 e2 more.1 (λ m. m) h.gone.failed more.2.0 more.2.1, λ _ other. absurd (false≢true (sym other ∙ more.3)))
+    not_told w2 e2 (ByCause TooManyReads) told = absurd (more_told w2 e2 (Err (ByCause TooManyReads)) told)
     not_told w2 e2 Second told =
         let more = more_told w2 e2 (Err Second) told in (
-          stops_told Second told.0 w2 e2 told.1 (λ m. m) h.gone.failed more.0 more.1,
+          stops_told Second more.0 w2 e2 more.1 (λ m. m) h.gone.failed more.2 more.3,
           λ halt _. record {
             tally = tally;
             fault = Some fault;
             out = h.gone.out;
             told = h.gone.told;
-            text = told.0;
-            through = through_there told.0 told.1 (λ goes. absurd (false≢true (sym halt ∙ goes)));
-            first = more.0;
-            n = more.1.0;
-            second = more.1.1;
+            text = more.0;
+            through = through_there more.0 more.1 (λ goes. absurd (false≢true (sym halt ∙ goes)));
+            first = more.2;
+            n = more.3.0;
+            second = more.3.1;
           },
         )
 

@@ -1,5 +1,5 @@
 -- What is told after what was made and told.
-use Rattle.std.proofs.Common.{◌≡◌, ℕ, ◌+◌, List, [], ◌++◌, length, take, drop, Option, Result, Ok, Err, true, false, Bool, refl, sym, ap, ◌∙◌, subst, arith, append_assoc, append-nil, length-append, take-append-drop}
+use Rattle.std.proofs.Common.{IfErr, IfOk, inl, inr, ◌≡◌, ℕ, ◌+◌, List, [], ◌++◌, length, take, drop, Option, Result, Ok, Err, true, false, Bool, refl, sym, ap, ◌∙◌, subst, arith, append_assoc, append-nil, length-append, take-append-drop}
 use Rattle.std.specs.Io.KnownBytes.{Appends}
 use Rattle.std.proofs.KnownBytes.{Appends-nil, Appends-trans}
 use Rattle.std.proofs.Math.Seq.{take-append-add}
@@ -7,11 +7,9 @@ use Rattle.dbus_device.specs.Device.{one_more}
 use Rattle.dbus_device.specs.Write.{Wrote, Stopped}
 use Rattle.dbus_command.specs.declared.command.Command.{Command}
 use Rattle.dbus_command.specs.declared.command.Command.TheVariants.{Show, Json, Check, Swap, Filter}
-use Rattle.dbus_tool.specs.Closing.{WritesLine}
-use Rattle.dbus_tool.specs.Devices.{writing}
+use Rattle.dbus_tool.specs.Devices.{Writing, writing}
 use Rattle.dbus_tool.specs.Gathering.{Breaks}
-use Rattle.dbus_tool.specs.Going.{first_of, second_of, is_check, stops_first, stops_second, GotFirst, GotSecond, WritesBy}
-use Rattle.dbus_tool.specs.declared.ending.Cause.{Cause}
+use Rattle.dbus_tool.specs.Going.{first_of, second_of, is_check, GotFirst, GotSecond, IsUntold, Says, WritesBy}
 use Rattle.dbus_tool.specs.declared.ending.Cause.TheVariants.{Memory, ReadFailed, WriteFailed, TooManyReads}
 use Rattle.dbus_tool.specs.declared.going.Stop.{Stop}
 use Rattle.dbus_tool.specs.declared.going.Stop.TheVariants.{Cause as ByCause, Second}
@@ -66,65 +64,66 @@ module _ {W E : Type 0} (held : W → Option (List ℕ)) (failures : W → ℕ) 
     pub second : Wrote second_held second_failures e0 (second_of command told) e1
 
 module _ {W E : Type 0} (held : W → Option (List ℕ)) (failures : W → ℕ) (second_held : E → Option (List ℕ)) (second_failures : E → ℕ) (command : Command)
-    (out told line : List ℕ) (w0 w1 w2 : W) (e0 e1 e2 : E) (h : HasTold held failures second_held second_failures command out told w0 w1 e0 e1) where
+    (out told : List ℕ) (Is : List ℕ → Type 0) (w0 w1 w2 : W) (e0 e1 e2 : E) (h : HasTold held failures second_held second_failures command out told w0 w1 e0 e1) where
   -- so much was told after it
   abbrev pub TellsPart : Stop → List ℕ → Type 0
   TellsPart stop more = GotFirst held failures stop (first_of command out (told ++ more)) w0 w2 × GotSecond second_held second_failures stop (second_of command (told ++ more)) e0 e2
 
-  -- a line was told after it, or for want of memory nothing
+  -- such a text was told after it, or for want of memory nothing
   abbrev pub TellsMore : Result (Unit {0}) Stop → Type 0
-  TellsMore (Ok x) = HasTold held failures second_held second_failures command out (told ++ line) w0 w2 e0 e2
+  TellsMore (Ok x) = (text : List ℕ) × Is text × HasTold held failures second_held second_failures command out (told ++ text) w0 w2 e0 e2
   TellsMore (Err (ByCause Memory)) = TellsPart (ByCause Memory) []
   TellsMore (Err (ByCause ReadFailed)) = ⊥
-  TellsMore (Err (ByCause WriteFailed)) = TellsPart (ByCause WriteFailed) line × (is_check command ≡ true)
+  TellsMore (Err (ByCause WriteFailed)) = (text : List ℕ) × Is text × TellsPart (ByCause WriteFailed) text × (is_check command ≡ true)
   TellsMore (Err (ByCause TooManyReads)) = ⊥
-  TellsMore (Err Second) = TellsPart Second line
+  TellsMore (Err Second) = (text : List ℕ) × Is text × TellsPart Second text
 
-  pub no_more : w2 ≡ w1 → e2 ≡ e1 → TellsPart (ByCause Memory) []
+  still_first : w2 ≡ w1 → Wrote held failures w0 (first_of command out told) w2
+  still_first same = subst (λ x. Wrote held failures w0 (first_of command out told) x) (sym same) h.first
+
+  still_second : e2 ≡ e1 → Wrote second_held second_failures e0 (second_of command told) e2
+  still_second same = subst (λ x. Wrote second_held second_failures e0 (second_of command told) x) (sym same) h.second
+
+  no_more : w2 ≡ w1 → e2 ≡ e1 → TellsPart (ByCause Memory) []
   no_more p q = (
-    subst (λ (l : List ℕ). Wrote held failures w0 (first_of command out l) w2) (sym (append-nil told)) (subst (λ x. Wrote held failures w0 (first_of command out told) x) (sym p) h.first),
-    subst (λ (l : List ℕ). Wrote second_held second_failures e0 (second_of command l) e2) (sym (append-nil told)) (subst (λ x. Wrote second_held second_failures e0 (second_of command told) x) (sym q) h.second),
+    subst (λ (l : List ℕ). Wrote held failures w0 (first_of command out l) w2) (sym (append-nil told)) (still_first p),
+    subst (λ (l : List ℕ). Wrote second_held second_failures e0 (second_of command l) e2) (sym (append-nil told)) (still_second q),
   )
 
-  by_first : (r : Result (Unit {0}) Cause) → is_check command ≡ true → WritesLine held failures line w1 w2 r → e2 ≡ e1 → TellsMore (stops_first r)
-  by_first (Ok x) is w e =
-      let both = told_first command out told line is in
-      record {
-        first = subst (λ l. Wrote held failures w0 l w2) both.0 (wrote_both held failures (first_of command out told) line w0 w1 w2 h.first w);
-        second = subst (λ l. Wrote second_held second_failures e0 l e2) both.1 (subst (λ x. Wrote second_held second_failures e0 (second_of command told) x) (sym e) h.second);
-      }
-  by_first (Err Memory) is w e = no_more w e
-  by_first (Err ReadFailed) is w e = w
-  by_first (Err WriteFailed) is w e =
-      let both = told_first command out told line is in (
-        (
-          subst (λ l. Breaks held failures l [] w0 w2) both.0 (wrote_breaks held failures (first_of command out told) line w0 w1 w2 h.first (stopped_breaks held failures line w.0 w1 w2 w.1)),
-          subst (λ l. Wrote second_held second_failures e0 l e2) both.1 (subst (λ x. Wrote second_held second_failures e0 (second_of command told) x) (sym e) h.second),
-        ),
+  writes_more : (first : Bool) (res : Result (Unit {0}) Stop) (text : List ℕ) → Is text → is_check command ≡ first
+      → WritesBy first (writing held failures w1 w2) (writing second_held second_failures e1 e2) text res → TellsMore res
+  writes_more true (Ok x) text is first w =
+      let both = told_first command out told text first in
+      let all = subst (λ l. Wrote held failures w0 l w2) both.0 (wrote_both held failures (first_of command out told) text w0 w1 w2 h.first w.0) in
+      (text, is, record { first = all; second = subst (λ l. Wrote second_held second_failures e0 l e2) both.1 (still_second w.1) })
+  writes_more true (Err stop) text is first w =
+      let both = told_first command out told text first in
+      let broken = wrote_breaks held failures (first_of command out told) text w0 w1 w2 h.first (stopped_breaks held failures text w.1.0 w1 w2 w.1.1) in
+      subst (λ s. TellsMore (Err s)) (sym w.0) (
+        text,
         is,
+        (subst (λ l. Breaks held failures l [] w0 w2) both.0 broken, subst (λ l. Wrote second_held second_failures e0 l e2) both.1 (still_second w.2)),
+        first,
       )
-  by_first (Err TooManyReads) is w e = w
+  writes_more false (Ok x) text is second w =
+      let both = told_second command out told text second in
+      let all = subst (λ l. Wrote second_held second_failures e0 l e2) both.1 (wrote_both second_held second_failures (second_of command told) text e0 e1 e2 h.second w.0) in
+      (text, is, record { first = subst (λ l. Wrote held failures w0 l w2) both.0 (still_first w.1); second = all })
+  writes_more false (Err stop) text is second w =
+      let both = told_second command out told text second in
+      let n = length (second_of command told) + w.1.0 in
+      let broken = wrote_stopped second_held second_failures (second_of command told) text w.1.0 e0 e1 e2 h.second w.1.1 in
+      subst (λ s. TellsMore (Err s)) (sym w.0)
+      (text, is, subst (λ l. Wrote held failures w0 l w2) both.0 (still_first w.2), (n, subst (λ l. Stopped second_held second_failures e0 l n e2) both.1 broken))
 
-  by_second : (r : Result (Unit {0}) Cause) → is_check command ≡ false → WritesLine second_held second_failures line e1 e2 r → w2 ≡ w1 → TellsMore (stops_second r)
-  by_second (Ok x) is w e =
-      let both = told_second command out told line is in
-      record {
-        first = subst (λ l. Wrote held failures w0 l w2) both.0 (subst (λ x. Wrote held failures w0 (first_of command out told) x) (sym e) h.first);
-        second = subst (λ l. Wrote second_held second_failures e0 l e2) both.1 (wrote_both second_held second_failures (second_of command told) line e0 e1 e2 h.second w);
-      }
-  by_second (Err Memory) is w e = no_more e w
-  by_second (Err ReadFailed) is w e = w
-  by_second (Err WriteFailed) is w e =
-      let both = told_second command out told line is in (
-        subst (λ l. Wrote held failures w0 l w2) both.0 (subst (λ x. Wrote held failures w0 (first_of command out told) x) (sym e) h.first),
-        (
-          length (second_of command told) + w.0,
-          subst (λ l. Stopped second_held second_failures e0 l (length (second_of command told) + w.0) e2) both.1
-              (wrote_stopped second_held second_failures (second_of command told) line w.0 e0 e1 e2 h.second w.1),
-        ),
-      )
-  by_second (Err TooManyReads) is w e = w
+  pub tells_more : (res : Result (Unit {0}) Stop) → Says (is_check command) (writing held failures w1 w2) (writing second_held second_failures e1 e2) Is res → TellsMore res
+  tells_more res says = elim says [
+    | inl some ↦ writes_more (is_check command) res some.0 some.1 refl some.2
+    | inr none ↦ subst (λ r. TellsMore r) (sym none.0) (no_more none.1 none.2)
+  ]
 
-  pub tells_more : (b : Bool) (res : Result (Unit {0}) Stop) → is_check command ≡ b → WritesBy b (writing held failures w1 w2) (writing second_held second_failures e1 e2) line res → TellsMore res
-  tells_more true res is w = subst (λ r. TellsMore r) (sym w.1) (by_first w.0 is w.2 w.3)
-  tells_more false res is w = subst (λ r. TellsMore r) (sym w.1) (by_second w.0 is w.2 w.3)
+-- a text was made, and written
+pub said : {W E S F : Type 0} (bytes : S → List ℕ) (Is : List ℕ → Type 0) (first : Bool) (w : Writing W) (e : Writing E) (res : Result (Unit {0}) Stop) (text : Result S F)
+    → IfOk text (λ t. Is (bytes t)) → IfOk text (λ t. WritesBy first w e (bytes t) res) → IfErr text (λ _. IsUntold w e res) → Says first w e Is res
+said bytes Is first w e res (Ok t) is writes untold = inl (bytes t, is, writes)
+said bytes Is first w e res (Err x) is writes untold = inr untold

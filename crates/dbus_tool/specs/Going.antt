@@ -14,7 +14,6 @@ use Rattle.dbus_stream.specs.declared.read_fault.ReadFault.TheVariants as read
 use Rattle.dbus_command.specs.declared.command.Command.{Command}
 use Rattle.dbus_command.specs.declared.settings.Settings.{Settings}
 use Rattle.dbus_command.specs.declared.command.Command.TheVariants.{Show, Json, Check, Swap, Filter}
-use Rattle.dbus_tool.specs.Closing.{WritesLine}
 use Rattle.dbus_tool.specs.Devices.{Reading, Writing, RisesAtMost, Taken, taken}
 use Rattle.dbus_tool.specs.Gathering.{Breaks}
 use Rattle.dbus_tool.specs.Output.{IsPrefixTo}
@@ -52,18 +51,6 @@ is_check Show = false
 is_check Json = false
 is_check (Swap order) = false
 is_check (Filter selection) = false
-
--- why a run is given up by which a line was not written on the first writer, or the second
-abbrev pub stops_first : Result (Unit {0}) Cause → Result (Unit {0}) Stop
-stops_first (Ok x) = Ok x
-stops_first (Err cause) = Err (ByCause cause)
-
-abbrev pub stops_second : Result (Unit {0}) Cause → Result (Unit {0}) Stop
-stops_second (Ok x) = Ok x
-stops_second (Err Memory) = Err (ByCause Memory)
-stops_second (Err ReadFailed) = Err (ByCause ReadFailed)
-stops_second (Err WriteFailed) = Err Second
-stops_second (Err TooManyReads) = Err (ByCause TooManyReads)
 
 -- why a run is given up by which a refused message is not passed over
 abbrev pub cause_of : ReadFault → Cause
@@ -207,23 +194,24 @@ module _ {W E : Type 0} (t : Taken) (held : W → Option (List ℕ)) (write_fail
     pub within : StopsWithin stop w0 w1 e0 e
     pub tells : TellsStop second_held second_failures stop e e1
 
--- a line was written on the first writer, or on the second, or not all of it
-abbrev pub WritesBy : {W E : Type 0} → Bool → Writing W → Writing E → List ℕ → Result (Unit {0}) Stop → Type 0
-WritesBy true w e line result = (r : Result (Unit {0}) Cause) × (result ≡ stops_first r) × WritesLine w.held w.failures line w.old w.new r × (e.new ≡ e.old)
-WritesBy false w e line result = (r : Result (Unit {0}) Cause) × (result ≡ stops_second r) × WritesLine e.held e.failures line e.old e.new r × (w.new ≡ w.old)
+-- a text was written on the first writer, or on the second, or a write failed after its first bytes
+abbrev pub WritesBy : {W E : Type 0} → (first : Bool) → Writing W → Writing E → List ℕ → Result (Unit {0}) Stop → Type 0
+WritesBy true w e text (Ok x) = Wrote w.held w.failures w.old text w.new × (e.new ≡ e.old)
+WritesBy true w e text (Err stop) = (stop ≡ ByCause WriteFailed) × ((n : ℕ) × Stopped w.held w.failures w.old text n w.new) × (e.new ≡ e.old)
+WritesBy false w e text (Ok x) = Wrote e.held e.failures e.old text e.new × (w.new ≡ w.old)
+WritesBy false w e text (Err stop) = (stop ≡ Second) × ((n : ℕ) × Stopped e.held e.failures e.old text n e.new) × (w.new ≡ w.old)
 
--- a refusal was told, or a prefix of what is told of it
-abbrev pub TellsText : {W E : Type 0} → Writing W → Writing E → Command → Settings → Refusal → List ℕ → Result (Unit {0}) Stop → Type 0
-TellsText w e command settings refusal kept result = (text : List ℕ) × IsTold settings refusal kept text × WritesBy (is_check command) w e text result
+-- for want of memory nothing was written
+abbrev pub IsUntold : {W E : Type 0} → Writing W → Writing E → Result (Unit {0}) Stop → Type 0
+IsUntold w e result = (result ≡ Err (ByCause Memory)) × (w.new ≡ w.old) × (e.new ≡ e.old)
 
--- or for want of memory nothing
+-- such a text was written, or a write failed, or for want of memory nothing was written
+abbrev pub Says : {W E : Type 0} → (first : Bool) → Writing W → Writing E → (List ℕ → Type 0) → Result (Unit {0}) Stop → Type 0
+Says first w e Is result = ((text : List ℕ) × Is text × WritesBy first w e text result) ⊎ IsUntold w e result
+
+-- a refusal was told
 abbrev pub TellsBy : {W E : Type 0} → Writing W → Writing E → Command → Settings → Refusal → List ℕ → Result (Unit {0}) Stop → Type 0
-TellsBy w e command settings refusal kept (Ok x) = TellsText w e command settings refusal kept (Ok x)
-TellsBy w e command settings refusal kept (Err (ByCause Memory)) = (w.new ≡ w.old) × (e.new ≡ e.old)
-TellsBy w e command settings refusal kept (Err (ByCause ReadFailed)) = ⊥
-TellsBy w e command settings refusal kept (Err (ByCause WriteFailed)) = TellsText w e command settings refusal kept (Err (ByCause WriteFailed))
-TellsBy w e command settings refusal kept (Err (ByCause TooManyReads)) = ⊥
-TellsBy w e command settings refusal kept (Err Second) = TellsText w e command settings refusal kept (Err Second)
+TellsBy w e command settings refusal kept result = Says (is_check command) w e (IsTold settings refusal kept) result
 
 -- what a command does with what r reads, by the writers w and e, under these settings
 abbrev pub RunsWith : {R W E : Type 0} → Reading R → Writing W → Writing E → Settings → ℕ → Command → ExitStatus → Type 0

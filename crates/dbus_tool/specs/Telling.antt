@@ -1,13 +1,10 @@
 -- What is told of a message that is refused. kept are the bytes that were kept from its first one on.
-use Rattle.std.specs.Prelude.{◌≡◌, ℕ, ◌+◌, List, ◌++◌, Option, Bool, true, false, Result, Ok, Err, codes, decimal}
+use Rattle.std.specs.Prelude.{◌≡◌, ℕ, ◌+◌, List, ◌++◌, Bool, true, false, codes, decimal}
 use Rattle.dbus_value_model.specs.FaultTexts.{reason_text}
 use Rattle.dbus_command.specs.declared.settings.Settings.{Settings}
-use Rattle.dbus_device.specs.Write.{Wrote, Stopped}
 use Rattle.dbus_explain.specs.Explained.{IsExplained}
 use Rattle.dbus_explain.specs.declared.message.Refused.{Refused}
 use Rattle.dbus_tool.specs.Lines.{refused_line}
-use Rattle.dbus_tool.specs.declared.ending.Cause.{Cause}
-use Rattle.dbus_tool.specs.declared.ending.Cause.TheVariants.{Memory, ReadFailed, WriteFailed, TooManyReads}
 use Rattle.dbus_tool.specs.declared.telling.Refusal.{Refusal}
 
 -- the fault's place in the input and its reason; and if the run goes on after it, the message's number there, and where the message begins
@@ -32,12 +29,3 @@ IsToldBy goes_on true refusal kept text = (explained : List ℕ) × Explains ref
 
 abbrev pub IsTold : Settings → Refusal → (kept text : List ℕ) → Type 0
 IsTold settings refusal kept text = IsToldBy settings.keeps_going settings.explains refusal kept text
-
--- that was written, or a write failed after its first bytes, or for want of memory nothing was written
-abbrev pub TellsRefusal : {W : Type 0} → (W → Option (List ℕ)) → (W → ℕ) → Settings → Refusal → List ℕ → W → W → Result (Unit {0}) Cause → Type 0
-TellsRefusal held failures settings refusal kept old new (Ok x) = (text : List ℕ) × IsTold settings refusal kept text × Wrote held failures old text new
-TellsRefusal held failures settings refusal kept old new (Err Memory) = new ≡ old
-TellsRefusal held failures settings refusal kept old new (Err ReadFailed) = ⊥
-TellsRefusal held failures settings refusal kept old new (Err WriteFailed) =
-    (text : List ℕ) × IsTold settings refusal kept text × (n : ℕ) × Stopped held failures old text n new
-TellsRefusal held failures settings refusal kept old new (Err TooManyReads) = ⊥

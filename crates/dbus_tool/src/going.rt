@@ -1,23 +1,22 @@
 //! A command by its settings: refused messages may be explained, and passed over.
-ghost use Rattle.std.specs.Prelude.{◌≡◌, ◌≤◌, ◌^◌, []};
+ghost use Rattle.std.specs.Prelude.{◌≡◌, ◌≤◌, ◌^◌, [], IfErr, IfOk, string_bytes};
 ghost use Rattle.dbus_stream.specs.RawReading.{IsNewReader, kept, most_reads_of, source_of};
 ghost use Rattle.dbus_tool.specs.Commands.{command_of};
 ghost use Rattle.dbus_tool.specs.Devices.{reading, taken, writing};
 ghost use Rattle.dbus_tool.specs.Gathering.{gathered_bytes};
-ghost use Rattle.dbus_tool.specs.Going.{PartsOf, RunsWith, TellsBy, TellsStop, WritesBy, cause_of, is_check, stops_first, stops_second};
-ghost use Rattle.dbus_tool.specs.Parts.{closing_line};
+ghost use Rattle.dbus_tool.specs.Going.{IsUntold, PartsOf, RunsWith, TellsBy, TellsStop, WritesBy, cause_of, is_check};
 
 use crate::ending::{Cause, ExitStatus};
 use crate::failing::give_up;
 use crate::gathered::Gathered;
 use crate::handing::hand_and_write;
 use crate::output::{Output, Plan, output_of};
-use crate::tally::{Tally, tells_first, write_closing};
-use crate::telling::{Refusal, tell_refusal};
+use crate::tally::{Tally, closing_line, tells_first};
+use crate::telling::{Refusal, refusal_text};
 use dbus_command::{Command, Settings};
-use dbus_stream::{RawReader, ReadFault, Sink, Source};
+use dbus_stream::{RawReader, ReadFault, Sink, Source, WrittenOnly, write_all};
 use dbus_value::Fault;
-use std::alloc::Allocator;
+use std::alloc::{AllocError, Allocator};
 
 /// Why a run is given up.
 #[derive(Clone, Copy, Debug, PartialEq, Eq)]
@@ -82,10 +81,13 @@ fn go_on<A: Allocator + Copy, R: Source, W: Sink, E: Sink>(
         plan.entry.settings reads (command_of plan.entry.output) result }
 {
     match hand_over(alloc, plan, reads, reader, first, second) {
-        Ok(handed) => match close(alloc, plan.output, handed, first, second) {
-            Ok(()) => handed.tally.status(handed.fault),
-            Err(stop) => tell_stop(stop, second),
-        },
+        Ok(handed) => {
+            let line = closing_line(alloc, plan.output, handed.tally, handed.fault);
+            match say(plan.output, line, first, second) {
+                Ok(()) => handed.tally.status(handed.fault),
+                Err(stop) => tell_stop(stop, second),
+            }
+        }
         Err(stop) => tell_stop(stop, second),
     }
 }
@@ -98,27 +100,6 @@ pub(crate) fn tell_stop<E: Sink>(stop: Stop, second: &mut E) -> ExitStatus
     match stop {
         Stop::Cause(cause) => give_up(cause, second),
         Stop::Second => ExitStatus::Failed,
-    }
-}
-
-// Writes the last line on the writer that it is for.
-fn close<A: Allocator + Copy, W: Sink, E: Sink>(
-    alloc: A,
-    output: Output,
-    handed: Handed,
-    first: &mut W,
-    second: &mut E,
-) -> Result<(), Stop>
-    requires few { handed.tally.passed ≤ handed.tally.count }
-    requires few_bytes { handed.tally.passed_size ≤ handed.tally.size }
-    ensures { WritesBy (is_check (command_of output.entry)) (writing W.held W.failures first.old first.new)
-        (writing E.held E.failures second.old second.new)
-        (closing_line (command_of output.entry) handed.tally handed.tally.passed handed.fault) result }
-{
-    if tells_first(output) {
-        stops_first(write_closing(alloc, output, handed.tally, handed.fault, first))
-    } else {
-        stops_second(write_closing(alloc, output, handed.tally, handed.fault, second))
     }
 }
 
@@ -142,34 +123,40 @@ fn tell<R: Source, A: Allocator + Copy, W: Sink, E: Sink>(
     ensures { TellsBy (writing W.held W.failures first.old first.new) (writing E.held E.failures second.old second.new)
         (command_of plan.entry.output) plan.entry.settings refusal (kept messages.now) result }
 {
-    let Plan { output, settings } = plan;
+    let Settings {
+        explains,
+        keeps_going,
+        ..
+    } = plan.settings;
+    let text = refusal_text(alloc, keeps_going, explains, refusal, messages);
+    say(plan.output, text, first, second)
+}
+
+// Writes a text on the writer that it is for, if there was memory for it.
+fn say<A: Allocator + Copy, W: Sink, E: Sink>(
+    output: Output,
+    text: Result<String<A>, AllocError>,
+    first: &mut W,
+    second: &mut E,
+) -> Result<(), Stop>
+    ensures writes { IfOk text (λ t. WritesBy (is_check (command_of output.entry)) (writing W.held W.failures first.old first.new)
+        (writing E.held E.failures second.old second.new) (string_bytes t) result) }
+    ensures untold { IfErr text (λ _. IsUntold (writing W.held W.failures first.old first.new)
+        (writing E.held E.failures second.old second.new) result) }
+{
+    let Ok(text) = text else {
+        return Err(Stop::Cause(Cause::Memory));
+    };
     if tells_first(output) {
-        stops_first(tell_refusal(alloc, settings, refusal, messages, first))
+        match write_all(first, text.as_bytes()) {
+            Ok(()) => Ok(()),
+            Err(WrittenOnly(_)) => Err(Stop::Cause(Cause::WriteFailed)),
+        }
     } else {
-        stops_second(tell_refusal(alloc, settings, refusal, messages, second))
-    }
-}
-
-// Why the run is given up if a line was not written on the first writer.
-fn stops_first(written: Result<(), Cause>) -> Result<(), Stop>
-    ensures { result ≡ stops_first written }
-{
-    match written {
-        Ok(()) => Ok(()),
-        Err(cause) => Err(Stop::Cause(cause)),
-    }
-}
-
-// Why the run is given up if a line was not written on the second writer.
-fn stops_second(written: Result<(), Cause>) -> Result<(), Stop>
-    ensures { result ≡ stops_second written }
-{
-    match written {
-        Ok(()) => Ok(()),
-        Err(Cause::Memory) => Err(Stop::Cause(Cause::Memory)),
-        Err(Cause::ReadFailed) => Err(Stop::Cause(Cause::ReadFailed)),
-        Err(Cause::WriteFailed) => Err(Stop::Second),
-        Err(Cause::TooManyReads) => Err(Stop::Cause(Cause::TooManyReads)),
+        match write_all(second, text.as_bytes()) {
+            Ok(()) => Ok(()),
+            Err(WrittenOnly(_)) => Err(Stop::Second),
+        }
     }
 }
 

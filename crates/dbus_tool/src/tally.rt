@@ -1,14 +1,12 @@
 //! What was handed on and passed over of an input, and the last line that tells it.
 ghost use Rattle.std.specs.Prelude.{◌≡◌, ◌≤◌, ◌<◌, ◌+◌, ◌-◌, ◌^◌, IfOk, string_bytes};
-ghost use Rattle.dbus_tool.specs.Closing.{WritesLine};
 ghost use Rattle.dbus_tool.specs.Commands.{command_of};
 ghost use Rattle.dbus_tool.specs.Going.{is_check};
 ghost use Rattle.dbus_tool.specs.Parts.{closing_line, status_at};
 
-use crate::ending::{Cause, Counted, ExitStatus};
+use crate::ending::{Counted, ExitStatus};
 use crate::lines::{counts_line, ok_line};
 use crate::output::Output;
-use dbus_stream::{Sink, WrittenOnly, write_all};
 use dbus_value::Fault;
 use std::alloc::{AllocError, Allocator};
 
@@ -81,30 +79,8 @@ pub(crate) fn tells_first(output: Output) -> bool
     }
 }
 
-/// Writes the last line, if there is one.
-pub(crate) fn write_closing<A: Allocator + Copy, W: Sink>(
-    alloc: A,
-    output: Output,
-    tally: Tally,
-    fault: Option<Fault>,
-    writer: &mut W,
-) -> Result<(), Cause>
-    requires few { tally.passed ≤ tally.count }
-    requires few_bytes { tally.passed_size ≤ tally.size }
-    ensures { WritesLine W.held W.failures (closing_line (command_of output.entry) tally tally.passed fault)
-        writer.old writer.new result }
-{
-    match closing_line(alloc, output, tally, fault) {
-        Ok(line) => match write_all(writer, line.as_bytes()) {
-            Ok(()) => Ok(()),
-            Err(WrittenOnly(_)) => Err(Cause::WriteFailed),
-        },
-        Err(_) => Err(Cause::Memory),
-    }
-}
-
-// The last line: what was passed over, if anything was; or that of an input without fault.
-fn closing_line<A: Allocator + Copy>(
+/// The last line: what was passed over, if anything was; or that of an input without fault.
+pub(crate) fn closing_line<A: Allocator + Copy>(
     alloc: A,
     output: Output,
     tally: Tally,

@@ -2,14 +2,12 @@
 ghost use Rattle.std.specs.Prelude.{◌≡◌, IfOk, OnOk, string_bytes};
 ghost use Rattle.dbus_explain.specs.Explained.{IsExplained};
 ghost use Rattle.dbus_stream.specs.RawReading.{kept};
-ghost use Rattle.dbus_tool.specs.Telling.{Explains, IsToldBy, TellsRefusal, line_of};
+ghost use Rattle.dbus_tool.specs.Telling.{Explains, IsToldBy, line_of};
 
-use crate::ending::Cause;
 use crate::lines::refused_line;
-use dbus_command::Settings;
 use dbus_explain::{Refused, explain_message};
 use dbus_show::StringDraft;
-use dbus_stream::{RawReader, Sink, Source, WrittenOnly, write_all};
+use dbus_stream::{RawReader, Source};
 use dbus_value::Fault;
 use std::alloc::{AllocError, Allocator};
 
@@ -24,35 +22,9 @@ pub(crate) struct Refusal {
     pub(crate) fault: Fault,
 }
 
-/// Writes the line of a message that is refused, which says which one it is if the run goes on after it, and, if that is wanted, the
-/// lines that explain it by the bytes that the reader keeps. If an allocation failed, nothing is written.
-pub(crate) fn tell_refusal<R: Source, A: Allocator + Copy, W: Sink>(
-    alloc: A,
-    settings: Settings,
-    refusal: Refusal,
-    messages: &RawReader<R, A>,
-    writer: &mut W,
-) -> Result<(), Cause>
-    ensures { TellsRefusal W.held W.failures settings refusal (kept messages.now) writer.old writer.new
-        result }
-{
-    match refusal_text(
-        alloc,
-        settings.keeps_going,
-        settings.explains,
-        refusal,
-        messages,
-    ) {
-        Ok(text) => match write_all(writer, text.as_bytes()) {
-            Ok(()) => Ok(()),
-            Err(WrittenOnly(_)) => Err(Cause::WriteFailed),
-        },
-        Err(_) => Err(Cause::Memory),
-    }
-}
-
-// What is told of a message that is refused.
-fn refusal_text<R: Source, A: Allocator + Copy>(
+/// What is told of a message that is refused: its line, which says which one it is if the run goes on after it, and, if that is wanted, the
+/// lines that explain it by the bytes that the reader keeps.
+pub(crate) fn refusal_text<R: Source, A: Allocator + Copy>(
     alloc: A,
     goes_on: bool,
     explains: bool,

@@ -40,13 +40,13 @@ pub returns-then-not-plan-clause-parts : goal.returns-then-not-plan-clause-parts
 returns-then-not-plan-clause-parts g c =
     let r = reach c.parts.invariant.0 c.in-Ok.counted c.up_to-tally.result c.up_to-tally.ensures c.in-Ok.ensures.hands in
     let told = more_told r c.in-Some.is c.tell.new.first c.tell.new.second (Ok tt) c.in-Ok-tell.ensures in
-    halts r c.in-Some.is c.in-Ok-tell.ensures.0 c.tell.new.first c.tell.new.second c.in-Ok-tell.ensures.1 told (halts_if c.args.plan.settings.keeps_going c.if-not-plan.true)
+    halts r c.in-Some.is told.0 c.tell.new.first c.tell.new.second told.1 told.2 (halts_if c.args.plan.settings.keeps_going c.if-not-plan.true)
 
 pub returns-in-Ok-false-clause-parts : goal.returns-in-Ok-false-clause-parts
 returns-in-Ok-false-clause-parts g c =
     let r = reach c.parts.invariant.0 c.in-Ok.counted c.up_to-tally.result c.up_to-tally.ensures c.in-Ok.ensures.hands in
     let told = more_told r c.in-Some.is c.tell.new.first c.tell.new.second (Ok tt) c.in-Ok-tell.ensures in
-    stays r c.in-Some.is c.in-Ok-tell.ensures.0 c.in-Ok-tell.ensures.1 told c.pass_over.new.self (goes_on_if c.args.plan.settings.keeps_going c.if-not-plan.false)
+    stays r c.in-Some.is told.0 told.1 told.2 c.pass_over.new.self (goes_on_if c.args.plan.settings.keeps_going c.if-not-plan.false)
     (rw c.in-Ok-false.field-0-test at c.in-Ok-false.ensures.passes) c.in-Ok-false.ensures.failed
 
 pub returns-in-Err-pass_over-clause-parts : goal.returns-in-Err-pass_over-clause-parts
@@ -54,7 +54,7 @@ returns-in-Err-pass_over-clause-parts g c =
     let r = reach c.parts.invariant.0 c.in-Ok.counted c.up_to-tally.result c.up_to-tally.ensures c.in-Ok.ensures.hands in
     let told = more_told r c.in-Some.is c.tell.new.first c.tell.new.second (Ok tt) c.in-Ok-tell.ensures in
     rw c.cause_of.ensures
-    (breaks r c.in-Some.is c.in-Ok-tell.ensures.0 c.in-Ok-tell.ensures.1 told c.pass_over.new.self (goes_on_if c.args.plan.settings.keeps_going c.if-not-plan.false) c.in-Err-pass_over.fault
+    (breaks r c.in-Some.is told.0 told.1 told.2 c.pass_over.new.self (goes_on_if c.args.plan.settings.keeps_going c.if-not-plan.false) c.in-Err-pass_over.fault
     c.in-Err-pass_over.ensures.passes c.in-Err-pass_over.ensures.failed)
 
 pub past-tally-requires : goal.past-tally-requires
@@ -76,7 +76,7 @@ parts-preserved g c =
     let r = reach c.parts.invariant.0 c.in-Ok.counted c.up_to-tally.result c.up_to-tally.ensures c.in-Ok.ensures.hands in
     let told = more_told r c.in-Some.is c.tell.new.first c.tell.new.second (Ok tt) c.in-Ok-tell.ensures in
     let passes = rw c.in-Ok-true.field-0-test at c.in-Ok-true.ensures.passes in (
-      goes_on r c.in-Some.is c.in-Ok-tell.ensures.0 c.in-Ok-tell.ensures.1 told c.pass_over.new.self c.past-tally.result c.done.result c.done.ensures c.past-tally.ensures
+      goes_on r c.in-Some.is told.0 told.1 told.2 c.pass_over.new.self c.past-tally.result c.done.result c.done.ensures c.past-tally.ensures
           (goes_on_if c.args.plan.settings.keeps_going c.if-not-plan.false) passes c.in-Ok-true.ensures.failed,
       (grows g.R.Source.left g.R.Source.calls c.hand_and_write.new.messages c.pass_over.new.self passes).0,
       c.in-Ok.ensures.emptied,
