@@ -105,4 +105,4 @@ module _ {W E : Type 0} {t : Taken} {held : W → Option (List ℕ)} {write_fail
     not_closed (ByCause ReadFailed) w = absurd (more_told (Err (ByCause ReadFailed)) w)
     not_closed (ByCause WriteFailed) w = let more = more_told (Err (ByCause WriteFailed)) w in stops_line (ByCause WriteFailed) more.0 more.1 (λ _ m. m) h.through.read_failed more.2.0 more.2.1
     not_closed (ByCause TooManyReads) w = absurd (more_told (Err (ByCause TooManyReads)) w)
-    not_closed Second w = let more = more_told (Err Second) w in stops_line Second more.0 more.1 (λ _ m. m) h.through.read_failed more.2 more.3
+    not_closed Second w = let more = more_told (Err Second) w in stops_line Second more.0 more.1 (λ _ m. m) h.through.read_failed more.2.0 more.2.1

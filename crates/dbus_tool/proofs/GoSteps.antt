@@ -268,7 +268,7 @@ module _ {R A W E : Type 0} {run : Begun R A W E} {mid : RawReader R A} {tally :
     small = done_small mid;
   }
 
-  module _ {new : RawReader R A} {w2 : W} where
+  module _ (new : RawReader R A) (w2 : W) where
     -- they are the next parts
     made_next : (items : List CutMessage) (o : List ℕ) → IsOutputOfAll run.command (tally.count + 1) (done_of mid) items o
         → AreTexts (IsMade run.command) (1 + length h.parts) (0 + sizes_of h.parts) (wholes items) o
@@ -468,7 +468,7 @@ module _ {R A W E : Type 0} {run : Begun R A W E} {mid : RawReader R A} {counted
     not_told w2 e2 (ByCause TooManyReads) told = absurd (more_told w2 e2 (Err (ByCause TooManyReads)) told)
     not_told w2 e2 Second told =
         let more = more_told w2 e2 (Err Second) told in (
-          stops_told Second more.0 w2 e2 more.1 (λ m. m) h.gone.failed more.2 more.3,
+          stops_told Second more.0 w2 e2 more.1 (λ m. m) h.gone.failed more.2.0 more.2.1,
           λ halt _. record {
             tally = tally;
             fault = Some fault;
@@ -476,9 +476,9 @@ module _ {R A W E : Type 0} {run : Begun R A W E} {mid : RawReader R A} {counted
             told = h.gone.told;
             text = more.0;
             through = through_there more.0 more.1 (λ goes. absurd (false≢true (sym halt ∙ goes)));
-            first = more.2;
-            n = more.3.0;
-            second = more.3.1;
+            first = more.2.0;
+            n = more.2.1.0;
+            second = more.2.1.1;
           },
         )
 
@@ -578,7 +578,7 @@ module _ {R A W E : Type 0} {run : Begun R A W E} {mid : RawReader R A} {counted
       -- the message was passed over
       pub goes_on : (past : Tally) (end : ℕ) → end ≡ done_of new → past ≡ record { count = tally.count + 1; size = end; passed = tally.passed + 1; passed_size = tally.passed_size + (end - tally.size) }
           → run.settings.keeps_going ≡ true → Passing run.left run.calls mid new (Ok true) → run.failures (source_of new) ≡ run.failures (source_of mid) → HasGone run new past w2 e2
-      goes_on past end there past_is goes passing same = elim passing [
+      goes_on past end there past_is goes answer same = elim answer [
         | inl p ↦ over past end there past_is goes p.1 p.4 p.0 p.2 p.3 p.5 same
         | inr none ↦ absurd (let e = none.1 in cc)
       ]

@@ -227,7 +227,7 @@ module _ {R A W : Type 0} (left : R → Option (List ℕ)) (calls failures : R �
   hands_flushed TooManyReads old new g1 w0 w1 w2 s p = absurd p
 
 module _ {R A W : Type 0} {left : R → Option (List ℕ)} {calls failures : R → ℕ} {held : W → Option (List ℕ)} {write_failures : W → ℕ} {limits : Limits} {command : Command}
-    {before count : ℕ} {old mid : RawReader R A} {g0 g1 : List ℕ} {w0 w1 : W}
+    {before count : ℕ} (old mid : RawReader R A) {g0 g1 : List ℕ} {w0 w1 : W}
     (h : HasHanded gathering left calls failures held write_failures limits command (kept old) before count old.reader mid.reader (kept mid) g0 g1 w0 w1) (new : RawReader R A) (g2 : List ℕ) (w2 : W) where
   faults : (w : List ℕ) (fault : ReadFault) → Advances w mid new (Err fault) → Faults gathering left calls failures held write_failures limits command (kept old) before w mid.reader new.reader fault
   faults w read.Memory a = tt

@@ -114,7 +114,7 @@ module _ {W E : Type 0} (held : W → Option (List ℕ)) (failures : W → ℕ) 
       let n = length (second_of command told) + w.1.0 in
       let broken = wrote_stopped second_held second_failures (second_of command told) text w.1.0 e0 e1 e2 h.second w.1.1 in
       subst (λ s. TellsMore (Err s)) (sym w.0)
-      (text, is, subst (λ l. Wrote held failures w0 l w2) both.0 (still_first w.2), (n, subst (λ l. Stopped second_held second_failures e0 l n e2) both.1 broken))
+      (text, is, (subst (λ l. Wrote held failures w0 l w2) both.0 (still_first w.2), (n, subst (λ l. Stopped second_held second_failures e0 l n e2) both.1 broken)))
 
   pub tells_more : (res : Result (Unit {0}) Stop) → Says (is_check command) (writing held failures w1 w2) (writing second_held second_failures e1 e2) Is res → TellsMore res
   tells_more res says = elim says [

@@ -101,4 +101,4 @@ returns-in-Err-clause-hands g c =
     = c.stopped_by.ensures ∙ ap (λ n. stopped_by c.messages.count n stop) c.done-in-Err.ensures in
     subst (λ x. RawHandsOn g.R.Source.left g.R.Source.calls g.R.Source.failures g.W.Sink.held g.W.Sink.failures c.args.plan.settings.limits (command_of c.args.plan.output) c.args.before c.args.messages.now c.next_message.new.messages
     (gathered_bytes c.args.gathered.now) (gathered_bytes c.next_message.new.gathered) c.args.first.now c.next_message.new.first x) (sym answer)
-    (hands_stopped c.messages.invariant.0 c.next_message.new.messages (gathered_bytes c.next_message.new.gathered) c.next_message.new.first stop c.in-Err.ensures.gives)
+    (hands_stopped c.args.messages.now c.messages.messages c.messages.invariant.0 c.next_message.new.messages (gathered_bytes c.next_message.new.gathered) c.next_message.new.first stop c.in-Err.ensures.gives)

@@ -1,4 +1,19 @@
+use Rattle.std.proofs.Common.{ap, ◌∙◌, subst}
+use Rattle.dbus_command.specs.declared.command.Command.{Command}
+use Rattle.dbus_tool.specs.Commands.{command_of}
+use Rattle.dbus_tool.specs.Devices.{reading, writing}
+use Rattle.dbus_tool.specs.Going.{is_check}
+use Rattle.dbus_tool.specs.Running.{Runs}
+use Rattle.dbus_tool.proofs.RunSteps.{no_check, ran, stopped}
 use Rattle.dbus_tool.proofs.running.run_within.Goals as goal
 
-pub returns-in_default-Ok : goal.returns-in_default-Ok
-returns-in_default-Ok g c = ?
+pub returns-in-Ok : goal.returns-in-Ok
+returns-in-Ok g c =
+    subst (λ (k : Command). Runs (reading g.R.Source.left g.R.Source.calls g.R.Source.failures c.args.reader.now c.hand_over.new.source) (writing g.W.Sink.held g.W.Sink.failures c.args.first.now c.hand_over.new.first)
+    (writing g.E.Sink.held g.E.Sink.failures c.args.second.now c.hand_over.new.second) c.args.limits c.args.reads k c.status_of.result) c.output_of.ensures
+    (ran g.R.Source.left g.R.Source.calls g.R.Source.failures g.W.Sink.held g.W.Sink.failures g.E.Sink.held g.E.Sink.failures c.args.limits c.args.reads (command_of c.output_of.result)
+    (ap (λ (k : Command). is_check k) c.output_of.ensures ∙ no_check c.args.command c.in_default.not-Check)
+    c.args.reader.now c.hand_over.new.source c.args.first.now c.hand_over.new.first c.args.second.now c.hand_over.new.second c.in-Ok.handed c.status_of.result c.in-Ok.ensures c.status_of.ensures)
+
+pub returns-in-Err : goal.returns-in-Err
+returns-in-Err g c = ?
