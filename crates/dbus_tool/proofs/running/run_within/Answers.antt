@@ -15,5 +15,11 @@ returns-in-Ok g c =
     (ap (λ (k : Command). is_check k) c.output_of.ensures ∙ no_check c.args.command c.in_default.not-Check)
     c.args.reader.now c.hand_over.new.source c.args.first.now c.hand_over.new.first c.args.second.now c.hand_over.new.second c.in-Ok.handed c.status_of.result c.in-Ok.ensures c.status_of.ensures)
 
-pub returns-in-Err : goal.returns-in-Err
-returns-in-Err g c = ?
+pub returns : goal.returns
+returns g c =
+    subst (λ (k : Command). Runs (reading g.R.Source.left g.R.Source.calls g.R.Source.failures c.args.reader.now c.hand_over.new.source) (writing g.W.Sink.held g.W.Sink.failures c.args.first.now c.hand_over.new.first)
+    (writing g.E.Sink.held g.E.Sink.failures c.args.second.now c.tell_stop.new.second) c.args.limits c.args.reads k c.tell_stop.result) c.output_of.ensures
+    (stopped g.R.Source.left g.R.Source.calls g.R.Source.failures g.W.Sink.held g.W.Sink.failures g.E.Sink.held g.E.Sink.failures c.args.limits c.args.reads (command_of c.output_of.result)
+    (ap (λ (k : Command). is_check k) c.output_of.ensures ∙ no_check c.args.command c.in_default.not-Check)
+    c.args.reader.now c.hand_over.new.source c.args.first.now c.hand_over.new.first c.args.second.now c.hand_over.new.second c.in-Err.stop c.tell_stop.new.second c.tell_stop.result c.in-Err.ensures
+    c.tell_stop.ensures.failed c.tell_stop.ensures.tells)
