@@ -48,6 +48,7 @@ from dbus_wire import (  # noqa: E402
     byteswap,
     check_text,
     messages,
+    spell_body,
     stated_length,
 )
 from dbus_wire import _library  # noqa: E402
@@ -269,6 +270,20 @@ class Cases(unittest.TestCase):
             built = build(serial=77, body=message.body_bytes, **parts)
             self.assertEqual(({part: getattr(built, part) for part in names}, built.serial), (parts, 77), name)
             self.assertEqual(repr(built.body), repr(message.body), name)
+
+    def test_bodies_are_spelled_as_they_are(self):
+        for name, data in whole_cases().items():
+            message = Message.parse(data)
+            self.assertEqual(spell_body(message.signature or "", message.body, message.order), message.body_bytes, name)
+
+    def test_values_that_are_not_of_their_type(self):
+        pairs = [("k", Variant("(yai)", [1, (-1,)]))]
+        self.assertEqual(spell_body("a{sv}", [{"k": Variant("(yai)", (1, [-1]))}]), spell_body("a{sv}", [pairs]))
+        self.assertEqual(spell_body("ay", [[1, 2]], "B"), b"\0\0\0\2\1\2")
+        for signature, values in (("u", [-1]), ("y", [256]), ("b", [2]), ("n", [1 << 15]), ("u", []), ("u", [1, 2]), ("(u)", [[]]), ("v", [1]),
+                                  ("v", [Variant("uu", 1)]), ("g", ["y" * 256]), ("a", []), ("{su}", [])):
+            self.assertRaises(ValueError, spell_body, signature, values)
+        self.assertRaises(ValueError, spell_body, "u", [1], "x")
 
     def test_parts_of_no_message_are_refused(self):
         signal = {"type": MessageType.SIGNAL, "serial": 1, "path": "/", "interface": "a.b", "member": "C"}
@@ -641,7 +656,7 @@ class Header(unittest.TestCase):
 
     def test_structs(self):
         declared = re.findall(r"(\d+) bytes\. \*/\nstruct dbus_wire_(\w+) \{(.*?)\n\};", self.text, re.DOTALL)
-        self.assertEqual(len(declared), 15)
+        self.assertEqual(len(declared), 17)
         for size, name, fields in declared:
             if name != "argument":
                 lines = re.findall(r"^    (struct \w+|\w+_t|void \*) ?([\w, ]+);", fields, re.MULTILINE)

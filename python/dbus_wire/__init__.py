@@ -21,6 +21,7 @@ from ._library import LIBRARY_VERSION
 from ._limits import Limits
 from ._messages import Message, MessageFlag, MessageType, Order, build, byteswap, messages, stated_length
 from ._rules import BadRule, Rule
+from ._spelling import spell_body
 from ._texts import TextFault, TextKind, check_text
 from ._values import ObjectPath, Signature, UnixFd, Variant
 
@@ -52,5 +53,6 @@ __all__ = [
     "byteswap",
     "check_text",
     "messages",
+    "spell_body",
     "stated_length",
 ]

@@ -64,6 +64,14 @@ class Item(ctypes.Structure):
     ]
 
 
+class Writer(ctypes.Structure):
+    _fields_ = [("length", c_uint64), ("order", c_uint32), ("reserved", c_uint32)]
+
+
+class Array(ctypes.Structure):
+    _fields_ = [("length_at", c_uint64), ("start", c_uint64)]
+
+
 class TextChecked(ctypes.Structure):
     _fields_ = [("offset", c_uint64), ("is_too_long", c_uint32), ("reserved", c_uint32)]
 
@@ -98,6 +106,7 @@ class HandshakeStep(ctypes.Structure):
 
 # Of each call its result, and then its arguments. Python's bytes do not change and are never null, so they are handed over as they are.
 _MESSAGE = (c_char_p, c_size_t, POINTER(Limits))
+_BODY = (c_char_p, c_size_t, POINTER(Writer))
 _CALLS = {
     "version": (c_uint32,),
     "specification_limits": (None, POINTER(Limits)),
@@ -108,6 +117,12 @@ _CALLS = {
     "wanted": (c_uint64, *_MESSAGE),
     "swap": (c_uint32, *_MESSAGE, c_uint32, c_char_p, c_size_t, POINTER(Checked)),
     "build": (c_uint32, POINTER(Parts), *_MESSAGE, c_char_p, c_size_t, POINTER(Checked)),
+    "put_number": (c_uint32, *_BODY, c_uint32, c_uint64),
+    "put_text": (c_uint32, *_BODY, c_char_p, c_size_t),
+    "put_signature": (c_uint32, *_BODY, c_char_p, c_size_t),
+    "begin_struct": (c_uint32, *_BODY),
+    "open_array": (c_uint32, *_BODY, c_uint32, POINTER(Array)),
+    "close_array": (c_uint32, *_BODY, POINTER(Array)),
     "text_check": (c_uint32, c_uint32, c_char_p, c_size_t, POINTER(TextChecked)),
     "checker_new": (c_uint32, POINTER(Limits), POINTER(Checker)),
     "checker_take": (c_uint32, POINTER(Checker), c_char_p, c_size_t, POINTER(Taken)),
