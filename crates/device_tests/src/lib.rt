@@ -1,4 +1,4 @@
-//! Tests of streams, of the command line and of the commands, over devices that fail and with allocations that fail, and of the texts of streams' faults.
+//! Tests of streams, of the command line and of the commands, over devices that fail and with allocations that fail, of handshakes, and of the texts of streams' faults.
 #![tactic(auto)]
 
 #[cfg(test)]
@@ -17,6 +17,8 @@ mod fault_texts;
 mod flagged_runs;
 #[cfg(test)]
 mod growths;
+#[cfg(test)]
+mod handshakes;
 #[cfg(test)]
 mod help_texts;
 #[cfg(test)]
