@@ -23,6 +23,8 @@ COMMAND_LINES = (
     (("swap", "--to", "B"), 1),
     (("filter", "type='signal',path_namespace='/org',arg0='x'"), 1),
     (("check", "--max-array", "1000"), 1),
+    (("check", "--max-array", "100", "--explain"), 1),
+    (("check", "--max-array", "100", "--keep-going"), 1),
     (("filter", "type='nothing'"), 1),
     (("filter", "arg64='x'"), 1),
     (("filter", "type='signal'", "type='error'", "--invert", "--owner", "org.a.B=:1.7"), 1),

@@ -6,7 +6,7 @@ use dbus_tool::ExitStatus;
 use std::process::Abort;
 use std::test::Fail;
 
-const EXPLAINED: &[u8] = b"\
+pub(crate) const EXPLAINED: &[u8] = b"\
 refused at 29: Truncated
   message 2 at 24, byte 5: the length of the body
   6c 02 01 01 00 []
@@ -20,7 +20,7 @@ refused at 12: MessageTooLong
   a message has at most 134217728 bytes, or as many as --max-message says (D-Bus Specification, \"Message Format\")
 ";
 
-const PASSED: &[u8] = b"\
+pub(crate) const PASSED: &[u8] = b"\
 refused at 40: FieldMissing(5) in message 2 at 24
 2 messages 48 bytes, 1 passed over 24 bytes
 ";

@@ -1,6 +1,7 @@
 //! Each command with each allocation failing in turn, and how many allocations a message takes.
 
 use crate::captures::*;
+use crate::flagged_runs::{EXPLAINED, PASSED};
 use crate::pieces::Pieces;
 use crate::running::{CHECK, End, JSON, SHOW, TO_BIG, TO_LITTLE, assert_end, ran};
 use dbus_tool::ExitStatus;
@@ -75,6 +76,22 @@ pub(crate) const RUNS: &[(&[&str], &[&[u8]], ExitStatus, &[&[u8]], &[u8], u64)] 
     (CHECK, CUT, REFUSED, &[TRUNCATED], b"", 0),
     (TO_LITTLE, CUT, REFUSED, &[RETURN], TRUNCATED, 2),
     (RETURNS, CUT, REFUSED, &[RETURN], TRUNCATED, 2),
+    (
+        &["show", "--explain"],
+        &[RETURN, FRONT],
+        REFUSED,
+        &[RETURN_TEXT],
+        EXPLAINED,
+        3,
+    ),
+    (
+        &["check", "--keep-going"],
+        &[RETURN, BARE_WITH_BODY, RETURN],
+        REFUSED,
+        &[PASSED],
+        b"",
+        2,
+    ),
 ];
 
 const ALL: &[&[u8]] = &[RETURN, SIGNAL, BIG_RETURN];

@@ -4,7 +4,9 @@ use crate::captures::joined;
 use crate::narrow::Narrow;
 use crate::pieces::Pieces;
 use dbus_stream::{FromWrite, MOST_READS, Source};
-use dbus_tool::{Command, ExitStatus, Settings, command_of, run_reads, run_within, run_words};
+use dbus_tool::{
+    Command, ExitStatus, Settings, command_of, run_reads, run_with, run_within, run_words,
+};
 use std::alloc::{Allocator, Global};
 use std::process::Abort;
 use std::test::Fail;
@@ -44,8 +46,8 @@ fn named(alloc: Global, words: &[&str]) -> Result<(Command, Settings), Fail> {
     command_of(alloc, words.as_slice()).map_err(|_| Fail::new("no command"))
 }
 
-/// How the command that the words name ends over this reader, under the limits that they name. The run alone takes memory
-/// of the heap.
+/// How the command that the words name ends over this reader, by the settings that they name. The run alone takes memory of the
+/// heap.
 pub(crate) fn ran<A: Allocator + Copy, R: Source + Drop>(
     alloc: Global,
     heap: A,
@@ -56,15 +58,27 @@ pub(crate) fn ran<A: Allocator + Copy, R: Source + Drop>(
     let mut reader = reader;
     let mut first = FromWrite::new(Vec::new(alloc));
     let mut second = FromWrite::new(Vec::new(alloc));
-    let status = run_within(
-        heap,
-        command,
-        settings.limits,
-        MOST_READS,
-        &mut reader,
-        &mut first,
-        &mut second,
-    );
+    let status = if settings.explains || settings.keeps_going {
+        run_with(
+            heap,
+            command,
+            settings,
+            MOST_READS,
+            &mut reader,
+            &mut first,
+            &mut second,
+        )
+    } else {
+        run_within(
+            heap,
+            command,
+            settings.limits,
+            MOST_READS,
+            &mut reader,
+            &mut first,
+            &mut second,
+        )
+    };
     Ok(End {
         status,
         first: first.into_inner(),
