@@ -31,7 +31,7 @@ COMMAND_LINES = (
     (("filter", "", "--owner=org.a.B"), 1),
     (("swap",), 1),
     (("swap", "--to", "M"), 1),
-    (("show", "--depth"), 22),
+    (("show", "--depth"), 31),
     (("help", "filter"), 1),
     (("--version",), 1),
     ((), 1),
