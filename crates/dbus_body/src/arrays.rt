@@ -24,6 +24,19 @@ pub struct OpenArray {
 ///
 /// The error is that an allocation failed, only if the capacity was too small; then the bytes are as they were. D-Bus Specification,
 /// "Marshaling (Wire Format)".
+///
+/// ```rust
+/// use dbus_body::{close_array, open_array, put_text};
+/// use dbus_value::Order;
+///
+/// let mut body = Vec::new(alloc);
+/// let names = open_array(&mut body, 4)?;
+/// for name in ["org.example.A", "org.example.B"] {
+///     put_text(&mut body, Order::Little, name.as_bytes())?;
+/// }
+/// close_array(body.as_mut_slice(), Order::Little, names)?;
+/// println!(rt; "{} bytes of the type as", body.len())?;
+/// ```
 pub fn open_array<A: Allocator>(
     out: &mut Vec<u8, A>,
     alignment: u8,

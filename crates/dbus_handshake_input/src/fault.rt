@@ -1,14 +1,19 @@
 //! Why no handshake was read.
 #![tactic(auto)]
 
+use thiserror::Error;
+
 /// Why no handshake was read.
-#[derive(Clone, Copy, PartialEq, Eq, Debug)]
+#[derive(Clone, Copy, PartialEq, Eq, Debug, Error)]
 pub enum HandshakeFault {
     /// An allocation failed.
+    #[error("allocation failed")]
     Memory,
     /// A read failed.
+    #[error("the device failed")]
     Device,
     /// The bytes begin with no handshake of the side.
+    #[error("the bytes begin with no handshake: {reason} at offset {at}")]
     Refused {
         /// The place of the fault, in bytes from the start of the handshake.
         at: usize,

@@ -24,6 +24,25 @@ const MOST_LINES: usize = 1024;
 /// `Refused`: the bytes begin with no handshake of the side; the place counts from the first byte that was taken. `Device`: a read
 /// failed. `Memory`: an allocation failed. After each of them the bytes before the place that was reached are taken, and the call is
 /// not to be made again.
+///
+/// ```rust
+/// use dbus_handshake_input::{HandshakeFault, ReadAhead, Side, pass_handshake};
+/// use dbus_stream::{FromRead, MessageReader};
+///
+/// let mut input = ReadAhead::new(FromRead::new(rt.stdin()));
+/// match pass_handshake(alloc, Side::Client, &mut input) {
+///     Ok(()) => {
+///         let mut reader = MessageReader::new(alloc, input);
+///         if let Some((_, message)) = reader.next()? {
+///             println!(rt; "serial {}", message.parts().serial)?;
+///         }
+///     }
+///     Err(HandshakeFault::Refused { at, reason }) => {
+///         println!(rt; "handshake refused at {at}: {reason}")?;
+///     }
+///     Err(fault) => return Err(fault.into()),
+/// }
+/// ```
 pub fn pass_handshake<A: Allocator + Copy, R: Source>(
     alloc: A,
     side: Side,

@@ -1,5 +1,7 @@
-//! The texts of the faults of streams, as people read them.
+//! The texts of the faults of streams, of handshakes before them and of bodies that are spelled, as people read them.
 
+use dbus_body::PutFault;
+use dbus_handshake_input::{HandshakeFault, HandshakeReason};
 use dbus_stream::{ReadFault, StreamFault, WriteFault};
 use dbus_value::{Fault, Reason};
 use std::alloc::Global;
@@ -38,6 +40,24 @@ const WRITE_FAULTS: &[(WriteFault, &str)] = &[
     ),
 ];
 
+const HANDSHAKE_FAULTS: &[(HandshakeFault, &str)] = &[
+    (HandshakeFault::Memory, "allocation failed"),
+    (HandshakeFault::Device, "the device failed"),
+    (
+        HandshakeFault::Refused {
+            at: 7,
+            reason: HandshakeReason::NoCommand,
+        },
+        "the bytes begin with no handshake: NoCommand at offset 7",
+    ),
+];
+
+const PUT_FAULTS: &[(PutFault, &str)] = &[
+    (PutFault::Memory, "allocation failed"),
+    (PutFault::TooLong, "too many bytes for their length"),
+    (PutFault::NotOpen, "no array is open at this place"),
+];
+
 // Each has its text.
 fn are_told<T: Display>(rt: &impl Abort, alloc: Global, rows: &[(T, &str)]) -> Result<(), Fail> {
     for (told, text) in rows {
@@ -50,5 +70,7 @@ fn are_told<T: Display>(rt: &impl Abort, alloc: Global, rows: &[(T, &str)]) -> R
 fn faults_of_streams(rt: HostRuntime) -> Result<(), Fail> {
     are_told(&rt, rt.alloc(), STREAM_FAULTS)?;
     are_told(&rt, rt.alloc(), READ_FAULTS)?;
-    are_told(&rt, rt.alloc(), WRITE_FAULTS)
+    are_told(&rt, rt.alloc(), WRITE_FAULTS)?;
+    are_told(&rt, rt.alloc(), HANDSHAKE_FAULTS)?;
+    are_told(&rt, rt.alloc(), PUT_FAULTS)
 }
