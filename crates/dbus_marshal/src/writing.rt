@@ -4,7 +4,7 @@
 //! place where that ends; what is before the place stays. D-Bus Specification, "Marshaling (Wire Format)".
 #![tactic(auto, using(crate::proofs::Written::lengths))]
 
-ghost use Rattle.std.specs.Prelude.{◌≡◌, ◌+◌, ◌<◌, ◌≤◌, ◌∷◌, [], ◌++◌, length, take, drop};
+ghost use Rattle.std.specs.Prelude.{◌≡◌, ◌+◌, ◌-◌, ◌<◌, ◌≤◌, ◌∷◌, [], ◌++◌, length, replicate, take, drop};
 ghost use Rattle.dbus_texts.specs.Types.{STRING, SIGNATURE};
 ghost use Rattle.dbus_value_model.specs.Appending.{with_padding, with_value};
 ghost use Rattle.dbus_value_model.specs.Bytes.{num};
@@ -44,6 +44,22 @@ pub fn write_byte(out: &mut [u8], at: usize, byte: u8) -> usize
     at + 1
 }
 
+/// Writes zeros from `at` up to `end`, eight at once if there is room for them: what is after `end` may change.
+#[inline]
+fn write_zeros(out: &mut [u8], at: usize, end: usize)
+    requires start { at ≤ end }
+    requires space { end ≤ length out.old }
+    ensures written { take end out.new ≡ take at out.old ++ replicate (end - at) 0 }
+{
+    if end - at <= 8 && out.len() - at >= 8 {
+        overwrite(out, at, &[0; 8]);
+        return;
+    }
+    for place in at..end {
+        out[place] = 0;
+    }
+}
+
 /// Writes zeros up to the next multiple of `alignment`.
 #[inline]
 #[tactic(auto, using(crate::proofs::Written::lengths), unfolding(dbus_value_model::specs::Appending::with_padding))]
@@ -55,9 +71,7 @@ pub fn write_padding(out: &mut [u8], at: usize, alignment: u8) -> usize
     ensures within { result ≤ length out.new }
 {
     let end = at + gap(alignment, at);
-    for place in at..end {
-        out[place] = 0;
-    }
+    write_zeros(out, at, end);
     end
 }
 
