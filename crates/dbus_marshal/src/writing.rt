@@ -86,9 +86,24 @@ pub fn write_32(out: &mut [u8], at: usize, order: Order, n: u32) -> usize
     at + 4
 }
 
-/// Writes a number of `width` bytes, with the padding before it. The width is its alignment too.
+/// Writes a number of `width` bytes, without padding.
 #[inline(always)]
 #[tactic(auto, using(crate::proofs::Written::lengths, crate::proofs::Written::low_bytes, crate::proofs::Written::high_bytes))]
+pub fn write_unpadded(out: &mut [u8], at: usize, order: Order, width: u8, n: u64) -> usize
+    requires few { width ≤ 8 }
+    requires space { at + width ≤ length out.old }
+    ensures written { take result out.new ≡ take at out.old ++ num order width n }
+    ensures ends { result ≡ at + width }
+{
+    let count = usize::from(width);
+    match order {
+        Order::Little => write_bytes(out, at, &u64::to_le_bytes(n)[..count]),
+        Order::Big => write_bytes(out, at, &u64::to_be_bytes(n)[8 - count..]),
+    }
+}
+
+/// Writes a number of `width` bytes, with the padding before it. The width is its alignment too.
+#[inline(always)]
 pub fn write_number(out: &mut [u8], at: usize, order: Order, width: u8, n: u64) -> usize
     requires some { 0 < width }
     requires few { width ≤ 8 }
@@ -99,11 +114,7 @@ pub fn write_number(out: &mut [u8], at: usize, order: Order, width: u8, n: u64) 
     ensures within { result ≤ length out.new }
 {
     let place = write_padding(out, at, width);
-    let count = usize::from(width);
-    match order {
-        Order::Little => write_bytes(out, place, &u64::to_le_bytes(n)[..count]),
-        Order::Big => write_bytes(out, place, &u64::to_be_bytes(n)[8 - count..]),
-    }
+    write_unpadded(out, place, order, width, n)
 }
 
 /// Writes the text of a STRING or an OBJECT_PATH: padding, its length in four bytes, itself and a zero byte.
