@@ -1,15 +1,14 @@
--- What the calls spell, and bytes that grew and were written to their end.
-use Rattle.std.proofs.Common.{◌≡◌, ℕ, ◌+◌, ◌-◌, ◌≤◌, List, [], ◌∷◌, ◌++◌, length, replicate, take, refl, sym, ap, ◌∙◌, arith, append_assoc}
-use Rattle.std.proofs.lemmas.List.{length-append, length-replicate, replicate-append-replicate, take_all}
+-- What the calls spell.
+use Rattle.std.proofs.Common.{◌≡◌, ℕ, ◌+◌, ◌-◌, List, [], ◌∷◌, ◌++◌, length, replicate, refl, sym, ap, ◌∙◌, arith}
 use Rattle.dbus_texts.specs.Types.{TypeTree, SIGNATURE, sig}
 use Rattle.dbus_types.specs.Alignments.{alignment_of}
 use Rattle.dbus_value_model.specs.declared.order.Order.{Order}
 use Rattle.dbus_value_model.specs.declared.order.Order.TheVariants.{Little, Big}
 use Rattle.dbus_value_model.specs.Appending.{with_padding, with_value, with_values}
-use Rattle.dbus_value_model.specs.Bytes.{gap_to, num, low_first}
+use Rattle.dbus_value_model.specs.Bytes.{num, low_first}
 use Rattle.dbus_value_model.specs.Values.{ValueTree, ValueTrees, ArrayValue, TextValue, VariantValue, type_of}
 use Rattle.dbus_marshal.proofs.Patching.{array_patched}
-use Rattle.dbus_marshal.proofs.Written.{written_whole, written_number, written_path, written_struct, written_entry, written_variant, written_text, no_padding, length_values}
+use Rattle.dbus_marshal.proofs.Written.{written_number, written_path, written_struct, written_entry, written_variant, written_text, no_padding, length_values}
 use Rattle.dbus_body.specs.Arrays.{opened, place_of, closed}
 use Rattle.dbus_body.specs.BodyLaws.{CallsSpell}
 
@@ -42,25 +41,3 @@ calls_spell order front =
       variant = λ x. variant_spelled order x front;
       array = λ t xs. array_spelled order t xs front;
     }
-
--- bytes that grew from front are written from there on, to their end, and put back
-pub put_back : (f : List ℕ → List ℕ) (front grown slice out rest : List ℕ) (start end n : ℕ) → start ≡ length front → take (length front) grown ≡ front → slice ≡ grown →
-    end ≤ length out → take end out ≡ f (take start slice) → length (f front) ≡ length out → n ≡ length out → take n (out ++ rest) ≡ f front
-put_back f front grown slice out rest start end n here kept same within written long all =
-    let before : take start slice ≡ front = ap (take start) same ∙ ap (λ (k : ℕ). take k grown) here ∙ kept in
-    ap (λ (k : ℕ). take k (out ++ rest)) all ∙ written_whole out rest (f front) end within (written ∙ ap f before) long
-
--- zeros from front on stand before the elements of an array
-pub opened_by_zeros : (a start n : ℕ) (front : List ℕ) → n ≡ length front → start ≡ length (opened a front) → take start front ++ replicate (start - n) 0 ≡ opened a front
-unfolding with_padding
-opened_by_zeros a start n front here ends =
-    let g = gap_to 4 (length front) in
-    let b = front ++ replicate g 0 in
-    let h = gap_to a (length (b ++ replicate 4 0)) in
-    let joined : opened a front ≡ front ++ replicate (g + (4 + h)) 0 =
-    append_assoc b (replicate 4 0) (replicate h 0) ∙ ap (λ (l : List ℕ). b ++ l) (replicate-append-replicate 4 h 0) ∙ append_assoc front (replicate g 0) (replicate (4 + h) 0)
-    ∙ ap (λ (l : List ℕ). front ++ l) (replicate-append-replicate g (4 + h) 0) in
-    let long = ap length joined ∙ length-append front (replicate (g + (4 + h)) 0) in
-    let zeros = length-replicate {A = ℕ} (g + (4 + h)) 0 in
-    let all : start - n ≡ g + (4 + h) = omega arith in
-    ap (λ (l : List ℕ). l ++ replicate (start - n) 0) (take_all start front (omega arith)) ∙ ap (λ (k : ℕ). front ++ replicate k 0) all ∙ sym joined

@@ -6,6 +6,7 @@ ghost use Rattle.dbus_body.specs.Arrays.{IsOpen, closed, opened, place_of};
 ghost use Rattle.dbus_body.specs.Faults.{IsArrayRefused, IsLengthWritten};
 
 use crate::put_fault::PutFault;
+use crate::putting::put_padding;
 use dbus_marshal::writing::overwrite_32;
 use dbus_value_model::{Order, gap};
 use std::alloc::{AllocError, Allocator};
@@ -47,10 +48,16 @@ pub fn open_array<A: Allocator>(
     ensures unchanged { OnErr result (out.new.items ≡ out.old.items) }
     ensures small { OnErr result (vec_capacity out.old < length (opened alignment out.old.items)) }
 {
-    let length_at = out.len() + gap(4, out.len());
-    let start = length_at + 4 + gap(alignment, length_at + 4);
-    out.resize(start, 0)?;
-    Ok(OpenArray { length_at, start })
+    let end = out.len() + gap(4, out.len()) + 4;
+    out.reserve(end - out.len() + gap(alignment, end))?;
+    put_padding(out, 4)?;
+    let length_at = out.len();
+    out.extend_from_slice(&[0; 4])?;
+    put_padding(out, alignment)?;
+    Ok(OpenArray {
+        length_at,
+        start: out.len(),
+    })
 }
 
 /// Writes the length of the array that was opened at this place: the number of bytes from where its elements begin up to the end.

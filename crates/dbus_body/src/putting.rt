@@ -10,18 +10,23 @@ ghost use Rattle.dbus_value_model.specs.declared.order.Order.{Order};
 ghost use Rattle.dbus_body.specs.Faults.{IsTextRefused};
 
 use crate::put_fault::PutFault;
-use dbus_marshal::writing::{write_number, write_signature, write_text};
+use dbus_marshal::writing::write_unpadded;
 use dbus_value_model::{Order, gap};
 use std::alloc::{AllocError, Allocator};
 
-/// Makes the bytes so many, by zeros.
-pub(crate) fn grow<A: Allocator>(out: &mut Vec<u8, A>, end: usize) -> Result<(), AllocError>
-    requires { length out.old.items ≤ end }
-    ensures front { OnOk result (take (length out.old.items) out.new.items ≡ out.old.items) }
-    ensures long { OnOk result (length out.new.items ≡ end) }
+/// Appends zeros up to the next multiple of `alignment`.
+#[tactic(auto, using(dbus_value_model::proofs::Gaps::gap_below), unfolding(dbus_value_model::specs::Appending::with_padding))]
+pub(crate) fn put_padding<A: Allocator>(
+    out: &mut Vec<u8, A>,
+    alignment: u8,
+) -> Result<(), AllocError>
+    requires { 0 < alignment }
+    ensures written { OnOk result (out.new.items ≡ with_padding alignment out.old.items) }
     ensures unchanged { OnErr result (out.new.items ≡ out.old.items) }
-    ensures small { OnErr result (vec_capacity out.old < end) }
+    ensures small { OnErr result (vec_capacity out.old < length (with_padding alignment out.old.items)) }
+    ensures capacity { vec_capacity out.old ≤ vec_capacity out.new }
 {
+    let end = out.len() + gap(alignment, out.len());
     out.resize(end, 0)
 }
 
@@ -31,6 +36,7 @@ pub(crate) fn grow<A: Allocator>(out: &mut Vec<u8, A>, end: usize) -> Result<(),
 /// The width is 1, 2, 4 or 8, that of the type. The error is that an allocation failed, only if the capacity was too small; then the
 /// bytes are as they were. D-Bus Specification, "Marshaling (Wire Format)".
 #[inline]
+#[tactic(auto, using(dbus_marshal::proofs::Written::lengths, dbus_value_model::proofs::Gaps::gap_below), unfolding(dbus_value_model::specs::Appending::with_padding))]
 pub fn put_number<A: Allocator>(
     out: &mut Vec<u8, A>,
     order: Order,
@@ -44,11 +50,11 @@ pub fn put_number<A: Allocator>(
     ensures unchanged { OnErr result (out.new.items ≡ out.old.items) }
     ensures small { OnErr result
         (vec_capacity out.old < length (with_padding width out.old.items) + width) }
+    ensures capacity { vec_capacity out.old ≤ vec_capacity out.new }
 {
-    let start = out.len();
-    grow(out, start + gap(width, start) + usize::from(width))?;
-    write_number(out.as_mut_slice(), start, order, width, bits);
-    Ok(())
+    let mut bytes = [0; 16];
+    let end = write_unpadded(&mut bytes, gap(width, out.len()), order, width, bits);
+    out.extend_from_slice(&bytes[..end])
 }
 
 /// Appends a STRING or an OBJECT_PATH: padding, the length of the text in four bytes, the text and a zero byte. Whether the text is
@@ -72,9 +78,10 @@ pub fn put_text<A: Allocator>(
     if text.len() > u32::MAX as usize {
         return Err(PutFault::TooLong);
     }
-    let start = out.len();
-    grow(out, start + gap(4, start) + 4 + text.len() + 1)?;
-    write_text(out.as_mut_slice(), start, order, text);
+    out.reserve(gap(4, out.len()) + 4 + text.len() + 1)?;
+    put_number(out, order, 4, text.len() as u64)?;
+    out.extend_from_slice(text)?;
+    out.push_reserved(0);
     Ok(())
 }
 
@@ -83,6 +90,7 @@ pub fn put_text<A: Allocator>(
 ///
 /// `TooLong` exactly if the text has more than 255 bytes. `Memory` if an allocation failed, only if the capacity was too small. After
 /// an error the bytes are as they were. D-Bus Specification, "Marshaling (Wire Format)".
+#[tactic(auto, using(dbus_marshal::proofs::Written::texts))]
 pub fn put_signature<A: Allocator>(out: &mut Vec<u8, A>, text: &[u8]) -> Result<(), PutFault>
     ensures written { (order : Order) → OnOk result
         (out.new.items ≡ with_value order (TextValue SIGNATURE text.now) out.old.items) }
@@ -94,9 +102,10 @@ pub fn put_signature<A: Allocator>(out: &mut Vec<u8, A>, text: &[u8]) -> Result<
     if text.len() > 255 {
         return Err(PutFault::TooLong);
     }
-    let start = out.len();
-    grow(out, start + text.len() + 2)?;
-    write_signature(out.as_mut_slice(), start, text);
+    out.reserve(text.len() + 2)?;
+    out.push_reserved(text.len() as u8);
+    out.extend_from_slice(text)?;
+    out.push_reserved(0);
     Ok(())
 }
 
@@ -110,6 +119,5 @@ pub fn begin_struct<A: Allocator>(out: &mut Vec<u8, A>) -> Result<(), AllocError
     ensures unchanged { OnErr result (out.new.items ≡ out.old.items) }
     ensures small { OnErr result (vec_capacity out.old < length (with_padding 8 out.old.items)) }
 {
-    let end = out.len() + gap(8, out.len());
-    out.resize(end, 0)
+    put_padding(out, 8)
 }
