@@ -6,10 +6,10 @@ ghost use Rattle.dbus_value_model.specs.Bytes.{num};
 ghost use Rattle.dbus_c_build.specs.Building.{HaveBytes, HaveNoBytes, IsBuilt, IsRefusal};
 ghost use Rattle.dbus_c_build.specs.Spelled.{fixed_items, spelled};
 
-use crate::appending::{put_32, put_padding};
 use crate::fields::{put_fields, text_at};
 use crate::placed::PlacedParts;
 use crate::refusal::Refusal;
+use dbus_body::{begin_struct, put_number};
 use dbus_check::fault_at_end;
 use dbus_marshal::writing::overwrite_32;
 use dbus_validate::validate;
@@ -38,9 +38,9 @@ fn put_fixed<A: Allocator>(
     let order = parts.order;
     let first = if order == Order::Little { b'l' } else { b'B' };
     out.extend_from_slice(&[first, parts.kind, parts.flags, VERSION])?;
-    put_32(out, order, body_length)?;
-    put_32(out, order, parts.serial)?;
-    put_32(out, order, 0)
+    put_number(out, order, 4, u64::from(body_length))?;
+    put_number(out, order, 4, u64::from(parts.serial))?;
+    put_number(out, order, 4, 0)
 }
 
 /// Writes the fields' length in its place, which is there.
@@ -73,7 +73,8 @@ fn spell<A: Allocator + Copy>(
         return Err(Refusal::TooLong(0));
     }
     set_length(&mut out, parts.order, length as u32);
-    put_padding(&mut out, 8)?;
+    // A body begins where a struct could.
+    begin_struct(&mut out)?;
     out.extend_from_slice(body)?;
     Ok(out)
 }

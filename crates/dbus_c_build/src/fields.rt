@@ -11,9 +11,9 @@ ghost use Rattle.dbus_c_build.specs.Spelled.{with_fields};
 ghost use Rattle.dbus_c_build.specs.Building.{AreTextsInside, AreTextsShort, HaveNoBytes, IsShort, most_of};
 ghost use Rattle.dbus_c_build.specs.declared.placed.PlacedParts.{PlacedParts};
 
-use crate::appending::{put_number, put_padding, put_signature, put_text};
 use crate::placed::{Place, PlacedParts};
 use crate::refusal::Refusal;
+use dbus_body::{PutFault, begin_struct, put_number, put_signature, put_text};
 use dbus_message_model::field_code::{
     DESTINATION, ERROR_NAME, INTERFACE, MEMBER, PATH, REPLY_SERIAL, SENDER, SIGNATURE, UNIX_FDS,
 };
@@ -68,7 +68,7 @@ fn start_field<A: Allocator>(
     ensures { OnOk result (out.new.items ≡
         with_padding 8 out.old.items ++ (code ∷ (1 ∷ (type_code ∷ (0 ∷ []))))) }
 {
-    put_padding(out, 8)?;
+    begin_struct(out)?;
     out.extend_from_slice(&[code, 1, type_code, 0])
 }
 
@@ -78,8 +78,7 @@ fn append_text<A: Allocator>(
     order: Order,
     code: u8,
     text: &[u8],
-) -> Result<(), AllocError>
-    requires { length text.now ≤ most_of code }
+) -> Result<(), PutFault>
     ensures { OnOk result (out.new.items ≡ with_value order
         (field_struct (record { code = code; value = TextValue (text_code code) text.now }))
         out.old.items) }
@@ -130,7 +129,7 @@ fn put_number_field<A: Allocator>(
         return Ok(());
     }
     start_field(out, code, b'u')?;
-    put_number(out, order, n)
+    put_number(out, order, 4, u64::from(n))
 }
 
 /// Appends the fields that are there.

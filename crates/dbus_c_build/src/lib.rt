@@ -4,7 +4,6 @@
 //! [`build`] is the inverse of taking a message apart by places. What it spells it validates, so that it builds exactly the messages.
 #![tactic(auto)]
 
-mod appending;
 mod building;
 mod fields;
 pub mod laws;

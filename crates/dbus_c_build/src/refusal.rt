@@ -1,5 +1,6 @@
 //! Why nothing is built.
 
+use dbus_body::PutFault;
 use dbus_value_model::Fault;
 use std::alloc::AllocError;
 
@@ -25,6 +26,18 @@ impl From<AllocError> for Refusal {
     ghost from_gives = { λ _ e. e ≡ Memory };
 
     fn from(_: AllocError) -> Self {
+        Refusal::Memory
+    }
+}
+
+/// The texts are short enough for their lengths by then, so that nothing but memory runs out.
+impl From<PutFault> for Refusal {
+    ghost use Rattle.std.specs.Prelude.{◌≡◌};
+    ghost use Rattle.dbus_c_build.specs.declared.refusal.Refusal.TheVariants.{Memory};
+
+    ghost from_gives = { λ _ e. e ≡ Memory };
+
+    fn from(_: PutFault) -> Self {
         Refusal::Memory
     }
 }

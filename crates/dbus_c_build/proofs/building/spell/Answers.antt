@@ -30,9 +30,9 @@ returns-clause-spelled g c =
     let p = c.args.parts.now in
     let fixed = c.in_ok-put_fixed.ensures ∙ ap (λ (t : List ℕ). fixed_items p.order p.kind p.flags p.serial (length t)) c.in_ok-body.ensures.text in
     let fields = c.in_ok-put_fields.ensures.put ∙ ap (with_fields p.order (fields_of c.args.bytes.now p)) fixed in
-    let ends = c.in_ok-extend_from_slice.ensures.items ∙ ap (λ (t : List ℕ). c.put_padding.new.out.items ++ t) c.in_ok-body.ensures.text in
-    all_spelled c.args.bytes.now p c.put_fields.new.out.items c.set_length.new.out.items c.put_padding.new.out.items c.extend_from_slice.new.self.items (c.len-length.result - 16)
-    (omega arith) (omega arith) fields (omega (arith, c.len-length.ensures)) c.set_length.ensures c.in_ok-put_padding.ensures ends
+    let ends = c.in_ok-extend_from_slice.ensures.items ∙ ap (λ (t : List ℕ). c.begin_struct.new.out.items ++ t) c.in_ok-body.ensures.text in
+    all_spelled c.args.bytes.now p c.put_fields.new.out.items c.set_length.new.out.items c.begin_struct.new.out.items c.extend_from_slice.new.self.items (c.len-length.result - 16)
+    (omega arith) (omega arith) fields (omega (arith, c.len-length.ensures)) c.set_length.ensures c.in_ok-begin_struct.ensures.written ends
 
 pub returns-clause-bounded : goal.returns-clause-bounded
 returns-clause-bounded g c =
