@@ -205,6 +205,22 @@ module _ (source : Source) (end : ℕ) (types : List ℕ) (ts : TypeTrees) (at d
             let e : drop pos types ≡ sig t ++ (sigs us ++ closing_text outer) = sym text ∙ append_assoc (sig t) (sigs us) (closing_text outer) in
             absurd (no_close t (first_there types pos t _ lt e ∙ code))
 
+  -- structs that are open close within each other
+  pub structs_closed : (n place pos depth : ℕ) → ((k : ℕ) → k < n → get_or types (pos + k) 0 ≡ 41) → pos + n ≤ length types → depth ≤ depth_left
+      → Left source end types ts at depth_left place pos depth → Left source end types ts at depth_left place (pos + n) (depth - n)
+  structs_closed zero place pos depth codes inside deep left =
+      let same_pos : pos ≡ pos + 0 = omega arith in
+      let same_open : depth ≡ depth - 0 = omega arith in
+      subst (λ (p : ℕ). Left source end types ts at depth_left place p (depth - 0)) same_pos (subst (λ (m : ℕ). Left source end types ts at depth_left place pos m) same_open left)
+  structs_closed (suc n) place pos depth codes inside deep left =
+      let first_code : get_or types pos 0 ≡ 41 = ap (λ (i : ℕ). get_or types i 0) (omega arith) ∙ codes 0 (omega arith) in
+      let next = (closed_left place pos depth (omega arith) first_code deep left).1 in
+      let others : (k : ℕ) → k < n → get_or types (pos + 1 + k) 0 ≡ 41 = λ k lt. ap (λ (i : ℕ). get_or types i 0) (omega arith) ∙ codes (suc k) (omega arith) in
+      let rest = structs_closed n place (pos + 1) (depth - 1) others (omega arith) (omega arith) next in
+      let same_pos : pos + 1 + n ≡ pos + suc n = omega arith in
+      let same_open : depth - 1 - n ≡ depth - suc n = omega arith in
+      subst (λ (p : ℕ). Left source end types ts at depth_left place p (depth - suc n)) same_pos (subst (λ (m : ℕ). Left source end types ts at depth_left place (pos + 1 + n) m) same_open rest)
+
   -- structs open within each other, and the first has passed the padding of all
   rows_left : (n q pos depth : ℕ) → padding 8 end q (here q) ≡ Done tt q (here q) → ((k : ℕ) → k < n → get_or types (pos + k) 0 ≡ 40) → pos + n ≤ length types → depth + n ≤ depth_left
       → Left source end types ts at depth_left q pos depth → Left source end types ts at depth_left q (pos + n) (depth + n)

@@ -4,6 +4,12 @@ use Rattle.std.proofs.lemmas.Bool.{lt-ltb, ne_eqb}
 use Rattle.dbus_texts.specs.Types.{NumberCode, TextCode, TypeTree, NumberType, TextType, VariantType, ArrayType, StructType, EntryType, TypeTrees, NoTypes, MoreTypes, sig, IsShaped}
 use Rattle.dbus_texts.specs.ComputedKinds.{type_spelled}
 use Rattle.dbus_texts.specs.declared.text_kind.TextKind.TheVariants.{Single}
+use Rattle.dbus_types.specs.Alignments.{width}
+use Rattle.dbus_types.specs.SignatureCodes.{free_width_of}
+use Rattle.dbus_value_model.specs.FreeNumbers.{IsFree}
+use Rattle.dbus_value_model.proofs.FreeNumbers.{free_is}
+use Rattle.dbus_value_validator.specs.Sources.{value_in}
+use Rattle.dbus_value_validator.specs.declared.source.Source.{Source}
 use Rattle.dbus_value_model.specs.declared.fault.Reason.TheVariants as reasons
 use Rattle.dbus_value_model.specs.declared.limits.Bounds.{Bounds}
 use Rattle.dbus_value_model.specs.declared.order.Order.{Order}
@@ -138,3 +144,11 @@ module _ (bounds : Bounds) (order : Order) (depth_left end at : ℕ) (bytes : Li
 
   pub as_entry : (k v : TypeTree) → t ≡ EntryType k v → Answers bytes r (entry_value bounds order depth_left end k v at (drop at bytes)) → AnswersHere t
   as_entry k v is answer = subst AnswersHere (sym is) (answers_same bytes r _ _ (value_entry bounds order depth_left end k v at (drop at bytes)) answer)
+
+-- a number of a width, any of which is valid
+pub free_value : (source : Source) (end at wide size depth_left : ℕ) (t : TypeTree) (r : Option ℕ) → 0 < wide → wide ≡ free_width_of t → wide ≡ size
+    → ((index_limit : Option ℕ) (order : Order) (k : NumberCode) → width k ≡ size → IsFree index_limit k → Answers source.bytes.now r (number_value index_limit order end k at (drop at source.bytes.now)))
+    → Answers source.bytes.now r (value_in source depth_left end t at)
+free_value source end at wide size depth_left t r some is same gives =
+    let free = free_is t wide some is in
+    as_number source.bounds source.order depth_left end at source.bytes.now t r free.code free.is (gives source.bounds.fds source.order free.code (free.wide ∙ same) (free.free source.bounds.fds))

@@ -17,7 +17,7 @@ use crate::basic::basic_value;
 use crate::brackets::repeats;
 use crate::ends::{end_of, is_container, wants_lengths};
 use crate::items::padding;
-use crate::numbers::are_booleans;
+use crate::numbers::{are_booleans, free_number};
 use crate::source::Source;
 use crate::texts::short_text;
 use dbus_types::{TextKind, boundary, free_width, lengths_in};
@@ -98,8 +98,9 @@ pub(crate) fn all_values(
             if depth == 0 {
                 return None;
             }
-            depth -= 1;
-            first += 1;
+            let closed = repeats(types, first, code, depth);
+            depth -= closed;
+            first += usize::from(closed);
         } else if code == b'a' {
             let next = end_of(types, first, source.lengths, pos);
             let whole = &types[first..next];
@@ -115,6 +116,10 @@ pub(crate) fn all_values(
             first = next;
         } else if code == b'v' {
             place = variant(source, place, end, depth_left - depth)?;
+            first += 1;
+        } else if code == b'y' {
+            // Without a call, since no value takes fewer bytes of a message.
+            place = free_number(source.bytes, place, end, 1)?;
             first += 1;
         } else {
             place = basic_value(source, place, end, code)?;

@@ -1,25 +1,8 @@
-use Rattle.std.proofs.Common.{◌≡◌, ℕ, ◌<◌, Option, drop, refl, ◌∙◌}
-use Rattle.dbus_texts.specs.Types.{NumberCode, TypeTree, BOOLEAN, UNIX_FD, STRING, OBJECT_PATH, SIGNATURE}
-use Rattle.dbus_types.specs.Alignments.{width}
-use Rattle.dbus_types.specs.SignatureCodes.{free_width_of}
-use Rattle.dbus_value_model.specs.FreeNumbers.{IsFree}
-use Rattle.dbus_value_model.specs.ValueReaders.{number_value}
-use Rattle.dbus_value_model.specs.declared.order.Order.{Order}
-use Rattle.dbus_value_validator.specs.Endings.{Answers}
-use Rattle.dbus_value_validator.specs.Sources.{value_in}
-use Rattle.dbus_value_validator.specs.declared.source.Source.{Source}
+use Rattle.std.proofs.Common.{refl, ◌∙◌}
+use Rattle.dbus_texts.specs.Types.{BOOLEAN, UNIX_FD, STRING, OBJECT_PATH, SIGNATURE}
 use Rattle.dbus_types.proofs.TypeCodes.{text_is, boolean_is, descriptor_is}
-use Rattle.dbus_value_model.proofs.FreeNumbers.{free_is}
-use Rattle.dbus_value_validator.proofs.ValueSteps.{as_number, as_text}
+use Rattle.dbus_value_validator.proofs.ValueSteps.{as_number, as_text, free_value}
 use Rattle.dbus_value_validator.proofs.basic.basic_value.Goals as goal
-
--- a number of a width, any of which is valid
-free_value : (source : Source) (end at wide size depth_left : ℕ) (t : TypeTree) (r : Option ℕ) → 0 < wide → wide ≡ free_width_of t → wide ≡ size
-    → ((index_limit : Option ℕ) (order : Order) (k : NumberCode) → width k ≡ size → IsFree index_limit k → Answers source.bytes.now r (number_value index_limit order end k at (drop at source.bytes.now)))
-    → Answers source.bytes.now r (value_in source depth_left end t at)
-free_value source end at wide size depth_left t r some is same gives =
-    let free = free_is t wide some is in
-    as_number source.bounds source.order depth_left end at source.bytes.now t r free.code free.is (gives source.bounds.fds source.order free.code (free.wide ∙ same) (free.free source.bounds.fds))
 
 pub returns-in-1-clause-gives : goal.returns-in-1-clause-gives
 returns-in-1-clause-gives c = λ depth_left t e basic.

@@ -1,4 +1,4 @@
-use Rattle.std.proofs.Common.{◌≡◌, ℕ, ◌+◌, ◌-◌, ◌<◌, [], Some, None, length, take, drop, true, false, arith, refl, sym, ap, subst, ◌∙◌}
+use Rattle.std.proofs.Common.{◌≡◌, ℕ, ◌+◌, ◌-◌, ◌<◌, [], Some, None, length, take, drop, true, false, arith, refl, sym, ap, subst, ◌∙◌, lit<}
 use Rattle.std.proofs.lemmas.Bool.{eqb-true, eqb-false, eq-eqb, ne_eqb}
 use Rattle.std.proofs.lemmas.List.{length-take, length-drop, append-nil}
 use Rattle.dbus_texts.specs.Types.{TypeTree, NumberType, BOOLEAN, NoTypes, MoreTypes, sig, IsShaped}
@@ -6,14 +6,14 @@ use Rattle.dbus_types.specs.Alignments.{alignment_of}
 use Rattle.dbus_value_model.specs.Reading.{padding, up_to, value}
 use Rattle.dbus_value_model.specs.Values.{NoValues, MoreValues}
 use Rattle.dbus_value_model.specs.ValueReaders.{array_value, struct_value, entry_value}
-use Rattle.dbus_types.proofs.TypeCodes.{no_text_of, code_is, boolean_is, variant_is, array_is, struct_is, entry_is, entry_shaped}
+use Rattle.dbus_types.proofs.TypeCodes.{no_text_of, free_width_by, code_is, boolean_is, variant_is, array_is, struct_is, entry_is, entry_shaped}
 use Rattle.dbus_value_model.proofs.FreeNumbers.{free_is}
 use Rattle.dbus_value_validator.specs.Endings.{Answers, EndsAt}
 use Rattle.dbus_value_validator.proofs.NotedTypes.{part_noted, first_front}
 use Rattle.dbus_value_validator.proofs.NumberArrays.{free_elements, boolean_elements, words_begin}
 use Rattle.dbus_value_validator.proofs.ReadParts.{not_first, answers_unmade}
-use Rattle.dbus_value_validator.proofs.ValueSteps.{leads_all, leads_on, leads_end, lacks_element, lacks_end, too_deep, variant_too_deep, variant_unsigned, variant_answers, array_unframed, array_answers, entry_answers, as_variant, as_array, as_entry}
-use Rattle.dbus_value_validator.proofs.OpenStructs.{all_left, left_ends, left_unread, less_left, struct_unread, structs_left, closed_left, basic_there, variant_there, array_there, struct_outside}
+use Rattle.dbus_value_validator.proofs.ValueSteps.{leads_all, leads_on, leads_end, lacks_element, lacks_end, too_deep, variant_too_deep, variant_unsigned, variant_answers, array_unframed, array_answers, entry_answers, as_variant, as_array, as_entry, free_value}
+use Rattle.dbus_value_validator.proofs.OpenStructs.{all_left, left_ends, left_unread, less_left, struct_unread, structs_left, closed_left, structs_closed, basic_there, variant_there, array_there, struct_outside}
 use Rattle.dbus_value_validator.proofs.values.+values.Goals.{array-then-depth_left-eq0-via-then-depth_left-eq0, array-then-depth_left-eq0-via-else-depth_left-eq0+then-is_empty}
 use Rattle.dbus_value_validator.proofs.values.+values.Goals as goal
 
@@ -59,7 +59,7 @@ all_values-loop-first-preserved-then-code-eq40 t c =
       deep = omega (arith, more.at_most);
       left = λ ts e shaped.
           rw c.from-first.ensures (
-          structs_left source c.args.end c.args.types.now ts c.args.at c.args.depth_left c.repeats-more.result l.place l.first l.depth c.in_ok-place.place (more.some (omega arith) refl) (λ k lt. more.same k lt ∙ c.if-code-eq40.true) more.within (omega (arith, more.at_most)) (l.invariant.left ts e shaped) c.in_ok-place.ensures.gives moves.0 moves.1
+          structs_left source c.args.end c.args.types.now ts c.args.at c.args.depth_left c.repeats-more.result l.place l.first l.depth c.in_ok-place.place more.some (λ k lt. more.same k lt ∙ c.if-code-eq40.true) more.within (omega (arith, more.at_most)) (l.invariant.left ts e shaped) c.in_ok-place.ensures.gives moves.0 moves.1
           );
     }
 
@@ -72,12 +72,16 @@ all_values-returns-then-depth-eq0-clause-gives t c = λ ts e shaped.
 pub all_values-loop-first-preserved-then-code-eq41 : goal.all_values-loop-first-preserved-then-code-eq41
 all_values-loop-first-preserved-then-code-eq41 t c =
     let l = c.loop-first in
+    let closed = c.repeats-closed.ensures in
     record {
       begun = l.invariant.begun;
       at_most = l.invariant.at_most;
-      within = omega arith;
+      within = omega (arith, closed.within);
       deep = omega arith;
-      left = λ ts e shaped. (closed_left c.args.source.now c.args.end c.args.types.now ts c.args.at c.args.depth_left l.place l.first l.depth (omega arith) c.if-code-eq41.true l.invariant.deep (l.invariant.left ts e shaped)).1;
+      left = λ ts e shaped.
+          rw c.from-first-then-code-eq41.ensures (
+          structs_closed c.args.source.now c.args.end c.args.types.now ts c.args.at c.args.depth_left c.repeats-closed.result l.place l.first l.depth (λ k lt. closed.same k lt ∙ c.if-code-eq41.true) closed.within l.invariant.deep (l.invariant.left ts e shaped)
+          );
     }
 
 pub all_values-array-requires : goal.all_values-array-requires
@@ -152,11 +156,11 @@ all_values-returns-in_err-place-4-clause-gives t c = λ ts e shaped.
     rw c.from_residual-in_err-place-4.ensures (
     left_unread source c.args.end c.args.types.now ts c.args.at c.args.depth_left l.place l.first l.depth (omega arith) c.if-code-eq41.false (l.invariant.left ts e shaped) (λ u more is whole.
     let w = basic_there c.args.types.now l.first (omega arith) c.if-code-eq97.false c.if-code-eq40.false c.if-code-eq118.false u more is whole in
-    c.in_err-place-4.ensures.gives (c.args.depth_left - l.depth) u w.0 w.1)
+    free_value source c.args.end l.place 1 1 (c.args.depth_left - l.depth) u None (lit< tt) (free_width_by 121 1 refl u (w.0 ∙ c.if-code-eq121.true)) refl c.in_err-place-4.ensures.gives)
     )
 
-pub all_values-loop-first-preserved : goal.all_values-loop-first-preserved
-all_values-loop-first-preserved t c =
+pub all_values-loop-first-preserved-then-code-eq121 : goal.all_values-loop-first-preserved-then-code-eq121
+all_values-loop-first-preserved-then-code-eq121 t c =
     let source = c.args.source.now in
     let l = c.loop-first in
     let moves = c.in_ok-place-4.ensures.moves in
@@ -168,7 +172,33 @@ all_values-loop-first-preserved t c =
       left = λ ts e shaped.
           less_left source c.args.end c.args.types.now ts c.args.at c.args.depth_left l.place l.first l.depth (omega arith) c.if-code-eq41.false (l.invariant.left ts e shaped) (l.first + 1) c.in_ok-place-4.place (λ u more is whole.
           let w = basic_there c.args.types.now l.first (omega arith) c.if-code-eq97.false c.if-code-eq40.false c.if-code-eq118.false u more is whole in
-          (w.2, c.in_ok-place-4.ensures.gives (c.args.depth_left - l.depth) u w.0 w.1));
+          (w.2, free_value source c.args.end l.place 1 1 (c.args.depth_left - l.depth) u (Some c.in_ok-place-4.place) (lit< tt) (free_width_by 121 1 refl u (w.0 ∙ c.if-code-eq121.true)) refl c.in_ok-place-4.ensures.gives));
+    }
+
+pub all_values-returns-in_err-place-5-clause-gives : goal.all_values-returns-in_err-place-5-clause-gives
+all_values-returns-in_err-place-5-clause-gives t c = λ ts e shaped.
+    let source = c.args.source.now in
+    let l = c.loop-first in
+    rw c.from_residual-in_err-place-5.ensures (
+    left_unread source c.args.end c.args.types.now ts c.args.at c.args.depth_left l.place l.first l.depth (omega arith) c.if-code-eq41.false (l.invariant.left ts e shaped) (λ u more is whole.
+    let w = basic_there c.args.types.now l.first (omega arith) c.if-code-eq97.false c.if-code-eq40.false c.if-code-eq118.false u more is whole in
+    c.in_err-place-5.ensures.gives (c.args.depth_left - l.depth) u w.0 w.1)
+    )
+
+pub all_values-loop-first-preserved : goal.all_values-loop-first-preserved
+all_values-loop-first-preserved t c =
+    let source = c.args.source.now in
+    let l = c.loop-first in
+    let moves = c.in_ok-place-5.ensures.moves in
+    record {
+      begun = omega (arith, moves.0);
+      at_most = moves.1;
+      within = omega arith;
+      deep = l.invariant.deep;
+      left = λ ts e shaped.
+          less_left source c.args.end c.args.types.now ts c.args.at c.args.depth_left l.place l.first l.depth (omega arith) c.if-code-eq41.false (l.invariant.left ts e shaped) (l.first + 1) c.in_ok-place-5.place (λ u more is whole.
+          let w = basic_there c.args.types.now l.first (omega arith) c.if-code-eq97.false c.if-code-eq40.false c.if-code-eq118.false u more is whole in
+          (w.2, c.in_ok-place-5.ensures.gives (c.args.depth_left - l.depth) u w.0 w.1));
     }
 
 pub all_values-returns-clause-gives : goal.all_values-returns-clause-gives
