@@ -36,7 +36,7 @@ pub fn layout<'a>(source: &Source<'a>, spot: &Spot<'_>) -> Layout<'a>
         b'v' => variant(source, spot),
         b'a' => Layout::Array(array(source, spot)),
         brackets => {
-            let start = spot.at + gap(8, spot.at);
+            let start = spot.at + parts_gap(spot.at);
             if brackets == b'(' {
                 return Layout::Struct { start };
             }
@@ -59,6 +59,15 @@ fn number_gap(size: u8, at: usize) -> usize
         return gap(8, at);
     }
     gap(size, at)
+}
+
+/// How far it is to where the parts of a struct or a dict entry begin: [`gap`], in three instructions.
+#[inline(always)]
+#[tactic(auto, unfolding(dbus_value_model::specs::Bytes::gap_to))]
+fn parts_gap(at: usize) -> usize
+    ensures { result ≡ gap_to 8 at }
+{
+    (8 - at % 8) % 8
 }
 
 /// A STRING or an OBJECT_PATH.

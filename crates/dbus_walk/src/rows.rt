@@ -30,7 +30,7 @@ pub(crate) fn known_row(types: &[u8], lengths: &[u8], known: usize) -> usize
     ensures { IsRow types.now lengths.now result }
 {
     // A struct that opens alone is walked the same with no row.
-    if known > 0 || types[1] != b'(' {
+    if known > 0 || usize::from(lengths[1]) != types.len() - 2 || types[1] != b'(' {
         return known;
     }
     row_of(types, lengths)

@@ -5,15 +5,16 @@
 //! D-Bus Specification, "Marshaling (Wire Format)".
 #![tactic(auto)]
 
-ghost use Rattle.std.specs.Prelude.{◌≡◌, ℕ, ◌+◌, ◌≤◌, List, length, IfOk};
+ghost use Rattle.std.specs.Prelude.{◌≡◌, ℕ, ◌+◌, ◌<◌, ◌≤◌, ◌⊎◌, List, length, IfOk};
 ghost use Rattle.dbus_texts.specs.Kinds.{IsKind};
 ghost use Rattle.dbus_texts.specs.declared.text_kind.TextKind.TheVariants.{Single};
 ghost use Rattle.dbus_types.specs.TypeLengths.{AreLengths};
 ghost use Rattle.dbus_value_model.specs.Bytes.{gap_to};
 ghost use Rattle.dbus_value_model.specs.Values.{ValueTree, ValueTrees, StructValue, VariantValue, value_trees};
-ghost use Rattle.dbus_walk.specs.Containers.{inside};
+ghost use Rattle.dbus_walk.specs.Containers.{IsOf, inside, parts};
+ghost use Rattle.dbus_walk.specs.declared.container.Container.TheVariants.{Struct, Entry};
 ghost use Rattle.dbus_walk.specs.Rows.{IsRow, FieldsStandAt};
-ghost use Rattle.dbus_walk.specs.Layouts.{IsVariantAt, IsArrayAt, IsEntryAt, IsRunAt};
+ghost use Rattle.dbus_walk.specs.Layouts.{IsVariantAt, IsArrayAt, IsStructAt, IsEntryAt, IsRunAt};
 ghost use Rattle.dbus_walk.specs.Standing.{StandsAt, StandsThere, AllStandAt, AllStandThere, ElementsStandAt, ElementsStandThere, end_of, end_of_all};
 
 use crate::container::Container;
@@ -79,17 +80,7 @@ fn value<V: Visitor>(
         }
         Layout::Variant { types, at } => variant(visitor, gathered, source, spot, types, at),
         Layout::Array(run) => array(visitor, gathered, source, spot, run),
-        Layout::Struct { start } => {
-            let mut held = Spot {
-                at: start,
-                types: spot.types,
-                lengths: spot.lengths,
-                depth_left: spot.depth_left - 1,
-            };
-            let row = known_row(spot.types, spot.lengths, row);
-            nested(visitor, gathered, source, &mut held, 0, row)?;
-            Ok(held.at)
-        }
+        Layout::Struct { start } => structure(visitor, gathered, source, spot, start, row),
         Layout::Entry { start } => entry(visitor, gathered, source, spot, start),
     }
 }
@@ -266,6 +257,7 @@ fn entry<V: Visitor>(
     requires ready { V.ready visitor.old (length source.now.bytes.now) }
     requires stands { StandsThere source.now spot.now }
     requires noted { AreLengths spot.now.types.now spot.now.lengths.now }
+    requires long { 2 ≤ length spot.now.types.now }
     requires laid { (v : ValueTree) (rest : List ℕ) → StandsAt source.now spot.now v rest →
         IsEntryAt source.now spot.now v rest start }
     ensures ready { V.ready visitor.new (length source.now.bytes.now) }
@@ -273,18 +265,110 @@ fn entry<V: Visitor>(
         IfOk result (λ after. V.one visitor.old gathered.old source.now.order spot.now.at v gathered.new visitor.new ×
         (after ≡ end_of source.now spot.now v)) }
 {
+    let end = spot.types.len() - 1;
+    let mut held = Spot {
+        at: start,
+        types: &spot.types[1..end],
+        lengths: &spot.lengths[1..end],
+        depth_left: spot.depth_left,
+    };
+    whole(visitor, gathered, source, &mut held, Container::Entry)?;
+    Ok(held.at)
+}
+
+/// A struct, by where its first field begins.
+#[cycle(walk)]
+#[inline(always)]
+fn structure<V: Visitor>(
+    visitor: &mut V,
+    gathered: &mut V::Many,
+    source: &Source<'_>,
+    spot: &Spot<'_>,
+    start: usize,
+    row: usize,
+) -> Result<usize, V::Stop>
+    requires ready { V.ready visitor.old (length source.now.bytes.now) }
+    requires stands { StandsThere source.now spot.now }
+    requires noted { AreLengths spot.now.types.now spot.now.lengths.now }
+    requires together { IsRow spot.now.types.now spot.now.lengths.now row }
+    requires long { 2 ≤ length spot.now.types.now }
+    requires deep { 0 < spot.now.depth_left }
+    requires laid { (v : ValueTree) (rest : List ℕ) → StandsAt source.now spot.now v rest →
+        IsStructAt source.now spot.now v rest start }
+    ensures ready { V.ready visitor.new (length source.now.bytes.now) }
+    ensures walked { (v : ValueTree) (rest : List ℕ) → StandsAt source.now spot.now v rest →
+        IfOk result (λ after. V.one visitor.old gathered.old source.now.order spot.now.at v gathered.new visitor.new ×
+        (after ≡ end_of source.now spot.now v)) }
+{
+    let row = known_row(spot.types, spot.lengths, row);
+    if row < 2 {
+        let end = spot.types.len() - 1;
+        let mut alone = Spot {
+            at: start,
+            types: &spot.types[1..end],
+            lengths: &spot.lengths[1..end],
+            depth_left: spot.depth_left - 1,
+        };
+        whole(visitor, gathered, source, &mut alone, Container::Struct)?;
+        return Ok(alone.at);
+    }
     let mut held = Spot {
         at: start,
         types: spot.types,
         lengths: spot.lengths,
-        depth_left: spot.depth_left,
+        depth_left: spot.depth_left - 1,
     };
-    let types = &spot.types[1..spot.types.len() - 1];
-    let length = source.bytes.len();
-    let mut many = visitor.open(gathered, Container::Entry, types, length)?;
-    fields(visitor, &mut many, source, &mut held, 0)?;
-    visitor.close(gathered, Container::Entry, many, length)?;
+    nested(visitor, gathered, source, &mut held, 0, row)?;
     Ok(held.at)
+}
+
+/// A struct or a dict entry, by its parts. The spot, at which they begin, moves to their end.
+#[cycle(walk)]
+#[inline(always)]
+fn whole<V: Visitor>(
+    visitor: &mut V,
+    gathered: &mut V::Many,
+    source: &Source<'_>,
+    spot: &mut Spot<'_>,
+    kind: Container,
+) -> Result<(), V::Stop>
+    requires ready { V.ready visitor.old (length source.now.bytes.now) }
+    requires stand { AllStandThere source.now spot.old }
+    requires noted { AreLengths spot.old.types.now spot.old.lengths.now }
+    requires kind { (kind ≡ Struct) ⊎ (kind ≡ Entry) }
+    ensures ready { V.ready visitor.new (length source.now.bytes.now) }
+    ensures walked { (at : ℕ) (v : ValueTree) (rest : List ℕ) → IsOf kind v →
+        AllStandAt source.now spot.old (parts v) rest → spot.old.at ≡ inside source.now.order at v →
+        IfOk result (λ _. V.one visitor.old gathered.old source.now.order at v gathered.new visitor.new ×
+        (spot.new.at ≡ end_of_all source.now spot.old (parts v))) }
+{
+    let length = source.bytes.len();
+    let mut many = visitor.open(gathered, kind, spot.types, length)?;
+    listed(visitor, &mut many, source, spot)?;
+    visitor.close(gathered, kind, many, length)?;
+    Ok(())
+}
+
+/// The parts of a struct or a dict entry. The spot, at which they begin, moves to their end.
+#[cycle(walk)]
+#[inline(never)]
+fn listed<V: Visitor>(
+    visitor: &mut V,
+    gathered: &mut V::Many,
+    source: &Source<'_>,
+    spot: &mut Spot<'_>,
+) -> Result<(), V::Stop>
+    requires ready { V.ready visitor.old (length source.now.bytes.now) }
+    requires stand { AllStandThere source.now spot.old }
+    requires noted { AreLengths spot.old.types.now spot.old.lengths.now }
+    ensures ready { V.ready visitor.new (length source.now.bytes.now) }
+    ensures walked { (vs : ValueTrees) (rest : List ℕ) → AllStandAt source.now spot.old vs rest →
+        IfOk result (λ _. ((xs : List ValueTree) × (vs ≡ value_trees xs) ×
+        V.many visitor.old gathered.old source.now.order spot.old.at xs gathered.new visitor.new) ×
+        (spot.new.at ≡ end_of_all source.now spot.old vs)) }
+{
+    spot.at = walk_values(visitor, gathered, source, spot)?;
+    Ok(())
 }
 
 /// A struct around which `outer` others are open that [`row_of`] counts. The spot, at which the first field of each begins, moves to
@@ -353,7 +437,7 @@ fn nested_fields<V: Visitor>(
     fields(visitor, gathered, source, spot, outer)
 }
 
-/// The parts of a struct or a dict entry around which `outer` others are open. The spot moves to their end.
+/// The fields of the innermost of structs that open together. The spot moves to their end.
 #[cycle(walk)]
 #[inline(never)]
 fn fields<V: Visitor>(

@@ -35,11 +35,11 @@ overflow_add-start c =
     let none : 0 < number_width type → ⊥ = λ some. omega (arith, some, c.if-size-gt0.false, c.number_width-size.ensures.value type code) in
     let not = c.in_default in
     let enclosed = enclosed_is type code none (λ e. omega (arith, not, e)) (λ e. omega (arith, not, e)) (λ e. omega (arith, not, e)) (λ e. omega (arith, not, e)) (λ e. omega (arith, not, e)) in
-    omega (arith, enclosed_within s enclosed, c.gap.ensures)
+    omega (arith, enclosed_within s enclosed, c.parts_gap.ensures)
 
 pub returns-then-brackets-eq40 : goal.returns-then-brackets-eq40
 returns-then-brackets-eq40 c = λ v rest s.
-    struct_laid c.args.source.now c.args.spot.now v rest s (c.args.spot.now.at + c.gap.result) c.if-brackets-eq40.true (omega (arith, c.gap.ensures))
+    struct_laid c.args.source.now c.args.spot.now v rest s (c.args.spot.now.at + c.parts_gap.result) c.if-brackets-eq40.true (omega (arith, c.parts_gap.ensures))
 
 pub returns-else-brackets-eq40 : goal.returns-else-brackets-eq40
 returns-else-brackets-eq40 c = λ v rest s.
@@ -48,4 +48,4 @@ returns-else-brackets-eq40 c = λ v rest s.
     let none : 0 < number_width type → ⊥ = λ some. omega (arith, some, c.if-size-gt0.false, c.number_width-size.ensures.value type code) in
     let not = c.in_default in
     let enclosed = enclosed_is type code none (λ e. omega (arith, not, e)) (λ e. omega (arith, not, e)) (λ e. omega (arith, not, e)) (λ e. omega (arith, not, e)) (λ e. omega (arith, not, e)) in
-    entry_laid c.args.source.now c.args.spot.now v rest s (c.args.spot.now.at + c.gap.result) (entry_left enclosed c.if-brackets-eq40.false) (omega (arith, c.gap.ensures))
+    entry_laid c.args.source.now c.args.spot.now v rest s (c.args.spot.now.at + c.parts_gap.result) (entry_left enclosed c.if-brackets-eq40.false) (omega (arith, c.parts_gap.ensures))

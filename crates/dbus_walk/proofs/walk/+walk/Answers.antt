@@ -1,12 +1,12 @@
-use Rattle.std.proofs.Common.{◌≡◌, ℕ, ◌+◌, ◌-◌, ◌≤◌, List, [], ◌∷◌, ◌++◌, length, drop, Bool, true, false, refl, sym, ap, subst, ◌∙◌, arith, append-nil}
-use Rattle.dbus_texts.specs.Types.{sig, sigs}
+use Rattle.std.proofs.Common.{◌≡◌, ℕ, ◌+◌, ◌-◌, ◌≤◌, List, [], ◌∷◌, ◌++◌, length, drop, Bool, true, false, refl, sym, ap, subst, ◌∙◌, arith, append-nil, inl, inr}
+use Rattle.dbus_texts.specs.Types.{sig}
 use Rattle.dbus_value_model.specs.Bytes.{gap_to}
 use Rattle.std.proofs.lemmas.List.{length-take}
 use Rattle.dbus_types.specs.SignatureCodes.{IsTypeEnd, first_code}
 use Rattle.dbus_types.proofs.TypeCodes.{code_is}
 use Rattle.dbus_types.proofs.TypeLengths.{ends_by, lengths_within, lengths_rest, one_length}
 use Rattle.dbus_value_model.specs.Spelling.{spelling, spellings}
-use Rattle.dbus_value_model.specs.Values.{ValueTree, ValueTrees, NoValues, MoreValues, VariantValue, StructValue, type_of, types_of}
+use Rattle.dbus_value_model.specs.Values.{ValueTree, ValueTrees, NoValues, MoreValues, VariantValue, StructValue, EntryValue, type_of}
 use Rattle.dbus_value_laws.proofs.ReadSteps.{one_byte}
 use Rattle.dbus_walk.specs.declared.container.Container.TheVariants as kind
 use Rattle.dbus_walk.specs.Standing.{AllStand, ElementsStand}
@@ -264,27 +264,8 @@ pub value-returns-in_ok-short_text-in-ShortText-clause-walked : goal.value-retur
 value-returns-in_ok-short_text-in-ShortText-clause-walked g t c = λ v rest s. let p = laid_as c.args.source.now c.args.spot.now c.in-ShortText.is c.layout.ensures v rest s in (c.in_ok-short_text-in-ShortText.ensures.takes v rest s, p.ends)
 
 pub value-entry-requires : goal.value-entry-requires
-value-entry-requires g t c κs within = (omega (arith, types_some c.requires.stands.2), (within.0, (within.1.0, (within.1.1, (c.requires.ready, (c.requires.stands, (c.requires.noted, laid_as c.args.source.now c.args.spot.now c.in-Entry.is c.layout.ensures)))))))
-
-pub entry-fields-requires : goal.entry-fields-requires
-entry-fields-requires g t c κs within =
-    let s = c.requires.stands in
-    let p = c.requires.laid s.0 s.1 s.2 in
-    let types = c.args.spot.now.types.now in
-    (omega (arith, p.long, between_long types 1), (within.0, (within.1.0, (within.1.1, (c.in_ok-many.ensures.ready, ((MoreValues p.x (MoreValues p.y NoValues), s.1, outermost c.args.spot.now.depth_left p.held), (c.requires.noted, (p.long, omega arith))))))))
-
-pub entry-returns-clause-walked : goal.entry-returns-clause-walked
-entry-returns-clause-walked g t c = λ v rest s.
-    let p = c.requires.laid v rest s in
-    let order = c.args.source.now.order in
-    let at = c.args.spot.now.at in
-    let held = c.in_ok-fields.ensures.walked (MoreValues p.x (MoreValues p.y NoValues)) rest (outermost c.args.spot.now.depth_left p.held) in
-    let is_of : IsOf kind.Entry v = subst (IsOf kind.Entry) (sym p.is) tt in
-    let text = ap (λ (u : ValueTree). sigs (types_of (parts u))) p.is ∙ p.held.text in
-    let many = subst (λ (q : ℕ). g.V.Visitor.many c.open.new.self c.in_ok-many.many order q held.0.0 c.fields.new.gathered c.fields.new.visitor) p.begins held.0.2 in (
-      g.met.V.Visitor.whole c.args.visitor.now c.open.new.self c.fields.new.visitor c.close.new.self c.args.gathered.now c.in_ok-many.many c.fields.new.gathered c.close.new.gathered kind.Entry order at v held.0.0 is_of (c.in_ok-many.ensures.takes order at v is_of text) (ap parts p.is ∙ held.0.1) many (c.in_ok-close.ensures.takes v is_of),
-      held.1 ∙ p.ends,
-    )
+value-entry-requires g t c κs within = let s = c.requires.stands in let p = laid_as c.args.source.now c.args.spot.now c.in-Entry.is c.layout.ensures in
+    (omega (arith, types_some s.2), (within.0, (within.1.0, (within.1.1, (c.requires.ready, (s, (c.requires.noted, ((p s.0 s.1 s.2).long, p))))))))
 
 pub nested-nested_fields-requires : goal.nested-nested_fields-requires
 nested-nested_fields-requires g t c κs within = (omega arith, (within.0, (within.1.0, (within.1.1, (c.in_ok-many.ensures.ready, (c.requires.stand, (c.requires.noted, (c.requires.together, (c.requires.long, (c.requires.deep, c.requires.padded))))))))))
@@ -316,12 +297,6 @@ fields-walk_values-requires g t c κs within =
     let first = c.args.outer + 1 in
     (omega arith, (within.0, (within.1.0, (within.1.1, (c.requires.ready, (c.requires.stand, lengths_within types c.args.spot.now.lengths.now c.requires.noted first (length types - first - first)))))))
 
-pub entry-slice_bounds-types-count : goal.entry-slice_bounds-types-count
-entry-slice_bounds-types-count g t c = let s = c.requires.stands in omega (arith, (c.requires.laid s.0 s.1 s.2).long)
-
-pub entry-slice_bounds-types-start : goal.entry-slice_bounds-types-start
-entry-slice_bounds-types-start g t c = let s = c.requires.stands in omega (arith, (c.requires.laid s.0 s.1 s.2).long)
-
 pub nested_fields-returns-then-first-row-clause-walked : goal.nested_fields-returns-then-first-row-clause-walked
 nested_fields-returns-then-first-row-clause-walked g t c = λ vs rest a.
     let order = c.args.source.now.order in
@@ -337,25 +312,68 @@ nested_fields-returns-then-first-row-clause-walked g t c = λ vs rest a.
 pub walk_value-value-requires : goal.walk_value-value-requires
 walk_value-value-requires g t c κs within = (omega arith, (within.0, (within.1.0, (within.1.1, (c.requires.ready, (c.requires.stands, (c.requires.noted, no_row)))))))
 
-pub value-overflow_sub-held : goal.value-overflow_sub-held
-value-overflow_sub-held g t c = let s = c.requires.stands in let p = laid_as c.args.source.now c.args.spot.now c.in-Struct.is c.layout.ensures s.0 s.1 s.2 in omega (arith, p.some)
+pub value-structure-requires : goal.value-structure-requires
+value-structure-requires g t c κs within = let s = c.requires.stands in let p = laid_as c.args.source.now c.args.spot.now c.in-Struct.is c.layout.ensures in
+    (omega (arith, types_some s.2), (within.0, (within.1.0, (within.1.1, (c.requires.ready, (s, (c.requires.noted, (c.requires.together, ((p s.0 s.1 s.2).long, ((p s.0 s.1 s.2).some, p))))))))))
 
-pub value-known_row-row-requires-clause-long : goal.value-known_row-row-requires-clause-long
-value-known_row-row-requires-clause-long g t c = let s = c.requires.stands in let p = laid_as c.args.source.now c.args.spot.now c.in-Struct.is c.layout.ensures s.0 s.1 s.2 in p.long
-
-pub value-nested-requires : goal.value-nested-requires
-value-nested-requires g t c κs within =
+pub structure-whole-requires : goal.structure-whole-requires
+structure-whole-requires g t c κs within =
     let s = c.requires.stands in
-    let p = laid_as c.args.source.now c.args.spot.now c.in-Struct.is c.layout.ensures s.0 s.1 s.2 in
+    let p = c.requires.laid s.0 s.1 s.2 in
+    let types = c.args.spot.now.types.now in
+    (omega (arith, p.some, p.long, between_long types 1), (within.0, (within.1.0, (within.1.1, (c.requires.ready, ((p.xs, s.1, p.held), (lengths_within types c.args.spot.now.lengths.now c.requires.noted 1 (length types - 1 - 1), inl refl)))))))
+
+pub structure-returns-then-row-lt2-clause-walked : goal.structure-returns-then-row-lt2-clause-walked
+structure-returns-then-row-lt2-clause-walked g t c = λ v rest s.
+    let p = c.requires.laid v rest s in
+    let order = c.args.source.now.order in
+    let at = c.args.spot.now.at in
+    let w = c.in_ok-whole.ensures.walked at (StructValue p.xs) rest tt p.held (p.begins ∙ ap (inside order at) p.is) in
+    (subst (λ (u : ValueTree). g.V.Visitor.one c.args.visitor.now c.args.gathered.now order at u c.whole.new.gathered c.whole.new.visitor) (sym p.is) w.0, w.1 ∙ p.ends)
+
+pub structure-nested-requires : goal.structure-nested-requires
+structure-nested-requires g t c κs within =
+    let s = c.requires.stands in
+    let p = c.requires.laid s.0 s.1 s.2 in
     let order = c.args.source.now.order in
     let at = c.args.spot.now.at in
     let padded = ap (gap_to 8) (p.begins ∙ ap (inside order at) p.is) ∙ aligned at in
     (omega (arith, p.some, p.long, between_long c.args.spot.now.types.now 1), (within.0, (within.1.0, (within.1.1, (c.requires.ready, ((p.xs, s.1, outermost (c.args.spot.now.depth_left - 1) p.held), (c.requires.noted, (c.known_row-row.ensures, (p.long, (omega arith, padded))))))))))
 
-pub value-returns-in_ok-nested-in-Struct-clause-walked : goal.value-returns-in_ok-nested-in-Struct-clause-walked
-value-returns-in_ok-nested-in-Struct-clause-walked g t c = λ v rest s.
-    let p = laid_as c.args.source.now c.args.spot.now c.in-Struct.is c.layout.ensures v rest s in
+pub structure-returns-clause-walked : goal.structure-returns-clause-walked
+structure-returns-clause-walked g t c = λ v rest s.
+    let p = c.requires.laid v rest s in
     let order = c.args.source.now.order in
     let at = c.args.spot.now.at in
-    let w = c.in_ok-nested-in-Struct.ensures.walked at p.xs rest (p.begins ∙ ap (inside order at) p.is) (outermost (c.args.spot.now.depth_left - 1) p.held) in
+    let w = c.in_ok-nested.ensures.walked at p.xs rest (p.begins ∙ ap (inside order at) p.is) (outermost (c.args.spot.now.depth_left - 1) p.held) in
     (subst (λ (u : ValueTree). g.V.Visitor.one c.args.visitor.now c.args.gathered.now order at u c.nested.new.gathered c.nested.new.visitor) (sym p.is) w.0, w.1 ∙ p.ends)
+
+pub entry-whole-requires : goal.entry-whole-requires
+entry-whole-requires g t c κs within =
+    let s = c.requires.stands in
+    let p = c.requires.laid s.0 s.1 s.2 in
+    let types = c.args.spot.now.types.now in
+    (omega (arith, p.long, between_long types 1), (within.0, (within.1.0, (within.1.1, (c.requires.ready, ((MoreValues p.x (MoreValues p.y NoValues), s.1, p.held), (lengths_within types c.args.spot.now.lengths.now c.requires.noted 1 (length types - 1 - 1), inr refl)))))))
+
+pub entry-returns-clause-walked : goal.entry-returns-clause-walked
+entry-returns-clause-walked g t c = λ v rest s.
+    let p = c.requires.laid v rest s in
+    let order = c.args.source.now.order in
+    let at = c.args.spot.now.at in
+    let w = c.in_ok-whole.ensures.walked at (EntryValue p.x p.y) rest tt p.held (p.begins ∙ ap (inside order at) p.is) in
+    (subst (λ (u : ValueTree). g.V.Visitor.one c.args.visitor.now c.args.gathered.now order at u c.whole.new.gathered c.whole.new.visitor) (sym p.is) w.0, w.1 ∙ p.ends)
+
+pub whole-listed-requires : goal.whole-listed-requires
+whole-listed-requires g t c κs within = (omega arith, (within.0, (within.1.0, (within.1.1, (c.in_ok-many.ensures.ready, (c.requires.stand, c.requires.noted))))))
+
+pub whole-returns-clause-walked : goal.whole-returns-clause-walked
+whole-returns-clause-walked g t c = λ at v rest is_of a begins.
+    let order = c.args.source.now.order in
+    let held = c.in_ok-listed.ensures.walked (parts v) rest a in
+    let many = subst (λ (q : ℕ). g.V.Visitor.many c.open.new.self c.in_ok-many.many order q held.0.0 c.listed.new.gathered c.listed.new.visitor) begins held.0.2 in (
+      g.met.V.Visitor.whole c.args.visitor.now c.open.new.self c.listed.new.visitor c.close.new.self c.args.gathered.now c.in_ok-many.many c.listed.new.gathered c.close.new.gathered c.args.kind order at v held.0.0 is_of (c.in_ok-many.ensures.takes order at v is_of a.text) held.0.1 many (c.in_ok-close.ensures.takes v is_of),
+      held.1,
+    )
+
+pub listed-walk_values-requires : goal.listed-walk_values-requires
+listed-walk_values-requires g t c κs within = (omega arith, (within.0, (within.1.0, (within.1.1, (c.requires.ready, (c.requires.stand, c.requires.noted))))))

@@ -34,6 +34,15 @@ decreases-elements g l = 4 * (256 * l.spot.now.depth_left + length l.spot.now.ty
 abbrev pub decreases-entry : goal.decreases-entry
 decreases-entry g l = 4 * (256 * l.spot.now.depth_left + length l.spot.now.types.now) - 1
 
+abbrev pub decreases-structure : goal.decreases-structure
+decreases-structure g l = 4 * (256 * l.spot.now.depth_left + length l.spot.now.types.now) - 1
+
+abbrev pub decreases-whole : goal.decreases-whole
+decreases-whole g l = 4 * (256 * l.spot.now.depth_left + length l.spot.now.types.now) + 4
+
+abbrev pub decreases-listed : goal.decreases-listed
+decreases-listed g l = 4 * (256 * l.spot.now.depth_left + length l.spot.now.types.now) + 3
+
 abbrev pub decreases-nested : goal.decreases-nested
 decreases-nested g l = 4 * (256 * (l.spot.now.depth_left - l.outer) + length (between (l.outer + 1) l.spot.now.types.now)) + 5
 
