@@ -1,17 +1,16 @@
 -- The first of the values at a cursor.
-use Rattle.std.proofs.Common.{◌≡◌, ◌⊎◌, ℕ, ◌+◌, ◌<◌, ◌≤◌, ◌^◌, List, ◌++◌, length, take, drop, true, None, refl, sym, ap, subst, ◌∙◌, arith, append_assoc, inl, inr}
+use Rattle.std.proofs.Common.{◌≡◌, ℕ, ◌+◌, ◌<◌, ◌≤◌, List, ◌++◌, length, take, drop, true, refl, sym, ap, subst, ◌∙◌, arith, append_assoc, inl, inr}
 use Rattle.std.proofs.lemmas.List.{length-append}
 use Rattle.dbus_texts.specs.Types.{TypeTree, IsShaped, sig}
 use Rattle.dbus_texts.specs.ComputedKinds.{type_spelled}
 use Rattle.dbus_texts.proofs.TypeTexts.{spelled_sig}
-use Rattle.dbus_value_model.specs.declared.limits.Bounds.{Bounds}
 use Rattle.dbus_value_model.specs.declared.limits.TheConstants.{ARRAY_LIMIT, DEPTH_LIMIT}
 use Rattle.dbus_value_model.specs.declared.order.Order.{Order}
 use Rattle.dbus_value_model.specs.declared.order.Order.TheVariants.{Little, Big}
 use Rattle.dbus_value_model.specs.Specification.{specification}
 use Rattle.dbus_value_model.specs.Bounds.{bounds_of}
-use Rattle.dbus_value_model.specs.Spelling.{spelling, spellings, Spelled, IsWithinLimits}
-use Rattle.dbus_value_model.specs.Values.{ValueTree, ValueTrees, NoValues, MoreValues, type_of, IsWellFormed, AreWellFormed}
+use Rattle.dbus_value_model.specs.Spelling.{spelling, spellings, Spelled}
+use Rattle.dbus_value_model.specs.Values.{ValueTree, ValueTrees, NoValues, MoreValues, type_of, AreWellFormed}
 use Rattle.dbus_value_model.proofs.Indexes.{any_below}
 use Rattle.dbus_value_laws.proofs.ValueOutcomes.{one_value}
 use Rattle.dbus_value_laws.proofs.ValueSteps.{shaped_inside}

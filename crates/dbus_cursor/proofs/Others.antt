@@ -1,18 +1,17 @@
 -- The values at a cursor after the first.
-use Rattle.std.proofs.Common.{◌≡◌, ◌⊎◌, ℕ, ◌+◌, ◌-◌, ◌<◌, ◌≤◌, List, ◌++◌, length, take, drop, refl, sym, ap, subst, ◌∙◌, arith, inl, inr, append_assoc}
+use Rattle.std.proofs.Common.{◌≡◌, ℕ, ◌+◌, ◌-◌, ◌≤◌, List, ◌++◌, length, take, drop, refl, sym, ap, subst, ◌∙◌, arith, inl, inr, append_assoc}
 use Rattle.std.proofs.lemmas.List.{length-append, length-take, drop_at, drop-take, drop-drop}
 use Rattle.dbus_texts.specs.Types.{TypeTrees, sig, sigs, AreComplete}
 use Rattle.dbus_texts.specs.Kinds.{IsKind}
 use Rattle.dbus_texts.specs.declared.text_kind.TextKind.TheVariants.{Signature}
 use Rattle.dbus_texts.proofs.TypeTexts.{sigs_same}
-use Rattle.dbus_value_model.specs.declared.order.Order.{Order}
 use Rattle.dbus_value_model.specs.Spelling.{spelling, spellings}
 use Rattle.dbus_value_model.specs.Values.{ValueTree, ValueTrees, MoreValues, type_of, types_of}
 use Rattle.dbus_walk.proofs.Lists.{other_elements}
 use Rattle.dbus_walk.proofs.Seams.{there_within, stands_after}
-use Rattle.dbus_cursor.specs.Cursors.{AreAt, AreOfSignature, AreOfArray, types_at}
+use Rattle.dbus_cursor.specs.Cursors.{AreAt, types_at}
 use Rattle.dbus_cursor.specs.declared.cursor.Cursor.{Cursor}
-use Rattle.dbus_cursor.proofs.Heads.{first_spelled, positive, ends_before, whole}
+use Rattle.dbus_cursor.proofs.Heads.{first_spelled, positive}
 
 -- the cursor past the first value: at an array's elements the types stay
 abbrev pub past_element : Cursor → ℕ → Cursor

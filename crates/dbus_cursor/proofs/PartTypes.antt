@@ -1,5 +1,5 @@
 -- The types of a container's parts: they are those of a signature too.
-use Rattle.std.proofs.Common.{◌≡◌, ℕ, ◌+◌, ◌<◌, ◌≤◌, Bool, true, false, [], ◌∷◌, ◌++◌, List, length, append-nil, length-append, refl, sym, ap, arith}
+use Rattle.std.proofs.Common.{ℕ, ◌+◌, ◌≤◌, Bool, true, false, [], ◌∷◌, ◌++◌, length, append-nil, length-append, refl, sym, ap, arith}
 use Rattle.dbus_texts.specs.Types.{TypeTree, TypeTrees, NumberType, TextType, VariantType, ArrayType, StructType, EntryType, NoTypes, MoreTypes, sig, sigs, IsBasic, IsComplete, AreComplete, IsSingleType}
 use Rattle.dbus_texts.specs.Kinds.{IsKind}
 use Rattle.dbus_texts.specs.declared.text_kind.TextKind.TheVariants.{Signature, Single}

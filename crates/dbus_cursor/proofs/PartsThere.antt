@@ -1,7 +1,7 @@
 -- What is told of a value that stands in the bytes, and of its parts.
 use Rattle.std.proofs.Common.{false, ◌≡◌, ℕ, ◌+◌, ◌-◌, ◌<◌, ◌≤◌, List, [], ◌∷◌, ◌++◌, length, get_or, take, take_all, drop, refl, sym, ap, subst, ◌∙◌, arith, append_assoc, append-nil, inl, inr}
 use Rattle.std.proofs.lemmas.List.{length-append, length-take, length-drop, take-append-drop, take_at}
-use Rattle.dbus_texts.specs.Types.{TypeTree, ArrayType, StructType, EntryType, NoTypes, MoreTypes, sig, sigs, IsSingleType}
+use Rattle.dbus_texts.specs.Types.{ArrayType, EntryType, sig, sigs}
 use Rattle.dbus_texts.specs.Kinds.{IsKind}
 use Rattle.dbus_texts.specs.declared.text_kind.TextKind.TheVariants.{Signature, Single}
 use Rattle.dbus_texts.proofs.TypeTexts.{shaped_of}
@@ -15,7 +15,7 @@ use Rattle.dbus_value_model.specs.Values.{ValueTree, ValueTrees, NumberValue, Te
 use Rattle.dbus_message_model.specs.Messages.{order_byte}
 use Rattle.dbus_walk.specs.Containers.{inside, parts}
 use Rattle.dbus_walk.specs.Layouts.{of_elements, of_parts, IsNumberAt, IsTextAt, IsVariantAt, IsArrayAt, IsStructAt, IsEntryAt}
-use Rattle.dbus_walk.specs.Standing.{Stands, AllStand, ElementsStand, end_of}
+use Rattle.dbus_walk.specs.Standing.{AllStand, ElementsStand, end_of}
 use Rattle.dbus_walk.specs.declared.spot.Run.{Run}
 use Rattle.dbus_walk.proofs.Containers.{variant_parts}
 use Rattle.dbus_walk.proofs.Seams.{ends_within, stands_after, stands_as, stands_positive}

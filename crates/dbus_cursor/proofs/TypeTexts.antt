@@ -1,5 +1,5 @@
 -- The first type of a signature, and the type of an array's elements.
-use Rattle.std.proofs.Common.{◌≡◌, ℕ, ◌+◌, ◌-◌, ◌<◌, ◌≤◌, Bool, true, false, Option, Some, None, List, ◌++◌, length, get_or, take, drop, refl, sym, ap, subst, ◌∙◌, arith}
+use Rattle.std.proofs.Common.{◌≡◌, ℕ, ◌+◌, ◌-◌, ◌<◌, Bool, true, false, Option, Some, None, List, length, get_or, take, drop, sym, ap, subst, ◌∙◌, arith}
 use Rattle.std.specs.Option.{is_some}
 use Rattle.std.proofs.lemmas.List.{length-append, take_at}
 use Rattle.dbus_texts.specs.Types.{TypeTree, TypeTrees, ArrayType, NoTypes, MoreTypes, sig, sigs, IsComplete, AreComplete, IsShaped}

@@ -1,17 +1,15 @@
 //! The first of the values at a cursor.
 #![tactic(auto)]
 
-ghost use Rattle.std.specs.Prelude.{◌≡◌, ◌<◌, ◌≤◌, ◌+◌, length, None, IfSome, MatchOption};
+ghost use Rattle.std.specs.Prelude.{◌≡◌, ◌<◌, ◌≤◌, ◌+◌, length, None, IfSome};
 ghost use Rattle.dbus_value_model.specs.Values.{ValueTree, ValueTrees, MoreValues};
-ghost use Rattle.dbus_value_model.specs.declared.order.Order.{Order};
 ghost use Rattle.dbus_message_model.specs.Messages.{order_byte};
 ghost use Rattle.dbus_cursor.specs.Cursors.{AreAt};
 ghost use Rattle.dbus_cursor.specs.Firsts.{IsFirstOf};
 
 use crate::cursor::Cursor;
 use crate::types::first_type;
-use dbus_value_model::{DEPTH_LIMIT, Limits, Order};
-use dbus_value_validator::validate_value;
+use crate::validated::validated;
 use dbus_walk::{Source, Spot};
 
 /// Where a value stands that was validated.
@@ -40,48 +38,17 @@ pub(crate) fn first_value<'a>(bytes: &'a [u8], cursor: &Cursor) -> Option<First<
     ensures none { result ≡ None → (x : ValueTree) (us : ValueTrees) →
         AreAt bytes.now cursor.now (MoreValues x us) → ⊥ }
 {
-    if cursor.at >= cursor.end || cursor.end > bytes.len() as u64 {
-        return None;
-    }
-    if cursor.depth_left > u32::from(DEPTH_LIMIT) {
-        return None;
-    }
-    let order = order_named(cursor.order)?;
     let (types, text) = first_type(bytes, cursor)?;
-    let at = cursor.at as usize;
-    let depth_left = cursor.depth_left as u8;
-    let bounds = Limits::specification().bounds();
-    let after = validate_value(
-        bytes,
-        at,
-        cursor.end as usize,
-        order,
-        text,
-        depth_left,
-        bounds,
-    )?;
+    let (order, after) = validated(bytes, cursor, text)?;
     Some(First {
         source: Source { bytes, order },
         spot: Spot {
-            at,
+            at: cursor.at as usize,
             types: text,
             lengths: &[],
-            depth_left,
+            depth_left: cursor.depth_left as u8,
         },
         types,
         after,
     })
-}
-
-/// The byte order that a byte names.
-fn order_named(byte: u32) -> Option<Order>
-    ensures { MatchOption result
-        ((order : Order) → byte ≡ order_byte order → ⊥)
-        (λ order. byte ≡ order_byte order) }
-{
-    match byte {
-        108 => Some(Order::Little),
-        66 => Some(Order::Big),
-        _ => None,
-    }
 }

@@ -2,17 +2,23 @@
 //! "Marshaling (Wire Format)".
 //!
 //! [`next_value`] gives the value that a [`Cursor`] stands at as an [`Item`] and moves past it; in the item is a cursor at the parts
-//! of a container. Any numbers are safe: each value is validated before it is told. No memory is taken.
+//! of a container. [`next_field`] gives a header field. Any numbers are safe: each value is validated before it is told. No memory is
+//! taken.
 #![tactic(auto)]
 
 mod cursor;
+mod field;
+mod fields;
 mod first;
 mod item;
 mod next;
 mod numbers;
 mod told;
 mod types;
+mod validated;
 
 pub use cursor::Cursor;
+pub use field::Field;
+pub use fields::{FIELDS, next_field};
 pub use item::Item;
 pub use next::next_value;

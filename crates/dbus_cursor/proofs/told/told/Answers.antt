@@ -1,4 +1,4 @@
-use Rattle.std.proofs.Common.{◌≡◌, ◌+◌, ◌-◌, ◌<◌, ◌≤◌, ℕ, length, refl, sym, ap, subst, ◌∙◌, arith}
+use Rattle.std.proofs.Common.{ℕ, refl, sym, ap, subst, arith}
 use Rattle.dbus_walk.proofs.Laid.{laid_as}
 use Rattle.dbus_cursor.specs.Cursors.{IsItem}
 use Rattle.dbus_cursor.specs.declared.cursor.Cursor.{Cursor}

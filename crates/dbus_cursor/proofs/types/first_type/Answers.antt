@@ -1,4 +1,4 @@
-use Rattle.std.proofs.Common.{◌<◌, length, arith}
+use Rattle.std.proofs.Common.{arith}
 use Rattle.dbus_texts.specs.declared.text_kind.TextKind.TheVariants.{Signature, Single}
 use Rattle.dbus_cursor.proofs.TypeTexts.{of_kind, first_text, single_some, element_text}
 use Rattle.dbus_cursor.proofs.types.first_type.Goals as goal
