@@ -97,7 +97,7 @@ fn whole_of(length: &str) -> Option<Answer> {
     Some(Answer::Whole(usize::try_from(length).ok()?))
 }
 
-/// The answer that a column says, or nothing where it says none.
+/// The answer that a column says, or nothing if it says none.
 pub fn answer_of(alloc: Global, column: &str) -> Result<Option<Answer>, AllocError> {
     if column == "partial" {
         return Ok(Some(Answer::Partial));

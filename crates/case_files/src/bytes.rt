@@ -24,7 +24,7 @@ impl<T: Drop> From<AllocFailed<T>> for ItemFault {
     }
 }
 
-/// The number that these decimal digits spell, or nothing where they spell none below 2^64.
+/// The number that these decimal digits spell, or nothing if they spell none below 2^64.
 pub fn number_of(digits: &[u8]) -> Option<u64> {
     if digits.is_empty() {
         return None;

@@ -9,7 +9,7 @@ fn limit_of(word: &str, begin: &str) -> Option<u32> {
     u32::try_from(number_of(digits.as_bytes())?).ok()
 }
 
-// The limits with one of them as a word says, or nothing where it says none.
+// The limits with one of them as a word says, or nothing if it says none.
 fn limited(limits: Limits, word: &str) -> Option<Limits> {
     let Limits {
         mut message,

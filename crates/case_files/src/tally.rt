@@ -58,7 +58,7 @@ impl<'a> Tally<'a> {
         println!(rt; "{file}:{line} {name}: {engine}: wanted {wanted}, got {got}")
     }
 
-    /// Prints that the case under way differs where what was wanted of an engine is not what it gave.
+    /// Prints that the case under way differs if an engine did not give what was wanted.
     pub fn compare<T: PartialEq + Display>(
         &mut self,
         rt: &impl Print,
