@@ -3,8 +3,7 @@
 
 The messages are the captures in samples/, whole and cut short, and those of the first messages of each capture of which one
 byte is changed. Both the text and the exit status are compared. What each of LISTERS, which commas separate, writes of the captures is compared with
-what `PROGRAM show` writes, whose header fields may be in another order; what each of SWAPPERS writes of them in either byte order,
-with `PROGRAM swap`; what each of FILTERS writes of them for a rule and owners of names, with `PROGRAM filter`. What BUILDER builds of the
+what `PROGRAM show` writes; what each of SWAPPERS writes of them in either byte order, with `PROGRAM swap`; what each of FILTERS writes of them for a rule and owners of names, with `PROGRAM filter`. What BUILDER builds of the
 parts of their messages has these parts, as `PROGRAM json` writes them. The exit status is 1 if they differ.
 """
 
@@ -74,17 +73,12 @@ def answer(words, data):
     return ran.stdout.decode(errors="replace").strip(), ran.returncode
 
 
-def listed(text):
-    """The lines of messages: the first of each as its words in an order of its own, and each value as it is."""
-    return [sorted(line.split(" ")) if line.startswith("#") else line for line in text.split("\n")]
-
-
 def compare_lists(program, lister, folder):
     """How many lines of the captures are listed otherwise."""
     differing = 0
     for sample in SAMPLES:
         data = capture(folder, sample)
-        right, other = (listed(answer(words, data)[0]) for words in ([program, "show"], [lister]))
+        right, other = (answer(words, data)[0].split("\n") for words in ([program, "show"], [lister]))
         differing += abs(len(right) - len(other)) + sum(a != b for a, b in zip(right, other))
         print(f"{sample}: {len(right)} lines listed, {differing} otherwise")
     return differing

@@ -329,6 +329,16 @@ class Messages(unittest.TestCase):
         self.assertEqual((message.interface, message.member), ("org.freedesktop.DBus", "NameAcquired"))
         self.assertEqual((message.sender, message.destination, message.signature), ("org.freedesktop.DBus", ":1.2", "s"))
 
+    def test_header_fields_are_all_there(self):
+        names = ("path", "interface", "member", "error_name", "reply_serial", "destination", "sender", "signature", "unix_fds")
+        for name, data in whole_cases().items():
+            message = Message.parse(data)
+            known = {names[code - 1]: value for code, value in message.header_fields if code <= len(names)}
+            self.assertEqual(known, {part: getattr(message, part) for part in names if part in known}, name)
+            self.assertEqual([part for part in names[:8] if getattr(message, part) is not None and part not in known], [], name)
+        unknown = Message.parse(whole_cases()["messages: unknown_fields_of_each_kind_of_value B"]).header_fields
+        self.assertEqual(repr(unknown), "[(10, 'text'), (11, b'\\x01\\x02\\x03'), (12, Variant(signature=Signature('y'), value=7)), (13, (1, 2)), (14, {}), (15, True)]")
+
     def test_unknown_types_and_flags_are_kept(self):
         cases = whole_cases()
         self.assertEqual(Message.parse(cases["messages: unknown_type_255 l"]).type, 255)

@@ -1,18 +1,17 @@
-/* Lists the D-Bus messages on standard input, as `dbus-wire show` does, but with the header fields in the order of their codes: a
- * line with the number, the byte order, the type, the serial, the flags and the known header fields, and then one for each value
- * of the body. The texts are written from the bytes that were read: nothing is copied. */
+/* Lists the D-Bus messages on standard input, as `dbus-wire show` does: a line with the number, the byte order, the type, the serial, the
+ * flags and the header fields, and then one for each value of the body. The texts are written from the bytes that were read: nothing
+ * is copied. */
 #include <dbus_wire.h>
 
 #include <stdio.h>
 #include <string.h>
 
-static const char *type_name(uint32_t kind) {
+static void print_type(uint32_t kind) {
     static const char *const names[] = {"method_call", "method_return", "error", "signal"};
-    return kind >= DBUS_WIRE_TYPE_METHOD_CALL && kind <= DBUS_WIRE_TYPE_SIGNAL ? names[kind - 1] : "other";
-}
-
-static void print_text(const char *name, const uint8_t *bytes, struct dbus_wire_text text) {
-    if (text.is_there) printf(" %s=%.*s", name, (int)text.length, (const char *)bytes + text.offset);
+    if (kind >= DBUS_WIRE_TYPE_METHOD_CALL && kind <= DBUS_WIRE_TYPE_SIGNAL)
+        printf("%s", names[kind - 1]);
+    else
+        printf("kind%u", (unsigned)kind);
 }
 
 static void print_byte(uint8_t byte) {
@@ -96,18 +95,29 @@ static void print_body(const uint8_t *bytes, size_t count) {
     }
 }
 
-static void print_message(unsigned long number, const uint8_t *bytes, const struct dbus_wire_parts *parts) {
-    printf("#%lu %c %s serial=%u flags=%02x", number, (char)parts->order, type_name(parts->kind), (unsigned)parts->serial,
-           (unsigned)parts->flags);
-    print_text("path", bytes, parts->path);
-    print_text("interface", bytes, parts->interface);
-    print_text("member", bytes, parts->member);
-    print_text("error_name", bytes, parts->error_name);
-    if (parts->reply_serial) printf(" reply_serial=%u", (unsigned)parts->reply_serial);
-    print_text("destination", bytes, parts->destination);
-    print_text("sender", bytes, parts->sender);
-    print_text("signature", bytes, parts->signature);
-    if (parts->unix_fds) printf(" unix_fds=%u", (unsigned)parts->unix_fds);
+/* A known field's value, a text or a number, stands alone; any other is shown as any value is. */
+static void print_field(const uint8_t *bytes, size_t count, const struct dbus_wire_field *field) {
+    static const char *const names[] = {"path", "interface", "member", "error_name", "reply_serial", "destination", "sender", "signature",
+                                        "unix_fds"};
+    const struct dbus_wire_item *value = &field->value;
+    if (field->code > DBUS_WIRE_FIELD_UNIX_FDS) {
+        printf(" field%u=", (unsigned)field->code);
+        print_value(bytes, count, value);
+    } else if (value->code == 'u') {
+        printf(" %s=%u", names[field->code - 1], (unsigned)value->number);
+    } else {
+        printf(" %s=%.*s", names[field->code - 1], (int)value->length, (const char *)bytes + value->offset);
+    }
+}
+
+static void print_message(unsigned long number, const uint8_t *bytes, size_t count, const struct dbus_wire_parts *parts) {
+    struct dbus_wire_cursor at;
+    struct dbus_wire_field field;
+    printf("#%lu %c ", number, (char)parts->order);
+    print_type(parts->kind);
+    printf(" serial=%u flags=%02x", (unsigned)parts->serial, (unsigned)parts->flags);
+    if (dbus_wire_fields_cursor(bytes, count, NULL, &at) != DBUS_WIRE_WHOLE) return;
+    while (dbus_wire_next_field(bytes, count, &at, &field) == DBUS_WIRE_WHOLE) print_field(bytes, count, &field);
     printf("\n");
 }
 
@@ -118,7 +128,7 @@ int main(void) {
     unsigned long number = 0;
 
     while (dbus_wire_parts_of(bytes + at, count - at, NULL, &parts) == DBUS_WIRE_WHOLE) {
-        print_message(++number, bytes + at, &parts);
+        print_message(++number, bytes + at, count - at, &parts);
         print_body(bytes + at, count - at);
         at += parts.length;
     }

@@ -89,7 +89,21 @@ static void walk(const uint8_t *bytes, size_t length, struct dbus_wire_cursor at
     }
 }
 
-/* What the bytes of the input, taken as the numbers of a cursor, let dbus_wire_next see: anything, but it ends. */
+/* Goes over all header fields at a cursor, and what is in them. */
+static void walk_fields(const uint8_t *bytes, size_t length, struct dbus_wire_cursor at, struct seen *seen) {
+    struct dbus_wire_field field;
+    uint64_t before = at.at;
+    while (dbus_wire_next_field(bytes, length, &at, &field) == DBUS_WIRE_WHOLE) {
+        expect(before < at.at && at.at <= length, "a cursor moves on, within the bytes");
+        expect(before < field.value.offset && field.value.length <= at.at - field.value.offset, "a field's value is in it");
+        add(seen, field.code);
+        add_value(seen, bytes, &field.value);
+        walk(bytes, length, field.value.parts, 1, seen);
+        before = at.at;
+    }
+}
+
+/* What the bytes of the input, taken as the numbers of a cursor, let the two calls see: anything, but it ends. */
 static void walk_wild(const uint8_t *bytes, size_t length) {
     struct dbus_wire_cursor at;
     struct seen seen = {0, 0};
@@ -97,14 +111,18 @@ static void walk_wild(const uint8_t *bytes, size_t length) {
     memcpy(&at, bytes + length - sizeof at, sizeof at);
     if (at.reserved % 2 == 0) {
         at.at %= length, at.end = at.at + at.end % (length - at.at + 1);
-        at.types %= length, at.types_length %= 8, at.elements %= 2, at.depth_left %= 66;
+        at.types %= length, at.types_length %= 8, at.elements %= 3, at.depth_left %= 66;
     }
     walk(bytes, length, at, 1, &seen);
+    walk_fields(bytes, length, at, &seen);
 }
 
-static struct seen walk_body(const uint8_t *bytes, size_t length) {
+/* What a message has: its header fields and the values of its body. */
+static struct seen walk_message(const uint8_t *bytes, size_t length) {
     struct dbus_wire_cursor at;
     struct seen seen = {0, 0};
+    expect(dbus_wire_fields_cursor(bytes, length, NULL, &at) == DBUS_WIRE_WHOLE, "a message has header fields");
+    walk_fields(bytes, length, at, &seen);
     expect(dbus_wire_body_cursor(bytes, length, NULL, &at) == DBUS_WIRE_WHOLE, "a message has a body");
     walk(bytes, length, at, 1, &seen);
     return seen;
@@ -128,19 +146,19 @@ static void try_pieces(const uint8_t *bytes, size_t length, uint32_t answer, con
            "and returns its fault");
 }
 
-/* The message in the other byte order has the same values, and in its own the same bytes. */
+/* The message in the other byte order has the same fields and values, and in its own the same bytes. */
 static void try_message(const uint8_t *bytes, size_t length, const struct dbus_wire_checked *message) {
     static uint8_t swapped[MOST], again[MOST];
     struct dbus_wire_checked told;
     struct dbus_wire_parts parts;
-    struct seen here = walk_body(bytes, length), there;
+    struct seen here = walk_message(bytes, length), there;
     uint32_t other = message->order == 'l' ? 'B' : 'l';
 
     expect(dbus_wire_parts_of(bytes, length, NULL, &parts) == DBUS_WIRE_WHOLE, "a message has parts");
     expect(parts.length == message->length && parts.body <= parts.length && parts.order == message->order, "its parts are its own");
     expect(dbus_wire_wanted(bytes, length, NULL) == message->length, "the first 16 bytes state the length");
     expect(dbus_wire_swap(bytes, length, NULL, other, swapped, MOST, &told) == DBUS_WIRE_WHOLE, "a message is swapped");
-    there = walk_body(swapped, message->length);
+    there = walk_message(swapped, message->length);
     expect(here.count == there.count && here.sum == there.sum, "a swapped message has the same values");
     expect(dbus_wire_swap(swapped, message->length, NULL, message->order, again, MOST, &told) == DBUS_WIRE_WHOLE, "and back");
     expect(memcmp(again, bytes, message->length) == 0, "which gives the same bytes");

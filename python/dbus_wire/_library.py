@@ -64,6 +64,10 @@ class Item(ctypes.Structure):
     ]
 
 
+class Field(ctypes.Structure):
+    _fields_ = [("code", c_uint32), ("reserved", c_uint32), ("value", Item)]
+
+
 class Writer(ctypes.Structure):
     _fields_ = [("length", c_uint64), ("order", c_uint32), ("reserved", c_uint32)]
 
@@ -114,6 +118,8 @@ _CALLS = {
     "parts_of": (c_uint32, *_MESSAGE, POINTER(Parts)),
     "body_cursor": (c_uint32, *_MESSAGE, POINTER(Cursor)),
     "next": (c_uint32, c_char_p, c_size_t, POINTER(Cursor), POINTER(Item)),
+    "fields_cursor": (c_uint32, *_MESSAGE, POINTER(Cursor)),
+    "next_field": (c_uint32, c_char_p, c_size_t, POINTER(Cursor), POINTER(Field)),
     "wanted": (c_uint64, *_MESSAGE),
     "swap": (c_uint32, *_MESSAGE, c_uint32, c_char_p, c_size_t, POINTER(Checked)),
     "build": (c_uint32, POINTER(Parts), *_MESSAGE, c_char_p, c_size_t, POINTER(Checked)),

@@ -14,7 +14,7 @@ from . import _library
 from ._errors import refused, truncated
 from ._library import FIXED_HEADER_LENGTH, NO_MEMORY, OK, PARTIAL, REASON_TRAILING, REFUSED, WHOLE, Bytes, as_bytes, library
 from ._limits import Limits, limits_struct
-from ._values import ObjectPath, Signature, text_at, values_at
+from ._values import ObjectPath, Signature, fields_at, text_at, values_at
 
 # The most bytes that one read asks for, so that a length that is only stated takes no memory.
 _PIECE = 1 << 20
@@ -126,6 +126,15 @@ class Message:
         cursor = _library.Cursor()
         library.dbus_wire_body_cursor(self.data, len(self.data), byref(limits_struct(None)), byref(cursor))
         return list(values_at(self.data, cursor))
+
+    @cached_property
+    def header_fields(self) -> list[tuple[int, Any]]:
+        """The header fields, each as its code and its value, in their order in the message: also those whose codes the specification
+        does not name. The values are as those of the body.
+        """
+        cursor = _library.Cursor()
+        library.dbus_wire_fields_cursor(self.data, len(self.data), byref(limits_struct(None)), byref(cursor))
+        return list(fields_at(self.data, cursor))
 
     @property
     def body_bytes(self) -> bytes:

@@ -7,7 +7,7 @@ from ctypes import byref
 from dataclasses import dataclass
 from typing import Any, Callable, Iterator
 
-from ._library import WHOLE, Cursor, Item, library
+from ._library import WHOLE, Cursor, Field, Item, library
 
 
 class ObjectPath(str):
@@ -75,6 +75,13 @@ def values_at(data: bytes, cursor: Cursor) -> Iterator[Any]:
     at, out = byref(cursor), byref(item)
     while take(data, length, at, out) == WHOLE:
         yield _value(data, item)
+
+
+def fields_at(data: bytes, cursor: Cursor) -> Iterator[tuple[int, Any]]:
+    """The header fields that are left at the cursor, each as its code and its value; the cursor moves past each of them."""
+    field = Field()
+    while library.dbus_wire_next_field(data, len(data), byref(cursor), byref(field)) == WHOLE:
+        yield field.code, _value(data, field.value)
 
 
 def _value(data: bytes, item: Item) -> Any:

@@ -1,17 +1,30 @@
-//! Lists the D-Bus messages on standard input, as `dbus-wire show` does, but with the header fields in the order of their codes.
+//! Lists the D-Bus messages on standard input, as `dbus-wire show` does.
 
 use std::error::Error;
 use std::io::{self, Read, Write};
 
 use dbus_wire::{Kind, Message, Order, Value, Values};
 
-fn kind_name(kind: Kind) -> &'static str {
+fn kind_name(kind: Kind) -> String {
     match kind {
-        Kind::MethodCall => "method_call",
-        Kind::MethodReturn => "method_return",
-        Kind::Error => "error",
-        Kind::Signal => "signal",
-        Kind::Other(_) => "other",
+        Kind::MethodCall => "method_call".into(),
+        Kind::MethodReturn => "method_return".into(),
+        Kind::Error => "error".into(),
+        Kind::Signal => "signal".into(),
+        Kind::Other(kind) => format!("kind{kind}"),
+    }
+}
+
+/// The names of the header fields from code 1 on.
+const FIELD_NAMES: [&str; 9] =
+    ["path", "interface", "member", "error_name", "reply_serial", "destination", "sender", "signature", "unix_fds"];
+
+/// A known field's value, a text or a number, stands alone; any other is shown as any value is.
+fn field((code, value): (u8, Value<'_>)) -> String {
+    match (FIELD_NAMES.get(usize::from(code) - 1), value) {
+        (Some(name), Value::Uint32(number)) => format!(" {name}={number}"),
+        (Some(name), Value::String(text) | Value::ObjectPath(text) | Value::Signature(text)) => format!(" {name}={text}"),
+        (_, value) => format!(" field{code}={}", shown(value)),
     }
 }
 
@@ -60,25 +73,7 @@ fn list(out: &mut impl Write, number: usize, message: &Message<'_>) -> io::Resul
     let order = if message.order() == Order::Big { 'B' } else { 'l' };
     let (kind, serial, flags) = (kind_name(message.kind()), message.serial(), message.flags().bits());
     write!(out, "#{number} {order} {kind} serial={serial} flags={flags:02x}")?;
-    let reply_serial = message.reply_serial().map(|serial| serial.to_string());
-    let fields = [
-        ("path", message.path()),
-        ("interface", message.interface()),
-        ("member", message.member()),
-        ("error_name", message.error_name()),
-        ("reply_serial", reply_serial.as_deref()),
-        ("destination", message.destination()),
-        ("sender", message.sender()),
-        ("signature", message.signature()),
-    ];
-    for (name, text) in fields {
-        if let Some(text) = text {
-            write!(out, " {name}={text}")?;
-        }
-    }
-    if message.unix_fds() != 0 {
-        write!(out, " unix_fds={}", message.unix_fds())?;
-    }
+    message.fields().try_for_each(|of| write!(out, "{}", field(of)))?;
     writeln!(out)?;
     message.body().try_for_each(|value| writeln!(out, "  {}", shown(value)))
 }

@@ -20,7 +20,8 @@
 //!
 //! * [`check`] says whether bytes begin with a message; [`Checker`] says it of bytes that come in pieces; [`wanted`] says how long
 //!   a message is by its first 16 bytes.
-//! * [`Message`] has the parts of a message, and [`Values`] goes over the values of its body. Both borrow the bytes, and allocate nothing.
+//! * [`Message`] has the parts of a message, [`Values`] goes over the values of its body, and [`Fields`] over its
+//!   header fields. They borrow the bytes, and allocate nothing.
 //! * [`build`] makes a message of its [`Parts`], whose [`Body`] is spelled value by value.
 //! * [`byteswap`] writes a message in the other byte order, and [`check_text`] checks names, signatures and other texts.
 //! * A match [`Rule`] says which messages a program wants; [`Owners`] says who owns the names that it asks for.
@@ -65,7 +66,7 @@ pub use message::{Flags, Kind, Message};
 pub use rule::{Owners, Rule, RuleError, RuleFault};
 pub use swap::{byteswap, SwapError};
 pub use text::{check_text, TextFault, TextKind};
-pub use value::{Array, Entry, Value, Values, Variant};
+pub use value::{Array, Entry, Fields, Value, Values, Variant};
 
 /// The version of the library that is linked or loaded: its three numbers.
 ///

@@ -4,7 +4,7 @@ use std::fmt;
 use std::num::NonZeroU32;
 
 use crate::value::text_at;
-use crate::{byteswap, check, sys, Answer, Limits, Order, ParseError, Parts, Values};
+use crate::{byteswap, check, sys, Answer, Fields, Limits, Order, ParseError, Parts, Values};
 
 /// The type of a message.
 #[derive(Clone, Copy, Debug, PartialEq, Eq, Hash)]
@@ -181,6 +181,12 @@ impl<'a> Message<'a> {
     /// The values of the body. The call looks over the message once more, and each value is looked over as it comes.
     pub fn body(&self) -> Values<'a> {
         Values::of_message(self.bytes)
+    }
+
+    /// The header fields, each as its code and its value, in their order in the message: also those whose codes the specification
+    /// does not name. Like [`body`](Self::body), the call looks over the message once more.
+    pub fn fields(&self) -> Fields<'a> {
+        Fields::of_message(self.bytes)
     }
 
     /// Its parts, of which [`build`](crate::build) makes a message. They hold all but header fields of unknown codes.

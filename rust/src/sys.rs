@@ -183,6 +183,14 @@ pub struct dbus_wire_item {
 
 #[repr(C)]
 #[derive(Clone, Copy, Debug, Default)]
+pub struct dbus_wire_field {
+    pub code: u32,
+    pub reserved: u32,
+    pub value: dbus_wire_item,
+}
+
+#[repr(C)]
+#[derive(Clone, Copy, Debug, Default)]
 pub struct dbus_wire_writer {
     pub length: u64,
     pub order: u32,
@@ -262,6 +270,7 @@ const _: () = assert!(size_of::<dbus_wire_parts>() == 208);
 const _: () = assert!(size_of::<dbus_wire_argument>() == 24);
 const _: () = assert!(size_of::<dbus_wire_cursor>() == 48);
 const _: () = assert!(size_of::<dbus_wire_item>() == 80);
+const _: () = assert!(size_of::<dbus_wire_field>() == 88);
 const _: () = assert!(size_of::<dbus_wire_writer>() == 16);
 const _: () = assert!(size_of::<dbus_wire_array>() == 16);
 const _: () = assert!(size_of::<dbus_wire_text_checked>() == 16);
@@ -293,6 +302,18 @@ extern "C" {
         out: *mut dbus_wire_cursor,
     ) -> u32;
     pub fn dbus_wire_next(bytes: *const u8, length: usize, cursor: *mut dbus_wire_cursor, out: *mut dbus_wire_item) -> u32;
+    pub fn dbus_wire_fields_cursor(
+        bytes: *const u8,
+        length: usize,
+        limits: *const dbus_wire_limits,
+        out: *mut dbus_wire_cursor,
+    ) -> u32;
+    pub fn dbus_wire_next_field(
+        bytes: *const u8,
+        length: usize,
+        cursor: *mut dbus_wire_cursor,
+        out: *mut dbus_wire_field,
+    ) -> u32;
     pub fn dbus_wire_wanted(bytes: *const u8, length: usize, limits: *const dbus_wire_limits) -> u64;
     pub fn dbus_wire_swap(
         bytes: *const u8,

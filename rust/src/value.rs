@@ -159,6 +159,47 @@ impl<'a> Iterator for Values<'a> {
 
 impl FusedIterator for Values<'_> {}
 
+/// A message's header fields, each as its code and its value, in their order in the message. [`Message::fields`](crate::Message::fields)
+/// returns it.
+#[derive(Clone)]
+pub struct Fields<'a> {
+    // Those of the message that the cursor was made for.
+    bytes: &'a [u8],
+    cursor: sys::dbus_wire_cursor,
+}
+
+impl<'a> Fields<'a> {
+    /// The header fields of these bytes, which are a message.
+    pub(crate) fn of_message(bytes: &'a [u8]) -> Self {
+        let limits = crate::Limits::default().raw();
+        let mut cursor = sys::dbus_wire_cursor::default();
+        // SAFETY: a slice and references, as `sys` says.
+        let answer = unsafe { sys::dbus_wire_fields_cursor(bytes.as_ptr(), bytes.len(), &limits, &mut cursor) };
+        assert_eq!(answer, sys::DBUS_WIRE_WHOLE, "a message within limits is one within the specification's");
+        Self { bytes, cursor }
+    }
+}
+
+impl<'a> Iterator for Fields<'a> {
+    type Item = (u8, Value<'a>);
+
+    fn next(&mut self) -> Option<(u8, Value<'a>)> {
+        let mut field = sys::dbus_wire_field::default();
+        // SAFETY: a slice and references, as `sys` says. Any numbers in a cursor are safe.
+        let answer = unsafe { sys::dbus_wire_next_field(self.bytes.as_ptr(), self.bytes.len(), &mut self.cursor, &mut field) };
+        // SAFETY: the call wrote the field for these bytes. A code is a byte.
+        (answer == sys::DBUS_WIRE_WHOLE).then(|| (field.code as u8, unsafe { Value::of(self.bytes, &field.value) }))
+    }
+}
+
+impl FusedIterator for Fields<'_> {}
+
+impl fmt::Debug for Fields<'_> {
+    fn fmt(&self, f: &mut fmt::Formatter<'_>) -> fmt::Result {
+        f.debug_list().entries(self.clone()).finish()
+    }
+}
+
 impl PartialEq for Values<'_> {
     /// Whether the types and the values that are left are the same, in whatever byte order they are.
     fn eq(&self, other: &Self) -> bool {

@@ -155,6 +155,9 @@ fn a_message_has_its_fields() {
     assert_eq!((message.sender(), message.signature()), (Some(":1.2"), Some("y")));
     assert_eq!((message.error_name(), message.destination(), message.reply_serial()), (None, None, None));
     assert_eq!((message.unix_fds(), message.body_bytes()), (0, &[1][..]));
+    let codes: Vec<u8> = message.fields().map(|(code, _)| code).collect();
+    assert_eq!(codes, [1, 2, 3, 7, 8]);
+    assert_eq!(message.fields().find(|(code, _)| *code == 3), Some((3, Value::String("D"))));
     assert_eq!(wanted(&bytes, &Limits::default()), Some(length));
 }
 

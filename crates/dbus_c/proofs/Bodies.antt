@@ -20,7 +20,7 @@ use Rattle.dbus_walk.proofs.MessageParts.{body_stands}
 use Rattle.dbus_walk.proofs.Signed.{array_signed}
 use Rattle.dbus_cursor.specs.Cursors.{types_at}
 use Rattle.dbus_cursor.specs.declared.cursor.Cursor.{Cursor}
-use Rattle.dbus_c.specs.BodyCursors.{IsAtBody}
+use Rattle.dbus_c.specs.MessageCursors.{IsAtBody}
 use Rattle.dbus_c.specs.Parting.{IsPlaceOf}
 use Rattle.dbus_c.specs.declared.parts.TextPlace.{TextPlace}
 use Rattle.dbus_c.proofs.Fronts.{first_whole, first_body_length}
@@ -34,7 +34,7 @@ signature_placed (f ∷ fs) s p is = go (nat_eq f.code 8) (λ h. signature_place
     go true others h = (h.1, h.2)
     go false others h = others h
 
-whole_message : (limits : Limits) (b : List ℕ) (order : Order) (m : MessageTree) (n : ℕ) → IsWhole limits b order m n → IsMessage limits order m
+pub whole_message : (limits : Limits) (b : List ℕ) (order : Order) (m : MessageTree) (n : ℕ) → IsWhole limits b order m n → IsMessage limits order m
 unfolding IsWhole
 whole_message limits b order m n w = w.0
 

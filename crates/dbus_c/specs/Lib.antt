@@ -6,7 +6,7 @@ pub mod Wanting
 pub mod Parting
 pub mod Swapping
 pub mod Arguments
-pub mod BodyCursors
+pub mod MessageCursors
 pub mod Outcomes
 pub mod TextKinds
 pub mod TextChecking

@@ -1,6 +1,6 @@
 -- The answers of the calls that take a message apart: what each says of the bytes, and which bytes have it.
 -- D-Bus Specification, "Message Protocol".
-use Rattle.std.specs.Prelude.{◌≡◌, ◌↔◌, ℕ, List, Some, None}
+use Rattle.std.specs.Prelude.{◌≡◌, ◌↔◌, ℕ, List, Some, None, Result, Ok, Err}
 use Rattle.dbus_value_model.specs.Values.{ValueTree}
 use Rattle.dbus_value_model.specs.declared.limits.Limits.{Limits}
 use Rattle.dbus_value_model.specs.declared.order.Order.{Order}
@@ -8,7 +8,8 @@ use Rattle.dbus_value_model.specs.declared.fault.Fault.{Fault}
 use Rattle.dbus_message_model.specs.Lookups.{body_value}
 use Rattle.dbus_message_model.specs.Messages.{MessageTree}
 use Rattle.dbus_header.specs.MessageOutcomes.{IsWhole, IsRefused, IsPartial}
-use Rattle.dbus_c.specs.declared.answers.TheConstants.{PARTIAL, REFUSED}
+use Rattle.dbus_validate.specs.declared.validating.Validated.{Validated}
+use Rattle.dbus_c.specs.declared.answers.TheConstants.{WHOLE, PARTIAL, REFUSED}
 
 -- the bytes begin with a message within the limits
 abbrev pub BeginsWithMessage : Limits → List ℕ → Type 0
@@ -31,3 +32,8 @@ AreRefused limits b = (f : Fault) × IsRefused limits b f
 pub record TellsApart (limits : Limits) (b : List ℕ) (answer : ℕ) : Type 0 where
   pub partial : IsPartial limits b ↔ (answer ≡ PARTIAL)
   pub refused : AreRefused limits b ↔ (answer ≡ REFUSED)
+
+-- the answer of a call that takes a message apart: what it needs, or why there is no message
+abbrev pub answer_of : Result Validated ℕ → ℕ
+answer_of (Ok validated) = WHOLE
+answer_of (Err answer) = answer

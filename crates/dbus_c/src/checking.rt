@@ -1,21 +1,22 @@
 //! Whether bytes begin with a message, in numbers.
 #![tactic(auto)]
 
-ghost use Rattle.std.specs.Prelude.{◌≡◌, ◌<◌, ◌≤◌, length};
+ghost use Rattle.std.specs.Prelude.{◌≡◌, ◌↔◌, ◌<◌, ◌≤◌, length, IfOk, IfErr};
 ghost use Rattle.dbus_header.specs.MessageOutcomes.{IsWhole};
 ghost use Rattle.dbus_message_model.specs.Messages.{MessageTree};
 ghost use Rattle.dbus_value_model.specs.declared.limits.Limits.{Limits};
 ghost use Rattle.dbus_value_model.specs.declared.order.Order.{Order};
 ghost use Rattle.dbus_c.specs.Checking.{IsExact, Tells, fault_told, nothing_told, whole_told};
 ghost use Rattle.dbus_c.specs.GivenLimits.{limits_of};
-ghost use Rattle.dbus_c.specs.Outcomes.{TellsApart};
+ghost use Rattle.dbus_c.specs.Outcomes.{BeginsWithMessage, TellsApart, answer_of};
+ghost use Rattle.dbus_validate.specs.Validating.{IsValidatedFirst};
 ghost use Rattle.dbus_header.specs.NoMessage.{BeginsWithNone};
 
 use crate::answers::{PARTIAL, REFUSED, WHOLE};
 use crate::given_limits::{WireLimits, given_limits};
 use crate::reasons::{field_named, reason_number};
 use dbus_check::{Check, Checker};
-use dbus_validate::validate;
+use dbus_validate::{Validated, validate, validate_first};
 use dbus_value_model::{Fault, Limits};
 
 /// The result of checking bytes. Fields that do not apply are 0.
@@ -131,4 +132,18 @@ pub(crate) fn answer_to_none(bytes: &[u8], limits: Limits) -> u32
 {
     let mut told = nothing_told();
     check_all(bytes, limits, &mut told)
+}
+
+// The message within the limits that the bytes begin with, validated; or the answer to bytes that begin with none.
+pub(crate) fn first_validated(bytes: &[u8], limits: &WireLimits) -> Result<Validated, u32>
+    ensures whole { BeginsWithMessage (limits_of limits.now) bytes.now ↔ (answer_of result ≡ WHOLE) }
+    ensures apart { TellsApart (limits_of limits.now) bytes.now (answer_of result) }
+    ensures validated { IfOk result (λ v. IsValidatedFirst (limits_of limits.now) bytes.now v) }
+    ensures none { IfErr result (λ answer. WHOLE < answer) }
+{
+    let within = given_limits(limits);
+    match validate_first(bytes, within) {
+        Some(validated) => Ok(validated),
+        None => Err(answer_to_none(bytes, within)),
+    }
 }

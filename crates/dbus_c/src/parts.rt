@@ -10,12 +10,12 @@ ghost use Rattle.dbus_message_model.specs.Lookups.{field_value};
 ghost use Rattle.dbus_message_model.specs.Messages.{FieldTree, is_known, order_byte};
 
 use crate::answers::WHOLE;
-use crate::checking::answer_to_none;
-use crate::given_limits::{WireLimits, given_limits};
+use crate::checking::first_validated;
+use crate::given_limits::WireLimits;
 use dbus_message_model::field_code::{
     DESTINATION, ERROR_NAME, INTERFACE, MEMBER, PATH, REPLY_SERIAL, SENDER, SIGNATURE, UNIX_FDS,
 };
-use dbus_validate::{Seen, validate_first};
+use dbus_validate::Seen;
 use dbus_value_model::Order;
 
 /// Where the text of a header field is among the bytes that were handed in.
@@ -79,9 +79,8 @@ pub extern "C" fn dbus_wire_parts_of(bytes: &[u8], limits: &WireLimits, out: &mu
     ensures parts { result ≡ WHOLE → HasParts (limits_of limits.now) bytes.now out.new }
     ensures unchanged { result ≢ WHOLE → out.new ≡ out.old }
 {
-    let within = given_limits(limits);
-    match validate_first(bytes, within) {
-        Some(validated) => {
+    match first_validated(bytes, limits) {
+        Ok(validated) => {
             let seen = &validated.fields;
             *out = Parts {
                 length: validated.length as u64,
@@ -102,7 +101,7 @@ pub extern "C" fn dbus_wire_parts_of(bytes: &[u8], limits: &WireLimits, out: &mu
             };
             WHOLE
         }
-        None => answer_to_none(bytes, within),
+        Err(answer) => answer,
     }
 }
 
