@@ -1,5 +1,5 @@
 -- Values one after another of which the first are walked: those that are left.
-use Rattle.std.proofs.Common.{◌≡◌, ℕ, ◌+◌, ◌-◌, ◌<◌, ◌≤◌, List, [], ◌∷◌, ◌++◌, length, take, drop, Bool, true, false, refl, sym, ap, subst, ◌∙◌, arith, append_assoc, Result, IfOk}
+use Rattle.std.proofs.Common.{◌≡◌, ℕ, ◌+◌, ◌-◌, ◌<◌, ◌≤◌, List, [], ◌∷◌, ◌++◌, length, take, drop, Bool, true, false, refl, sym, ap, subst, ◌∙◌, arith, append_assoc, Result, Ok, Err, is_err, IfOk}
 use Rattle.std.proofs.lemmas.List.{length-append, length-drop, append-nil}
 use Rattle.dbus_texts.specs.Types.{sig, sigs}
 use Rattle.dbus_texts.proofs.TypeTexts.{sig_positive}
@@ -162,3 +162,12 @@ starts order q = omega arith
 -- what was gathered of a value, and where it ends
 pub made_of : {E : Type 0} (r : Result ℕ E) (P : ValueTree → Type 0) {u v : ValueTree} {q end : ℕ} → u ≡ v → q ≡ end → IfOk r (λ after. P u × (after ≡ q)) → IfOk r (λ after. P v × (after ≡ end))
 made_of r P {u} {v} {q} {end} is ends h = subst (λ (k : ℕ). IfOk r (λ after. P v × (after ≡ k))) ends (subst (λ (w : ValueTree). IfOk r (λ after. P w × (after ≡ q))) is h)
+
+-- what is said of an outcome that is handed on
+pub not_ok : {T E : Type 0} (r : Result T E) (Q : Type 0) → is_err r ≡ true → IfOk r (λ x. Q)
+not_ok (Ok x) Q e = absurd cc
+not_ok (Err e) Q h = tt
+
+pub ok_from : {T E : Type 0} (r : Result T E) (P Q : Type 0) → (P → Q) → IfOk r (λ x. P) → IfOk r (λ x. Q)
+ok_from (Ok x) P Q f h = f h
+ok_from (Err e) P Q f h = tt

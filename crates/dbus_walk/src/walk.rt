@@ -399,9 +399,13 @@ fn nested<V: Visitor>(
     let types = &spot.types[first..spot.types.len() - first];
     let length = source.bytes.len();
     let mut many = visitor.open(gathered, Container::Struct, types, length)?;
-    nested_fields(visitor, &mut many, source, spot, outer, row)?;
+    let walked = nested_fields(visitor, &mut many, source, spot, outer, row);
+    // Handed on as it is, which takes no instruction.
+    if walked.is_err() {
+        return walked;
+    }
     visitor.close(gathered, Container::Struct, many, length)?;
-    Ok(())
+    walked
 }
 
 /// The fields of such a struct. The spot moves to their end.
@@ -431,8 +435,7 @@ fn nested_fields<V: Visitor>(
     let first = outer + 1;
     if first < row {
         visitor.part(true, source.bytes.len());
-        nested(visitor, gathered, source, spot, first, row)?;
-        return Ok(());
+        return nested(visitor, gathered, source, spot, first, row);
     }
     fields(visitor, gathered, source, spot, outer)
 }

@@ -15,7 +15,7 @@ use Rattle.dbus_walk.proofs.Laid.{long_coded, short_coded, laid_as}
 use Rattle.dbus_walk.proofs.Together.{no_row, aligned, between_long, one_struct, one_ends, fields_inside, outermost}
 use Rattle.dbus_walk.proofs.Lists.{no_elements}
 use Rattle.dbus_walk.proofs.Parts.{types_some}
-use Rattle.dbus_walk.proofs.Walks.{made_of, Taken, none_taken, more_taken, starts, all_left, next_element, element_left, no_element, next_value, value_left, no_value}
+use Rattle.dbus_walk.proofs.Walks.{made_of, not_ok, ok_from, Taken, none_taken, more_taken, starts, all_left, next_element, element_left, no_element, next_value, value_left, no_value}
 use Rattle.dbus_walk.proofs.walk.+walk.Goals as goal
 
 pub elements-loop-place-init : goal.elements-loop-place-init
@@ -267,17 +267,20 @@ pub value-entry-requires : goal.value-entry-requires
 value-entry-requires g t c κs within = let s = c.requires.stands in let p = laid_as c.args.source.now c.args.spot.now c.in-Entry.is c.layout.ensures in
     (omega (arith, types_some s.2), (within.0, (within.1.0, (within.1.1, (c.requires.ready, (s, (c.requires.noted, ((p s.0 s.1 s.2).long, p))))))))
 
-pub nested-nested_fields-requires : goal.nested-nested_fields-requires
-nested-nested_fields-requires g t c κs within = (omega arith, (within.0, (within.1.0, (within.1.1, (c.in_ok-many.ensures.ready, (c.requires.stand, (c.requires.noted, (c.requires.together, (c.requires.long, (c.requires.deep, c.requires.padded))))))))))
+pub nested-nested_fields-walked-requires : goal.nested-nested_fields-walked-requires
+nested-nested_fields-walked-requires g t c κs within = (omega arith, (within.0, (within.1.0, (within.1.1, (c.in_ok-many.ensures.ready, (c.requires.stand, (c.requires.noted, (c.requires.together, (c.requires.long, (c.requires.deep, c.requires.padded))))))))))
+
+pub nested-returns-then-is_err-clause-walked : goal.nested-returns-then-is_err-clause-walked
+nested-returns-then-is_err-clause-walked g t c = λ at vs rest begins a. not_ok c.nested_fields-walked.result _ (sym c.is_err.ensures.value ∙ c.if-is_err.true)
 
 pub nested-returns-clause-walked : goal.nested-returns-clause-walked
 nested-returns-clause-walked g t c = λ at vs rest begins a.
     let order = c.args.source.now.order in
-    let held = c.in_ok-nested_fields.ensures.walked vs rest a in
-    let many = subst (λ (q : ℕ). g.V.Visitor.many c.open.new.self c.in_ok-many.many order q held.0.0 c.nested_fields.new.gathered c.nested_fields.new.visitor) begins held.0.2 in (
-      g.met.V.Visitor.whole c.args.visitor.now c.open.new.self c.nested_fields.new.visitor c.close.new.self c.args.gathered.now c.in_ok-many.many c.nested_fields.new.gathered c.close.new.gathered kind.Struct order at (StructValue vs) held.0.0 tt (c.in_ok-many.ensures.takes order at (StructValue vs) tt a.text) held.0.1 many (c.in_ok-close.ensures.takes (StructValue vs) tt),
+    ok_from c.nested_fields-walked.result _ _ (λ held. (
+      g.met.V.Visitor.whole c.args.visitor.now c.open.new.self c.nested_fields-walked.new.visitor c.close.new.self c.args.gathered.now c.in_ok-many.many c.nested_fields-walked.new.gathered c.close.new.gathered kind.Struct order at (StructValue vs) held.0.0 tt (c.in_ok-many.ensures.takes order at (StructValue vs) tt a.text) held.0.1
+          (subst (λ (q : ℕ). g.V.Visitor.many c.open.new.self c.in_ok-many.many order q held.0.0 c.nested_fields-walked.new.gathered c.nested_fields-walked.new.visitor) begins held.0.2) (c.in_ok-close.ensures.takes (StructValue vs) tt),
       held.1,
-    )
+    )) (c.nested_fields-walked.ensures.walked vs rest a)
 
 pub nested_fields-nested-requires : goal.nested_fields-nested-requires
 nested_fields-nested-requires g t c κs within =
@@ -305,9 +308,10 @@ nested_fields-returns-then-first-row-clause-walked g t c = λ vs rest a.
     let gathered = c.args.gathered.now in
     let o = one_struct c.requires.noted c.requires.together (c.args.outer + 1) c.if-first-row.true vs a in
     let place : at ≡ at + gap_to 8 at = omega (arith, c.requires.padded) in
-    let w = c.in_ok-nested.ensures.walked at o.xs rest place (fields_inside c.args.source.now c.args.spot.now c.args.outer c.requires.padded o) in
+    ok_from c.nested.result _ _ (λ w.
     let held = g.met.V.Visitor.more before before c.part.new.self c.nested.new.visitor gathered gathered c.nested.new.gathered order at at [] (StructValue o.xs) (g.met.V.Visitor.none before gathered order at) c.part.ensures.takes (starts order at) w.0 in
-    ((StructValue o.xs ∷ [], o.is, held), w.1 ∙ one_ends order at o.xs c.requires.padded ∙ ap (λ (us : ValueTrees). at + length (spellings order at us)) (sym o.is))
+    ((StructValue o.xs ∷ [], o.is, held), w.1 ∙ one_ends order at o.xs c.requires.padded ∙ ap (λ (us : ValueTrees). at + length (spellings order at us)) (sym o.is)))
+    (c.nested.ensures.walked at o.xs rest place (fields_inside c.args.source.now c.args.spot.now c.args.outer c.requires.padded o))
 
 pub walk_value-value-requires : goal.walk_value-value-requires
 walk_value-value-requires g t c κs within = (omega arith, (within.0, (within.1.0, (within.1.1, (c.requires.ready, (c.requires.stands, (c.requires.noted, no_row)))))))
