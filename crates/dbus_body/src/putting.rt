@@ -1,7 +1,7 @@
 //! Basic values, and the padding before the fields of a struct.
 #![tactic(auto, using(dbus_marshal::proofs::Written::lengths, dbus_value_model::proofs::Gaps::gap_below))]
 
-ghost use Rattle.std.specs.Prelude.{◌≡◌, ◌+◌, ◌<◌, ◌≤◌, ◌^◌, ◌++◌, length, take, vec_capacity, OnOk, OnErr, IfErr};
+ghost use Rattle.std.specs.Prelude.{◌≡◌, ◌+◌, ◌<◌, ◌≤◌, ◌^◌, ◌++◌, length, vec_capacity, OnOk, OnErr, IfErr};
 ghost use Rattle.dbus_texts.specs.Types.{STRING, SIGNATURE};
 ghost use Rattle.dbus_value_model.specs.Appending.{with_padding, with_value};
 ghost use Rattle.dbus_value_model.specs.Bytes.{num};

@@ -1,7 +1,7 @@
 //! Header fields of texts and numbers, appended in the order of their codes. D-Bus Specification, "Header Fields".
 #![tactic(auto)]
 
-ghost use Rattle.std.specs.Prelude.{◌≡◌, ◌<◌, ◌≤◌, ◌∷◌, [], ◌++◌, length, Some, OnOk, IfOk, IfErr};
+ghost use Rattle.std.specs.Prelude.{◌≡◌, ◌∷◌, [], ◌++◌, Some, OnOk, IfOk, IfErr};
 ghost use Rattle.dbus_texts.specs.Types.{TextType, sig};
 ghost use Rattle.dbus_value_model.specs.Appending.{with_padding, with_value};
 ghost use Rattle.dbus_value_model.specs.Values.{TextValue};
