@@ -3,7 +3,7 @@
 _dbus_wire() {
     local word=${COMP_WORDS[COMP_CWORD]} option=${COMP_WORDS[COMP_CWORD-1]}
     local commands='show json check swap filter help'
-    local options='--explain --max-message --max-array --max-depth --fds -h --help'
+    local options='--explain --max-message --max-array --max-depth --fds --handshake -h --help'
     COMPREPLY=()
     # A redirection names a file, which bash completes.
     [[ $option == [\<\>]* ]] && return
@@ -24,6 +24,10 @@ _dbus_wire() {
             ;;
         --fds)
             COMPREPLY=($(compgen -W 'any below-count' -- "$word"))
+            return
+            ;;
+        --handshake)
+            COMPREPLY=($(compgen -W 'client server' -- "$word"))
             return
             ;;
         --max-* | --owner)

@@ -23,4 +23,5 @@ for command in show json check swap filter
     complete -c dbus-wire -n "__fish_seen_subcommand_from $command" -l max-array -x -d 'Most bytes of an array'
     complete -c dbus-wire -n "__fish_seen_subcommand_from $command" -l max-depth -x -d 'Most containers open at once'
     complete -c dbus-wire -n "__fish_seen_subcommand_from $command" -l fds -x -a 'any below-count' -d 'Which indexes of descriptors are allowed'
+    complete -c dbus-wire -n "__fish_seen_subcommand_from $command" -l handshake -x -a 'client server' -d 'Whose handshake comes before the messages'
 end

@@ -2,23 +2,22 @@
 use Rattle.std.proofs.Common.{◌≡◌, ℕ, List, Some, None, sym, ap, ◌∙◌, codes, slice_index, arith}
 use Rattle.std.specs.List.{AllByRecursion}
 use Rattle.clap.specs.Words.{Row, Text, all_of, first_of}
-use Rattle.dbus_value_model.specs.declared.limits.Limits.{Limits}
 use Rattle.dbus_value_model.specs.declared.order.Order.{Order}
 use Rattle.dbus_match.specs.Matching.{Ownership, ownership}
-use Rattle.dbus_command.specs.Limiting.{HasLimits}
-use Rattle.dbus_command.specs.Named.{NamesCommand, IsSelectionGiven, order_word, words_of}
+use Rattle.dbus_command.specs.Named.{HasSettings, NamesCommand, IsSelectionGiven, order_word, words_of}
 use Rattle.dbus_command.specs.Owners.{IsOwnerWord}
 use Rattle.dbus_command.proofs.WordLists.{each_can}
 use Rattle.dbus_command.specs.Told.{IsNoCommand, NamesNothing}
 use Rattle.dbus_command.specs.declared.command.Command.{Command}
 use Rattle.dbus_command.specs.declared.command.Command.TheVariants.{Show, Json, Check, Swap, Filter}
 use Rattle.dbus_command.specs.declared.selection.Selection.{Selection}
+use Rattle.dbus_command.specs.declared.settings.Settings.{Settings}
 
 module _ (sub : Text × List Row) where
-  -- options that name no limits
-  pub unlimited_names_nothing : ((limits : Limits) → HasLimits sub.1 limits → ⊥) → NamesNothing (Some sub)
-  unlimited_names_nothing none = record {
-    no_command = λ command settings named. none settings.limits named.1.limits;
+  -- options that name no settings
+  pub unset_names_nothing : ((settings : Settings) → HasSettings sub.1 settings → ⊥) → NamesNothing (Some sub)
+  unset_names_nothing none = record {
+    no_command = λ command settings named. none settings named.1;
     no_rule = λ refused found. none found.1.0 found.1.1;
   }
 

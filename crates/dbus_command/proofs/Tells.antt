@@ -10,13 +10,12 @@ use Rattle.clap.specs.declared.error.Error.{Error}
 use Rattle.clap.specs.declared.error.kind.ErrorKind.TheVariants.{DisplayHelp, DisplayVersion, OutOfMemory}
 use Rattle.clap.proofs.OnLiterals.{clap_on_literals}
 use Rattle.dbus_command.specs.CommandLine.{wire_app}
-use Rattle.dbus_value_model.specs.declared.limits.Limits.{Limits}
 use Rattle.dbus_match.specs.Matching.{Ownership}
-use Rattle.dbus_command.specs.Limiting.{HasLimits, TellsLimits}
+use Rattle.dbus_command.specs.Limiting.{TellsNamed}
 use Rattle.dbus_command.specs.Told.{TellsFault, TellsKind, Tells, TellsCommand, TellsOwner, TellsOwners, TellsRules, IsUsageOrMemory, IsNoCommand, NamesNothing}
-use Rattle.dbus_command.specs.Named.{HasRuleFault, IsGiven, IsNamedBy, Names, words_of}
+use Rattle.dbus_command.specs.Named.{HasRuleFault, HasSettings, IsGiven, IsNamedBy, Names, words_of}
 use Rattle.dbus_command.specs.Owners.{IsOwnerWord}
-use Rattle.dbus_command.proofs.Nothing.{no_command_names_nothing, unlimited_names_nothing, unowned_is_no_command}
+use Rattle.dbus_command.proofs.Nothing.{no_command_names_nothing, unset_names_nothing, unowned_is_no_command}
 use Rattle.dbus_command.specs.declared.command.Command.{Command}
 use Rattle.dbus_command.specs.declared.settings.Settings.{Settings}
 use Rattle.dbus_command.specs.declared.usage_fault.UsageFault.{UsageFault}
@@ -93,30 +92,39 @@ unruled_told rows texts explains (Rule refused) given owners asked h = record {
   owners = owners;
 }
 
--- what is told of options that name no limits
-pub no_limits_told : (rows : List Row) (told : UsageFault) → IsUsageOrMemory told → ((limits : Limits) → HasLimits rows limits → ⊥) → TellsLimits rows (Err told)
-no_limits_told rows Memory is none = tt
-no_limits_told rows (Help text) is none = absurd is
-no_limits_told rows (Version text) is none = absurd is
-no_limits_told rows (Usage text) is none = none
-no_limits_told rows (Rule refused) is none = absurd is
+-- what is told of options that name nothing of which this holds
+pub unnamed_told : {A : Type 0} (Is : A → Type 0) (told : UsageFault) → IsUsageOrMemory told → ((x : A) → Is x → ⊥) → TellsNamed Is (Err told)
+unnamed_told Is Memory is none = tt
+unnamed_told Is (Help text) is none = absurd is
+unnamed_told Is (Version text) is none = absurd is
+unnamed_told Is (Usage text) is none = none
+unnamed_told Is (Rule refused) is none = absurd is
 
--- and of a command after such options
-pub told_without_limits : (sub : Text × List Row) (told : UsageFault) → TellsLimits sub.1 (Err told) → Tells (Some sub) (Err told)
-told_without_limits sub Memory h = tt
-told_without_limits sub (Help text) h = h
-told_without_limits sub (Version text) h = h
-told_without_limits sub (Usage text) h = unlimited_names_nothing sub h
-told_without_limits sub (Rule refused) h = absurd h
+-- and where they are to name more than that
+pub part_told : {A B : Type 0} (Part : A → Type 0) (Is : B → Type 0) → ((y : B) → Is y → (x : A) × Part x) → (told : UsageFault)
+    → TellsNamed Part (Err told) → TellsNamed Is (Err told)
+part_told Part Is has Memory h = tt
+part_told Part Is has (Help text) h = h
+part_told Part Is has (Version text) h = h
+part_told Part Is has (Usage text) h = λ y is. let part = has y is in h part.0 part.1
+part_told Part Is has (Rule refused) h = h
 
--- what is told of the words after a name, where they name limits
-pub told_under_limits : (sub : Text × List Row) (limits : Limits) (told : UsageFault) → HasLimits sub.1 limits → TellsCommand sub.0 sub.1 (Err told)
+-- and of a command after options that name no settings
+pub told_without_settings : (sub : Text × List Row) (told : UsageFault) → TellsNamed (HasSettings sub.1) (Err told) → Tells (Some sub) (Err told)
+told_without_settings sub Memory h = tt
+told_without_settings sub (Help text) h = h
+told_without_settings sub (Version text) h = h
+told_without_settings sub (Usage text) h = unset_names_nothing sub h
+told_without_settings sub (Rule refused) h = absurd h
+
+-- what is told of the words after a name, where they name settings
+pub told_under_settings : (sub : Text × List Row) (settings : Settings) (told : UsageFault) → HasSettings sub.1 settings → TellsCommand sub.0 sub.1 (Err told)
     → Tells (Some sub) (Err told)
-told_under_limits sub limits Memory given h = tt
-told_under_limits sub limits (Help text) given h = h
-told_under_limits sub limits (Version text) given h = h
-told_under_limits sub limits (Usage text) given h = no_command_names_nothing sub h
-told_under_limits sub limits (Rule refused) given h = (h, (limits, given))
+told_under_settings sub settings Memory given h = tt
+told_under_settings sub settings (Help text) given h = h
+told_under_settings sub settings (Version text) given h = h
+told_under_settings sub settings (Usage text) given h = no_command_names_nothing sub h
+told_under_settings sub settings (Rule refused) given h = (h, (settings, given))
 
 pub named_of_matches : (words : List Text) (sub : Option (Text × List Row)) (answer : Result (Command × Settings) UsageFault) → subcommand_of wire_app words ≡ sub
     → Tells sub answer → IfOk answer (IsNamedBy words)

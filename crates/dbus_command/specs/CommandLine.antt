@@ -32,14 +32,19 @@ limit_rule name most = record (new_rule name) { long = Some name; value_names = 
 abbrev pub fds_rule : Rule
 fds_rule = record (new_rule (codes "fds")) { long = Some (codes "fds"); value_names = 1 }
 
--- the command with the options that each has: `--explain`, and four for limits
+-- the option `--handshake`, with one value
+abbrev pub handshake_rule : Rule
+handshake_rule = record (new_rule (codes "handshake")) { long = Some (codes "handshake"); value_names = 1 }
+
+-- the command with the options that each has: `--explain`, four for limits, and `--handshake`
 abbrev pub with_options : App → App
 with_options app = with_rule
     (with_rule
     (with_rule
+    (with_rule
     (with_rule (with_rule app (flag_rule (codes "explain"))) (limit_rule (codes "max-message") MESSAGE_LIMIT))
     (limit_rule (codes "max-array") ARRAY_LIMIT))
-    (limit_rule (codes "max-depth") DEPTH_LIMIT)) fds_rule
+    (limit_rule (codes "max-depth") DEPTH_LIMIT)) fds_rule) handshake_rule
 
 -- and with `--keep-going`, which all but `swap` have
 abbrev pub with_keep_going : App → App

@@ -50,11 +50,12 @@ abbrev pub GivesNumber : Option Text → ℕ → Option ℕ → Type 0
 GivesNumber given default (Some number) = IsNumberOf given default number
 GivesNumber given default None = (number : ℕ) → IsNumberOf given default number → 2 ^ 32 ≤ number
 
--- the limits that the options name, or a fault of usage where they name none
-abbrev pub TellsLimits : List Row → Result Limits UsageFault → Type 0
-TellsLimits rows (Ok limits) = HasLimits rows limits
-TellsLimits rows (Err Memory) = Unit {0}
-TellsLimits rows (Err (Help text)) = ⊥
-TellsLimits rows (Err (Version text)) = ⊥
-TellsLimits rows (Err (Usage text)) = (limits : Limits) → HasLimits rows limits → ⊥
-TellsLimits rows (Err (Rule refused)) = ⊥
+module _ {A : Type 0} (Is : A → Type 0) where
+  -- what options name, of which Is holds; or a fault of usage where it holds of nothing
+  abbrev pub TellsNamed : Result A UsageFault → Type 0
+  TellsNamed (Ok x) = Is x
+  TellsNamed (Err Memory) = Unit {0}
+  TellsNamed (Err (Help text)) = ⊥
+  TellsNamed (Err (Version text)) = ⊥
+  TellsNamed (Err (Usage text)) = (x : A) → Is x → ⊥
+  TellsNamed (Err (Rule refused)) = ⊥

@@ -1,9 +1,8 @@
 -- The command and the settings that words name, and the rule among them that is refused.
-use Rattle.std.specs.Prelude.{◌≡◌, ◌↔◌, true, List, [], ◌∷◌, ◌++◌, Option, Some, None, unwrap_or, codes, string_bytes}
+use Rattle.std.specs.Prelude.{◌≡◌, ◌↔◌, true, List, [], ◌∷◌, ◌++◌, Option, Some, None, option_map, unwrap_or, codes, string_bytes}
 use Rattle.std.specs.List.{AllByRecursion, AllZip}
 use Rattle.std.specs.declared.alloc.Global.{Global}
 use Rattle.clap.specs.Words.{Row, Text, all_of, first_of, subcommand_of}
-use Rattle.dbus_value_model.specs.declared.limits.Limits.{Limits}
 use Rattle.dbus_value_model.specs.declared.order.Order.{Order}
 use Rattle.dbus_value_model.specs.declared.order.Order.TheVariants.{Little, Big}
 use Rattle.dbus_match.specs.declared.rule.Rule.{Rule}
@@ -11,6 +10,8 @@ use Rattle.dbus_match.specs.Faults.{IsFault}
 use Rattle.dbus_match.specs.Matching.{Ownership}
 use Rattle.dbus_match.specs.Rules.{Pair, SpellsRule}
 use Rattle.dbus_match.specs.RuleViews.{rule_pairs}
+use Rattle.dbus_handshake_input.specs.declared.side.Side.{Side}
+use Rattle.dbus_handshake_input.specs.declared.side.Side.TheVariants.{Client, Server}
 use Rattle.dbus_command.specs.CommandLine.{wire_app}
 use Rattle.dbus_command.specs.Limiting.{HasLimits}
 use Rattle.dbus_command.specs.Owners.{AreOwnersOf, IsOwnerWord}
@@ -29,6 +30,20 @@ order_word Big = codes "B"
 abbrev pub IsOrderOf : Text → Option Order → Type 0
 IsOrderOf word (Some order) = word ≡ order_word order
 IsOrderOf word None = (order : Order) → word ≡ order_word order → ⊥
+
+-- the word that stands for a side of a connection
+abbrev pub side_word : Side → Text
+side_word Client = codes "client"
+side_word Server = codes "server"
+
+-- the word stands for the side, or for none
+abbrev pub IsSideOf : Text → Option Side → Type 0
+IsSideOf word (Some side) = word ≡ side_word side
+IsSideOf word None = (side : Side) → word ≡ side_word side → ⊥
+
+-- the side whose handshake comes first is the one that its option is given; without that option there is none
+abbrev pub HasSide : List Row → Option Side → Type 0
+HasSide rows side = first_of (codes "handshake") rows ≡ option_map side_word side
 
 -- the words that an option is given, each time that it stands there
 abbrev pub words_of : Text → List Row → List Text
@@ -58,11 +73,12 @@ NamesCommand name rows Check = name ≡ codes "check"
 NamesCommand name rows (Swap order) = (name ≡ codes "swap") × (first_of (codes "to") rows ≡ Some (order_word order))
 NamesCommand name rows (Filter selection) = (name ≡ codes "filter") × IsSelectionGiven rows selection
 
--- the words after a subcommand name the limits, and have each flag that is set and no other
+-- the words after a subcommand name the limits and the side, and have each flag that is set and no other
 pub record HasSettings (rows : List Row) (settings : Settings) : Type 0 where
   pub limits : HasLimits rows settings.limits
   pub explains : (settings.explains ≡ true) ↔ IsGiven (codes "explain") rows
   pub keeps_going : (settings.keeps_going ≡ true) ↔ IsGiven (codes "keep-going") rows
+  pub handshake : HasSide rows settings.handshake
 
 -- the subcommand and the words after it name the command and its settings
 abbrev pub Names : Option (Text × List Row) → Command → Settings → Type 0
@@ -91,7 +107,7 @@ pub record HasFault (name : Text) (rows : List Row) (refused : RefusedRule) : Ty
   pub explains : (refused.explains ≡ true) ↔ IsGiven (codes "explain") rows
   pub owners : AllByRecursion (λ word. (o : Ownership) × IsOwnerWord word o) (words_of (codes "owner") rows)
 
--- the same, after options that name limits
+-- the same, among options that name settings
 abbrev pub HasRuleFault : Option (Text × List Row) → RefusedRule → Type 0
 HasRuleFault None refused = ⊥
-HasRuleFault (Some sub) refused = HasFault sub.0 sub.1 refused × ((limits : Limits) × HasLimits sub.1 limits)
+HasRuleFault (Some sub) refused = HasFault sub.0 sub.1 refused × ((settings : Settings) × HasSettings sub.1 settings)

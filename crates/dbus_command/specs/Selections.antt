@@ -4,7 +4,7 @@ use Rattle.std.specs.Prelude.{◌≡◌, ◌⊎◌, Bool, true, false, List, [],
 use Rattle.std.specs.declared.alloc.Global.{Global}
 use Rattle.dbus_message_model.specs.Messages.{MessageTree}
 use Rattle.dbus_match.specs.declared.rule.Rule.{Rule}
-use Rattle.dbus_match.specs.Matching.{Matches, Ownership, ownership, ownerships}
+use Rattle.dbus_match.specs.Matching.{Matches, Ownership, ownerships}
 use Rattle.dbus_match.specs.RuleViews.{rule_pairs}
 use Rattle.dbus_command.specs.declared.selection.Selection.{Selection}
 

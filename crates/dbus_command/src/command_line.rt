@@ -1,7 +1,8 @@
 //! The command that the words of a command line name.
 ghost use Rattle.std.specs.Prelude.{◌≡◌, ◌↔◌, true, List, IfOk, MatchOption, map, string_bytes, codes};
 ghost use Rattle.clap.specs.Words.{found_of, kind_of, rows_of, subcommand_rows_of};
-ghost use Rattle.dbus_command.specs.Named.{IsGiven, IsNamedBy, IsOrderOf, words_of};
+ghost use Rattle.dbus_command.specs.Named.{HasSettings, HasSide, IsGiven, IsNamedBy, IsOrderOf, IsSideOf, words_of};
+ghost use Rattle.dbus_command.specs.Limiting.{TellsNamed};
 ghost use Rattle.dbus_command.specs.Told.{TellsKind, Tells, TellsCommand, TellsFault, TellsOwners};
 
 use crate::command::Command;
@@ -14,6 +15,7 @@ use crate::usage_fault::{UsageFault, bad_value, usage};
 use crate::wire::wire;
 use clap::ArgMatches;
 use clap::error::ErrorKind;
+use dbus_handshake_input::Side;
 use dbus_match::Owner;
 use dbus_value::Order;
 use std::alloc::Global;
@@ -21,7 +23,7 @@ use std::alloc::Global;
 /// The command that the words name, and its settings. The first of the words is the program's name. `--max-message` and
 /// `--max-array`, in bytes, `--max-depth`, in open containers, and `--fds`, a rule on indexes of descriptors, name the limits;
 /// one that they do not name is that of the specification. The flags `--explain`, and `--keep-going` of all commands but `swap`,
-/// are set if they are among the words.
+/// are set if they are among the words. `--handshake` names the side whose handshake comes before the messages.
 ///
 /// `Usage`: the words name no command of the program, or have what it does not take, a limit over that of the specification
 /// and an owner that is no NAME=UNIQUE of two bus names among it. `Rule`: they name `filter`, with a text that spells no rule;
@@ -48,14 +50,49 @@ fn command_named(alloc: Global, matches: &ArgMatches) -> Result<(Command, Settin
     let Some((name, inner)) = matches.subcommand() else {
         return Err(usage(alloc, "error: no command\n"));
     };
-    let limits = limits_named(alloc, inner)?;
+    let settings = settings_named(alloc, inner)?;
     let command = command_with(alloc, name, inner)?;
-    let settings = Settings {
+    Ok((command, settings))
+}
+
+// The settings that the options name.
+fn settings_named(alloc: Global, inner: &ArgMatches) -> Result<Settings, UsageFault>
+    ensures { TellsNamed (HasSettings (rows_of (found_of inner.now))) result }
+{
+    let limits = limits_named(alloc, inner)?;
+    let handshake = side_named(alloc, inner)?;
+    Ok(Settings {
         limits,
         explains: is_given(inner, "explain"),
         keeps_going: is_given(inner, "keep-going"),
+        handshake,
+    })
+}
+
+// The side that `--handshake` is given.
+fn side_named(alloc: Global, inner: &ArgMatches) -> Result<Option<Side>, UsageFault>
+    ensures { TellsNamed (HasSide (rows_of (found_of inner.now))) result }
+{
+    let Some(word) = inner.get_str("handshake") else {
+        return Ok(None);
     };
-    Ok((command, settings))
+    match side_of(word) {
+        Some(side) => Ok(Some(side)),
+        None => Err(bad_value(alloc, word, "--handshake <SIDE>", "client, server")),
+    }
+}
+
+// The side that a word stands for.
+fn side_of(word: &str) -> Option<Side>
+    ensures { IsSideOf word.now result }
+{
+    if word == "client" {
+        return Some(Side::Client);
+    }
+    if word == "server" {
+        return Some(Side::Server);
+    }
+    None
 }
 
 // The command of this name, with what comes after it.

@@ -20,7 +20,9 @@ macro_rules! more {
             "Input:
   Raw messages on standard input, one after the other, as
   `dbus-monitor --binary` writes them. A message over one of the limits, which
-  the options of a command lower, is refused.
+  the options of a command lower, is refused. With --handshake they follow what
+  that side of a connection sent before its messages; offsets count from the
+  first message.
 
 Output:",
             $output,
@@ -32,7 +34,8 @@ Output:",
 
 Exit status:
   0  the whole input is messages, or help was asked for
-  1  the input is refused: it has bytes that are no message, or ends within one
+  1  the input is refused: it has bytes that are no message, or ends within one,
+     or does not begin with the handshake
   2  the command line is wrong, or a limit is out of its range
   3  a read or a write failed, too many reads were made, or memory ran out
 
@@ -167,3 +170,6 @@ pub(crate) const MAX_DEPTH: &str = "Most containers open at once: 0 to 64, the d
 
 /// What the rule on indexes of descriptors is.
 pub(crate) const FDS: &str = "Descriptor indexes: any, the default, or below-count";
+
+/// What the side of a handshake is.
+pub(crate) const HANDSHAKE: &str = "Whose handshake comes first: client or server";

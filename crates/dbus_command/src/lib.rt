@@ -19,6 +19,7 @@ mod wire;
 
 pub use command::Command;
 pub use command_line::command_of;
+pub use dbus_handshake_input::Side;
 pub use selection::Selection;
 pub use settings::Settings;
 pub use usage_fault::{RefusedRule, UsageFault};

@@ -1,6 +1,6 @@
 //! The limits that the options of a command name.
 ghost use Rattle.clap.specs.Words.{found_of, one_of, rows_of};
-ghost use Rattle.dbus_command.specs.Limiting.{GivesNumber, GivesNumbers, IsFdsOf, TellsLimits};
+ghost use Rattle.dbus_command.specs.Limiting.{GivesNumber, GivesNumbers, HasLimits, IsFdsOf, TellsNamed};
 
 use crate::usage_fault::{UsageFault, bad_value, usage};
 use clap::ArgMatches;
@@ -9,7 +9,7 @@ use std::alloc::Global;
 
 /// The limits that the options name. `Usage`: one of them is given what it may not be. `Memory`: an allocation failed.
 pub(crate) fn limits_named(alloc: Global, inner: &ArgMatches) -> Result<Limits, UsageFault>
-    ensures { TellsLimits (rows_of (found_of inner.now)) result }
+    ensures { TellsNamed (HasLimits (rows_of (found_of inner.now))) result }
 {
     let Some(limits) = numbers_named(inner) else {
         return Err(usage(alloc, "error: no limits\n"));

@@ -1,4 +1,5 @@
 //! What words set beside the command.
+use dbus_handshake_input::Side;
 use dbus_value::Limits;
 
 /// How the messages of the input are read, and what follows one that is refused.
@@ -10,4 +11,6 @@ pub struct Settings {
     pub explains: bool,
     /// Whether the messages after a refused one are read too.
     pub keeps_going: bool,
+    /// The side whose handshake comes before the messages, if one does.
+    pub handshake: Option<Side>,
 }

@@ -1,7 +1,7 @@
 //! The command line, as `clap` is told it.
 ghost use Rattle.std.specs.Prelude.{◌≡◌, IfOk, false};
 ghost use Rattle.clap.specs.Words.{app_of, rule_of};
-ghost use Rattle.dbus_command.specs.CommandLine.{Adds, IsLocal, fds_rule, flag_rule, limit_rule, owner_rule, text_rule, with_keep_going, with_options, wire_app, bare_app, show_app, json_app, check_app, swap_app, filter_app};
+ghost use Rattle.dbus_command.specs.CommandLine.{Adds, IsLocal, fds_rule, flag_rule, handshake_rule, limit_rule, owner_rule, text_rule, with_keep_going, with_options, wire_app, bare_app, show_app, json_app, check_app, swap_app, filter_app};
 
 use crate::help;
 use clap::builder::ValueParser;
@@ -32,6 +32,17 @@ fn fds_option<'a>(alloc: Global) -> Arg<'a>
         .help(help::FDS)
 }
 
+// The option of the side whose handshake comes first.
+fn handshake_option<'a>(alloc: Global) -> Arg<'a>
+    ensures rule { rule_of result ≡ handshake_rule }
+    ensures local { result.global ≡ false }
+{
+    Arg::new(alloc, "handshake")
+        .long("handshake")
+        .value_name("SIDE")
+        .help(help::HANDSHAKE)
+}
+
 // A flag.
 fn flag<'a>(alloc: Global, name: &'a str, help: &'a str) -> Arg<'a>
     ensures rule { rule_of result ≡ flag_rule name.entry.now }
@@ -55,7 +66,8 @@ fn with_options<'a>(alloc: Global, command: Command<'a>) -> Result<Command<'a>, 
         .arg(message)?
         .arg(array)?
         .arg(depth)?
-        .arg(fds_option(alloc))
+        .arg(fds_option(alloc))?
+        .arg(handshake_option(alloc))
 }
 
 // The command with `--keep-going` and the options that each command takes.

@@ -32,7 +32,7 @@ use Rattle.dbus_tool.proofs.Outputs.{front_of_first}
 use Rattle.dbus_tool.proofs.WriteSteps.{wrote_both, wrote_stopped}
 
 abbrev pub plain : Limits → Settings
-plain limits = record { limits = limits; explains = false; keeps_going = false }
+plain limits = record { limits = limits; explains = false; keeps_going = false; handshake = None }
 
 pub no_check : (command : Command) → command ≢ Check → is_check command ≡ false
 no_check Show n = refl

@@ -16,4 +16,5 @@ pub mod Closing
 pub mod Telling
 pub mod Parts
 pub mod Going
+pub mod Handshaking
 pub mod Words

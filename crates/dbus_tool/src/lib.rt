@@ -29,7 +29,8 @@ mod tally;
 mod telling;
 mod words;
 
-pub use dbus_command::{Command, RefusedRule, Selection, Settings, UsageFault, command_of};
+pub use dbus_command::{Command, RefusedRule, Selection, Settings, Side, UsageFault, command_of};
+pub use dbus_handshake_input::ReadAhead;
 pub use ending::ExitStatus;
 pub use going::run_with;
 pub use running::{run, run_reads, run_within};

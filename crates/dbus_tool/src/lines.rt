@@ -1,8 +1,9 @@
 //! The lines that are written.
 ghost use Rattle.std.specs.Prelude.{◌≡◌, ◌+◌, IfOk, string_bytes};
-ghost use Rattle.dbus_tool.specs.Lines.{ok_line, counts_line, refused_line, cause_line};
+ghost use Rattle.dbus_tool.specs.Lines.{ok_line, counts_line, refused_line, handshake_line, cause_line};
 
 use crate::ending::Cause;
+use dbus_handshake_input::HandshakeReason;
 use dbus_value::Fault;
 use std::alloc::{AllocError, Allocator};
 
@@ -42,6 +43,17 @@ pub(crate) fn refused_line<A: Allocator + Copy>(
     let place = size as u128 + fault.at as u128;
     let reason = fault.reason;
     format!(in alloc; "refused at {place}: {reason}\n")
+}
+
+// What is written of an input that begins with no handshake.
+pub(crate) fn handshake_line<A: Allocator + Copy>(
+    alloc: A,
+    at: usize,
+    reason: HandshakeReason,
+) -> Result<String<A>, AllocError>
+    ensures { IfOk result (λ line. string_bytes line ≡ handshake_line at reason) }
+{
+    format!(in alloc; "handshake refused at {at}: {reason}\n")
 }
 
 // The line of a cause.

@@ -102,6 +102,7 @@ pub fn run_within<A: Allocator + Copy, R: Source, W: Sink, E: Sink>(
                     limits,
                     explains: false,
                     keeps_going: false,
+                    handshake: None,
                 },
             };
             match hand_over(alloc, plan, reads, reader, first, second) {

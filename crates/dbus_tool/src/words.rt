@@ -1,14 +1,17 @@
 //! The program over the words of its command line.
 ghost use Rattle.std.specs.Prelude.{◌≤◌, ◌||◌, ◌^◌, map, string_bytes};
 ghost use Rattle.dbus_tool.specs.Devices.{reading, writing};
-ghost use Rattle.dbus_tool.specs.Words.{RefusesRule, RunsBy, RunsWords, ShowsText, ShowsUsage};
+ghost use Rattle.dbus_tool.specs.Handshaking.{Shows, TellsHandshake};
+ghost use Rattle.dbus_tool.specs.Words.{RefusesRule, RunsBy, RunsFrom, RunsWords, ShowsText};
 
 use crate::ending::{Cause, ExitStatus};
 use crate::failing::give_up;
 use crate::going::run_with;
+use crate::lines::handshake_line;
 use crate::rule_lines::rule_text;
 use crate::running::run_within;
 use dbus_command::{Command, RefusedRule, Settings, UsageFault, command_of};
+use dbus_handshake_input::{HandshakeFault, ReadAhead, pass_handshake};
 use dbus_stream::{MOST_READS, Sink, Source, WrittenOnly, write_all};
 use std::alloc::Global;
 
@@ -18,29 +21,56 @@ use std::alloc::Global;
 /// and if they name `filter` with a text that spells no rule, `rule refused at P: NAME` and LF, the place in that text and the name
 /// of the reason, and then the lines that explain it, if they ask for explanations.
 ///
-/// `Done`, `Refused`, `Failed`: as [`run_within`] says. `Done` also where help was written. `Usage`: the words name no
-/// command, and that was reported. `Failed` also if such a text was not written, of help with `write failed` on the second
-/// writer; and if an allocation failed, with `out of memory` there.
+/// If they name the side of a handshake, that is taken first, as `dbus_handshake_input::pass_handshake` does, by reads which are none
+/// of the 2^32; the run has what follows, and counts its offsets from there. If the input begins with no handshake of that side,
+/// `handshake refused at P: NAME` and LF go to the second writer, with the place from the start of the input and the name of the reason.
+///
+/// `Done`, `Refused`, `Failed`: as [`run_within`] says. `Done` also where help was written, and `Refused` where a handshake was refused.
+/// `Usage`: the words name no command, and that was reported. `Failed` also if such a text was not written, of help with
+/// `write failed` on the second writer; and if an allocation failed, with `out of memory` there.
 pub fn run_words<R: Source, W: Sink, E: Sink>(
     alloc: Global,
     words: &[String],
-    reader: &mut R,
+    reader: &mut ReadAhead<R>,
     first: &mut W,
     second: &mut E,
 ) -> ExitStatus
-    ensures { RunsWords (reading R.left R.calls R.failures reader.old reader.new)
+    ensures { RunsWords R.left R.failures reader.old reader.new
         (writing W.held W.failures first.old first.new)
         (writing E.held E.failures second.old second.new)
         (map string_bytes words.now) result }
 {
     match command_of(alloc, words) {
-        Ok((command, settings)) => run_by(alloc, command, settings, reader, first, second),
+        Ok((command, settings)) => run_named(alloc, command, settings, reader, first, second),
         Err(UsageFault::Memory) => give_up(Cause::Memory, second),
         Err(UsageFault::Help(text) | UsageFault::Version(text)) => {
             show_text(text.as_str(), first, second)
         }
-        Err(UsageFault::Usage(text)) => show_usage(text.as_str(), second),
+        Err(UsageFault::Usage(text)) => show(text.as_str(), ExitStatus::Usage, second),
         Err(UsageFault::Rule(refused)) => refuse_rule(alloc, &refused, second),
+    }
+}
+
+// Runs a command by its settings, after the handshake if they name its side.
+fn run_named<R: Source, W: Sink, E: Sink>(
+    alloc: Global,
+    command: Command,
+    settings: Settings,
+    reader: &mut ReadAhead<R>,
+    first: &mut W,
+    second: &mut E,
+) -> ExitStatus
+    ensures { RunsFrom R.left R.failures reader.old reader.new
+        (writing W.held W.failures first.old first.new)
+        (writing E.held E.failures second.old second.new)
+        settings.handshake settings command result }
+{
+    let Some(side) = settings.handshake else {
+        return run_by(alloc, command, settings, reader, first, second);
+    };
+    match pass_handshake(alloc, side, reader) {
+        Ok(()) => run_by(alloc, command, settings, reader, first, second),
+        Err(fault) => refuse_handshake(alloc, fault, second),
     }
 }
 
@@ -53,10 +83,11 @@ fn run_by<R: Source, W: Sink, E: Sink>(
     first: &mut W,
     second: &mut E,
 ) -> ExitStatus
-    ensures { RunsBy (reading R.left R.calls R.failures reader.old reader.new)
+    ensures { RunsBy (settings.explains || settings.keeps_going)
+        (reading R.left R.calls R.failures reader.old reader.new)
         (writing W.held W.failures first.old first.new)
         (writing E.held E.failures second.old second.new)
-        (settings.explains || settings.keeps_going) settings command result }
+        settings command result }
 {
     if settings.explains || settings.keeps_going {
         run_with(alloc, command, settings, MOST_READS, reader, first, second)
@@ -77,12 +108,12 @@ fn show_text<W: Sink, E: Sink>(text: &str, first: &mut W, second: &mut E) -> Exi
     }
 }
 
-// Writes the text of a fault of usage.
-fn show_usage<E: Sink>(text: &str, second: &mut E) -> ExitStatus
-    ensures { ShowsUsage E.held E.failures text.now second.old second.new result }
+// Writes the text of a fault, of which this is the status.
+fn show<E: Sink>(text: &str, status: ExitStatus, second: &mut E) -> ExitStatus
+    ensures { Shows E.held E.failures second.old second.new status text.now result }
 {
     match write_all(second, text.as_bytes()) {
-        Ok(()) => ExitStatus::Usage,
+        Ok(()) => status,
         Err(WrittenOnly(_)) => ExitStatus::Failed,
     }
 }
@@ -92,7 +123,21 @@ fn refuse_rule<E: Sink>(alloc: Global, refused: &RefusedRule, second: &mut E) ->
     ensures { RefusesRule E.held E.failures refused.now second.old second.new result }
 {
     match rule_text(alloc, refused) {
-        Ok(text) => show_usage(text.as_str(), second),
+        Ok(text) => show(text.as_str(), ExitStatus::Usage, second),
         Err(_) => give_up(Cause::Memory, second),
+    }
+}
+
+// Writes why no handshake was read.
+fn refuse_handshake<E: Sink>(alloc: Global, fault: HandshakeFault, second: &mut E) -> ExitStatus
+    ensures { TellsHandshake E.held E.failures second.old second.new fault result }
+{
+    match fault {
+        HandshakeFault::Memory => give_up(Cause::Memory, second),
+        HandshakeFault::Device => give_up(Cause::ReadFailed, second),
+        HandshakeFault::Refused { at, reason } => match handshake_line(alloc, at, reason) {
+            Ok(line) => show(line.as_str(), ExitStatus::Refused, second),
+            Err(_) => give_up(Cause::Memory, second),
+        },
     }
 }

@@ -1,6 +1,6 @@
 //! `dbus-wire`: reads D-Bus messages from standard input, one after the other, and does with them what its command
 //! line says: `show` writes each as text, `json` as a line of JSON, `swap` in one byte order, `filter` those that match a rule
-//! as they came, and `check` counts them.
+//! as they came, and `check` counts them. With `--handshake` the messages follow the handshake of one side of a connection.
 //!
 //! Output and help go to standard output. That an input is refused is told on standard error, by `check` on standard
 //! output; why the command line is wrong or a run failed, on standard error. The exit status is 0 if the whole input is
@@ -9,7 +9,7 @@
 #![tactic(auto)]
 
 use dbus_stream::{FromRead, FromWrite, Sink, write_all};
-use dbus_tool::{ExitStatus, run_words};
+use dbus_tool::{ExitStatus, ReadAhead, run_words};
 use std::io::ErrorKind;
 use std::process::ExitCode;
 use std::{env, io};
@@ -33,7 +33,7 @@ fn tell_no_words<E: Sink>(error: &io::Error, second: &mut E) -> ExitStatus {
 }
 
 fn main(rt: HostRuntime) -> ExitCode {
-    let mut reader = FromRead::new(rt.stdin());
+    let mut reader = ReadAhead::new(FromRead::new(rt.stdin()));
     let mut first = FromWrite::new(rt.stdout());
     let mut second = FromWrite::new(rt.stderr());
     let status = match words_of(&rt) {

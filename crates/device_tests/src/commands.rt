@@ -4,7 +4,7 @@ use crate::help_texts::*;
 use crate::running::words_of;
 use crate::usage_texts::*;
 use dbus_match::{RuleReason, rule_text};
-use dbus_tool::{Command, Selection, Settings, UsageFault, command_of};
+use dbus_tool::{Command, Selection, Settings, Side, UsageFault, command_of};
 use dbus_value::{FdRule, Limits, Order};
 use std::alloc::Global;
 use std::process::Abort;
@@ -239,6 +239,29 @@ fn flags(rt: HostRuntime) -> Result<(), Fail> {
     Ok(())
 }
 
+// Words, and the side whose handshake they say comes first.
+const SIDED: &[(&[&str], Option<Side>)] = &[
+    (&["check"], None),
+    (&["show", "--handshake", "client"], Some(Side::Client)),
+    (&["json", "--handshake=server"], Some(Side::Server)),
+    (
+        &["swap", "--handshake=client", "--to", "l"],
+        Some(Side::Client),
+    ),
+    (&["filter", "", "--handshake", "server"], Some(Side::Server)),
+];
+
+#[test]
+fn sides(rt: HostRuntime) -> Result<(), Fail> {
+    for (n, (words, side)) in SIDED.iter().enumerate() {
+        let Ok((_, named)) = answer_to(rt.alloc(), words)? else {
+            return Err(Fail::new("no command"));
+        };
+        assert_eq!(rt; named.handshake, *side, "at {n}");
+    }
+    Ok(())
+}
+
 // What a text is told as.
 #[derive(Clone, Copy, Debug, PartialEq, Eq)]
 enum Text {
@@ -328,6 +351,8 @@ const USAGES: &[(&[&str], &str)] = &[
     (&["check", "--keep-going=1"], WORD_OF_FLAG),
     (&["show", "--fds", "none"], NO_FDS_RULE),
     (&["filter", "arg64='x'", "--fds=none"], NO_FDS_RULE),
+    (&["show", "--handshake", "both"], NO_SIDE),
+    (&["filter", "arg64='x'", "--handshake=both"], NO_SIDE),
     (&["filter", "--invert", "", "--invert"], TWO_INVERTS),
     (&["filter", "--invert"], NO_RULE_TO_INVERT),
     (&["filter", "", "--owner"], NO_WORD_OF_OWNER),

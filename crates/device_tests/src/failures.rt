@@ -81,6 +81,23 @@ const FAILING: &[Failing] = &[
         second: b"rule",
         failures: [0, 0, 1],
     },
+    // Within a handshake.
+    Failing {
+        words: &["show", "--handshake=client"],
+        input: &[b"\0AUTH\r\nBEGIN\r\n", RETURN],
+        devices: [(1, 5), WHOLE, WHOLE],
+        first: b"",
+        second: b"read failed\n",
+        failures: [1, 0, 0],
+    },
+    Failing {
+        words: &["check", "--handshake=client"],
+        input: &[RETURN],
+        devices: [WHOLE, WHOLE, (4, 3)],
+        first: b"",
+        second: b"handshak",
+        failures: [0, 0, 1],
+    },
     Failing {
         words: &["swap"],
         input: &[],

@@ -21,7 +21,9 @@ Options:
 Input:
   Raw messages on standard input, one after the other, as
   `dbus-monitor --binary` writes them. A message over one of the limits, which
-  the options of a command lower, is refused.
+  the options of a command lower, is refused. With --handshake they follow what
+  that side of a connection sent before its messages; offsets count from the
+  first message.
 
 Output:
   What the command makes of the messages, on standard output. If the input is
@@ -34,7 +36,8 @@ Output:
 
 Exit status:
   0  the whole input is messages, or help was asked for
-  1  the input is refused: it has bytes that are no message, or ends within one
+  1  the input is refused: it has bytes that are no message, or ends within one,
+     or does not begin with the handshake
   2  the command line is wrong, or a limit is out of its range
   3  a read or a write failed, too many reads were made, or memory ran out
 
@@ -50,18 +53,21 @@ Writes each message as text
 Usage: dbus-wire show [OPTIONS]
 
 Options:
-      --keep-going       Goes on after a refused message
-      --explain          Explains what is refused, in three more lines
-      --max-message <N>  Most bytes of a message: 0 to 134217728, the default
-      --max-array <N>    Most bytes of an array: 0 to 67108864, the default
-      --max-depth <N>    Most containers open at once: 0 to 64, the default
-      --fds <RULE>       Descriptor indexes: any, the default, or below-count
-  -h, --help             Print help
+      --keep-going        Goes on after a refused message
+      --explain           Explains what is refused, in three more lines
+      --max-message <N>   Most bytes of a message: 0 to 134217728, the default
+      --max-array <N>     Most bytes of an array: 0 to 67108864, the default
+      --max-depth <N>     Most containers open at once: 0 to 64, the default
+      --fds <RULE>        Descriptor indexes: any, the default, or below-count
+      --handshake <SIDE>  Whose handshake comes first: client or server
+  -h, --help              Print help
 
 Input:
   Raw messages on standard input, one after the other, as
   `dbus-monitor --binary` writes them. A message over one of the limits, which
-  the options of a command lower, is refused.
+  the options of a command lower, is refused. With --handshake they follow what
+  that side of a connection sent before its messages; offsets count from the
+  first message.
 
 Output:
   For each message a line on standard output with its number from 1, byte order,
@@ -78,7 +84,8 @@ Output:
 
 Exit status:
   0  the whole input is messages, or help was asked for
-  1  the input is refused: it has bytes that are no message, or ends within one
+  1  the input is refused: it has bytes that are no message, or ends within one,
+     or does not begin with the handshake
   2  the command line is wrong, or a limit is out of its range
   3  a read or a write failed, too many reads were made, or memory ran out
 
@@ -93,18 +100,21 @@ Writes each message as a line of JSON
 Usage: dbus-wire json [OPTIONS]
 
 Options:
-      --keep-going       Goes on after a refused message
-      --explain          Explains what is refused, in three more lines
-      --max-message <N>  Most bytes of a message: 0 to 134217728, the default
-      --max-array <N>    Most bytes of an array: 0 to 67108864, the default
-      --max-depth <N>    Most containers open at once: 0 to 64, the default
-      --fds <RULE>       Descriptor indexes: any, the default, or below-count
-  -h, --help             Print help
+      --keep-going        Goes on after a refused message
+      --explain           Explains what is refused, in three more lines
+      --max-message <N>   Most bytes of a message: 0 to 134217728, the default
+      --max-array <N>     Most bytes of an array: 0 to 67108864, the default
+      --max-depth <N>     Most containers open at once: 0 to 64, the default
+      --fds <RULE>        Descriptor indexes: any, the default, or below-count
+      --handshake <SIDE>  Whose handshake comes first: client or server
+  -h, --help              Print help
 
 Input:
   Raw messages on standard input, one after the other, as
   `dbus-monitor --binary` writes them. A message over one of the limits, which
-  the options of a command lower, is refused.
+  the options of a command lower, is refused. With --handshake they follow what
+  that side of a connection sent before its messages; offsets count from the
+  first message.
 
 Output:
   For each message one line on standard output, an object: its number from 1,
@@ -127,7 +137,8 @@ Output:
 
 Exit status:
   0  the whole input is messages, or help was asked for
-  1  the input is refused: it has bytes that are no message, or ends within one
+  1  the input is refused: it has bytes that are no message, or ends within one,
+     or does not begin with the handshake
   2  the command line is wrong, or a limit is out of its range
   3  a read or a write failed, too many reads were made, or memory ran out
 
@@ -142,18 +153,21 @@ Checks that the input is messages, and counts them
 Usage: dbus-wire check [OPTIONS]
 
 Options:
-      --keep-going       Goes on after a refused message
-      --explain          Explains what is refused, in three more lines
-      --max-message <N>  Most bytes of a message: 0 to 134217728, the default
-      --max-array <N>    Most bytes of an array: 0 to 67108864, the default
-      --max-depth <N>    Most containers open at once: 0 to 64, the default
-      --fds <RULE>       Descriptor indexes: any, the default, or below-count
-  -h, --help             Print help
+      --keep-going        Goes on after a refused message
+      --explain           Explains what is refused, in three more lines
+      --max-message <N>   Most bytes of a message: 0 to 134217728, the default
+      --max-array <N>     Most bytes of an array: 0 to 67108864, the default
+      --max-depth <N>     Most containers open at once: 0 to 64, the default
+      --fds <RULE>        Descriptor indexes: any, the default, or below-count
+      --handshake <SIDE>  Whose handshake comes first: client or server
+  -h, --help              Print help
 
 Input:
   Raw messages on standard input, one after the other, as
   `dbus-monitor --binary` writes them. A message over one of the limits, which
-  the options of a command lower, is refused.
+  the options of a command lower, is refused. With --handshake they follow what
+  that side of a connection sent before its messages; offsets count from the
+  first message.
 
 Output:
   One line on standard output: `ok N messages B bytes`, or `refused at P: NAME`
@@ -169,7 +183,8 @@ Output:
 
 Exit status:
   0  the whole input is messages, or help was asked for
-  1  the input is refused: it has bytes that are no message, or ends within one
+  1  the input is refused: it has bytes that are no message, or ends within one,
+     or does not begin with the handshake
   2  the command line is wrong, or a limit is out of its range
   3  a read or a write failed, too many reads were made, or memory ran out
 
@@ -184,18 +199,21 @@ Writes each message in one byte order
 Usage: dbus-wire swap [OPTIONS] --to <ORDER>
 
 Options:
-      --to <ORDER>       The byte order: l is little-endian, B is big-endian
-      --explain          Explains what is refused, in three more lines
-      --max-message <N>  Most bytes of a message: 0 to 134217728, the default
-      --max-array <N>    Most bytes of an array: 0 to 67108864, the default
-      --max-depth <N>    Most containers open at once: 0 to 64, the default
-      --fds <RULE>       Descriptor indexes: any, the default, or below-count
-  -h, --help             Print help
+      --to <ORDER>        The byte order: l is little-endian, B is big-endian
+      --explain           Explains what is refused, in three more lines
+      --max-message <N>   Most bytes of a message: 0 to 134217728, the default
+      --max-array <N>     Most bytes of an array: 0 to 67108864, the default
+      --max-depth <N>     Most containers open at once: 0 to 64, the default
+      --fds <RULE>        Descriptor indexes: any, the default, or below-count
+      --handshake <SIDE>  Whose handshake comes first: client or server
+  -h, --help              Print help
 
 Input:
   Raw messages on standard input, one after the other, as
   `dbus-monitor --binary` writes them. A message over one of the limits, which
-  the options of a command lower, is refused.
+  the options of a command lower, is refused. With --handshake they follow what
+  that side of a connection sent before its messages; offsets count from the
+  first message.
 
 Output:
   The raw messages on standard output, each in the byte order that is named.
@@ -206,7 +224,8 @@ Output:
 
 Exit status:
   0  the whole input is messages, or help was asked for
-  1  the input is refused: it has bytes that are no message, or ends within one
+  1  the input is refused: it has bytes that are no message, or ends within one,
+     or does not begin with the handshake
   2  the command line is wrong, or a limit is out of its range
   3  a read or a write failed, too many reads were made, or memory ran out
 
@@ -232,12 +251,15 @@ Options:
       --max-array <N>        Most bytes of an array: 0 to 67108864, the default
       --max-depth <N>        Most containers open at once: 0 to 64, the default
       --fds <RULE>           Descriptor indexes: any, the default, or below-count
+      --handshake <SIDE>     Whose handshake comes first: client or server
   -h, --help                 Print help
 
 Input:
   Raw messages on standard input, one after the other, as
   `dbus-monitor --binary` writes them. A message over one of the limits, which
-  the options of a command lower, is refused.
+  the options of a command lower, is refused. With --handshake they follow what
+  that side of a connection sent before its messages; offsets count from the
+  first message.
 
 Output:
   The raw messages that match one of the rules, or with --invert none of them,
@@ -260,7 +282,8 @@ Output:
 
 Exit status:
   0  the whole input is messages, or help was asked for
-  1  the input is refused: it has bytes that are no message, or ends within one
+  1  the input is refused: it has bytes that are no message, or ends within one,
+     or does not begin with the handshake
   2  the command line is wrong, or a limit is out of its range
   3  a read or a write failed, too many reads were made, or memory ran out
 

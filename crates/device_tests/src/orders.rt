@@ -5,7 +5,7 @@ use crate::captures::*;
 use crate::pieces::Pieces;
 use crate::running::{CHECK, SHOW, TO_BIG, TO_LITTLE, words_of};
 use dbus_stream::{DeviceFault, Sink, Source};
-use dbus_tool::{ExitStatus, run_words};
+use dbus_tool::{ExitStatus, ReadAhead, run_words};
 use std::alloc::Global;
 use std::cell::Cell;
 use std::test::Fail;
@@ -85,7 +85,7 @@ fn goes_out(
     let status = run_words(
         alloc,
         words.as_slice(),
-        &mut reader,
+        &mut ReadAhead::new(&mut reader),
         &mut first,
         &mut second,
     );

@@ -5,7 +5,8 @@ use crate::narrow::Narrow;
 use crate::pieces::Pieces;
 use dbus_stream::{FromWrite, MOST_READS, Source};
 use dbus_tool::{
-    Command, ExitStatus, Settings, command_of, run_reads, run_with, run_within, run_words,
+    Command, ExitStatus, ReadAhead, Settings, command_of, run_reads, run_with, run_within,
+    run_words,
 };
 use std::alloc::{Allocator, Global};
 use std::process::Abort;
@@ -133,7 +134,7 @@ pub(crate) fn ran_words(
     let status = run_words(
         alloc,
         words.as_slice(),
-        &mut reader,
+        &mut ReadAhead::new(&mut reader),
         &mut first,
         &mut second,
     );

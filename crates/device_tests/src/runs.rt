@@ -180,6 +180,81 @@ fn inputs_that_are_refused(rt: HostRuntime) -> Result<(), Fail> {
     Ok(())
 }
 
+// What a client and a server sent before their messages.
+const CLIENT: &[u8] = b"\0AUTH EXTERNAL 30\r\nNEGOTIATE_UNIX_FD\r\nBEGIN\r\n";
+
+const SERVER: &[u8] =
+    b"REJECTED EXTERNAL\r\nOK 000102030405060708090a0b0c0d0e0f\r\nAGREE_UNIX_FD\r\n";
+
+// Words, the input, how the run ends, and what is written on the first writer and on the second.
+const BEHIND: &[(&[&str], &[&[u8]], ExitStatus, &[&[u8]], &[u8])] = &[
+    (
+        &["check", "--handshake", "client"],
+        &[CLIENT, RETURN, BIG_RETURN],
+        ExitStatus::Done,
+        &[b"ok 2 messages 48 bytes\n"],
+        b"",
+    ),
+    // Offsets count from the first message.
+    (
+        &["json", "--handshake=server"],
+        &[SERVER, RETURN, SIGNAL],
+        ExitStatus::Done,
+        &[RETURN_JSON, SIGNAL_JSON_AS_SECOND],
+        b"",
+    ),
+    (
+        &["swap", "--to=B", "--handshake=client"],
+        &[CLIENT, RETURN, FRONT],
+        ExitStatus::Refused,
+        &[BIG_RETURN],
+        TRUNCATED,
+    ),
+    (
+        &["check", "--keep-going", "--handshake=server"],
+        &[SERVER],
+        ExitStatus::Done,
+        &[b"ok 0 messages 0 bytes\n"],
+        b"",
+    ),
+    // What is no handshake of the side is told on the second writer, and is not explained.
+    (
+        &["check", "--handshake=client"],
+        &[SERVER, RETURN],
+        ExitStatus::Refused,
+        &[],
+        b"handshake refused at 0: FirstByte\n",
+    ),
+    (
+        &["filter", "--explain", "", "--handshake=server"],
+        &[b"DATA\r\nlist\r\n", RETURN],
+        ExitStatus::Refused,
+        &[],
+        b"handshake refused at 6: NoCommand\n",
+    ),
+    (
+        &["show", "--handshake=client"],
+        &[CLIENT, CLIENT],
+        ExitStatus::Refused,
+        &[],
+        b"refused at 0: ByteOrder\n",
+    ),
+];
+
+#[test]
+fn messages_behind_a_handshake(rt: HostRuntime) -> Result<(), Fail> {
+    for (n, (words, input, status, first, second)) in BEHIND.iter().enumerate() {
+        let input = joined(rt.alloc(), input)?;
+        let first = joined(rt.alloc(), first)?;
+        for size in [1, 100, 100_000] {
+            let devices = [(size, 0), BY_ONE, BY_ONE];
+            let (end, _, _) = ran_words(rt.alloc(), words, input.as_slice(), devices)?;
+            assert_end(&rt, n, &end, *status, first.as_slice(), second);
+        }
+    }
+    Ok(())
+}
+
 const TOO_MANY: &[u8] = b"too many reads\n";
 
 // Words, how many reads may be made of a message in pieces of one byte, how the command ends, and what is written on the

@@ -203,6 +203,13 @@ error: invalid value 'none' for '--fds <RULE>'
 For more information, try '--help'.
 ";
 
+pub(crate) const NO_SIDE: &str = "\
+error: invalid value 'both' for '--handshake <SIDE>'
+  [possible values: client, server]
+
+For more information, try '--help'.
+";
+
 pub(crate) const TWO_INVERTS: &str = "\
 error: the argument '--invert' cannot be used multiple times
 

@@ -6,7 +6,7 @@ use anyhow::{Result, bail};
 use case_files::{Case, Tally, bytes_of, cases};
 use dbus_match::{RuleFault, parse_rule, rule_text};
 use dbus_stream::FromWrite;
-use dbus_tool::{ExitStatus, run_words};
+use dbus_tool::{ExitStatus, ReadAhead, run_words};
 use std::alloc::{AllocError, Global};
 use std::fs;
 
@@ -24,7 +24,7 @@ fn filtered(alloc: Global, text: &str) -> Result<End, AllocError> {
     for word in ["dbus-wire", "filter", "--", text] {
         words.push(String::from_str(alloc, word)?)?;
     }
-    let mut reader = Pieces::new(b"", 1);
+    let mut reader = ReadAhead::new(Pieces::new(b"", 1));
     let mut first = FromWrite::new(Vec::new(alloc));
     let mut second = FromWrite::new(Vec::new(alloc));
     let status = run_words(

@@ -3,7 +3,7 @@ use Rattle.clap.specs.Words.{found_of, rows_of, first_of}
 use Rattle.clap.proofs.WalkLemmas.{first_value-rows}
 use Rattle.dbus_value_model.specs.Specification.{specification}
 use Rattle.dbus_command.specs.Limiting.{HasLimits, IsRuleOf}
-use Rattle.dbus_command.proofs.Tells.{no_limits_told}
+use Rattle.dbus_command.proofs.Tells.{unnamed_told}
 use Rattle.dbus_command.proofs.limits_named.limits_named.Goals as goal
 
 pub returns-in_default-get_str : goal.returns-in_default-get_str
@@ -28,5 +28,5 @@ pub returns-in-None : goal.returns-in-None
 returns-in-None c =
     let given : first_of (codes "fds") (rows_of (found_of c.args.inner.now)) ≡ Some c.in-Some-get_str.word.now
     = sym (first_value-rows (found_of c.args.inner.now) (codes "fds")) ∙ (sym c.get_str.ensures ∙ ap (option_map (λ s. s.now)) c.in-Some-get_str.is) in
-    no_limits_told _ c.bad_value.result c.bad_value.ensures
+    unnamed_told _ c.bad_value.result c.bad_value.ensures
     (λ limits named. c.in-None.ensures limits.fds (subst (λ o. IsRuleOf o specification.fds limits.fds) given named.fds))

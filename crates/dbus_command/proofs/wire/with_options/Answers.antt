@@ -16,7 +16,9 @@ returns c =
     let second = same_locals _ _ _ c.in_ok-arg-2.ensures c.limit_option-message.ensures.local in
     let third = same_locals _ _ _ c.in_ok-arg-3.ensures c.limit_option-array.ensures.local in
     let fourth = same_locals _ _ _ c.in_ok-arg-4.ensures c.limit_option-depth.ensures.local in
-    IfOk-weaker c.arg-5.result _ _ (λ m h. record {
-      app_is = h.shape c.fds_option.ensures.local ∙ ap₂ with_rule depth c.fds_option.ensures.rule;
-      as_local = same_locals _ _ _ h c.fds_option.ensures.local ∙ (fourth ∙ (third ∙ (second ∙ first)));
-    }) c.arg-5.ensures
+    let fds = c.in_ok-arg-5.ensures.shape c.fds_option.ensures.local ∙ ap₂ with_rule depth c.fds_option.ensures.rule in
+    let fifth = same_locals _ _ _ c.in_ok-arg-5.ensures c.fds_option.ensures.local in
+    IfOk-weaker c.arg-6.result _ _ (λ m h. record {
+      app_is = h.shape c.handshake_option.ensures.local ∙ ap₂ with_rule fds c.handshake_option.ensures.rule;
+      as_local = same_locals _ _ _ h c.handshake_option.ensures.local ∙ (fifth ∙ (fourth ∙ (third ∙ (second ∙ first))));
+    }) c.arg-6.ensures

@@ -1,0 +1,8 @@
+use Rattle.std.proofs.Common.{List, ℕ, ◌∙◌, inl, subst}
+use Rattle.dbus_tool.specs.Handshaking.{Shows}
+use Rattle.dbus_tool.specs.declared.ending.ExitStatus.TheVariants.{Refused}
+use Rattle.dbus_tool.proofs.words.refuse_handshake.Goals as goal
+
+pub returns-in-Ok : goal.returns-in-Ok
+returns-in-Ok g c =
+    rw c.in-Refused.is (inl (subst (λ (t : List ℕ). Shows g.E.Sink.held g.E.Sink.failures c.args.second.now c.show.new.second Refused t c.show.result) (c.as_str.ensures.value ∙ c.in-Ok.ensures) c.show.ensures))

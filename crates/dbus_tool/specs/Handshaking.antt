@@ -1,0 +1,42 @@
+-- A handshake is read before the messages, from a source that is read ahead.
+-- D-Bus Specification, "Authentication Protocol".
+use Rattle.std.specs.Prelude.{◌≡◌, ◌⊎◌, ℕ, List, Option, Result}
+use Rattle.std.specs.Io.KnownBytes.{prepend_known}
+use Rattle.dbus_device.specs.Write.{Wrote, Stopped}
+use Rattle.dbus_handshake_input.specs.Ahead.{kept_of, source_of}
+use Rattle.dbus_handshake_input.specs.Passing.{Counts, Passes}
+use Rattle.dbus_handshake_input.specs.declared.fault.HandshakeFault.{HandshakeFault}
+use Rattle.dbus_handshake_input.specs.declared.fault.HandshakeFault.TheVariants as fault
+use Rattle.dbus_handshake_input.specs.declared.read_ahead.ReadAhead.{ReadAhead}
+use Rattle.dbus_handshake_input.specs.declared.side.Side.{Side}
+use Rattle.dbus_tool.specs.Devices.{Reading, reading}
+use Rattle.dbus_tool.specs.Lines.{handshake_line}
+use Rattle.dbus_tool.specs.Running.{Told}
+use Rattle.dbus_tool.specs.declared.ending.ExitStatus.{ExitStatus}
+use Rattle.dbus_tool.specs.declared.ending.ExitStatus.TheVariants as status
+use Rattle.dbus_tool.specs.declared.ending.Cause.{Cause}
+use Rattle.dbus_tool.specs.declared.ending.Cause.TheVariants as cause
+
+module _ {R : Type 0} (left : R → Option (List ℕ)) (failures : R → ℕ) where
+  -- a source before and after: what is left in it is what it keeps, and then what the source below has
+  abbrev pub ahead : ReadAhead R → ReadAhead R → Reading (ReadAhead R)
+  ahead old new = reading (λ s. prepend_known (kept_of s) (left (source_of s))) (λ s. s.calls) (λ s. failures (source_of s)) old new
+
+  -- the handshake of the side was taken, or what was read begins with none; the reads that failed count
+  abbrev pub ReadsHandshake : Side → ReadAhead R → ReadAhead R → Result (Unit {0}) HandshakeFault → Type 0
+  ReadsHandshake side old new result = Passes left side old new result × Counts (failures (source_of old)) (failures (source_of new)) result
+
+module _ {E : Type 0} (held : E → Option (List ℕ)) (failures : E → ℕ) (old new : E) where
+  -- the text was written, and this is the status; or a write failed after its first bytes
+  abbrev pub Shows : ExitStatus → List ℕ → ExitStatus → Type 0
+  Shows shown text end = ((end ≡ shown) × Wrote held failures old text new) ⊎ ((end ≡ status.Failed) × (n : ℕ) × Stopped held failures old text n new)
+
+  -- the cause was told
+  abbrev pub StopsBy : Cause → ExitStatus → Type 0
+  StopsBy why end = (end ≡ status.Failed) × Told held failures old new why
+
+  -- why no handshake was read was told, or a write failed; or memory was wanted
+  abbrev pub TellsHandshake : HandshakeFault → ExitStatus → Type 0
+  TellsHandshake fault.Memory end = StopsBy cause.Memory end
+  TellsHandshake fault.Device end = StopsBy cause.ReadFailed end
+  TellsHandshake (fault.Refused at why) end = Shows status.Refused (handshake_line at why) end ⊎ StopsBy cause.Memory end
