@@ -51,7 +51,7 @@ GivesNumber given default (Some number) = IsNumberOf given default number
 GivesNumber given default None = (number : ℕ) → IsNumberOf given default number → 2 ^ 32 ≤ number
 
 module _ {A : Type 0} (Is : A → Type 0) where
-  -- what options name, of which Is holds; or a fault of usage where it holds of nothing
+  -- what options name, of which Is holds; or a fault of usage if it holds of nothing
   abbrev pub TellsNamed : Result A UsageFault → Type 0
   TellsNamed (Ok x) = Is x
   TellsNamed (Err Memory) = Unit {0}
