@@ -666,7 +666,7 @@ class Header(unittest.TestCase):
 
     def test_structs(self):
         declared = re.findall(r"(\d+) bytes\. \*/\nstruct dbus_wire_(\w+) \{(.*?)\n\};", self.text, re.DOTALL)
-        self.assertEqual(len(declared), 17)
+        self.assertEqual(len(declared), 18)
         for size, name, fields in declared:
             if name != "argument":
                 lines = re.findall(r"^    (struct \w+|\w+_t|void \*) ?([\w, ]+);", fields, re.MULTILINE)
