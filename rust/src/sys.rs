@@ -308,12 +308,8 @@ extern "C" {
         limits: *const dbus_wire_limits,
         out: *mut dbus_wire_cursor,
     ) -> u32;
-    pub fn dbus_wire_next_field(
-        bytes: *const u8,
-        length: usize,
-        cursor: *mut dbus_wire_cursor,
-        out: *mut dbus_wire_field,
-    ) -> u32;
+    pub fn dbus_wire_next_field(bytes: *const u8, length: usize, cursor: *mut dbus_wire_cursor, out: *mut dbus_wire_field)
+        -> u32;
     pub fn dbus_wire_wanted(bytes: *const u8, length: usize, limits: *const dbus_wire_limits) -> u64;
     pub fn dbus_wire_swap(
         bytes: *const u8,

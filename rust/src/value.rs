@@ -21,6 +21,19 @@ fn bytes_at(bytes: &[u8], offset: u64, length: u64) -> &[u8] {
     &bytes[offset as usize..][..length as usize]
 }
 
+// A call that writes a cursor at a part of a message.
+type MakeCursor = unsafe extern "C" fn(*const u8, usize, *const sys::dbus_wire_limits, *mut sys::dbus_wire_cursor) -> u32;
+
+// The cursor that such a call writes for these bytes, which are a message.
+fn cursor_by(make: MakeCursor, bytes: &[u8]) -> sys::dbus_wire_cursor {
+    let limits = crate::Limits::default().raw();
+    let mut cursor = sys::dbus_wire_cursor::default();
+    // SAFETY: a slice and references, as `sys` says.
+    let answer = unsafe { make(bytes.as_ptr(), bytes.len(), &limits, &mut cursor) };
+    assert_eq!(answer, sys::DBUS_WIRE_WHOLE, "a message within limits is one within the specification's");
+    cursor
+}
+
 /// A value. Numbers come in the order of the processor, whatever that of the message.
 #[derive(Clone, Debug, PartialEq)]
 pub enum Value<'a> {
@@ -128,11 +141,7 @@ pub struct Values<'a> {
 impl<'a> Values<'a> {
     /// The values of the body of these bytes, which are a message.
     pub(crate) fn of_message(bytes: &'a [u8]) -> Self {
-        let limits = crate::Limits::default().raw();
-        let mut cursor = sys::dbus_wire_cursor::default();
-        // SAFETY: a slice and references, as `sys` says.
-        let answer = unsafe { sys::dbus_wire_body_cursor(bytes.as_ptr(), bytes.len(), &limits, &mut cursor) };
-        assert_eq!(answer, sys::DBUS_WIRE_WHOLE, "a message within limits is one within the specification's");
+        let cursor = cursor_by(sys::dbus_wire_body_cursor, bytes);
         Self { bytes, cursor }
     }
 
@@ -171,11 +180,7 @@ pub struct Fields<'a> {
 impl<'a> Fields<'a> {
     /// The header fields of these bytes, which are a message.
     pub(crate) fn of_message(bytes: &'a [u8]) -> Self {
-        let limits = crate::Limits::default().raw();
-        let mut cursor = sys::dbus_wire_cursor::default();
-        // SAFETY: a slice and references, as `sys` says.
-        let answer = unsafe { sys::dbus_wire_fields_cursor(bytes.as_ptr(), bytes.len(), &limits, &mut cursor) };
-        assert_eq!(answer, sys::DBUS_WIRE_WHOLE, "a message within limits is one within the specification's");
+        let cursor = cursor_by(sys::dbus_wire_fields_cursor, bytes);
         Self { bytes, cursor }
     }
 }
