@@ -2,9 +2,7 @@
 #![tactic(auto)]
 
 ghost use Rattle.std.specs.Prelude.{◌≡◌, ◌<◌, ◌≤◌, ◌++◌, length, drop, nat_eq, if◌then◌else◌, MatchOption, MatchResult};
-ghost use Rattle.dbus_message_model.specs.Messages.{order_byte};
 ghost use Rattle.dbus_value_model.specs.declared.fault.Reason.TheVariants.{MessageTooLong, Signature};
-ghost use Rattle.dbus_value_model.specs.declared.order.Order.{Order};
 ghost use Rattle.dbus_c.specs.Building.{AreNoParts, Builds, StandFor, field_told, place_given, refusal_told};
 ghost use Rattle.dbus_c.specs.Checking.{whole_told};
 ghost use Rattle.dbus_c.specs.GivenLimits.{limits_of};
@@ -16,6 +14,7 @@ use crate::parts::{Parts, TextPlace, order_byte};
 use crate::reasons::reason_number;
 use dbus_c_build::{Place, PlacedParts, Refusal, build};
 use dbus_message_model::field_code::SIGNATURE;
+use dbus_message_model::order_named;
 use dbus_value_model::{Order, Reason};
 use std::alloc::Global;
 
@@ -162,17 +161,4 @@ fn place_given(text: &TextPlace) -> Option<Place>
         start: text.offset as usize,
         length: text.length as usize,
     })
-}
-
-// The order whose byte is named.
-fn order_named(byte: u32) -> Option<Order>
-    ensures { MatchOption result ((order : Order) → byte ≡ order_byte order → ⊥) (λ order. byte ≡ order_byte order) }
-{
-    if byte == u32::from(b'l') {
-        return Some(Order::Little);
-    }
-    if byte == u32::from(b'B') {
-        return Some(Order::Big);
-    }
-    None
 }

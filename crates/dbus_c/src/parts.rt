@@ -109,10 +109,7 @@ pub extern "C" fn dbus_wire_parts_of(bytes: &[u8], limits: &WireLimits, out: &mu
 pub(crate) fn order_byte(order: Order) -> u32
     ensures { result ≡ order_byte order }
 {
-    match order {
-        Order::Little => u32::from(b'l'),
-        Order::Big => u32::from(b'B'),
-    }
+    u32::from(dbus_message_model::order_byte(order))
 }
 
 // Where the text of the field of a known code is.

@@ -12,6 +12,7 @@ use crate::refusal::Refusal;
 use dbus_body::{begin_struct, put_number};
 use dbus_check::fault_at_end;
 use dbus_marshal::writing::overwrite_32;
+use dbus_message_model::order_byte;
 use dbus_validate::validate;
 use dbus_value_model::{ARRAY_LIMIT, Limits, Order};
 use std::alloc::{AllocError, Allocator};
@@ -36,8 +37,7 @@ fn put_fixed<A: Allocator>(
         parts.now.flags parts.now.serial body_length) }
 {
     let order = parts.order;
-    let first = if order == Order::Little { b'l' } else { b'B' };
-    out.extend_from_slice(&[first, parts.kind, parts.flags, VERSION])?;
+    out.extend_from_slice(&[order_byte(order), parts.kind, parts.flags, VERSION])?;
     put_number(out, order, 4, u64::from(body_length))?;
     put_number(out, order, 4, u64::from(parts.serial))?;
     put_number(out, order, 4, 0)

@@ -11,7 +11,7 @@ use crate::cursor::Cursor;
 use crate::first::First;
 use crate::item::Item;
 use crate::numbers::number_at;
-use dbus_value_model::Order;
+use dbus_message_model::order_byte;
 use dbus_walk::{Layout, layout};
 
 /// What is told of a value that stands there.
@@ -139,10 +139,7 @@ fn parts_from(first: &First<'_>, at: usize) -> Cursor
         end: first.after as u64,
         types: 0,
         types_length: 0,
-        order: match first.source.order {
-            Order::Little => 108,
-            Order::Big => 66,
-        },
+        order: u32::from(order_byte(first.source.order)),
         elements: 0,
         depth_left: u32::from(first.spot.depth_left),
         reserved: 0,

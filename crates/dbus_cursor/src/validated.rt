@@ -11,6 +11,7 @@ ghost use Rattle.dbus_value_validator.specs.Endings.{IsSpelledTo, IsNotSpelled};
 ghost use Rattle.dbus_message_model.specs.Messages.{order_byte};
 
 use crate::cursor::Cursor;
+use dbus_message_model::order_named;
 use dbus_value_model::{DEPTH_LIMIT, Limits, Order};
 use dbus_value_validator::validate_value;
 
@@ -46,17 +47,4 @@ pub(crate) fn validated(bytes: &[u8], cursor: &Cursor, types: &[u8]) -> Option<(
         bounds,
     )?;
     Some((order, after))
-}
-
-/// The byte order that a byte names.
-fn order_named(byte: u32) -> Option<Order>
-    ensures { MatchOption result
-        ((order : Order) → byte ≡ order_byte order → ⊥)
-        (λ order. byte ≡ order_byte order) }
-{
-    match byte {
-        108 => Some(Order::Little),
-        66 => Some(Order::Big),
-        _ => None,
-    }
 }

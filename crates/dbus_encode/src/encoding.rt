@@ -13,7 +13,7 @@ ghost use Rattle.dbus_message_model.specs.PartsViews.{field_tree, field_trees};
 
 use dbus_marshal::writing::{overwrite_32, write_32, write_byte, write_padding};
 use dbus_marshal::{write_value, write_values, write_variant_signature};
-use dbus_message_model::{HeaderField, Message};
+use dbus_message_model::{HeaderField, Message, order_byte};
 use dbus_value_model::Order;
 use std::alloc::{AllocError, Allocator};
 
@@ -27,7 +27,7 @@ fn write_fixed(out: &mut [u8], order: Order, kind: u8, flags: u8, serial: u32) -
     ensures written { take result out.new ≡ fixed_bytes order kind flags serial }
     ensures ends { result ≡ 16 }
 {
-    let place = write_byte(out, 0, if order == Order::Little { b'l' } else { b'B' });
+    let place = write_byte(out, 0, order_byte(order));
     let place = write_byte(out, place, kind);
     let place = write_byte(out, place, flags);
     let place = write_byte(out, place, VERSION);

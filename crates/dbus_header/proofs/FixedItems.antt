@@ -4,7 +4,9 @@ use Rattle.std.specs.Result.{IsErrAnd}
 use Rattle.std.proofs.lemmas.Result.{err_from_is_err_and}
 use Rattle.std.proofs.lemmas.Bool.{eq-eqb, ne_eqb, lt-ltb, le-ltb}
 use Rattle.dbus_value_model.specs.declared.limits.Limits.{Limits}
+use Rattle.dbus_value_model.specs.declared.order.Order.{Order}
 use Rattle.dbus_value_model.specs.declared.order.Order.TheVariants.{Little, Big}
+use Rattle.dbus_message_model.specs.Messages.{order_byte}
 use Rattle.dbus_value_model.specs.declared.fault.Reason.{Reason}
 use Rattle.dbus_value_model.specs.declared.fault.Reason.TheVariants as reasons
 use Rattle.dbus_value_model.specs.Items.{fault}
@@ -26,22 +28,18 @@ unfolding byte_order
 order_partial [] h = refl
 order_partial (b ∷ s) h = absurd (omega arith)
 
-pub order_little : (s : List ℕ) → 0 < length s → get_or s 0 0 ≡ 108 → byte_order 0 s ≡ Done Little 1 (drop 1 s)
+pub order_done : (s : List ℕ) (order : Order) → 0 < length s → get_or s 0 0 ≡ order_byte order → byte_order 0 s ≡ Done order 1 (drop 1 s)
 unfolding byte_order
-order_little [] h e = absurd (omega arith)
-order_little (b ∷ s) h e = rw e refl
+order_done [] order h e = absurd (omega arith)
+order_done (b ∷ s) Little h e = rw e refl
+order_done (b ∷ s) Big h e = rw e refl
 
-pub order_big : (s : List ℕ) → 0 < length s → get_or s 0 0 ≡ 66 → byte_order 0 s ≡ Done Big 1 (drop 1 s)
+pub order_faulty : (s : List ℕ) → 0 < length s → ((order : Order) → get_or s 0 0 ≡ order_byte order → ⊥) → byte_order 0 s ≡ Faulty (fault 0 reasons.ByteOrder)
 unfolding byte_order
-order_big [] h e = absurd (omega arith)
-order_big (b ∷ s) h e = rw e refl
+order_faulty [] h none = absurd (omega arith)
+order_faulty (b ∷ s) h none = rw (ne_eqb b 108 (none Little), ne_eqb b 66 (none Big)) refl
 
-pub order_faulty : (s : List ℕ) → 0 < length s → (get_or s 0 0 ≡ 108 → ⊥) → (get_or s 0 0 ≡ 66 → ⊥) → byte_order 0 s ≡ Faulty (fault 0 reasons.ByteOrder)
-unfolding byte_order
-order_faulty [] h d e = absurd (omega arith)
-order_faulty (b ∷ s) h d e = rw (ne_eqb b 108 d, ne_eqb b 66 e) refl
-
-pub ruleset orders = (order_partial, order_little, order_big, order_faulty)
+pub ruleset orders = (order_partial, order_done, order_faulty)
 
 -- ---- rows
 
@@ -59,6 +57,3 @@ long_fields limits body p n h = rw (lt-ltb _ _ h) refl
 
 pub long_message : (limits : Limits) (body p n : ℕ) → n ≤ limits.array → limits.message < p + n + gap_to 8 (p + n) + body → fields_row limits body p n ≡ Some reasons.MessageTooLong
 long_message limits body p n le h = rw (le-ltb _ _ le, lt-ltb _ _ h) refl
-
-pub fields_fit : (limits : Limits) (body p n : ℕ) → n ≤ limits.array → p + n + gap_to 8 (p + n) + body ≤ limits.message → fields_row limits body p n ≡ None
-fields_fit limits body p n le h = rw (le-ltb _ _ le, le-ltb _ _ h) refl

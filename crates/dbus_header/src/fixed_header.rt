@@ -13,6 +13,7 @@ ghost use Rattle.dbus_header.specs.MessageItems.{not_zero_row, version_row, fiel
 ghost use Rattle.dbus_header.specs.MessageReading.{byte_order};
 
 use crate::opening::check_open;
+use dbus_message_model::order_named;
 use dbus_value_model::{Limits, Order, Reason, Stop, padding_length, refuse};
 
 /// What the first sixteen bytes of a message say. D-Bus Specification, "Message Format".
@@ -41,10 +42,9 @@ fn read_order(bytes: &[u8]) -> Result<Order, Stop>
     if bytes.is_empty() {
         return Err(Stop::Partial);
     }
-    match bytes[0] {
-        b'l' => Ok(Order::Little),
-        b'B' => Ok(Order::Big),
-        _ => refuse(0, Reason::ByteOrder),
+    match order_named(u32::from(bytes[0])) {
+        Some(order) => Ok(order),
+        None => refuse(0, Reason::ByteOrder),
     }
 }
 

@@ -10,7 +10,8 @@ ghost use Rattle.dbus_json.specs.Writing.{start_text};
 
 use crate::fields::write_fields;
 use crate::values::write_values_at;
-use dbus_show::{Draft, order_letter, write_integer, write_kind};
+use dbus_message_model::order_byte;
+use dbus_show::{Draft, write_integer, write_kind};
 use dbus_validate::Validated;
 use dbus_value_model::Limits;
 use dbus_walk::{Source, Spot, lengths_of};
@@ -39,7 +40,7 @@ fn write_start<D: Draft>(draft: &mut D, validated: &Validated, number: u64, offs
     draft.push_str(",\"length\":");
     write_integer(draft, validated.length);
     draft.push_str(",\"order\":\"");
-    draft.push_code(order_letter(validated.order));
+    draft.push_code(order_byte(validated.order));
     draft.push_str("\",\"type\":");
     write_type(draft, validated.kind);
     draft.push_str(",\"flags\":");

@@ -7,6 +7,7 @@
 //! is made by `dbus_build` or by decoding; `crates/example_greet` does both.
 #![tactic(auto)]
 
+mod byte_order;
 pub mod field_code;
 pub mod field_table;
 pub mod flag;
@@ -18,6 +19,7 @@ pub mod message_type;
 mod named_fields;
 mod parts;
 
+pub use byte_order::{order_byte, order_named};
 pub use header_field::HeaderField;
 pub use lookups::{arg, field};
 pub use message::Message;

@@ -4,7 +4,6 @@
 ghost use Rattle.std.specs.Prelude.{◌≡◌, ◌<◌, ◌∷◌, [], length, OnOk, OnErr, IfOk, IfErr, string_bytes, string_capacity};
 ghost use Rattle.std.specs.List.{flat_map};
 ghost use Rattle.dbus_value_model.specs.ValueViews.{value_tree, value_trees_of};
-ghost use Rattle.dbus_message_model.specs.Messages.{order_byte};
 ghost use Rattle.dbus_message_model.specs.PartsViews.{parts_tree};
 ghost use Rattle.dbus_message_model.specs.MessageViews.{message_tree};
 ghost use Rattle.dbus_show.specs.ShownValues.{value_text, value_texts};
@@ -16,20 +15,9 @@ use crate::hexadecimal::write_hex;
 use crate::numbers::write_integer;
 use crate::string_draft::StringDraft;
 use crate::values::write_value;
-use dbus_message_model::{Message, Parts};
+use dbus_message_model::{Message, Parts, order_byte};
 use dbus_value::{Order, Value};
 use std::alloc::{AllocError, Allocator};
-
-/// The letter that stands for a byte order in a message's first byte. D-Bus Specification, "Message Format".
-pub fn order_letter(order: Order) -> u8
-    ensures code { result ≡ order_byte order }
-    ensures ascii { result < 128 }
-{
-    match order {
-        Order::Little => b'l',
-        Order::Big => b'B',
-    }
-}
 
 /// Appends the name of a message type. D-Bus Specification, "Message Format".
 pub fn write_kind<D: Draft>(draft: &mut D, kind: u8)
@@ -64,7 +52,7 @@ pub fn write_start<D: Draft>(
     draft.push_code(b'#');
     write_integer(draft, number);
     draft.push_code(b' ');
-    draft.push_code(order_letter(order));
+    draft.push_code(order_byte(order));
     draft.push_code(b' ');
     write_kind(draft, kind);
     draft.push_str(" serial=");

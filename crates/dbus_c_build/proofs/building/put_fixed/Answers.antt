@@ -1,5 +1,4 @@
-use Rattle.std.proofs.Common.{◌≡◌, ℕ, List, [], ◌∷◌, ◌++◌, refl, ap, ◌∙◌, arith, rules}
-use Rattle.std.proofs.lemmas.Grind.{common_steps}
+use Rattle.std.proofs.Common.{◌≡◌, ℕ, List, [], ◌∷◌, ◌++◌, refl, ap, ◌∙◌}
 use Rattle.dbus_value_model.specs.declared.order.Order.{Order}
 use Rattle.dbus_value_model.specs.declared.order.Order.TheVariants.{Little, Big}
 use Rattle.dbus_value_model.specs.Appending.{with_padding}
@@ -20,10 +19,9 @@ pub returns : goal.returns
 returns g c =
     let p = c.args.parts.now in
     let more = λ (front : List ℕ) (n : ℕ). with_padding 4 front ++ num p.order 4 n in
-    let code : c.if-eq.first ≡ order_byte p.order = first_of (search rules, grind (arith, common_steps)) in
     let rest = p.kind ∷ (p.flags ∷ (1 ∷ [])) in
     let first : c.extend_from_slice.new.self.items ≡ order_byte p.order ∷ rest =
-    c.in_ok-extend_from_slice.ensures.items ∙ ap (λ (l : List ℕ). l ++ (c.if-eq.first ∷ rest)) c.requires ∙ ap (λ (n : ℕ). n ∷ rest) code in
+    c.in_ok-extend_from_slice.ensures.items ∙ ap (λ (l : List ℕ). l ++ (c.order_byte.result ∷ rest)) c.requires ∙ ap (λ (n : ℕ). n ∷ rest) c.order_byte.ensures.named in
     let one = c.in_ok-put_number.ensures.written ∙ ap (more c.extend_from_slice.new.self.items) c.from.ensures ∙ ap (λ (l : List ℕ). more l c.args.body_length) first in
     let two = c.in_ok-put_number-2.ensures.written ∙ ap (more c.put_number.new.out.items) c.from-2.ensures ∙ ap (λ (l : List ℕ). more l p.serial) one in
     on_ok c.put_number-3.result (λ put. put ∙ ap (λ (l : List ℕ). more l 0) two ∙ unpadded p.order (order_byte p.order) p.kind p.flags 1 c.args.body_length p.serial 0) c.put_number-3.ensures.written

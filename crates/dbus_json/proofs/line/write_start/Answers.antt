@@ -4,7 +4,7 @@ use Rattle.dbus_json.proofs.line.write_start.Goals as goal
 
 pub returns : goal.returns
 returns g c =
-    let letter = subst (λ b. g.D.Draft.gains c.push_str-4.new.self (b ∷ []) c.push_code.new.self) c.order_letter.ensures.code c.push_code.ensures in
+    let letter = subst (λ b. g.D.Draft.gains c.push_str-4.new.self (b ∷ []) c.push_code.new.self) c.order_byte.ensures.named c.push_code.ensures in
     let serial = subst (λ s. g.D.Draft.gains c.push_str-7.new.self s c.write_integer-5.new.draft) (sym (append-nil (decimal c.args.validated.now.serial))) c.write_integer-5.ensures in
     then g.D.Draft.gains g.met.D.Draft.joins c.push_str.ensures (then g.D.Draft.gains g.met.D.Draft.joins c.write_integer.ensures (then g.D.Draft.gains g.met.D.Draft.joins c.push_str-2.ensures (then g.D.Draft.gains g.met.D.Draft.joins c.write_integer-2.ensures
     (then g.D.Draft.gains g.met.D.Draft.joins c.push_str-3.ensures (then g.D.Draft.gains g.met.D.Draft.joins c.write_integer-3.ensures (then g.D.Draft.gains g.met.D.Draft.joins c.push_str-4.ensures (then g.D.Draft.gains g.met.D.Draft.joins letter
