@@ -157,7 +157,7 @@ resumes_by kept piece (cr_last line h e) =
 pub resumes : (kept piece : List ℕ) → cut kept ≡ More → scan_from (length kept) (cr_after false kept) piece ≡ cut (kept ++ piece)
 resumes kept piece wants = resumes_by kept piece (unfinished kept wants)
 
-short_by : (kept : List ℕ) → IsUnfinished kept → length kept ≤ 16383
+pub short_by : (kept : List ℕ) → IsUnfinished kept → length kept ≤ 16383
 short_by kept (within_line h) = omega (arith, h.short)
 short_by kept (cr_last line h e) = omega (arith, h.short, ap length e, length-append line (13 ∷ []))
 

@@ -2,7 +2,7 @@
 use Rattle.std.proofs.Common.{◌≡◌, ℕ, zero, suc, ◌^◌, ◌<◌, List, [], ◌∷◌, ◌++◌, length, map, refl, sym, ap, subst, ◌∙◌, arith, append_assoc}
 use Rattle.dbus_texts.specs.Types.{NumberCode, UINT32, TextCode, TypeTree, NumberType, TextType, sig}
 use Rattle.dbus_types.specs.Alignments.{length_width}
-use Rattle.dbus_value_laws.proofs.KindLaws.{spelled_sig}
+use Rattle.dbus_header.proofs.Fields.{sig_injective}
 use Rattle.dbus_texts.specs.ComputedKinds.{type_spelled}
 use Rattle.dbus_value_model.specs.declared.order.Order.{Order}
 use Rattle.dbus_value_model.specs.Appending.{with_padding, with_value, with_values}
@@ -29,9 +29,6 @@ ArePlain (f ∷ fs) = ((f.code < 256) × (length (sig (type_of f.value)) < 256) 
 
 abbrev structs : List FieldTree → ValueTrees
 structs fs = value_trees (map field_struct fs)
-
-sig_injective : (t u : TypeTree) → sig t ≡ sig u → t ≡ u
-sig_injective t u e = sym (spelled_sig t) ∙ ap type_spelled e ∙ spelled_sig u
 
 -- what a well-formed field is
 pub record IsSoundField (g : FieldTree) : Type 0 where

@@ -28,9 +28,6 @@ name_fits end p n short h = rw (le-ltb 255 n short, le-ltb _ _ h) refl
 pub name_past : (end p n : ℕ) → n ≤ 255 → end < p + n + 1 → name_row end p n ≡ Some reasons.Overrun
 name_past end p n short h = rw (le-ltb 255 n short, lt-ltb _ _ h) refl
 
-pub name_long : (end p n : ℕ) → 255 < n → name_row end p n ≡ Some reasons.NameTooLong
-name_long end p n h = rw (lt-ltb 255 n h) refl
-
 pub any_number : (serial : Bool) (p n : ℕ) → serial ≡ false → uint32_row serial p n ≡ None
 any_number true p n e = absurd cc
 any_number false p n e = refl

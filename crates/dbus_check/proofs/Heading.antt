@@ -13,6 +13,7 @@ use Rattle.dbus_header.specs.MessageItems.{code_row}
 use Rattle.dbus_header.specs.MessageReading.{opening}
 use Rattle.dbus_header.specs.HeaderReading.{fixed_header, wanted_value, field_read, fields_read, body_read, message_read}
 use Rattle.dbus_header.specs.declared.fixed_header.FixedHeader.{FixedHeader}
+use Rattle.dbus_message_model.proofs.FieldCodes.{has_reversed}
 use Rattle.dbus_value_laws.proofs.ReadSteps.{after_after, same_after}
 use Rattle.dbus_value_checker.specs.Suspended.{On, onward, done}
 use Rattle.dbus_check.specs.Heading.{has, seen_row, missing, Kept, nothing, kept_of, body_on, after_fields, field_on, fields_on, message_on}
@@ -25,28 +26,6 @@ codes_of fs = map (λ (f : FieldTree). f.code) fs
 has_codes : (c : ℕ) (fs : List FieldTree) → has c (codes_of fs) ≡ has_code c fs
 has_codes c [] = refl
 has_codes c (f ∷ fs) = ap (λ (b : Bool). eqb f.code c || b) (has_codes c fs)
-
-or_assoc : (a b c : Bool) → ((a || b) || c) ≡ (a || (b || c))
-or_assoc true b c = refl
-or_assoc false b c = refl
-
-has_joined : (c : ℕ) (fs gs : List FieldTree) → has_code c (fs ++ gs) ≡ (has_code c fs || has_code c gs)
-has_joined c [] gs = refl
-has_joined c (f ∷ fs) gs = ap (λ (b : Bool). eqb f.code c || b) (has_joined c fs gs) ∙ sym (or_assoc (eqb f.code c) (has_code c fs) (has_code c gs))
-
-or_last : (a b : Bool) → (a || (b || false)) ≡ (b || a)
-or_last true true = refl
-or_last true false = refl
-or_last false true = refl
-or_last false false = refl
-
-has_reversed : (c : ℕ) (fs : List FieldTree) → has_code c (reverse fs) ≡ has_code c fs
-has_reversed c [] = refl
-has_reversed c (f ∷ fs) =
-    ap (has_code c) (reverse-append (f ∷ []) fs)
-    ∙ has_joined c (reverse fs) (f ∷ [])
-    ∙ ap (λ (b : Bool). b || (eqb f.code c || false)) (has_reversed c fs)
-    ∙ or_last (has_code c fs) (eqb f.code c)
 
 missing_is : (cs : List ℕ) (fs : List FieldTree) → missing cs (codes_of fs) ≡ lacks cs (reverse fs)
 missing_is [] fs = refl

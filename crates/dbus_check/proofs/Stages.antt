@@ -1,11 +1,10 @@
 -- A message under way, stage by stage.
-use Rattle.std.proofs.Common.{◌≡◌, ℕ, zero, suc, ◌+◌, ◌<◌, ◌≤◌, List, [], ◌++◌, length, take, drop, false, Option, Some, None, Ok, Err, refl, sym, ap, ◌∙◌, arith}
+use Rattle.std.proofs.Common.{◌≡◌, ℕ, zero, suc, ◌+◌, ◌<◌, ◌≤◌, List, [], ◌++◌, length, take, drop, Option, Some, None, Ok, Err, refl, sym, ap, ◌∙◌, arith}
 use Rattle.std.proofs.lemmas.Bool.{le-ltb, eq-eqb}
-use Rattle.std.proofs.lemmas.List.{append-nil, take_all, drop_all, length-take, take-append-drop}
+use Rattle.std.proofs.lemmas.List.{take_all, drop_all, length-take, take-append-drop}
 use Rattle.dbus_texts.specs.ComputedKinds.{types_spelled}
 use Rattle.dbus_texts.specs.Kinds.{IsKind}
-use Rattle.dbus_texts.proofs.KindFacts.{shaped_of}
-use Rattle.dbus_texts.specs.Types.{TypeTree, TypeTrees, NoTypes, MoreTypes, IsSingleType, sig, sigs, AreShaped}
+use Rattle.dbus_texts.specs.Types.{TypeTrees, NoTypes, sigs, AreShaped}
 use Rattle.dbus_texts.specs.declared.text_kind.TextKind.TheVariants as kinds
 use Rattle.dbus_value_laws.proofs.KindLaws.{signature_text}
 use Rattle.dbus_value_model.specs.ByteNumbers.{IsBytes}
@@ -88,9 +87,6 @@ module _ (limits : Limits) (order : Order) (kind body : ℕ) (kept : Kept) where
 
 -- ---- the body
 
-pub signature_types : (t : List ℕ) → IsKind kinds.Signature t → (ts : TypeTrees) × ((t ≡ sigs ts) × AreShaped ts)
-signature_types t h = let w = signature_text t h in (types_spelled t, (sym w.1, w.0))
-
 module _ (limits : Limits) (order : Order) (body : ℕ) (kept : Kept) (bounds : Bounds) (end o : ℕ) (bounds_is : bounds ≡ bounds_with limits (index_limit limits.fds kept.count)) (end_is : end ≡ o + body) where
   body_begins : (c : List ℕ) → onward (fields (value bounds order limits.depth end) (types_spelled kept.text)) (onward (ends end) done) o c ≡ body_on limits order body kept o c
   body_begins c =
@@ -112,8 +108,3 @@ module _ (limits : Limits) (order : Order) (body : ℕ) (kept : Kept) (bounds : 
         value = λ next. begun (types_spelled kept.text) next (text_is ∙ sym w.1) w.0;
         same = λ c. body_begins c ∙ same c;
       }
-
--- ---- the value of a field
-
-pub held_types : (t : TypeTree) (types : List ℕ) → types ≡ sig t → IsSingleType t → (types ≡ sigs (MoreTypes t NoTypes)) × AreShaped (MoreTypes t NoTypes)
-held_types t types is single = (is ∙ sym (append-nil (sig t)), (shaped_of t false 0 0 single.0, tt))

@@ -5,12 +5,11 @@ use Rattle.std.specs.List.{AllByRecursion}
 use Rattle.std.specs.Io.KnownBytes.{IsAtEnd}
 use Rattle.std.proofs.lemmas.List.{flat_map_more}
 use Rattle.dbus_auth_lines.specs.Cut.{IsLine}
-use Rattle.dbus_auth_lines.specs.FirstLine.{IsBadByte, stray, no_lf}
 use Rattle.dbus_auth_lines.specs.Lines.{ended}
 use Rattle.dbus_handshake_input.specs.Ahead.{source_of, kept_of, Took}
 use Rattle.dbus_handshake_input.specs.Handshakes.{greeting, sent, GoesOn, IsCommand, IsBegin, IsOk, HasOk, IsNoLine, MessagesFollow, begun, accepted, IsNoHandshake, first_byte, no_line, too_many}
 use Rattle.dbus_handshake_input.specs.Lines.{ReadsLine}
-use Rattle.dbus_handshake_input.specs.Passing.{Greets, IsShort, Passes, SeesMessages, placed}
+use Rattle.dbus_handshake_input.specs.Passing.{Greets, Passes, SeesMessages, placed}
 use Rattle.dbus_handshake_input.specs.declared.fault.HandshakeFault.{HandshakeFault}
 use Rattle.dbus_handshake_input.specs.declared.fault.HandshakeFault.TheVariants.{Memory, Device, Refused}
 use Rattle.dbus_handshake_input.specs.declared.fault.HandshakeReason.{HandshakeReason}
@@ -19,7 +18,7 @@ use Rattle.dbus_handshake_input.specs.declared.side.Side.{Side}
 use Rattle.dbus_handshake_input.specs.declared.side.Side.TheVariants.{Client, Server}
 use Rattle.dbus_handshake_input.specs.declared.read_ahead.ReadAhead.{ReadAhead}
 use Rattle.dbus_handshake_input.proofs.AheadSteps.{took_more}
-use Rattle.dbus_handshake_input.proofs.LineSteps.{took_same, unfinished_short}
+use Rattle.dbus_handshake_input.proofs.LineSteps.{took_same}
 
 -- ---- one more line
 
@@ -192,22 +191,6 @@ module _ {R : Type 0} (left : R → Option (List ℕ)) (side : Side) where
   pub stops : (old mid new : ReadAhead R) (count start : ℕ) (is_accepted : Bool) (bytes : List ℕ) → HasLines left side old mid count start is_accepted → Took left mid new bytes
       → (all : List ℕ) × Took left old new all
   stops old mid new count start is_accepted bytes h t = (sent side h.lines ++ bytes, took_more left old mid new (sent side h.lines) bytes h.took t)
-
--- a place in a line is within the line's limit
-pub line_short : {R : Type 0} (Z : Type 0) (left : R → Option (List ℕ)) (side : Side) (old new : ReadAhead R) (fault : HandshakeFault)
-    → ReadsLine {Z = Z} left side old new (Err fault) → IsShort fault
-line_short Z left side old new Memory r = tt
-line_short Z left side old new Device r = tt
-line_short Z left side old new (Refused at reason.FirstByte) r = absurd r.2
-line_short Z left side old new (Refused at reason.LineTooLong) r = let e = r.2.1 in omega (arith, e)
-line_short Z left side old new (Refused at reason.LineByte) r = by_place (r.0 ++ kept_of new) r.2
-  where
-    by_place : (k : List ℕ) → IsBadByte k at → at ≤ 16384
-    by_place k (stray line b more h n lt s e) = omega (arith, lt)
-    by_place k (no_lf line b more h n ne w e) = let short = h.short in omega (arith, n, short)
-line_short Z left side old new (Refused at reason.NoCommand) r = let e = r.2.5 in omega (arith, e)
-line_short Z left side old new (Refused at reason.Truncated) r = let short = unfinished_short (r.0 ++ kept_of new) r.2.0 in let e = r.2.2 in omega (arith, short, e)
-line_short Z left side old new (Refused at reason.TooManyLines) r = absurd r.2
 
 -- the first byte of a client is another one than 0
 pub refuses_first : {R : Type 0} (left : R → Option (List ℕ)) (side : Side) (old new : ReadAhead R) (kept : List ℕ) (fault : HandshakeFault) → side ≡ Client

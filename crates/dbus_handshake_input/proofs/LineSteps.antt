@@ -10,7 +10,7 @@ use Rattle.dbus_auth_lines.specs.ServerCommands.{ServerCommand}
 use Rattle.dbus_auth_lines.specs.ServerCommands as server
 use Rattle.dbus_auth_lines.specs.Cut.{IsLine, TooLong, BadByte}
 use Rattle.dbus_auth_lines.specs.CutterViews.{CutterState, Takes}
-use Rattle.dbus_auth_lines.specs.FirstLine.{Beginning, WholeLine, Faulty, Unfinished, BeginsAs, IsUnfinished, within_line, cr_last, IsBadByte}
+use Rattle.dbus_auth_lines.specs.FirstLine.{Beginning, WholeLine, Faulty, Unfinished, BeginsAs, IsUnfinished, within_line, IsBadByte}
 use Rattle.dbus_auth_lines.specs.LineForms.{IsClientLine, IsServerLine, MeansToServer, MeansToClient}
 use Rattle.dbus_auth_lines.specs.Lines.{ended}
 use Rattle.dbus_auth_lines.specs.declared.cutter.LineFault.{LineFault}
@@ -59,10 +59,6 @@ server_says_so line c (inr h) =
     subst (λ (d : ServerCommand). Says Server line (server_says d)) (sym h.0) (λ command. h.1 command.0 command.1)
 
 -- ---- a line that is cut
-
-pub unfinished_short : (k : List ℕ) → IsUnfinished k → length k ≤ 16383
-unfinished_short k (within_line h) = let s = h.short in omega arith
-unfinished_short k (cr_last line h e) = let s = h.short in let n = ap length e ∙ length-append line (13 ∷ []) in omega (arith, s, n)
 
 pub some_kept : (k : List ℕ) → k ≢ [] → 0 < length k
 some_kept [] h = absurd (h refl)

@@ -28,14 +28,15 @@ use Rattle.dbus_value_laws.proofs.KindLaws.{spelled_sig, only_is, only_same, tex
 use Rattle.dbus_message_model.proofs.NameTexts.{name_is_text}
 use Rattle.dbus_value_laws.proofs.Agreement.{Agrees, Agrees-then, Agrees-before, Agrees-as}
 use Rattle.dbus_value_laws.proofs.OwnItems.{chosen, IsOfSingles, Agrees-pure, Agrees-refuse, Agrees-padding, Agrees-number, Agrees-text, Agrees-nul, Agrees-signature}
-use Rattle.dbus_value_laws.proofs.Composition.{fits_row, number_to, number_from, text_to, text_from}
+use Rattle.dbus_value_laws.proofs.ReadSteps.{text_fits}
+use Rattle.dbus_value_laws.proofs.Composition.{number_to, number_from, text_to, text_from}
 use Rattle.dbus_value_laws.proofs.ValueItemLaws.{Agrees-value, value_inside, positive}
 use Rattle.dbus_value_model.specs.declared.fault.Reason.TheVariants as reasons
 
 -- ---- what is wanted of a code
 
 -- two types with one signature are one
-sig_injective : (t u : TypeTree) → sig t ≡ sig u → t ≡ u
+pub sig_injective : (t u : TypeTree) → sig t ≡ sig u → t ≡ u
 sig_injective t u e = sym (spelled_sig t) ∙ ap type_spelled e ∙ spelled_sig u
 
 single_kinds : (w : Want) → WantOk w → IsOfSingles (kind_wanted w)
@@ -164,7 +165,7 @@ signature_from order end k o t r single is fits =
       n,
       o + 1,
       sig t ++ 0 ∷ r,
-      (omega (arith, single.1), refl, refl, omega (arith, fits), fits_row end (o + 1) n (omega (arith, fits))),
+      (omega (arith, single.1), refl, refl, omega (arith, fits), text_fits end (o + 1) n (omega (arith, fits))),
       (t, o + 1 + n, 0 ∷ r, (single, is, refl, refl, refl), (tt, o + 1 + n + 1, r, (refl, refl), (refl, refl, refl))),
     )
 

@@ -18,6 +18,7 @@ use Rattle.dbus_header.specs.StatedLengths.{length_by}
 use Rattle.dbus_header.specs.declared.fixed_header.FixedHeader.{FixedHeader}
 use Rattle.dbus_value_model.proofs.Indexes.{any_all_below}
 use Rattle.dbus_value_laws.proofs.KindLaws.{signature_text, spelled_sigs}
+use Rattle.dbus_value_model.proofs.Gaps.{gap_below}
 use Rattle.dbus_value_laws.proofs.Composition.{all_none, all_more, all_parts, fields_to, fields_from}
 use Rattle.dbus_value_laws.proofs.ValueItemLaws.{value_inside}
 use Rattle.dbus_message_model.proofs.MessageLengths.{field_bytes, field_array_bytes, fields_end_is, body_length, message_length}
@@ -226,10 +227,6 @@ message_to limits s y q r w =
     (rw (none.2, none.1, at_end) at padded.3.0) (rw (none.1, at_end) at padded.3.1) types.3.0 typed.0 (rw (types.3.2, types.3.3) at typed.1) (b.4.3.0 ∙ ap (λ (n : ℕ). n + h.body) types.3.2) in
     rw (body.4.0, body.4.1 ∙ b.4.4.1 ∙ b.4.3.1, body.4.2 ∙ b.4.4.2 ∙ b.4.3.2, b.4.4.0) one
 
-gap_small : (a o : ℕ) → 0 < a → gap_to a o < a
-unfolding gap_to
-gap_small a o h = omega arith
-
 some_room : (depth : ℕ) (fs : List FieldTree) → IsWellFormed depth (field_array fs) → depth ≡ suc (depth - 1)
 some_room zero fs h = absurd h
 some_room (suc depth_left) fs h = omega arith
@@ -270,7 +267,7 @@ message_from limits s order m q r h =
     let ends : fields_end order m.fields ≡ 16 + n = fields_end_is order m.fields in
     let start : body_start order m.fields ≡ at = ap (λ (u : ℕ). u + gap_to 8 u) ends in
     let last : q ≡ stop = omega (arith, h.2, header_length order m) in
-    let small = gap_small 8 (16 + n) (omega arith) in
+    let small = gap_below 8 (16 + n) (omega arith) in
     let seq = seq_fields_from (bounds_of limits) order (limits.depth - 1) (16 + n) m.fields [] 16 (field_bytes order m.fields ++ rest) (16 + n) rest (omega arith) ok.fields
     (record { formed = formed.1; within = (within_field_array limits.array order m.fields ok.within_fields).1; indexes = any_all_below (value_trees (map field_struct m.fields)); bytes = refl; place = refl }) in
     let spells = signature_text (body_signature m.fields) (field_signature (bounds_of limits) order (limits.depth - 1) (16 + n) m.fields [] 16 (field_bytes order m.fields ++ rest) (16 + n) rest seq) in

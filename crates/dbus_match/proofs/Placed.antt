@@ -10,9 +10,6 @@ use Rattle.dbus_match.specs.Conditions.{condition_pair, condition_pairs, insert_
 use Rattle.dbus_match.proofs.Inserts.{AreBelow}
 
 -- conditions: the insertion at the first that is not below
-abbrev pub is_below_key : {A : Type 0} → Condition A → Condition A → Bool
-is_below_key x c = ltb (rank c.key) (rank x.key)
-
 inserted_head : {A : Type 0} (x c : Condition A) (cs : List (Condition A)) (m : ℕ) (t : Bool) → condition_pairs (insert cs m x) ≡ insert_pair (condition_pair x) (condition_pairs cs) → condition_pairs (insert (c ∷ cs) (cond t (1 + m) 0) x) ≡ cond t (condition_pair c ∷ insert_pair (condition_pair x) (condition_pairs cs)) (condition_pair x ∷ condition_pair c ∷ condition_pairs cs)
 inserted_head x c cs m true h =
     let e : suc m ≡ 1 + m = omega arith in

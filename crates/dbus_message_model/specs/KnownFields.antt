@@ -2,7 +2,7 @@
 -- D-Bus Specification, "Header Fields".
 use Rattle.std.specs.Prelude.{◌≡◌, ℕ, List, Option, Some}
 use Rattle.dbus_texts.specs.Types.{UINT32, STRING, NumberType, TextType}
-use Rattle.dbus_value_model.specs.Values.{ValueTree, NumberValue, TextValue}
+use Rattle.dbus_value_model.specs.Values.{ValueTree, TextValue}
 use Rattle.dbus_message_model.specs.Messages.{Want, OfType, Name, Serial}
 
 -- a text is wanted

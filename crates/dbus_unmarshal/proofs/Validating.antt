@@ -23,10 +23,6 @@ use Rattle.dbus_value_checker.proofs.Calls.{over_last}
 use Rattle.dbus_walk.specs.Standing.{Stands}
 use Rattle.dbus_unmarshal.specs.Validating.{IsSpelledThere, Validates}
 
--- the one type that is wanted
-pub held_types : (t : TypeTree) (types : List ℕ) → types ≡ sig t → IsSingleType t → (types ≡ sigs (MoreTypes t NoTypes)) × AreShaped (MoreTypes t NoTypes)
-held_types t types is single = (is ∙ sym (append-nil (sig t)), (shaped_of t false 0 0 single.0, tt))
-
 -- what is answered where it is
 abbrev pub asked : Bounds → Order → (depth_left end : ℕ) → TypeTree → (at : ℕ) → Answer
 asked bounds order depth_left end t at = values_on bounds order depth_left end (MoreTypes t NoTypes) done at

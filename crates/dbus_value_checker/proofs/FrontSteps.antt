@@ -30,6 +30,7 @@ use Rattle.dbus_value_model.specs.Items.{text_reason}
 use Rattle.dbus_value_model.specs.Reading.{text}
 use Rattle.dbus_value_model.specs.WantedTexts.{WantedText, IsWanted, IsBreakOf}
 use Rattle.dbus_value_model.specs.ComputedTexts.{break_at}
+use Rattle.dbus_value_laws.proofs.OwnItems.{zeros_pass}
 use Rattle.dbus_value_laws.proofs.KindLaws.{break_le, break_is, one_break, break_whole, is_wanted, is_not_wanted}
 use Rattle.dbus_value_checker.proofs.Suspension.{number_waits, number_over, number_read, text_waits, text_breaks, text_ends, text_not}
 
@@ -51,10 +52,6 @@ module _ {X A : Type 0} (view : X → A × ℕ) (o : ℕ) (s : List ℕ) (run : 
   front_stops x last (stops.Refused f) h = front_refused f h
 
 -- ---- padding
-
-zeros_all : (k o : ℕ) (c : List ℕ) → zeros k o (replicate k 0 ++ c) ≡ Done tt (o + k) c
-zeros_all zero o c = let e : o + 0 ≡ o = omega arith in ap (λ (p : ℕ). Done tt p c) (sym e)
-zeros_all (suc k) o c = let e : suc o + k ≡ o + suc k = omega arith in zeros_all k (suc o) c ∙ ap (λ (p : ℕ). Done tt p c) e
 
 zeros_short : (k i o : ℕ) → i < k → zeros k o (replicate i 0) ≡ Partial
 zeros_short zero i o h = absurd (omega arith)
@@ -86,7 +83,7 @@ module _ (a end o : ℕ) (s : List ℕ) where
 
     pub padding_taken : (n : ℕ) → n ≡ gap_to a o → n ≤ length s → take n s ≡ replicate n 0 → (c : List ℕ) → padding a end o (take n s ++ c) ≡ Done tt (o + n) c
     padding_taken n e le h c =
-        at_zeros (take n s ++ c) ∙ ap (λ (k : ℕ). zeros k o (take n s ++ c)) (sym e) ∙ ap (λ (t : List ℕ). zeros n o (t ++ c)) h ∙ zeros_all n o c
+        at_zeros (take n s ++ c) ∙ ap (λ (k : ℕ). zeros k o (take n s ++ c)) (sym e) ∙ ap (λ (t : List ℕ). zeros n o (t ++ c)) h ∙ zeros_pass n o c
 
     pub padding_waits : (i : ℕ) → i < gap_to a o → length s ≤ i → take i s ≡ replicate i 0 → padding a end o s ≡ Partial
     padding_waits i lt le h = at_zeros s ∙ ap (zeros (gap_to a o) o) (sym (take_all i s le) ∙ h) ∙ zeros_short (gap_to a o) i o lt

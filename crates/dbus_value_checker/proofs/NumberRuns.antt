@@ -1,5 +1,5 @@
 -- Numbers of an array, any of which may stand there: so many at once.
-use Rattle.std.proofs.Common.{◌≡◌, ℕ, zero, suc, ◌+◌, ◌-◌, ◌*◌, ◌/◌, ◌%◌, ◌<◌, ◌≤◌, List, [], ◌∷◌, ◌++◌, length, take, drop, Option, None, refl, sym, ap, ◌∙◌, arith, inl, inr}
+use Rattle.std.proofs.Common.{◌≡◌, ℕ, zero, suc, ◌+◌, ◌-◌, ◌*◌, ◌/◌, ◌%◌, ◌<◌, ◌≤◌, List, [], ◌++◌, length, take, drop, Option, None, refl, sym, ap, ◌∙◌, arith, inl, inr}
 use Rattle.std.proofs.lemmas.Bool.{cases_lt}
 use Rattle.std.proofs.Math.Nat.{suc-mul, zero-mul}
 use Rattle.std.proofs.lemmas.List.{append-nil, length-drop}
@@ -12,10 +12,13 @@ use Rattle.dbus_value_model.specs.ValueItems.{number_row}
 use Rattle.dbus_value_model.specs.Reading.{Outcome, Partial, after, zeros, number_of}
 use Rattle.dbus_types.specs.SignatureCodes.{first_code, free_width_of}
 use Rattle.dbus_value_model.proofs.FreeNumbers.{free_is}
+use Rattle.dbus_value_laws.proofs.ValueItemLaws.{width_positive}
+use Rattle.dbus_value_validator.proofs.NumberArrays.{stays_aligned}
 use Rattle.dbus_value_checker.specs.Suspended.{On, Elements, work, ANumber, AHead, own}
 use Rattle.dbus_value_checker.proofs.Chains.{split-at}
 use Rattle.dbus_value_checker.proofs.Suspension.{elements_more, value_begins, padding_zeros, number_waits}
 use Rattle.dbus_value_checker.proofs.FrontSteps.{number_taken}
+use Rattle.dbus_value_checker.proofs.TextSteps.{empty_list}
 
 -- ---- widths
 
@@ -32,17 +35,9 @@ by_width P one two four eight UINT64 = eight
 by_width P one two four eight DOUBLE = eight
 by_width P one two four eight UNIX_FD = four
 
-pub width_some : (k : NumberCode) → 0 < width k
-width_some = by_width (λ (w : ℕ). 0 < w) (omega arith) (omega arith) (omega arith) (omega arith)
-
 -- so many numbers have at least so many bytes
 pub at_least : (k : NumberCode) (m : ℕ) → m ≤ m * width k
 at_least k m = by_width (λ (w : ℕ). m ≤ m * w) (omega arith) (omega arith) (omega arith) (omega arith) k
-
--- a number ends at a boundary of its own
-aligned_more : (k : NumberCode) (o : ℕ) → gap_to (width k) o ≡ 0 → gap_to (width k) (o + width k) ≡ 0
-unfolding gap_to
-aligned_more k o = by_width (λ (w : ℕ). gap_to w o ≡ 0 → gap_to w (o + w) ≡ 0) (λ h. omega arith) (λ h. omega arith) (λ h. omega arith) (λ h. omega arith) k
 
 -- the bytes of whole numbers among so many
 pub whole_numbers : (k : NumberCode) (there : ℕ) → (m : ℕ) × (there - there % width k ≡ m * width k)
@@ -57,10 +52,6 @@ plain_type t c w e d some = let f = free_is t w some (d t e) in (f.code, (f.is, 
 
 -- ---- elements
 
-no_bytes : (s : List ℕ) → length s ≡ 0 → s ≡ []
-no_bytes [] e = refl
-no_bytes (b ∷ s) e = absurd (omega arith)
-
 module _ (bounds : Bounds) (order : Order) (k : NumberCode) (plain : (index_limit : Option ℕ) (p n : ℕ) → number_row index_limit k p n ≡ None) (depth_left end : ℕ) (next : On) where
   abbrev array : ℕ → On
   array turns = work bounds order (Elements turns depth_left end (NumberType k)) next
@@ -71,7 +62,7 @@ module _ (bounds : Bounds) (order : Order) (k : NumberCode) (plain : (index_limi
   -- an element begins with its number
   begins : (turns o : ℕ) (s : List ℕ) → gap_to (width k) o ≡ 0 → o + width k ≤ end → array (suc turns) o s ≡ element turns o s
   begins turns o s aligned le =
-      let some = width_some k in
+      let some = width_positive k in
       elements_more bounds order turns depth_left end (NumberType k) next o s (omega arith)
       ∙ value_begins bounds order depth_left end (NumberType k) o s (array turns) (λ e. cc)
       ∙ padding_zeros (width k) end o s (λ x. element turns) (omega arith)
@@ -96,7 +87,7 @@ module _ (bounds : Bounds) (order : Order) (k : NumberCode) (plain : (index_limi
         | inl few ↦ begins (m + turns) o bs aligned (omega arith) ∙ ap (λ (r : Outcome ℕ). after r (λ _. array (m + turns))) (number_waits order (width k) end (number_row bounds.fds k) o bs few (omega arith))
         | inr long ↦
             ap (array (suc (m + turns)) o) (sym (append-nil bs)) ∙ passed (m + turns) o bs [] long (omega arith) aligned ∙ ap (array (m + turns) (o + w)) (append-nil (drop w bs))
-            ∙ numbers_lack m turns (o + w) (drop w bs) (omega (arith, length-drop w bs)) (omega arith) (aligned_more k o aligned)
+            ∙ numbers_lack m turns (o + w) (drop w bs) (omega (arith, length-drop w bs)) (omega arith) (stays_aligned (width k) o aligned)
       ]
 
   -- the bytes of m numbers are m elements
@@ -105,7 +96,7 @@ module _ (bounds : Bounds) (order : Order) (k : NumberCode) (plain : (index_limi
       let z = zero-mul (width k) in
       let e : o ≡ o + 0 * width k = omega arith in
       let t : 0 + turns ≡ turns = omega arith in
-      ap (λ (s : List ℕ). array (0 + turns) o (s ++ c)) (no_bytes bs (omega arith)) ∙ ap (λ (n : ℕ). array n o c) t ∙ ap (λ (p : ℕ). array turns p c) e
+      ap (λ (s : List ℕ). array (0 + turns) o (s ++ c)) (empty_list bs (omega arith)) ∙ ap (λ (n : ℕ). array n o c) t ∙ ap (λ (p : ℕ). array turns p c) e
   numbers_run (suc m) turns o bs c len le aligned =
       let w = width k in
       let more = suc-mul m w in
@@ -114,5 +105,5 @@ module _ (bounds : Bounds) (order : Order) (k : NumberCode) (plain : (index_limi
       let p : o + w + m * w ≡ o + suc m * w = omega arith in
       ap (λ (t : ℕ). array t o (bs ++ c)) n
       ∙ passed (m + turns) o bs c (omega arith) (omega arith) aligned
-      ∙ numbers_run m turns (o + w) (drop w bs) c others (omega arith) (aligned_more k o aligned)
+      ∙ numbers_run m turns (o + w) (drop w bs) c others (omega arith) (stays_aligned (width k) o aligned)
       ∙ ap (λ (q : ℕ). array turns q c) p

@@ -16,6 +16,7 @@ use Rattle.dbus_value_model.specs.declared.fault.Reason.TheVariants as reasons
 use Rattle.dbus_value_model.specs.Items.{fault, text_reason}
 use Rattle.dbus_value_model.specs.ValueItems.{array_row}
 use Rattle.dbus_value_model.specs.Reading.{Reader, Outcome, Done, Faulty, Partial, after, zeros, padding, validated, number_of, number, text, up_to, items, value}
+use Rattle.dbus_value_laws.proofs.ReadSteps.{same_after}
 use Rattle.dbus_value_laws.proofs.KindLaws.{break_more, computed_whole}
 use Rattle.dbus_value_checker.specs.Suspended.{AnArray, On, onward, Work, Parts, Elements, elements, work, works, head, own, own_of, opened_by}
 
@@ -23,11 +24,6 @@ pub after_after : {A B C : Type 0} (r : Outcome A) (f : A → Reader B) (g : B �
 after_after (Done x p t) f g = refl
 after_after (Faulty e) f g = refl
 after_after Partial f g = refl
-
-pub after_same : {A B : Type 0} (r : Outcome A) (f g : A → Reader B) → ((x : A) (p : ℕ) (t : List ℕ) → f x p t ≡ g x p t) → after r f ≡ after r g
-after_same (Done x p t) f g h = h x p t
-after_same (Faulty e) f g h = refl
-after_same Partial f g h = refl
 
 -- ---- containers
 
@@ -76,7 +72,7 @@ padding_zeros a end o s next h = rw (le-ltb _ _ h, padding) refl
 module _ (bounds : Bounds) (order : Order) (end : ℕ) (next : On) where
   array_begins : (inner : ℕ) (t : TypeTree) (o : ℕ) (s : List ℕ) → onward (items bounds order (suc inner) (value bounds order inner) end (ArrayType t)) next o s ≡ after (padding 4 end o s) (λ x. head bounds order end (AnArray inner t) next)
   array_begins inner t o s =
-      simp after_after (after_same (padding 4 end o s) _ _ (λ x p u. after_same (number order 4 end (array_row bounds t end) p u) _ _ (λ n q v. after_same (padding (alignment_of t) end q v) _ _ (λ x q v.
+      simp after_after (same_after (padding 4 end o s) _ _ (λ x p u. same_after (number order 4 end (array_row bounds t end) p u) _ _ (λ n q v. same_after (padding (alignment_of t) end q v) _ _ (λ x q v.
       elements_up_to n (q + n) (value bounds order inner (q + n) t) [] next q v))))
 
   -- The law of a value: it begins with its padding, or is a variant, and goes on with its own item and the containers that it opens.
@@ -91,8 +87,8 @@ module _ (bounds : Bounds) (order : Order) (end : ℕ) (next : On) where
   begins (suc inner) (ArrayType t) o s h = array_begins inner t o s
   begins zero (StructType ts) o s h = simp after_after
   begins (suc inner) (StructType ts) o s h = simp after_after
-  begins zero (EntryType k v) o s h = simp after_after (after_same (padding 8 end o s) _ _ (λ x p u. sym (simp after_after)))
-  begins (suc inner) (EntryType k v) o s h = simp after_after (after_same (padding 8 end o s) _ _ (λ x p u. sym (simp after_after)))
+  begins zero (EntryType k v) o s h = simp after_after (same_after (padding 8 end o s) _ _ (λ x p u. sym (simp after_after)))
+  begins (suc inner) (EntryType k v) o s h = simp after_after (same_after (padding 8 end o s) _ _ (λ x p u. sym (simp after_after)))
 
 pub value_begins : (bounds : Bounds) (order : Order) (depth_left end : ℕ) (t : TypeTree) (o : ℕ) (s : List ℕ) (next : On) → (t ≡ VariantType → ⊥) → onward (value bounds order depth_left end t) next o s ≡ after (padding (alignment_of t) end o s) (λ x. own bounds order end (own_of t depth_left) (works bounds order next (opened_by t depth_left end)))
 value_begins bounds order depth_left end t o s next h = begins bounds order end next depth_left t o s h

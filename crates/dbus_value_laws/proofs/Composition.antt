@@ -16,6 +16,7 @@ use Rattle.dbus_value_model.specs.ValueItems.{index_row, number_row, text_row, a
 use Rattle.dbus_value_model.proofs.Numbers.{length-num}
 use Rattle.dbus_value_laws.proofs.KindLaws.{text_single}
 use Rattle.dbus_value_laws.proofs.OwnItems.{chosen}
+use Rattle.dbus_value_laws.proofs.ReadSteps.{text_fits}
 
 -- ---- rows
 
@@ -24,9 +25,6 @@ row_fits end p n e = elim (chosen (ltb end (p + n + 1)) _ _ _ e) [
   | inl h ↦ absurd (cc (h.1))
   | inr h ↦ ltb-false _ _ h.0
 ]
-
-pub fits_row : (end p n : ℕ) → p + n + 1 ≤ end → text_row end p n ≡ None
-fits_row end p n h = rw (le-ltb _ _ h) refl
 
 pub array_row_fits : (bounds : Bounds) (t : TypeTree) (end p n : ℕ) → array_row bounds t end p n ≡ None → (n ≤ bounds.array) × (p + gap_to (alignment_of t) p + n ≤ end)
 array_row_fits bounds t end p n e = elim (chosen (ltb bounds.array n) _ _ _ e) [
@@ -150,7 +148,7 @@ text_from bounds order depth_left inside end k o s t q r h =
         length t,
         p + w,
         t ++ 0 ∷ r,
-        (h.formed.1, refl, refl, omega (arith, h.bound), fits_row end (p + w) (length t) (omega (arith, h.bound))),
+        (h.formed.1, refl, refl, omega (arith, h.bound), text_fits end (p + w) (length t) (omega (arith, h.bound))),
         (
           t,
           p + w + length t,
@@ -246,7 +244,7 @@ module _ (bounds : Bounds) (order : Order) (depth_left : ℕ) (inside : ℕ → 
         length t,
         o + 1,
         t ++ 0 ∷ (spelling order p x ++ r),
-        (omega (arith, h.formed.0.1), there, refl, omega (arith, h.bound, ends, at), fits_row end (o + 1) (length t) (omega (arith, h.bound, ends, at))),
+        (omega (arith, h.formed.0.1), there, refl, omega (arith, h.bound, ends, at), text_fits end (o + 1) (length t) (omega (arith, h.bound, ends, at))),
         (
           type_of x,
           o + 1 + length t,

@@ -1,11 +1,12 @@
 -- What the items use of the texts that are wanted.
-use Rattle.std.proofs.Common.{sym, ◌∙◌, subst, zero, take, inl, inr, ◌≡◌, ℕ, suc, ◌<◌, ◌≤◌, List, [], ◌∷◌, ◌++◌, length, Bool, true, false, eqb, cond, refl, ap, arith}
+use Rattle.std.proofs.Common.{append-nil, sym, ◌∙◌, subst, zero, take, inl, inr, ◌≡◌, ℕ, suc, ◌<◌, ◌≤◌, List, [], ◌∷◌, ◌++◌, length, Bool, true, false, eqb, cond, refl, ap, arith}
 use Rattle.std.proofs.lemmas.Bool.{cases_lt, and_parts, and_from, eqb-true, eq-eqb}
-use Rattle.dbus_texts.specs.Types.{TypeTree, TypeTrees, sig, sigs, IsSingleType, AreShaped}
+use Rattle.dbus_texts.specs.Types.{TypeTree, TypeTrees, NoTypes, MoreTypes, sig, sigs, IsSingleType, AreShaped}
 use Rattle.dbus_texts.specs.Prefixes.{IsPrefixIn, IsBreakIn}
 use Rattle.dbus_texts.specs.ComputedKinds.{type_spelled, types_spelled}
 use Rattle.dbus_texts.specs.declared.text_kind.TextKind.TheVariants as kinds
 use Rattle.dbus_texts.proofs.KindFacts as facts
+pub use Rattle.dbus_texts.proofs.TypeTexts.{spelled_sig, spelled_sigs}
 use Rattle.dbus_value_model.specs.WantedTexts.{WantedText, Of, Only, IsWanted, IsBreakOf}
 use Rattle.dbus_value_model.specs.ComputedTexts.{is_kind, break_at, same_text, alike}
 
@@ -60,16 +61,17 @@ unfolding break_at is_kind
 computed_whole (Of k) t h = facts.break_whole k t h
 computed_whole (Only u) t h = alike_whole u t h
 
-pub spelled_sig : (t : TypeTree) → type_spelled (sig t) ≡ t
-spelled_sig t = facts.spelled_sig t
-
-pub spelled_sigs : (ts : TypeTrees) → types_spelled (sigs ts) ≡ ts
-spelled_sigs ts = facts.spelled_sigs ts
-
 pub signature_text : (t : List ℕ) → IsWanted (Of kinds.Signature) t → AreShaped (types_spelled t) × (sigs (types_spelled t) ≡ t)
 signature_text t h =
     let w = facts.signature_text_is t (facts.is_kind_of kinds.Signature t h) in
     (facts.are_shaped_of (types_spelled t) 0 0 w.0.0, w.1)
+
+pub signature_types : (t : List ℕ) → IsWanted (Of kinds.Signature) t → (ts : TypeTrees) × ((t ≡ sigs ts) × AreShaped ts)
+signature_types t h = let w = signature_text t h in (types_spelled t, (sym w.1, w.0))
+
+-- a single type as a list of types
+pub held_types : (t : TypeTree) (types : List ℕ) → types ≡ sig t → IsSingleType t → (types ≡ sigs (MoreTypes t NoTypes)) × AreShaped (MoreTypes t NoTypes)
+held_types t types is single = (is ∙ sym (append-nil (sig t)), (facts.shaped_of t false 0 0 single.0, tt))
 
 pub only_is : (u t : List ℕ) → IsWanted (Only u) t → u ≡ t
 only_is u t h = sym h

@@ -71,7 +71,7 @@ zeros_say (suc k) o (zero ∷ s) = one_more (zeros k (suc o) s) (zeros_say k (su
     one_more Partial w = tt
 zeros_say (suc k) o (suc b ∷ s) = let same : o ≡ o + 0 = omega arith in (0, b, s, omega arith, refl, ap (λ (p : ℕ). fault p reasons.Padding) same)
 
-zeros_pass : (k o : ℕ) (r : List ℕ) → zeros k o (replicate k 0 ++ r) ≡ Done tt (o + k) r
+pub zeros_pass : (k o : ℕ) (r : List ℕ) → zeros k o (replicate k 0 ++ r) ≡ Done tt (o + k) r
 zeros_pass zero o r = let e : o + 0 ≡ o = omega arith in rw e refl
 zeros_pass (suc k) o r = let e : o + suc k ≡ suc o + k = omega arith in rw e (zeros_pass k (suc o) r)
 

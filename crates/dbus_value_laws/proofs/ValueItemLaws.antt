@@ -38,7 +38,7 @@ struct_complete : (b : Bool) (ts : TypeTrees) → IsShaped b (StructType ts) →
 struct_complete b NoTypes h = absurd h
 struct_complete b (MoreTypes t ts) h = h
 
-width_positive : (k : NumberCode) → 0 < width k
+pub width_positive : (k : NumberCode) → 0 < width k
 width_positive BYTE = omega arith
 width_positive k = omega arith
 

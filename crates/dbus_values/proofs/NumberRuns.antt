@@ -19,10 +19,6 @@ use Rattle.dbus_walk.proofs.Parts.{number_is}
 use Rattle.dbus_walk.proofs.Seams.{stands_after}
 use Rattle.dbus_values.specs.States.{AreNumbersIn}
 
-pub some_bytes : (k : NumberCode) → 0 < width k
-some_bytes BYTE = omega arith
-some_bytes k = omega arith
-
 pub one_byte : (k : NumberCode) → width k ≡ 1 → k ≡ BYTE
 one_byte BYTE e = refl
 one_byte k e = absurd (omega arith)

@@ -14,10 +14,6 @@ pub whole_message : (limits : Limits) (b : List ℕ) (order : Order) (m : Messag
 unfolding IsWhole
 whole_message limits b order m n w = w.0
 
-pub whole_length : (limits : Limits) (b : List ℕ) (order : Order) (m : MessageTree) (n : ℕ) → IsWhole limits b order m n → n ≡ body_start order m.fields + length (body_bytes order m)
-unfolding IsWhole
-whole_length limits b order m n w = w.2 ∙ message_length order m
-
 module _ (limits : Limits) (bytes : List ℕ) (j : Validated) (h : IsValidatedWhole limits bytes j) where
   abbrev pub message : MessageTree
   message = h.validated.message

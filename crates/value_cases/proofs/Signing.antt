@@ -4,7 +4,7 @@ use Rattle.dbus_texts.specs.ComputedKinds.{types_spelled}
 use Rattle.dbus_texts.specs.Kinds.{IsKind}
 use Rattle.dbus_texts.specs.Types.{TypeTrees, sigs, AreShaped}
 use Rattle.dbus_texts.specs.declared.text_kind.TextKind.TheVariants as kinds
-use Rattle.dbus_value_laws.proofs.KindLaws.{signature_text}
+use Rattle.dbus_value_laws.proofs.KindLaws.{signature_types}
 use Rattle.dbus_value_model.specs.declared.limits.Bounds.{Bounds}
 use Rattle.dbus_value_model.specs.declared.order.Order.{Order}
 use Rattle.dbus_value_checker.specs.declared.values.Values.{Values}
@@ -12,9 +12,6 @@ use Rattle.dbus_value_checker.specs.Denotations.{Denotes}
 use Rattle.dbus_value_checker.specs.Moves.{values_on}
 use Rattle.dbus_value_checker.specs.Suspended.{On, done}
 use Rattle.value_cases.specs.Checkers.{IsUnderWay}
-
-pub signature_types : (t : List ℕ) → IsKind kinds.Signature t → (ts : TypeTrees) × ((t ≡ sigs ts) × AreShaped ts)
-signature_types t h = let w = signature_text t h in (types_spelled t, (sym w.1, w.0))
 
 -- a checker that began with them is under way
 pub begun : (x : Values) (bounds : Bounds) (order : Order) (room end at : ℕ) (types : List ℕ) → IsKind kinds.Signature types

@@ -8,7 +8,8 @@ use Rattle.dbus_value_model.specs.Items.{fault}
 use Rattle.dbus_header.specs.MessageItems.{name_row}
 use Rattle.dbus_value_checker.specs.Fronts.{Lack}
 use Rattle.dbus_value_checker.proofs.FrontSteps.{lacks_number, number_taken, number_refused}
-use Rattle.dbus_check.proofs.FieldSteps.{name_fits, name_past, name_long, name_padding_stops, name_length_stops, name_text_stops, name_there}
+use Rattle.dbus_header.proofs.FieldSteps.{long_name}
+use Rattle.dbus_check.proofs.FieldSteps.{name_fits, name_past, name_padding_stops, name_length_stops, name_text_stops, name_there}
 use Rattle.dbus_check.proofs.field_fronts.name_front.Goals as goal
 
 pub returns-in-Err-clause-gives : goal.returns-in-Err-clause-gives
@@ -28,7 +29,7 @@ pub returns-then-n-gt-NAME_LIMIT-clause-gives : goal.returns-then-n-gt-NAME_LIMI
 returns-then-n-gt-NAME_LIMIT-clause-gives c =
     let a = c.args in let z = c.in-Ok.zeros in let rest = c.rest_after-rest.result.now in let h = c.in-Ok-word.ensures in
     rw c.refuse.ensures (name_length_stops a.order a.end a.offset a.bytes.now (Of a.kind) z c.in-Ok.ensures.gives rest c.rest_after-rest.ensures (stops.Refused (fault (a.offset + z) reasons.NameTooLong))
-    (number_refused a.order 4 a.end (name_row a.end) (a.offset + z) rest c.in-Ok-word.n h.0 h.1 h.2 reasons.NameTooLong (name_long a.end (a.offset + z + 4) c.in-Ok-word.n (omega arith))))
+    (number_refused a.order 4 a.end (name_row a.end) (a.offset + z) rest c.in-Ok-word.n h.0 h.1 h.2 reasons.NameTooLong (long_name a.end (a.offset + z + 4) c.in-Ok-word.n (omega arith))))
 
 pub returns-then-end-at-clause-gives : goal.returns-then-end-at-clause-gives
 returns-then-end-at-clause-gives c =

@@ -3,7 +3,8 @@ use Rattle.dbus_auth_lines.specs.CutterStates.{cutter_state}
 use Rattle.dbus_handshake_input.specs.Ahead.{HasMore, kept_of}
 use Rattle.dbus_handshake_input.specs.Lines.{ReadsLine}
 use Rattle.dbus_handshake_input.specs.declared.fault.HandshakeFault.{HandshakeFault}
-use Rattle.dbus_handshake_input.proofs.LineSteps.{Answers, CutsLine, CutsNone, cuts_line, cuts_none, part_begins, part_ends, part_faulty, part_whole, part_goes_on, some_kept, took_same, unfinished_short}
+use Rattle.dbus_auth_lines.proofs.Cuts.{short_by}
+use Rattle.dbus_handshake_input.proofs.LineSteps.{Answers, CutsLine, CutsNone, cuts_line, cuts_none, part_begins, part_ends, part_faulty, part_whole, part_goes_on, some_kept, took_same}
 use Rattle.dbus_handshake_input.proofs.lines.next_line.Goals as goal
 
 pub pieces-init : goal.pieces-init
@@ -55,7 +56,7 @@ overflow_add-size g c =
     h.field-0-1-is h.ensures.taken in
     let all = cuts.all in
     let size = c.pieces.invariant.0.size_is in
-    let short = unfinished_short _ cuts.unfinished in
+    let short = short_by _ cuts.unfinished in
     let joined = length-append (cutter_state c.pieces.cutter).kept c.kept.result.now in
     omega (arith, all, size, short, joined)
 
@@ -66,7 +67,7 @@ pieces-smaller g c =
     h.field-0-1-is h.ensures.taken in
     let all = cuts.all in
     let size = c.pieces.invariant.0.size_is in
-    let short = unfinished_short _ cuts.unfinished in
+    let short = short_by _ cuts.unfinished in
     let joined = length-append (cutter_state c.pieces.cutter).kept c.kept.result.now in
     let some : 0 < length (kept_of c.has_more.new.self) = some_kept (kept_of c.has_more.new.self)
     (subst (λ (b : Bool). HasMore g.R.Source.left c.has_more.new.self (Ok b)) c.in-Ok-true.field-0-test c.in-Ok-true.ensures.more) in

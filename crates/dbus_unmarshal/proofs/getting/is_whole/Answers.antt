@@ -3,7 +3,8 @@ use Rattle.std.proofs.lemmas.Result.{err_from_is_err_and}
 use Rattle.dbus_texts.specs.Types.{MoreTypes, NoTypes}
 use Rattle.dbus_value_checker.specs.Suspended.{done}
 use Rattle.dbus_value_laws.proofs.ReadSteps.{bytes_at}
-use Rattle.dbus_unmarshal.proofs.Validating.{held_types, asked, refused, validated}
+use Rattle.dbus_unmarshal.proofs.Validating.{asked, refused, validated}
+use Rattle.dbus_value_laws.proofs.KindLaws.{held_types}
 use Rattle.dbus_unmarshal.proofs.getting.is_whole.Goals as goal
 
 pub begin-requires-clause-types : goal.begin-requires-clause-types

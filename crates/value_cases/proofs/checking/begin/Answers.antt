@@ -1,4 +1,5 @@
-use Rattle.value_cases.proofs.Signing.{signature_types, begun}
+use Rattle.dbus_value_laws.proofs.KindLaws.{signature_types}
+use Rattle.value_cases.proofs.Signing.{begun}
 use Rattle.value_cases.proofs.checking.begin.Goals as goal
 
 pub begin-requires-clause-types : goal.begin-requires-clause-types

@@ -7,7 +7,7 @@ use Rattle.dbus_value_checker.specs.Moves.{values_on}
 use Rattle.dbus_check.specs.Heading.{fields_on}
 use Rattle.dbus_check.proofs.PassedFields.{the_kept, keeps_plain}
 use Rattle.dbus_value_checker.proofs.Suspension.{parts_more}
-use Rattle.dbus_check.proofs.Stages.{held_types}
+use Rattle.dbus_value_laws.proofs.KindLaws.{held_types}
 use Rattle.dbus_check.proofs.progress.Progress.hold.Goals as goal
 
 pub begin-requires-clause-types : goal.begin-requires-clause-types

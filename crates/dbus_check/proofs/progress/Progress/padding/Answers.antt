@@ -1,7 +1,8 @@
 use Rattle.std.proofs.Common.{◌+◌, sym, ap, ◌∙◌, refl}
 use Rattle.dbus_value_model.specs.FdIndexes.{index_limit}
 use Rattle.dbus_value_model.specs.Bounds.{bounds_with}
-use Rattle.dbus_check.proofs.Stages.{padding_taken, signature_types, body_flows}
+use Rattle.dbus_check.proofs.Stages.{padding_taken, body_flows}
+use Rattle.dbus_value_laws.proofs.KindLaws.{signature_types}
 use Rattle.dbus_check.proofs.progress.Progress.padding.Goals as goal
 
 pub begin-requires-clause-types : goal.begin-requires-clause-types

@@ -1,4 +1,3 @@
-use Rattle.std.proofs.Common.{◌∙◌, sym, ap, subst}
 use Rattle.dbus_message_model.specs.MessageViews.{message_tree}
 use Rattle.dbus_message_model.proofs.KnownValues.{text_there, text_not_there}
 use Rattle.dbus_message_model.proofs.message.Message.text.Goals as goal

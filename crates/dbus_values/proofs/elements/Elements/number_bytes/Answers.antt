@@ -5,7 +5,8 @@ use Rattle.dbus_types.proofs.TypeCodes.{code_is}
 use Rattle.dbus_value_model.specs.Bytes.{gap_to}
 use Rattle.dbus_values.specs.States.{ElementsState, ElementsAreLeft, AreNumbersIn}
 use Rattle.dbus_walk.proofs.Lists.{no_elements}
-use Rattle.dbus_values.proofs.NumberRuns.{some_bytes, elements_within, numbers_in, none_in}
+use Rattle.dbus_value_laws.proofs.ValueItemLaws.{width_positive}
+use Rattle.dbus_values.proofs.NumberRuns.{elements_within, numbers_in, none_in}
 use Rattle.dbus_values.proofs.elements.Elements.number_bytes.Goals as goal
 
 pub bounds-self-inside-0 : goal.bounds-self-inside-0
@@ -14,7 +15,7 @@ bounds-self-inside-0 c = let l = c.self.invariant.3 in omega (arith, ap length l
 pub returns-then-width-eq0 : goal.returns-then-width-eq0
 returns-then-width-eq0 c = λ xs rest l k typed.
     let coded = ap (λ (s : ElementsState). get_or s.type 0 0) c.self.view_is ∙ ap (λ (t : List ℕ). get_or t 0 0) typed in
-    omega (arith, some_bytes k, c.if-width-eq0.true, c.number_width-width.ensures.value (NumberType k) (sym coded))
+    omega (arith, width_positive k, c.if-width-eq0.true, c.number_width-width.ensures.value (NumberType k) (sym coded))
 
 pub returns-then-self : goal.returns-then-self
 returns-then-self c = λ xs rest l.
