@@ -23,9 +23,9 @@ formed_struct : (depth_left : ℕ) (xs : ValueTrees) → IsWellFormed depth_left
 formed_struct zero xs h = absurd h
 formed_struct (suc depth_left) xs h = let less : depth_left ≡ suc depth_left - 1 = omega arith in (omega arith, subst (λ (r : ℕ). AreWellFormed r xs) less h)
 
-pub entry_left : {c : ℕ} → (c ≡ 40) ⊎ (c ≡ 123) → (c ≡ 40 → ⊥) → c ≡ 123
-entry_left (inl e) not_struct = absurd (not_struct e)
-entry_left (inr e) not_struct = e
+pub struct_left : {c : ℕ} → (c ≡ 40) ⊎ (c ≡ 123) → (c ≡ 123 → ⊥) → c ≡ 40
+struct_left (inl e) not_entry = e
+struct_left (inr e) not_entry = absurd (not_entry e)
 
 module _ {order : Order} {depth_left : ℕ} {types : List ℕ} {at : ℕ} {bytes rest : List ℕ} where
   pub struct_parts : (xs : ValueTrees) → Stands order depth_left types at bytes (StructValue xs) rest → sigs (types_of xs) ≡ within types → (0 < depth_left) × AllStand order (depth_left - 1) (within types) (at + gap_to 8 at) bytes xs rest

@@ -1,12 +1,14 @@
 -- Values one after another of which the first are walked: those that are left.
-use Rattle.std.proofs.Common.{◌≡◌, ℕ, ◌+◌, ◌-◌, ◌<◌, ◌≤◌, List, [], ◌∷◌, ◌++◌, length, take, drop, Bool, true, false, refl, sym, ap, subst, ◌∙◌, arith, append_assoc, Result, Ok, Err, is_err, IfOk}
-use Rattle.std.proofs.lemmas.List.{length-append, length-drop, append-nil}
+use Rattle.std.proofs.Common.{◌≡◌, ℕ, ◌+◌, ◌-◌, ◌<◌, ◌≤◌, List, [], ◌∷◌, ◌++◌, length, take, drop, get_or, Bool, true, false, refl, sym, ap, subst, ◌∙◌, arith, append_assoc, Result, Ok, Err, is_err, IfOk}
+use Rattle.std.proofs.lemmas.List.{length-append, length-drop, append-nil, take_rest}
 use Rattle.dbus_texts.specs.Types.{sig, sigs}
 use Rattle.dbus_texts.proofs.TypeTexts.{sig_positive}
 use Rattle.dbus_value_model.specs.declared.order.Order.{Order}
 use Rattle.dbus_value_model.specs.Spelling.{spelling, spellings}
 use Rattle.dbus_value_model.specs.Values.{ValueTree, ValueTrees, NoValues, MoreValues, value_trees, type_of, types_of}
 use Rattle.dbus_types.specs.SignatureCodes.{IsTypeEnd}
+use Rattle.dbus_types.specs.TypeLengths.{AreLengths}
+use Rattle.dbus_types.proofs.TypeLengths.{ends_by}
 use Rattle.dbus_walk.specs.Standing.{Stands, AllStand, ElementsStand}
 use Rattle.dbus_walk.specs.Containers.{is_none}
 use Rattle.dbus_walk.proofs.Lists.{FirstElement, element_of, no_elements, first_value, other_values}
@@ -118,6 +120,20 @@ module _ {order : Order} {depth_left : ℕ} {bytes rest : List ℕ} {at : ℕ} {
       of (MoreValues v us) e =
           absurd (omega (arith, le, ap length (all_as (MoreValues v us) e).text, length-append (sig (type_of v)) (sigs (types_of us)), sig_positive (type_of v), length-drop pos types))
 
+-- ---- the first of some types, and those after it
+
+-- it ends where its length says
+pub first_ends : {types lengths : List ℕ} → AreLengths types lengths → {n : ℕ} → n ≡ get_or lengths 0 0 → IsTypeEnd types 0 n
+first_ends {types} {lengths} noted is t more e = omega (arith, is, ends_by types lengths noted 0 t more e)
+
+pub of_first : {order : Order} {depth_left : ℕ} (types : List ℕ) {place : ℕ} {bytes : List ℕ} {v : ValueTree} {rest : List ℕ} (next : ℕ) → Stands order depth_left (take (next - 0) types) place bytes v rest
+    → Stands order depth_left (take next types) place bytes v rest
+of_first {order} {depth_left} types {place} {bytes} {v} {rest} next s = let e : next - 0 ≡ next = omega arith in subst (λ (k : ℕ). Stands order depth_left (take k types) place bytes v rest) e s
+
+pub of_others : {order : Order} {depth_left : ℕ} (types : List ℕ) {at : ℕ} {vs : ValueTrees} {Q : List ValueTree → Type 0} {place : ℕ} {bytes rest : List ℕ} (next : ℕ) → Left order at vs (λ q us. AllStand order depth_left (drop next types) q bytes us rest) Q place
+    → Left order at vs (λ q us. AllStand order depth_left (take (length types - next) (drop next types)) q bytes us rest) Q place
+of_others {order} {depth_left} types {at} {vs} {Q} {place} {bytes} {rest} next l = subst (λ (ts : List ℕ). Left order at vs (λ q us. AllStand order depth_left ts q bytes us rest) Q place) (sym (take_rest types next)) l
+
 -- ---- what a visitor made of those that are walked
 
 -- one value more
@@ -167,6 +183,10 @@ made_of r P {u} {v} {q} {end} is ends h = subst (λ (k : ℕ). IfOk r (λ after.
 pub not_ok : {T E : Type 0} (r : Result T E) (Q : Type 0) → is_err r ≡ true → IfOk r (λ x. Q)
 not_ok (Ok x) Q e = absurd cc
 not_ok (Err e) Q h = tt
+
+pub held_ok : {T E : Type 0} (r : Result T E) (P : Type 0) → is_err r ≡ false → IfOk r (λ x. P) → P
+held_ok (Ok x) P e h = h
+held_ok (Err e) P q h = absurd cc
 
 pub ok_from : {T E : Type 0} (r : Result T E) (P Q : Type 0) → (P → Q) → IfOk r (λ x. P) → IfOk r (λ x. Q)
 ok_from (Ok x) P Q f h = f h

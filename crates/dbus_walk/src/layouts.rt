@@ -35,13 +35,12 @@ pub fn layout<'a>(source: &Source<'a>, spot: &Spot<'_>) -> Layout<'a>
         },
         b'v' => variant(source, spot),
         b'a' => Layout::Array(array(source, spot)),
-        brackets => {
-            let start = spot.at + parts_gap(spot.at);
-            if brackets == b'(' {
-                return Layout::Struct { start };
-            }
-            Layout::Entry { start }
-        }
+        b'{' => Layout::Entry {
+            start: spot.at + parts_gap(spot.at),
+        },
+        _ => Layout::Struct {
+            start: spot.at + parts_gap(spot.at),
+        },
     }
 }
 

@@ -208,3 +208,17 @@ pub trait Visitor {
         many opened none order (inside order at v) xs held filled →
         closes filled m held v later after → one s m order at v later after };
 }
+
+/// Says that a part comes next. The two calls apart let the compiler write each by itself.
+#[inline(always)]
+pub(crate) fn next_part<V: Visitor>(visitor: &mut V, is_first: bool, length: usize)
+    requires ready { V.ready visitor.old length }
+    ensures ready { V.ready visitor.new length }
+    ensures takes { V.parted visitor.old is_first visitor.new }
+{
+    if is_first {
+        visitor.part(true, length);
+    } else {
+        visitor.part(false, length);
+    }
+}

@@ -21,7 +21,7 @@ use crate::container::Container;
 use crate::layouts::layout;
 use crate::rows::{known_row, row_of};
 use crate::spot::{Layout, Run, Source, Spot};
-use crate::visitor::Visitor;
+use crate::visitor::{Visitor, next_part};
 use dbus_types::lengths_in;
 
 /// Walks over the value at a spot, of which the visitor gathers something: the offset after it.
@@ -43,43 +43,56 @@ pub fn walk_value<V: Visitor>(
         IfOk result (λ after. V.one visitor.old gathered.old source.now.order spot.now.at v gathered.new visitor.new ×
         (after ≡ end_of source.now spot.now v)) }
 {
-    value(visitor, gathered, source, spot, 0)
+    let mut here = *spot;
+    value(visitor, gathered, source, &mut here, 0)?;
+    Ok(here.at)
 }
 
-/// The value at a spot, in whose type so many structs open together as [`row_of`] finds, or 0 if that was not looked for.
+/// The value at a spot, which moves to its end. In the value's type so many structs open together as [`row_of`] finds, or 0 if that
+/// was not looked for.
 #[cycle(walk)]
 #[inline(always)]
 fn value<V: Visitor>(
     visitor: &mut V,
     gathered: &mut V::Many,
     source: &Source<'_>,
-    spot: &Spot<'_>,
+    spot: &mut Spot<'_>,
     row: usize,
-) -> Result<usize, V::Stop>
+) -> Result<(), V::Stop>
     requires ready { V.ready visitor.old (length source.now.bytes.now) }
-    requires stands { StandsThere source.now spot.now }
-    requires noted { AreLengths spot.now.types.now spot.now.lengths.now }
-    requires together { IsRow spot.now.types.now spot.now.lengths.now row }
+    requires stands { StandsThere source.now spot.old }
+    requires noted { AreLengths spot.old.types.now spot.old.lengths.now }
+    requires together { IsRow spot.old.types.now spot.old.lengths.now row }
     ensures ready { V.ready visitor.new (length source.now.bytes.now) }
-    ensures walked { (v : ValueTree) (rest : List ℕ) → StandsAt source.now spot.now v rest →
-        IfOk result (λ after. V.one visitor.old gathered.old source.now.order spot.now.at v gathered.new visitor.new ×
-        (after ≡ end_of source.now spot.now v)) }
+    ensures walked { (v : ValueTree) (rest : List ℕ) → StandsAt source.now spot.old v rest →
+        IfOk result (λ _. V.one visitor.old gathered.old source.now.order spot.old.at v gathered.new visitor.new ×
+        (spot.new.at ≡ end_of source.now spot.old v)) }
 {
     match layout(source, spot) {
         Layout::Number { start, size } => {
             visitor.number(gathered, source, spot, start, size)?;
-            Ok(start + usize::from(size))
+            spot.at = start + usize::from(size);
+            Ok(())
         }
         Layout::LongText { start, size } => {
             visitor.long_text(gathered, source, spot, start, size)?;
-            Ok(start + 4 + size + 1)
+            spot.at = start + 4 + size + 1;
+            Ok(())
         }
         Layout::ShortText { size } => {
             visitor.short_text(gathered, source, spot, size)?;
-            Ok(spot.at + 1 + size + 1)
+            spot.at = spot.at + 1 + size + 1;
+            Ok(())
         }
-        Layout::Variant { types, at } => variant(visitor, gathered, source, spot, types, at),
-        Layout::Array(run) => array(visitor, gathered, source, spot, run),
+        Layout::Variant { types, at } => {
+            spot.at = variant(visitor, gathered, source, spot, types, at)?;
+            Ok(())
+        }
+        Layout::Array(run) => {
+            array(visitor, gathered, source, spot, run)?;
+            spot.at = run.end;
+            Ok(())
+        }
         Layout::Struct { start } => structure(visitor, gathered, source, spot, start, row),
         Layout::Entry { start } => entry(visitor, gathered, source, spot, start),
     }
@@ -178,7 +191,7 @@ fn array<V: Visitor>(
     source: &Source<'_>,
     spot: &Spot<'_>,
     run: Run,
-) -> Result<usize, V::Stop>
+) -> Result<(), V::Stop>
     requires ready { V.ready visitor.old (length source.now.bytes.now) }
     requires stands { StandsThere source.now spot.now }
     requires noted { AreLengths spot.now.types.now spot.now.lengths.now }
@@ -187,12 +200,12 @@ fn array<V: Visitor>(
         IsArrayAt source.now spot.now v rest run }
     ensures ready { V.ready visitor.new (length source.now.bytes.now) }
     ensures walked { (v : ValueTree) (rest : List ℕ) → StandsAt source.now spot.now v rest →
-        IfOk result (λ after. V.one visitor.old gathered.old source.now.order spot.now.at v gathered.new visitor.new ×
-        (after ≡ end_of source.now spot.now v)) }
+        IfOk result (λ _. V.one visitor.old gathered.old source.now.order spot.now.at v gathered.new visitor.new ×
+        (run.end ≡ end_of source.now spot.now v)) }
 {
     if V::at_one_stroke(spot.types[1], run.size) {
         visitor.whole_array(gathered, source, spot, run)?;
-        return Ok(run.end);
+        return Ok(());
     }
     let mut many = visitor.open_array(gathered, source, spot, run.start)?;
     let held = Spot {
@@ -203,7 +216,7 @@ fn array<V: Visitor>(
     };
     elements(visitor, &mut many, source, &held, run.end)?;
     visitor.close(gathered, Container::Array, many, source.bytes.len())?;
-    Ok(run.end)
+    Ok(())
 }
 
 /// Elements of one type, up to `end`.
@@ -232,38 +245,42 @@ fn elements<V: Visitor>(
     let mut is_first = true;
     while place < end {
         next_part(visitor, is_first, source.bytes.len());
-        let next = Spot {
+        let mut next = Spot {
             at: place,
             types: spot.types,
             lengths: spot.lengths,
             depth_left: spot.depth_left,
         };
-        place = value(visitor, gathered, source, &next, row)?;
+        let walked = value(visitor, gathered, source, &mut next, row);
+        if walked.is_err() {
+            return walked;
+        }
+        place = next.at;
         is_first = false;
     }
     Ok(())
 }
 
-/// A dict entry, by where its key begins.
+/// A dict entry, by where its key begins. The spot moves to its end.
 #[cycle(walk)]
 #[inline(always)]
 fn entry<V: Visitor>(
     visitor: &mut V,
     gathered: &mut V::Many,
     source: &Source<'_>,
-    spot: &Spot<'_>,
+    spot: &mut Spot<'_>,
     start: usize,
-) -> Result<usize, V::Stop>
+) -> Result<(), V::Stop>
     requires ready { V.ready visitor.old (length source.now.bytes.now) }
-    requires stands { StandsThere source.now spot.now }
-    requires noted { AreLengths spot.now.types.now spot.now.lengths.now }
-    requires long { 2 ≤ length spot.now.types.now }
-    requires laid { (v : ValueTree) (rest : List ℕ) → StandsAt source.now spot.now v rest →
-        IsEntryAt source.now spot.now v rest start }
+    requires stands { StandsThere source.now spot.old }
+    requires noted { AreLengths spot.old.types.now spot.old.lengths.now }
+    requires long { 2 ≤ length spot.old.types.now }
+    requires laid { (v : ValueTree) (rest : List ℕ) → StandsAt source.now spot.old v rest →
+        IsEntryAt source.now spot.old v rest start }
     ensures ready { V.ready visitor.new (length source.now.bytes.now) }
-    ensures walked { (v : ValueTree) (rest : List ℕ) → StandsAt source.now spot.now v rest →
-        IfOk result (λ after. V.one visitor.old gathered.old source.now.order spot.now.at v gathered.new visitor.new ×
-        (after ≡ end_of source.now spot.now v)) }
+    ensures walked { (v : ValueTree) (rest : List ℕ) → StandsAt source.now spot.old v rest →
+        IfOk result (λ _. V.one visitor.old gathered.old source.now.order spot.old.at v gathered.new visitor.new ×
+        (spot.new.at ≡ end_of source.now spot.old v)) }
 {
     let end = spot.types.len() - 1;
     let mut held = Spot {
@@ -272,54 +289,109 @@ fn entry<V: Visitor>(
         lengths: &spot.lengths[1..end],
         depth_left: spot.depth_left,
     };
-    whole(visitor, gathered, source, &mut held, Container::Entry)?;
-    Ok(held.at)
+    let walked = whole(visitor, gathered, source, &mut held, Container::Entry);
+    spot.at = held.at;
+    walked
 }
 
-/// A struct, by where its first field begins.
+/// A struct, by where its first field begins. The spot moves to its end.
 #[cycle(walk)]
 #[inline(always)]
 fn structure<V: Visitor>(
     visitor: &mut V,
     gathered: &mut V::Many,
     source: &Source<'_>,
-    spot: &Spot<'_>,
+    spot: &mut Spot<'_>,
     start: usize,
     row: usize,
-) -> Result<usize, V::Stop>
+) -> Result<(), V::Stop>
     requires ready { V.ready visitor.old (length source.now.bytes.now) }
-    requires stands { StandsThere source.now spot.now }
-    requires noted { AreLengths spot.now.types.now spot.now.lengths.now }
-    requires together { IsRow spot.now.types.now spot.now.lengths.now row }
-    requires long { 2 ≤ length spot.now.types.now }
-    requires deep { 0 < spot.now.depth_left }
-    requires laid { (v : ValueTree) (rest : List ℕ) → StandsAt source.now spot.now v rest →
-        IsStructAt source.now spot.now v rest start }
+    requires stands { StandsThere source.now spot.old }
+    requires noted { AreLengths spot.old.types.now spot.old.lengths.now }
+    requires together { IsRow spot.old.types.now spot.old.lengths.now row }
+    requires long { 2 ≤ length spot.old.types.now }
+    requires deep { 0 < spot.old.depth_left }
+    requires laid { (v : ValueTree) (rest : List ℕ) → StandsAt source.now spot.old v rest →
+        IsStructAt source.now spot.old v rest start }
     ensures ready { V.ready visitor.new (length source.now.bytes.now) }
-    ensures walked { (v : ValueTree) (rest : List ℕ) → StandsAt source.now spot.now v rest →
-        IfOk result (λ after. V.one visitor.old gathered.old source.now.order spot.now.at v gathered.new visitor.new ×
-        (after ≡ end_of source.now spot.now v)) }
+    ensures walked { (v : ValueTree) (rest : List ℕ) → StandsAt source.now spot.old v rest →
+        IfOk result (λ _. V.one visitor.old gathered.old source.now.order spot.old.at v gathered.new visitor.new ×
+        (spot.new.at ≡ end_of source.now spot.old v)) }
 {
     let row = known_row(spot.types, spot.lengths, row);
     if row < 2 {
-        let end = spot.types.len() - 1;
-        let mut alone = Spot {
-            at: start,
-            types: &spot.types[1..end],
-            lengths: &spot.lengths[1..end],
-            depth_left: spot.depth_left - 1,
-        };
-        whole(visitor, gathered, source, &mut alone, Container::Struct)?;
-        return Ok(alone.at);
+        return alone(visitor, gathered, source, spot, start);
     }
+    together(visitor, gathered, source, spot, start, row)
+}
+
+/// A struct that is not walked as one of several that open together, by where its first field begins. The spot moves to its end.
+#[cycle(walk)]
+#[inline(always)]
+fn alone<V: Visitor>(
+    visitor: &mut V,
+    gathered: &mut V::Many,
+    source: &Source<'_>,
+    spot: &mut Spot<'_>,
+    start: usize,
+) -> Result<(), V::Stop>
+    requires ready { V.ready visitor.old (length source.now.bytes.now) }
+    requires stands { StandsThere source.now spot.old }
+    requires noted { AreLengths spot.old.types.now spot.old.lengths.now }
+    requires long { 2 ≤ length spot.old.types.now }
+    requires deep { 0 < spot.old.depth_left }
+    requires laid { (v : ValueTree) (rest : List ℕ) → StandsAt source.now spot.old v rest →
+        IsStructAt source.now spot.old v rest start }
+    ensures ready { V.ready visitor.new (length source.now.bytes.now) }
+    ensures walked { (v : ValueTree) (rest : List ℕ) → StandsAt source.now spot.old v rest →
+        IfOk result (λ _. V.one visitor.old gathered.old source.now.order spot.old.at v gathered.new visitor.new ×
+        (spot.new.at ≡ end_of source.now spot.old v)) }
+{
+    let end = spot.types.len() - 1;
+    let mut held = Spot {
+        at: start,
+        types: &spot.types[1..end],
+        lengths: &spot.lengths[1..end],
+        depth_left: spot.depth_left - 1,
+    };
+    let walked = whole(visitor, gathered, source, &mut held, Container::Struct);
+    spot.at = held.at;
+    walked
+}
+
+/// The outermost of `row` structs that open together, by where the first field of each begins. The spot moves to their end.
+#[cycle(walk)]
+#[inline(always)]
+fn together<V: Visitor>(
+    visitor: &mut V,
+    gathered: &mut V::Many,
+    source: &Source<'_>,
+    spot: &mut Spot<'_>,
+    start: usize,
+    row: usize,
+) -> Result<(), V::Stop>
+    requires ready { V.ready visitor.old (length source.now.bytes.now) }
+    requires stands { StandsThere source.now spot.old }
+    requires noted { AreLengths spot.old.types.now spot.old.lengths.now }
+    requires together { IsRow spot.old.types.now spot.old.lengths.now row }
+    requires long { 2 ≤ length spot.old.types.now }
+    requires deep { 0 < spot.old.depth_left }
+    requires laid { (v : ValueTree) (rest : List ℕ) → StandsAt source.now spot.old v rest →
+        IsStructAt source.now spot.old v rest start }
+    ensures ready { V.ready visitor.new (length source.now.bytes.now) }
+    ensures walked { (v : ValueTree) (rest : List ℕ) → StandsAt source.now spot.old v rest →
+        IfOk result (λ _. V.one visitor.old gathered.old source.now.order spot.old.at v gathered.new visitor.new ×
+        (spot.new.at ≡ end_of source.now spot.old v)) }
+{
     let mut held = Spot {
         at: start,
         types: spot.types,
         lengths: spot.lengths,
         depth_left: spot.depth_left - 1,
     };
-    nested(visitor, gathered, source, &mut held, 0, row)?;
-    Ok(held.at)
+    let walked = nested(visitor, gathered, source, &mut held, 0, row);
+    spot.at = held.at;
+    walked
 }
 
 /// A struct or a dict entry, by its parts. The spot, at which they begin, moves to their end.
@@ -344,9 +416,13 @@ fn whole<V: Visitor>(
 {
     let length = source.bytes.len();
     let mut many = visitor.open(gathered, kind, spot.types, length)?;
-    listed(visitor, &mut many, source, spot)?;
+    let walked = listed(visitor, &mut many, source, spot);
+    // Handed on as it is, which takes no instruction.
+    if walked.is_err() {
+        return walked;
+    }
     visitor.close(gathered, kind, many, length)?;
-    Ok(())
+    walked
 }
 
 /// The parts of a struct or a dict entry. The spot, at which they begin, moves to their end.
@@ -400,7 +476,6 @@ fn nested<V: Visitor>(
     let length = source.bytes.len();
     let mut many = visitor.open(gathered, Container::Struct, types, length)?;
     let walked = nested_fields(visitor, &mut many, source, spot, outer, row);
-    // Handed on as it is, which takes no instruction.
     if walked.is_err() {
         return walked;
     }
@@ -495,34 +570,23 @@ pub fn walk_values<V: Visitor>(
         (after ≡ end_of_all source.now spot.now vs)) }
 {
     let mut place = spot.at;
-    let mut pos = 0;
+    let mut types = spot.types;
+    let mut lengths = spot.lengths;
     let mut is_first = true;
-    while pos < spot.types.len() {
-        let end = pos + usize::from(spot.lengths[pos]);
+    while !types.is_empty() {
+        let end = usize::from(lengths[0]);
         next_part(visitor, is_first, source.bytes.len());
-        let next = Spot {
+        let mut next = Spot {
             at: place,
-            types: &spot.types[pos..end],
-            lengths: &spot.lengths[pos..end],
+            types: &types[..end],
+            lengths: &lengths[..end],
             depth_left: spot.depth_left,
         };
-        place = walk_value(visitor, gathered, source, &next)?;
+        value(visitor, gathered, source, &mut next, 0)?;
+        place = next.at;
         is_first = false;
-        pos = end;
+        types = &types[end..];
+        lengths = &lengths[end..];
     }
     Ok(place)
-}
-
-/// Says that a part comes next. The two calls apart let the compiler write each by itself.
-#[inline(always)]
-fn next_part<V: Visitor>(visitor: &mut V, is_first: bool, length: usize)
-    requires ready { V.ready visitor.old length }
-    ensures ready { V.ready visitor.new length }
-    ensures takes { V.parted visitor.old is_first visitor.new }
-{
-    if is_first {
-        visitor.part(true, length);
-    } else {
-        visitor.part(false, length);
-    }
 }

@@ -1,8 +1,8 @@
-use Rattle.std.proofs.Common.{◌<◌, ◌+◌, ◌∙◌, arith}
+use Rattle.std.proofs.Common.{◌<◌, ◌+◌, ◌∙◌, arith, inr}
 use Rattle.dbus_types.proofs.TypeCodes.{code_is}
 use Rattle.dbus_value_model.specs.Values.{type_of}
 use Rattle.dbus_walk.specs.Widths.{number_width}
-use Rattle.dbus_walk.proofs.Enclosed.{enclosed_within, entry_left}
+use Rattle.dbus_walk.proofs.Enclosed.{enclosed_within, struct_left}
 use Rattle.dbus_walk.proofs.Laid.{number_laid, text_laid, struct_laid, entry_laid}
 use Rattle.dbus_walk.proofs.Parts.{enclosed_is, no_gap, number_stands, short_stands, short_counts}
 use Rattle.dbus_walk.proofs.layouts.layout.Goals as goal
@@ -27,25 +27,28 @@ returns-in-103 c = λ v rest s.
 pub returns-in-97 : goal.returns-in-97
 returns-in-97 c = λ v rest s. c.array.ensures v rest s
 
-pub overflow_add-start : goal.overflow_add-start
-overflow_add-start c =
+pub overflow_add-result-in-123 : goal.overflow_add-result-in-123
+overflow_add-result-in-123 c = omega (arith, enclosed_within c.requires.stands.2 (inr c.in-123.is), c.parts_gap.ensures)
+
+pub returns-in-123 : goal.returns-in-123
+returns-in-123 c = λ v rest s.
+    entry_laid c.args.source.now c.args.spot.now v rest s (c.args.spot.now.at + c.parts_gap.result) c.in-123.is (omega (arith, c.parts_gap.ensures))
+
+pub overflow_add-result-in_default : goal.overflow_add-result-in_default
+overflow_add-result-in_default c =
     let s = c.requires.stands.2 in
     let type = type_of c.requires.stands.0 in
     let code = code_is type c.args.spot.now.types.now s.text in
     let none : 0 < number_width type → ⊥ = λ some. omega (arith, some, c.if-size-gt0.false, c.number_width-size.ensures.value type code) in
     let not = c.in_default in
     let enclosed = enclosed_is type code none (λ e. omega (arith, not, e)) (λ e. omega (arith, not, e)) (λ e. omega (arith, not, e)) (λ e. omega (arith, not, e)) (λ e. omega (arith, not, e)) in
-    omega (arith, enclosed_within s enclosed, c.parts_gap.ensures)
+    omega (arith, enclosed_within s enclosed, c.parts_gap-in_default.ensures)
 
-pub returns-then-brackets-eq40 : goal.returns-then-brackets-eq40
-returns-then-brackets-eq40 c = λ v rest s.
-    struct_laid c.args.source.now c.args.spot.now v rest s (c.args.spot.now.at + c.parts_gap.result) c.if-brackets-eq40.true (omega (arith, c.parts_gap.ensures))
-
-pub returns-else-brackets-eq40 : goal.returns-else-brackets-eq40
-returns-else-brackets-eq40 c = λ v rest s.
+pub returns-in_default : goal.returns-in_default
+returns-in_default c = λ v rest s.
     let type = type_of v in
     let code = code_is type c.args.spot.now.types.now s.text in
     let none : 0 < number_width type → ⊥ = λ some. omega (arith, some, c.if-size-gt0.false, c.number_width-size.ensures.value type code) in
     let not = c.in_default in
     let enclosed = enclosed_is type code none (λ e. omega (arith, not, e)) (λ e. omega (arith, not, e)) (λ e. omega (arith, not, e)) (λ e. omega (arith, not, e)) (λ e. omega (arith, not, e)) in
-    entry_laid c.args.source.now c.args.spot.now v rest s (c.args.spot.now.at + c.parts_gap.result) (entry_left enclosed c.if-brackets-eq40.false) (omega (arith, c.parts_gap.ensures))
+    struct_laid c.args.source.now c.args.spot.now v rest s (c.args.spot.now.at + c.parts_gap-in_default.result) (struct_left enclosed (λ e. omega (arith, not, e))) (omega (arith, c.parts_gap-in_default.ensures))

@@ -1,10 +1,11 @@
-use Rattle.std.proofs.Common.{◌≡◌, ℕ, ◌+◌, ◌-◌, ◌≤◌, List, [], ◌∷◌, ◌++◌, length, drop, Bool, true, false, refl, sym, ap, subst, ◌∙◌, arith, append-nil, inl, inr}
+use Rattle.std.proofs.Common.{◌≡◌, ℕ, ◌+◌, ◌-◌, ◌<◌, ◌≤◌, List, [], ◌∷◌, ◌++◌, length, drop, Bool, true, false, refl, sym, ap, subst, ◌∙◌, arith, append-nil, inl, inr}
 use Rattle.dbus_texts.specs.Types.{sig}
 use Rattle.dbus_value_model.specs.Bytes.{gap_to}
-use Rattle.std.proofs.lemmas.List.{length-take}
-use Rattle.dbus_types.specs.SignatureCodes.{IsTypeEnd, first_code}
+use Rattle.std.proofs.lemmas.List.{length-take, length-drop}
+use Rattle.std.proofs.lemmas.Bool.{eqb-false, eqb-true}
+use Rattle.dbus_types.specs.SignatureCodes.{first_code}
 use Rattle.dbus_types.proofs.TypeCodes.{code_is}
-use Rattle.dbus_types.proofs.TypeLengths.{ends_by, lengths_within, lengths_rest, one_length}
+use Rattle.dbus_types.proofs.TypeLengths.{lengths_within, lengths_rest, one_length}
 use Rattle.dbus_value_model.specs.Spelling.{spelling, spellings}
 use Rattle.dbus_value_model.specs.Values.{ValueTree, ValueTrees, NoValues, MoreValues, VariantValue, StructValue, EntryValue, type_of}
 use Rattle.dbus_value_laws.proofs.ReadSteps.{one_byte}
@@ -15,7 +16,7 @@ use Rattle.dbus_walk.proofs.Laid.{long_coded, short_coded, laid_as}
 use Rattle.dbus_walk.proofs.Together.{no_row, aligned, between_long, one_struct, one_ends, fields_inside, outermost}
 use Rattle.dbus_walk.proofs.Lists.{no_elements}
 use Rattle.dbus_walk.proofs.Parts.{types_some}
-use Rattle.dbus_walk.proofs.Walks.{made_of, not_ok, ok_from, Taken, none_taken, more_taken, starts, all_left, next_element, element_left, no_element, next_value, value_left, no_value}
+use Rattle.dbus_walk.proofs.Walks.{made_of, not_ok, held_ok, ok_from, Taken, none_taken, more_taken, starts, all_left, next_element, element_left, no_element, first_ends, of_first, of_others, next_value, value_left, no_value}
 use Rattle.dbus_walk.proofs.walk.+walk.Goals as goal
 
 pub elements-loop-place-init : goal.elements-loop-place-init
@@ -29,8 +30,8 @@ elements-loop-place-init g t c =
           (none_taken many order at (g.met.V.Visitor.none c.args.visitor.now c.args.gathered.now order at));
     }
 
-pub elements-value-requires : goal.elements-value-requires
-elements-value-requires g t c κs within =
+pub elements-value-walked-requires : goal.elements-value-walked-requires
+elements-value-walked-requires g t c κs within =
     let there = c.requires.stand in
     let n = next_element (c.loop-place.invariant.left there.0 there.1 there.2) c.loop-place-test.true in
     (omega arith, (within.0, (within.1.0, (within.1.1, (c.next_part.ensures.ready, ((n.v, spellings c.args.source.now.order (c.loop-place.place + length (spelling c.args.source.now.order c.loop-place.place n.v)) n.us ++ there.1, n.stands), (c.requires.noted, c.row_of-row.ensures)))))))
@@ -39,7 +40,7 @@ pub elements-loop-place-smaller : goal.elements-loop-place-smaller
 elements-loop-place-smaller g t c =
     let there = c.requires.stand in
     let n = next_element (c.loop-place.invariant.left there.0 there.1 there.2) c.loop-place-test.true in
-    let w = c.in_ok-place.ensures.walked n.v (spellings c.args.source.now.order (c.loop-place.place + length (spelling c.args.source.now.order c.loop-place.place n.v)) n.us ++ there.1) n.stands in
+    let w = held_ok c.value-walked.result _ (sym c.is_err.ensures.value ∙ c.if-is_err.false) (c.value-walked.ensures.walked n.v (spellings c.args.source.now.order (c.loop-place.place + length (spelling c.args.source.now.order c.loop-place.place n.v)) n.us ++ there.1) n.stands) in
     omega (arith, w.1, n.some, c.loop-place-test.true)
 
 pub elements-loop-place-preserved : goal.elements-loop-place-preserved
@@ -47,18 +48,21 @@ elements-loop-place-preserved g t c =
     let order = c.args.source.now.order in
     let at = c.args.spot.now.at in
     let place = c.loop-place.place in
-    let later : List ValueTree → Type 0 = λ (done : List ValueTree). g.V.Visitor.many c.args.visitor.now c.args.gathered.now order at done c.value.new.gathered c.value.new.visitor in
+    let later : List ValueTree → Type 0 = λ (done : List ValueTree). g.V.Visitor.many c.args.visitor.now c.args.gathered.now order at done c.value-walked.new.gathered c.value-walked.new.visitor in
     record {
-      ready = c.in_ok-place.ensures.ready;
+      ready = c.value-walked.ensures.ready;
       left = λ vs rest e.
           let l = c.loop-place.invariant.left vs rest e in
           let n = next_element l c.loop-place-test.true in
-          let w = c.in_ok-place.ensures.walked n.v (spellings order (place + length (spelling order place n.v)) n.us ++ rest) n.stands in
-          element_left l (Taken later order at c.in_ok-place.place false) n c.in_ok-place.place w.1
-          (more_taken later l.done n.v c.in_ok-place.place l.walked w.1
-          (g.met.V.Visitor.more c.args.visitor.now c.loop-place.visitor c.next_part.new.visitor c.value.new.visitor c.args.gathered.now c.loop-place.gathered c.value.new.gathered order at place l.done n.v l.walked.taken
+          let w = held_ok c.value-walked.result _ (sym c.is_err.ensures.value ∙ c.if-is_err.false) (c.value-walked.ensures.walked n.v (spellings order (place + length (spelling order place n.v)) n.us ++ rest) n.stands) in
+          element_left l (Taken later order at c.value-walked.new.spot.at false) n c.value-walked.new.spot.at w.1
+          (more_taken later l.done n.v c.value-walked.new.spot.at l.walked w.1
+          (g.met.V.Visitor.more c.args.visitor.now c.loop-place.visitor c.next_part.new.visitor c.value-walked.new.visitor c.args.gathered.now c.loop-place.gathered c.value-walked.new.gathered order at place l.done n.v l.walked.taken
           (subst (λ (b : Bool). g.V.Visitor.parted c.loop-place.visitor b c.next_part.new.visitor) l.walked.first c.next_part.ensures.takes) l.walked.ends w.0));
     }
+
+pub elements-returns-then-is_err-clause-walked : goal.elements-returns-then-is_err-clause-walked
+elements-returns-then-is_err-clause-walked g t c = λ vs rest e. not_ok c.value-walked.result _ (sym c.is_err.ensures.value ∙ c.if-is_err.true)
 
 pub elements-returns-then-spot-end-clause-walked : goal.elements-returns-then-spot-end-clause-walked
 elements-returns-then-spot-end-clause-walked g t c = λ vs rest e.
@@ -69,78 +73,122 @@ elements-returns-clause-walked g t c = λ vs rest e.
     let l = c.loop-place.invariant.left vs rest e in
     (l.done, (no_element l c.loop-place-test.false).0, l.walked.taken)
 
-pub walk_values-loop-pos-init : goal.walk_values-loop-pos-init
-walk_values-loop-pos-init g t c =
+pub walk_values-loop-types-init : goal.walk_values-loop-types-init
+walk_values-loop-types-init g t c =
     let order = c.args.source.now.order in
     let at = c.args.spot.now.at in
     let many : List ValueTree → Type 0 = λ (done : List ValueTree). g.V.Visitor.many c.args.visitor.now c.args.gathered.now order at done c.args.gathered.now c.args.visitor.now in
     record {
-      within = omega arith;
       ready = c.requires.ready;
-      left = λ vs rest e. all_left order at vs (λ place us. AllStand order c.args.spot.now.depth_left (drop 0 c.args.spot.now.types.now) place c.args.source.now.bytes.now us rest) (Taken many order at at true) e
+      noted = c.requires.noted;
+      within = omega arith;
+      left = λ vs rest e. all_left order at vs (λ place us. AllStand order c.args.spot.now.depth_left c.args.spot.now.types.now place c.args.source.now.bytes.now us rest) (Taken many order at at true) e
           (none_taken many order at (g.met.V.Visitor.none c.args.visitor.now c.args.gathered.now order at));
     }
 
 pub walk_values-slice_bounds-next-end : goal.walk_values-slice_bounds-next-end
 walk_values-slice_bounds-next-end g t c =
     let there = c.requires.stand in
-    let types = c.args.spot.now.types.now in
-    let pos = c.loop-pos.pos in
-    let end = pos + c.from.result in
-    let is : IsTypeEnd types pos end = λ t more e. ap (λ (k : ℕ). pos + k) c.from.ensures ∙ ends_by types c.args.spot.now.lengths.now c.requires.noted pos t more e in
-    let n = next_value types pos (c.loop-pos.invariant.left there.0 there.1 there.2) end c.loop-pos-test.true is in
-    omega (arith, n.inside)
+    let types = c.loop-types.types.now in
+    let noted = c.loop-types.invariant.noted in
+    let some : 0 < length types = omega (arith, eqb-false (length types) 0 (sym c.loop-types-test.ensures)) in
+    let n = next_value types 0 (c.loop-types.invariant.left there.0 there.1 there.2) c.from-end.result some (first_ends noted c.from-end.ensures) in
+    omega (arith, n.inside, length-take c.from-end.result types)
 
-pub walk_values-loop-pos-smaller : goal.walk_values-loop-pos-smaller
-walk_values-loop-pos-smaller g t c =
+pub walk_values-slice_bounds-next-end-in-loop-types : goal.walk_values-slice_bounds-next-end-in-loop-types
+walk_values-slice_bounds-next-end-in-loop-types g t c =
     let there = c.requires.stand in
-    let types = c.args.spot.now.types.now in
-    let pos = c.loop-pos.pos in
-    let end = pos + c.from.result in
-    let is : IsTypeEnd types pos end = λ t more e. ap (λ (k : ℕ). pos + k) c.from.ensures ∙ ends_by types c.args.spot.now.lengths.now c.requires.noted pos t more e in
-    let n = next_value types pos (c.loop-pos.invariant.left there.0 there.1 there.2) end c.loop-pos-test.true is in
-    omega (arith, n.some, n.inside)
+    let types = c.loop-types.types.now in
+    let noted = c.loop-types.invariant.noted in
+    let some : 0 < length types = omega (arith, eqb-false (length types) 0 (sym c.loop-types-test.ensures)) in
+    let n = next_value types 0 (c.loop-types.invariant.left there.0 there.1 there.2) c.from-end.result some (first_ends noted c.from-end.ensures) in
+    omega (arith, n.inside, noted.same, length-take c.from-end.result c.loop-types.lengths.now)
 
-pub walk_values-walk_value-requires : goal.walk_values-walk_value-requires
-walk_values-walk_value-requires g t c κs within =
+pub walk_values-slice_bounds-types-count : goal.walk_values-slice_bounds-types-count
+walk_values-slice_bounds-types-count g t c =
     let there = c.requires.stand in
-    let types = c.args.spot.now.types.now in
-    let lengths = c.args.spot.now.lengths.now in
-    let pos = c.loop-pos.pos in
-    let end = pos + c.from.result in
-    let is : IsTypeEnd types pos end = λ t more e. ap (λ (k : ℕ). pos + k) c.from.ensures ∙ ends_by types lengths c.requires.noted pos t more e in
-    let n = next_value types pos (c.loop-pos.invariant.left there.0 there.1 there.2) end c.loop-pos-test.true is in
-    (omega (arith, n.inside, length-take (end - pos) (drop pos types)), (within.0, (within.1.0, (within.1.1, (c.next_part.ensures.ready, ((n.v, spellings c.args.source.now.order (c.loop-pos.place + length (spelling c.args.source.now.order c.loop-pos.place n.v)) n.us ++ there.1, n.stands), lengths_within types lengths c.requires.noted pos (end - pos)))))))
+    let types = c.loop-types.types.now in
+    let noted = c.loop-types.invariant.noted in
+    let some : 0 < length types = omega (arith, eqb-false (length types) 0 (sym c.loop-types-test.ensures)) in
+    let n = next_value types 0 (c.loop-types.invariant.left there.0 there.1 there.2) c.from-end.result some (first_ends noted c.from-end.ensures) in
+    omega (arith, n.inside, noted.same)
 
-pub walk_values-loop-pos-preserved : goal.walk_values-loop-pos-preserved
-walk_values-loop-pos-preserved g t c =
+pub walk_values-slice_bounds-types-start : goal.walk_values-slice_bounds-types-start
+walk_values-slice_bounds-types-start g t c =
+    let there = c.requires.stand in
+    let types = c.loop-types.types.now in
+    let noted = c.loop-types.invariant.noted in
+    let some : 0 < length types = omega (arith, eqb-false (length types) 0 (sym c.loop-types-test.ensures)) in
+    let n = next_value types 0 (c.loop-types.invariant.left there.0 there.1 there.2) c.from-end.result some (first_ends noted c.from-end.ensures) in
+    omega (arith, n.inside, noted.same)
+
+pub walk_values-slice_bounds-lengths-count : goal.walk_values-slice_bounds-lengths-count
+walk_values-slice_bounds-lengths-count g t c =
+    let there = c.requires.stand in
+    let types = c.loop-types.types.now in
+    let noted = c.loop-types.invariant.noted in
+    let some : 0 < length types = omega (arith, eqb-false (length types) 0 (sym c.loop-types-test.ensures)) in
+    let n = next_value types 0 (c.loop-types.invariant.left there.0 there.1 there.2) c.from-end.result some (first_ends noted c.from-end.ensures) in
+    omega (arith, n.inside, noted.same)
+
+pub walk_values-slice_bounds-lengths-start : goal.walk_values-slice_bounds-lengths-start
+walk_values-slice_bounds-lengths-start g t c =
+    let there = c.requires.stand in
+    let types = c.loop-types.types.now in
+    let noted = c.loop-types.invariant.noted in
+    let some : 0 < length types = omega (arith, eqb-false (length types) 0 (sym c.loop-types-test.ensures)) in
+    let n = next_value types 0 (c.loop-types.invariant.left there.0 there.1 there.2) c.from-end.result some (first_ends noted c.from-end.ensures) in
+    omega (arith, n.inside, noted.same)
+
+pub walk_values-loop-types-smaller : goal.walk_values-loop-types-smaller
+walk_values-loop-types-smaller g t c =
+    let there = c.requires.stand in
+    let types = c.loop-types.types.now in
+    let noted = c.loop-types.invariant.noted in
+    let some : 0 < length types = omega (arith, eqb-false (length types) 0 (sym c.loop-types-test.ensures)) in
+    let n = next_value types 0 (c.loop-types.invariant.left there.0 there.1 there.2) c.from-end.result some (first_ends noted c.from-end.ensures) in
+    omega (arith, n.some, n.inside, length-take (length types - c.from-end.result) (drop c.from-end.result types), length-drop c.from-end.result types)
+
+pub walk_values-value-requires : goal.walk_values-value-requires
+walk_values-value-requires g t c κs within =
+    let there = c.requires.stand in
+    let order = c.args.source.now.order in
+    let types = c.loop-types.types.now in
+    let place = c.loop-types.place in
+    let noted = c.loop-types.invariant.noted in
+    let some : 0 < length types = omega (arith, eqb-false (length types) 0 (sym c.loop-types-test.ensures)) in
+    let n = next_value types 0 (c.loop-types.invariant.left there.0 there.1 there.2) c.from-end.result some (first_ends noted c.from-end.ensures) in
+    (omega (arith, n.inside, c.loop-types.invariant.within, length-take c.from-end.result types), (within.0, (within.1.0, (within.1.1, (c.next_part.ensures.ready, ((n.v, spellings order (place + length (spelling order place n.v)) n.us ++ there.1, of_first types c.from-end.result n.stands), (lengths_within types c.loop-types.lengths.now noted 0 c.from-end.result, no_row)))))))
+
+pub walk_values-loop-types-preserved : goal.walk_values-loop-types-preserved
+walk_values-loop-types-preserved g t c =
     let order = c.args.source.now.order in
     let at = c.args.spot.now.at in
-    let types = c.args.spot.now.types.now in
-    let place = c.loop-pos.place in
-    let pos = c.loop-pos.pos in
-    let end = pos + c.from.result in
-    let is : IsTypeEnd types pos end = λ t more e. ap (λ (k : ℕ). pos + k) c.from.ensures ∙ ends_by types c.args.spot.now.lengths.now c.requires.noted pos t more e in
-    let there = c.requires.stand in
-    let one = next_value types pos (c.loop-pos.invariant.left there.0 there.1 there.2) end c.loop-pos-test.true is in
-    let later : List ValueTree → Type 0 = λ (done : List ValueTree). g.V.Visitor.many c.args.visitor.now c.args.gathered.now order at done c.walk_value.new.gathered c.walk_value.new.visitor in
+    let types = c.loop-types.types.now in
+    let lengths = c.loop-types.lengths.now in
+    let place = c.loop-types.place in
+    let end = c.from-end.result in
+    let noted = c.loop-types.invariant.noted in
+    let some : 0 < length types = omega (arith, eqb-false (length types) 0 (sym c.loop-types-test.ensures)) in
+    let later : List ValueTree → Type 0 = λ (done : List ValueTree). g.V.Visitor.many c.args.visitor.now c.args.gathered.now order at done c.value.new.gathered c.value.new.visitor in
     record {
-      within = one.inside;
-      ready = c.in_ok-place.ensures.ready;
+      ready = c.in_ok-value.ensures.ready;
+      noted = lengths_rest types lengths noted end;
+      within = omega (arith, c.loop-types.invariant.within, length-take (length types - end) (drop end types));
       left = λ vs rest e.
-          let l = c.loop-pos.invariant.left vs rest e in
-          let n = next_value types pos l end c.loop-pos-test.true is in
-          let w = c.in_ok-place.ensures.walked n.v (spellings order (place + length (spelling order place n.v)) n.us ++ rest) n.stands in
-          value_left types pos l (Taken later order at c.in_ok-place.place false) end n c.in_ok-place.place w.1
-          (more_taken later l.done n.v c.in_ok-place.place l.walked w.1
-          (g.met.V.Visitor.more c.args.visitor.now c.loop-pos.visitor c.next_part.new.visitor c.walk_value.new.visitor c.args.gathered.now c.loop-pos.gathered c.walk_value.new.gathered order at place l.done n.v l.walked.taken
-          (subst (λ (b : Bool). g.V.Visitor.parted c.loop-pos.visitor b c.next_part.new.visitor) l.walked.first c.next_part.ensures.takes) l.walked.ends w.0));
+          let l = c.loop-types.invariant.left vs rest e in
+          let n = next_value types 0 l end some (first_ends noted c.from-end.ensures) in
+          let w = c.in_ok-value.ensures.walked n.v (spellings order (place + length (spelling order place n.v)) n.us ++ rest) (of_first types end n.stands) in
+          of_others types end (value_left types 0 l (Taken later order at c.value.new.spot.at false) end n c.value.new.spot.at w.1
+          (more_taken later l.done n.v c.value.new.spot.at l.walked w.1
+          (g.met.V.Visitor.more c.args.visitor.now c.loop-types.visitor c.next_part.new.visitor c.value.new.visitor c.args.gathered.now c.loop-types.gathered c.value.new.gathered order at place l.done n.v l.walked.taken
+          (subst (λ (b : Bool). g.V.Visitor.parted c.loop-types.visitor b c.next_part.new.visitor) l.walked.first c.next_part.ensures.takes) l.walked.ends w.0)));
     }
 
 pub walk_values-returns-clause-walked : goal.walk_values-returns-clause-walked
 walk_values-returns-clause-walked g t c = λ vs rest e.
-    let l = c.loop-pos.invariant.left vs rest e in
-    let ended = no_value c.args.spot.now.types.now c.loop-pos.pos l c.loop-pos-test.false in
+    let l = c.loop-types.invariant.left vs rest e in
+    let ended = no_value c.loop-types.types.now 0 l (omega (arith, eqb-true (length c.loop-types.types.now) 0 (sym c.loop-types-test.ensures))) in
     ((l.done, ended.0, l.walked.taken), ended.1)
 
 pub array-returns-then-at_one_stroke-clause-walked : goal.array-returns-then-at_one_stroke-clause-walked
@@ -217,34 +265,34 @@ variant_of-returns-clause-walked g t c = λ begin x rest s begins.
 pub value-number-requires : goal.value-number-requires
 value-number-requires g t c = let s = c.requires.stands in let p = laid_as c.args.source.now c.args.spot.now c.in-Number.is c.layout.ensures s.0 s.1 s.2 in record { ready = c.requires.ready; stands = s; some = p.some; wide = p.widths; begins = p.begins }
 
-pub value-overflow_add-result : goal.value-overflow_add-result
-value-overflow_add-result g t c = let s = c.requires.stands in let p = laid_as c.args.source.now c.args.spot.now c.in-Number.is c.layout.ensures s.0 s.1 s.2 in omega (arith, p.inside, c.from.ensures)
+pub value-overflow_add-spot : goal.value-overflow_add-spot
+value-overflow_add-spot g t c = let s = c.requires.stands in let p = laid_as c.args.source.now c.args.spot.now c.in-Number.is c.layout.ensures s.0 s.1 s.2 in omega (arith, p.inside, c.from.ensures)
 
 pub value-long_text-requires : goal.value-long_text-requires
 value-long_text-requires g t c = let s = c.requires.stands in let p = laid_as c.args.source.now c.args.spot.now c.in-LongText.is c.layout.ensures s.0 s.1 s.2 in
     record { ready = c.requires.ready; stands = s; code = long_coded p.code p.wide (sym (code_is (type_of s.0) c.args.spot.now.types.now s.2.text) ∙ ap (λ (u : ValueTree). first_code (type_of u)) p.is); begins = p.begins; counts = p.counts }
 
-pub value-overflow_add-result-in-LongText : goal.value-overflow_add-result-in-LongText
-value-overflow_add-result-in-LongText g t c = let s = c.requires.stands in let p = laid_as c.args.source.now c.args.spot.now c.in-LongText.is c.layout.ensures s.0 s.1 s.2 in omega (arith, p.inside)
+pub value-overflow_add-spot-in-LongText : goal.value-overflow_add-spot-in-LongText
+value-overflow_add-spot-in-LongText g t c = let s = c.requires.stands in let p = laid_as c.args.source.now c.args.spot.now c.in-LongText.is c.layout.ensures s.0 s.1 s.2 in omega (arith, p.inside)
 
-pub value-overflow_add-result-in-LongText-2 : goal.value-overflow_add-result-in-LongText-2
-value-overflow_add-result-in-LongText-2 g t c = let s = c.requires.stands in let p = laid_as c.args.source.now c.args.spot.now c.in-LongText.is c.layout.ensures s.0 s.1 s.2 in omega (arith, p.inside)
+pub value-overflow_add-spot-in-LongText-2 : goal.value-overflow_add-spot-in-LongText-2
+value-overflow_add-spot-in-LongText-2 g t c = let s = c.requires.stands in let p = laid_as c.args.source.now c.args.spot.now c.in-LongText.is c.layout.ensures s.0 s.1 s.2 in omega (arith, p.inside)
 
-pub value-overflow_add-result-in-LongText-3 : goal.value-overflow_add-result-in-LongText-3
-value-overflow_add-result-in-LongText-3 g t c = let s = c.requires.stands in let p = laid_as c.args.source.now c.args.spot.now c.in-LongText.is c.layout.ensures s.0 s.1 s.2 in omega (arith, p.inside)
+pub value-overflow_add-spot-in-LongText-3 : goal.value-overflow_add-spot-in-LongText-3
+value-overflow_add-spot-in-LongText-3 g t c = let s = c.requires.stands in let p = laid_as c.args.source.now c.args.spot.now c.in-LongText.is c.layout.ensures s.0 s.1 s.2 in omega (arith, p.inside)
 
 pub value-short_text-requires : goal.value-short_text-requires
 value-short_text-requires g t c = let s = c.requires.stands in let p = laid_as c.args.source.now c.args.spot.now c.in-ShortText.is c.layout.ensures s.0 s.1 s.2 in
     record { ready = c.requires.ready; stands = s; code = short_coded p.code p.wide (sym (code_is (type_of s.0) c.args.spot.now.types.now s.2.text) ∙ ap (λ (u : ValueTree). first_code (type_of u)) p.is); counts = p.counts ∙ sym (one_byte c.args.source.now.order c.args.source.now.bytes.now c.args.spot.now.at (omega (arith, p.inside))) }
 
-pub value-overflow_add-result-in-ShortText : goal.value-overflow_add-result-in-ShortText
-value-overflow_add-result-in-ShortText g t c = let s = c.requires.stands in let p = laid_as c.args.source.now c.args.spot.now c.in-ShortText.is c.layout.ensures s.0 s.1 s.2 in omega (arith, p.inside)
+pub value-overflow_add-spot-in-ShortText : goal.value-overflow_add-spot-in-ShortText
+value-overflow_add-spot-in-ShortText g t c = let s = c.requires.stands in let p = laid_as c.args.source.now c.args.spot.now c.in-ShortText.is c.layout.ensures s.0 s.1 s.2 in omega (arith, p.inside)
 
-pub value-overflow_add-result-in-ShortText-2 : goal.value-overflow_add-result-in-ShortText-2
-value-overflow_add-result-in-ShortText-2 g t c = let s = c.requires.stands in let p = laid_as c.args.source.now c.args.spot.now c.in-ShortText.is c.layout.ensures s.0 s.1 s.2 in omega (arith, p.inside)
+pub value-overflow_add-spot-in-ShortText-2 : goal.value-overflow_add-spot-in-ShortText-2
+value-overflow_add-spot-in-ShortText-2 g t c = let s = c.requires.stands in let p = laid_as c.args.source.now c.args.spot.now c.in-ShortText.is c.layout.ensures s.0 s.1 s.2 in omega (arith, p.inside)
 
-pub value-overflow_add-result-in-ShortText-3 : goal.value-overflow_add-result-in-ShortText-3
-value-overflow_add-result-in-ShortText-3 g t c = let s = c.requires.stands in let p = laid_as c.args.source.now c.args.spot.now c.in-ShortText.is c.layout.ensures s.0 s.1 s.2 in omega (arith, p.inside)
+pub value-overflow_add-spot-in-ShortText-3 : goal.value-overflow_add-spot-in-ShortText-3
+value-overflow_add-spot-in-ShortText-3 g t c = let s = c.requires.stands in let p = laid_as c.args.source.now c.args.spot.now c.in-ShortText.is c.layout.ensures s.0 s.1 s.2 in omega (arith, p.inside)
 
 pub value-variant-requires : goal.value-variant-requires
 value-variant-requires g t c κs within =
@@ -320,40 +368,42 @@ pub value-structure-requires : goal.value-structure-requires
 value-structure-requires g t c κs within = let s = c.requires.stands in let p = laid_as c.args.source.now c.args.spot.now c.in-Struct.is c.layout.ensures in
     (omega (arith, types_some s.2), (within.0, (within.1.0, (within.1.1, (c.requires.ready, (s, (c.requires.noted, (c.requires.together, ((p s.0 s.1 s.2).long, ((p s.0 s.1 s.2).some, p))))))))))
 
-pub structure-whole-requires : goal.structure-whole-requires
-structure-whole-requires g t c κs within =
+pub alone-whole-walked-requires : goal.alone-whole-walked-requires
+alone-whole-walked-requires g t c κs within =
     let s = c.requires.stands in
     let p = c.requires.laid s.0 s.1 s.2 in
     let types = c.args.spot.now.types.now in
     (omega (arith, p.some, p.long, between_long types 1), (within.0, (within.1.0, (within.1.1, (c.requires.ready, ((p.xs, s.1, p.held), (lengths_within types c.args.spot.now.lengths.now c.requires.noted 1 (length types - 1 - 1), inl refl)))))))
 
-pub structure-returns-then-row-lt2-clause-walked : goal.structure-returns-then-row-lt2-clause-walked
-structure-returns-then-row-lt2-clause-walked g t c = λ v rest s.
+pub alone-returns-clause-walked : goal.alone-returns-clause-walked
+alone-returns-clause-walked g t c = λ v rest s.
     let p = c.requires.laid v rest s in
     let order = c.args.source.now.order in
     let at = c.args.spot.now.at in
-    let w = c.in_ok-whole.ensures.walked at (StructValue p.xs) rest tt p.held (p.begins ∙ ap (inside order at) p.is) in
-    (subst (λ (u : ValueTree). g.V.Visitor.one c.args.visitor.now c.args.gathered.now order at u c.whole.new.gathered c.whole.new.visitor) (sym p.is) w.0, w.1 ∙ p.ends)
+    ok_from c.whole-walked.result _ _
+    (λ w. (subst (λ (u : ValueTree). g.V.Visitor.one c.args.visitor.now c.args.gathered.now order at u c.whole-walked.new.gathered c.whole-walked.new.visitor) (sym p.is) w.0, w.1 ∙ p.ends))
+    (c.whole-walked.ensures.walked at (StructValue p.xs) rest tt p.held (p.begins ∙ ap (inside order at) p.is))
 
-pub structure-nested-requires : goal.structure-nested-requires
-structure-nested-requires g t c κs within =
+pub together-nested-walked-requires : goal.together-nested-walked-requires
+together-nested-walked-requires g t c κs within =
     let s = c.requires.stands in
     let p = c.requires.laid s.0 s.1 s.2 in
     let order = c.args.source.now.order in
     let at = c.args.spot.now.at in
     let padded = ap (gap_to 8) (p.begins ∙ ap (inside order at) p.is) ∙ aligned at in
-    (omega (arith, p.some, p.long, between_long c.args.spot.now.types.now 1), (within.0, (within.1.0, (within.1.1, (c.requires.ready, ((p.xs, s.1, outermost (c.args.spot.now.depth_left - 1) p.held), (c.requires.noted, (c.known_row-row.ensures, (p.long, (omega arith, padded))))))))))
+    (omega (arith, p.some, p.long, between_long c.args.spot.now.types.now 1), (within.0, (within.1.0, (within.1.1, (c.requires.ready, ((p.xs, s.1, outermost (c.args.spot.now.depth_left - 1) p.held), (c.requires.noted, (c.requires.together, (p.long, (omega arith, padded))))))))))
 
-pub structure-returns-clause-walked : goal.structure-returns-clause-walked
-structure-returns-clause-walked g t c = λ v rest s.
+pub together-returns-clause-walked : goal.together-returns-clause-walked
+together-returns-clause-walked g t c = λ v rest s.
     let p = c.requires.laid v rest s in
     let order = c.args.source.now.order in
     let at = c.args.spot.now.at in
-    let w = c.in_ok-nested.ensures.walked at p.xs rest (p.begins ∙ ap (inside order at) p.is) (outermost (c.args.spot.now.depth_left - 1) p.held) in
-    (subst (λ (u : ValueTree). g.V.Visitor.one c.args.visitor.now c.args.gathered.now order at u c.nested.new.gathered c.nested.new.visitor) (sym p.is) w.0, w.1 ∙ p.ends)
+    ok_from c.nested-walked.result _ _
+    (λ w. (subst (λ (u : ValueTree). g.V.Visitor.one c.args.visitor.now c.args.gathered.now order at u c.nested-walked.new.gathered c.nested-walked.new.visitor) (sym p.is) w.0, w.1 ∙ p.ends))
+    (c.nested-walked.ensures.walked at p.xs rest (p.begins ∙ ap (inside order at) p.is) (outermost (c.args.spot.now.depth_left - 1) p.held))
 
-pub entry-whole-requires : goal.entry-whole-requires
-entry-whole-requires g t c κs within =
+pub entry-whole-walked-requires : goal.entry-whole-walked-requires
+entry-whole-walked-requires g t c κs within =
     let s = c.requires.stands in
     let p = c.requires.laid s.0 s.1 s.2 in
     let types = c.args.spot.now.types.now in
@@ -364,20 +414,24 @@ entry-returns-clause-walked g t c = λ v rest s.
     let p = c.requires.laid v rest s in
     let order = c.args.source.now.order in
     let at = c.args.spot.now.at in
-    let w = c.in_ok-whole.ensures.walked at (EntryValue p.x p.y) rest tt p.held (p.begins ∙ ap (inside order at) p.is) in
-    (subst (λ (u : ValueTree). g.V.Visitor.one c.args.visitor.now c.args.gathered.now order at u c.whole.new.gathered c.whole.new.visitor) (sym p.is) w.0, w.1 ∙ p.ends)
+    ok_from c.whole-walked.result _ _
+    (λ w. (subst (λ (u : ValueTree). g.V.Visitor.one c.args.visitor.now c.args.gathered.now order at u c.whole-walked.new.gathered c.whole-walked.new.visitor) (sym p.is) w.0, w.1 ∙ p.ends))
+    (c.whole-walked.ensures.walked at (EntryValue p.x p.y) rest tt p.held (p.begins ∙ ap (inside order at) p.is))
 
-pub whole-listed-requires : goal.whole-listed-requires
-whole-listed-requires g t c κs within = (omega arith, (within.0, (within.1.0, (within.1.1, (c.in_ok-many.ensures.ready, (c.requires.stand, c.requires.noted))))))
+pub whole-listed-walked-requires : goal.whole-listed-walked-requires
+whole-listed-walked-requires g t c κs within = (omega arith, (within.0, (within.1.0, (within.1.1, (c.in_ok-many.ensures.ready, (c.requires.stand, c.requires.noted))))))
+
+pub whole-returns-then-is_err-clause-walked : goal.whole-returns-then-is_err-clause-walked
+whole-returns-then-is_err-clause-walked g t c = λ at v rest is_of a begins. not_ok c.listed-walked.result _ (sym c.is_err.ensures.value ∙ c.if-is_err.true)
 
 pub whole-returns-clause-walked : goal.whole-returns-clause-walked
 whole-returns-clause-walked g t c = λ at v rest is_of a begins.
     let order = c.args.source.now.order in
-    let held = c.in_ok-listed.ensures.walked (parts v) rest a in
-    let many = subst (λ (q : ℕ). g.V.Visitor.many c.open.new.self c.in_ok-many.many order q held.0.0 c.listed.new.gathered c.listed.new.visitor) begins held.0.2 in (
-      g.met.V.Visitor.whole c.args.visitor.now c.open.new.self c.listed.new.visitor c.close.new.self c.args.gathered.now c.in_ok-many.many c.listed.new.gathered c.close.new.gathered c.args.kind order at v held.0.0 is_of (c.in_ok-many.ensures.takes order at v is_of a.text) held.0.1 many (c.in_ok-close.ensures.takes v is_of),
+    ok_from c.listed-walked.result _ _ (λ held. (
+      g.met.V.Visitor.whole c.args.visitor.now c.open.new.self c.listed-walked.new.visitor c.close.new.self c.args.gathered.now c.in_ok-many.many c.listed-walked.new.gathered c.close.new.gathered c.args.kind order at v held.0.0 is_of (c.in_ok-many.ensures.takes order at v is_of a.text) held.0.1
+          (subst (λ (q : ℕ). g.V.Visitor.many c.open.new.self c.in_ok-many.many order q held.0.0 c.listed-walked.new.gathered c.listed-walked.new.visitor) begins held.0.2) (c.in_ok-close.ensures.takes v is_of),
       held.1,
-    )
+    )) (c.listed-walked.ensures.walked (parts v) rest a)
 
 pub listed-walk_values-requires : goal.listed-walk_values-requires
 listed-walk_values-requires g t c κs within = (omega arith, (within.0, (within.1.0, (within.1.1, (c.requires.ready, (c.requires.stand, c.requires.noted))))))

@@ -1,4 +1,5 @@
-use Rattle.std.proofs.Common.{◌+◌, ◌*◌, ◌-◌, ◌≤◌, ℕ, List, length, drop}
+use Rattle.std.proofs.Common.{◌+◌, ◌*◌, ◌-◌, ◌≤◌, ℕ, List, length}
+use Rattle.dbus_types.specs.TypeLengths.{AreLengths}
 use Rattle.dbus_value_model.specs.Values.{ValueTree, ValueTrees}
 use Rattle.dbus_walk.specs.Standing.{AllStand, AllStandAt, ElementsStand, ElementsStandAt}
 use Rattle.dbus_walk.specs.Rows.{between}
@@ -37,6 +38,12 @@ decreases-entry g l = 4 * (256 * l.spot.now.depth_left + length l.spot.now.types
 abbrev pub decreases-structure : goal.decreases-structure
 decreases-structure g l = 4 * (256 * l.spot.now.depth_left + length l.spot.now.types.now) - 1
 
+abbrev pub decreases-alone : goal.decreases-alone
+decreases-alone g l = 4 * (256 * l.spot.now.depth_left + length l.spot.now.types.now) - 2
+
+abbrev pub decreases-together : goal.decreases-together
+decreases-together g l = 4 * (256 * l.spot.now.depth_left + length l.spot.now.types.now) - 2
+
 abbrev pub decreases-whole : goal.decreases-whole
 decreases-whole g l = 4 * (256 * l.spot.now.depth_left + length l.spot.now.types.now) + 4
 
@@ -52,17 +59,18 @@ decreases-nested_fields g l = 4 * (256 * (l.spot.now.depth_left - l.outer) + len
 abbrev pub decreases-fields : goal.decreases-fields
 decreases-fields g l = 4 * (256 * (l.spot.now.depth_left - l.outer) + length (between (l.outer + 1) l.spot.now.types.now)) + 3
 
-abbrev pub invariant-walk_values-loop-pos : goal.invariant-walk_values-loop-pos
-invariant-walk_values-loop-pos g l = record {
-  within : l.pos ≤ length l.spot.types.now;
+abbrev pub invariant-walk_values-loop-types : goal.invariant-walk_values-loop-types
+invariant-walk_values-loop-types g l = record {
   ready : g.V.Visitor.ready l.visitor (length l.source.bytes.now);
+  noted : AreLengths l.types l.lengths;
+  within : length l.types ≤ length l.spot.types.now;
   left : (vs : ValueTrees) (rest : List ℕ) → AllStandAt l.source l.spot vs rest
-      → Left l.source.order l.spot.at vs (λ place us. AllStand l.source.order l.spot.depth_left (drop l.pos l.spot.types.now) place l.source.bytes.now us rest)
+      → Left l.source.order l.spot.at vs (λ place us. AllStand l.source.order l.spot.depth_left l.types place l.source.bytes.now us rest)
       (Taken (λ (done : List ValueTree). g.V.Visitor.many l.initial.visitor l.initial.gathered l.source.order l.spot.at done l.gathered l.visitor) l.source.order l.spot.at l.place l.is_first) l.place;
 }
 
-abbrev pub decreases-walk_values-loop-pos : goal.decreases-walk_values-loop-pos
-decreases-walk_values-loop-pos g l = length l.spot.types.now - l.pos
+abbrev pub decreases-walk_values-loop-types : goal.decreases-walk_values-loop-types
+decreases-walk_values-loop-types g l = length l.types
 
 abbrev pub invariant-elements-loop-place : goal.invariant-elements-loop-place
 invariant-elements-loop-place g l = record {
