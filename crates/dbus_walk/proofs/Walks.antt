@@ -175,10 +175,6 @@ pub starts : (order : Order) (q : ℕ) → q ≡ q + length (spellings order q (
 unfolding spellings
 starts order q = omega arith
 
--- what was gathered of a value, and where it ends
-pub made_of : {E : Type 0} (r : Result ℕ E) (P : ValueTree → Type 0) {u v : ValueTree} {q end : ℕ} → u ≡ v → q ≡ end → IfOk r (λ after. P u × (after ≡ q)) → IfOk r (λ after. P v × (after ≡ end))
-made_of r P {u} {v} {q} {end} is ends h = subst (λ (k : ℕ). IfOk r (λ after. P v × (after ≡ k))) ends (subst (λ (w : ValueTree). IfOk r (λ after. P w × (after ≡ q))) is h)
-
 -- what is said of an outcome that is handed on
 pub not_ok : {T E : Type 0} (r : Result T E) (Q : Type 0) → is_err r ≡ true → IfOk r (λ x. Q)
 not_ok (Ok x) Q e = absurd cc

@@ -27,8 +27,8 @@ use dbus_types::lengths_in;
 /// Walks over the value at a spot, of which the visitor gathers something: the offset after it.
 ///
 /// `Err` if the visitor stops, with the reason that it gives. D-Bus Specification, "Marshaling (Wire Format)".
-#[cycle(walk)]
 #[inline(always)]
+#[tactic(auto, using(crate::proofs::Together::no_row))]
 pub fn walk_value<V: Visitor>(
     visitor: &mut V,
     gathered: &mut V::Many,
@@ -84,10 +84,7 @@ fn value<V: Visitor>(
             spot.at = spot.at + 1 + size + 1;
             Ok(())
         }
-        Layout::Variant { types, at } => {
-            spot.at = variant(visitor, gathered, source, spot, types, at)?;
-            Ok(())
-        }
+        Layout::Variant { types, at } => { variant(visitor, gathered, source, spot, types, at) }
         Layout::Array(run) => {
             array(visitor, gathered, source, spot, run)?;
             spot.at = run.end;
@@ -98,36 +95,40 @@ fn value<V: Visitor>(
     }
 }
 
-/// A variant, by the type of what it holds, and where that begins.
+/// A variant, by the type of what it holds, and where that begins. The spot moves to its end.
 #[cycle(walk)]
 #[inline(always)]
 fn variant<V: Visitor>(
     visitor: &mut V,
     gathered: &mut V::Many,
     source: &Source<'_>,
-    spot: &Spot<'_>,
+    spot: &mut Spot<'_>,
     types: &[u8],
     at: usize,
-) -> Result<usize, V::Stop>
+) -> Result<(), V::Stop>
     requires ready { V.ready visitor.old (length source.now.bytes.now) }
-    requires stands { StandsThere source.now spot.now }
-    requires laid { (v : ValueTree) (rest : List ℕ) → StandsAt source.now spot.now v rest →
-        IsVariantAt source.now spot.now v rest types.now at }
+    requires stands { StandsThere source.now spot.old }
+    requires laid { (v : ValueTree) (rest : List ℕ) → StandsAt source.now spot.old v rest →
+        IsVariantAt source.now spot.old v rest types.now at }
     ensures ready { V.ready visitor.new (length source.now.bytes.now) }
-    ensures walked { (v : ValueTree) (rest : List ℕ) → StandsAt source.now spot.now v rest →
-        IfOk result (λ after. V.one visitor.old gathered.old source.now.order spot.now.at v gathered.new visitor.new ×
-        (after ≡ end_of source.now spot.now v)) }
+    ensures walked { (v : ValueTree) (rest : List ℕ) → StandsAt source.now spot.old v rest →
+        IfOk result (λ _. V.one visitor.old gathered.old source.now.order spot.old.at v gathered.new visitor.new ×
+        (spot.new.at ≡ end_of source.now spot.old v)) }
 {
-    let held = Spot {
+    let mut held = Spot {
         at,
         types,
         lengths: &[1],
         depth_left: spot.depth_left - 1,
     };
     if types.len() == 1 {
-        return variant_of(visitor, gathered, source, &held);
+        let walked = variant_of(visitor, gathered, source, &mut held);
+        spot.at = held.at;
+        return walked;
     }
-    noted_variant(visitor, gathered, source, &held)
+    let walked = noted_variant(visitor, gathered, source, &mut held);
+    spot.at = held.at;
+    walked
 }
 
 /// A variant whose type has several bytes. How long the types in it are is noted first, in room that no other variant takes.
@@ -137,49 +138,54 @@ fn noted_variant<V: Visitor>(
     visitor: &mut V,
     gathered: &mut V::Many,
     source: &Source<'_>,
-    held: &Spot<'_>,
-) -> Result<usize, V::Stop>
+    held: &mut Spot<'_>,
+) -> Result<(), V::Stop>
     requires ready { V.ready visitor.old (length source.now.bytes.now) }
-    requires stands { StandsThere source.now held.now }
-    requires single { IsKind Single held.now.types.now }
+    requires stands { StandsThere source.now held.old }
+    requires single { IsKind Single held.old.types.now }
     ensures ready { V.ready visitor.new (length source.now.bytes.now) }
-    ensures walked { (begin : ℕ) (x : ValueTree) (rest : List ℕ) → StandsAt source.now held.now x rest →
-        held.now.at ≡ inside source.now.order begin (VariantValue x) →
-        IfOk result (λ after. V.one visitor.old gathered.old source.now.order begin (VariantValue x) gathered.new visitor.new ×
-        (after ≡ end_of source.now held.now x)) }
+    ensures walked { (begin : ℕ) (x : ValueTree) (rest : List ℕ) → StandsAt source.now held.old x rest →
+        held.old.at ≡ inside source.now.order begin (VariantValue x) →
+        IfOk result (λ _. V.one visitor.old gathered.old source.now.order begin (VariantValue x) gathered.new visitor.new ×
+        (held.new.at ≡ end_of source.now held.old x)) }
 {
     let mut table = [0; 255];
-    let noted = Spot {
+    let mut noted = Spot {
         lengths: lengths_in(held.types, &mut table),
         ..*held
     };
-    variant_of(visitor, gathered, source, &noted)
+    let walked = variant_of(visitor, gathered, source, &mut noted);
+    held.at = noted.at;
+    walked
 }
 
-/// A variant, by what it holds.
+/// A variant, by what it holds. The spot of that moves to its end.
 #[cycle(walk)]
 fn variant_of<V: Visitor>(
     visitor: &mut V,
     gathered: &mut V::Many,
     source: &Source<'_>,
-    held: &Spot<'_>,
-) -> Result<usize, V::Stop>
+    held: &mut Spot<'_>,
+) -> Result<(), V::Stop>
     requires ready { V.ready visitor.old (length source.now.bytes.now) }
-    requires stands { StandsThere source.now held.now }
-    requires single { IsKind Single held.now.types.now }
-    requires noted { AreLengths held.now.types.now held.now.lengths.now }
+    requires stands { StandsThere source.now held.old }
+    requires single { IsKind Single held.old.types.now }
+    requires noted { AreLengths held.old.types.now held.old.lengths.now }
     ensures ready { V.ready visitor.new (length source.now.bytes.now) }
-    ensures walked { (begin : ℕ) (x : ValueTree) (rest : List ℕ) → StandsAt source.now held.now x rest →
-        held.now.at ≡ inside source.now.order begin (VariantValue x) →
-        IfOk result (λ after. V.one visitor.old gathered.old source.now.order begin (VariantValue x) gathered.new visitor.new ×
-        (after ≡ end_of source.now held.now x)) }
+    ensures walked { (begin : ℕ) (x : ValueTree) (rest : List ℕ) → StandsAt source.now held.old x rest →
+        held.old.at ≡ inside source.now.order begin (VariantValue x) →
+        IfOk result (λ _. V.one visitor.old gathered.old source.now.order begin (VariantValue x) gathered.new visitor.new ×
+        (held.new.at ≡ end_of source.now held.old x)) }
 {
     let length = source.bytes.len();
     let mut many = visitor.open(gathered, Container::Variant, held.types, length)?;
     visitor.part(true, length);
-    let after = walk_value(visitor, &mut many, source, held)?;
+    let walked = value(visitor, &mut many, source, held, 0);
+    if walked.is_err() {
+        return walked;
+    }
     visitor.close(gathered, Container::Variant, many, length)?;
-    Ok(after)
+    walked
 }
 
 /// An array.

@@ -16,7 +16,7 @@ use Rattle.dbus_walk.proofs.Laid.{long_coded, short_coded, laid_as}
 use Rattle.dbus_walk.proofs.Together.{no_row, aligned, between_long, one_struct, one_ends, fields_inside, outermost}
 use Rattle.dbus_walk.proofs.Lists.{no_elements}
 use Rattle.dbus_walk.proofs.Parts.{types_some}
-use Rattle.dbus_walk.proofs.Walks.{made_of, not_ok, held_ok, ok_from, Taken, none_taken, more_taken, starts, all_left, next_element, element_left, no_element, first_ends, of_first, of_others, next_value, value_left, no_value}
+use Rattle.dbus_walk.proofs.Walks.{not_ok, held_ok, ok_from, Taken, none_taken, more_taken, starts, all_left, next_element, element_left, no_element, first_ends, of_first, of_others, next_value, value_left, no_value}
 use Rattle.dbus_walk.proofs.walk.+walk.Goals as goal
 
 pub elements-loop-place-init : goal.elements-loop-place-init
@@ -221,14 +221,14 @@ array-returns-clause-walked g t c = λ v rest s.
 pub variant-overflow_sub-held : goal.variant-overflow_sub-held
 variant-overflow_sub-held g t c = let s = c.requires.stands in omega (arith, (c.requires.laid s.0 s.1 s.2).some)
 
-pub variant-variant_of-requires : goal.variant-variant_of-requires
-variant-variant_of-requires g t c κs within =
+pub variant-variant_of-walked-requires : goal.variant-variant_of-walked-requires
+variant-variant_of-walked-requires g t c κs within =
     let s = c.requires.stands in
     let p = c.requires.laid s.0 s.1 s.2 in
     (omega (arith, p.some, p.few, types_some s.2), (within.0, (within.1.0, (within.1.1, (c.requires.ready, ((p.x, s.1, p.held), (((type_of p.x, p.single.0, sym p.held.text), p.few), one_length c.args.types.now c.if-types-eq1.true)))))))
 
-pub variant-noted_variant-requires : goal.variant-noted_variant-requires
-variant-noted_variant-requires g t c κs within =
+pub variant-noted_variant-walked-requires : goal.variant-noted_variant-walked-requires
+variant-noted_variant-walked-requires g t c κs within =
     let s = c.requires.stands in
     let p = c.requires.laid s.0 s.1 s.2 in
     (omega (arith, p.some, p.few, types_some s.2), (within.0, (within.1.0, (within.1.1, (c.requires.ready, ((p.x, s.1, p.held), ((type_of p.x, p.single.0, sym p.held.text), p.few)))))))
@@ -238,29 +238,39 @@ variant-returns-then-types-eq1-clause-walked g t c = λ v rest s.
     let p = c.requires.laid v rest s in
     let order = c.args.source.now.order in
     let at = c.args.spot.now.at in
-    made_of c.variant_of.result (λ u. g.V.Visitor.one c.args.visitor.now c.args.gathered.now order at u c.variant_of.new.gathered c.variant_of.new.visitor) (sym p.is) p.ends (c.variant_of.ensures.walked at p.x rest p.held (p.begins ∙ ap (inside order at) p.is))
+    ok_from c.variant_of-walked.result _ _
+    (λ w. (subst (λ (u : ValueTree). g.V.Visitor.one c.args.visitor.now c.args.gathered.now order at u c.variant_of-walked.new.gathered c.variant_of-walked.new.visitor) (sym p.is) w.0, w.1 ∙ p.ends))
+    (c.variant_of-walked.ensures.walked at p.x rest p.held (p.begins ∙ ap (inside order at) p.is))
 
 pub variant-returns-clause-walked : goal.variant-returns-clause-walked
 variant-returns-clause-walked g t c = λ v rest s.
     let p = c.requires.laid v rest s in
     let order = c.args.source.now.order in
     let at = c.args.spot.now.at in
-    made_of c.noted_variant.result (λ u. g.V.Visitor.one c.args.visitor.now c.args.gathered.now order at u c.noted_variant.new.gathered c.noted_variant.new.visitor) (sym p.is) p.ends (c.noted_variant.ensures.walked at p.x rest p.held (p.begins ∙ ap (inside order at) p.is))
+    ok_from c.noted_variant-walked.result _ _
+    (λ w. (subst (λ (u : ValueTree). g.V.Visitor.one c.args.visitor.now c.args.gathered.now order at u c.noted_variant-walked.new.gathered c.noted_variant-walked.new.visitor) (sym p.is) w.0, w.1 ∙ p.ends))
+    (c.noted_variant-walked.ensures.walked at p.x rest p.held (p.begins ∙ ap (inside order at) p.is))
+
+pub variant_of-value-walked-requires : goal.variant_of-value-walked-requires
+variant_of-value-walked-requires g t c κs within = (omega arith, (within.0, (within.1.0, (within.1.1, (c.part.ensures.ready, (c.requires.stands, (c.requires.noted, no_row)))))))
+
+pub variant_of-returns-then-is_err-clause-walked : goal.variant_of-returns-then-is_err-clause-walked
+variant_of-returns-then-is_err-clause-walked g t c = λ begin x rest s begins. not_ok c.value-walked.result _ (sym c.is_err.ensures.value ∙ c.if-is_err.true)
 
 pub variant_of-returns-clause-walked : goal.variant_of-returns-clause-walked
 variant_of-returns-clause-walked g t c = λ begin x rest s begins.
     let order = c.args.source.now.order in
     let q = c.args.held.now.at in
-    let w = c.in_ok-after.ensures.walked x rest s in
     let opened = c.open.new.self in
-    let filled = c.walk_value.new.visitor in
+    let filled = c.value-walked.new.visitor in
     let none = c.in_ok-many.many in
-    let many = c.walk_value.new.gathered in
+    let many = c.value-walked.new.gathered in
+    ok_from c.value-walked.result _ _ (λ w.
     let held = g.met.V.Visitor.more opened opened c.part.new.self filled none none many order q q [] x (g.met.V.Visitor.none opened none order q) c.part.ensures.takes (starts order q) w.0 in
     let all = subst (λ (k : ℕ). g.V.Visitor.many opened none order k (x ∷ []) many filled) begins held in (
       g.met.V.Visitor.whole c.args.visitor.now opened filled c.close.new.self c.args.gathered.now none many c.close.new.gathered kind.Variant order begin (VariantValue x) (x ∷ []) tt (c.in_ok-many.ensures.takes order begin (VariantValue x) tt (append-nil (sig (type_of x)) ∙ s.text)) refl all (c.in_ok-close.ensures.takes (VariantValue x) tt),
       w.1,
-    )
+    )) (c.value-walked.ensures.walked x rest s)
 
 pub value-number-requires : goal.value-number-requires
 value-number-requires g t c = let s = c.requires.stands in let p = laid_as c.args.source.now c.args.spot.now c.in-Number.is c.layout.ensures s.0 s.1 s.2 in record { ready = c.requires.ready; stands = s; some = p.some; wide = p.widths; begins = p.begins }
@@ -360,9 +370,6 @@ nested_fields-returns-then-first-row-clause-walked g t c = λ vs rest a.
     let held = g.met.V.Visitor.more before before c.part.new.self c.nested.new.visitor gathered gathered c.nested.new.gathered order at at [] (StructValue o.xs) (g.met.V.Visitor.none before gathered order at) c.part.ensures.takes (starts order at) w.0 in
     ((StructValue o.xs ∷ [], o.is, held), w.1 ∙ one_ends order at o.xs c.requires.padded ∙ ap (λ (us : ValueTrees). at + length (spellings order at us)) (sym o.is)))
     (c.nested.ensures.walked at o.xs rest place (fields_inside c.args.source.now c.args.spot.now c.args.outer c.requires.padded o))
-
-pub walk_value-value-requires : goal.walk_value-value-requires
-walk_value-value-requires g t c κs within = (omega arith, (within.0, (within.1.0, (within.1.1, (c.requires.ready, (c.requires.stands, (c.requires.noted, no_row)))))))
 
 pub value-structure-requires : goal.value-structure-requires
 value-structure-requires g t c κs within = let s = c.requires.stands in let p = laid_as c.args.source.now c.args.spot.now c.in-Struct.is c.layout.ensures in

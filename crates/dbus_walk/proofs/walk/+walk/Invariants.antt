@@ -11,9 +11,6 @@ use Rattle.dbus_walk.proofs.walk.+walk.Given as goal
 abbrev pub decreases-value : goal.decreases-value
 decreases-value g l = 4 * (256 * l.spot.now.depth_left + length l.spot.now.types.now)
 
-abbrev pub decreases-walk_value : goal.decreases-walk_value
-decreases-walk_value g l = 4 * (256 * l.spot.now.depth_left + length l.spot.now.types.now) + 1
-
 abbrev pub decreases-walk_values : goal.decreases-walk_values
 decreases-walk_values g l = 4 * (256 * l.spot.now.depth_left + length l.spot.now.types.now) + 2
 
