@@ -30,7 +30,7 @@ _dbus_wire() {
             COMPREPLY=($(compgen -W 'client server' -- "$word"))
             return
             ;;
-        --max-* | --owner)
+        --max-* | --skip | --limit | --owner)
             # A number, or NAME=UNIQUE.
             return
             ;;
@@ -41,13 +41,16 @@ _dbus_wire() {
             ;;
         filter)
             if [[ $word == -* ]]; then
-                COMPREPLY=($(compgen -W "--invert --owner --keep-going $options" -- "$word"))
+                COMPREPLY=($(compgen -W "--invert --owner --skip --limit --keep-going $options" -- "$word"))
             else
                 compopt -o nospace
                 COMPREPLY=($(compgen -W 'type= sender= interface= member= path= path_namespace= destination=' -- "$word"))
             fi
             ;;
-        show | json | check)
+        show | json)
+            COMPREPLY=($(compgen -W "--skip --limit --keep-going $options" -- "$word"))
+            ;;
+        check)
             COMPREPLY=($(compgen -W "--keep-going $options" -- "$word"))
             ;;
         help)

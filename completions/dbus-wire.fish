@@ -16,6 +16,8 @@ complete -c dbus-wire -n '__fish_seen_subcommand_from swap' -l to -x -a 'l B' -d
 complete -c dbus-wire -n '__fish_seen_subcommand_from filter' -l invert -f -d 'Write the messages that match no rule'
 complete -c dbus-wire -n '__fish_seen_subcommand_from filter' -l owner -x -d 'The owner of a well-known name, NAME=UNIQUE'
 complete -c dbus-wire -n '__fish_seen_subcommand_from filter' -f -a 'type= sender= interface= member= path= path_namespace= destination='
+complete -c dbus-wire -n '__fish_seen_subcommand_from show json filter' -l skip -x -d 'Messages to skip first'
+complete -c dbus-wire -n '__fish_seen_subcommand_from show json filter' -l limit -x -d 'Most messages to write'
 complete -c dbus-wire -n '__fish_seen_subcommand_from show json check filter' -l keep-going -f -d 'Go on after a refused message'
 for command in show json check swap filter
     complete -c dbus-wire -n "__fish_seen_subcommand_from $command" -l explain -f -d 'Explain what is refused'

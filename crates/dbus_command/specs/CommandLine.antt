@@ -28,6 +28,10 @@ owner_rule = record (new_rule (codes "owner")) { long = Some (codes "owner"); va
 abbrev pub limit_rule : Text → ℕ → Rule
 limit_rule name most = record (new_rule name) { long = Some name; value_names = 1; parser = Some (Signed (pos 0) (pos most)) }
 
+-- the most messages that `--skip` and `--limit` name: the greatest number of 32 bits
+abbrev pub most_messages : ℕ
+most_messages = 4294967295
+
 -- the option `--fds`, with one value
 abbrev pub fds_rule : Rule
 fds_rule = record (new_rule (codes "fds")) { long = Some (codes "fds"); value_names = 1 }
@@ -50,11 +54,15 @@ with_options app = with_rule
 abbrev pub with_keep_going : App → App
 with_keep_going app = with_options (with_rule app (flag_rule (codes "keep-going")))
 
+-- and with `--skip` and `--limit`, which `show`, `json` and `filter` have
+abbrev pub with_window : App → App
+with_window app = with_keep_going (with_rule (with_rule app (limit_rule (codes "skip") most_messages)) (limit_rule (codes "limit") most_messages))
+
 abbrev pub show_app : App
-show_app = with_keep_going (new_app (codes "show"))
+show_app = with_window (new_app (codes "show"))
 
 abbrev pub json_app : App
-json_app = with_keep_going (new_app (codes "json"))
+json_app = with_window (new_app (codes "json"))
 
 abbrev pub check_app : App
 check_app = with_keep_going (new_app (codes "check"))
@@ -63,7 +71,7 @@ abbrev pub swap_app : App
 swap_app = with_options (with_rule (new_app (codes "swap")) to_rule)
 
 abbrev pub filter_app : App
-filter_app = with_keep_going (with_rule (with_rule (with_rule (new_app (codes "filter")) text_rule) (flag_rule (codes "invert"))) owner_rule)
+filter_app = with_window (with_rule (with_rule (with_rule (new_app (codes "filter")) text_rule) (flag_rule (codes "invert"))) owner_rule)
 
 -- the program has a version, and one of the subcommands must be named
 abbrev pub bare_app : App

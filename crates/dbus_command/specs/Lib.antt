@@ -3,5 +3,6 @@ pub mod Limiting
 pub mod Owners
 pub mod Selections
 pub mod Named
+pub mod Windows
 pub mod Told
 pub mod SameCommands

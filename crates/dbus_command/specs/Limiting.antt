@@ -1,5 +1,5 @@
--- The limits that the options of a command name.
-use Rattle.std.specs.Prelude.{◌≡◌, ◌≤◌, ◌^◌, ℕ, List, Option, Some, None, Result, Ok, Err, codes}
+-- The limits and the window that the options of a command name.
+use Rattle.std.specs.Prelude.{◌≡◌, ◌≤◌, ◌<◌, ◌^◌, ℕ, List, Option, Some, None, Result, Ok, Err, codes}
 use Rattle.std.specs.Str.Parse.{IsNumeral, digits_value, without_leading_plus}
 use Rattle.clap.specs.Words.{Row, Text, first_of, one_of}
 use Rattle.dbus_value_model.specs.Specification.{specification}
@@ -8,11 +8,19 @@ use Rattle.dbus_value_model.specs.declared.fd_rule.FdRule.TheVariants.{Any, Belo
 use Rattle.dbus_value_model.specs.declared.limits.Limits.{Limits}
 use Rattle.dbus_command.specs.declared.usage_fault.UsageFault.{UsageFault}
 use Rattle.dbus_command.specs.declared.usage_fault.UsageFault.TheVariants.{Memory, Help, Version, Usage, Rule}
+use Rattle.dbus_command.specs.declared.window.Window.{Window}
 
 -- the number that the digits of an option's text write; of an option that is not there, the default
 abbrev pub IsNumberOf : Option Text → ℕ → ℕ → Type 0
 IsNumberOf None default number = number ≡ default
 IsNumberOf (Some text) default number = IsNumeral 10 (without_leading_plus text) × (number ≡ digits_value 10 (without_leading_plus text))
+
+-- the number that the digits of an option's text write, if it is there, is one of 32 bits
+abbrev pub IsGivenNumber : Option Text → Option ℕ → Type 0
+IsGivenNumber None None = Unit {0}
+IsGivenNumber None (Some number) = ⊥
+IsGivenNumber (Some text) None = ⊥
+IsGivenNumber (Some text) (Some number) = IsNumberOf (Some text) 0 number × (number < 2 ^ 32)
 
 -- the word that stands for a rule on the indexes of descriptors
 abbrev pub fds_word : FdRule → Text
@@ -40,6 +48,16 @@ pub record HasLimits (rows : List Row) (limits : Limits) : Type 0 where
   pub numbers : HasNumbers rows limits
   pub fds : IsRuleOf (first_of (codes "fds") rows) specification.fds limits.fds
 
+-- as many are skipped as one option says, else none, and at most as many written as the other says, if it is there
+pub record HasWindow (rows : List Row) (window : Window) : Type 0 where
+  pub skip : IsNumberOf (one_of (codes "skip") rows) 0 window.skip
+  pub few : window.skip < 2 ^ 32
+  pub limit : IsGivenNumber (one_of (codes "limit") rows) window.limit
+
+abbrev pub GivesWindow : List Row → Option Window → Type 0
+GivesWindow rows (Some window) = HasWindow rows window
+GivesWindow rows None = (window : Window) → HasWindow rows window → ⊥
+
 -- limits of these numbers and the default rule, or nothing where the options name no numbers
 abbrev pub GivesNumbers : List Row → Option Limits → Type 0
 GivesNumbers rows (Some limits) = HasNumbers rows limits × (limits.fds ≡ specification.fds)
@@ -49,6 +67,11 @@ GivesNumbers rows None = (limits : Limits) → HasNumbers rows limits → ⊥
 abbrev pub GivesNumber : Option Text → ℕ → Option ℕ → Type 0
 GivesNumber given default (Some number) = IsNumberOf given default number
 GivesNumber given default None = (number : ℕ) → IsNumberOf given default number → 2 ^ 32 ≤ number
+
+-- the number of an option, if it is there, or nothing where it is not below 2^32
+abbrev pub GivesGiven : Option Text → Option (Option ℕ) → Type 0
+GivesGiven given (Some number) = IsGivenNumber given number
+GivesGiven given None = (number : Option ℕ) → IsGivenNumber given number → ⊥
 
 module _ {A : Type 0} (Is : A → Type 0) where
   -- what options name, of which Is holds; or a fault of usage if it holds of nothing

@@ -13,7 +13,7 @@ use Rattle.dbus_match.specs.RuleViews.{rule_pairs}
 use Rattle.dbus_handshake_input.specs.declared.side.Side.{Side}
 use Rattle.dbus_handshake_input.specs.declared.side.Side.TheVariants.{Client, Server}
 use Rattle.dbus_command.specs.CommandLine.{wire_app}
-use Rattle.dbus_command.specs.Limiting.{HasLimits}
+use Rattle.dbus_command.specs.Limiting.{HasLimits, HasWindow}
 use Rattle.dbus_command.specs.Owners.{AreOwnersOf, IsOwnerWord}
 use Rattle.dbus_command.specs.declared.command.Command.{Command}
 use Rattle.dbus_command.specs.declared.command.Command.TheVariants.{Show, Json, Check, Swap, Filter}
@@ -73,12 +73,13 @@ NamesCommand name rows Check = name ≡ codes "check"
 NamesCommand name rows (Swap order) = (name ≡ codes "swap") × (first_of (codes "to") rows ≡ Some (order_word order))
 NamesCommand name rows (Filter selection) = (name ≡ codes "filter") × IsSelectionGiven rows selection
 
--- the words after a subcommand name the limits and the side, and have each flag that is set and no other
+-- the words after a subcommand name the limits, the side and the window, and have each flag that is set and no other
 pub record HasSettings (rows : List Row) (settings : Settings) : Type 0 where
   pub limits : HasLimits rows settings.limits
   pub explains : (settings.explains ≡ true) ↔ IsGiven (codes "explain") rows
   pub keeps_going : (settings.keeps_going ≡ true) ↔ IsGiven (codes "keep-going") rows
   pub handshake : HasSide rows settings.handshake
+  pub window : HasWindow rows settings.window
 
 -- the subcommand and the words after it name the command and its settings
 abbrev pub Names : Option (Text × List Row) → Command → Settings → Type 0

@@ -6,7 +6,7 @@ ghost use Rattle.dbus_command.specs.Limiting.{TellsNamed};
 ghost use Rattle.dbus_command.specs.Told.{TellsKind, Tells, TellsCommand, TellsFault, TellsOwners};
 
 use crate::command::Command;
-use crate::limits_named::limits_named;
+use crate::limits_named::{limits_named, window_named};
 use crate::owners::owners_given;
 use crate::rules::rules_spelled;
 use crate::selection::Selection;
@@ -23,10 +23,11 @@ use std::alloc::Global;
 /// The command that the words name, and its settings. The first of the words is the program's name. `--max-message` and
 /// `--max-array`, in bytes, `--max-depth`, in open containers, and `--fds`, a rule on indexes of descriptors, name the limits;
 /// one that they do not name is that of the specification. The flags `--explain`, and `--keep-going` of all commands but `swap`,
-/// are set if they are among the words. `--handshake` names the side whose handshake comes before the messages.
+/// are set if they are among the words. `--handshake` names the side whose handshake comes before the messages. `--skip` and `--limit`, of
+/// `show`, `json` and `filter`, are the numbers of the window; without them it leaves no message out.
 ///
-/// `Usage`: the words name no command of the program, or have what it does not take, a limit over that of the specification
-/// and an owner that is no NAME=UNIQUE of two bus names among it. `Rule`: they name `filter`, with a text that spells no rule;
+/// `Usage`: the words name no command of the program, or have what it does not take, a limit over that of the specification,
+/// a number of messages over 4294967295 and an owner that is no NAME=UNIQUE of two bus names among it. `Rule`: they name `filter`, with a text that spells no rule;
 /// it is the first such text. `Help`, `Version`: they ask for help, or for the version. `Memory`: an allocation failed.
 pub fn command_of(alloc: Global, words: &[String]) -> Result<(Command, Settings), UsageFault>
     // A command that is returned is the one that the words name, and so are its settings.
@@ -61,11 +62,13 @@ fn settings_named(alloc: Global, inner: &ArgMatches) -> Result<Settings, UsageFa
 {
     let limits = limits_named(alloc, inner)?;
     let handshake = side_named(alloc, inner)?;
+    let window = window_named(alloc, inner)?;
     Ok(Settings {
         limits,
         explains: is_given(inner, "explain"),
         keeps_going: is_given(inner, "keep-going"),
         handshake,
+        window,
     })
 }
 

@@ -159,6 +159,12 @@ pub(crate) const EXPLAIN: &str = "Explains what is refused, in three more lines"
 /// What `--keep-going` of `show`, `json`, `check` and `filter` does.
 pub(crate) const KEEP_GOING: &str = "Goes on after a refused message";
 
+/// How many messages are skipped.
+pub(crate) const SKIP: &str = "Messages to skip first: 0, the default, to 4294967295";
+
+/// How many messages are written at most.
+pub(crate) const LIMIT: &str = "Most messages to write after these: 0 to 4294967295";
+
 /// What the limit on messages is.
 pub(crate) const MAX_MESSAGE: &str = "Most bytes of a message: 0 to 134217728, the default";
 

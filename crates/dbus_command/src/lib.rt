@@ -15,6 +15,7 @@ mod rules;
 mod selection;
 mod settings;
 mod usage_fault;
+mod window;
 mod wire;
 
 pub use command::Command;
@@ -23,3 +24,4 @@ pub use dbus_handshake_input::Side;
 pub use selection::Selection;
 pub use settings::Settings;
 pub use usage_fault::{RefusedRule, UsageFault};
+pub use window::Window;

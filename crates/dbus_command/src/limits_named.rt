@@ -1,8 +1,9 @@
-//! The limits that the options of a command name.
+//! The limits and the window that the options of a command name.
 ghost use Rattle.clap.specs.Words.{found_of, one_of, rows_of};
-ghost use Rattle.dbus_command.specs.Limiting.{GivesNumber, GivesNumbers, HasLimits, IsFdsOf, TellsNamed};
+ghost use Rattle.dbus_command.specs.Limiting.{GivesGiven, GivesNumber, GivesNumbers, GivesWindow, HasLimits, HasWindow, IsFdsOf, TellsNamed};
 
 use crate::usage_fault::{UsageFault, bad_value, usage};
+use crate::window::Window;
 use clap::ArgMatches;
 use dbus_value::{ARRAY_LIMIT, DEPTH_LIMIT, FdRule, Limits, MESSAGE_LIMIT};
 use std::alloc::Global;
@@ -37,10 +38,39 @@ fn numbers_named(inner: &ArgMatches) -> Option<Limits>
 fn number_named(inner: &ArgMatches, name: &str, most: u32) -> Option<u32>
     ensures { GivesNumber (one_of name.now (rows_of (found_of inner.now))) most result }
 {
+    match given_named(inner, name) {
+        Some(given) => Some(given.unwrap_or(most)),
+        None => None,
+    }
+}
+
+// The number that an option is given, if it is given. Nothing, if its text is no number of 32 bits.
+fn given_named(inner: &ArgMatches, name: &str) -> Option<Option<u32>>
+    ensures { GivesGiven (one_of name.now (rows_of (found_of inner.now))) result }
+{
     match inner.try_get_one::<u32>(name) {
-        Ok(given) => Some(given.unwrap_or(most)),
+        Ok(given) => Some(given),
         Err(_) => None,
     }
+}
+
+/// The window that the options name. `Usage`: one of them is given what it may not be. `Memory`: an allocation failed.
+pub(crate) fn window_named(alloc: Global, inner: &ArgMatches) -> Result<Window, UsageFault>
+    ensures { TellsNamed (HasWindow (rows_of (found_of inner.now))) result }
+{
+    match window_of(inner) {
+        Some(window) => Ok(window),
+        None => Err(usage(alloc, "error: no window\n")),
+    }
+}
+
+// The window of the numbers that the options name, or nothing if one of them is given no number that it may be.
+fn window_of(inner: &ArgMatches) -> Option<Window>
+    ensures { GivesWindow (rows_of (found_of inner.now)) result }
+{
+    let skip = number_named(inner, "skip", 0)?;
+    let limit = given_named(inner, "limit")?;
+    Some(Window { skip, limit })
 }
 
 // The rule on indexes of file descriptors that a word stands for.

@@ -1,4 +1,8 @@
 //! What words set beside the command.
+ghost use Rattle.std.specs.Prelude.{◌≡◌};
+ghost use Rattle.dbus_command.specs.Windows.{ask_more};
+
+use crate::window::Window;
 use dbus_handshake_input::Side;
 use dbus_value::Limits;
 
@@ -13,4 +17,16 @@ pub struct Settings {
     pub keeps_going: bool,
     /// The side whose handshake comes before the messages, if one does.
     pub handshake: Option<Side>,
+    /// Which of the messages that the command selects are written.
+    pub window: Window,
+}
+
+impl Settings {
+    /// Whether they ask for more than limits and a handshake: for explanations, for the messages after a refused one, or for a window that
+    /// leaves some messages out.
+    pub fn ask_more(&self) -> bool
+        ensures { result ≡ ask_more self.now }
+    {
+        self.explains || self.keeps_going || self.window.skip > 0 || self.window.limit.is_some()
+    }
 }

@@ -1,7 +1,7 @@
 //! The command line, as `clap` is told it.
 ghost use Rattle.std.specs.Prelude.{◌≡◌, IfOk, false};
 ghost use Rattle.clap.specs.Words.{app_of, rule_of};
-ghost use Rattle.dbus_command.specs.CommandLine.{Adds, IsLocal, fds_rule, flag_rule, handshake_rule, limit_rule, owner_rule, text_rule, with_keep_going, with_options, wire_app, bare_app, show_app, json_app, check_app, swap_app, filter_app};
+ghost use Rattle.dbus_command.specs.CommandLine.{Adds, IsLocal, fds_rule, flag_rule, handshake_rule, limit_rule, owner_rule, text_rule, with_keep_going, with_options, with_window, wire_app, bare_app, show_app, json_app, check_app, swap_app, filter_app};
 
 use crate::help;
 use clap::builder::ValueParser;
@@ -9,7 +9,7 @@ use clap::{Arg, ArgAction, Command};
 use dbus_value::{ARRAY_LIMIT, DEPTH_LIMIT, MESSAGE_LIMIT};
 use std::alloc::{AllocError, Global};
 
-// The option of one limit: a number up to the limit of the specification.
+// The option of one limit: a number up to this one.
 fn limit_option<'a>(alloc: Global, name: &'a str, most: u32, help: &'a str) -> Arg<'a>
     ensures rule { rule_of result ≡ limit_rule name.entry.now most }
     ensures local { result.global ≡ false }
@@ -78,6 +78,15 @@ fn with_keep_going<'a>(alloc: Global, command: Command<'a>) -> Result<Command<'a
     with_options(alloc, going)
 }
 
+// The command with `--skip`, `--limit`, `--keep-going` and the options that each command takes.
+fn with_window<'a>(alloc: Global, command: Command<'a>) -> Result<Command<'a>, AllocError>
+    ensures { IfOk result (Adds with_window command.entry) }
+{
+    let skipping = command.arg(limit_option(alloc, "skip", u32::MAX, help::SKIP))?;
+    let limited = skipping.arg(limit_option(alloc, "limit", u32::MAX, help::LIMIT))?;
+    with_keep_going(alloc, limited)
+}
+
 // `show`, which takes no words but its options.
 fn show_command<'a>(alloc: Global) -> Result<Command<'a>, AllocError>
     ensures { IfOk result (IsLocal show_app) }
@@ -85,7 +94,7 @@ fn show_command<'a>(alloc: Global) -> Result<Command<'a>, AllocError>
     let show = Command::new(alloc, "show")
         .about(help::SHOW)
         .after_help(help::SHOW_MORE);
-    with_keep_going(alloc, show)
+    with_window(alloc, show)
 }
 
 // `json`, which takes no words but its options.
@@ -95,7 +104,7 @@ fn json_command<'a>(alloc: Global) -> Result<Command<'a>, AllocError>
     let json = Command::new(alloc, "json")
         .about(help::JSON)
         .after_help(help::JSON_MORE);
-    with_keep_going(alloc, json)
+    with_window(alloc, json)
 }
 
 // `check`, which takes no words but its options.
@@ -158,7 +167,7 @@ fn filter_command<'a>(alloc: Global) -> Result<Command<'a>, AllocError>
     let ruled = filter.arg(rule_argument(alloc))?;
     let inverting = ruled.arg(flag(alloc, "invert", help::INVERT))?;
     let owning = inverting.arg(owner_option(alloc))?;
-    with_keep_going(alloc, owning)
+    with_window(alloc, owning)
 }
 
 // The program before it has subcommands, with its version. Its texts call it `dbus-wire`, whatever the first word is.

@@ -1,5 +1,5 @@
 -- How `check` ends: it counts the messages, and writes one line.
-use Rattle.std.proofs.Common.{◌≡◌, ℕ, ◌+◌, List, [], ◌∷◌, Err, Option, length, take, drop, refl, sym, ap, ◌∙◌, subst, take-append-drop, inl}
+use Rattle.std.proofs.Common.{◌≡◌, ℕ, ◌+◌, List, [], ◌∷◌, Err, Option, length, take, drop, refl, sym, ap, ◌∙◌, subst, take-append-drop, inl, inr}
 use Rattle.std.specs.Io.KnownBytes.{Appends}
 use Rattle.std.proofs.KnownBytes.{Appends-nil}
 use Rattle.dbus_device.specs.Write.{Wrote}
@@ -23,7 +23,7 @@ use Rattle.dbus_tool.proofs.WriteSteps.{wrote_nothing}
 -- `check` writes nothing of a message
 no_output : (n offset : ℕ) (items : List CutMessage) → IsOutputOfAll Check n offset items []
 no_output n offset [] = refl
-no_output n offset (item ∷ items) = ([], [], refl, refl, no_output (n + 1) (offset + item.size) items)
+no_output n offset (item ∷ items) = ([], [], refl, inr (λ never. never, refl), no_output (n + 1) (offset + item.size) items)
 
 module _ {R W : Type 0} (left : R → Option (List ℕ)) (calls read_failures : R → ℕ) (held : W → Option (List ℕ)) (write_failures : W → ℕ) (limits : Limits) (most : ℕ)
     (r0 r1 : R) (w0 : W) where
@@ -82,7 +82,7 @@ module _ {R W : Type 0} (left : R → Option (List ℕ)) (calls read_failures : 
       read_failed = a.failed;
       cut = a.cut;
       at_end = a.at_end;
-      output = record { written = []; each = no_output 1 0 a.items; joined = line_is };
+      output = record { texts = []; each = no_output 1 0 a.items; joined = line_is };
       first = wrote;
       second = inl (wrote_nothing second_held second_failures e, end_is ∙ ap status_of a.fault_is);
     }
@@ -104,8 +104,8 @@ module _ {R W : Type 0} (left : R → Option (List ℕ)) (calls read_failures : 
   pub gave_up : (cause : Cause) → CountsSome Took limits most cause → Fails left calls read_failures held write_failures limits most Check cause r0 r1 w0 w0
   gave_up Memory s = some_counted Memory s tt (s.caused, refl)
   gave_up ReadFailed s =
-      some_counted ReadFailed s (record { items = s.items; rest = s.rest; messages = s.messages; partial = s.caused.0; output = no_output 1 0 s.items }) (s.caused.1, refl)
+      some_counted ReadFailed s (record { items = s.items; rest = s.rest; messages = s.messages; partial = s.caused.0; texts = []; output = no_output 1 0 s.items; written_is = refl }) (s.caused.1, refl)
   gave_up WriteFailed s = absurd s.caused
   gave_up TooManyReads s =
-      some_counted TooManyReads s (record { items = s.items; rest = s.rest; messages = s.messages; partial = s.caused.0; output = no_output 1 0 s.items })
+      some_counted TooManyReads s (record { items = s.items; rest = s.rest; messages = s.messages; partial = s.caused.0; texts = []; output = no_output 1 0 s.items; written_is = refl })
       (s.caused.1, refl, s.caused.2)

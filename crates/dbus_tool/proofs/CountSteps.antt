@@ -16,16 +16,21 @@ use Rattle.dbus_tool.specs.Onward.{HasRead, HandsOn, HandsSomeOn}
 use Rattle.dbus_tool.specs.declared.ending.Cause.{Cause}
 use Rattle.dbus_tool.specs.declared.ending.Cause.TheVariants.{Memory, ReadFailed, WriteFailed, TooManyReads}
 use Rattle.dbus_tool.specs.declared.ending.Counted.{Counted}
+use Rattle.dbus_tool.specs.declared.handing.Before.{Before}
 use Rattle.dbus_tool.proofs.HandSteps.{Faults}
 
 -- a writer that nothing is written by
 abbrev pub unwritten : Writing (Unit {0})
 unwritten = record { held = λ u. None; failures = λ u. 0; old = tt; new = tt }
 
+-- where the counting begins, with a window that leaves nothing out
+abbrev pub from_start : Before
+from_start = record { count = 0; window = record { skip = 0; limit = None } }
+
 module _ {R : Type 0} (left : R → Option (List ℕ)) (calls failures : R → ℕ) (limits : Limits) where
   -- what a fault of the reader says of the bytes that it keeps
   pub check_faults : (w : List ℕ) (mid new : CheckReader R) (fault : ReadFault) → CheckAnswers w mid new (Err fault)
-      → Faults lengths left calls failures unwritten.held unwritten.failures limits Check [] 0 w mid new fault
+      → Faults lengths left calls failures unwritten.held unwritten.failures limits Check [] from_start w mid new fault
   check_faults w mid new read.Memory a = tt
   check_faults w mid new (read.Format fault) a = (a.0, elim a.2 [ inl refused ↦ inl refused.refused | inr short ↦ inr (short.0, short.1) ])
   check_faults w mid new read.Device a = a.2
@@ -39,7 +44,7 @@ module _ {R : Type 0} (left : R → Option (List ℕ)) (calls failures : R → �
     few_called : (items : List CutMessage) (rest : List ℕ) → HasRead lengths left calls limits [] old new items rest → RisesAtMost most Took.calls0 Took.calls1
     few_called items rest h = (h.count, omega (arith, h.reads, h.most_reads, is.reads, is.most_reads, new.few_reads), h.called)
 
-    some_tallied : (cause : Cause) (s : HandsSomeOn lengths left calls limits [] failures unwritten.held unwritten.failures Check 0 cause old new [] [] tt tt)
+    some_tallied : (cause : Cause) (s : HandsSomeOn lengths left calls limits [] failures unwritten.held unwritten.failures Check from_start cause old new [] [] tt tt)
         → StopsCounting Took limits most cause s.rest → CountsSome Took limits most cause
     some_tallied cause s caused = record {
       bytes = s.read.bytes;
@@ -51,7 +56,7 @@ module _ {R : Type 0} (left : R → Option (List ℕ)) (calls failures : R → �
       caused = caused;
     }
 
-    pub tallied : (res : Result Counted Cause) → HandsOn lengths left calls limits [] failures unwritten.held unwritten.failures Check 0 old new [] [] tt tt res → Tallies Took limits most res
+    pub tallied : (res : Result Counted Cause) → HandsOn lengths left calls limits [] failures unwritten.held unwritten.failures Check from_start from_start.window old new [] [] tt tt res → Tallies Took limits most res
     tallied (Ok counted) a = record {
       bytes = a.read.bytes;
       items = a.items;

@@ -1,3 +1,4 @@
+pub mod WindowLaws
 pub mod OutputSteps
 pub mod Outputs
 pub mod GatherSteps

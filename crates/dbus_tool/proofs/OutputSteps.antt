@@ -6,7 +6,7 @@ use Rattle.dbus_command.specs.declared.command.Command.{Command}
 use Rattle.dbus_tool.specs.Output.{IsOutputOf, IsOutputOfAll}
 
 -- messages after others
-pub output_both : (command : Command) (n offset : ℕ) (items more : List CutMessage) (a b : List ℕ) → IsOutputOfAll command n offset items a
+pub output_both : (command : Command) (n offset : ℕ) (items more : List CutMessage) (a b : List (List ℕ)) → IsOutputOfAll command n offset items a
     → IsOutputOfAll command (n + length items) (offset + sizes items) more b → IsOutputOfAll command n offset (items ++ more) (a ++ b)
 output_both command n offset [] more a b p q =
     let number : n + 0 ≡ n = omega arith in
@@ -22,6 +22,6 @@ output_both command n offset (x ∷ items) more a b p q =
     (p.0, p.1 ++ b, ap (λ l. l ++ b) p.2 ∙ append_assoc p.0 p.1 b, p.3, output_both command (n + 1) (offset + x.size) items more p.1 b p.4 rest)
 
 -- one more message
-pub output_last : (command : Command) (n offset : ℕ) (items : List CutMessage) (item : CutMessage) (out one : List ℕ) → IsOutputOfAll command n offset items out
+pub output_last : (command : Command) (n offset : ℕ) (items : List CutMessage) (item : CutMessage) (out one : List (List ℕ)) → IsOutputOfAll command n offset items out
     → IsOutputOf command item.order item.message (n + length items) (offset + sizes items) one → IsOutputOfAll command n offset (items ++ item ∷ []) (out ++ one)
 output_last command n offset items item out one a o = output_both command n offset items (item ∷ []) out one a (one, [], sym (append-nil one), o, refl)

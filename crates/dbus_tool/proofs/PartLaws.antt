@@ -1,16 +1,21 @@
 -- Parts of an input that follow one another, and what is made and told of them.
-use Rattle.std.proofs.Common.{◌≡◌, ℕ, suc, ◌+◌, ◌<◌, ◌≤◌, List, [], ◌∷◌, ◌++◌, length, drop, refl, sym, ap, ◌∙◌, subst, arith, append_assoc, append-nil, length-append}
+use Rattle.std.proofs.Common.{inl, inr, ◌≡◌, ℕ, suc, ◌+◌, ◌<◌, ◌≤◌, List, [], ◌∷◌, ◌++◌, length, drop, refl, sym, ap, ◌∙◌, subst, arith, append_assoc, append-nil, length-append}
 use Rattle.std.proofs.lemmas.List.{drop-append-le}
 use Rattle.dbus_value_model.specs.declared.limits.Limits.{Limits}
+use Rattle.dbus_value_model.specs.declared.order.Order.{Order}
+use Rattle.dbus_message_model.specs.Messages.{MessageTree}
 use Rattle.dbus_header.specs.StatedLengths.{StatesLength}
 use Rattle.dbus_header.proofs.OutcomeLaws.{whole_for_good, whole_inside}
 use Rattle.dbus_stream.specs.Cut.{CutMessage, BeginWith}
 use Rattle.dbus_stream.specs.CutEnds.{sizes}
 use Rattle.dbus_command.specs.declared.settings.Settings.{Settings}
+use Rattle.dbus_command.specs.declared.window.Window.{Window}
 use Rattle.dbus_command.specs.declared.command.Command.{Command}
 use Rattle.dbus_command.specs.declared.command.Command.TheVariants.{Show, Json, Check, Swap, Filter}
 use Rattle.dbus_tool.specs.Going.{first_of, second_of}
-use Rattle.dbus_tool.specs.Output.{IsOutputOfAll}
+use Rattle.dbus_tool.specs.Output.{IsOutputOf, IsOutputOfAll}
+use Rattle.dbus_tool.specs.Windows.{written}
+use Rattle.dbus_tool.proofs.WindowLaws.{written_none}
 use Rattle.dbus_tool.specs.Parts.{Part, Whole, PassedOver, size_of, sizes_of, IsPart, BeginWithParts, AreTexts, IsMade, IsToldOf, passed_count, passed_sizes}
 
 -- ---- the input
@@ -112,7 +117,7 @@ few_passed_sizes (PassedOver kept fault size ∷ parts) = omega (arith, few_pass
 -- ---- texts
 
 -- those of parts after others
-pub texts_both : (Is : ℕ → ℕ → Part → List ℕ → Type 0) (n offset : ℕ) (parts more : List Part) (a b : List ℕ) → AreTexts Is n offset parts a
+pub texts_both : {A : Type 0} (Is : ℕ → ℕ → Part → List A → Type 0) (n offset : ℕ) (parts more : List Part) (a b : List A) → AreTexts Is n offset parts a
     → AreTexts Is (n + length parts) (offset + sizes_of parts) more b → AreTexts Is n offset (parts ++ more) (a ++ b)
 texts_both Is n offset [] more a b p q =
     let number : n + 0 ≡ n = omega arith in
@@ -127,7 +132,7 @@ texts_both Is n offset (part ∷ parts) more a b p q =
     = subst (λ k. AreTexts Is k (offset + size_of part + sizes_of parts) more b) number (subst (λ k. AreTexts Is (n + suc (length parts)) k more b) place q) in
     (p.0, p.1 ++ b, ap (λ l. l ++ b) p.2 ∙ append_assoc p.0 p.1 b, p.3, texts_both Is (n + 1) (offset + size_of part) parts more p.1 b p.4 rest)
 
-pub made_of : (command : Command) (n offset : ℕ) (items : List CutMessage) (out : List ℕ) → IsOutputOfAll command n offset items out → AreTexts (IsMade command) n offset (wholes items) out
+pub made_of : (command : Command) (n offset : ℕ) (items : List CutMessage) (out : List (List ℕ)) → IsOutputOfAll command n offset items out → AreTexts (IsMade command) n offset (wholes items) out
 made_of command n offset [] out o = o
 made_of command n offset (item ∷ items) out o = (o.0, o.1, o.2, o.3, made_of command (n + 1) (offset + item.size) items o.1 o.4)
 
@@ -137,10 +142,13 @@ told_of settings n offset (item ∷ items) = ([], [], refl, refl, told_of settin
 
 -- ---- what the writers get
 
+unpicked_none : (order : Order) (message : MessageTree) (n offset : ℕ) (texts : List (List ℕ)) → IsOutputOf Check order message n offset texts → texts ≡ []
+unpicked_none order message n offset texts o = elim o [ inl picked ↦ absurd picked.0 | inr none ↦ none.1 ]
+
 -- `check` makes nothing
-checked_nothing : (n offset : ℕ) (parts : List Part) (out : List ℕ) → AreTexts (IsMade Check) n offset parts out → out ≡ []
+checked_nothing : (n offset : ℕ) (parts : List Part) (out : List (List ℕ)) → AreTexts (IsMade Check) n offset parts out → out ≡ []
 checked_nothing n offset [] out o = o
-checked_nothing n offset (Whole item ∷ parts) out o = o.2 ∙ (λ i. o.3 i ++ checked_nothing (n + 1) (offset + item.size) parts o.1 o.4 i)
+checked_nothing n offset (Whole item ∷ parts) out o = o.2 ∙ (λ i. unpicked_none item.order item.message n offset o.0 o.3 i ++ checked_nothing (n + 1) (offset + item.size) parts o.1 o.4 i)
 checked_nothing n offset (PassedOver kept fault size ∷ parts) out o = o.2 ∙ (λ i. o.3 i ++ checked_nothing (n + 1) (offset + size) parts o.1 o.4 i)
 
 pub first_nothing : (command : Command) → first_of command [] [] ≡ []
@@ -158,10 +166,11 @@ second_nothing (Swap order) = refl
 second_nothing (Filter selection) = refl
 
 -- more is made
-pub first_more : (command : Command) (n offset : ℕ) (parts : List Part) (out told more : List ℕ) → AreTexts (IsMade command) n offset parts more
-    → first_of command out told ++ more ≡ first_of command (out ++ more) told
-first_more Show n offset parts out told more o = refl
-first_more Json n offset parts out told more o = refl
-first_more Check n offset parts out told more o = ap (λ l. told ++ l) (checked_nothing n offset parts more o) ∙ append-nil told
-first_more (Swap order) n offset parts out told more o = refl
-first_more (Filter selection) n offset parts out told more o = refl
+pub first_more : (command : Command) (window : Window) (n offset : ℕ) (parts : List Part) (out told : List ℕ) (texts : List (List ℕ)) → AreTexts (IsMade command) n offset parts texts
+    → first_of command out told ++ written window texts ≡ first_of command (out ++ written window texts) told
+first_more Show window n offset parts out told texts o = refl
+first_more Json window n offset parts out told texts o = refl
+first_more Check window n offset parts out told texts o =
+    ap (λ l. told ++ l) (ap (λ l. written window l) (checked_nothing n offset parts texts o) ∙ written_none window) ∙ append-nil told
+first_more (Swap order) window n offset parts out told texts o = refl
+first_more (Filter selection) window n offset parts out told texts o = refl

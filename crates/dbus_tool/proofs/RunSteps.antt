@@ -2,6 +2,7 @@
 -- is said of messages here.
 use Rattle.std.proofs.Common.{◌≡◌, ◌≢◌, ℕ, ◌+◌, List, [], ◌∷◌, ◌++◌, false, None, Some, Ok, Err, Option, Result, length, drop, refl, sym, ap, ◌∙◌, subst, append-nil, inl, inr}
 use Rattle.std.proofs.lemmas.Bool.{false≢true}
+use Rattle.std.specs.List.{concat}
 use Rattle.dbus_value_model.specs.declared.fault.Fault.{Fault}
 use Rattle.dbus_value_model.specs.declared.limits.Limits.{Limits}
 use Rattle.dbus_header.specs.MessageOutcomes.{IsPartial}
@@ -20,6 +21,7 @@ use Rattle.dbus_tool.specs.Lines.{cause_line}
 use Rattle.dbus_tool.specs.Output.{IsFront, IsOutputOfAll, IsPrefixTo, fault_line, last_line, second_output, status_of}
 use Rattle.dbus_tool.specs.Parts.{Part, Whole, PassedOver, sizes_of, BeginWithParts, IsLast, AreTexts, IsMade, IsToldOf, IsToldLast}
 use Rattle.dbus_tool.specs.Running.{Runs, Told}
+use Rattle.dbus_tool.specs.Windows.{written}
 use Rattle.dbus_tool.specs.declared.ending.ExitStatus.{ExitStatus}
 use Rattle.dbus_tool.specs.declared.ending.ExitStatus.TheVariants as status
 use Rattle.dbus_tool.specs.declared.ending.Cause.{Cause}
@@ -29,10 +31,11 @@ use Rattle.dbus_tool.specs.declared.going.Handed.{Handed}
 use Rattle.dbus_tool.specs.declared.going.Stop.{Stop}
 use Rattle.dbus_tool.specs.declared.going.Stop.TheVariants.{Cause as ByCause, Second}
 use Rattle.dbus_tool.proofs.Outputs.{front_of_first}
+use Rattle.dbus_tool.proofs.WindowLaws.{written_all}
 use Rattle.dbus_tool.proofs.WriteSteps.{wrote_both, wrote_stopped}
 
 abbrev pub plain : Limits → Settings
-plain limits = record { limits = limits; explains = false; keeps_going = false; handshake = None }
+plain limits = record { limits = limits; explains = false; keeps_going = false; handshake = None; window = record { skip = 0; limit = None } }
 
 pub no_check : (command : Command) → command ≢ Check → is_check command ≡ false
 no_check Show n = refl
@@ -56,17 +59,17 @@ divides (Swap order) e = record { first = λ _ _. refl; second = λ _. refl; las
 divides (Filter selection) e = record { first = λ _ _. refl; second = λ _. refl; last = λ _ _ _. refl; line = λ _ _. refl }
 
 -- nothing was passed over, so the parts are messages
-record AreMessages (limits : Limits) (command : Command) (n offset : ℕ) (bytes : List ℕ) (parts : List Part) (rest out told : List ℕ) : Type 0 where
+record AreMessages (limits : Limits) (command : Command) (n offset : ℕ) (bytes : List ℕ) (parts : List Part) (rest : List ℕ) (texts : List (List ℕ)) (told : List ℕ) : Type 0 where
   items : List CutMessage
   messages : BeginWith limits bytes items rest
-  output : IsOutputOfAll command n offset items out
+  output : IsOutputOfAll command n offset items texts
   none_told : told ≡ []
   size : sizes_of parts ≡ sizes items
 
-are_messages : (limits : Limits) (command : Command) (n offset : ℕ) (bytes : List ℕ) (parts : List Part) (rest out told : List ℕ) → BeginWithParts limits bytes parts rest
-    → AreTexts (IsMade command) n offset parts out → AreTexts (IsToldOf (plain limits)) n offset parts told → AreMessages limits command n offset bytes parts rest out told
-are_messages limits command n offset bytes [] rest out told b m t = record { items = []; messages = b; output = m; none_told = t; size = refl }
-are_messages limits command n offset bytes (Whole item ∷ parts) rest out told b m t =
+are_messages : (limits : Limits) (command : Command) (n offset : ℕ) (bytes : List ℕ) (parts : List Part) (rest : List ℕ) (texts : List (List ℕ)) (told : List ℕ) → BeginWithParts limits bytes parts rest
+    → AreTexts (IsMade command) n offset parts texts → AreTexts (IsToldOf (plain limits)) n offset parts told → AreMessages limits command n offset bytes parts rest texts told
+are_messages limits command n offset bytes [] rest texts told b m t = record { items = []; messages = b; output = m; none_told = t; size = refl }
+are_messages limits command n offset bytes (Whole item ∷ parts) rest texts told b m t =
     let more = are_messages limits command (n + 1) (offset + item.size) (drop item.size bytes) parts rest m.1 t.1 b.1 m.4 t.4 in
     record {
       items = item ∷ more.items;
@@ -75,7 +78,7 @@ are_messages limits command n offset bytes (Whole item ∷ parts) rest out told 
       none_told = t.2 ∙ (λ i. t.3 i ++ more.none_told i);
       size = ap (λ s. item.size + s) more.size;
     }
-are_messages limits command n offset bytes (PassedOver kept fault size ∷ parts) rest out told b m t = absurd (false≢true t.3.0)
+are_messages limits command n offset bytes (PassedOver kept fault size ∷ parts) rest texts told b m t = absurd (false≢true t.3.0)
 
 -- all that was kept is the rest
 rest_is : (limits : Limits) (kept rest : List ℕ) (outcome : CutOutcome) (at_end : Type 0) → IsLast false limits kept rest outcome at_end
@@ -86,6 +89,10 @@ rest_is limits kept rest (Refused fault) at_end last = elim last [
   | inl all ↦ (all.0, λ none. absurd (none fault refl))
   | inr short ↦ absurd (false≢true short.2)
 ]
+
+-- all that is made was written
+all_of : (out : List ℕ) (texts : List (List ℕ)) → out ≡ written (record { skip = 0; limit = None }) texts → out ≡ concat texts
+all_of out texts e = e ∙ written_all texts
 
 told_line : (limits : Limits) (n offset : ℕ) (kept text : List ℕ) (fault : Option Fault) → IsToldLast (plain limits) n offset kept fault text → text ≡ fault_line offset fault
 told_line limits n offset kept text None told = told
@@ -104,7 +111,7 @@ module _ {R W E : Type 0} (left : R → Option (List ℕ)) (calls read_failures 
   answers tally fault out told text e1 end h first second =
       let outcome = h.tells.outcome in
       let d = divides command other in
-      let m = are_messages limits command 1 0 h.covers.bytes h.parts h.rest out told h.covers.begin h.covers.made h.covers.tells in
+      let m = are_messages limits command 1 0 h.covers.bytes h.parts h.rest h.covers.texts told h.covers.begin h.covers.made h.covers.tells in
       let all = rest_is limits h.kept h.rest outcome _ h.last in
       let fault_is : fault ≡ fault_at_end h.rest outcome = h.tells.fault_is ∙ ap (λ (l : List ℕ). fault_at_end l outcome) (sym all.0) in
       let line : second_of command (told ++ text) ≡ second_output command (sizes m.items) (fault_at_end h.rest outcome)
@@ -121,7 +128,11 @@ module _ {R W E : Type 0} (left : R → Option (List ℕ)) (calls read_failures 
         read_failed = h.read_failed;
         cut = record { messages = m.messages; outcome_is = subst (λ (l : List ℕ). IsOutcome limits l outcome) (sym all.0) h.tells.outcome_is };
         at_end = all.1;
-        output = record { written = out; each = m.output; joined = sym (append-nil out) ∙ ap (λ l. out ++ l) (sym (d.last (length m.items) (sizes m.items) (fault_at_end h.rest outcome))) };
+        output = record {
+          texts = h.covers.texts;
+          each = m.output;
+          joined = sym (append-nil out) ∙ (λ i. all_of out h.covers.texts h.covers.out_is i ++ sym (d.last (length m.items) (sizes m.items) (fault_at_end h.rest outcome)) i);
+        };
         first = subst (λ l. Wrote held write_failures w0 l w1) (d.first out (told ++ text)) first;
         second = subst (λ l. TellsLine second_held second_failures l (fault_at_end h.rest outcome) e0 e1 end) line
             (subst (λ (f : Option Fault). TellsLine second_held second_failures (second_of command (told ++ text)) f e0 e1 end) fault_is second);
@@ -131,8 +142,8 @@ module _ {R W E : Type 0} (left : R → Option (List ℕ)) (calls read_failures 
     abbrev Within : Cause → Type 0
     Within cause = StopsWithin Took held write_failures second_held second_failures (plain limits) limits most command (ByCause cause) w0 w1 e0 e1
 
-    messages_of : (cause : Cause) (s : Within cause) → AreMessages limits command 1 0 s.covers.bytes s.parts s.rest s.out s.told
-    messages_of cause s = are_messages limits command 1 0 s.covers.bytes s.parts s.rest s.out s.told s.covers.begin s.covers.made s.covers.tells
+    messages_of : (cause : Cause) (s : Within cause) → AreMessages limits command 1 0 s.covers.bytes s.parts s.rest s.covers.texts s.told
+    messages_of cause s = are_messages limits command 1 0 s.covers.bytes s.parts s.rest s.covers.texts s.told s.covers.begin s.covers.made s.covers.tells
 
     -- the first writer got a prefix of what is made of the messages
     front_of_some : (cause : Cause) (s : Within cause) (written : List ℕ) → IsPrefixTo written s.out → (items : List CutMessage) (rest : List ℕ) (outcome : CutOutcome)
@@ -140,7 +151,7 @@ module _ {R W E : Type 0} (left : R → Option (List ℕ)) (calls read_failures 
     front_of_some cause s written front items rest outcome cut =
         let m = messages_of cause s in
         let more = BeginWith-first limits s.covers.bytes m.items items s.rest rest outcome m.messages cut.messages cut.outcome_is in
-        front_of_first command m.items more.0 items (fault_at_end rest outcome) s.out written more.1 m.output front
+        front_of_first command m.items more.0 items (fault_at_end rest outcome) s.covers.texts written more.1 m.output (subst (λ l. IsPrefixTo written l) (all_of s.out s.covers.texts s.covers.out_is) front)
 
     all_written : (cause : Cause) (s : Within cause) → Wrote held write_failures w0 (first_of command s.out (s.told ++ s.more)) w1 → WritesBefore limits command cause s.covers.bytes s.out
         → IsCause left calls read_failures held write_failures limits most command r0 r1 w0 w1 cause → Fails left calls read_failures held write_failures limits most command cause r0 r1 w0 w1
@@ -160,7 +171,7 @@ module _ {R W E : Type 0} (left : R → Option (List ℕ)) (calls read_failures 
     all_messages cause s all =
         let m = messages_of cause s in
         let partial : IsPartial limits s.rest = elim all [ inl none ↦ none.0 | inr cut ↦ absurd (false≢true cut.4) ] in
-        record { items = m.items; rest = s.rest; messages = m.messages; partial = partial; output = m.output }
+        record { items = m.items; rest = s.rest; messages = m.messages; partial = partial; texts = s.covers.texts; output = m.output; written_is = all_of s.out s.covers.texts s.covers.out_is }
 
     fails : (cause : Cause) → Within cause → Fails left calls read_failures held write_failures limits most command cause r0 r1 w0 w1
     fails Memory s = all_written Memory s s.first tt (s.caused, s.first.failed)

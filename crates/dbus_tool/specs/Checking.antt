@@ -2,6 +2,7 @@
 -- many reads may be made.
 use Rattle.std.specs.Prelude.{◌≡◌, ◌⊎◌, ℕ, List, Option}
 use Rattle.std.specs.Io.KnownBytes.{Appends, Consumes, IsAtEnd}
+use Rattle.std.specs.List.{concat}
 use Rattle.dbus_value_model.specs.declared.fault.Fault.{Fault}
 use Rattle.dbus_value_model.specs.declared.limits.Limits.{Limits}
 use Rattle.dbus_header.specs.MessageOutcomes.{IsPartial}
@@ -28,7 +29,9 @@ pub record WritesMessages (limits : Limits) (command : Command) (bytes written :
   pub rest : List ℕ
   pub messages : BeginWith limits bytes items rest
   pub partial : IsPartial limits rest
-  pub output : IsOutputOfAll command 1 0 items written
+  pub texts : List (List ℕ)
+  pub output : IsOutputOfAll command 1 0 items texts
+  pub written_is : written ≡ concat texts
 
 -- where reading was given up, all messages that were read were written
 abbrev pub WritesBefore : Limits → Command → Cause → List ℕ → List ℕ → Type 0

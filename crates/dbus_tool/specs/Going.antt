@@ -20,6 +20,7 @@ use Rattle.dbus_tool.specs.Output.{IsPrefixTo}
 use Rattle.dbus_tool.specs.Parts.{Part, sizes_of, BeginWithParts, IsCutOff, IsLast, AreTexts, IsMade, IsToldOf, IsToldLast, passed_count, tally_of, closing_line, status_at}
 use Rattle.dbus_tool.specs.Running.{Told}
 use Rattle.dbus_tool.specs.Telling.{IsTold}
+use Rattle.dbus_tool.specs.Windows.{written}
 use Rattle.dbus_tool.specs.declared.ending.Cause.{Cause}
 use Rattle.dbus_tool.specs.declared.ending.Cause.TheVariants.{Memory, ReadFailed, WriteFailed, TooManyReads}
 use Rattle.dbus_tool.specs.declared.ending.ExitStatus.{ExitStatus}
@@ -78,13 +79,15 @@ TellsStop held failures Second e0 e1 = e1 ≡ e0
 
 module _ {W E : Type 0} (t : Taken) (held : W → Option (List ℕ)) (write_failures : W → ℕ) (second_held : E → Option (List ℕ)) (second_failures : E → ℕ)
     (settings : Settings) (limits : Limits) (most : ℕ) (command : Command) where
-  -- what was read is these parts and then the rest, and this is made of the parts, and told of them
+  -- what was read is these parts and then the rest, and this is written of the texts that are made of the parts, and told of the parts
   pub record Covers (parts : List Part) (rest out told : List ℕ) : Type 0 where
     pub bytes : List ℕ
     pub consumed : Consumes t.left0 t.left1 bytes
     pub called : RisesAtMost most t.calls0 t.calls1
     pub begin : BeginWithParts limits bytes parts rest
-    pub made : AreTexts (IsMade command) 1 0 parts out
+    pub texts : List (List ℕ)
+    pub made : AreTexts (IsMade command) 1 0 parts texts
+    pub out_is : out ≡ written settings.window texts
     pub tells : AreTexts (IsToldOf settings) 1 0 parts told
 
   -- this is told of the fault of the rest, if it has one

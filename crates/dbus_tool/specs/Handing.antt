@@ -1,5 +1,5 @@
 -- What was read and written where messages are handed to a command. g0 and g1 are what is gathered before and after.
-use Rattle.std.specs.Prelude.{◌≡◌, ℕ, List, [], ◌++◌, Option, Result, Ok, Err}
+use Rattle.std.specs.Prelude.{◌≡◌, ℕ, List, [], ◌++◌, length, Option, Result, Ok, Err}
 use Rattle.dbus_value_model.specs.declared.limits.Limits.{Limits}
 use Rattle.dbus_value_model.specs.declared.order.Order.{Order}
 use Rattle.dbus_message_model.specs.Messages.{MessageTree}
@@ -13,9 +13,10 @@ use Rattle.dbus_stream.specs.declared.read_fault.ReadFault.{ReadFault}
 use Rattle.dbus_stream.specs.declared.read_fault.ReadFault.TheVariants as read
 use Rattle.dbus_json.specs.JsonMessages.{IsJsonLine}
 use Rattle.dbus_command.specs.declared.command.Command.{Command}
-use Rattle.dbus_command.specs.declared.selection.Selection.{Selection}
+use Rattle.dbus_command.specs.declared.window.Window.{Window}
 use Rattle.dbus_tool.specs.Devices.{Writing}
-use Rattle.dbus_tool.specs.Output.{IsFiltered, IsOutputOf}
+use Rattle.dbus_tool.specs.Windows.{after, written}
+use Rattle.dbus_tool.specs.Output.{IsOutputOf, IsTextOf}
 use Rattle.dbus_tool.specs.Gathering.{Passes, Breaks, GathersOrNot}
 use Rattle.dbus_tool.specs.declared.ending.Cause.{Cause}
 use Rattle.dbus_tool.specs.declared.ending.Cause.TheVariants.{Memory, ReadFailed, WriteFailed, TooManyReads}
@@ -23,20 +24,20 @@ use Rattle.dbus_tool.specs.declared.ending.NoMessage.{NoMessage}
 use Rattle.dbus_tool.specs.declared.ending.NoMessage.TheVariants.{Reader, Writer}
 use Rattle.dbus_tool.specs.declared.place.Place.{Place}
 
--- what a selection lets through of one message was written or gathered
-abbrev pub Filters : {W : Type 0} → Writing W → Selection → Order → MessageTree → List ℕ → List ℕ → Result (Unit {0}) Cause → Type 0
-Filters w selection order message g0 g1 result =
-    (out : List ℕ) × IsFiltered selection order message out × GathersOrNot w.held w.failures out g0 g1 w.old w.new result
-
 -- a line of JSON of one message was written or gathered, which has this place in its input
 abbrev pub WritesJson : {W : Type 0} → Writing W → Order → MessageTree → Place → List ℕ → List ℕ → Result (Unit {0}) Cause → Type 0
 WritesJson w order message place g0 g1 result =
     (out : List ℕ) × IsJsonLine order message place.number place.offset out × GathersOrNot w.held w.failures out g0 g1 w.old w.new result
 
--- what a command writes of one message, which has this place in its input, was written or gathered
-abbrev pub HandsOne : {W : Type 0} → Writing W → Command → Order → MessageTree → Place → List ℕ → List ℕ → Result (Unit {0}) Cause → Type 0
-HandsOne w command order message place g0 g1 result =
-    (out : List ℕ) × IsOutputOf command order message place.number place.offset out × GathersOrNot w.held w.failures out g0 g1 w.old w.new result
+-- the text that a command makes of one message, which has this place in its input, was written or gathered
+abbrev pub WritesOne : {W : Type 0} → Writing W → Command → Order → MessageTree → Place → List ℕ → List ℕ → Result (Unit {0}) Cause → Type 0
+WritesOne w command order message place g0 g1 result =
+    (text : List ℕ) × IsTextOf command order message place.number place.offset text × GathersOrNot w.held w.failures text g0 g1 w.old w.new result
+
+-- what the window lets through of the texts that a command makes of one message was written or gathered, and now is the window for what follows
+abbrev pub HandsOne : {W : Type 0} → Writing W → Command → (window now : Window) → Order → MessageTree → Place → List ℕ → List ℕ → Result (Unit {0}) Cause → Type 0
+HandsOne w command window now order message place g0 g1 result = (texts : List (List ℕ)) × IsOutputOf command order message place.number place.offset texts
+    × (now ≡ after window (length texts)) × GathersOrNot w.held w.failures (written window texts) g0 g1 w.old w.new result
 
 -- where reading was given up, what is left is no message and no fault, as far as it goes
 abbrev pub AreAll : Limits → Cause → List ℕ → Type 0

@@ -1,6 +1,7 @@
 pub mod Devices
 pub mod Lines
 pub mod RuleLines
+pub mod Windows
 pub mod Output
 pub mod Commands
 pub mod Laws

@@ -1,5 +1,5 @@
 -- What is read and written where messages are handed to a command from where a reader stands. kept is what it keeps there, and before is
--- how many messages came before. k is what is known of its taker, limits are those that each message keeps, and g0 and g1 are what is gathered before
+-- how many messages came before, and the window for those that follow. k is what is known of its taker, limits are those that each message keeps, and g0 and g1 are what is gathered before
 -- and after.
 use Rattle.std.specs.Prelude.{◌≡◌, ℕ, ◌+◌, List, ◌++◌, true, length, Option, None, Some, Result, Ok, Err}
 use Rattle.std.specs.Io.KnownBytes.{Consumes, IsAtEnd}
@@ -18,9 +18,12 @@ use Rattle.dbus_stream.specs.declared.reader.Reader.{Reader}
 use Rattle.dbus_stream.specs.declared.read_fault.ReadFault.{ReadFault}
 use Rattle.dbus_stream.specs.declared.read_fault.ReadFault.TheVariants.{Format}
 use Rattle.dbus_command.specs.declared.command.Command.{Command}
+use Rattle.dbus_command.specs.declared.window.Window.{Window}
 use Rattle.dbus_tool.specs.Output.{IsOutputOfAll}
 use Rattle.dbus_tool.specs.Gathering.{Passes, Leaves}
 use Rattle.dbus_tool.specs.Handing.{AreAll}
+use Rattle.dbus_tool.specs.Windows.{after, written}
+use Rattle.dbus_tool.specs.declared.handing.Before.{Before}
 use Rattle.dbus_tool.specs.declared.ending.Cause.{Cause}
 use Rattle.dbus_tool.specs.declared.ending.Cause.TheVariants.{Memory, ReadFailed, WriteFailed, TooManyReads}
 use Rattle.dbus_tool.specs.declared.ending.Counted.{Counted}
@@ -48,9 +51,9 @@ module _ {R T B G : Type 0} {b : Ghosts B} (k : Taking T G) (left : R → Option
     pub limits_are : limits_of k new ≡ limits
     pub at_end : IsTrueEnd left old → IsTrueEnd left new
 
-  module _ {W : Type 0} (failures : R → ℕ) (held : W → Option (List ℕ)) (write_failures : W → ℕ) (command : Command) (before : ℕ) where
+  module _ {W : Type 0} (failures : R → ℕ) (held : W → Option (List ℕ)) (write_failures : W → ℕ) (command : Command) (before : Before) where
     -- all messages were handed to the command, up to the end of the input or a fault
-    pub record HandsAllOn (counted : Counted) (old new : Reader R T B b) (g0 g1 : List ℕ) (w0 w1 : W) : Type 0 where
+    pub record HandsAllOn (counted : Counted) (now : Window) (old new : Reader R T B b) (g0 g1 : List ℕ) (w0 w1 : W) : Type 0 where
       pub items : List CutMessage
       pub rest : List ℕ
       pub outcome : CutOutcome
@@ -58,13 +61,14 @@ module _ {R T B G : Type 0} {b : Ghosts B} (k : Taking T G) (left : R → Option
       pub outcome_is : IsOutcome limits rest outcome
       -- without a fault that bytes show, all was read
       pub ended : ((f : Fault) → outcome ≡ Refused f → ⊥) → is_ended new ≡ true
-      pub count_is : counted.count ≡ before + length items
+      pub count_is : counted.count ≡ before.count + length items
       pub size_is : counted.size ≡ done_of old + sizes items
       pub fault_is : counted.fault ≡ fault_at_end rest outcome
       pub done : done_of new ≡ counted.size
-      pub out : List ℕ
-      pub output : IsOutputOfAll command (before + 1) (done_of old) items out
-      pub passes : Passes held write_failures out g0 g1 w0 w1
+      pub texts : List (List ℕ)
+      pub output : IsOutputOfAll command (before.count + 1) (done_of old) items texts
+      pub window_is : now ≡ after before.window (length texts)
+      pub passes : Passes held write_failures (written before.window texts) g0 g1 w0 w1
       pub failed : failures (source_of new) ≡ failures (source_of old)
 
     -- why no more messages are handed on, as far as the reader shows it
@@ -80,24 +84,29 @@ module _ {R T B G : Type 0} {b : Ghosts B} (k : Taking T G) (left : R → Option
       pub rest : List ℕ
       pub read : HasRead old new items rest
       pub all : AreAll limits cause rest
-      pub out : List ℕ
-      pub output : IsOutputOfAll command (before + 1) (done_of old) items out
-      pub leaves : Leaves held write_failures cause out g0 g1 w0 w1
+      pub texts : List (List ℕ)
+      pub output : IsOutputOfAll command (before.count + 1) (done_of old) items texts
+      pub leaves : Leaves held write_failures cause (written before.window texts) g0 g1 w0 w1
       pub caused : StopsFor cause old new
 
-    abbrev pub HandsOn : Reader R T B b → Reader R T B b → List ℕ → List ℕ → W → W → Result Counted Cause → Type 0
-    HandsOn old new g0 g1 w0 w1 (Ok counted) = HandsAllOn counted old new g0 g1 w0 w1
-    HandsOn old new g0 g1 w0 w1 (Err cause) = HandsSomeOn cause old new g0 g1 w0 w1
+    abbrev pub HandsOn : Window → Reader R T B b → Reader R T B b → List ℕ → List ℕ → W → W → Result Counted Cause → Type 0
+    HandsOn now old new g0 g1 w0 w1 (Ok counted) = HandsAllOn counted now old new g0 g1 w0 w1
+    HandsOn now old new g0 g1 w0 w1 (Err cause) = HandsSomeOn cause old new g0 g1 w0 w1
+
+-- the count and the window that is left
+abbrev pub with_window : Window → Result Counted Cause → Result (Counted × Window) Cause
+with_window window (Ok counted) = Ok (counted, window)
+with_window window (Err cause) = Err cause
 
 module _ {R A W : Type 0} (left : R → Option (List ℕ)) (calls failures : R → ℕ) (held : W → Option (List ℕ)) (write_failures : W → ℕ)
-    (limits : Limits) (command : Command) (before : ℕ) where
+    (limits : Limits) (command : Command) (before : Before) where
   -- a reader of raw messages keeps the rest then, and answers the fault
-  pub record HandsRawOn (counted : Counted) (old new : RawReader R A) (g0 g1 : List ℕ) (w0 w1 : W) : Type 0 where
-    pub all : HandsAllOn gathering left calls limits (raw.kept old) failures held write_failures command before counted old.reader new.reader g0 g1 w0 w1
+  pub record HandsRawOn (counted : Counted) (now : Window) (old new : RawReader R A) (g0 g1 : List ℕ) (w0 w1 : W) : Type 0 where
+    pub all : HandsAllOn gathering left calls limits (raw.kept old) failures held write_failures command before counted now old.reader new.reader g0 g1 w0 w1
     pub kept : raw.kept new ≡ all.rest
     pub stopped : raw.stopped_of new ≡ stop_of counted.fault
 
-  abbrev pub RawHandsOn : RawReader R A → RawReader R A → List ℕ → List ℕ → W → W → Result Counted Cause → Type 0
-  RawHandsOn old new g0 g1 w0 w1 (Ok counted) = HandsRawOn counted old new g0 g1 w0 w1
+  abbrev pub RawHandsOn : RawReader R A → RawReader R A → List ℕ → List ℕ → W → W → Result (Counted × Window) Cause → Type 0
+  RawHandsOn old new g0 g1 w0 w1 (Ok handed) = HandsRawOn handed.0 handed.1 old new g0 g1 w0 w1
   RawHandsOn old new g0 g1 w0 w1 (Err cause) =
       HandsSomeOn gathering left calls limits (raw.kept old) failures held write_failures command before cause old.reader new.reader g0 g1 w0 w1

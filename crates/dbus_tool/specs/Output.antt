@@ -1,5 +1,6 @@
 -- What a command writes of the messages of its input and the fault after them.
 use Rattle.std.specs.Prelude.{◌≡◌, ℕ, ◌+◌, ◌⊎◌, List, [], ◌∷◌, ◌++◌, length, Option, None, Some}
+use Rattle.std.specs.List.{concat}
 use Rattle.dbus_value_model.specs.declared.fault.Fault.{Fault}
 use Rattle.dbus_value_model.specs.declared.order.Order.{Order}
 use Rattle.dbus_message_model.specs.Messages.{MessageTree, message_bytes}
@@ -10,7 +11,6 @@ use Rattle.dbus_json.specs.JsonMessages.{IsJsonLine}
 use Rattle.dbus_command.specs.Selections.{Selects}
 use Rattle.dbus_command.specs.declared.command.Command.{Command}
 use Rattle.dbus_command.specs.declared.command.Command.TheVariants.{Show, Json, Check, Swap, Filter}
-use Rattle.dbus_command.specs.declared.selection.Selection.{Selection}
 use Rattle.dbus_tool.specs.Lines.{ok_line, refused_line}
 use Rattle.dbus_tool.specs.declared.ending.ExitStatus.{ExitStatus}
 use Rattle.dbus_tool.specs.declared.ending.ExitStatus.TheVariants as status
@@ -19,23 +19,32 @@ use Rattle.dbus_tool.specs.declared.ending.ExitStatus.TheVariants as status
 abbrev pub IsPrefixTo : List ℕ → List ℕ → Type 0
 IsPrefixTo front all = (more : List ℕ) × (all ≡ front ++ more)
 
--- a message that is selected is written in its own order, and of another nothing
-abbrev pub IsFiltered : Selection → Order → MessageTree → List ℕ → Type 0
-IsFiltered selection order message out =
-    (Selects selection message × (out ≡ message_bytes order message)) ⊎ ((Selects selection message → ⊥) × (out ≡ []))
+-- a command makes a text of the message
+abbrev pub Picks : Command → MessageTree → Type 0
+Picks Show message = Unit {0}
+Picks Json message = Unit {0}
+Picks Check message = ⊥
+Picks (Swap order) message = Unit {0}
+Picks (Filter selection) message = Selects selection message
 
--- what a command writes of one message, the n-th of its input, which begins at this offset there
-abbrev pub IsOutputOf : Command → Order → MessageTree → (n offset : ℕ) → List ℕ → Type 0
-IsOutputOf Show order message n offset out = out ≡ message_text order message n
-IsOutputOf Json order message n offset out = IsJsonLine order message n offset out
-IsOutputOf Check order message n offset out = out ≡ []
-IsOutputOf (Swap wanted) order message n offset out = out ≡ message_bytes wanted message
-IsOutputOf (Filter selection) order message n offset out = IsFiltered selection order message out
+-- that text, if the message is the n-th of its input and begins at this offset there
+abbrev pub IsTextOf : Command → Order → MessageTree → (n offset : ℕ) → List ℕ → Type 0
+IsTextOf Show order message n offset text = text ≡ message_text order message n
+IsTextOf Json order message n offset text = IsJsonLine order message n offset text
+IsTextOf Check order message n offset text = text ≡ []
+IsTextOf (Swap wanted) order message n offset text = text ≡ message_bytes wanted message
+IsTextOf (Filter selection) order message n offset text = text ≡ message_bytes order message
 
--- what it writes of several, one after the other, of which the first is the n-th and begins at this offset
-abbrev pub IsOutputOfAll : Command → (n offset : ℕ) → List CutMessage → List ℕ → Type 0
-IsOutputOfAll command n offset [] out = out ≡ []
-IsOutputOfAll command n offset (item ∷ items) out = (one : List ℕ) × (more : List ℕ) × (out ≡ one ++ more)
+-- the texts that it makes of one message: one if it picks it, else none
+abbrev pub IsOutputOf : Command → Order → MessageTree → (n offset : ℕ) → List (List ℕ) → Type 0
+IsOutputOf command order message n offset texts =
+    (Picks command message × (text : List ℕ) × IsTextOf command order message n offset text × (texts ≡ text ∷ []))
+    ⊎ ((Picks command message → ⊥) × (texts ≡ []))
+
+-- those that it makes of several, one after the other, of which the first is the n-th and begins at this offset
+abbrev pub IsOutputOfAll : Command → (n offset : ℕ) → List CutMessage → List (List ℕ) → Type 0
+IsOutputOfAll command n offset [] texts = texts ≡ []
+IsOutputOfAll command n offset (item ∷ items) texts = (one : List (List ℕ)) × (more : List (List ℕ)) × (texts ≡ one ++ more)
     × IsOutputOf command item.order item.message n offset one × IsOutputOfAll command (n + 1) (offset + item.size) items more
 
 -- the messages and the fault after them determine each byte that the command writes. `json` may write a DOUBLE by any digits that read
@@ -62,9 +71,9 @@ last_line (Filter selection) count size fault = []
 
 -- what the first writer gets
 pub record IsFirstOutput (command : Command) (items : List CutMessage) (fault : Option Fault) (out : List ℕ) : Type 0 where
-  pub written : List ℕ
-  pub each : IsOutputOfAll command 1 0 items written
-  pub joined : out ≡ written ++ last_line command (length items) (sizes items) fault
+  pub texts : List (List ℕ)
+  pub each : IsOutputOfAll command 1 0 items texts
+  pub joined : out ≡ concat texts ++ last_line command (length items) (sizes items) fault
 
 -- a prefix of what the first writer gets
 abbrev pub IsFront : Command → List CutMessage → Option Fault → List ℕ → Type 0

@@ -63,15 +63,15 @@ IsLast goes_on limits kept rest (Refused fault) at_end =
 -- ---- what is made of its parts, and told of them
 
 -- texts of parts, one after the other, of which the first is the n-th of its input and begins at this offset
-abbrev pub AreTexts : (ℕ → ℕ → Part → List ℕ → Type 0) → (n offset : ℕ) → List Part → List ℕ → Type 0
+abbrev pub AreTexts : {A : Type 0} → (ℕ → ℕ → Part → List A → Type 0) → (n offset : ℕ) → List Part → List A → Type 0
 AreTexts Is n offset [] text = text ≡ []
-AreTexts Is n offset (part ∷ parts) text = (one : List ℕ) × (more : List ℕ) × (text ≡ one ++ more)
+AreTexts {A} Is n offset (part ∷ parts) text = (one : List A) × (more : List A) × (text ≡ one ++ more)
     × Is n offset part one × AreTexts Is (n + 1) (offset + size_of part) parts more
 
--- what a command makes of a part: of one that is passed over nothing
-abbrev pub IsMade : Command → (n offset : ℕ) → Part → List ℕ → Type 0
-IsMade command n offset (Whole item) out = IsOutputOf command item.order item.message n offset out
-IsMade command n offset (PassedOver kept fault size) out = out ≡ []
+-- the texts that a command makes of a part: of one that is passed over none
+abbrev pub IsMade : Command → (n offset : ℕ) → Part → List (List ℕ) → Type 0
+IsMade command n offset (Whole item) texts = IsOutputOf command item.order item.message n offset texts
+IsMade command n offset (PassedOver kept fault size) texts = texts ≡ []
 
 -- what is told of a part: of a message nothing. One is passed over only if the run is to go on
 abbrev pub IsToldOf : Settings → (n offset : ℕ) → Part → List ℕ → Type 0

@@ -1,9 +1,10 @@
 -- What the program does for the words of its command line.
-use Rattle.std.specs.Prelude.{◌≡◌, ◌⊎◌, ◌||◌, ℕ, ◌^◌, Bool, true, false, List, Option, Some, None, Result, Ok, Err, IfOk, string_bytes}
+use Rattle.std.specs.Prelude.{◌≡◌, ◌⊎◌, ℕ, ◌^◌, Bool, true, false, List, Option, Some, None, Result, Ok, Err, IfOk, string_bytes}
 use Rattle.clap.specs.Words.{Text}
 use Rattle.dbus_device.specs.Write.{Wrote, Stopped}
 use Rattle.dbus_command.specs.Named.{IsNamedBy}
 use Rattle.dbus_command.specs.Told.{TellsFault}
+use Rattle.dbus_command.specs.Windows.{ask_more}
 use Rattle.dbus_tool.specs.Devices.{Reading, Writing}
 use Rattle.dbus_tool.specs.Going.{RunsWith}
 use Rattle.dbus_tool.specs.Handshaking.{ReadsHandshake, Shows, StopsBy, TellsHandshake, ahead}
@@ -31,7 +32,7 @@ abbrev pub ShowsText : {W E : Type 0} → Writing W → Writing E → List ℕ �
 ShowsText w e text end = ((end ≡ status.Done) × Wrote w.held w.failures w.old text w.new × (e.new ≡ e.old))
     ⊎ ((end ≡ status.Failed) × Told e.held e.failures e.old e.new cause.WriteFailed × (n : ℕ) × Stopped w.held w.failures w.old text n w.new)
 
--- what is done for a command by its settings: by its limits alone, if neither explanations are wanted nor the messages after a refused one
+-- what is done for a command by its settings: by its limits alone, if they ask for no more
 abbrev pub RunsBy : {R W E : Type 0} → (more : Bool) → Reading R → Writing W → Writing E → Settings → Command → ExitStatus → Type 0
 RunsBy false r w e settings command end = Runs r w e settings.limits (2 ^ 32) command end
 RunsBy true r w e settings command end = RunsWith r w e settings (2 ^ 32) command end
@@ -41,12 +42,12 @@ module _ {R W E : Type 0} (left : R → Option (List ℕ)) (failures : R → ℕ
   abbrev pub RunsBehind : Side → Settings → Command → ExitStatus → Type 0
   RunsBehind side settings command end =
       ((begun : ReadAhead R) × ReadsHandshake left failures side old begun (Ok tt)
-      × RunsBy (settings.explains || settings.keeps_going) (ahead left failures begun new) w e settings command end)
+      × RunsBy (ask_more settings) (ahead left failures begun new) w e settings command end)
       ⊎ ((why : HandshakeFault) × ReadsHandshake left failures side old new (Err why) × (w.new ≡ w.old) × TellsHandshake e.held e.failures e.old e.new why end)
 
   -- what is done for a command by its settings, with all that the reader gives, or with what follows the handshake of a side
   abbrev pub RunsFrom : Option Side → Settings → Command → ExitStatus → Type 0
-  RunsFrom None settings command end = RunsBy (settings.explains || settings.keeps_going) (ahead left failures old new) w e settings command end
+  RunsFrom None settings command end = RunsBy (ask_more settings) (ahead left failures old new) w e settings command end
   RunsFrom (Some side) settings command end = RunsBehind side settings command end
 
   -- what is done for a command by its settings, or for words that name none

@@ -9,7 +9,7 @@ ghost use Rattle.dbus_tool.specs.Going.{IsUntold, PartsOf, RunsWith, TellsBy, Te
 use crate::ending::{Cause, ExitStatus};
 use crate::failing::give_up;
 use crate::gathered::Gathered;
-use crate::handing::hand_and_write;
+use crate::handing::{Before, hand_and_write};
 use crate::output::{Output, Plan, output_of};
 use crate::tally::{Tally, closing_line, tells_first};
 use crate::telling::{Refusal, refusal_text};
@@ -197,11 +197,17 @@ fn hand_parts<R: Source, A: Allocator + Copy, W: Sink, E: Sink>(
         passed: 0,
         passed_size: 0,
     };
+    let mut window = plan.settings.window;
     'parts: loop {
-        let counted = match hand_and_write(alloc, plan, tally.count, messages, gathered, first) {
-            Ok(counted) => counted,
+        let before = Before {
+            count: tally.count,
+            window,
+        };
+        let (counted, left) = match hand_and_write(alloc, plan, before, messages, gathered, first) {
+            Ok(handed) => handed,
             Err(cause) => return Err(Stop::Cause(cause)),
         };
+        window = left;
         tally = tally.up_to(counted);
         let fault = match counted.fault {
             Some(fault) => fault,

@@ -5,14 +5,15 @@ ghost use Rattle.dbus_tool.specs.Counting.{ended_by, stopped_by};
 ghost use Rattle.dbus_tool.specs.Devices.{writing};
 ghost use Rattle.dbus_tool.specs.Gathering.{GathersOrNot, gathered_bytes};
 ghost use Rattle.dbus_tool.specs.Handing.{GivesNext};
-ghost use Rattle.dbus_tool.specs.Onward.{RawHandsOn};
+ghost use Rattle.dbus_tool.specs.Onward.{RawHandsOn, with_window};
 ghost use Rattle.dbus_tool.specs.Commands.{command_of};
 
 use crate::ending::{Cause, Counted, NoMessage};
 use crate::gathered::Gathered;
 use crate::gathering::{Unwritten, write_out};
-use crate::output::{Plan, write_one};
-use crate::place::Place;
+use crate::output::{Plan, hand_one};
+use crate::place::{Lent, Place};
+use dbus_command::Window;
 use dbus_stream::{RawReader, ReadFault, Sink, Source};
 use dbus_validate::Validated;
 use std::alloc::Allocator;
@@ -63,18 +64,28 @@ fn read_message<R: Source, A: Allocator + Copy, W: Sink>(
     }
 }
 
-// Writes what is wanted of each message of the reader, before which so many came, up to the end of the input or a fault.
+/// Where a run stands between messages.
+#[derive(Clone, Copy)]
+pub(crate) struct Before {
+    /// How many messages came before.
+    pub(crate) count: u64,
+    /// The window for those that follow.
+    pub(crate) window: Window,
+}
+
+// Writes what is wanted of each message of the reader, up to the end of the input or a fault. Returns also the window for those that
+// follow.
 fn hand_all<R: Source, A: Allocator + Copy, W: Sink>(
     alloc: A,
     plan: Plan,
-    before: u64,
+    before: Before,
     messages: &mut RawReader<R, A>,
     gathered: &mut Gathered,
     first: &mut W,
-) -> Result<Counted, Cause>
+) -> Result<(Counted, Window), Cause>
     requires unstopped { stopped_of messages.old ≡ None }
     requires within { limits_of messages.old ≡ plan.settings.limits }
-    requires few { before ≤ done_of messages.old }
+    requires few { before.count ≤ done_of messages.old }
     ensures hands { RawHandsOn R.left R.calls R.failures W.held W.failures plan.entry.settings.limits (command_of plan.entry.output) before
         messages.old messages.new (gathered_bytes gathered.old) (gathered_bytes gathered.new) first.old first.new result }
     ensures same_reference { R.reference (source_of messages.new) ≡
@@ -82,43 +93,55 @@ fn hand_all<R: Source, A: Allocator + Copy, W: Sink>(
 {
     let output = plan.output;
     let limits = plan.settings.limits;
-    let mut count = before;
+    let mut count = before.count;
+    let mut window = before.window;
     let mut spare = Vec::new(alloc);
     'messages: loop {
         let offset = messages.done();
         match next_message(messages, gathered, first) {
             Ok(Some(validated)) => {
                 count += 1;
-                let message = messages.message();
-                let place = Place {
-                    number: count,
-                    offset,
+                let lent = Lent {
+                    bytes: messages.message(),
+                    validated,
+                    limits,
+                    place: Place {
+                        number: count,
+                        offset,
+                    },
                 };
-                match write_one(
-                    output, message, &validated, limits, place, &mut spare, gathered, first,
-                ) {
+                match hand_one(output, lent, &mut window, &mut spare, gathered, first) {
                     Ok(()) => {}
                     Err(cause) => return Err(cause),
                 }
             }
             Ok(None) => {
-                return Ok(Counted {
+                let counted = Counted {
                     count,
                     size: messages.done(),
                     fault: None,
-                });
+                };
+                return Ok((counted, window));
             }
-            Err(stop) => return stopped_by(count, messages.done(), stop),
+            Err(stop) => return stopped_by(count, messages.done(), window, stop),
         }
     }
 }
 
 // How the run goes on if no message follows.
-fn stopped_by(count: u64, size: u64, stop: NoMessage) -> Result<Counted, Cause>
-    ensures { result ≡ stopped_by count size stop }
+fn stopped_by(
+    count: u64,
+    size: u64,
+    window: Window,
+    stop: NoMessage,
+) -> Result<(Counted, Window), Cause>
+    ensures { result ≡ with_window window (stopped_by count size stop) }
 {
     match stop {
-        NoMessage::Reader(fault) => ended_by(count, size, fault),
+        NoMessage::Reader(fault) => match ended_by(count, size, fault) {
+            Ok(counted) => Ok((counted, window)),
+            Err(cause) => Err(cause),
+        },
         NoMessage::Writer => Err(Cause::WriteFailed),
     }
 }
@@ -139,19 +162,19 @@ pub(crate) fn ended_by(count: u64, size: u64, fault: ReadFault) -> Result<Counte
     }
 }
 
-/// Writes what is wanted of each message of the reader, before which so many came, up to the end of the input or a fault, and then
-/// what is gathered.
+/// Writes what is wanted of each message of the reader, up to the end of the input or a fault, and then what is gathered. Returns also
+/// the window for those that follow.
 pub(crate) fn hand_and_write<R: Source, A: Allocator + Copy, W: Sink>(
     alloc: A,
     plan: Plan,
-    before: u64,
+    before: Before,
     messages: &mut RawReader<R, A>,
     gathered: &mut Gathered,
     first: &mut W,
-) -> Result<Counted, Cause>
+) -> Result<(Counted, Window), Cause>
     requires unstopped { stopped_of messages.old ≡ None }
     requires within { limits_of messages.old ≡ plan.settings.limits }
-    requires few { before ≤ done_of messages.old }
+    requires few { before.count ≤ done_of messages.old }
     requires empty { gathered_bytes gathered.old ≡ [] }
     ensures hands { RawHandsOn R.left R.calls R.failures W.held W.failures plan.entry.settings.limits (command_of plan.entry.output) before
         messages.old messages.new [] [] first.old first.new result }
@@ -160,8 +183,8 @@ pub(crate) fn hand_and_write<R: Source, A: Allocator + Copy, W: Sink>(
         R.reference (source_of messages.old) }
 {
     match hand_all(alloc, plan, before, messages, gathered, first) {
-        Ok(counted) => match write_out(gathered, first) {
-            Ok(()) => Ok(counted),
+        Ok(handed) => match write_out(gathered, first) {
+            Ok(()) => Ok(handed),
             Err(Unwritten) => Err(Cause::WriteFailed),
         },
         Err(Cause::Memory) => Err(out_of_memory(gathered, first)),

@@ -27,9 +27,12 @@ mod showing;
 mod swapping;
 mod tally;
 mod telling;
+mod window;
 mod words;
 
-pub use dbus_command::{Command, RefusedRule, Selection, Settings, Side, UsageFault, command_of};
+pub use dbus_command::{
+    Command, RefusedRule, Selection, Settings, Side, UsageFault, Window, command_of,
+};
 pub use dbus_handshake_input::ReadAhead;
 pub use ending::ExitStatus;
 pub use going::run_with;

@@ -1,25 +1,27 @@
 //! What is written of each message.
-ghost use Rattle.std.specs.Prelude.{◌≡◌, ℕ, List, length};
+ghost use Rattle.std.specs.Prelude.{◌≡◌, ◌↔◌, ℕ, IsTrue, List, length};
 ghost use Rattle.dbus_value_model.specs.declared.order.Order.{Order};
 ghost use Rattle.dbus_message_model.specs.Messages.{MessageTree};
 ghost use Rattle.dbus_header.specs.MessageOutcomes.{IsWhole};
 ghost use Rattle.dbus_validate.specs.Validating.{IsValidatedWhole};
 ghost use Rattle.dbus_tool.specs.Gathering.{gathered_bytes};
 ghost use Rattle.dbus_tool.specs.Devices.{writing};
-ghost use Rattle.dbus_tool.specs.Handing.{HandsOne};
+ghost use Rattle.dbus_tool.specs.Handing.{HandsOne, WritesOne};
+ghost use Rattle.dbus_tool.specs.Output.{Picks};
 ghost use Rattle.dbus_tool.specs.Commands.{command_of};
 
 use crate::ending::Cause;
-use crate::filtering::filter;
+use crate::filtering::is_selected;
 use crate::gathered::Gathered;
+use crate::gathering::put_out;
 use crate::json_lines::write_json_line;
-use crate::place::Place;
+use crate::place::Lent;
 use crate::showing::show;
 use crate::swapping::swap;
-use dbus_command::{Command, Selection, Settings};
+use crate::window::lets_through;
+use dbus_command::{Command, Selection, Settings, Window};
 use dbus_stream::Sink;
-use dbus_validate::Validated;
-use dbus_value::{Limits, Order};
+use dbus_value::Order;
 use std::alloc::Allocator;
 
 /// What a command writes of each message.
@@ -57,29 +59,75 @@ pub(crate) fn output_of(command: &Command) -> Output<'_>
     }
 }
 
-/// Writes or gathers what is wanted of a message, which has these bytes, as they were validated, and this place in the input. A message is
-/// byteswapped in `spare`, so that only a longer one than those before takes memory.
-pub(crate) fn write_one<A: Allocator + Copy, W: Sink>(
+/// Whether the command makes a text of the message.
+fn picks(output: Output, lent: Lent) -> bool
+    requires { IsValidatedWhole lent.limits lent.bytes.now lent.validated }
+    ensures { (order : Order) (m : MessageTree) →
+        IsWhole lent.entry.limits lent.entry.bytes.now order m (length lent.entry.bytes.now) →
+        IsTrue result ↔ Picks (command_of output.entry) m }
+{
+    match output {
+        Output::Nothing => false,
+        Output::Text => true,
+        Output::JsonLine => true,
+        Output::InOrder(_) => true,
+        Output::Matching(selection) => {
+            is_selected(selection, lent.bytes, &lent.validated, lent.limits)
+        }
+    }
+}
+
+// Writes or gathers the text that the command makes of the message. A message is byteswapped in `spare`, so that only a longer one than
+// those before takes memory.
+fn write_one<A: Allocator + Copy, W: Sink>(
     output: Output,
-    bytes: &[u8],
-    validated: &Validated,
-    limits: Limits,
-    place: Place,
+    lent: Lent,
     spare: &mut Vec<u8, A>,
     gathered: &mut Gathered,
     first: &mut W,
 ) -> Result<(), Cause>
-    requires { IsValidatedWhole limits bytes.now validated.now }
+    requires { IsValidatedWhole lent.limits lent.bytes.now lent.validated }
     ensures { (order : Order) (m : MessageTree) →
-        IsWhole limits bytes.now order m (length bytes.now) →
-        HandsOne (writing W.held W.failures first.old first.new) (command_of output.entry) order m place
+        IsWhole lent.entry.limits lent.entry.bytes.now order m (length lent.entry.bytes.now) →
+        WritesOne (writing W.held W.failures first.old first.new) (command_of output.entry) order m lent.entry.place
         (gathered_bytes gathered.old) (gathered_bytes gathered.new) result }
 {
+    let Lent {
+        bytes,
+        validated,
+        limits,
+        place,
+    } = lent;
     match output {
         Output::Nothing => Ok(()),
-        Output::Text => show(bytes, validated, limits, place.number, gathered, first),
-        Output::JsonLine => write_json_line(bytes, validated, limits, place, gathered, first),
-        Output::InOrder(wanted) => swap(wanted, bytes, validated, limits, spare, gathered, first),
-        Output::Matching(selection) => filter(selection, bytes, validated, limits, gathered, first),
+        Output::Text => show(bytes, &validated, limits, place.number, gathered, first),
+        Output::JsonLine => write_json_line(bytes, &validated, limits, place, gathered, first),
+        Output::InOrder(wanted) => swap(wanted, bytes, &validated, limits, spare, gathered, first),
+        Output::Matching(_) => put_out(bytes, gathered, first),
+    }
+}
+
+/// Writes or gathers what the window lets through of what the command makes of the message.
+pub(crate) fn hand_one<A: Allocator + Copy, W: Sink>(
+    output: Output,
+    lent: Lent,
+    window: &mut Window,
+    spare: &mut Vec<u8, A>,
+    gathered: &mut Gathered,
+    first: &mut W,
+) -> Result<(), Cause>
+    requires { IsValidatedWhole lent.limits lent.bytes.now lent.validated }
+    ensures { (order : Order) (m : MessageTree) →
+        IsWhole lent.entry.limits lent.entry.bytes.now order m (length lent.entry.bytes.now) →
+        HandsOne (writing W.held W.failures first.old first.new) (command_of output.entry) window.old window.new order m
+        lent.entry.place (gathered_bytes gathered.old) (gathered_bytes gathered.new) result }
+{
+    if !picks(output, lent) {
+        return Ok(());
+    }
+    if lets_through(window) {
+        write_one(output, lent, spare, gathered, first)
+    } else {
+        Ok(())
     }
 }

@@ -1,4 +1,6 @@
-//! Which message of an input one is.
+//! A message of an input, and which of its messages it is.
+use dbus_validate::Validated;
+use dbus_value::Limits;
 
 /// The place of a message among the messages of its input.
 #[derive(Clone, Copy, Debug, PartialEq, Eq)]
@@ -7,4 +9,14 @@ pub(crate) struct Place {
     pub(crate) number: u64,
     /// Where it begins, in bytes from the start of the input.
     pub(crate) offset: u64,
+}
+
+/// A message of an input.
+#[derive(Clone, Copy)]
+pub(crate) struct Lent<'a> {
+    /// Its bytes, and what is known of them since they were validated under these limits.
+    pub(crate) bytes: &'a [u8],
+    pub(crate) validated: Validated,
+    pub(crate) limits: Limits,
+    pub(crate) place: Place,
 }

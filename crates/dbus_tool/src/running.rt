@@ -10,7 +10,7 @@ use crate::ending::ExitStatus;
 use crate::failing::give_up;
 use crate::going::{hand_over, tell_stop};
 use crate::output::{Plan, output_of};
-use dbus_command::{Command, Settings};
+use dbus_command::{Command, Settings, Window};
 use dbus_stream::{MOST_READS, Sink, Source};
 use dbus_value::Limits;
 use std::alloc::Allocator;
@@ -103,6 +103,10 @@ pub fn run_within<A: Allocator + Copy, R: Source, W: Sink, E: Sink>(
                     explains: false,
                     keeps_going: false,
                     handshake: None,
+                    window: Window {
+                        skip: 0,
+                        limit: None,
+                    },
                 },
             };
             match hand_over(alloc, plan, reads, reader, first, second) {

@@ -1,5 +1,6 @@
 //! The program over the words of its command line.
-ghost use Rattle.std.specs.Prelude.{◌≤◌, ◌||◌, ◌^◌, map, string_bytes};
+ghost use Rattle.std.specs.Prelude.{◌≤◌, ◌^◌, map, string_bytes};
+ghost use Rattle.dbus_command.specs.Windows.{ask_more};
 ghost use Rattle.dbus_tool.specs.Devices.{reading, writing};
 ghost use Rattle.dbus_tool.specs.Handshaking.{Shows, TellsHandshake};
 ghost use Rattle.dbus_tool.specs.Words.{RefusesRule, RunsBy, RunsFrom, RunsWords, ShowsText};
@@ -16,7 +17,8 @@ use dbus_stream::{MOST_READS, Sink, Source, WrittenOnly, write_all};
 use std::alloc::Global;
 
 /// Does what [`run_with`] does for the command that the words name, of which the first is the program's name, by the settings
-/// that they name and with at most 2^32 reads; or, if they ask neither for explanations nor to keep going, what [`run_within`] does.
+/// that they name and with at most 2^32 reads; or, if they ask neither for explanations nor to keep going nor for a
+/// window, what [`run_within`] does.
 /// If the words ask for help, its text goes to the first writer. If they name no command, a text that says how goes to the second;
 /// and if they name `filter` with a text that spells no rule, `rule refused at P: NAME` and LF, the place in that text and the name
 /// of the reason, and then the lines that explain it, if they ask for explanations.
@@ -83,13 +85,13 @@ fn run_by<R: Source, W: Sink, E: Sink>(
     first: &mut W,
     second: &mut E,
 ) -> ExitStatus
-    ensures { RunsBy (settings.explains || settings.keeps_going)
+    ensures { RunsBy (ask_more settings)
         (reading R.left R.calls R.failures reader.old reader.new)
         (writing W.held W.failures first.old first.new)
         (writing E.held E.failures second.old second.new)
         settings command result }
 {
-    if settings.explains || settings.keeps_going {
+    if settings.ask_more() {
         run_with(alloc, command, settings, MOST_READS, reader, first, second)
     } else {
         let limits = settings.limits;

@@ -239,6 +239,26 @@ fn flags(rt: HostRuntime) -> Result<(), Fail> {
     Ok(())
 }
 
+// Words, and the numbers of the window that they name.
+const WINDOWS: &[(&[&str], u32, Option<u32>)] = &[
+    (&["check"], 0, None),
+    (&["show", "--skip", "3"], 3, None),
+    (&["json", "--limit=0"], 0, Some(0)),
+    (&["filter", "--skip=4294967295", "", "--limit", "4294967295"], u32::MAX, Some(u32::MAX)),
+];
+
+#[test]
+fn windows(rt: HostRuntime) -> Result<(), Fail> {
+    for (n, (words, skip, limit)) in WINDOWS.iter().enumerate() {
+        let Ok((_, named)) = answer_to(rt.alloc(), words)? else {
+            return Err(Fail::new("no command"));
+        };
+        assert_eq!(rt; named.window.skip, *skip, "at {n}");
+        assert_eq!(rt; named.window.limit, *limit, "at {n}");
+    }
+    Ok(())
+}
+
 // Words, and the side whose handshake they say comes first.
 const SIDED: &[(&[&str], Option<Side>)] = &[
     (&["check"], None),
@@ -347,6 +367,8 @@ const USAGES: &[(&[&str], &str)] = &[
     (&["check", "--max-depth", "1", "--max-depth=1"], TWO_DEPTHS),
     (&["--max-depth", "1", "check"], DEPTH_BEFORE_COMMAND),
     (&["swap", "--to", "l", "--keep-going"], SWAP_GOING_ON),
+    (&["check", "--skip", "1"], CHECK_SKIPPING),
+    (&["filter", "", "--limit=4294967296"], MANY_MESSAGES),
     (&["show", "--explain", "--explain"], TWO_EXPLAINS),
     (&["check", "--keep-going=1"], WORD_OF_FLAG),
     (&["show", "--fds", "none"], NO_FDS_RULE),

@@ -152,6 +152,21 @@ const REFUSED: &[(&[&str], usize, &[&[u8]], &[u8], &[u8])] = &[
         NO_LENGTH,
         b"",
     ),
+    // A refused message is neither skipped nor one of those that are written, and what follows the last is read.
+    (
+        &["show", "--keep-going", "--skip", "1"],
+        7,
+        &[RETURN, BARE_WITH_BODY, BIG_RETURN],
+        BIG_AS_THIRD,
+        PASSED,
+    ),
+    (
+        &["filter", "", "--limit", "1"],
+        64,
+        &[RETURN, BIG_RETURN, WRONG_VERSION],
+        RETURN,
+        b"refused at 51: Version\n",
+    ),
     // The input ends within the message that is to be passed over.
     (
         &["check", "--keep-going"],
@@ -193,5 +208,30 @@ fn refusals_that_are_explained_or_passed_over(rt: HostRuntime) -> Result<(), Fai
     let (end, _, reads) = ran_words(rt.alloc(), words, RETURN, [BY_ONE; 3])?;
     assert_end(&rt, 0, &end, ExitStatus::Usage, b"", NO_RULE);
     assert_eq!(rt; reads, 0);
+    Ok(())
+}
+
+// Words, the input, and what is written on the first writer.
+const WINDOWED: &[(&[&str], &[&[u8]], &[u8])] = &[
+    (&["show", "--skip", "1"], &[RETURN, BIG_RETURN], BIG_AS_SECOND),
+    (&["show", "--limit", "1"], &[RETURN, BIG_RETURN], RETURN_TEXT),
+    (&["json", "--limit", "1"], &[RETURN, SIGNAL], RETURN_JSON),
+    (&["json", "--skip", "1", "--limit", "1"], &[RETURN, SIGNAL, RETURN], SIGNAL_JSON_AS_SECOND),
+    (&["show", "--skip", "2", "--limit", "1"], &[RETURN, RETURN, BIG_RETURN], BIG_AS_THIRD),
+    (&["show", "--skip", "2"], &[RETURN, RETURN], b""),
+    (&["show", "--limit", "0"], &[RETURN], b""),
+    // A message that no rule matches is not counted.
+    (&["filter", "type='method_return'", "--skip", "1"], &[SIGNAL, RETURN, SIGNAL, BIG_RETURN], BIG_RETURN),
+    (&["filter", "type='signal'", "--limit", "1"], &[RETURN, SIGNAL, RETURN, SIGNAL], SIGNAL),
+    (&["filter", "--invert", "type='signal'", "--skip=1", "--limit=1"], &[RETURN, SIGNAL, BIG_RETURN, RETURN], BIG_RETURN),
+];
+
+#[test]
+fn windows(rt: HostRuntime) -> Result<(), Fail> {
+    for (n, (words, input, first)) in WINDOWED.iter().enumerate() {
+        let input = joined(rt.alloc(), input)?;
+        let (end, _, _) = ran_words(rt.alloc(), words, input.as_slice(), [BY_ONE; 3])?;
+        assert_end(&rt, n, &end, ExitStatus::Done, first, b"");
+    }
     Ok(())
 }

@@ -53,6 +53,8 @@ Writes each message as text
 Usage: dbus-wire show [OPTIONS]
 
 Options:
+      --skip <N>          Messages to skip first: 0, the default, to 4294967295
+      --limit <N>         Most messages to write after these: 0 to 4294967295
       --keep-going        Goes on after a refused message
       --explain           Explains what is refused, in three more lines
       --max-message <N>   Most bytes of a message: 0 to 134217728, the default
@@ -100,6 +102,8 @@ Writes each message as a line of JSON
 Usage: dbus-wire json [OPTIONS]
 
 Options:
+      --skip <N>          Messages to skip first: 0, the default, to 4294967295
+      --limit <N>         Most messages to write after these: 0 to 4294967295
       --keep-going        Goes on after a refused message
       --explain           Explains what is refused, in three more lines
       --max-message <N>   Most bytes of a message: 0 to 134217728, the default
@@ -245,6 +249,8 @@ Arguments:
 Options:
       --invert               Writes the messages that match none of the rules
       --owner <NAME=UNIQUE>  The owner of a name, as org.a.B=:1.7; any number
+      --skip <N>             Messages to skip first: 0, the default, to 4294967295
+      --limit <N>            Most messages to write after these: 0 to 4294967295
       --keep-going           Goes on after a refused message
       --explain              Explains what is refused, in three more lines
       --max-message <N>      Most bytes of a message: 0 to 134217728, the default

@@ -59,7 +59,7 @@ pub(crate) fn ran<A: Allocator + Copy, R: Source + Drop>(
     let mut reader = reader;
     let mut first = FromWrite::new(Vec::new(alloc));
     let mut second = FromWrite::new(Vec::new(alloc));
-    let status = if settings.explains || settings.keeps_going {
+    let status = if settings.ask_more() {
         run_with(
             heap,
             command,

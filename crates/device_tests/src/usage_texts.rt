@@ -130,6 +130,12 @@ pub(crate) const TOO_DEEP: &str = bad_value!("--max-depth", "65", "65 is not in 
 
 pub(crate) const BELOW_ZERO: &str = bad_value!("--max-depth", "-1", "-1 is not in 0..=64");
 
+pub(crate) const MANY_MESSAGES: &str = bad_value!(
+    "--limit",
+    "4294967296",
+    "4294967296 is not in 0..=4294967295"
+);
+
 pub(crate) const NO_NUMBER: &str = bad_value!(
     "--max-message",
     "1k",
@@ -176,6 +182,14 @@ pub(crate) const SWAP_GOING_ON: &str = "\
 error: unexpected argument '--keep-going' found
 
 Usage: dbus-wire swap --to <ORDER>
+
+For more information, try '--help'.
+";
+
+pub(crate) const CHECK_SKIPPING: &str = "\
+error: unexpected argument '--skip' found
+
+Usage: dbus-wire check [OPTIONS]
 
 For more information, try '--help'.
 ";

@@ -1,6 +1,6 @@
 use Rattle.std.proofs.lemmas.Result.{err_from_is_err_and}
 use Rattle.clap.specs.Words.{found_of, rows_of}
-use Rattle.dbus_command.specs.Limiting.{HasLimits}
+use Rattle.dbus_command.specs.Limiting.{HasLimits, HasWindow}
 use Rattle.dbus_command.specs.Named.{HasSettings, HasSide}
 use Rattle.dbus_command.proofs.Tells.{part_told}
 use Rattle.dbus_command.proofs.command_line.settings_named.Goals as goal
@@ -16,3 +16,9 @@ returns-in_err-handshake c =
     let rows = rows_of (found_of c.args.inner.now) in
     let p = err_from_is_err_and c.from_residual-in_err-handshake.result c.from_residual-in_err-handshake.ensures.1 in
     rw (p.1, p.2) (part_told (HasSide rows) (HasSettings rows) (λ settings has. (settings.handshake, has.handshake)) c.in_err-handshake.field-0.0 c.in_err-handshake.ensures)
+
+pub returns-in_err-window : goal.returns-in_err-window
+returns-in_err-window c =
+    let rows = rows_of (found_of c.args.inner.now) in
+    let p = err_from_is_err_and c.from_residual-in_err-window.result c.from_residual-in_err-window.ensures.1 in
+    rw (p.1, p.2) (part_told (HasWindow rows) (HasSettings rows) (λ settings has. (settings.window, has.window)) c.in_err-window.field-0.0 c.in_err-window.ensures)

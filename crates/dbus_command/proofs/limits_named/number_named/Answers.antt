@@ -1,20 +1,13 @@
-use Rattle.std.proofs.Common.{sym, subst}
-use Rattle.std.specs.Str.Parse.{ParsesUnsigned, ExplainsUnsignedError, HasUnsignedDigitsIfOk}
-use Rattle.clap.specs.Words.{found_of, one_text}
-use Rattle.clap.proofs.WalkLemmas.{one_text-rows}
+use Rattle.std.proofs.Common.{ℕ, sym, subst}
+use Rattle.clap.specs.Words.{found_of, one_of, rows_of}
 use Rattle.dbus_command.specs.Limiting.{IsNumberOf}
-use Rattle.dbus_command.proofs.Numbers.{number_read, number_unread}
+use Rattle.dbus_command.proofs.Numbers.{number_or, no_number}
 use Rattle.dbus_command.proofs.limits_named.number_named.Goals as goal
 
-pub returns-in-Ok : goal.returns-in-Ok
-returns-in-Ok c =
-    let read = number_read (λ bs r. ParsesUnsigned 32 10 bs r × ExplainsUnsignedError 10 bs r × HasUnsignedDigitsIfOk bs r) (λ text r given. given.0) c.args.most
-    (one_text (found_of c.args.inner.now) c.args.name.now) c.in-Ok.given c.in-Ok.ensures.none c.in-Ok.ensures.value in
-    subst (λ given. IsNumberOf given c.args.most c.unwrap_or.result) (one_text-rows (found_of c.args.inner.now) c.args.name.now)
-    (subst (IsNumberOf (one_text (found_of c.args.inner.now) c.args.name.now) c.args.most) (sym c.unwrap_or.ensures) read)
+pub returns-in-Some : goal.returns-in-Some
+returns-in-Some c =
+    subst (λ (n : ℕ). IsNumberOf (one_of c.args.name.now (rows_of (found_of c.args.inner.now))) c.args.most n) (sym c.unwrap_or.ensures)
+    (number_or (one_of c.args.name.now (rows_of (found_of c.args.inner.now))) c.args.most c.in-Some.given c.in-Some.ensures)
 
-pub returns-in-Err : goal.returns-in-Err
-returns-in-Err c number is =
-    number_unread (λ bs r. ParsesUnsigned 32 10 bs r × ExplainsUnsignedError 10 bs r × HasUnsignedDigitsIfOk bs r) (λ text r given. given.0) c.args.most
-    (one_text (found_of c.args.inner.now) c.args.name.now) c.in-Err.field-0 c.in-Err.ensures.none c.in-Err.ensures.value number
-    (subst (λ given. IsNumberOf given c.args.most number) (sym (one_text-rows (found_of c.args.inner.now) c.args.name.now)) is)
+pub returns-in-None : goal.returns-in-None
+returns-in-None c = no_number (one_of c.args.name.now (rows_of (found_of c.args.inner.now))) c.args.most c.in-None.ensures

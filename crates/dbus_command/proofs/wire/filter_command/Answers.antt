@@ -2,7 +2,7 @@ use Rattle.std.proofs.Common.{◌≡◌, ap, ap₂, ◌∙◌, rules, false, cod
 use Rattle.std.proofs.lemmas.Result.{IfOk-weaker}
 use Rattle.clap.specs.Words.{app_of, new_app, with_rule}
 use Rattle.clap.specs.declared.builder.command.Command.TheViews.{out-Command}
-use Rattle.dbus_command.specs.CommandLine.{with_keep_going}
+use Rattle.dbus_command.specs.CommandLine.{with_window}
 use Rattle.dbus_command.proofs.Options.{same_locals}
 use Rattle.dbus_command.proofs.wire.filter_command.Goals as goal
 
@@ -16,7 +16,7 @@ returns c =
     let first = same_locals _ _ _ c.in_ok-ruled.ensures c.rule_argument.ensures.local in
     let second = same_locals _ _ _ c.in_ok-inverting.ensures c.flag.ensures.local in
     let third = same_locals _ _ _ c.in_ok-owning.ensures c.owner_option.ensures.local in
-    IfOk-weaker c.with_keep_going.result _ _ (λ m h. record {
-      app_is = h.app_is ∙ ap with_keep_going owning;
+    IfOk-weaker c.with_window.result _ _ (λ m h. record {
+      app_is = h.app_is ∙ ap with_window owning;
       local = h.as_local ∙ (third ∙ (second ∙ (first ∙ none)));
-    }) c.with_keep_going.ensures
+    }) c.with_window.ensures

@@ -1,4 +1,4 @@
-use Rattle.std.proofs.Common.{◌≡◌, ◌≤◌, ◌<◌, ◌^◌, ◌++◌, [], drop, Ok, arith, refl, sym, ap, ◌∙◌, subst}
+use Rattle.std.proofs.Common.{◌≡◌, ◌≤◌, ◌<◌, ◌^◌, ◌++◌, [], inr, drop, Ok, arith, refl, sym, ap, ◌∙◌, subst}
 use Rattle.dbus_header.proofs.OutcomeLaws.{whole_inside}
 use Rattle.dbus_stream.specs.CheckReading.{GivesLength, limits_of, Reads}
 use Rattle.dbus_stream.specs.Cut.{CutMessage, Ended}
@@ -7,11 +7,13 @@ use Rattle.dbus_stream.specs.Reading.{done_of, most_reads_of, source_of}
 use Rattle.dbus_command.specs.declared.command.Command.TheVariants.{Check}
 use Rattle.dbus_tool.specs.Counting.{Tallies, ended_by}
 use Rattle.dbus_tool.specs.Devices.{reading, taken}
+use Rattle.dbus_tool.specs.Gathering.{Passes}
 use Rattle.dbus_tool.specs.PageLaws.{passes_none}
 use Rattle.dbus_tool.proofs.GivenSteps.{written_out}
 use Rattle.dbus_tool.proofs.ReadSteps.{length-sizes}
 use Rattle.dbus_tool.proofs.HandSteps.{hands_none, hands_more, hands_all, hands_faulted}
-use Rattle.dbus_tool.proofs.CountSteps.{check_faults, tallied, unwritten}
+use Rattle.dbus_tool.proofs.CountSteps.{check_faults, from_start, tallied, unwritten}
+use Rattle.dbus_tool.proofs.WindowLaws.{written_none}
 use Rattle.dbus_tool.proofs.counting.count_all.Goals as goal
 use Rattle.dbus_tool.proofs.counting.count_all.Goals.{In-Ok-Some}
 
@@ -20,7 +22,7 @@ messages-init g c =
     let new = c.requires in (
       [],
       new.kept,
-      hands_none lengths g.R.Source.left g.R.Source.calls g.R.Source.failures unwritten.held unwritten.failures (limits_of c.args.messages.now) Check [] 0 c.args.messages.now [] tt refl new.stopped,
+      hands_none lengths g.R.Source.left g.R.Source.calls g.R.Source.failures unwritten.held unwritten.failures (limits_of c.args.messages.now) Check [] from_start c.args.messages.now [] tt refl new.stopped,
       refl,
     )
 
@@ -47,7 +49,8 @@ messages-preserved g c =
     let item : CutMessage = record { order = gives.order; message = gives.message; size = c.in-Ok-Some.field-0-0 } in (
       drop item.size (c.messages.invariant.0 ++ given.0.bytes),
       gives.kept,
-      hands_more c.messages.invariant.2 given.0 item [] gives.whole gives.done gives.unstopped c.in-Ok-Some.ensures.failed refl (passes_none unwritten.held unwritten.failures [] tt),
+      hands_more c.messages.invariant.2 given.0 item [] from_start.window gives.whole gives.done gives.unstopped c.in-Ok-Some.ensures.failed (inr (λ never. never, refl)) refl
+          (subst (λ l. Passes unwritten.held unwritten.failures l [] [] tt tt) (sym (written_none from_start.window)) (passes_none unwritten.held unwritten.failures [] tt)),
       c.next.ensures.same_reference ∙ c.messages.invariant.3,
     )
 

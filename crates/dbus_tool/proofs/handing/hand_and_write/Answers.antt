@@ -4,6 +4,7 @@ use Rattle.dbus_stream.specs.RawReading.{kept}
 use Rattle.dbus_tool.specs.Gathering.{Passes, GathersOrNot, gathered_bytes}
 use Rattle.dbus_tool.specs.Commands.{command_of}
 use Rattle.dbus_tool.specs.Onward.{HandsRawOn, HandsSomeOn}
+use Rattle.dbus_tool.specs.Windows.{written}
 use Rattle.dbus_tool.specs.declared.ending.Cause.TheVariants.{Memory}
 use Rattle.dbus_tool.proofs.GatherSteps.{passes_nothing, breaks_nothing}
 use Rattle.dbus_tool.proofs.HandSteps.{hands_flushed}
@@ -12,10 +13,10 @@ use Rattle.dbus_tool.proofs.handing.hand_and_write.Goals.{In-Ok}
 
 -- all messages were handed on, where nothing was gathered before
 handed : (g : _) (c : In-Ok g) → HandsRawOn g.R.Source.left g.R.Source.calls g.R.Source.failures g.W.Sink.held g.W.Sink.failures c.args.plan.settings.limits (command_of c.args.plan.output) c.args.before
-    c.in-Ok.counted c.args.messages.now c.hand_all.new.messages [] (gathered_bytes c.hand_all.new.gathered) c.args.first.now c.hand_all.new.first
+    c.in-Ok.handed.0 c.in-Ok.handed.1 c.args.messages.now c.hand_all.new.messages [] (gathered_bytes c.hand_all.new.gathered) c.args.first.now c.hand_all.new.first
 handed g c =
     subst (λ (l : List ℕ). HandsRawOn g.R.Source.left g.R.Source.calls g.R.Source.failures g.W.Sink.held g.W.Sink.failures c.args.plan.settings.limits (command_of c.args.plan.output) c.args.before
-    c.in-Ok.counted c.args.messages.now c.hand_all.new.messages l (gathered_bytes c.hand_all.new.gathered) c.args.first.now c.hand_all.new.first) c.requires.empty c.in-Ok.ensures.hands
+    c.in-Ok.handed.0 c.in-Ok.handed.1 c.args.messages.now c.hand_all.new.messages l (gathered_bytes c.hand_all.new.gathered) c.args.first.now c.hand_all.new.first) c.requires.empty c.in-Ok.ensures.hands
 
 pub returns-in-Ok-write_out-clause-hands : goal.returns-in-Ok-write_out-clause-hands
 returns-in-Ok-write_out-clause-hands g c =
@@ -33,10 +34,11 @@ returns-in-Ok-write_out-clause-hands g c =
         size_is = a.size_is;
         fault_is = a.fault_is;
         done = a.done;
-        out = a.out;
+        texts = a.texts;
         output = a.output;
-        passes = subst (λ (l : List ℕ). Passes g.W.Sink.held g.W.Sink.failures a.out [] l c.args.first.now c.write_out.new.first) c.in-Ok-write_out.ensures.emptied
-            (passes_nothing g.W.Sink.held g.W.Sink.failures a.out [] (gathered_bytes c.hand_all.new.gathered) (gathered_bytes c.write_out.new.gathered) c.args.first.now c.hand_all.new.first c.write_out.new.first
+        window_is = a.window_is;
+        passes = subst (λ (l : List ℕ). Passes g.W.Sink.held g.W.Sink.failures (written c.args.before.window a.texts) [] l c.args.first.now c.write_out.new.first) c.in-Ok-write_out.ensures.emptied
+            (passes_nothing g.W.Sink.held g.W.Sink.failures (written c.args.before.window a.texts) [] (gathered_bytes c.hand_all.new.gathered) (gathered_bytes c.write_out.new.gathered) c.args.first.now c.hand_all.new.first c.write_out.new.first
             a.passes c.in-Ok-write_out.ensures.gathers);
         failed = a.failed;
       };
@@ -52,9 +54,9 @@ returns-in-Err-write_out-clause-hands g c =
       rest = a.rest;
       read = a.read;
       all = tt;
-      out = a.out;
+      texts = a.texts;
       output = a.output;
-      leaves = breaks_nothing g.W.Sink.held g.W.Sink.failures a.out [] (gathered_bytes c.hand_all.new.gathered) c.args.first.now c.hand_all.new.first c.write_out.new.first
+      leaves = breaks_nothing g.W.Sink.held g.W.Sink.failures (written c.args.before.window a.texts) [] (gathered_bytes c.hand_all.new.gathered) c.args.first.now c.hand_all.new.first c.write_out.new.first
           a.passes c.in-Err-write_out.ensures.gathers;
       caused = a.failed;
     }
