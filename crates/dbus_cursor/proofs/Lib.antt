@@ -4,3 +4,4 @@ pub mod Others
 pub mod PartTypes
 pub mod PartsThere
 mod FieldsThere
+mod FlatThere

@@ -1,0 +1,75 @@
+-- Values that stand in the bytes, as items of a row.
+use Rattle.std.proofs.Common.{◌≡◌, ℕ, ◌+◌, ◌-◌, ◌<◌, ◌^◌, List, [], ◌∷◌, ◌++◌, length, get_or, take, drop, true, false, refl, sym, ap, subst, ◌∙◌, arith}
+use Rattle.std.specs.Prelude.{nat_lt}
+use Rattle.dbus_types.specs.SignatureCodes.{first_code}
+use Rattle.dbus_types.proofs.TypeCodes.{code_is}
+use Rattle.dbus_value_model.specs.Bytes.{gap_to}
+use Rattle.dbus_value_model.specs.Reading.{number_of}
+use Rattle.dbus_value_model.specs.declared.order.Order.{Order}
+use Rattle.dbus_value_model.specs.Spelling.{spellings, contents_start}
+use Rattle.dbus_value_model.specs.Values.{ValueTree, type_of, value_trees}
+use Rattle.dbus_walk.specs.Standing.{Stands}
+use Rattle.dbus_walk.specs.Widths.{number_width}
+use Rattle.dbus_walk.proofs.Containers.{ArrayStands}
+use Rattle.dbus_walk.proofs.Parts.{NumberStands, TextStands}
+use Rattle.dbus_walk.proofs.ReadThere.{number_read}
+use Rattle.dbus_cursor.specs.declared.flat_item.FlatItem.{FlatItem}
+use Rattle.dbus_cursor.specs.declared.flattener.Flattener.{Flattener}
+use Rattle.dbus_cursor.specs.Flattening.{item, flat, flats, in_word, AreFlat}
+use Rattle.dbus_cursor.specs.Flattener.{Appends, IsListed, IsStroke}
+use Rattle.dbus_cursor.specs.FlattenerLaws.{flat_stroke, word_same, word_of}
+
+abbrev pub made : (n o l c e : ℕ) → FlatItem
+made n o l c e = record { number = n; offset = o; length = l; code = c; element = e }
+
+same_item : {n n' o o' l l' c c' e e' : ℕ} → n ≡ n' → o ≡ o' → l ≡ l' → c ≡ c' → e ≡ e' → made n o l c e ≡ made n' o' l' c' e'
+same_item {n} {n'} {o} {o'} {l} {l'} {c} {c'} {e} {e'} a b d f g =
+    ap (λ (k : ℕ). made k o l c e) a ∙ ap (λ (k : ℕ). made n' k l c e) b ∙ ap (λ (k : ℕ). made n' o' k c e) d ∙ ap (λ (k : ℕ). made n' o' l' k e) f ∙ ap (made n' o' l' c') g
+
+-- an item that is gained, under another name
+pub gained_as : {a b : Flattener} {i : FlatItem} {is : List FlatItem} → i ∷ [] ≡ is → Appends a (i ∷ []) b → Appends a is b
+gained_as {a} {b} e h = subst (λ (l : List FlatItem). Appends a l b) e h
+
+module _ {order : Order} {depth_left : ℕ} {types : List ℕ} {at : ℕ} {bytes : List ℕ} {v : ValueTree} {rest : List ℕ} (s : Stands order depth_left types at bytes v rest) where
+  coded : {u : ValueTree} → v ≡ u → first_code (type_of u) ≡ get_or types 0 0
+  coded is = ap (λ (u : ValueTree). first_code (type_of u)) (sym is) ∙ code_is (type_of v) types s.text
+
+  pub number_flat : (size start : ℕ) (p : NumberStands s size) → start ≡ at + gap_to size at → {n l c : ℕ} → n ≡ number_of order (take size (drop start bytes)) → l ≡ size → c ≡ get_or types 0 0
+      → made n start l c 0 ∷ [] ≡ flat order at v
+  unfolding flat
+  number_flat size start p place read long code =
+      let one = same_item (read ∙ number_read s size start p place) (place ∙ ap (λ (k : ℕ). at + gap_to k at) (sym p.wide)) (long ∙ sym p.wide) (code ∙ sym (coded p.is)) refl in
+      ap (λ (i : FlatItem). i ∷ []) one ∙ ap (flat order at) (sym p.is)
+
+  pub text_flat : (size : ℕ) (p : TextStands s size) → {o l c : ℕ} → o ≡ at + gap_to size at + size → l ≡ length p.text → c ≡ get_or types 0 0 → made 0 o l c 0 ∷ [] ≡ flat order at v
+  unfolding flat
+  text_flat size p place long code =
+      let one = same_item refl (place ∙ ap (λ (k : ℕ). at + gap_to k at + k) (sym p.wide)) long (code ∙ sym (coded p.is)) refl in
+      ap (λ (i : FlatItem). i ∷ []) one ∙ ap (flat order at) (sym p.is)
+
+  module _ (p : ArrayStands s) where
+    pub array_item : {o l c e : ℕ} → o ≡ contents_start p.type at → l ≡ p.n → c ≡ 97 → e ≡ get_or types 1 0 → made 0 o l c e ≡ item order at v 0
+    array_item begins counts code element =
+        let long : p.n ≡ length (spellings order (contents_start p.type at) p.xs) = omega (arith, p.elements.ends) in
+        same_item refl begins (counts ∙ long) code (element ∙ sym p.code) ∙ ap (λ (u : ValueTree). item order at u 0) (sym p.is)
+
+    pub stroke_flat : {o l c e : ℕ} → o ≡ contents_start p.type at → l ≡ p.n → c ≡ 97 → e ≡ get_or types 1 0 → (size : ℕ) → nat_lt 0 size ≡ true → size ≡ number_width p.type → made 0 o l c e ∷ [] ≡ flat order at v
+    stroke_flat begins counts code element size some wide =
+        let stroke : IsStroke v = subst IsStroke (sym p.is) (subst (λ (k : ℕ). nat_lt 0 k ≡ true) wide some) in
+        ap (λ (i : FlatItem). i ∷ []) (array_item begins counts code element) ∙ sym (flat_stroke order at v stroke)
+
+    pub array_listed : nat_lt 0 (number_width p.type) ≡ false → IsListed v
+    array_listed none = subst IsListed (sym p.is) none
+
+-- the items that a flattener has gained since it had none
+pub row_of : (order : Order) (at : ℕ) (xs : List ValueTree) (s t : Flattener) → Appends s (flats order at (value_trees xs)) t → s.count ≡ 0 → t.count < 2 ^ 64 → length t.out.now < 2 ^ 64 - 1 → AreFlat order at (value_trees xs) t.out.now t.count
+row_of order at xs s t h none fits small =
+    let items = flats order at (value_trees xs) in
+    let all : s.count + length items ≡ length items = omega (arith, none) in
+    let counted : in_word t.count ≡ in_word (length items) = h.counted ∙ ap in_word all in
+    record {
+      counted = sym (word_of t.count fits) ∙ counted;
+      written = λ room.
+          let count : length items ≡ t.count = word_same (length items) t.count (sym counted) (omega (arith, room, small)) in
+          ap (λ (k : ℕ). take k t.out.now) (omega (arith, all, count)) ∙ h.written (omega (arith, all, count, room)) small ∙ ap (λ (k : ℕ). take k s.out.now ++ items) none;
+    }

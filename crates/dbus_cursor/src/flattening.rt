@@ -1,0 +1,188 @@
+//! The items of values of any type, gathered from a message's bytes. D-Bus Specification, "Marshaling (Wire Format)".
+#![tactic(auto)]
+
+ghost use Rattle.std.specs.Prelude.{◌≡◌, ℕ, nat_lt};
+ghost use Rattle.dbus_value_model.specs.Values.{value_trees};
+ghost use Rattle.dbus_cursor.specs.Flattening.{flat, flats};
+ghost use Rattle.dbus_cursor.specs.Flattener.{Closes, Gains, Opens};
+ghost use Rattle.dbus_cursor.specs.FlattenerLaws.{none_flat, more_flat, whole_flat};
+
+use crate::flat_item::FlatItem;
+use crate::flattener::Flattener;
+use crate::numbers::number_at;
+use dbus_types::boundary;
+use dbus_value_model::gap;
+use dbus_walk::{Container, Run, Source, Spot, Visitor};
+use std::convert::Infallible;
+
+impl Visitor for Flattener<'_> {
+    // The place of a container's item.
+    type Many = usize;
+
+    type Stop = Infallible;
+
+    ghost ready = { λ _ _. Unit {0} };
+
+    ghost strokes = { λ _ size. nat_lt 0 size };
+
+    ghost one = { λ s m order at v later t. Gains s m (flat order at v) later t };
+
+    ghost many = { λ s m order at xs later t. Gains s m (flats order at (value_trees xs)) later t };
+
+    ghost opens = { λ s _ order at v place t. Opens s order at v place t };
+
+    ghost closes = { λ s m place _ later t. Closes s m place later t };
+
+    ghost parted = { λ s _ t. t ≡ s };
+
+    #[inline(always)]
+    fn at_one_stroke(_code: u8, size: u8) -> bool
+        ensures { result ≡ nat_lt 0 size }
+    {
+        0 < size
+    }
+
+    #[inline(always)]
+    fn number(
+        &mut self,
+        _gathered: &mut usize,
+        source: &Source<'_>,
+        spot: &Spot<'_>,
+        start: usize,
+        size: u8,
+    ) -> Result<(), Infallible> {
+        self.push(FlatItem {
+            number: number_at(source, start, size),
+            offset: start as u64,
+            length: u64::from(size),
+            code: u32::from(spot.types[0]),
+            element: 0,
+        });
+        Ok(())
+    }
+
+    #[inline(always)]
+    fn long_text(
+        &mut self,
+        _gathered: &mut usize,
+        _source: &Source<'_>,
+        spot: &Spot<'_>,
+        start: usize,
+        size: usize,
+    ) -> Result<(), Infallible> {
+        self.push(FlatItem {
+            number: 0,
+            offset: (start + 4) as u64,
+            length: size as u64,
+            code: u32::from(spot.types[0]),
+            element: 0,
+        });
+        Ok(())
+    }
+
+    #[inline(always)]
+    fn short_text(
+        &mut self,
+        _gathered: &mut usize,
+        _source: &Source<'_>,
+        spot: &Spot<'_>,
+        size: usize,
+    ) -> Result<(), Infallible> {
+        self.push(FlatItem {
+            number: 0,
+            offset: (spot.at + 1) as u64,
+            length: size as u64,
+            code: u32::from(b'g'),
+            element: 0,
+        });
+        Ok(())
+    }
+
+    #[inline(always)]
+    fn whole_array(
+        &mut self,
+        _gathered: &mut usize,
+        _source: &Source<'_>,
+        spot: &Spot<'_>,
+        run: Run,
+    ) -> Result<(), Infallible> {
+        self.push(FlatItem {
+            number: 0,
+            offset: run.first as u64,
+            length: (run.end - run.first) as u64,
+            code: u32::from(b'a'),
+            element: u32::from(spot.types[1]),
+        });
+        Ok(())
+    }
+
+    #[inline(always)]
+    fn open_array(
+        &mut self,
+        _gathered: &usize,
+        source: &Source<'_>,
+        spot: &Spot<'_>,
+        start: usize,
+    ) -> Result<usize, Infallible> {
+        let place = self.count;
+        let after = start + 4;
+        let code = spot.types[1];
+        let first = after + gap(boundary(code), after);
+        self.push(FlatItem {
+            number: 0,
+            offset: first as u64,
+            length: u64::from(source.order.u32_at(source.bytes, start)),
+            code: u32::from(b'a'),
+            element: u32::from(code),
+        });
+        Ok(place)
+    }
+
+    #[inline(always)]
+    fn open(
+        &mut self,
+        _gathered: &usize,
+        kind: Container,
+        _types: &[u8],
+        _length: usize,
+    ) -> Result<usize, Infallible> {
+        let place = self.count;
+        let code = match kind {
+            Container::Variant => b'v',
+            Container::Array => b'a',
+            Container::Struct => b'(',
+            Container::Entry => b'{',
+        };
+        self.push(FlatItem {
+            number: 0,
+            offset: 0,
+            length: 0,
+            code: u32::from(code),
+            element: 0,
+        });
+        Ok(place)
+    }
+
+    #[inline(always)]
+    fn close(
+        &mut self,
+        _gathered: &mut usize,
+        _kind: Container,
+        held: usize,
+        _length: usize,
+    ) -> Result<(), Infallible> {
+        self.count_from(held);
+        Ok(())
+    }
+
+    #[inline(always)]
+    fn part(&mut self, _is_first: bool, _length: usize) {}
+
+    ghost none = { λ s m order at. none_flat s m order at };
+
+    ghost more = { λ s before parted after m gathered later order at place done v first between here second.
+        more_flat s before parted after m gathered later order at place done v first between here second };
+
+    ghost whole = { λ s opened filled after m none held later kind order at v xs is_of opens has many closes.
+        whole_flat s opened filled after m none held later kind order at v xs is_of opens has many closes };
+}
