@@ -244,7 +244,11 @@ const WINDOWS: &[(&[&str], u32, Option<u32>)] = &[
     (&["check"], 0, None),
     (&["show", "--skip", "3"], 3, None),
     (&["json", "--limit=0"], 0, Some(0)),
-    (&["filter", "--skip=4294967295", "", "--limit", "4294967295"], u32::MAX, Some(u32::MAX)),
+    (
+        &["filter", "--skip=4294967295", "", "--limit", "4294967295"],
+        u32::MAX,
+        Some(u32::MAX),
+    ),
 ];
 
 #[test]

@@ -213,17 +213,51 @@ fn refusals_that_are_explained_or_passed_over(rt: HostRuntime) -> Result<(), Fai
 
 // Words, the input, and what is written on the first writer.
 const WINDOWED: &[(&[&str], &[&[u8]], &[u8])] = &[
-    (&["show", "--skip", "1"], &[RETURN, BIG_RETURN], BIG_AS_SECOND),
-    (&["show", "--limit", "1"], &[RETURN, BIG_RETURN], RETURN_TEXT),
+    (
+        &["show", "--skip", "1"],
+        &[RETURN, BIG_RETURN],
+        BIG_AS_SECOND,
+    ),
+    (
+        &["show", "--limit", "1"],
+        &[RETURN, BIG_RETURN],
+        RETURN_TEXT,
+    ),
     (&["json", "--limit", "1"], &[RETURN, SIGNAL], RETURN_JSON),
-    (&["json", "--skip", "1", "--limit", "1"], &[RETURN, SIGNAL, RETURN], SIGNAL_JSON_AS_SECOND),
-    (&["show", "--skip", "2", "--limit", "1"], &[RETURN, RETURN, BIG_RETURN], BIG_AS_THIRD),
+    (
+        &["json", "--skip", "1", "--limit", "1"],
+        &[RETURN, SIGNAL, RETURN],
+        SIGNAL_JSON_AS_SECOND,
+    ),
+    (
+        &["show", "--skip", "2", "--limit", "1"],
+        &[RETURN, RETURN, BIG_RETURN],
+        BIG_AS_THIRD,
+    ),
     (&["show", "--skip", "2"], &[RETURN, RETURN], b""),
     (&["show", "--limit", "0"], &[RETURN], b""),
     // A message that no rule matches is not counted.
-    (&["filter", "type='method_return'", "--skip", "1"], &[SIGNAL, RETURN, SIGNAL, BIG_RETURN], BIG_RETURN),
-    (&["filter", "type='signal'", "--limit", "1"], &[RETURN, SIGNAL, RETURN, SIGNAL], SIGNAL),
-    (&["filter", "--invert", "type='signal'", "--skip=1", "--limit=1"], &[RETURN, SIGNAL, BIG_RETURN, RETURN], BIG_RETURN),
+    (
+        &["filter", "type='method_return'", "--skip", "1"],
+        &[SIGNAL, RETURN, SIGNAL, BIG_RETURN],
+        BIG_RETURN,
+    ),
+    (
+        &["filter", "type='signal'", "--limit", "1"],
+        &[RETURN, SIGNAL, RETURN, SIGNAL],
+        SIGNAL,
+    ),
+    (
+        &[
+            "filter",
+            "--invert",
+            "type='signal'",
+            "--skip=1",
+            "--limit=1",
+        ],
+        &[RETURN, SIGNAL, BIG_RETURN, RETURN],
+        BIG_RETURN,
+    ),
 ];
 
 #[test]
