@@ -13,7 +13,8 @@
 # make library     proves and builds the library for C, static and shared
 # make peers       compares the message cases with libdbus, GDBus and sd-bus, and writes docs/PEERS.md
 # make test-c      builds the examples for C over it, tests the Rust crate, and compares what both write with dbus-wire check
-# make test-python compares what the module for Python makes of messages by it with what dbus-wire writes
+# make test-python compares what the module for Python makes of messages by it with what dbus-wire writes, and with what jeepney and
+#                  dbus-fast make of them, if these are there
 # make test-memory runs dbus-wire failing each of its allocations in turn
 # make install     installs what make build and make library proved and built: the program with its manual page and completions, and the
 #                  library for C. PREFIX, BINDIR, LIBDIR, INCLUDEDIR, DATADIR, MANDIR and DESTDIR say where. install-program and
@@ -90,7 +91,7 @@ test-c: build library
 	examples/test.sh $(PROGRAM) $(ARCHIVE) $(SHARED)
 
 test-python: build library
-	DBUS_WIRE_LIBRARY=$(SHARED) DBUS_WIRE_PROGRAM=$(PROGRAM) python3 -W error python/test_dbus_wire.py
+	DBUS_WIRE_LIBRARY=$(SHARED) DBUS_WIRE_PROGRAM=$(PROGRAM) python3 -W error -m unittest discover python
 
 test-memory: build
 	bench/refused_memory.py $(PROGRAM) samples/big-endian.dbus

@@ -1,29 +1,22 @@
 """Tests of the module dbus_wire, over the library that DBUS_WIRE_LIBRARY names: `make test-python` runs them.
 
-What the module makes of the captures and of the cases of messages is compared with what `dbus-wire` writes of them, if the variable
-DBUS_WIRE_PROGRAM names it, and with the answers in the cases (cases/README.md).
+What the module makes of the cases is compared with the answers in them (cases/README.md).
 """
 
 import ctypes
 import io
-import json
-import math
 import os
-import pathlib
 import pickle
 import re
-import subprocess
-import sys
 import unittest
 from concurrent.futures import ThreadPoolExecutor
 from unittest import mock
 
-ROOT = pathlib.Path(__file__).resolve().parent.parent
-sys.path[:0] = [str(ROOT / "cases"), str(ROOT / "python")]
-from read_cases import read_bytes, read_cases  # noqa: E402
+from inputs import FIELDS, ROOT, SAMPLES, changed_messages, message_cases, whole_cases
+from read_cases import read_bytes, read_cases
 
-import dbus_wire  # noqa: E402
-from dbus_wire import (  # noqa: E402
+import dbus_wire
+from dbus_wire import (
     BadRule,
     Checker,
     Client,
@@ -51,45 +44,13 @@ from dbus_wire import (  # noqa: E402
     spell_body,
     stated_length,
 )
-from dbus_wire import _library  # noqa: E402
+from dbus_wire import _library
 
-PROGRAM = os.environ.get("DBUS_WIRE_PROGRAM")
-needs_program = unittest.skipUnless(PROGRAM, "DBUS_WIRE_PROGRAM names no dbus-wire: what it writes is not compared")
-
-SAMPLES = {name: (ROOT / "samples" / f"{name}.dbus").read_bytes() for name in ("session", "big-endian")}
 SESSION = SAMPLES["session"]
-CASES = ROOT / "crates/message_cases/data"
 TEXT_CASES = ROOT / "crates/value_cases/data"
 RULE_CASES = ROOT / "crates/stream_cases/data"
 HANDSHAKE_CASES = ROOT / "crates/handshake_cases/data"
 CASE_KINDS = {"text": "STRING", "path": "OBJECT_PATH"}
-FIELDS = ("path", "interface", "member", "error_name", "reply_serial", "destination", "sender", "signature")
-
-
-def limits_of(column):
-    """The limits of a case, or None if it has the specification's."""
-    words = dict(word.split("=") for word in column.split())
-    fds_below_count = words.pop("fds", None) == "below-count"
-    return Limits(**{name: int(number) for name, number in words.items()}, fds_below_count=fds_below_count) if column else None
-
-
-def message_cases():
-    """The name, limits, bytes and answer of each case of messages in each order that it has."""
-    for path in sorted(CASES.glob("*.txt")):
-        for name, limits, *columns, answer in read_cases(path):
-            for column in filter(None, columns):
-                yield f"{path.stem}: {name}", limits_of(limits), read_bytes(column), answer
-
-
-def whole_cases():
-    """Each case that is one message within the specification's limits, under its name and its order."""
-    whole = [(name, data) for name, limits, data, answer in message_cases() if limits is None and answer == f"whole {len(data)}"]
-    return {f"{name} {data[:1].decode()}": data for name, data in whole}
-
-
-def captures():
-    """Each sample, and all whole cases as one capture."""
-    return SAMPLES | {"cases": b"".join(whole_cases().values())}
 
 
 def first_of(data, limits):
@@ -137,77 +98,6 @@ def deep_message():
     fields = b"\x08\1g\0" + bytes([1 + len(outer)]) + b"y" + outer + b"\0"
     lengths = (len(body).to_bytes(4, "little"), (1).to_bytes(4, "little"), len(fields).to_bytes(4, "little"))
     return b"l\5\0\1" + b"".join(lengths) + fields + body
-
-
-def changed_messages():
-    """The first messages of each sample with one byte changed."""
-    for data in SAMPLES.values():
-        for message in list(messages(data))[:2]:
-            for at, byte in enumerate(message.data):
-                for change in (0x01, 0x80, 0xFF):
-                    yield message.data[:at] + bytes([byte ^ change]) + message.data[at + 1 :]
-
-
-def run(*words, given):
-    return subprocess.run([PROGRAM, *words], input=given, capture_output=True).stdout
-
-
-def json_of(value):
-    """The value as `dbus-wire json` writes it."""
-    if isinstance(value, float) and not math.isfinite(value):
-        return f"{ctypes.c_uint64.from_buffer(ctypes.c_double(value)).value:016x}"
-    if isinstance(value, bytes):
-        return value.hex()
-    if isinstance(value, Variant):
-        return {"type": value.signature, "value": json_of(value.value)}
-    if isinstance(value, dict):
-        value = list(value.items())
-    return [json_of(part) for part in value] if isinstance(value, (list, tuple)) else value
-
-
-def line_of(number, offset, message):
-    """The message as a line of `dbus-wire json` has it, without the header fields that have no name."""
-    first = {"number": number, "offset": offset, "length": len(message.data), "order": message.order.value}
-    kind = message.type.name.lower() if isinstance(message.type, MessageType) else message.type
-    fields = {name: value for name in FIELDS if (value := getattr(message, name)) is not None}
-    rest = {"unix_fds": message.unix_fds, "body": json_of(message.body)}
-    return first | {"type": kind, "flags": int(message.flags), "serial": message.serial} | fields | rest
-
-
-def text_of(line):
-    """A line of JSON as a text in which 1, 1.0 and true differ, and 0.0 and -0.0."""
-    return json.dumps(line, sort_keys=True)
-
-
-class WithTheProgram(unittest.TestCase):
-    @needs_program
-    def test_each_value_is_that_of_json(self):
-        for name, data in captures().items():
-            offset, lines = 0, run("json", given=data).decode().split("\n")[:-1]
-            found = list(messages(data))
-            self.assertEqual(len(found), len(lines), name)
-            for number, (message, line) in enumerate(zip(found, lines), 1):
-                right = {"unix_fds": 0} | json.loads(line)
-                del right["fields"]
-                self.assertEqual(text_of(line_of(number, offset, message)), text_of(right), name)
-                offset += len(message.data)
-
-    @needs_program
-    def test_changed_messages_have_the_fault_of_check(self):
-        for data in changed_messages():
-            right = run("check", given=data).decode().strip()
-            try:
-                count = len(list(messages(data)))
-                self.assertEqual(f"ok {count} messages {len(data)} bytes", right)
-            except NotAMessage as fault:
-                self.assertEqual(str(fault), right)
-
-    @needs_program
-    def test_captures_are_swapped_as_by_swap(self):
-        for name, data in captures().items():
-            for order in "lB":
-                swapped = b"".join(bytes(message.swapped(order)) for message in messages(data))
-                self.assertTrue(swapped == run("swap", "--to", order, given=data), name)
 
 
 class Cases(unittest.TestCase):
@@ -574,7 +464,7 @@ class Handshakes(unittest.TestCase):
         self.fail("the ends do not come to an end")
 
     def test_both_ends(self):
-        begun, closed = (Status.BEGUN, Status.BEGUN), (Status.CLOSED, Status.CLOSED)
+        begun = (Status.BEGUN, Status.BEGUN)
         for asked, offered, ends, lines in (
             ({"user": 1000}, {"user": 1000}, begun, [2, 1]),
             ({"reported": True}, {"user": 7}, begun, [3, 2]),

@@ -1,0 +1,196 @@
+"""Compares what the module dbus_wire makes of messages with what other programs make of them: `make test-python` runs it.
+
+They are `dbus-wire`, which DBUS_WIRE_PROGRAM names, and jeepney and dbus-fast, if they are there (on Debian the packages python3-jeepney and
+python3-dbus-fast).
+"""
+
+import ctypes
+import io
+import json
+import math
+import os
+import subprocess
+import unittest
+import warnings
+
+from inputs import FIELDS, SAMPLES, captures, changed_messages, whole_cases
+
+from dbus_wire import Message, MessageType, NotAMessage, Variant, byteswap, messages
+
+# Their own warnings are not ours.
+with warnings.catch_warnings():
+    warnings.simplefilter("ignore")
+    try:
+        import jeepney.low_level as jeepney
+    except ImportError:
+        jeepney = None
+    try:
+        from dbus_fast import Variant as FastVariant
+        from dbus_fast._private.unmarshaller import Unmarshaller
+    except ImportError:
+        Unmarshaller = None
+
+PROGRAM = os.environ.get("DBUS_WIRE_PROGRAM")
+needs_program = unittest.skipUnless(PROGRAM, "DBUS_WIRE_PROGRAM names no dbus-wire: what it writes is not compared")
+
+TEXTS = ("path", "interface", "member", "error_name", "destination", "sender")
+
+
+def run(*words, given):
+    return subprocess.run([PROGRAM, *words], input=given, capture_output=True).stdout
+
+
+def json_of(value):
+    """The value as `dbus-wire json` writes it."""
+    if isinstance(value, float) and not math.isfinite(value):
+        return f"{ctypes.c_uint64.from_buffer(ctypes.c_double(value)).value:016x}"
+    if isinstance(value, bytes):
+        return value.hex()
+    if isinstance(value, Variant):
+        return {"type": value.signature, "value": json_of(value.value)}
+    if isinstance(value, dict):
+        value = list(value.items())
+    return [json_of(part) for part in value] if isinstance(value, (list, tuple)) else value
+
+
+def line_of(number, offset, message):
+    """The message as a line of `dbus-wire json` has it, without the header fields that have no name."""
+    first = {"number": number, "offset": offset, "length": len(message.data), "order": message.order.value}
+    kind = message.type.name.lower() if isinstance(message.type, MessageType) else message.type
+    fields = {name: value for name in FIELDS if (value := getattr(message, name)) is not None}
+    rest = {"unix_fds": message.unix_fds, "body": json_of(message.body)}
+    return first | {"type": kind, "flags": int(message.flags), "serial": message.serial} | fields | rest
+
+
+def text_of(line):
+    """A line of JSON as a text in which 1, 1.0 and true differ, and 0.0 and -0.0."""
+    return json.dumps(line, sort_keys=True)
+
+
+class WithTheProgram(unittest.TestCase):
+    @needs_program
+    def test_each_value_is_that_of_json(self):
+        for name, data in captures().items():
+            offset, lines = 0, run("json", given=data).decode().split("\n")[:-1]
+            found = list(messages(data))
+            self.assertEqual(len(found), len(lines), name)
+            for number, (message, line) in enumerate(zip(found, lines), 1):
+                right = {"unix_fds": 0} | json.loads(line)
+                del right["fields"]
+                self.assertEqual(text_of(line_of(number, offset, message)), text_of(right), name)
+                offset += len(message.data)
+
+    @needs_program
+    def test_changed_messages_have_the_fault_of_check(self):
+        for data in changed_messages():
+            right = run("check", given=data).decode().strip()
+            try:
+                count = len(list(messages(data)))
+                self.assertEqual(f"ok {count} messages {len(data)} bytes", right)
+            except NotAMessage as fault:
+                self.assertEqual(str(fault), right)
+
+    @needs_program
+    def test_captures_are_swapped_as_by_swap(self):
+        for name, data in captures().items():
+            for order in "lB":
+                swapped = b"".join(bytes(message.swapped(order)) for message in messages(data))
+                self.assertTrue(swapped == run("swap", "--to", order, given=data), name)
+
+
+def captured():
+    """Each message of the samples, in both orders."""
+    for sample in SAMPLES.values():
+        for message in messages(sample):
+            yield from (byteswap(message.data, order) for order in "lB")
+
+
+def for_jeepney(value):
+    """The value as jeepney has it: a variant is a pair."""
+    if isinstance(value, Variant):
+        return str(value.signature), for_jeepney(value.value)
+    return of_parts(value, for_jeepney, tuple)
+
+
+def for_dbus_fast(value):
+    """The value as dbus-fast has it, but a variant as a pair: a struct is a list."""
+    if isinstance(value, (Variant, FastVariant)):
+        return str(value.signature), for_dbus_fast(value.value)
+    return of_parts(value, for_dbus_fast, list)
+
+
+def of_parts(value, part, struct):
+    if isinstance(value, dict):
+        return {key: part(it) for key, it in value.items()}
+    if isinstance(value, tuple):
+        return struct(part(it) for it in value)
+    return [part(it) for it in value] if isinstance(value, list) else value
+
+
+def header_of(message):
+    """What both have of a header, with None for a text that is absent."""
+    return [int(message.type), int(message.flags), message.serial, message.reply_serial, *(getattr(message, name) for name in TEXTS)]
+
+
+def with_a_known_type(data):
+    """The message, as a signal if its type is none that the specification names: neither reads those."""
+    return data[:1] + bytes([data[1] if data[1] <= MessageType.SIGNAL else MessageType.SIGNAL]) + data[2:]
+
+
+class Peer:
+    """`read` reads a message's bytes, `value` gives a value of ours as it has it, and `header` and `body` what it read."""
+
+    def test_captured_messages_have_the_same_header_and_values(self):
+        for data in captured():
+            ours, theirs = Message.parse(data), self.read(data)
+            self.assertEqual([*header_of(ours), ours.signature or ""], self.header(theirs))
+            self.assertEqual([self.value(value) for value in ours.body], self.body(theirs))
+
+    def test_cases_have_the_same_values(self):
+        compared = 0
+        for name, data in whole_cases().items():
+            try:
+                theirs = self.read(with_a_known_type(data))
+            except (ValueError, KeyError, IndexError, EOFError):
+                # It knows no such header field, wants the descriptors, or wants some field.
+                continue
+            # Both keep one entry of each key.
+            if "dict_that_repeats_a_key" not in name:
+                self.assertEqual([self.value(value) for value in Message.parse(data).body], self.body(theirs), name)
+                compared += 1
+        self.assertGreater(compared, 150)
+
+
+@unittest.skipUnless(jeepney, "jeepney is not there")
+class Jeepney(Peer, unittest.TestCase):
+    value = staticmethod(for_jeepney)
+
+    def read(self, data):
+        return jeepney.Message.from_buffer(data)
+
+    def header(self, message):
+        header, fields = message.header, {code.name: value for code, value in message.header.fields.items()}
+        numbers = [header.message_type.value, header.flags.value, header.serial, fields.get("reply_serial")]
+        return numbers + [fields.get(name) for name in TEXTS] + [fields.get("signature", "")]
+
+    def body(self, message):
+        return list(message.body)
+
+
+@unittest.skipUnless(Unmarshaller, "dbus-fast is not there")
+class DbusFast(Peer, unittest.TestCase):
+    value = staticmethod(for_dbus_fast)
+
+    def read(self, data):
+        return Unmarshaller(io.BytesIO(data)).unmarshall()
+
+    def header(self, message):
+        numbers = [message.message_type.value, message.flags.value, message.serial, message.reply_serial or None]
+        return numbers + [getattr(message, name) or None for name in TEXTS] + [message.signature]
+
+    def body(self, message):
+        return [for_dbus_fast(value) for value in message.body]
+
+
+if __name__ == "__main__":
+    unittest.main()
