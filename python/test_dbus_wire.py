@@ -29,6 +29,7 @@ from dbus_wire import (
     ObjectPath,
     Refused,
     Rule,
+    RuleSet,
     Server,
     Signature,
     Status,
@@ -413,8 +414,21 @@ class Rules(unittest.TestCase):
         self.assertRaises(ValueError, str, rule)
 
     def test_out_of_memory(self):
-        with mock.patch.object(_library.library, "dbus_wire_rule_new", return_value=_library.NO_MEMORY):
+        with mock.patch.object(_library.library, "dbus_wire_rules_add", return_value=_library.NO_MEMORY):
             self.assertRaises(MemoryError, Rule, "")
+
+    def test_each_rule_of_a_set(self):
+        captured = list(messages(io.BytesIO(SESSION)))
+        texts = [text for name, text, said in read_cases(RULE_CASES / "rules.txt") if said.startswith("accepted")]
+        with RuleSet() as rules:
+            numbers = {rules.add(read_bytes(text)): Rule(read_bytes(text)) for text in texts}
+            for number in list(numbers)[::3]:
+                self.assertEqual(rules.text(number), str(numbers.pop(number)))
+                rules.remove(number)
+                self.assertRaises(KeyError, rules.remove, number)
+            self.assertEqual(len(rules), len(numbers))
+            for message in captured:
+                self.assertEqual(set(rules.matching(message)), {number for number, rule in numbers.items() if rule.matches(message)})
 
 
 class Handshakes(unittest.TestCase):
@@ -543,7 +557,9 @@ class Header(unittest.TestCase):
             return ctypes.POINTER(found) if struct[2] else found
         if "*" in spelled and ("uint8_t" in spelled or "void" in spelled):
             return ctypes.c_char_p if "uint8_t" in spelled else ctypes.c_void_p
-        found = {"uint32_t": ctypes.c_uint32, "uint64_t": ctypes.c_uint64, "size_t": ctypes.c_size_t, "void": None}[spelled.split()[0]]
+        found = {"uint8_t": ctypes.c_uint8, "uint32_t": ctypes.c_uint32, "uint64_t": ctypes.c_uint64, "size_t": ctypes.c_size_t, "void": None}[
+            spelled.split()[0]
+        ]
         return ctypes.POINTER(found) if "*" in spelled else found
 
     def test_numbers(self):
@@ -556,7 +572,7 @@ class Header(unittest.TestCase):
 
     def test_structs(self):
         declared = re.findall(r"(\d+) bytes\. \*/\nstruct dbus_wire_(\w+) \{(.*?)\n\};", self.text, re.DOTALL)
-        self.assertEqual(len(declared), 18)
+        self.assertEqual(len(declared), 19)
         for size, name, fields in declared:
             if name != "argument":
                 lines = re.findall(r"^    (struct \w+|\w+_t|void \*) ?([\w, ]+);", fields, re.MULTILINE)

@@ -28,7 +28,8 @@ static void sizes(void) {
     expect(sizeof(struct dbus_wire_limits) == 16 && sizeof(struct dbus_wire_checked) == 32, "limits 16, checked 32 bytes");
     expect(sizeof(struct dbus_wire_parts) == 208 && sizeof(struct dbus_wire_text) == 24, "parts 208, text 24 bytes");
     expect(sizeof(struct dbus_wire_checker) == 8 && sizeof(struct dbus_wire_taken) == 24, "checker 8, taken 24 bytes");
-    expect(sizeof(struct dbus_wire_rule) == 8 && sizeof(struct dbus_wire_rule_refused) == 16, "rule 8, rule_refused 16 bytes");
+    expect(sizeof(struct dbus_wire_rules) == 8 && sizeof(struct dbus_wire_rule_id) == 24 && sizeof(struct dbus_wire_rule_refused) == 16,
+           "rules 8, rule_id 24, rule_refused 16 bytes");
     expect(sizeof(struct dbus_wire_argument) == 24 && sizeof(struct dbus_wire_text_checked) == 16, "argument 24, text_checked 16 bytes");
 }
 
@@ -111,25 +112,36 @@ static void reasons(const char *prefix, size_t (*name_of)(uint32_t, uint8_t *, s
 
 static void rules(void) {
     static const uint8_t text[] = "type='signal',arg0='hi'", not_utf8[] = "arg0=\xFF";
-    struct dbus_wire_rule rule = {0};
+    struct dbus_wire_rules rules = {0};
+    struct dbus_wire_rule_id signals = {0, 0, 0}, all = {0, 0, 0}, found[2];
     struct dbus_wire_rule_refused told;
-    uint32_t matches = 7;
-    uint64_t length = 7;
+    uint64_t count = 7, length = 7;
 
-    expect(dbus_wire_rule_matches(&rule, SIGNAL, SIGNAL_LENGTH, NULL, NULL, 0, &matches) == DBUS_WIRE_NO_RULE, "there is no rule");
-    expect(dbus_wire_rule_text(&rule, NULL, 0, &length) == DBUS_WIRE_NO_RULE && matches == 7 && length == 7, "and nothing is written");
-    expect(dbus_wire_rule_new(not_utf8, sizeof not_utf8 - 1, &rule, &told) == DBUS_WIRE_REFUSED, "a rule is UTF-8");
-    expect(told.reason == DBUS_WIRE_RULE_REASON_NOT_UTF8 && told.offset == 5 && rule.inner == NULL, "the last byte is not");
-    expect(dbus_wire_rule_new(text, sizeof text - 1, &rule, &told) == DBUS_WIRE_OK, "this is a rule");
-    expect(dbus_wire_rule_matches(&rule, SIGNAL, SIGNAL_LENGTH - 1, NULL, NULL, 0, &matches) == DBUS_WIRE_PARTIAL && matches == 7,
-           "a front is partial, by a rule");
-    expect(dbus_wire_rule_matches(&rule, SIGNAL, SIGNAL_LENGTH, NULL, NULL, 0, &matches) == DBUS_WIRE_WHOLE && matches == 1,
+    expect(dbus_wire_rules_remove(&rules, &signals) == DBUS_WIRE_NO_RULE, "there is no rule");
+    expect(dbus_wire_rules_text(&rules, &signals, NULL, 0, &length) == DBUS_WIRE_NO_RULE && length == 7, "and no text is written");
+    expect(dbus_wire_rules_matching(&rules, SIGNAL, SIGNAL_LENGTH, NULL, NULL, 0, NULL, 0, &count) == DBUS_WIRE_WHOLE && count == 0,
+           "without rules none matches");
+    expect(dbus_wire_rules_add(&rules, not_utf8, sizeof not_utf8 - 1, &signals, &told) == DBUS_WIRE_REFUSED, "a rule is UTF-8");
+    expect(told.reason == DBUS_WIRE_RULE_REASON_NOT_UTF8 && told.offset == 5 && rules.inner == NULL, "the last byte is not");
+    expect(dbus_wire_rules_add(&rules, text, sizeof text - 1, &signals, &told) == DBUS_WIRE_OK, "this is a rule");
+    expect(dbus_wire_rules_matching(&rules, SIGNAL, SIGNAL_LENGTH - 1, NULL, NULL, 0, found, 2, &length) == DBUS_WIRE_PARTIAL &&
+               length == 7,
+           "a front is partial, by rules");
+    expect(dbus_wire_rules_matching(&rules, SIGNAL, SIGNAL_LENGTH, NULL, NULL, 0, found, 2, &count) == DBUS_WIRE_WHOLE && count == 1 &&
+               found[0].number == signals.number,
            "it matches the signal");
-    dbus_wire_rule_free(&rule);
-    dbus_wire_rule_free(&rule);
-    expect(dbus_wire_rule_new(NULL, 0, &rule, &told) == DBUS_WIRE_OK, "no text is the rule without keys");
-    expect(dbus_wire_rule_text(&rule, NULL, 0, &length) == DBUS_WIRE_NO_ROOM && length == 0, "whose text is empty");
-    dbus_wire_rule_free(&rule);
+    expect(dbus_wire_rules_add(&rules, NULL, 0, &all, &told) == DBUS_WIRE_OK, "no text is the rule without keys");
+    expect(dbus_wire_rules_text(&rules, &all, NULL, 0, &length) == DBUS_WIRE_NO_ROOM && length == 0, "whose text is empty");
+    expect(dbus_wire_rules_matching(&rules, SIGNAL, SIGNAL_LENGTH, NULL, NULL, 0, found, 1, &count) == DBUS_WIRE_NO_ROOM && count == 2,
+           "both match the signal, and one has room");
+    expect(dbus_wire_rules_remove(&rules, &signals) == DBUS_WIRE_OK && dbus_wire_rules_remove(&rules, &signals) == DBUS_WIRE_NO_RULE,
+           "a rule is removed once");
+    expect(dbus_wire_rules_matching(&rules, SIGNAL, SIGNAL_LENGTH, NULL, NULL, 0, found, 1, &count) == DBUS_WIRE_WHOLE && count == 1 &&
+               found[0].number == all.number,
+           "the other is left");
+    dbus_wire_rules_free(&rules);
+    dbus_wire_rules_free(&rules);
+    expect(rules.inner == NULL && dbus_wire_rules_remove(&rules, &all) == DBUS_WIRE_NO_RULE, "freed rules are none");
 }
 
 int main(void) {

@@ -26,8 +26,7 @@ struct peer {
 };
 
 /* The rules that no message of a client may match. */
-static struct dbus_wire_rule rules[64];
-static int count_of_rules;
+static struct dbus_wire_rules rules;
 
 static void fail(const char *what) {
     fprintf(stderr, "%s\n", what);
@@ -91,14 +90,10 @@ static void deny(const struct peer *client, const struct dbus_wire_parts *call) 
 }
 
 static int is_denied(const struct peer *client, const struct dbus_wire_parts *parts) {
-    int i;
-    for (i = 0; i < count_of_rules; i++) {
-        uint32_t matches;
-        if (dbus_wire_rule_matches(&rules[i], client->bytes, (size_t)parts->length, &limits, NULL, 0, &matches) != DBUS_WIRE_WHOLE)
-            fail("out of memory");
-        if (matches) return 1;
-    }
-    return 0;
+    uint64_t count;
+    uint32_t answer = dbus_wire_rules_matching(&rules, client->bytes, (size_t)parts->length, &limits, NULL, 0, NULL, 0, &count);
+    if (answer != DBUS_WIRE_WHOLE && answer != DBUS_WIRE_NO_ROOM) fail("out of memory");
+    return count > 0;
 }
 
 static void explain(const struct peer *from) {
@@ -159,10 +154,9 @@ static void serve(int socket_of_client, const char *path) {
 }
 
 static void add_rule(const char *text) {
+    struct dbus_wire_rule_id id;
     struct dbus_wire_rule_refused told;
-    uint32_t answer;
-    if (count_of_rules == (int)(sizeof rules / sizeof *rules)) fail("too many rules");
-    answer = dbus_wire_rule_new((const uint8_t *)text, strlen(text), &rules[count_of_rules++], &told);
+    uint32_t answer = dbus_wire_rules_add(&rules, (const uint8_t *)text, strlen(text), &id, &told);
     if (answer == DBUS_WIRE_REFUSED) {
         fprintf(stderr, "%s, at %llu: %s\n", text, (unsigned long long)told.offset, dbus_wire_rule_reason_text(told.reason));
         exit(2);

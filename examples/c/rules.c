@@ -6,10 +6,10 @@
 #include <stdio.h>
 #include <string.h>
 
-static uint32_t make(const char *text, size_t length, struct dbus_wire_rule *rule) {
+static uint32_t add(struct dbus_wire_rules *rules, const char *text, size_t length, struct dbus_wire_rule_id *id) {
     struct dbus_wire_rule_refused told;
     uint8_t name[32];
-    uint32_t answer = dbus_wire_rule_new((const uint8_t *)text, length, rule, &told);
+    uint32_t answer = dbus_wire_rules_add(rules, (const uint8_t *)text, length, id, &told);
     if (answer == DBUS_WIRE_REFUSED) {
         dbus_wire_rule_reason_name(told.reason, name, sizeof name);
         fprintf(stderr, "rule refused at %llu: %s\n", (unsigned long long)told.offset, (const char *)name);
@@ -17,17 +17,18 @@ static uint32_t make(const char *text, size_t length, struct dbus_wire_rule *rul
     return answer;
 }
 
-/* Whether the rule has a canonical text of which the same rule is made, which is in use from here on. */
-static int make_again(struct dbus_wire_rule *rule) {
+/* Whether the rule has a canonical text that spells the same rule, which takes its place. */
+static int add_again(struct dbus_wire_rules *rules, struct dbus_wire_rule_id *id) {
     static char text[1 << 16], again[1 << 16];
+    struct dbus_wire_rule_id first = *id;
     uint64_t length = 0, other = 0;
-    if (dbus_wire_rule_text(rule, NULL, 0, &length) != DBUS_WIRE_NO_ROOM ||
-        dbus_wire_rule_text(rule, (uint8_t *)text, (size_t)length, &other) != DBUS_WIRE_NO_ROOM || other != length ||
-        dbus_wire_rule_text(rule, (uint8_t *)text, (size_t)length + 1, &length) != DBUS_WIRE_OK || strlen(text) != length)
+    if (dbus_wire_rules_text(rules, id, NULL, 0, &length) != DBUS_WIRE_NO_ROOM ||
+        dbus_wire_rules_text(rules, id, (uint8_t *)text, (size_t)length, &other) != DBUS_WIRE_NO_ROOM || other != length ||
+        dbus_wire_rules_text(rules, id, (uint8_t *)text, (size_t)length + 1, &length) != DBUS_WIRE_OK || strlen(text) != length)
         return 0;
-    dbus_wire_rule_free(rule);
-    return make(text, (size_t)length, rule) == DBUS_WIRE_OK &&
-           dbus_wire_rule_text(rule, (uint8_t *)again, sizeof again, &other) == DBUS_WIRE_OK && strcmp(text, again) == 0;
+    return add(rules, text, (size_t)length, id) == DBUS_WIRE_OK && dbus_wire_rules_remove(rules, &first) == DBUS_WIRE_OK &&
+           dbus_wire_rules_text(rules, &first, NULL, 0, &other) == DBUS_WIRE_NO_RULE &&
+           dbus_wire_rules_text(rules, id, (uint8_t *)again, sizeof again, &other) == DBUS_WIRE_OK && strcmp(text, again) == 0;
 }
 
 /* The owners as one text, each a line. Returns its length. */
@@ -41,23 +42,29 @@ static size_t owner_lines(int count, char **owners, char *text, size_t room) {
 int main(int count_of_words, char **words) {
     static uint8_t bytes[1 << 20];
     static char owners[1 << 16];
-    struct dbus_wire_rule rule = {0};
+    struct dbus_wire_rules rules = {0};
+    struct dbus_wire_rule_id id, found;
     struct dbus_wire_checked told;
-    uint32_t matches = 0;
+    uint64_t matches = 0;
     size_t count, at = 0, owners_length;
 
-    if (count_of_words < 2 || make(words[1], strlen(words[1]), &rule) != DBUS_WIRE_OK) return 2;
-    if (!make_again(&rule)) return 4;
+    if (count_of_words < 2 || add(&rules, words[1], strlen(words[1]), &id) != DBUS_WIRE_OK) return 2;
+    if (!add_again(&rules, &id)) return 4;
     owners_length = owner_lines(count_of_words - 2, words + 2, owners, sizeof owners);
     count = fread(bytes, 1, sizeof bytes, stdin);
     while (at < count && dbus_wire_check(bytes + at, count - at, NULL, &told) == DBUS_WIRE_WHOLE) {
-        if (dbus_wire_rule_matches(&rule, bytes + at, count - at, NULL, (const uint8_t *)owners, owners_length, &matches) !=
-            DBUS_WIRE_WHOLE)
+        if (dbus_wire_rules_matching(&rules, bytes + at, count - at, NULL, (const uint8_t *)owners, owners_length, &found, 1,
+                                     &matches) != DBUS_WIRE_WHOLE)
             return 3;
-        if (matches) fwrite(bytes + at, 1, (size_t)told.length, stdout);
+        if (matches > 0) {
+            if (found.number != id.number) return 4;
+            fwrite(bytes + at, 1, (size_t)told.length, stdout);
+        }
         at += (size_t)told.length;
     }
-    dbus_wire_rule_free(&rule);
-    if (dbus_wire_rule_matches(&rule, bytes, at, NULL, NULL, 0, &matches) != (at > 0 ? DBUS_WIRE_NO_RULE : DBUS_WIRE_PARTIAL)) return 4;
+    dbus_wire_rules_free(&rules);
+    if (dbus_wire_rules_matching(&rules, bytes, at, NULL, NULL, 0, &found, 1, &matches) != (at > 0 ? DBUS_WIRE_WHOLE : DBUS_WIRE_PARTIAL) ||
+        (at > 0 && matches > 0))
+        return 4;
     return at < count;
 }

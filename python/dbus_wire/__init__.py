@@ -20,7 +20,7 @@ from ._handshake import Client, Server, Status, Step
 from ._library import LIBRARY_VERSION
 from ._limits import Limits
 from ._messages import Message, MessageFlag, MessageType, Order, build, byteswap, messages, stated_length
-from ._rules import BadRule, Rule
+from ._rules import BadRule, Rule, RuleSet
 from ._spelling import spell_body
 from ._texts import TextFault, TextKind, check_text
 from ._values import ObjectPath, Signature, UnixFd, Variant
@@ -40,6 +40,7 @@ __all__ = [
     "Order",
     "Refused",
     "Rule",
+    "RuleSet",
     "Server",
     "Signature",
     "Status",

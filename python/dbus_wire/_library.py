@@ -4,7 +4,7 @@ from __future__ import annotations
 
 import ctypes
 import os
-from ctypes import POINTER, c_char_p, c_size_t, c_uint32, c_uint64, c_void_p
+from ctypes import POINTER, c_char_p, c_size_t, c_uint8, c_uint32, c_uint64, c_void_p
 from typing import Union
 
 # The version of the header that this module was written for. A library of another minor version may have other calls.
@@ -88,8 +88,12 @@ class Taken(ctypes.Structure):
     _fields_ = [("count", c_uint64), ("offset", c_uint64), ("reason", c_uint32), ("field", c_uint32)]
 
 
-class Rule(ctypes.Structure):
+class Rules(ctypes.Structure):
     _fields_ = [("inner", c_void_p)]
+
+
+class RuleId(ctypes.Structure):
+    _fields_ = [("mask", c_uint8), ("hash", c_uint64), ("number", c_uint64)]
 
 
 class RuleRefused(ctypes.Structure):
@@ -134,10 +138,11 @@ _CALLS = {
     "checker_take": (c_uint32, POINTER(Checker), c_char_p, c_size_t, POINTER(Taken)),
     "checker_restart": (c_uint32, POINTER(Checker)),
     "checker_free": (None, POINTER(Checker)),
-    "rule_new": (c_uint32, c_char_p, c_size_t, POINTER(Rule), POINTER(RuleRefused)),
-    "rule_matches": (c_uint32, POINTER(Rule), *_MESSAGE, c_char_p, c_size_t, POINTER(c_uint32)),
-    "rule_text": (c_uint32, POINTER(Rule), c_char_p, c_size_t, POINTER(c_uint64)),
-    "rule_free": (None, POINTER(Rule)),
+    "rules_add": (c_uint32, POINTER(Rules), c_char_p, c_size_t, POINTER(RuleId), POINTER(RuleRefused)),
+    "rules_remove": (c_uint32, POINTER(Rules), POINTER(RuleId)),
+    "rules_matching": (c_uint32, POINTER(Rules), *_MESSAGE, c_char_p, c_size_t, POINTER(RuleId), c_size_t, POINTER(c_uint64)),
+    "rules_text": (c_uint32, POINTER(Rules), POINTER(RuleId), c_char_p, c_size_t, POINTER(c_uint64)),
+    "rules_free": (None, POINTER(Rules)),
     "rule_reason_name": (c_size_t, c_uint32, c_char_p, c_size_t),
     "server_new": (c_uint32, c_char_p, c_size_t, POINTER(Mechanisms), POINTER(Handshake)),
     "client_new": (c_uint32, POINTER(Mechanisms), c_char_p, c_size_t, POINTER(Handshake)),

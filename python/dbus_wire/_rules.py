@@ -5,12 +5,13 @@ from __future__ import annotations
 import ctypes
 import threading
 import weakref
-from collections.abc import Mapping
+from collections.abc import Iterator, Mapping
+from contextlib import contextmanager
 from ctypes import byref
 from types import TracebackType
 
 from . import _library
-from ._library import NO_MEMORY, NO_ROOM, NO_RULE, REFUSED, Bytes, as_bytes, library
+from ._library import NO_MEMORY, NO_ROOM, REFUSED, Bytes, as_bytes, library
 from ._limits import limits_struct
 from ._messages import Message
 from ._texts import TextKind, check_text
@@ -31,57 +32,118 @@ class BadRule(ValueError):
         return f"rule refused at {self.at}: {self.reason}"
 
 
-class Rule:
-    """A match rule: which messages a program wants, as type='signal',path='/a'.
+class RuleSet:
+    """Match rules, each with a number; those that match a message are found without asking each of them.
 
-    As a text it is its canonical text. It may be shared by threads, whose calls wait for each other. `close`, or the end of a `with`,
-    frees it; ValueError is raised by its other calls from then on. Each call may raise MemoryError.
+    It may be shared by threads, whose calls wait for each other. `close`, or the end of a `with`, frees it; ValueError is raised by
+    its other calls from then on. Each call may raise MemoryError.
 
-        rule = Rule("type='signal',sender='org.a.B'")
-        wanted = [message for message in messages(capture) if rule.matches(message, {"org.a.B": ":1.7"})]
+        rules = RuleSet()
+        number = rules.add("type='signal',sender='org.a.B'")
+        wanted = [message for message in messages(capture) if number in rules.matching(message, {"org.a.B": ":1.7"})]
     """
 
-    __slots__ = ("_handle", "_lock", "_free", "__weakref__")
+    __slots__ = ("_handle", "_ids", "_lock", "_free", "__weakref__")
 
-    def __init__(self, text: str | Bytes) -> None:
-        """Makes the rule that the text spells. Raises BadRule if it spells none."""
-        data = text.encode("utf-8", "surrogatepass") if isinstance(text, str) else as_bytes(text)
-        told = _library.RuleRefused()
-        self._handle = _library.Rule()
+    def __init__(self) -> None:
+        self._handle = _library.Rules()
+        self._ids: dict[int, _library.RuleId] = {}
         self._lock = threading.Lock()
-        answer = library.dbus_wire_rule_new(data, len(data), byref(self._handle), byref(told))
-        _raise_if_failed(answer)
-        if answer == REFUSED:
-            raise BadRule(told.offset, _name_of(told.reason))
-        self._free = weakref.finalize(self, library.dbus_wire_rule_free, byref(self._handle))
+        self._free = weakref.finalize(self, library.dbus_wire_rules_free, byref(self._handle))
 
-    def matches(self, message: Message, owners: Mapping[str, str] | None = None) -> bool:
-        """Whether each key of the rule holds of the message. A `sender` that is a well-known name matches a message whose sender is
-        that name itself, or its owner's unique name by the owners. Raises ValueError if the owners have texts that are no bus names."""
-        lines, matches = _owner_lines(owners or {}), ctypes.c_uint32()
+    def add(self, text: str | Bytes) -> int:
+        """Adds the rule that the text spells, and returns its number, which no other rule of the set has had. Raises BadRule if it
+        spells none."""
+        data = text.encode("utf-8", "surrogatepass") if isinstance(text, str) else as_bytes(text)
+        told, added = _library.RuleRefused(), _library.RuleId()
+        with self._open():
+            answer = library.dbus_wire_rules_add(byref(self._handle), data, len(data), byref(added), byref(told))
+            _raise_if_failed(answer)
+            if answer == REFUSED:
+                raise BadRule(told.offset, _name_of(told.reason))
+            self._ids[added.number] = added
+        return int(added.number)
+
+    def remove(self, number: int) -> None:
+        """Removes the rule of this number. Raises KeyError if there is none."""
+        with self._open():
+            library.dbus_wire_rules_remove(byref(self._handle), byref(self._ids.pop(number)))
+
+    def matching(self, message: Message, owners: Mapping[str, str] | None = None) -> list[int]:
+        """The numbers of the rules each key of which holds of the message. A `sender` that is a well-known name matches a message whose
+        sender is that name itself, or its owner's unique name by the owners. Raises ValueError if the owners have texts that are no bus
+        names."""
+        lines, count = _owner_lines(owners or {}), ctypes.c_uint64()
         data = message.data
-        with self._lock:
-            answer = library.dbus_wire_rule_matches(
-                byref(self._handle), data, len(data), byref(limits_struct(None)), lines, len(lines), byref(matches)
+        with self._open():
+            found = (_library.RuleId * len(self._ids))()
+            answer = library.dbus_wire_rules_matching(
+                byref(self._handle), data, len(data), byref(limits_struct(None)), lines, len(lines), found, len(found), byref(count)
             )
         _raise_if_failed(answer)
-        return bool(matches.value)
+        return [rule.number for rule in found[: count.value]]
 
-    def __str__(self) -> str:
+    def text(self, number: int) -> str:
+        """The canonical text of the rule of this number. Raises KeyError if there is none."""
         room, length = 256, ctypes.c_uint64()
         while True:
             text = ctypes.create_string_buffer(room)
-            with self._lock:
-                answer = library.dbus_wire_rule_text(byref(self._handle), text, room, byref(length))
+            with self._open():
+                rule = byref(self._ids[number])
+                answer = library.dbus_wire_rules_text(byref(self._handle), rule, text, room, byref(length))
             _raise_if_failed(answer)
             if answer != NO_ROOM:
                 return text.value.decode("utf-8")
             room = length.value + 1
 
+    def __len__(self) -> int:
+        return len(self._ids)
+
     def close(self) -> None:
-        """Frees the rule. Once more does nothing."""
+        """Frees the rules. Once more does nothing."""
         with self._lock:
             self._free()
+
+    def __enter__(self) -> RuleSet:
+        return self
+
+    def __exit__(self, kind: type[BaseException] | None, error: BaseException | None, traceback: TracebackType | None) -> None:
+        self.close()
+
+    @contextmanager
+    def _open(self) -> Iterator[None]:
+        with self._lock:
+            if not self._free.alive:
+                raise ValueError("the rules are closed")
+            yield
+
+
+class Rule:
+    """A match rule by itself: which messages a program wants, as type='signal',path='/a'. As a text it is its canonical text.
+
+        with Rule("type='signal',sender='org.a.B'") as rule:
+            wanted = [message for message in messages(capture) if rule.matches(message, {"org.a.B": ":1.7"})]
+
+    It is a RuleSet of one rule, with the same errors.
+    """
+
+    __slots__ = ("_rules", "_number")
+
+    def __init__(self, text: str | Bytes) -> None:
+        """Makes the rule that the text spells. Raises BadRule if it spells none."""
+        self._rules = RuleSet()
+        self._number = self._rules.add(text)
+
+    def matches(self, message: Message, owners: Mapping[str, str] | None = None) -> bool:
+        """Whether each key of the rule holds of the message, as `RuleSet.matching` says."""
+        return bool(self._rules.matching(message, owners))
+
+    def __str__(self) -> str:
+        return self._rules.text(self._number)
+
+    def close(self) -> None:
+        """Frees the rule. Once more does nothing."""
+        self._rules.close()
 
     def __enter__(self) -> Rule:
         return self
@@ -106,5 +168,3 @@ def _name_of(reason: int) -> str:
 def _raise_if_failed(answer: int) -> None:
     if answer == NO_MEMORY:
         raise MemoryError
-    if answer == NO_RULE:
-        raise ValueError("the rule is closed")

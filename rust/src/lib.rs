@@ -63,7 +63,7 @@ pub use fault::{Fault, ParseError, Reason, RuleReason};
 pub use handshake::{Client, External, HandshakeError, Server, Status, Step};
 pub use limits::{Descriptors, Limits};
 pub use message::{Flags, Kind, Message};
-pub use rule::{Owners, Rule, RuleError, RuleFault};
+pub use rule::{Owners, Rule, RuleError, RuleFault, RuleId, RuleSet};
 pub use swap::{byteswap, SwapError};
 pub use text::{check_text, TextFault, TextKind};
 pub use value::{Array, Entry, Fields, Value, Values, Variant};

@@ -70,7 +70,121 @@ impl Owners {
     }
 }
 
-/// A match rule: which messages a program wants.
+/// What stands for a rule in the [`RuleSet`] that it was added to, and for no other rule of that set.
+#[derive(Clone, Copy, Debug, PartialEq, Eq, Hash)]
+pub struct RuleId(sys::dbus_wire_rule_id);
+
+/// Match rules. Those that match a message are found without asking each of them.
+///
+/// ```
+/// use dbus_wire::{Message, Owners, RuleSet};
+///
+/// # let signal = b"l\x04\0\x01\0\0\0\0\x01\0\0\0\x2a\0\0\0\x01\x01o\0\x01\0\0\0/\0\0\0\0\0\0\0\x02\x01s\0\x03\0\0\0a.b\0\0\0\0\0\x03\x01s\0\x01\0\0\0c\0\0\0\0\0\0\0";
+/// let mut rules = RuleSet::default();
+/// let (signals, errors) = (rules.add("type='signal',member=c")?, rules.add("type='error'")?);
+/// assert_eq!(rules.matching(&Message::parse(signal)?, &Owners::default())?, [signals]);
+/// assert!(rules.remove(errors) && !rules.remove(errors));
+/// # Ok::<(), Box<dyn std::error::Error>>(())
+/// ```
+#[derive(Debug)]
+pub struct RuleSet {
+    // Rules of the library's, until `drop`.
+    raw: sys::dbus_wire_rules,
+    // How many there are.
+    count: usize,
+}
+
+// SAFETY: the header allows calls on rules from any thread, if one returns before the next begins. Each takes them by a mutable
+// reference, which sees to that.
+unsafe impl Send for RuleSet {}
+
+impl Default for RuleSet {
+    fn default() -> Self {
+        Self { raw: sys::dbus_wire_rules { inner: ptr::null_mut() }, count: 0 }
+    }
+}
+
+impl RuleSet {
+    /// Adds the rule that the text spells. After an error the set has the rules that it had.
+    pub fn add(&mut self, text: &str) -> Result<RuleId, RuleError> {
+        let mut id = sys::dbus_wire_rule_id::default();
+        let mut told = sys::dbus_wire_rule_refused::default();
+        // SAFETY: a slice and references, as `sys` says; only calls write `raw`.
+        match unsafe { sys::dbus_wire_rules_add(&mut self.raw, text.as_ptr(), text.len(), &mut id, &mut told) } {
+            sys::DBUS_WIRE_OK => {
+                self.count += 1;
+                Ok(RuleId(id))
+            }
+            sys::DBUS_WIRE_REFUSED => {
+                let reason = RuleReason::new(told.reason, 0);
+                Err(RuleError::Refused(RuleFault { at: told.offset as usize, reason }))
+            }
+            _ => Err(RuleError::OutOfMemory),
+        }
+    }
+
+    /// Removes the rule. Whether the set had it.
+    pub fn remove(&mut self, id: RuleId) -> bool {
+        // SAFETY: references, as `sys` says; only calls write `raw`.
+        let was = unsafe { sys::dbus_wire_rules_remove(&mut self.raw, &id.0) } == sys::DBUS_WIRE_OK;
+        self.count -= usize::from(was);
+        was
+    }
+
+    /// The rules each key of which holds of the message. A `sender` that is a well-known name matches a message whose SENDER is that
+    /// name itself, or that of its owner.
+    pub fn matching(&mut self, message: &Message<'_>, owners: &Owners) -> Result<Vec<RuleId>, OutOfMemory> {
+        let (bytes, owners, mut count) = (message.bytes(), owners.lines.as_bytes(), 0);
+        let mut ids = vec![sys::dbus_wire_rule_id::default(); self.count];
+        // SAFETY: slices and references, as `sys` says; only calls write `raw`.
+        let answer = unsafe {
+            sys::dbus_wire_rules_matching(
+                &mut self.raw,
+                bytes.as_ptr(),
+                bytes.len(),
+                &Limits::default().raw(),
+                owners.as_ptr(),
+                owners.len(),
+                ids.as_mut_ptr(),
+                ids.len(),
+                &mut count,
+            )
+        };
+        match answer {
+            sys::DBUS_WIRE_WHOLE => Ok(ids.into_iter().take(count as usize).map(RuleId).collect()),
+            sys::DBUS_WIRE_NO_MEMORY => Err(OutOfMemory),
+            answer => unreachable!("rules answer {answer} of a message"),
+        }
+    }
+
+    /// The canonical text of the rule, if the set has it: each key once in a fixed order, joined by commas without spaces, each value
+    /// between apostrophes. It spells the same rule.
+    pub fn text(&mut self, id: RuleId) -> Result<Option<String>, OutOfMemory> {
+        let mut text = vec![0; 256];
+        loop {
+            let mut length = 0;
+            // SAFETY: a mutable slice and references, as `sys` says; only calls write `raw`.
+            match unsafe { sys::dbus_wire_rules_text(&mut self.raw, &id.0, text.as_mut_ptr(), text.len(), &mut length) } {
+                sys::DBUS_WIRE_OK => {
+                    text.truncate(length as usize);
+                    return Ok(Some(String::from_utf8(text).expect("a rule's text is UTF-8")));
+                }
+                sys::DBUS_WIRE_NO_ROOM => text.resize(length as usize + 1, 0),
+                sys::DBUS_WIRE_NO_RULE => return Ok(None),
+                _ => return Err(OutOfMemory),
+            }
+        }
+    }
+}
+
+impl Drop for RuleSet {
+    fn drop(&mut self) {
+        // SAFETY: a reference, as `sys` says; only calls write `raw`, and nothing uses it after its drop.
+        unsafe { sys::dbus_wire_rules_free(&mut self.raw) };
+    }
+}
+
+/// A match rule by itself: which messages a program wants. It is a [`RuleSet`] of one rule.
 ///
 /// ```
 /// use dbus_wire::{Message, Owners, Rule};
@@ -83,75 +197,25 @@ impl Owners {
 /// ```
 #[derive(Debug)]
 pub struct Rule {
-    // A rule of the library's, from `parse` until `drop`.
-    raw: sys::dbus_wire_rule,
+    rules: RuleSet,
+    id: RuleId,
 }
-
-// SAFETY: the header allows calls on a rule from any thread, if one returns before the next begins. Each takes the rule by a mutable
-// reference, which sees to that.
-unsafe impl Send for Rule {}
 
 impl Rule {
     /// The rule that the text spells.
     pub fn parse(text: &str) -> Result<Self, RuleError> {
-        let mut raw = sys::dbus_wire_rule { inner: ptr::null_mut() };
-        let mut told = sys::dbus_wire_rule_refused::default();
-        // SAFETY: a slice and references, as `sys` says, to what is no rule yet.
-        match unsafe { sys::dbus_wire_rule_new(text.as_ptr(), text.len(), &mut raw, &mut told) } {
-            sys::DBUS_WIRE_OK => Ok(Self { raw }),
-            sys::DBUS_WIRE_REFUSED => {
-                let reason = RuleReason::new(told.reason, 0);
-                Err(RuleError::Refused(RuleFault { at: told.offset as usize, reason }))
-            }
-            _ => Err(RuleError::OutOfMemory),
-        }
+        let mut rules = RuleSet::default();
+        let id = rules.add(text)?;
+        Ok(Self { rules, id })
     }
 
-    /// Whether each key of the rule holds of the message. A `sender` that is a well-known name matches a message whose SENDER is that
-    /// name itself, or that of its owner.
+    /// Whether each key of the rule holds of the message, as [`RuleSet::matching`] says.
     pub fn matches(&mut self, message: &Message<'_>, owners: &Owners) -> Result<bool, OutOfMemory> {
-        let (bytes, owners, mut matches) = (message.bytes(), owners.lines.as_bytes(), 0);
-        // SAFETY: slices and references, as `sys` says; only calls write `raw` from `parse` on.
-        let answer = unsafe {
-            sys::dbus_wire_rule_matches(
-                &mut self.raw,
-                bytes.as_ptr(),
-                bytes.len(),
-                &Limits::default().raw(),
-                owners.as_ptr(),
-                owners.len(),
-                &mut matches,
-            )
-        };
-        match answer {
-            sys::DBUS_WIRE_WHOLE => Ok(matches != 0),
-            sys::DBUS_WIRE_NO_MEMORY => Err(OutOfMemory),
-            answer => unreachable!("a rule answers {answer} of a message"),
-        }
+        Ok(!self.rules.matching(message, owners)?.is_empty())
     }
 
-    /// Its canonical text: each key once in a fixed order, joined by commas without spaces, each value between apostrophes.
-    /// [`Rule::parse`] makes the same rule of it.
+    /// Its canonical text, as [`RuleSet::text`] gives it.
     pub fn to_text(&mut self) -> Result<String, OutOfMemory> {
-        let mut text = vec![0; 256];
-        loop {
-            let mut length = 0;
-            // SAFETY: a mutable slice and references, as `sys` says; only calls write `raw` from `parse` on.
-            match unsafe { sys::dbus_wire_rule_text(&mut self.raw, text.as_mut_ptr(), text.len(), &mut length) } {
-                sys::DBUS_WIRE_OK => {
-                    text.truncate(length as usize);
-                    return Ok(String::from_utf8(text).expect("a rule's text is UTF-8"));
-                }
-                sys::DBUS_WIRE_NO_ROOM => text.resize(length as usize + 1, 0),
-                _ => return Err(OutOfMemory),
-            }
-        }
-    }
-}
-
-impl Drop for Rule {
-    fn drop(&mut self) {
-        // SAFETY: a reference, as `sys` says; only calls write `raw` from `parse` on, and nothing uses it after its drop.
-        unsafe { sys::dbus_wire_rule_free(&mut self.raw) };
+        Ok(self.rules.text(self.id)?.expect("the set has the rule"))
     }
 }

@@ -8,7 +8,7 @@
 //! * Of a slice its pointer and its length. The pointer is not null, and has so many readable bytes, `isize::MAX` at most, which
 //!   nothing writes as long as the slice is borrowed. Those of a `&mut` slice may be written, and overlap no other argument.
 //! * References to structs of this module: they are not null, aligned and initialized, and a `&mut` one overlaps no other argument.
-//! * Of a [`dbus_wire_checker`], a [`dbus_wire_rule`] or a [`dbus_wire_handshake`] one that only calls have written since it was made with a
+//! * Of a [`dbus_wire_checker`], [`dbus_wire_rules`] or a [`dbus_wire_handshake`] one that only calls have written since it was made with a
 //!   null pointer.
 //!
 //! That there is stack for a call is the one thing that nothing ensures: see the crate's documentation.
@@ -229,8 +229,16 @@ pub struct dbus_wire_taken {
 
 #[repr(C)]
 #[derive(Debug)]
-pub struct dbus_wire_rule {
+pub struct dbus_wire_rules {
     pub inner: *mut c_void,
+}
+
+#[repr(C)]
+#[derive(Clone, Copy, Debug, Default, PartialEq, Eq, Hash)]
+pub struct dbus_wire_rule_id {
+    pub mask: u8,
+    pub hash: u64,
+    pub number: u64,
 }
 
 #[repr(C)]
@@ -276,7 +284,8 @@ const _: () = assert!(size_of::<dbus_wire_array>() == 16);
 const _: () = assert!(size_of::<dbus_wire_text_checked>() == 16);
 const _: () = assert!(size_of::<dbus_wire_checker>() == 8);
 const _: () = assert!(size_of::<dbus_wire_taken>() == 24);
-const _: () = assert!(size_of::<dbus_wire_rule>() == 8);
+const _: () = assert!(size_of::<dbus_wire_rules>() == 8);
+const _: () = assert!(size_of::<dbus_wire_rule_id>() == 24);
 const _: () = assert!(size_of::<dbus_wire_rule_refused>() == 16);
 const _: () = assert!(size_of::<dbus_wire_mechanisms>() == 16);
 const _: () = assert!(size_of::<dbus_wire_handshake>() == 8);
@@ -362,19 +371,33 @@ extern "C" {
     ) -> u32;
     pub fn dbus_wire_checker_restart(checker: *mut dbus_wire_checker) -> u32;
     pub fn dbus_wire_checker_free(checker: *mut dbus_wire_checker);
-    pub fn dbus_wire_rule_new(text: *const u8, length: usize, rule: *mut dbus_wire_rule, out: *mut dbus_wire_rule_refused)
-        -> u32;
-    pub fn dbus_wire_rule_matches(
-        rule: *mut dbus_wire_rule,
+    pub fn dbus_wire_rules_add(
+        rules: *mut dbus_wire_rules,
+        text: *const u8,
+        length: usize,
+        id: *mut dbus_wire_rule_id,
+        out: *mut dbus_wire_rule_refused,
+    ) -> u32;
+    pub fn dbus_wire_rules_remove(rules: *mut dbus_wire_rules, id: *const dbus_wire_rule_id) -> u32;
+    pub fn dbus_wire_rules_matching(
+        rules: *mut dbus_wire_rules,
         bytes: *const u8,
         length: usize,
         limits: *const dbus_wire_limits,
         owners: *const u8,
         owners_length: usize,
-        matches: *mut u32,
+        ids: *mut dbus_wire_rule_id,
+        room: usize,
+        count: *mut u64,
     ) -> u32;
-    pub fn dbus_wire_rule_text(rule: *mut dbus_wire_rule, out: *mut u8, room: usize, length: *mut u64) -> u32;
-    pub fn dbus_wire_rule_free(rule: *mut dbus_wire_rule);
+    pub fn dbus_wire_rules_text(
+        rules: *mut dbus_wire_rules,
+        id: *const dbus_wire_rule_id,
+        out: *mut u8,
+        room: usize,
+        length: *mut u64,
+    ) -> u32;
+    pub fn dbus_wire_rules_free(rules: *mut dbus_wire_rules);
     pub fn dbus_wire_rule_reason_name(reason: u32, out: *mut u8, room: usize) -> usize;
     pub fn dbus_wire_server_new(
         guid: *const u8,

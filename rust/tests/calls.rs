@@ -4,7 +4,8 @@ use std::thread;
 
 use dbus_wire::{
     build, byteswap, check, check_text, wanted, Answer, BuildError, Checker, Client, Descriptors, External, Fault,
-    HandshakeError, Kind, Limits, Message, Order, Owners, ParseError, Parts, Reason, Rule, RuleError, RuleReason, Server, Status,
+    HandshakeError, Kind, Limits, Message, Order, Owners, ParseError, Parts, Reason, Rule, RuleError, RuleReason, RuleSet, Server,
+    Status,
     SwapError, Taken, TextFault, TextKind, Value, Values,
 };
 
@@ -364,6 +365,14 @@ fn rules_match_messages_by_their_keys_and_owners() {
     assert!(holds("sender='org.a.B'", &owners));
     assert_eq!(owners.add("org.a.B\nx", ":1.2"), Err(TextFault::Bad { at: 7 }));
     assert!(!holds("sender='org.a.C'", &owners));
+
+    let mut rules = RuleSet::default();
+    let [all, mine, errors] = ["", "sender='org.a.B'", "type='error'"].map(|text| rules.add(text).unwrap());
+    let found = rules.matching(&message, &owners).unwrap();
+    assert!(found.len() == 2 && found.contains(&all) && found.contains(&mine));
+    assert!(rules.remove(mine) && !rules.remove(mine) && rules.text(mine).unwrap().is_none());
+    assert_eq!(rules.matching(&message, &owners).unwrap(), [all]);
+    assert_eq!(rules.text(errors).unwrap().unwrap(), "type='error'");
 }
 
 #[test]

@@ -35,11 +35,11 @@ IsTold (Some check) m answer old new = (answer ≡ answer_of check) × (new ≡ 
 -- a piece is handed to the checker, and what it answers is told
 pub record TellsPiece (before after : Option Kept) (piece : List ℕ) (answer : ℕ) (old new : Taken) : Type 0 where
   pub check : Option Check
-  pub handed : Handed before after piece check
+  pub handed : Handed (checker_of before) before after piece check
   pub is_told : IsTold check (length piece) answer old new
 
 -- the checker begins again, under its limits; or there is none
 pub record TellsRestart (before after : Option Kept) (answer : ℕ) : Type 0 where
   pub is_checker : Bool
-  pub restarted : Restarted before after is_checker
+  pub restarted : Restarted (checker_of before) before after is_checker
   pub is_told : answer ≡ (if is_checker then WHOLE else NO_CHECKER)

@@ -11,7 +11,7 @@ use Rattle.dbus_c_auth.specs.declared.handshake.Handshake.{Handshake}
 use Rattle.dbus_c_auth.specs.declared.step.Step.{Step}
 use Rattle.dbus_c_auth.specs.declared.step.TakeFault.{TakeFault}
 use Rattle.dbus_c_auth.specs.declared.step.TakeFault.TheVariants as fault
-use Rattle.dbus_c_handle.specs.Handshakes.{Goes, kept_as}
+use Rattle.dbus_c_handle.specs.Handshakes.{Goes, handshake_of, kept_as}
 use Rattle.dbus_c_handle.specs.declared.kept.Kept.{Kept}
 use Rattle.dbus_c.specs.declared.answers.TheConstants.{WHOLE, PARTIAL, REFUSED, NO_MEMORY, NO_ROOM, NO_VALUE, NO_HANDSHAKE}
 use Rattle.dbus_c.specs.declared.handshakes.HandshakeStep.{HandshakeStep}
@@ -50,7 +50,7 @@ IsStepTold (Some (Ok s)) answer old new = (answer ≡ number_of s.status) × (ne
 -- a piece is handed to the end, and what it answers is told
 pub record TellsStep (before after : Option Kept) (piece old_room new_room : List ℕ) (answer : ℕ) (old new : HandshakeStep) : Type 0 where
   pub result : Option (Result Step TakeFault)
-  pub goes : Goes before after piece old_room new_room result
+  pub goes : Goes (handshake_of before) before after piece old_room new_room result
   pub is_told : IsStepTold result answer old new
 
 -- the digits of a GUID are written, if there is room for them

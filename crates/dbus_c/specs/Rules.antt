@@ -1,16 +1,21 @@
--- What is told by numbers of a match rule: of its text, of a message that it may match, and its canonical text.
+-- What is told by numbers of match rules: of a rule's text, of a message that they may match, and a rule's canonical text.
 -- D-Bus Specification, "Match Rules".
-use Rattle.std.specs.Prelude.{◌≡◌, ◌≢◌, ◌⊎◌, ℕ, ◌+◌, ◌<◌, ◌≤◌, List, ◌∷◌, ◌++◌, length, drop, Option, Some, None, IsUtf8}
+use Rattle.std.specs.Prelude.{◌≡◌, ◌⊎◌, ℕ, ◌+◌, ◌<◌, ◌≤◌, List, [], ◌∷◌, ◌++◌, length, drop, Option, Some, None, IsUtf8}
 use Rattle.std.specs.Str.Lossy.{utf8_valid_len}
+use Rattle.std.specs.declared.alloc.Global.{Global}
 use Rattle.dbus_value_model.specs.declared.limits.Limits.{Limits}
 use Rattle.dbus_value_model.specs.declared.order.Order.{Order}
 use Rattle.dbus_message_model.specs.Messages.{MessageTree}
 use Rattle.dbus_header.specs.MessageOutcomes.{IsWhole}
 use Rattle.dbus_match.specs.Faults.{IsFault}
-use Rattle.dbus_match.specs.Matching.{Matches, Ownership}
-use Rattle.dbus_match.specs.Rules.{Pair, SpellsRule, canonical}
+use Rattle.dbus_match.specs.Matching.{Ownership}
+use Rattle.dbus_match.specs.Rules.{canonical}
+use Rattle.dbus_match.specs.RuleViews.{rule_pairs}
 use Rattle.dbus_match.specs.declared.fault.RuleReason.{RuleReason}
-use Rattle.dbus_c_handle.specs.Rules.{rule_of}
+use Rattle.dbus_match.specs.declared.rule.Rule.{Rule}
+use Rattle.dbus_rule_set.specs.Held.{Collects, EntryMatches}
+use Rattle.dbus_rule_set.specs.declared.handle.RuleHandle.{RuleHandle}
+use Rattle.dbus_c_handle.specs.Rules.{Adds, KeepsRules}
 use Rattle.dbus_c_handle.specs.declared.kept.Kept.{Kept}
 use Rattle.dbus_c.specs.Outcomes.{BeginsWithMessage, TellsApart}
 use Rattle.dbus_c.specs.Owners.{AreOwnersIn}
@@ -22,31 +27,42 @@ use Rattle.dbus_c.specs.declared.rules.RuleRefused.{RuleRefused}
 abbrev pub rule_fault_told : ℕ → ℕ → RuleRefused
 rule_fault_told at reason = record { offset = at; reason = reason; reserved = 0 }
 
--- the rule that the text spells is kept; or there is none, and the text's fault is told, or that it is not UTF-8, or that memory ran out
-pub data TellsRule (w : List ℕ) (answer : ℕ) (state : Option Kept) (old new : RuleRefused) : Type 0 where
-  made : (ps : List Pair) → SpellsRule w ps → IsUtf8 w → rule_of state ≡ Some ps → answer ≡ WHOLE → new ≡ old → TellsRule w answer state old new
-  faulty : (reason : RuleReason) (at : ℕ) → IsFault w reason at → IsUtf8 w → state ≡ None → answer ≡ REFUSED → new ≡ rule_fault_told at (rule_reason_number reason)
-      → TellsRule w answer state old new
-  no_text : (IsUtf8 w → ⊥) → state ≡ None → answer ≡ REFUSED → new ≡ rule_fault_told (utf8_valid_len w) NOT_UTF8 → TellsRule w answer state old new
-  no_memory : state ≡ None → answer ≡ NO_MEMORY → new ≡ old → TellsRule w answer state old new
+-- the rule that the text spells is added, and what stands for it is told; or the rules stay, and the text's fault is told, or that it is
+-- not UTF-8, or that memory ran out
+pub data TellsRule (w : List ℕ) (answer : ℕ) (before after : Option Kept) (id_old id_new : RuleHandle) (old new : RuleRefused) : Type 0 where
+  added : IsUtf8 w → Adds w before after id_new → answer ≡ WHOLE → new ≡ old → TellsRule w answer before after id_old id_new old new
+  faulty : (reason : RuleReason) (at : ℕ) → IsFault w reason at → IsUtf8 w → KeepsRules before after → answer ≡ REFUSED → id_new ≡ id_old
+      → new ≡ rule_fault_told at (rule_reason_number reason) → TellsRule w answer before after id_old id_new old new
+  no_text : (IsUtf8 w → ⊥) → KeepsRules before after → answer ≡ REFUSED → id_new ≡ id_old → new ≡ rule_fault_told (utf8_valid_len w) NOT_UTF8
+      → TellsRule w answer before after id_old id_new old new
+  no_memory : KeepsRules before after → answer ≡ NO_MEMORY → id_new ≡ id_old → new ≡ old → TellsRule w answer before after id_old id_new old new
 
--- what is answered of a message, if memory does not run out
-abbrev pub answer_with : Option (List Pair) → ℕ
-answer_with None = NO_RULE
-answer_with (Some ps) = WHOLE
+-- there was a rule to remove, or none
+abbrev pub removal_told : Option (Rule Global) → ℕ
+removal_told None = NO_RULE
+removal_told (Some rule) = WHOLE
 
--- 1 if the rule matches the message, and 0 if not
-abbrev pub IsMatchTold : Option (List Pair) → MessageTree → List Ownership → ℕ → Type 0
-IsMatchTold None m os told = ⊥
-IsMatchTold (Some ps) m os told = (Matches ps m os × (told ≡ 1)) ⊎ ((Matches ps m os → ⊥) × (told ≡ 0))
+-- all handles are told, at the start of a room that has room for them; or it has not
+pub data TellsAll (handles : List RuleHandle) (answer : ℕ) (old new : List RuleHandle) : Type 0 where
+  written : length handles ≤ length old → answer ≡ WHOLE → new ≡ handles ++ drop (length handles) old → TellsAll handles answer old new
+  no_room : length old < length handles → answer ≡ NO_ROOM → new ≡ old → TellsAll handles answer old new
 
--- what is told of a rule, or none, and of the message that bytes begin with, with the owners that other bytes give
-pub record TellsMatch (rule : Option (List Pair)) (limits : Limits) (b owners : List ℕ) (answer old new : ℕ) : Type 0 where
+-- what stands for each rule that matches the message is told, and how many there are
+abbrev pub TellsFound : List (RuleHandle × Rule Global) → MessageTree → List Ownership → ℕ → (old new : List RuleHandle) → (count : ℕ) → Type 0
+TellsFound rules m os answer old new count =
+    (found : List RuleHandle) × Collects (EntryMatches m os) rules [] found × TellsAll found answer old new × (count ≡ length found)
+
+abbrev pub HasFound : ℕ → Type 0
+HasFound answer = (answer ≡ WHOLE) ⊎ (answer ≡ NO_ROOM)
+
+-- what is told of rules, and of the message that bytes begin with, with the owners that other bytes give
+pub record TellsMatching (rules : List (RuleHandle × Rule Global)) (limits : Limits) (b owners : List ℕ) (answer : ℕ) (old new : List RuleHandle)
+    (count_old count_new : ℕ) : Type 0 where
   pub apart : TellsApart limits b answer
-  pub message : BeginsWithMessage limits b → (answer ≡ answer_with rule) ⊎ (answer ≡ NO_MEMORY)
-  pub matches : answer ≡ WHOLE → (order : Order) (m : MessageTree) (n : ℕ) (os : List Ownership) → IsWhole limits b order m n → AreOwnersIn owners os
-      → IsMatchTold rule m os new
-  pub unchanged : answer ≢ WHOLE → new ≡ old
+  pub message : BeginsWithMessage limits b → HasFound answer ⊎ (answer ≡ NO_MEMORY)
+  pub found : HasFound answer → (order : Order) (m : MessageTree) (n : ℕ) (os : List Ownership) → IsWhole limits b order m n → AreOwnersIn owners os
+      → TellsFound rules m os answer old new count_new
+  pub unchanged : (HasFound answer → ⊥) → (new ≡ old) × (count_new ≡ count_old)
 
 -- a text and a 0 after it are written, or there is no room for both, and its length is told; or memory ran out
 pub data TellsText (w : List ℕ) (answer : ℕ) (old new : List ℕ) (long_old long_new : ℕ) : Type 0 where
@@ -55,6 +71,6 @@ pub data TellsText (w : List ℕ) (answer : ℕ) (old new : List ℕ) (long_old 
   no_memory : answer ≡ NO_MEMORY → new ≡ old → long_new ≡ long_old → TellsText w answer old new long_old long_new
 
 -- a rule's canonical text is told; or there is no rule
-abbrev pub TellsRuleText : Option (List Pair) → ℕ → List ℕ → List ℕ → ℕ → ℕ → Type 0
+abbrev pub TellsRuleText : Option (Rule Global) → ℕ → List ℕ → List ℕ → ℕ → ℕ → Type 0
 TellsRuleText None answer old new long_old long_new = (answer ≡ NO_RULE) × (new ≡ old) × (long_new ≡ long_old)
-TellsRuleText (Some ps) answer old new long_old long_new = TellsText (canonical ps) answer old new long_old long_new
+TellsRuleText (Some rule) answer old new long_old long_new = TellsText (canonical (rule_pairs rule)) answer old new long_old long_new

@@ -25,7 +25,7 @@ pub const NO_KIND: u32 = 6;
 /// There is no checker: none was made, or it was freed.
 pub const NO_CHECKER: u32 = 7;
 
-/// There is no rule: none was made, or it was freed.
+/// What is given stands for no rule: it never did, or the rule was removed or freed.
 pub const NO_RULE: u32 = 8;
 
 /// There is no end of a handshake: none was made, or it was freed.

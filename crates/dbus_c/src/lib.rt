@@ -4,8 +4,8 @@
 //! [`dbus_wire_check`] checks bytes, [`dbus_wire_wanted`] says how many to read, [`dbus_wire_parts_of`] and
 //! [`dbus_wire_argument_of`] give a message's parts, and [`dbus_wire_swap`] byteswaps. [`dbus_wire_body_cursor`] and
 //! [`dbus_wire_next`] give the values of its body, [`dbus_wire_fields_cursor`] and [`dbus_wire_next_field`] its header fields. [`dbus_wire_checker_new`] makes a checker that is handed one piece after another, and
-//! [`dbus_wire_rule_new`] a match rule; [`dbus_wire_server_new`] and [`dbus_wire_client_new`] make an end of a handshake, and
-//! [`dbus_wire_build`] builds a message of its parts, whose body [`dbus_wire_put_number`] and its like spell. Of the other calls those on a rule and [`dbus_wire_handshake_take`] take memory too.
+//! [`dbus_wire_rules_add`] keeps match rules; [`dbus_wire_server_new`] and [`dbus_wire_client_new`] make an end of a handshake, and
+//! [`dbus_wire_build`] builds a message of its parts, whose body [`dbus_wire_put_number`] and its like spell. Of the other calls those on rules and [`dbus_wire_handshake_take`] take memory too.
 //! `include/dbus_wire.h` declares them and says what a caller owes; `examples/c` has callers.
 #![tactic(auto)]
 
@@ -55,8 +55,8 @@ pub use rule_reasons::{
     NOT_UTF8, dbus_wire_rule_reason_name, rule_names_are_texts, rule_reason_number,
 };
 pub use rules::{
-    RuleRefused, dbus_wire_rule_free, dbus_wire_rule_matches, dbus_wire_rule_new,
-    dbus_wire_rule_text,
+    RuleRefused, dbus_wire_rules_add, dbus_wire_rules_free, dbus_wire_rules_matching,
+    dbus_wire_rules_remove, dbus_wire_rules_text,
 };
 pub use swapping::dbus_wire_swap;
 pub use texts::{TextChecked, dbus_wire_text_check};

@@ -1,10 +1,11 @@
-//! A match rule that C keeps from call to call.
+//! Match rules that C keeps from call to call.
 #![tactic(auto)]
 
 ghost use Rattle.std.specs.Prelude.{◌≡◌, None};
 ghost use Rattle.dbus_c.specs.GivenLimits.{limits_of};
-ghost use Rattle.dbus_c.specs.Rules.{TellsMatch, TellsRule, TellsRuleText, rule_fault_told};
-ghost use Rattle.dbus_c_handle.specs.Rules.{rule_of};
+ghost use Rattle.dbus_c.specs.Rules.{TellsAll, TellsMatching, TellsRule, TellsRuleText, removal_told, rule_fault_told};
+ghost use Rattle.dbus_c_handle.specs.Rules.{given_of, rules_of};
+ghost use Rattle.dbus_rule_set.specs.Held.{rule_at, without};
 
 use crate::answers::{NO_MEMORY, NO_ROOM, NO_RULE, REFUSED, WHOLE};
 use crate::arguments::first_view;
@@ -15,6 +16,7 @@ use crate::owners::owners_in;
 use crate::rule_reasons::{NOT_UTF8, rule_reason_number};
 use dbus_c_handle::WireHandle;
 use dbus_match::RuleFault;
+use dbus_rule_set::RuleHandle;
 use std::alloc::Global;
 
 /// Why a text spells no rule.
@@ -29,28 +31,32 @@ pub struct RuleRefused {
     pub reserved: u32,
 }
 
-/// Makes the match rule that the text spells: [`WHOLE`]. Else there is none: [`REFUSED`] with the text's one fault, as
-/// [`dbus_match::parse_rule`] finds it, or that it is not UTF-8, which comes first; [`NO_MEMORY`] if memory runs out. In the first and
-/// the last case `out` stays as it is. What the handle kept is not freed. D-Bus Specification, "Match Rules".
+/// Adds the match rule that the text spells to the rules, and writes to `id` what stands for it, which stands for none before:
+/// [`WHOLE`]. Else the rules stay as they are: [`REFUSED`] with the text's one fault, as [`dbus_match::parse_rule`] finds it, or that it
+/// is not UTF-8, which comes first; [`NO_MEMORY`] if memory runs out. `id` changes in the first case alone, and `out` in the second.
+/// D-Bus Specification, "Match Rules".
 #[unsafe(no_mangle)]
-pub extern "C" fn dbus_wire_rule_new(
+pub extern "C" fn dbus_wire_rules_add(
     alloc: Global,
+    rules: &mut WireHandle,
     text: &[u8],
-    rule: &mut WireHandle,
+    id: &mut RuleHandle,
     out: &mut RuleRefused,
 ) -> u32
-    ensures { TellsRule text.now result rule.new.state out.old out.new }
+    ensures { TellsRule text.now result rules.old.state rules.new.state id.old id.new out.old out.new }
 {
-    let read = match str::from_utf8(text) {
-        Ok(text) => rule.make_rule(alloc, text),
+    let added = match str::from_utf8(text) {
+        Ok(text) => rules.add_rule(alloc, text),
         Err(error) => {
-            *rule = WireHandle::none();
             *out = fault_at(error.valid_up_to(), NOT_UTF8);
             return REFUSED;
         }
     };
-    match read {
-        Ok(()) => WHOLE,
+    match added {
+        Ok(handle) => {
+            *id = handle;
+            WHOLE
+        }
         Err(RuleFault::Memory) => NO_MEMORY,
         Err(RuleFault::Bad { at, reason }) => {
             *out = fault_at(at, rule_reason_number(reason));
@@ -59,25 +65,45 @@ pub extern "C" fn dbus_wire_rule_new(
     }
 }
 
-/// Whether the rule matches the message within the limits that the bytes begin with: [`WHOLE`], with 1 in `matches` if it does and
-/// 0 if not. [`crate::PARTIAL`] and [`REFUSED`] as [`crate::dbus_wire_check`]. Of a message, [`NO_MEMORY`] if memory runs out, and
-/// [`NO_RULE`] if there is no rule. In these four cases `matches` stays as it is.
+/// Removes the rule that `id` stands for: [`WHOLE`]; [`NO_RULE`] if it stands for none. From then on it stands for none.
+#[unsafe(no_mangle)]
+pub extern "C" fn dbus_wire_rules_remove(
+    alloc: Global,
+    rules: &mut WireHandle,
+    id: &RuleHandle,
+) -> u32
+    ensures told { result ≡ removal_told (rule_at id.now (rules_of rules.old.state)) }
+    ensures removed { rules_of rules.new.state ≡ without id.now (rules_of rules.old.state) }
+    ensures given { given_of rules.new.state ≡ given_of rules.old.state }
+{
+    if rules.remove_rule(alloc, *id) {
+        WHOLE
+    } else {
+        NO_RULE
+    }
+}
+
+/// Writes what stands for each rule that matches the message within the limits that the bytes begin with at the start of `ids`:
+/// [`WHOLE`]. [`NO_ROOM`] if `ids` is too short for them, and then it stays as it is. In both cases `count` is their number.
+/// [`crate::PARTIAL`] and [`REFUSED`] as [`crate::dbus_wire_check`]. Of a message, [`NO_MEMORY`] if memory runs out. In these three
+/// cases `ids` and `count` stay as they are.
 ///
 /// A rule's `sender` that is a well-known name matches a message whose SENDER is that name, or one that `owners` gives it: a line
-/// `name=unique` for each owner of a name. The text is UTF-8; else it names no owners. It takes memory for them.
+/// `name=unique` for each owner of a name. The text is UTF-8; else it names no owners. It takes memory for them, and for what it finds.
 /// D-Bus Specification, "Match Rules".
 #[unsafe(no_mangle)]
-pub extern "C" fn dbus_wire_rule_matches(
+pub extern "C" fn dbus_wire_rules_matching(
     alloc: Global,
-    rule: &mut WireHandle,
+    rules: &mut WireHandle,
     bytes: &[u8],
     limits: &WireLimits,
     owners: &[u8],
-    matches: &mut u32,
+    ids: &mut [RuleHandle],
+    count: &mut u64,
 ) -> u32
-    ensures same { rule.new.state ≡ rule.old.state }
-    ensures told { TellsMatch (rule_of rule.old.state) (limits_of limits.now) bytes.now owners.now result
-        matches.old matches.new }
+    ensures same { rules.new.state ≡ rules.old.state }
+    ensures told { TellsMatching (rules_of rules.old.state) (limits_of limits.now) bytes.now owners.now result
+        ids.old ids.new count.old count.new }
 {
     let within = given_limits(limits);
     let Some(view) = first_view(bytes, within) else {
@@ -86,29 +112,28 @@ pub extern "C" fn dbus_wire_rule_matches(
     let Ok(owners) = owners_in(alloc, owners) else {
         return NO_MEMORY;
     };
-    match rule.matches(alloc, &view, &owners) {
-        Some(answer) => {
-            *matches = u32::from(answer);
-            WHOLE
-        }
-        None => NO_RULE,
-    }
+    let Ok(found) = rules.matching(alloc, &view, &owners) else {
+        return NO_MEMORY;
+    };
+    *count = found.len() as u64;
+    tell_all(&found, ids)
 }
 
-/// Writes the canonical text of the rule and a 0 after it at the start of `out`: [`WHOLE`]. [`NO_ROOM`] if `out` is too short for
-/// both. In both cases `length` is the text's number of bytes. [`NO_MEMORY`] if memory runs out, and [`NO_RULE`] if there is no rule;
-/// then `length` stays as it is. `out` changes under [`WHOLE`] alone. D-Bus Specification, "Match Rules".
+/// Writes the canonical text of the rule that `id` stands for and a 0 after it at the start of `out`: [`WHOLE`]. [`NO_ROOM`] if `out`
+/// is too short for both. In both cases `length` is the text's number of bytes. [`NO_MEMORY`] if memory runs out, and [`NO_RULE`] if it
+/// stands for none; then `length` stays as it is. `out` changes under [`WHOLE`] alone. D-Bus Specification, "Match Rules".
 #[unsafe(no_mangle)]
-pub extern "C" fn dbus_wire_rule_text(
+pub extern "C" fn dbus_wire_rules_text(
     alloc: Global,
-    rule: &mut WireHandle,
+    rules: &mut WireHandle,
+    id: &RuleHandle,
     out: &mut [u8],
     length: &mut u64,
 ) -> u32
-    ensures same { rule.new.state ≡ rule.old.state }
-    ensures told { TellsRuleText (rule_of rule.old.state) result out.old out.new length.old length.new }
+    ensures same { rules.new.state ≡ rules.old.state }
+    ensures told { TellsRuleText (rule_at id.now (rules_of rules.old.state)) result out.old out.new length.old length.new }
 {
-    match rule.canonical_text(alloc) {
+    match rules.canonical_text(alloc, *id) {
         None => NO_RULE,
         Some(Err(_)) => NO_MEMORY,
         Some(Ok(text)) => {
@@ -122,12 +147,23 @@ pub extern "C" fn dbus_wire_rule_text(
     }
 }
 
-/// Frees the rule, if there is one: from then on there is none.
+/// Frees the rules, if there are any: from then on there are none.
 #[unsafe(no_mangle)]
-pub extern "C" fn dbus_wire_rule_free(alloc: Global, rule: &mut WireHandle)
-    ensures { rule.new.state ≡ None }
+pub extern "C" fn dbus_wire_rules_free(alloc: Global, rules: &mut WireHandle)
+    ensures { rules.new.state ≡ None }
 {
-    rule.free(alloc);
+    rules.free(alloc);
+}
+
+// Writes all handles at the start of the room, if it has room for them.
+fn tell_all(handles: &[RuleHandle], room: &mut [RuleHandle]) -> u32
+    ensures { TellsAll handles.now result room.old room.new }
+{
+    if room.len() < handles.len() {
+        return NO_ROOM;
+    }
+    room[..handles.len()].copy_from_slice(handles);
+    WHOLE
 }
 
 // What is told of a fault at this place.

@@ -9,10 +9,8 @@ use Rattle.dbus_c_handle.specs.declared.kept.Kept.TheVariants as kept
 
 -- the checker that is kept
 abbrev pub checker_of : Option Kept → Option CheckerState
-checker_of None = None
 checker_of (Some (kept.Checker b)) = Some b.value
-checker_of (Some (kept.Rule r)) = None
-checker_of (Some (kept.Handshake h)) = None
+checker_of _ = None
 
 -- there is a checker under the limits, and it was handed nothing
 abbrev pub IsFresh : Limits → Option CheckerState → Type 0
@@ -33,15 +31,11 @@ AnswersIn x (Some y) piece None = ⊥
 AnswersIn x (Some y) piece (Some check) = Answers x y piece check
 
 -- a handle is handed a piece: its checker takes it; or it keeps none, stays as it is and answers nothing
-abbrev pub Handed : Option Kept → Option Kept → List ℕ → Option Check → Type 0
-Handed (Some (kept.Checker b)) new piece answer = AnswersIn b.value (checker_of new) piece answer
-Handed None new piece answer = (new ≡ None) × (answer ≡ None)
-Handed (Some (kept.Rule r)) new piece answer = (new ≡ Some (kept.Rule r)) × (answer ≡ None)
-Handed (Some (kept.Handshake h)) new piece answer = (new ≡ Some (kept.Handshake h)) × (answer ≡ None)
+abbrev pub Handed : Option CheckerState → (old new : Option Kept) → List ℕ → Option Check → Type 0
+Handed (Some x) old new piece answer = AnswersIn x (checker_of new) piece answer
+Handed None old new piece answer = (new ≡ old) × (answer ≡ None)
 
 -- a handle's checker begins again, under its limits; or it keeps none, and stays as it is
-abbrev pub Restarted : Option Kept → Option Kept → Bool → Type 0
-Restarted (Some (kept.Checker b)) new answer = IsFresh (limits_of b.value) (checker_of new) × (answer ≡ true)
-Restarted None new answer = (new ≡ None) × (answer ≡ false)
-Restarted (Some (kept.Rule r)) new answer = (new ≡ Some (kept.Rule r)) × (answer ≡ false)
-Restarted (Some (kept.Handshake h)) new answer = (new ≡ Some (kept.Handshake h)) × (answer ≡ false)
+abbrev pub Restarted : Option CheckerState → (old new : Option Kept) → Bool → Type 0
+Restarted (Some x) old new answer = IsFresh (limits_of x) (checker_of new) × (answer ≡ true)
+Restarted None old new answer = (new ≡ old) × (answer ≡ false)

@@ -24,22 +24,13 @@ GoesOn h None piece old_room new_room answer = ⊥
 GoesOn h (Some k) piece old_room new_room None = ⊥
 GoesOn h (Some k) piece old_room new_room (Some result) = TakesIn h k piece old_room new_room result
 
--- no end is kept: nothing is changed, and nothing answered
-abbrev pub GoesNowhere : Option Kept → Option Kept → List ℕ → List ℕ → Option (Result Step TakeFault) → Type 0
-GoesNowhere old new old_room new_room answer = (new ≡ old) × (new_room ≡ old_room) × (answer ≡ None)
-
--- a handle is handed a piece: its end takes it; or it keeps none, and stays as it is
-abbrev pub Goes : Option Kept → Option Kept → List ℕ → List ℕ → List ℕ → Option (Result Step TakeFault) → Type 0
-Goes (Some (kept.Handshake h)) new piece old_room new_room answer = GoesOn h (handshake_of new) piece old_room new_room answer
-Goes None new piece old_room new_room answer = GoesNowhere None new old_room new_room answer
-Goes (Some (kept.Checker b)) new piece old_room new_room answer = GoesNowhere (Some (kept.Checker b)) new old_room new_room answer
-Goes (Some (kept.Rule r)) new piece old_room new_room answer = GoesNowhere (Some (kept.Rule r)) new old_room new_room answer
+-- a handle is handed a piece: its end takes it; or it keeps none, and nothing is changed, and nothing answered
+abbrev pub Goes : Option Handshake → (old new : Option Kept) → List ℕ → List ℕ → List ℕ → Option (Result Step TakeFault) → Type 0
+Goes (Some h) old new piece old_room new_room answer = GoesOn h (handshake_of new) piece old_room new_room answer
+Goes None old new piece old_room new_room answer = (new ≡ old) × (new_room ≡ old_room) × (answer ≡ None)
 
 -- the server's GUID, of a client that has begun; of no end nothing is answered
-abbrev pub TellsGuidOf : Option Handshake → Option (Option Guid) → Type 0
-TellsGuidOf None answer = answer ≡ None
-TellsGuidOf (Some h) None = ⊥
-TellsGuidOf (Some h) (Some guid) = option_map (λ g. g.0) guid ≡ guid_in h
-
-abbrev pub TellsGuid : Option Kept → Option (Option Guid) → Type 0
-TellsGuid state answer = TellsGuidOf (handshake_of state) answer
+abbrev pub TellsGuid : Option Handshake → Option (Option Guid) → Type 0
+TellsGuid None answer = answer ≡ None
+TellsGuid (Some h) None = ⊥
+TellsGuid (Some h) (Some guid) = option_map (λ g. g.0) guid ≡ guid_in h

@@ -1,38 +1,45 @@
--- What the calls of a handle ask of its match rule, if it keeps one: a rule as its pairs of a key and a value.
+-- The match rules that a handle keeps, each by what stands for it, and what its calls do with them.
 -- D-Bus Specification, "Match Rules".
-use Rattle.std.specs.Prelude.{◌≡◌, ◌↔◌, ℕ, List, Option, Some, None, Result, Ok, Err, Bool, IsTrue, String, string_bytes}
+use Rattle.std.specs.Prelude.{◌≡◌, ℕ, ◌+◌, List, [], Option, Some, None, Result, Ok, Err, String, string_bytes}
 use Rattle.std.specs.declared.alloc.Global.{Global}
 use Rattle.std.specs.declared.alloc.AllocError.{AllocError}
-use Rattle.dbus_value_model.specs.declared.order.Order.{Order}
-use Rattle.dbus_message_model.specs.Messages.{MessageTree}
-use Rattle.dbus_view.specs.Views.{ViewState, Views}
-use Rattle.dbus_match.specs.Matching.{Matches, Ownership}
+use Rattle.dbus_match.specs.Rules.{SpellsRule, canonical}
 use Rattle.dbus_match.specs.RuleViews.{rule_pairs}
-use Rattle.dbus_match.specs.Rules.{Pair, SpellsRule, canonical}
+use Rattle.dbus_match.specs.declared.rule.Rule.{Rule}
+use Rattle.dbus_rule_set.specs.Held.{held, given, rule_at, with_rule}
+use Rattle.dbus_rule_set.specs.declared.handle.RuleHandle.{RuleHandle}
 use Rattle.dbus_c_handle.specs.declared.kept.Kept.{Kept}
 use Rattle.dbus_c_handle.specs.declared.kept.Kept.TheVariants as kept
 
--- the rule that is kept
-abbrev pub rule_of : Option Kept → Option (List Pair)
-rule_of None = None
-rule_of (Some (kept.Checker b)) = None
-rule_of (Some (kept.Handshake h)) = None
-rule_of (Some (kept.Rule r)) = Some (rule_pairs r)
+-- the rules that are kept
+abbrev pub rules_of : Option Kept → List (RuleHandle × Rule Global)
+rules_of (Some (kept.Rules s)) = held s
+rules_of _ = []
 
--- there is a rule, and the text spells it
-abbrev pub IsRead : List ℕ → Option (List Pair) → Type 0
-IsRead w None = ⊥
-IsRead w (Some ps) = SpellsRule w ps
+-- how many were added since the first of them
+abbrev pub given_of : Option Kept → ℕ
+given_of (Some (kept.Rules s)) = given s
+given_of _ = 0
 
--- whether the rule matches the message that the view is of, with these owners of names; of no rule nothing is answered
-abbrev pub IsAsked : Option (List Pair) → ViewState → List Ownership → Option Bool → Type 0
-IsAsked None v os answer = answer ≡ None
-IsAsked (Some ps) v os None = ⊥
-IsAsked (Some ps) v os (Some b) = (order : Order) (m : MessageTree) → Views v order m → IsTrue b ↔ Matches ps m os
+-- a rule comes to those that are kept, and this stands for it, which stood for none before
+pub record AddsRule (rule : Rule Global) (old new : Option Kept) (h : RuleHandle) : Type 0 where
+  pub added : rules_of new ≡ with_rule h rule (rules_of old)
+  pub unheld : rule_at h (rules_of old) ≡ None
+  pub number : h.number ≡ given_of old
+  pub given : given_of new ≡ given_of old + 1
+
+-- the rule that the text spells comes to them
+abbrev pub Adds : List ℕ → (old new : Option Kept) → RuleHandle → Type 0
+Adds w old new h = (rule : Rule Global) × SpellsRule w (rule_pairs rule) × AddsRule rule old new h
+
+-- the rules stay
+pub record KeepsRules (old new : Option Kept) : Type 0 where
+  pub rules : rules_of new ≡ rules_of old
+  pub given : given_of new ≡ given_of old
 
 -- the rule's canonical text, or that memory ran out; of no rule nothing is answered
-abbrev pub IsWritten : Option (List Pair) → Option (Result (String Global) AllocError) → Type 0
+abbrev pub IsWritten : Option (Rule Global) → Option (Result (String Global) AllocError) → Type 0
 IsWritten None answer = answer ≡ None
-IsWritten (Some ps) None = ⊥
-IsWritten (Some ps) (Some (Ok text)) = string_bytes text ≡ canonical ps
-IsWritten (Some ps) (Some (Err e)) = Unit {0}
+IsWritten (Some rule) None = ⊥
+IsWritten (Some rule) (Some (Ok text)) = string_bytes text ≡ canonical (rule_pairs rule)
+IsWritten (Some rule) (Some (Err e)) = Unit {0}

@@ -25,12 +25,12 @@ impl WireHandle {
     /// Hands the checker a piece, and returns what [`Checker::take`] answers; `None` if the handle keeps no checker, and then it
     /// stays as it is.
     pub fn take(&mut self, alloc: Global, piece: &[u8]) -> Option<Check>
-        ensures { Handed self.old.state self.new.state piece.now result }
+        ensures { Handed (checker_of self.old.state) self.old.state self.new.state piece.now result }
     {
         let mut kept = self.take_box(alloc)?;
         let check = match &mut *kept {
             Kept::Checker(checker) => Some(checker.take(piece)),
-            Kept::Rule(_) | Kept::Handshake(_) => None,
+            Kept::Rules(_) | Kept::Handshake(_) => None,
         };
         *self = WireHandle::of(kept);
         check
@@ -38,7 +38,7 @@ impl WireHandle {
 
     /// Begins again, as [`Checker::restart`] does. Whether the handle keeps a checker; if not, it stays as it is.
     pub fn restart(&mut self, alloc: Global) -> bool
-        ensures { Restarted self.old.state self.new.state result }
+        ensures { Restarted (checker_of self.old.state) self.old.state self.new.state result }
     {
         let Some(mut kept) = self.take_box(alloc) else {
             return false;
@@ -48,7 +48,7 @@ impl WireHandle {
                 checker.restart();
                 true
             }
-            Kept::Rule(_) | Kept::Handshake(_) => false,
+            Kept::Rules(_) | Kept::Handshake(_) => false,
         };
         *self = WireHandle::of(kept);
         is_checker

@@ -10,7 +10,7 @@ use std::alloc::{AllocError, Global};
 impl WireHandle {
     ghost use Rattle.std.specs.Prelude.{◌≡◌, None, MatchResult, is_some};
     ghost use Rattle.dbus_c_auth.specs.Handshakes.{client_made, server_made};
-    ghost use Rattle.dbus_c_handle.specs.Handshakes.{Goes, TellsGuid, kept_as};
+    ghost use Rattle.dbus_c_handle.specs.Handshakes.{Goes, TellsGuid, handshake_of, kept_as};
 
     /// Keeps the end of a new server, of the GUID that the text spells, which offers these mechanisms. Whether the text spells one;
     /// if not, the handle keeps nothing. An error if memory runs out: then it keeps nothing either. What it kept before is not freed.
@@ -71,7 +71,7 @@ impl WireHandle {
         piece: &[u8],
         reply: &mut [u8],
     ) -> Option<Result<Step, TakeFault>>
-        ensures { Goes self.old.state self.new.state piece.now reply.old reply.new result }
+        ensures { Goes (handshake_of self.old.state) self.old.state self.new.state piece.now reply.old reply.new result }
     {
         let mut kept = self.take_box(alloc)?;
         let answer = match &mut *kept {
@@ -85,7 +85,7 @@ impl WireHandle {
     /// The server's GUID, of a client that has begun; `None` if the handle keeps no end.
     pub fn guid(&mut self, alloc: Global) -> Option<Option<Guid>>
         ensures same { self.new.state ≡ self.old.state }
-        ensures guid { TellsGuid self.old.state result }
+        ensures guid { TellsGuid (handshake_of self.old.state) result }
     {
         let kept = self.take_box(alloc)?;
         let answer = match &*kept {

@@ -3,15 +3,15 @@
 
 use dbus_c_auth::Handshake;
 use dbus_check::Checker;
-use dbus_match::Rule;
+use dbus_rule_set::RuleSet;
 
 /// What a handle keeps in its block.
 #[derive(Drop)]
 pub enum Kept {
     /// A checker of messages, in a block of its own: it is large.
     Checker(Box<Checker>),
-    /// A match rule.
-    Rule(Rule),
+    /// Match rules.
+    Rules(RuleSet),
     /// An end of a handshake.
     Handshake(Handshake),
 }

@@ -1,4 +1,5 @@
-//! What C keeps from call to call: a handle of a checker of messages or of a match rule in a block of the heap.
+//! What C keeps from call to call: a handle of a checker of messages, of match rules or of an end of a handshake in a block
+//! of the heap.
 //!
 //! A further thing to keep is a further variant of [`Kept`]: the handle itself stays as it is. D-Bus Specification, "Message
 //! Protocol" and "Match Rules".

@@ -1,55 +1,132 @@
-//! A match rule that a handle keeps.
+//! Match rules that a handle keeps.
 #![tactic(auto)]
+
+ghost use Rattle.std.specs.Prelude.{◌≡◌, Some, MatchResult};
+ghost use Rattle.dbus_match.specs.declared.fault.RuleFault.TheVariants.{Memory};
+ghost use Rattle.dbus_c_handle.specs.Rules.{AddsRule, KeepsRules};
 
 use crate::handle::WireHandle;
 use crate::kept::Kept;
-use dbus_match::{Owner, RuleFault, matches_view, parse_rule, rule_text};
+use dbus_match::{Owner, Rule, RuleFault, parse_rule, rule_text};
+use dbus_rule_set::{RuleHandle, RuleSet};
 use dbus_view::MessageView;
 use std::alloc::{AllocError, Global};
 
 impl WireHandle {
-    ghost use Rattle.std.specs.Prelude.{◌≡◌, None, MatchResult};
+    ghost use Rattle.std.specs.Prelude.{◌≡◌, [], IfOk, MatchResult, is_some};
+    ghost use Rattle.dbus_value_model.specs.declared.order.Order.{Order};
+    ghost use Rattle.dbus_message_model.specs.Messages.{MessageTree};
     ghost use Rattle.dbus_match.specs.Matching.{ownerships};
     ghost use Rattle.dbus_match.specs.RuleReadings.{IsRuleFault};
-    ghost use Rattle.dbus_c_handle.specs.Rules.{IsRead, IsAsked, IsWritten, rule_of};
+    ghost use Rattle.dbus_rule_set.specs.Held.{Collects, EntryMatches, rule_at, without};
+    ghost use Rattle.dbus_view.specs.Views.{Views};
+    ghost use Rattle.dbus_c_handle.specs.Rules.{Adds, IsWritten, KeepsRules, given_of, rules_of};
 
-    /// Keeps the rule that the text spells, as [`parse_rule`] reads it. Its fault if there is one: then the handle keeps nothing.
-    /// What it kept before is not freed.
-    pub fn make_rule(&mut self, alloc: Global, text: &str) -> Result<(), RuleFault>
-        ensures { MatchResult result (λ _. IsRead text.now (rule_of self.new.state))
-            (λ fault. IsRuleFault text.now fault × (self.new.state ≡ None)) }
+    /// Keeps the rule that the text spells, as [`parse_rule`] reads it, beside the rules that it keeps, and returns what stands for the
+    /// rule. Its fault if there is one, or that memory runs out: then it keeps the rules that it kept. A handle that keeps something
+    /// else frees that.
+    pub fn add_rule(&mut self, alloc: Global, text: &str) -> Result<RuleHandle, RuleFault>
+        ensures { MatchResult result (Adds text.now self.old.state self.new.state)
+            (λ fault. IsRuleFault text.now fault × KeepsRules self.old.state self.new.state) }
     {
-        *self = WireHandle::none();
         let rule = parse_rule(alloc, text)?;
-        *self = WireHandle::of(Box::new(alloc, Kept::Rule(rule))?);
-        Ok(())
+        let mut kept = self.take_or_make(alloc)?;
+        let added = add_to(alloc, &mut kept, rule);
+        *self = WireHandle::of(kept);
+        added
     }
 
-    /// Whether the rule matches the message that the view is of, as [`matches_view`] says; `None` if the handle keeps no rule.
-    pub fn matches(&mut self, alloc: Global, view: &MessageView, owners: &[Owner]) -> Option<bool>
-        ensures same { self.new.state ≡ self.old.state }
-        ensures asked { IsAsked (rule_of self.old.state) view.now (ownerships owners.now) result }
+    // The box of what the handle kept, or of rules of which there are none yet. From then on it keeps nothing.
+    fn take_or_make(&mut self, alloc: Global) -> Result<Box<Kept>, AllocError>
+        ensures { MatchResult result (λ kept. KeepsRules self.old.state (Some kept.value)) (λ _. KeepsRules self.old.state self.new.state) }
     {
-        let kept = self.take_box(alloc)?;
-        let answer = match &*kept {
-            Kept::Rule(rule) => Some(matches_view(rule, view, owners)),
-            Kept::Checker(_) | Kept::Handshake(_) => None,
+        match self.take_box(alloc) {
+            Some(kept) => Ok(kept),
+            None => Ok(Box::new(alloc, Kept::Rules(RuleSet::new(alloc)))?),
+        }
+    }
+
+    /// Removes the rule that this stands for. Whether there was one.
+    pub fn remove_rule(&mut self, alloc: Global, handle: RuleHandle) -> bool
+        ensures was { result ≡ is_some (rule_at handle (rules_of self.old.state)) }
+        ensures removed { rules_of self.new.state ≡ without handle (rules_of self.old.state) }
+        ensures given { given_of self.new.state ≡ given_of self.old.state }
+    {
+        let Some(mut kept) = self.take_box(alloc) else {
+            return false;
+        };
+        let was = match &mut *kept {
+            Kept::Rules(rules) => rules.remove(handle).is_some(),
+            Kept::Checker(_) | Kept::Handshake(_) => false,
         };
         *self = WireHandle::of(kept);
-        answer
+        was
     }
 
-    /// The canonical text of the rule, as [`rule_text`] writes it, or that memory ran out; `None` if the handle keeps no rule.
-    pub fn canonical_text(&mut self, alloc: Global) -> Option<Result<String, AllocError>>
+    /// What stands for each rule that matches the message that the view is of, as [`RuleSet::matching`] says; an error only if memory
+    /// runs out.
+    pub fn matching(
+        &mut self,
+        alloc: Global,
+        view: &MessageView,
+        owners: &[Owner],
+    ) -> Result<Vec<RuleHandle>, AllocError>
         ensures same { self.new.state ≡ self.old.state }
-        ensures written { IsWritten (rule_of self.old.state) result }
+        ensures found { (order : Order) (m : MessageTree) → Views view.now order m →
+            IfOk result (λ found. Collects (EntryMatches m (ownerships owners.now)) (rules_of self.old.state) [] found.items) }
+    {
+        let mut found = Vec::new(alloc);
+        let Some(kept) = self.take_box(alloc) else {
+            return Ok(found);
+        };
+        let searched = match &*kept {
+            Kept::Rules(rules) => rules.matching(view, owners, &mut found),
+            Kept::Checker(_) | Kept::Handshake(_) => Ok(()),
+        };
+        *self = WireHandle::of(kept);
+        searched?;
+        Ok(found)
+    }
+
+    /// The canonical text of the rule that this stands for, as [`rule_text`] writes it, or that memory ran out; `None` if it stands for
+    /// none.
+    pub fn canonical_text(
+        &mut self,
+        alloc: Global,
+        handle: RuleHandle,
+    ) -> Option<Result<String, AllocError>>
+        ensures same { self.new.state ≡ self.old.state }
+        ensures written { IsWritten (rule_at handle (rules_of self.old.state)) result }
     {
         let kept = self.take_box(alloc)?;
         let text = match &*kept {
-            Kept::Rule(rule) => Some(rule_text(alloc, rule)),
+            Kept::Rules(rules) => match rules.get(handle) {
+                Some(rule) => Some(rule_text(alloc, rule)),
+                None => None,
+            },
             Kept::Checker(_) | Kept::Handshake(_) => None,
         };
         *self = WireHandle::of(kept);
         text
+    }
+}
+
+// Adds the rule to those that are kept. What is kept otherwise is dropped.
+fn add_to(alloc: Global, kept: &mut Kept, rule: Rule) -> Result<RuleHandle, RuleFault>
+    ensures { MatchResult result (AddsRule rule (Some kept.old) (Some kept.new))
+        (λ fault. (fault ≡ Memory) × KeepsRules (Some kept.old) (Some kept.new)) }
+{
+    let added = match kept {
+        Kept::Rules(rules) => rules.add(rule),
+        _ => {
+            let mut rules = RuleSet::new(alloc);
+            let added = rules.add(rule);
+            *kept = Kept::Rules(rules);
+            added
+        }
+    };
+    match added {
+        Ok(handle) => Ok(handle),
+        Err(_) => Err(RuleFault::Memory),
     }
 }

@@ -4,6 +4,7 @@
 /// What stands for a rule in a [`crate::RuleSet`], from the call that adds the rule on. A set gives no handle twice.
 ///
 /// Handles are ordered; their order says nothing of the order in which rules were added.
+#[repr(C)]
 #[derive(Clone, Copy, PartialEq, Eq, PartialOrd, Ord, Debug)]
 pub struct RuleHandle {
     /// Which of the four indexed keys the rule has.
