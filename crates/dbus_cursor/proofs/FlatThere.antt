@@ -1,22 +1,28 @@
 -- Values that stand in the bytes, as items of a row.
-use Rattle.std.proofs.Common.{◌≡◌, ℕ, ◌+◌, ◌-◌, ◌<◌, ◌^◌, List, [], ◌∷◌, ◌++◌, length, get_or, take, drop, true, false, refl, sym, ap, subst, ◌∙◌, arith}
-use Rattle.std.specs.Prelude.{nat_lt}
+use Rattle.std.proofs.Common.{◌≡◌, ℕ, suc, ◌+◌, ◌-◌, ◌<◌, ◌^◌, List, [], ◌∷◌, ◌++◌, length, get_or, take, drop, true, false, refl, sym, ap, subst, ◌∙◌, arith, append-nil}
+use Rattle.std.specs.Prelude.{nat_lt, set}
+use Rattle.std.proofs.lemmas.List.{set_split}
+use Rattle.dbus_texts.specs.Types.{sig, sigs}
+use Rattle.dbus_types.specs.Alignments.{alignment_of}
 use Rattle.dbus_types.specs.SignatureCodes.{first_code}
 use Rattle.dbus_types.proofs.TypeCodes.{code_is}
 use Rattle.dbus_value_model.specs.Bytes.{gap_to}
 use Rattle.dbus_value_model.specs.Reading.{number_of}
 use Rattle.dbus_value_model.specs.declared.order.Order.{Order}
 use Rattle.dbus_value_model.specs.Spelling.{spellings, contents_start}
-use Rattle.dbus_value_model.specs.Values.{ValueTree, type_of, value_trees}
+use Rattle.dbus_value_model.specs.Values.{ValueTree, VariantValue, StructValue, EntryValue, type_of, types_of, value_trees}
+use Rattle.dbus_walk.specs.declared.container.Container.{Container}
+use Rattle.dbus_walk.specs.declared.container.Container.TheVariants as kind
+use Rattle.dbus_walk.specs.Containers.{IsOf, parts}
 use Rattle.dbus_walk.specs.Standing.{Stands}
 use Rattle.dbus_walk.specs.Widths.{number_width}
 use Rattle.dbus_walk.proofs.Containers.{ArrayStands}
-use Rattle.dbus_walk.proofs.Parts.{NumberStands, TextStands}
+use Rattle.dbus_walk.proofs.Parts.{NumberStands, TextStands, no_gap}
 use Rattle.dbus_walk.proofs.ReadThere.{number_read}
 use Rattle.dbus_cursor.specs.declared.flat_item.FlatItem.{FlatItem}
 use Rattle.dbus_cursor.specs.declared.flattener.Flattener.{Flattener}
 use Rattle.dbus_cursor.specs.Flattening.{item, flat, flats, in_word, AreFlat}
-use Rattle.dbus_cursor.specs.Flattener.{Appends, IsListed, IsStroke}
+use Rattle.dbus_cursor.specs.Flattener.{Appends, IsListed, IsStroke, put_over}
 use Rattle.dbus_cursor.specs.FlattenerLaws.{flat_stroke, word_same, word_of}
 
 abbrev pub made : (n o l c e : ℕ) → FlatItem
@@ -29,6 +35,9 @@ same_item {n} {n'} {o} {o'} {l} {l'} {c} {c'} {e} {e'} a b d f g =
 -- an item that is gained, under another name
 pub gained_as : {a b : Flattener} {i : FlatItem} {is : List FlatItem} → i ∷ [] ≡ is → Appends a (i ∷ []) b → Appends a is b
 gained_as {a} {b} e h = subst (λ (l : List FlatItem). Appends a l b) e h
+
+pub pushed : (l : List FlatItem) (n : ℕ) (i : FlatItem) → n < length l → set l n i ≡ put_over l n (i ∷ [])
+pushed l n i room = let next : suc n ≡ n + 1 = omega arith in set_split l n i room ∙ ap (λ (k : ℕ). take n l ++ (i ∷ drop k l)) next
 
 module _ {order : Order} {depth_left : ℕ} {types : List ℕ} {at : ℕ} {bytes : List ℕ} {v : ValueTree} {rest : List ℕ} (s : Stands order depth_left types at bytes v rest) where
   coded : {u : ValueTree} → v ≡ u → first_code (type_of u) ≡ get_or types 0 0
@@ -61,8 +70,25 @@ module _ {order : Order} {depth_left : ℕ} {types : List ℕ} {at : ℕ} {bytes
     pub array_listed : nat_lt 0 (number_width p.type) ≡ false → IsListed v
     array_listed none = subst IsListed (sym p.is) none
 
+-- a container that opens
+pub variant_item : (order : Order) (at : ℕ) (v : ValueTree) {start : ℕ} → IsOf kind.Variant v → start ≡ at + gap_to (alignment_of (type_of v)) at → (types : List ℕ) → sigs (types_of (parts v)) ≡ types
+    → {o l c : ℕ} → o ≡ start + 1 → l ≡ length types → c ≡ 118 → made 0 o l c 0 ≡ item order at v 0
+variant_item order at (VariantValue x) of place types text offset long code =
+    let there : _ ≡ at + 1 = omega (arith, offset, place, no_gap at) in
+    same_item refl there (long ∙ sym (ap length (sym (append-nil (sig (type_of x))) ∙ text))) code refl
+variant_item order at v of place types text offset long code = absurd of
+
+pub opened_listed : (what : Container) (v : ValueTree) → (what ≡ kind.Array → ⊥) → IsOf what v → IsListed v
+opened_listed kind.Variant (VariantValue x) not of = tt
+opened_listed kind.Struct (StructValue xs) not of = tt
+opened_listed kind.Entry (EntryValue x y) not of = tt
+opened_listed kind.Array v not of = absurd (not refl)
+opened_listed kind.Variant v not of = absurd of
+opened_listed kind.Struct v not of = absurd of
+opened_listed kind.Entry v not of = absurd of
+
 -- the items that a flattener has gained since it had none
-pub row_of : (order : Order) (at : ℕ) (xs : List ValueTree) (s t : Flattener) → Appends s (flats order at (value_trees xs)) t → s.count ≡ 0 → t.count < 2 ^ 64 → length t.out.now < 2 ^ 64 - 1 → AreFlat order at (value_trees xs) t.out.now t.count
+pub row_of : (order : Order) (at : ℕ) (xs : List ValueTree) (s t : Flattener) → Appends s (flats order at (value_trees xs)) t → s.count ≡ 0 → t.count < 2 ^ 64 → length s.out.now < 2 ^ 64 - 1 → AreFlat order at (value_trees xs) s.out.now t.out.now t.count
 row_of order at xs s t h none fits small =
     let items = flats order at (value_trees xs) in
     let all : s.count + length items ≡ length items = omega (arith, none) in
@@ -71,5 +97,5 @@ row_of order at xs s t h none fits small =
       counted = sym (word_of t.count fits) ∙ counted;
       written = λ room.
           let count : length items ≡ t.count = word_same (length items) t.count (sym counted) (omega (arith, room, small)) in
-          ap (λ (k : ℕ). take k t.out.now) (omega (arith, all, count)) ∙ h.written (omega (arith, all, count, room)) small ∙ ap (λ (k : ℕ). take k s.out.now ++ items) none;
+          h.written (omega (arith, all, count, room)) small ∙ ap (λ (k : ℕ). take k s.out.now ++ (items ++ drop (s.count + length items) s.out.now)) none ∙ ap (λ (k : ℕ). items ++ drop k s.out.now) (omega (arith, all, count));
     }

@@ -1,18 +1,22 @@
 -- What a flattener does: it gathers items, and counts those within a container.
-use Rattle.std.specs.Prelude.{◌≡◌, ℕ, ◌+◌, ◌-◌, ◌<◌, ◌≤◌, ◌^◌, true, false, List, [], ◌∷◌, ◌++◌, length, take, get_or, set, nat_lt}
+use Rattle.std.specs.Prelude.{◌≡◌, ℕ, ◌+◌, ◌-◌, ◌<◌, ◌≤◌, ◌^◌, true, false, List, [], ◌∷◌, ◌++◌, length, take, drop, get_or, set, nat_lt}
 use Rattle.dbus_value_model.specs.declared.order.Order.{Order}
-use Rattle.dbus_value_model.specs.Values.{ValueTree, ArrayValue}
+use Rattle.dbus_value_model.specs.Values.{ValueTree, NumberValue, TextValue, ArrayValue}
 use Rattle.dbus_walk.specs.Widths.{number_width}
 use Rattle.dbus_cursor.specs.Flattening.{item, in_word}
 use Rattle.dbus_cursor.specs.declared.flat_item.FlatItem.{FlatItem}
 use Rattle.dbus_cursor.specs.declared.flattener.Flattener.{Flattener}
 
--- it gains items, which stand after those before, if there is room for all of them
+-- items in place of those that stand from a place on
+abbrev pub put_over : List FlatItem → (place : ℕ) → List FlatItem → List FlatItem
+put_over out place items = take place out ++ (items ++ drop (place + length items) out)
+
+-- it gains items, which stand after those before, if there is room for all of them; what stands after them stays
 pub record Appends (before : Flattener) (items : List FlatItem) (now : Flattener) : Type 0 where
   pub same : now.out.ghost_name ≡ before.out.ghost_name
   pub long : length now.out.now ≡ length before.out.now
   pub counted : in_word now.count ≡ in_word (before.count + length items)
-  pub written : before.count + length items ≤ length now.out.now → length now.out.now < 2 ^ 64 - 1 → take (before.count + length items) now.out.now ≡ take before.count before.out.now ++ items
+  pub written : before.count + length items ≤ length before.out.now → length before.out.now < 2 ^ 64 - 1 → now.out.now ≡ put_over before.out.now before.count items
 
 -- it gains items of parts, and the place of the container that they are within stays
 pub record Gains (before : Flattener) (place : ℕ) (items : List FlatItem) (later : ℕ) (now : Flattener) : Type 0 where
@@ -30,8 +34,10 @@ pub record Counts (before : Flattener) (place : ℕ) (now : Flattener) : Type 0 
   pub kept : now.count ≡ before.count
   pub number : (i : FlatItem) → place < length before.out.now → now.out.now ≡ set before.out.now place (numbered (get_or before.out.now place i) (before.count - (place + 1)))
 
--- its elements are no numbers, if it is an array
+-- it is a container, and no array of numbers
 abbrev pub IsListed : ValueTree → Type 0
+IsListed (NumberValue k n) = ⊥
+IsListed (TextValue k t) = ⊥
 IsListed (ArrayValue t xs) = nat_lt 0 (number_width t) ≡ false
 IsListed _ = Unit {0}
 

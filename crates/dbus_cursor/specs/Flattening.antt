@@ -1,6 +1,6 @@
 -- Values as a row of items: each container comes before its parts.
 -- D-Bus Specification, "Type System" and "Marshaling (Wire Format)".
-use Rattle.std.specs.Prelude.{◌≡◌, ℕ, ◌+◌, ◌-◌, ◌≤◌, ◌^◌, List, [], ◌∷◌, ◌++◌, length, take, nat_lt, if◌then◌else◌}
+use Rattle.std.specs.Prelude.{◌≡◌, ℕ, ◌+◌, ◌-◌, ◌≤◌, ◌^◌, List, [], ◌∷◌, ◌++◌, length, drop, nat_lt, if◌then◌else◌}
 use Rattle.dbus_texts.specs.Types.{sig, number_code, text_code}
 use Rattle.dbus_types.specs.Alignments.{width, length_width}
 use Rattle.dbus_types.specs.SignatureCodes.{first_code}
@@ -15,10 +15,10 @@ use Rattle.dbus_cursor.specs.declared.flat_item.FlatItem.{FlatItem}
 abbrev pub item : Order → (at : ℕ) → ValueTree → (within : ℕ) → FlatItem
 item order at (NumberValue k n) within = record { number = n; offset = at + gap_to (width k) at; length = width k; code = number_code k; element = 0 }
 item order at (TextValue k t) within = record { number = 0; offset = at + gap_to (length_width k) at + length_width k; length = length t; code = text_code k; element = 0 }
-item order at (VariantValue x) within = record { number = within; offset = 0; length = 0; code = 118; element = 0 }
+item order at (VariantValue x) within = record { number = within; offset = at + 1; length = length (sig (type_of x)); code = 118; element = 0 }
 item order at (ArrayValue t xs) within = record { number = within; offset = contents_start t at; length = length (spellings order (contents_start t at) xs); code = 97; element = first_code t }
-item order at (StructValue xs) within = record { number = within; offset = 0; length = 0; code = 40; element = 0 }
-item order at (EntryValue x y) within = record { number = within; offset = 0; length = 0; code = 123; element = 0 }
+item order at (StructValue xs) within = record { number = within; offset = at + gap_to 8 at; length = 0; code = 40; element = 0 }
+item order at (EntryValue x y) within = record { number = within; offset = at + gap_to 8 at; length = 0; code = 123; element = 0 }
 
 -- the items of a value at an offset, of which these are within it
 abbrev pub with_item : Order → (at : ℕ) → ValueTree → (within : List FlatItem) → List FlatItem
@@ -45,7 +45,7 @@ unfoldable mutual
 abbrev pub in_word : ℕ → ℕ
 in_word n = if nat_lt n (2 ^ 64 - 1) then n else 2 ^ 64 - 1
 
--- so many items there are of these values, and they stand in front, if there is room for them
-pub record AreFlat (order : Order) (at : ℕ) (vs : ValueTrees) (out : List FlatItem) (count : ℕ) : Type 0 where
+-- so many items there are of these values; if there is room for them, they stand in front, and what stood after them stays
+pub record AreFlat (order : Order) (at : ℕ) (vs : ValueTrees) (before out : List FlatItem) (count : ℕ) : Type 0 where
   pub counted : count ≡ in_word (length (flats order at vs))
-  pub written : count ≤ length out → take count out ≡ flats order at vs
+  pub written : count ≤ length before → out ≡ flats order at vs ++ drop count before

@@ -1,9 +1,15 @@
 //! The items of values of any type, gathered from a message's bytes. D-Bus Specification, "Marshaling (Wire Format)".
 #![tactic(auto)]
 
-ghost use Rattle.std.specs.Prelude.{◌≡◌, ℕ, nat_lt};
-ghost use Rattle.dbus_value_model.specs.Values.{value_trees};
-ghost use Rattle.dbus_cursor.specs.Flattening.{flat, flats};
+ghost use Rattle.std.specs.Prelude.{◌≡◌, ℕ, ◌+◌, ◌<◌, ◌^◌, nat_lt};
+ghost use Rattle.dbus_texts.specs.Types.{sigs};
+ghost use Rattle.dbus_types.specs.Alignments.{alignment_of};
+ghost use Rattle.dbus_value_model.specs.Bytes.{gap_to};
+ghost use Rattle.dbus_value_model.specs.declared.order.Order.{Order};
+ghost use Rattle.dbus_value_model.specs.Values.{ValueTree, type_of, types_of, value_trees};
+ghost use Rattle.dbus_walk.specs.Containers.{IsOf, parts};
+ghost use Rattle.dbus_walk.specs.declared.container.Container.TheVariants.{Array};
+ghost use Rattle.dbus_cursor.specs.Flattening.{item, flat, flats};
 ghost use Rattle.dbus_cursor.specs.Flattener.{Closes, Gains, Opens};
 ghost use Rattle.dbus_cursor.specs.FlattenerLaws.{none_flat, more_flat, whole_flat};
 
@@ -21,7 +27,7 @@ impl Visitor for Flattener<'_> {
 
     type Stop = Infallible;
 
-    ghost ready = { λ _ _. Unit {0} };
+    ghost ready = { λ _ length. length < 2 ^ 63 };
 
     ghost strokes = { λ _ size. nat_lt 0 size };
 
@@ -143,23 +149,12 @@ impl Visitor for Flattener<'_> {
         &mut self,
         _gathered: &usize,
         kind: Container,
-        _types: &[u8],
+        types: &[u8],
+        start: usize,
         _length: usize,
     ) -> Result<usize, Infallible> {
         let place = self.count;
-        let code = match kind {
-            Container::Variant => b'v',
-            Container::Array => b'a',
-            Container::Struct => b'(',
-            Container::Entry => b'{',
-        };
-        self.push(FlatItem {
-            number: 0,
-            offset: 0,
-            length: 0,
-            code: u32::from(code),
-            element: 0,
-        });
+        self.push(opened(kind, types, start));
         Ok(place)
     }
 
@@ -185,4 +180,31 @@ impl Visitor for Flattener<'_> {
 
     ghost whole = { λ s opened filled after m none held later kind order at v xs is_of opens has many closes.
         whole_flat s opened filled after m none held later kind order at v xs is_of opens has many closes };
+}
+
+// The item of a container that opens, with no items within it yet.
+#[inline(always)]
+fn opened(kind: Container, types: &[u8], start: usize) -> FlatItem
+    requires kind { kind ≡ Array → ⊥ }
+    requires small { start < 2 ^ 63 }
+    ensures { (order : Order) (at : ℕ) (v : ValueTree) → IsOf kind v → sigs (types_of (parts v)) ≡ types.now →
+        start ≡ at + gap_to (alignment_of (type_of v)) at → result ≡ item order at v 0 }
+{
+    let mut item = FlatItem {
+        number: 0,
+        offset: start as u64,
+        length: 0,
+        code: u32::from(b'('),
+        element: 0,
+    };
+    match kind {
+        Container::Variant => {
+            item.offset += 1;
+            item.length = types.len() as u64;
+            item.code = u32::from(b'v');
+        }
+        Container::Entry => item.code = u32::from(b'{'),
+        Container::Array | Container::Struct => {}
+    }
+    item
 }

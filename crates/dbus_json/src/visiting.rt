@@ -109,6 +109,7 @@ impl<D: Draft> Visitor for JsonWriter<'_, D> {
         _gathered: &(),
         kind: Container,
         types: &[u8],
+        _start: usize,
         _length: usize,
     ) -> Result<(), Infallible> {
         match kind {

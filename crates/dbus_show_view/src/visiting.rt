@@ -118,6 +118,7 @@ impl<D: Draft> Visitor for Shower<'_, D> {
         _gathered: &(),
         kind: Container,
         _types: &[u8],
+        _start: usize,
         _length: usize,
     ) -> Result<(), Infallible> {
         match kind {

@@ -110,6 +110,7 @@ impl Visitor for Byteswapper<'_> {
         _gathered: &(),
         _kind: Container,
         _types: &[u8],
+        _start: usize,
         _length: usize,
     ) -> Result<(), Infallible> {
         Ok(())

@@ -119,6 +119,7 @@ impl<A: Allocator + Copy> Visitor for Builder<A> {
         gathered: &Gathered<A>,
         kind: Container,
         types: &[u8],
+        _start: usize,
         _length: usize,
     ) -> Result<Gathered<A>, AllocError> {
         match kind {

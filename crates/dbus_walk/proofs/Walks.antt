@@ -1,16 +1,20 @@
 -- Values one after another of which the first are walked: those that are left.
-use Rattle.std.proofs.Common.{◌≡◌, ℕ, ◌+◌, ◌-◌, ◌<◌, ◌≤◌, List, [], ◌∷◌, ◌++◌, length, take, drop, get_or, Bool, true, false, refl, sym, ap, subst, ◌∙◌, arith, append_assoc, Result, Ok, Err, is_err, IfOk}
+use Rattle.std.proofs.Common.{◌≡◌, ℕ, ◌+◌, ◌-◌, ◌<◌, ◌≤◌, List, [], ◌∷◌, ◌++◌, length, take, drop, get_or, Bool, true, false, refl, sym, ap, subst, ◌∙◌, arith, append_assoc, Result, Ok, Err, is_err, IfOk, ◌⊎◌, inl, inr}
 use Rattle.std.proofs.lemmas.List.{length-append, length-drop, append-nil, take_rest}
 use Rattle.dbus_texts.specs.Types.{sig, sigs}
 use Rattle.dbus_texts.proofs.TypeTexts.{sig_positive}
+use Rattle.dbus_types.specs.Alignments.{alignment_of}
+use Rattle.dbus_value_model.specs.Bytes.{gap_to}
 use Rattle.dbus_value_model.specs.declared.order.Order.{Order}
 use Rattle.dbus_value_model.specs.Spelling.{spelling, spellings}
-use Rattle.dbus_value_model.specs.Values.{ValueTree, ValueTrees, NoValues, MoreValues, value_trees, type_of, types_of}
+use Rattle.dbus_value_model.specs.Values.{ValueTree, ValueTrees, NoValues, MoreValues, StructValue, EntryValue, value_trees, type_of, types_of}
 use Rattle.dbus_types.specs.SignatureCodes.{IsTypeEnd}
 use Rattle.dbus_types.specs.TypeLengths.{AreLengths}
 use Rattle.dbus_types.proofs.TypeLengths.{ends_by}
 use Rattle.dbus_walk.specs.Standing.{Stands, AllStand, ElementsStand}
-use Rattle.dbus_walk.specs.Containers.{is_none}
+use Rattle.dbus_walk.specs.Containers.{IsOf, inside, is_none}
+use Rattle.dbus_walk.specs.declared.container.Container.{Container}
+use Rattle.dbus_walk.specs.declared.container.Container.TheVariants as kind
 use Rattle.dbus_walk.proofs.Lists.{FirstElement, element_of, no_elements, first_value, other_values}
 
 -- values before others
@@ -174,6 +178,19 @@ more_taken {order = order} {at = at} {place = place} M' done v q t after m =
 pub starts : (order : Order) (q : ℕ) → q ≡ q + length (spellings order q (value_trees []))
 unfolding spellings
 starts order q = omega arith
+
+-- where the first part of a struct or a dict entry begins
+pub first_part : (order : Order) (at : ℕ) (v : ValueTree) {what : Container} {q : ℕ} → (what ≡ kind.Struct) ⊎ (what ≡ kind.Entry) → IsOf what v → q ≡ inside order at v → q ≡ at + gap_to (alignment_of (type_of v)) at
+first_part order at v (inl e) of is = struct_starts v (subst (λ (k : Container). IsOf k v) e of) is
+  where
+    struct_starts : (v : ValueTree) → IsOf kind.Struct v → {q : ℕ} → q ≡ inside order at v → q ≡ at + gap_to (alignment_of (type_of v)) at
+    struct_starts (StructValue xs) of is = is
+    struct_starts v of is = absurd of
+first_part order at v (inr e) of is = entry_starts v (subst (λ (k : Container). IsOf k v) e of) is
+  where
+    entry_starts : (v : ValueTree) → IsOf kind.Entry v → {q : ℕ} → q ≡ inside order at v → q ≡ at + gap_to (alignment_of (type_of v)) at
+    entry_starts (EntryValue x y) of is = is
+    entry_starts v of is = absurd of
 
 -- what is said of an outcome that is handed on
 pub not_ok : {T E : Type 0} (r : Result T E) (Q : Type 0) → is_err r ≡ true → IfOk r (λ x. Q)

@@ -103,6 +103,7 @@ impl Visitor for Skip {
         _gathered: &(),
         _kind: Container,
         _types: &[u8],
+        _start: usize,
         _length: usize,
     ) -> Result<(), Infallible> {
         Ok(())

@@ -1,7 +1,7 @@
 //! What takes the values that a walk comes to.
 #![tactic(auto)]
 
-ghost use Rattle.std.specs.Prelude.{◌≡◌, ℕ, ◌+◌, ◌<◌, ◌∷◌, ◌⊎◌, List, [], ◌++◌, length, take, drop, slice_index, Bool, true, false, IfOk};
+ghost use Rattle.std.specs.Prelude.{◌≡◌, ℕ, ◌+◌, ◌<◌, ◌≤◌, ◌∷◌, ◌⊎◌, List, [], ◌++◌, length, take, drop, slice_index, Bool, true, false, IfOk};
 ghost use Rattle.dbus_texts.specs.Kinds.{IsKind};
 ghost use Rattle.dbus_texts.specs.Types.{TypeTree, sigs};
 ghost use Rattle.dbus_texts.specs.declared.text_kind.TextKind.TheVariants.{Single};
@@ -11,7 +11,7 @@ ghost use Rattle.dbus_value_model.specs.Bytes.{gap_to};
 ghost use Rattle.dbus_value_model.specs.Reading.{number_of};
 ghost use Rattle.dbus_value_model.specs.declared.order.Order.{Order};
 ghost use Rattle.dbus_value_model.specs.Spelling.{spellings};
-ghost use Rattle.dbus_value_model.specs.Values.{ValueTree, ValueTrees, types_of, value_trees};
+ghost use Rattle.dbus_value_model.specs.Values.{ValueTree, ValueTrees, type_of, types_of, value_trees};
 ghost use Rattle.dbus_walk.specs.Widths.{number_width};
 ghost use Rattle.dbus_walk.specs.Standing.{StandsAt, StandsThere};
 ghost use Rattle.dbus_walk.specs.declared.container.Container.{Container};
@@ -155,20 +155,23 @@ pub trait Visitor {
         ensures takes { (v : ValueTree) (rest : List ℕ) → StandsAt source.now spot.now v rest →
             IfOk result (λ r. opens self.old gathered.now source.now.order spot.now.at v r self.new) };
 
-    /// Opens a variant, a struct or a dict entry of a message of `length` bytes. `types` are those of its parts.
+    /// Opens a variant, a struct or a dict entry of a message of `length` bytes. `types` are those of its parts. A variant's signature
+    /// begins at `start`, or the first part of another.
     fn open(
         &mut self,
         gathered: &Self::Many,
         kind: Container,
         types: &[u8],
+        start: usize,
         length: usize,
     ) -> Result<Self::Many, Self::Stop>
         requires ready { ready self.old length }
         requires kind { kind ≡ Array → ⊥ }
         requires single { kind ≡ Variant → IsKind Single types.now }
+        requires within { start ≤ length }
         ensures ready { ready self.new length }
         ensures takes { (order : Order) (at : ℕ) (v : ValueTree) → IsOf kind v →
-            sigs (types_of (parts v)) ≡ types.now →
+            sigs (types_of (parts v)) ≡ types.now → start ≡ at + gap_to (alignment_of (type_of v)) at →
             IfOk result (λ r. opens self.old gathered.now order at v r self.new) };
 
     /// Closes a container, of whose parts this was gathered.

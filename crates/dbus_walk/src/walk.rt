@@ -122,16 +122,16 @@ fn variant<V: Visitor>(
         depth_left: spot.depth_left - 1,
     };
     if types.len() == 1 {
-        let walked = variant_of(visitor, gathered, source, &mut held);
+        let walked = variant_of(visitor, gathered, source, &mut held, spot.at);
         spot.at = held.at;
         return walked;
     }
-    let walked = noted_variant(visitor, gathered, source, &mut held);
+    let walked = noted_variant(visitor, gathered, source, &mut held, spot.at);
     spot.at = held.at;
     walked
 }
 
-/// A variant whose type has several bytes. How long the types in it are is noted first, in room that no other variant takes.
+/// A variant that begins at `start`, whose type has several bytes. How long the types in it are is noted first, in room that no other variant takes.
 #[cycle(walk)]
 #[inline(never)]
 fn noted_variant<V: Visitor>(
@@ -139,14 +139,16 @@ fn noted_variant<V: Visitor>(
     gathered: &mut V::Many,
     source: &Source<'_>,
     held: &mut Spot<'_>,
+    start: usize,
 ) -> Result<(), V::Stop>
     requires ready { V.ready visitor.old (length source.now.bytes.now) }
     requires stands { StandsThere source.now held.old }
     requires single { IsKind Single held.old.types.now }
+    requires begins { start ≤ length source.now.bytes.now }
     ensures ready { V.ready visitor.new (length source.now.bytes.now) }
-    ensures walked { (begin : ℕ) (x : ValueTree) (rest : List ℕ) → StandsAt source.now held.old x rest →
-        held.old.at ≡ inside source.now.order begin (VariantValue x) →
-        IfOk result (λ _. V.one visitor.old gathered.old source.now.order begin (VariantValue x) gathered.new visitor.new ×
+    ensures walked { (x : ValueTree) (rest : List ℕ) → StandsAt source.now held.old x rest →
+        held.old.at ≡ inside source.now.order start (VariantValue x) →
+        IfOk result (λ _. V.one visitor.old gathered.old source.now.order start (VariantValue x) gathered.new visitor.new ×
         (held.new.at ≡ end_of source.now held.old x)) }
 {
     let mut table = [0; 255];
@@ -154,31 +156,33 @@ fn noted_variant<V: Visitor>(
         lengths: lengths_in(held.types, &mut table),
         ..*held
     };
-    let walked = variant_of(visitor, gathered, source, &mut noted);
+    let walked = variant_of(visitor, gathered, source, &mut noted, start);
     held.at = noted.at;
     walked
 }
 
-/// A variant, by what it holds. The spot of that moves to its end.
+/// A variant that begins at `start`, by what it holds. The spot of that moves to its end.
 #[cycle(walk)]
 fn variant_of<V: Visitor>(
     visitor: &mut V,
     gathered: &mut V::Many,
     source: &Source<'_>,
     held: &mut Spot<'_>,
+    start: usize,
 ) -> Result<(), V::Stop>
     requires ready { V.ready visitor.old (length source.now.bytes.now) }
     requires stands { StandsThere source.now held.old }
     requires single { IsKind Single held.old.types.now }
     requires noted { AreLengths held.old.types.now held.old.lengths.now }
+    requires begins { start ≤ length source.now.bytes.now }
     ensures ready { V.ready visitor.new (length source.now.bytes.now) }
-    ensures walked { (begin : ℕ) (x : ValueTree) (rest : List ℕ) → StandsAt source.now held.old x rest →
-        held.old.at ≡ inside source.now.order begin (VariantValue x) →
-        IfOk result (λ _. V.one visitor.old gathered.old source.now.order begin (VariantValue x) gathered.new visitor.new ×
+    ensures walked { (x : ValueTree) (rest : List ℕ) → StandsAt source.now held.old x rest →
+        held.old.at ≡ inside source.now.order start (VariantValue x) →
+        IfOk result (λ _. V.one visitor.old gathered.old source.now.order start (VariantValue x) gathered.new visitor.new ×
         (held.new.at ≡ end_of source.now held.old x)) }
 {
     let length = source.bytes.len();
-    let mut many = visitor.open(gathered, Container::Variant, held.types, length)?;
+    let mut many = visitor.open(gathered, Container::Variant, held.types, start, length)?;
     visitor.part(true, length);
     let walked = value(visitor, &mut many, source, held, 0);
     if walked.is_err() {
@@ -421,7 +425,7 @@ fn whole<V: Visitor>(
         (spot.new.at ≡ end_of_all source.now spot.old (parts v))) }
 {
     let length = source.bytes.len();
-    let mut many = visitor.open(gathered, kind, spot.types, length)?;
+    let mut many = visitor.open(gathered, kind, spot.types, spot.at, length)?;
     let walked = listed(visitor, &mut many, source, spot);
     // Handed on as it is, which takes no instruction.
     if walked.is_err() {
@@ -480,7 +484,7 @@ fn nested<V: Visitor>(
     let first = outer + 1;
     let types = &spot.types[first..spot.types.len() - first];
     let length = source.bytes.len();
-    let mut many = visitor.open(gathered, Container::Struct, types, length)?;
+    let mut many = visitor.open(gathered, Container::Struct, types, spot.at, length)?;
     let walked = nested_fields(visitor, &mut many, source, spot, outer, row);
     if walked.is_err() {
         return walked;

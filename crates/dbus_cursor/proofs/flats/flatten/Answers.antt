@@ -17,6 +17,6 @@ returns c = record {
       let fits : c.walk_values.new.visitor.count < 2 ^ 64 = omega (arith, word, c.total.ensures) in
       let row = row_of order at w.0 _ _ w.2.gained refl fits (omega arith) in
       let out = c.walk_values.new.visitor.out.now in
-      let told = subst (λ (us : ValueTrees). AreFlat order at us out c.walk_values.new.visitor.count) (sym w.1) row in
-      subst (λ (l : List FlatItem). AreFlat order at vs l c.total.result) back (subst (λ (k : ℕ). AreFlat order at vs out k) (sym c.total.ensures) told);
+      let told = subst (λ (us : ValueTrees). AreFlat order at us c.args.out.now out c.walk_values.new.visitor.count) (sym w.1) row in
+      subst (λ (l : List FlatItem). AreFlat order at vs c.args.out.now l c.total.result) back (subst (λ (k : ℕ). AreFlat order at vs c.args.out.now out k) (sym c.total.ensures) told);
 }

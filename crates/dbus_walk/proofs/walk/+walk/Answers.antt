@@ -15,8 +15,9 @@ use Rattle.dbus_walk.specs.Containers.{IsOf, inside, parts}
 use Rattle.dbus_walk.proofs.Laid.{long_coded, short_coded, laid_as}
 use Rattle.dbus_walk.proofs.Together.{no_row, aligned, between_long, one_struct, one_ends, fields_inside, outermost}
 use Rattle.dbus_walk.proofs.Lists.{no_elements}
-use Rattle.dbus_walk.proofs.Parts.{types_some}
-use Rattle.dbus_walk.proofs.Walks.{not_ok, held_ok, ok_from, Taken, none_taken, more_taken, starts, all_left, next_element, element_left, no_element, first_ends, of_first, of_others, next_value, value_left, no_value}
+use Rattle.dbus_walk.proofs.Parts.{no_gap, types_some}
+use Rattle.dbus_walk.proofs.Seams.{ends_within}
+use Rattle.dbus_walk.proofs.Walks.{not_ok, held_ok, ok_from, Taken, none_taken, more_taken, starts, first_part, all_left, next_element, element_left, no_element, first_ends, of_first, of_others, next_value, value_left, no_value}
 use Rattle.dbus_walk.proofs.walk.+walk.Goals as goal
 
 pub elements-loop-place-init : goal.elements-loop-place-init
@@ -225,13 +226,13 @@ pub variant-variant_of-walked-requires : goal.variant-variant_of-walked-requires
 variant-variant_of-walked-requires g t c κs within =
     let s = c.requires.stands in
     let p = c.requires.laid s.0 s.1 s.2 in
-    (omega (arith, p.some, p.few, types_some s.2), (within.0, (within.1.0, (within.1.1, (c.requires.ready, ((p.x, s.1, p.held), (((type_of p.x, p.single.0, sym p.held.text), p.few), one_length c.args.types.now c.if-types-eq1.true)))))))
+    (omega (arith, p.some, p.few, types_some s.2), (within.0, (within.1.0, (within.1.1, (c.requires.ready, ((p.x, s.1, p.held), (((type_of p.x, p.single.0, sym p.held.text), p.few), (one_length c.args.types.now c.if-types-eq1.true, omega (arith, ends_within s.2)))))))))
 
 pub variant-noted_variant-walked-requires : goal.variant-noted_variant-walked-requires
 variant-noted_variant-walked-requires g t c κs within =
     let s = c.requires.stands in
     let p = c.requires.laid s.0 s.1 s.2 in
-    (omega (arith, p.some, p.few, types_some s.2), (within.0, (within.1.0, (within.1.1, (c.requires.ready, ((p.x, s.1, p.held), ((type_of p.x, p.single.0, sym p.held.text), p.few)))))))
+    (omega (arith, p.some, p.few, types_some s.2), (within.0, (within.1.0, (within.1.1, (c.requires.ready, ((p.x, s.1, p.held), (((type_of p.x, p.single.0, sym p.held.text), p.few), omega (arith, ends_within s.2))))))))
 
 pub variant-returns-then-types-eq1-clause-walked : goal.variant-returns-then-types-eq1-clause-walked
 variant-returns-then-types-eq1-clause-walked g t c = λ v rest s.
@@ -240,7 +241,7 @@ variant-returns-then-types-eq1-clause-walked g t c = λ v rest s.
     let at = c.args.spot.now.at in
     ok_from c.variant_of-walked.result _ _
     (λ w. (subst (λ (u : ValueTree). g.V.Visitor.one c.args.visitor.now c.args.gathered.now order at u c.variant_of-walked.new.gathered c.variant_of-walked.new.visitor) (sym p.is) w.0, w.1 ∙ p.ends))
-    (c.variant_of-walked.ensures.walked at p.x rest p.held (p.begins ∙ ap (inside order at) p.is))
+    (c.variant_of-walked.ensures.walked p.x rest p.held (p.begins ∙ ap (inside order at) p.is))
 
 pub variant-returns-clause-walked : goal.variant-returns-clause-walked
 variant-returns-clause-walked g t c = λ v rest s.
@@ -249,18 +250,20 @@ variant-returns-clause-walked g t c = λ v rest s.
     let at = c.args.spot.now.at in
     ok_from c.noted_variant-walked.result _ _
     (λ w. (subst (λ (u : ValueTree). g.V.Visitor.one c.args.visitor.now c.args.gathered.now order at u c.noted_variant-walked.new.gathered c.noted_variant-walked.new.visitor) (sym p.is) w.0, w.1 ∙ p.ends))
-    (c.noted_variant-walked.ensures.walked at p.x rest p.held (p.begins ∙ ap (inside order at) p.is))
+    (c.noted_variant-walked.ensures.walked p.x rest p.held (p.begins ∙ ap (inside order at) p.is))
 
 pub variant_of-value-walked-requires : goal.variant_of-value-walked-requires
 variant_of-value-walked-requires g t c κs within = (omega arith, (within.0, (within.1.0, (within.1.1, (c.part.ensures.ready, (c.requires.stands, (c.requires.noted, no_row)))))))
 
 pub variant_of-returns-then-is_err-clause-walked : goal.variant_of-returns-then-is_err-clause-walked
-variant_of-returns-then-is_err-clause-walked g t c = λ begin x rest s begins. not_ok c.value-walked.result _ (sym c.is_err.ensures.value ∙ c.if-is_err.true)
+variant_of-returns-then-is_err-clause-walked g t c = λ x rest s begins. not_ok c.value-walked.result _ (sym c.is_err.ensures.value ∙ c.if-is_err.true)
 
 pub variant_of-returns-clause-walked : goal.variant_of-returns-clause-walked
-variant_of-returns-clause-walked g t c = λ begin x rest s begins.
+variant_of-returns-clause-walked g t c = λ x rest s begins.
     let order = c.args.source.now.order in
     let q = c.args.held.now.at in
+    let begin = c.args.start in
+    let place : begin ≡ begin + gap_to 1 begin = omega (arith, no_gap begin) in
     let opened = c.open.new.self in
     let filled = c.value-walked.new.visitor in
     let none = c.in_ok-many.many in
@@ -268,7 +271,7 @@ variant_of-returns-clause-walked g t c = λ begin x rest s begins.
     ok_from c.value-walked.result _ _ (λ w.
     let held = g.met.V.Visitor.more opened opened c.part.new.self filled none none many order q q [] x (g.met.V.Visitor.none opened none order q) c.part.ensures.takes (starts order q) w.0 in
     let all = subst (λ (k : ℕ). g.V.Visitor.many opened none order k (x ∷ []) many filled) begins held in (
-      g.met.V.Visitor.whole c.args.visitor.now opened filled c.close.new.self c.args.gathered.now none many c.close.new.gathered kind.Variant order begin (VariantValue x) (x ∷ []) tt (c.in_ok-many.ensures.takes order begin (VariantValue x) tt (append-nil (sig (type_of x)) ∙ s.text)) refl all (c.in_ok-close.ensures.takes (VariantValue x) tt),
+      g.met.V.Visitor.whole c.args.visitor.now opened filled c.close.new.self c.args.gathered.now none many c.close.new.gathered kind.Variant order begin (VariantValue x) (x ∷ []) tt (c.in_ok-many.ensures.takes order begin (VariantValue x) tt (append-nil (sig (type_of x)) ∙ s.text) place) refl all (c.in_ok-close.ensures.takes (VariantValue x) tt),
       w.1,
     )) (c.value-walked.ensures.walked x rest s)
 
@@ -335,7 +338,7 @@ pub nested-returns-clause-walked : goal.nested-returns-clause-walked
 nested-returns-clause-walked g t c = λ at vs rest begins a.
     let order = c.args.source.now.order in
     ok_from c.nested_fields-walked.result _ _ (λ held. (
-      g.met.V.Visitor.whole c.args.visitor.now c.open.new.self c.nested_fields-walked.new.visitor c.close.new.self c.args.gathered.now c.in_ok-many.many c.nested_fields-walked.new.gathered c.close.new.gathered kind.Struct order at (StructValue vs) held.0.0 tt (c.in_ok-many.ensures.takes order at (StructValue vs) tt a.text) held.0.1
+      g.met.V.Visitor.whole c.args.visitor.now c.open.new.self c.nested_fields-walked.new.visitor c.close.new.self c.args.gathered.now c.in_ok-many.many c.nested_fields-walked.new.gathered c.close.new.gathered kind.Struct order at (StructValue vs) held.0.0 tt (c.in_ok-many.ensures.takes order at (StructValue vs) tt a.text begins) held.0.1
           (subst (λ (q : ℕ). g.V.Visitor.many c.open.new.self c.in_ok-many.many order q held.0.0 c.nested_fields-walked.new.gathered c.nested_fields-walked.new.visitor) begins held.0.2) (c.in_ok-close.ensures.takes (StructValue vs) tt),
       held.1,
     )) (c.nested_fields-walked.ensures.walked vs rest a)
@@ -435,7 +438,7 @@ pub whole-returns-clause-walked : goal.whole-returns-clause-walked
 whole-returns-clause-walked g t c = λ at v rest is_of a begins.
     let order = c.args.source.now.order in
     ok_from c.listed-walked.result _ _ (λ held. (
-      g.met.V.Visitor.whole c.args.visitor.now c.open.new.self c.listed-walked.new.visitor c.close.new.self c.args.gathered.now c.in_ok-many.many c.listed-walked.new.gathered c.close.new.gathered c.args.kind order at v held.0.0 is_of (c.in_ok-many.ensures.takes order at v is_of a.text) held.0.1
+      g.met.V.Visitor.whole c.args.visitor.now c.open.new.self c.listed-walked.new.visitor c.close.new.self c.args.gathered.now c.in_ok-many.many c.listed-walked.new.gathered c.close.new.gathered c.args.kind order at v held.0.0 is_of (c.in_ok-many.ensures.takes order at v is_of a.text (first_part order at v c.requires.kind is_of begins)) held.0.1
           (subst (λ (q : ℕ). g.V.Visitor.many c.open.new.self c.in_ok-many.many order q held.0.0 c.listed-walked.new.gathered c.listed-walked.new.visitor) begins held.0.2) (c.in_ok-close.ensures.takes v is_of),
       held.1,
     )) (c.listed-walked.ensures.walked (parts v) rest a)
