@@ -65,6 +65,7 @@ pub use limits::{Descriptors, Limits};
 pub use message::{Flags, Kind, Message};
 pub use rule::{Owners, Rule, RuleError, RuleFault, RuleId, RuleSet};
 pub use swap::{byteswap, SwapError};
+pub use sys::dbus_wire_flat_item as FlatItem;
 pub use text::{check_text, TextFault, TextKind};
 pub use value::{Array, Entry, Fields, Value, Values, Variant};
 

@@ -4,7 +4,7 @@ use std::fmt;
 use std::num::NonZeroU32;
 
 use crate::value::text_at;
-use crate::{byteswap, check, sys, Answer, Fields, Limits, Order, ParseError, Parts, Values};
+use crate::{byteswap, check, sys, Answer, Fields, FlatItem, Limits, Order, ParseError, Parts, Values};
 
 /// The type of a message.
 #[derive(Clone, Copy, Debug, PartialEq, Eq, Hash)]
@@ -206,6 +206,24 @@ impl<'a> Message<'a> {
             signature: self.signature(),
             unix_fds: self.unix_fds(),
             body: self.body_bytes(),
+        }
+    }
+
+    /// All values of the body, and all that is within them, in one row: each container comes before its parts, and an array of numbers
+    /// is one item. `include/dbus_wire.h` says what each member is.
+    pub fn flatten(&self) -> Vec<FlatItem> {
+        let (limits, mut items, mut count) = (Limits::default().raw(), Vec::new(), 0);
+        loop {
+            items.resize(count as usize, FlatItem::default());
+            // SAFETY: a slice, a vector's items and references, as `sys` says.
+            let answer = unsafe {
+                let (bytes, room) = (self.bytes, items.len());
+                sys::dbus_wire_flatten(bytes.as_ptr(), bytes.len(), &limits, items.as_mut_ptr(), room, &mut count)
+            };
+            if answer != sys::DBUS_WIRE_NO_ROOM {
+                assert_eq!(answer, sys::DBUS_WIRE_WHOLE, "a message within limits is one within the specification's");
+                return items;
+            }
         }
     }
 

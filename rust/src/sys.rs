@@ -183,6 +183,16 @@ pub struct dbus_wire_item {
 
 #[repr(C)]
 #[derive(Clone, Copy, Debug, Default)]
+pub struct dbus_wire_flat_item {
+    pub number: u64,
+    pub offset: u64,
+    pub length: u64,
+    pub code: u32,
+    pub element: u32,
+}
+
+#[repr(C)]
+#[derive(Clone, Copy, Debug, Default)]
 pub struct dbus_wire_field {
     pub code: u32,
     pub reserved: u32,
@@ -278,6 +288,7 @@ const _: () = assert!(size_of::<dbus_wire_parts>() == 208);
 const _: () = assert!(size_of::<dbus_wire_argument>() == 24);
 const _: () = assert!(size_of::<dbus_wire_cursor>() == 48);
 const _: () = assert!(size_of::<dbus_wire_item>() == 80);
+const _: () = assert!(size_of::<dbus_wire_flat_item>() == 32);
 const _: () = assert!(size_of::<dbus_wire_field>() == 88);
 const _: () = assert!(size_of::<dbus_wire_writer>() == 16);
 const _: () = assert!(size_of::<dbus_wire_array>() == 16);
@@ -311,6 +322,14 @@ extern "C" {
         out: *mut dbus_wire_cursor,
     ) -> u32;
     pub fn dbus_wire_next(bytes: *const u8, length: usize, cursor: *mut dbus_wire_cursor, out: *mut dbus_wire_item) -> u32;
+    pub fn dbus_wire_flatten(
+        bytes: *const u8,
+        length: usize,
+        limits: *const dbus_wire_limits,
+        items: *mut dbus_wire_flat_item,
+        room: usize,
+        count: *mut u64,
+    ) -> u32;
     pub fn dbus_wire_fields_cursor(
         bytes: *const u8,
         length: usize,

@@ -96,6 +96,10 @@ fn containers_are_iterators() {
     body.extend(b"\x01v\0\x01b\0\0\0\x01\0\0\0");
     let bytes = signal("sogaya{sv}(uas)v", &body);
     let message = Message::parse(&bytes).unwrap();
+    let items = message.flatten();
+    assert_eq!(items.iter().map(|item| item.code as u8 as char).collect::<String>(), "sogaa{svy(uavvb");
+    assert_eq!([4, 9, 12, 14].map(|at| items[at].number), [4, 2, 2, 1]);
+    assert_eq!(&bytes[items[13].offset as usize..][..items[13].length as usize], b"b");
     let mut values = message.body();
     assert_eq!(values.types(), "sogaya{sv}(uas)v");
     assert_eq!(values.next(), Some(Value::String("é")));

@@ -9,14 +9,14 @@ use Rattle.dbus_value_model.specs.declared.order.Order.{Order}
 use Rattle.dbus_value_model.specs.Spelling.{spellings, AreWithinLimits}
 use Rattle.dbus_value_model.specs.Values.{ValueTrees}
 use Rattle.dbus_message_model.specs.Lookups.{field_value}
-use Rattle.dbus_message_model.specs.Messages.{FieldTree, MessageTree, IsMessage, order_byte, body_signature, body_start, text_in}
+use Rattle.dbus_message_model.specs.Messages.{FieldTree, MessageTree, IsMessage, order_byte, body_signature, body_start, message_bytes, text_in}
 use Rattle.dbus_message_model.proofs.Widening.{are_within_wider}
 use Rattle.dbus_header.specs.MessageOutcomes.{IsWhole}
 use Rattle.dbus_header.proofs.OutcomeLaws.{whole_bytes}
 use Rattle.dbus_validate.specs.declared.validating.Validated.{Validated}
 use Rattle.dbus_validate.specs.Validating.{IsValidatedFirst}
 use Rattle.dbus_walk.specs.Standing.{AllStand}
-use Rattle.dbus_walk.proofs.MessageParts.{body_stands}
+use Rattle.dbus_walk.proofs.MessageParts.{body_few, body_stands}
 use Rattle.dbus_walk.proofs.Signed.{array_signed}
 use Rattle.dbus_cursor.specs.Cursors.{types_at}
 use Rattle.dbus_cursor.specs.declared.cursor.Cursor.{Cursor}
@@ -63,7 +63,7 @@ module _ (n : ℕ) (b : List ℕ) (fits : n ≤ length b) where
         inside = omega (arith, a.inside, has, fits);
       }
 
-module _ (limits : Limits) (b : List ℕ) (j : Validated) (first : IsValidatedFirst limits b j) (p : TextPlace) (placed : IsPlaceOf (field_value 8 first.validated.validated.message.fields) (take j.length b) p) where
+module _ (limits : Limits) (b : List ℕ) (j : Validated) (first : IsValidatedFirst limits b j) where
   abbrev s : List ℕ
   s = take j.length b
 
@@ -73,48 +73,53 @@ module _ (limits : Limits) (b : List ℕ) (j : Validated) (first : IsValidatedFi
   abbrev xs : ValueTrees
   xs = first.validated.validated.message.body
 
-  abbrev pub at_body : Cursor
-  at_body = record { at = j.body; end = j.length; types = p.offset; types_length = p.length; order = order_byte j.order; elements = 0; depth_left = limits.depth; reserved = 0 }
-
   message_valid : IsMessage limits j.order first.validated.validated.message
   message_valid = whole_message limits b j.order first.validated.validated.message j.length (first_whole limits b j first)
 
   begins : body_start j.order fs ≡ j.body
   begins = first.validated.validated.body.0
 
-  inside : p.offset + p.length ≤ length s
-  inside = (signature_placed fs s p placed).1
+  own_bytes : s ≡ message_bytes j.order first.validated.validated.message
+  own_bytes = (whole_bytes limits b j.order first.validated.validated.message j.length (first_whole limits b j first)).0
 
-  typed : body_signature fs ≡ types_at b at_body
-  typed = (signature_placed fs s p placed).0 ∙ front_text j.length b first.fits p.offset p.length (omega (arith, inside, length-take-le j.length b first.fits))
+  -- the body stands in the message's own bytes, and its types have few
+  pub body_there : (types : List ℕ) → types ≡ body_signature fs → AllStand j.order limits.depth types j.body s xs []
+  body_there types typed = body_stands limits j.order first.validated.validated.message s own_bytes message_valid (omega (arith, limits.array_in)) types j.body typed begins
 
-  all_stand : AllStand j.order limits.depth (body_signature fs) (body_start j.order fs) s xs []
-  all_stand =
-      let m = first.validated.validated.message in
-      body_stands limits j.order m s (whole_bytes limits b j.order m j.length (first_whole limits b j first)).0 message_valid (omega (arith, limits.array_in)) (body_signature fs) (body_start j.order fs) refl refl
+  pub few_types : (types : List ℕ) → types ≡ body_signature fs → length types ≤ 255
+  few_types types typed = body_few limits j.order first.validated.validated.message s own_bytes message_valid (omega (arith, limits.array_in)) types typed
 
-  stands : AllStand j.order limits.depth (types_at b at_body) j.body b xs (drop j.length b)
-  stands = subst (λ (l : List ℕ). AllStand j.order limits.depth l j.body b xs (drop j.length b)) typed
-      (subst (λ (k : ℕ). AllStand j.order limits.depth (body_signature fs) k b xs (drop j.length b)) begins (front_stands j.length b first.fits all_stand))
+  module _ (p : TextPlace) (placed : IsPlaceOf (field_value 8 first.validated.validated.message.fields) (take j.length b) p) where
+    abbrev pub at_body : Cursor
+    at_body = record { at = j.body; end = j.length; types = p.offset; types_length = p.length; order = order_byte j.order; elements = 0; depth_left = limits.depth; reserved = 0 }
 
-  pub body_at : IsAtBody limits b at_body
-  body_at = record {
-    order = j.order;
-    message = first.validated.validated.message;
-    whole = first_whole limits b j first;
-    values = record {
+    inside : p.offset + p.length ≤ length s
+    inside = (signature_placed fs s p placed).1
+
+    typed : body_signature fs ≡ types_at b at_body
+    typed = (signature_placed fs s p placed).0 ∙ front_text j.length b first.fits p.offset p.length (omega (arith, inside, length-take-le j.length b first.fits))
+
+    stands : AllStand j.order limits.depth (types_at b at_body) j.body b xs (drop j.length b)
+    stands = subst (λ (l : List ℕ). AllStand j.order limits.depth l j.body b xs (drop j.length b)) typed (front_stands j.length b first.fits (body_there (body_signature fs) refl))
+
+    pub body_at : IsAtBody limits b at_body
+    body_at = record {
       order = j.order;
-      named = refl;
-      stand = inl (record {
-        no_elements = refl;
-        signature = subst (IsKind Signature) typed (array_signed limits.depth fs message_valid.fields message_valid.formed_fields);
-        rest = drop j.length b;
-        stand = stands;
-      });
-      within = subst (λ (k : ℕ). AreWithinLimits ARRAY_LIMIT j.order k xs) begins (are_within_wider limits.array ARRAY_LIMIT limits.array_in j.order (body_start j.order fs) xs message_valid.within_body);
-      ends = subst (λ (k : ℕ). j.length ≡ j.body + length (spellings j.order k xs)) begins (first_body_length limits b j first);
-      room = limits.depth_in;
-      reserved = refl;
-      inside = omega (arith, inside, length-take-le j.length b first.fits, first.fits);
-    };
-  }
+      message = first.validated.validated.message;
+      whole = first_whole limits b j first;
+      values = record {
+        order = j.order;
+        named = refl;
+        stand = inl (record {
+          no_elements = refl;
+          signature = subst (IsKind Signature) typed (array_signed limits.depth fs message_valid.fields message_valid.formed_fields);
+          rest = drop j.length b;
+          stand = stands;
+        });
+        within = subst (λ (k : ℕ). AreWithinLimits ARRAY_LIMIT j.order k xs) begins (are_within_wider limits.array ARRAY_LIMIT limits.array_in j.order (body_start j.order fs) xs message_valid.within_body);
+        ends = subst (λ (k : ℕ). j.length ≡ j.body + length (spellings j.order k xs)) begins (first_body_length limits b j first);
+        room = limits.depth_in;
+        reserved = refl;
+        inside = omega (arith, inside, length-take-le j.length b first.fits, first.fits);
+      };
+    }

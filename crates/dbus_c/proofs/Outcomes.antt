@@ -1,5 +1,5 @@
 -- Each outcome of bytes rules out the others.
-use Rattle.std.proofs.Common.{◌≡◌, ℕ, ◌<◌, ◌≤◌, List, Some, None, sym, ap, ◌∙◌, arith}
+use Rattle.std.proofs.Common.{◌≡◌, ℕ, ◌<◌, ◌≤◌, List, Some, None, sym, ap, ◌∙◌, arith, inl, inr}
 use Rattle.dbus_value_model.specs.Values.{ValueTree}
 use Rattle.dbus_value_model.specs.declared.limits.Limits.{Limits}
 use Rattle.dbus_value_model.specs.declared.order.Order.{Order}
@@ -9,8 +9,14 @@ use Rattle.dbus_header.specs.MessageOutcomes.{IsWhole}
 use Rattle.dbus_header.proofs.OutcomeLaws.{one_outcome, one_whole}
 use Rattle.dbus_header.specs.NoMessage.{BeginsWithNone}
 use Rattle.dbus_c.specs.Checking.{Tells, whole, partial, refused}
+use Rattle.dbus_c.specs.FlatBodies.{IsTold}
 use Rattle.dbus_c.specs.Outcomes.{BeginsWithValue, BeginsWithoutValue, TellsApart}
 use Rattle.dbus_c.specs.declared.checking.Checked.{Checked}
+
+-- what is said of bytes that begin with no message
+pub not_told : (answer : ℕ) → 0 < answer → answer ≤ 2 → IsTold answer → ⊥
+not_told answer some most (inl e) = let is : answer ≡ 0 = e in omega (arith, some, is)
+not_told answer some most (inr e) = let is : answer ≡ 4 = e in omega (arith, most, is)
 
 module _ (limits : Limits) (b : List ℕ) where
   -- bytes that begin with a message are neither partial nor refused

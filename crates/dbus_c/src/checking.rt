@@ -140,6 +140,7 @@ pub(crate) fn first_validated(bytes: &[u8], limits: &WireLimits) -> Result<Valid
     ensures apart { TellsApart (limits_of limits.now) bytes.now (answer_of result) }
     ensures validated { IfOk result (λ v. IsValidatedFirst (limits_of limits.now) bytes.now v) }
     ensures none { IfErr result (λ answer. WHOLE < answer) }
+    ensures most { IfErr result (λ answer. answer ≤ REFUSED) }
 {
     let within = given_limits(limits);
     match validate_first(bytes, within) {
