@@ -1,9 +1,10 @@
 -- A wanted value that stands whole in the bytes is passed at once.
-use Rattle.std.proofs.Common.{◌≡◌, ℕ, zero, suc, ◌+◌, ◌-◌, ◌%◌, ◌<◌, ◌≤◌, List, ◌++◌, length, take, drop, get_or, Bool, true, false, sym, ap, subst, ◌∙◌, arith}
+use Rattle.std.proofs.Common.{◌≡◌, ℕ, zero, suc, ◌+◌, ◌-◌, ◌*◌, ◌/◌, ◌%◌, ◌<◌, ◌≤◌, List, ◌++◌, length, take, drop, get_or, Bool, true, false, sym, ap, subst, ◌∙◌, arith}
 use Rattle.std.proofs.lemmas.List.{take_at, drop-drop, drop-take, get_or-drop, length-drop, length-take, length-append, take_all}
 use Rattle.dbus_texts.specs.Types.{TypeTree, sig, IsShaped}
-use Rattle.dbus_types.proofs.TypeCodes.{begins}
-use Rattle.dbus_value_model.specs.Reading.{Done, after, value}
+use Rattle.dbus_types.proofs.TypeCodes.{begins, boolean_is, code_is}
+use Rattle.dbus_value_model.specs.Bytes.{gap_to}
+use Rattle.dbus_value_model.specs.Reading.{Done, after, number_of, value}
 use Rattle.dbus_value_model.specs.Spelling.{Spelled, spelling}
 use Rattle.dbus_value_model.specs.Values.{ValueTree}
 use Rattle.dbus_value_model.proofs.Periods.{spelled-period}
@@ -11,6 +12,7 @@ use Rattle.dbus_value_laws.proofs.ValueItemLaws.{Agrees-value, value_inside}
 use Rattle.dbus_value_laws.proofs.ValueSteps.{shaped_inside}
 use Rattle.dbus_value_validator.specs.Endings.{EndsAt}
 use Rattle.dbus_value_validator.specs.NotedTypes.{AreNoted}
+use Rattle.dbus_value_validator.proofs.NumberArrays.{boolean_ends}
 use Rattle.dbus_value_validator.proofs.Spelled.{value_spelled}
 use Rattle.dbus_value_checker.specs.declared.values.Values.{Values}
 use Rattle.dbus_value_checker.specs.Frames.{slice, IsNoted}
@@ -110,3 +112,28 @@ module _ (x : Values) (answer : Answer) (bytes : List ℕ) (n : ℕ) (are : (i :
       let g = whole_goes (further m) pos stop (onwards m) w (drop m (drop n bytes)) at end k read.0 (drop next here) (omega arith) (omega arith) (omega arith) moved in
       let both = both_go m k (omega (arith, fits, inside, size, length-drop n bytes)) g in
       subst (λ (j : ℕ). Goes (further j) (onwards j)) (let e : m + k ≡ next - before = omega arith in e) both
+
+  -- BOOLEANs of an array, as many as their words show
+  module _ (pos stop end last : ℕ) (text : List ℕ) (text_is : text ≡ x.text.items) (w : Wants x pos stop answer) (array : x.inner.array ≡ true) (code : get_or (take (stop - pos) (drop pos text)) 0 0 ≡ 98)
+      (there : before ≤ n) (begins : gap_to 4 before ≡ 0) (ends : end ≤ before + (x.inner.end - x.offset)) (inside : end ≤ length (take (length bytes - (n - before)) here)) (within : last ≤ end)
+      (few : (p : ℕ) → before ≤ p → gap_to 4 p ≡ 0 → p + 4 ≤ last → number_of x.order (take 4 (drop p (take (length bytes - (n - before)) here))) ≤ 1) where
+    so_many : (k : ℕ) → before + 4 * k ≤ last → Went (4 * k)
+    unfolding gap_to
+    so_many zero le = λ some. absurd (omega (arith, some))
+    so_many (suc k) le = λ some. (
+      array,
+      (let at = before + 4 * k in
+          let aligned : gap_to 4 at ≡ 0 = omega (arith, begins) in
+          let all = take (length bytes - (n - before)) here in
+          subst (λ (m : ℕ). Goes (further m) (onwards m)) (let e : at + 4 - before ≡ 4 * suc k = omega arith in e)
+          (read_goes pos stop at end (at + 4) text text_is w there (omega arith) (subst Went (let e : 4 * k ≡ at - before = omega arith in e) (so_many k (omega arith))) (omega arith) (omega arith) ends inside (λ t is shaped.
+          subst (λ (u : TypeTree). EndsAt all (at + 4) (value x.bounds x.order x.inner.depth_left end u at (drop at all))) (sym (boolean_is t (code_is t _ is ∙ code)))
+          (boolean_ends x.bounds x.order x.inner.depth_left end at all aligned (omega arith) inside (few at (omega arith) aligned (omega arith)))))),
+    )
+
+    pub booleans_go : gap_to 4 last ≡ 0 → before < last → Goes (further (last - before)) (onwards (last - before))
+    unfolding gap_to
+    booleans_go aligned some =
+        let k = (last - before) / 4 in
+        let all : 4 * k ≡ last - before = omega (arith, aligned, begins, some) in
+        subst (λ (m : ℕ). Goes (further m) (onwards m)) all (so_many k (omega arith) (omega arith)).1

@@ -5,8 +5,8 @@ ghost use Rattle.std.specs.Prelude.{◌≡◌, ◌+◌, ◌<◌, ◌≤◌, ◌�
 
 use crate::fronts::rest_after;
 use crate::values::{Doing, Values};
-use dbus_value_model::Stop;
-use dbus_value_validator::{Source, one_value};
+use dbus_value_model::{Stop, gap};
+use dbus_value_validator::{Source, booleans_end, one_value};
 
 /// How many values of a piece are tried in vain. What is tried in vain is gone over twice.
 const MOST_MISSES: u8 = 8;
@@ -45,6 +45,15 @@ impl Values {
             lengths: self.lengths.as_slice(),
         };
         let types = &self.text.as_slice()[pos..stop];
+        if self.inner.array && types[0] == b'b' && gap(4, before) == 0 {
+            // BOOLEANs are known by their words.
+            let after = booleans_end(here, before, end, self.order);
+            return if before < after {
+                Some(after - before)
+            } else {
+                None
+            };
+        }
         let mut after = before;
         while after < end {
             match one_value(&source, after, end, types, pos, self.inner.depth_left) {

@@ -65,6 +65,14 @@ module _ (part : Reader ValueTree) (bytes : List ℕ) (first end w : ℕ) (some 
       sooner : (p : ℕ) → p + w ≤ end → end - p ≡ end - (p + w) + w
       sooner p h = omega arith
 
+-- a number that its rows let stand ends after its bytes
+number_ends : (bounds : Bounds) (order : Order) (depth_left end : ℕ) (k : NumberCode) (w p : ℕ) (bytes : List ℕ) → width k ≡ w → number_row bounds.fds k (p + w) (number_of order (take w (drop p bytes))) ≡ None → gap_to w p ≡ 0 → p + w ≤ end → end ≤ length bytes
+    → EndsAt bytes (p + w) (value bounds order depth_left end (NumberType k) p (drop p bytes))
+number_ends bounds order depth_left end k w p bytes wide free aligned fits inside =
+    let n = number_of order (take w (drop p bytes)) in
+    let run = value_number bounds order depth_left end k p (drop p bytes) ∙ is_number bounds.fds order end k w p (drop p bytes) wide in
+    (NumberValue k n, free_ends order end w (number_row bounds.fds k) k p bytes _ run p (padding_is w end p 0 (drop p bytes) aligned (omega arith)) n fits inside refl free)
+
 -- the elements of an array of n bytes, which are numbers that may all stand, end with them where these are those of whole numbers, and else are not read
 pub number_elements : (bounds : Bounds) (order : Order) (depth_left : ℕ) (k : NumberCode) (w n first : ℕ) (bytes : List ℕ) (even : Bool) → 0 < w → width k ≡ w
     → ((p : ℕ) → first ≤ p → gap_to w p ≡ 0 → p + w ≤ first + n → number_row bounds.fds k (p + w) (number_of order (take w (drop p bytes))) ≡ None)
@@ -72,13 +80,11 @@ pub number_elements : (bounds : Bounds) (order : Order) (depth_left : ℕ) (k : 
     → Answers bytes (cond even (Some (first + n)) None) (contents n (λ end before. value bounds order depth_left end (NumberType k)) first (drop first bytes))
 number_elements bounds order depth_left k w n first bytes even some wide free is aligned inside =
     let end = first + n in
-    let padded = λ (p : ℕ) (h : gap_to w p ≡ 0) (le : p ≤ end). padding_is w end p 0 (drop p bytes) h (omega arith) in
     let size : end - first ≡ n = omega arith in
-    let at_once = λ (p : ℕ). value_number bounds order depth_left end k p (drop p bytes) ∙ is_number bounds.fds order end k w p (drop p bytes) wide in
-    let number = λ (p : ℕ). number_of order (take w (drop p bytes)) in
     run (value bounds order depth_left end (NumberType k)) bytes first end w some
-    (λ p from h fits. (NumberValue k (number p), free_ends order end w (number_row bounds.fds k) k p bytes _ (at_once p) p (padded p h (omega arith)) (number p) fits inside refl (free p from h fits)))
-    (λ p h le short. number_short order end w (number_row bounds.fds k) k p bytes _ (at_once p) p (padded p h le) short)
+    (λ p from h fits. number_ends bounds order depth_left end k w p bytes wide (free p from h fits) h fits inside)
+    (λ p h le short.
+    number_short order end w (number_row bounds.fds k) k p bytes _ (value_number bounds order depth_left end k p (drop p bytes) ∙ is_number bounds.fds order end k w p (drop p bytes) wide) p (padding_is w end p 0 (drop p bytes) h (omega arith)) short)
     n first [] even (omega arith) (omega arith) (omega arith) aligned (rw size is)
 
 -- of a type of which every number may stand
@@ -113,3 +119,7 @@ pub boolean_elements : (bounds : Bounds) (order : Order) (depth_left : ℕ) (n f
 boolean_elements bounds order depth_left n first bytes begins ends inside few =
     number_elements bounds order depth_left BOOLEAN 4 n first bytes true (omega arith) refl (λ p from h fits. is_boolean bounds.fds (p + 4) (number_of order (take 4 (drop p bytes))) (few p from h fits))
     (eq-eqb _ 0 (wholly first n begins ends)) begins inside
+
+-- one of them
+pub boolean_ends : (bounds : Bounds) (order : Order) (depth_left end p : ℕ) (bytes : List ℕ) → gap_to 4 p ≡ 0 → p + 4 ≤ end → end ≤ length bytes → number_of order (take 4 (drop p bytes)) ≤ 1 → EndsAt bytes (p + 4) (value bounds order depth_left end (NumberType BOOLEAN) p (drop p bytes))
+boolean_ends bounds order depth_left end p bytes aligned fits inside few = number_ends bounds order depth_left end BOOLEAN 4 p bytes refl (is_boolean bounds.fds (p + 4) (number_of order (take 4 (drop p bytes))) few) aligned fits inside

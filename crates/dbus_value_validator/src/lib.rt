@@ -18,6 +18,7 @@ mod validating;
 mod values;
 
 pub use items::{is_ended_text, padding, word};
+pub use numbers::booleans_end;
 pub use source::Source;
 pub use texts::short_text;
 pub use validating::{validate_value, validate_values};

@@ -1,7 +1,7 @@
 //! Values that are one number. D-Bus Specification, "Basic types", "Marshaling (Wire Format)".
 #![tactic(auto)]
 
-ghost use Rattle.std.specs.Prelude.{◌≡◌, ℕ, ◌+◌, ◌<◌, ◌≤◌, length, take, drop, Option, IfSome, IsTrue};
+ghost use Rattle.std.specs.Prelude.{◌≡◌, ℕ, ◌+◌, ◌<◌, ◌≤◌, length, take, drop, Option, IfSome};
 ghost use Rattle.dbus_texts.specs.Types.{NumberCode, BOOLEAN, UNIX_FD};
 ghost use Rattle.dbus_types.specs.Alignments.{width};
 ghost use Rattle.dbus_value_model.specs.Bytes.{gap_to};
@@ -50,23 +50,23 @@ pub(crate) fn boolean(bytes: &[u8], at: usize, end: usize, order: Order) -> Opti
     Some(start + 4)
 }
 
-/// Whether an array's elements, which begin at a boundary, are BOOLEANs up to `end`: words that are each 0 or 1.
-pub(crate) fn are_booleans(bytes: &[u8], at: usize, end: usize, order: Order) -> bool
+/// Where an array's BOOLEANs end, which begin at a boundary: the offset after the words that are each 0 or 1, as many as end at or
+/// before `end`, up to which the bytes are there. D-Bus Specification, "Marshaling (Wire Format)".
+pub fn booleans_end(bytes: &[u8], at: usize, end: usize, order: Order) -> usize
     requires at_most { at ≤ end }
     requires inside { end ≤ length bytes.now }
     requires begins { gap_to 4 at ≡ 0 }
-    ensures whole { IsTrue result → gap_to 4 end ≡ 0 }
-    ensures few { IsTrue result → (p : ℕ) → at ≤ p → gap_to 4 p ≡ 0 → p + 4 ≤ end →
+    ensures whole { gap_to 4 result ≡ 0 }
+    ensures few { (p : ℕ) → at ≤ p → gap_to 4 p ≡ 0 → p + 4 ≤ result →
         number_of order (take 4 (drop p bytes.now)) ≤ 1 }
+    ensures most { result + 4 ≤ end → 1 < number_of order (take 4 (drop result bytes.now)) }
+    ensures moves { (at ≤ result) × (result ≤ end) }
 {
     let mut place = at;
-    while end - place >= 4 {
-        if order.u32_at(bytes, place) > 1 {
-            return false;
-        }
+    while end - place >= 4 && order.u32_at(bytes, place) <= 1 {
         place += 4;
     }
-    place == end
+    place
 }
 
 /// A UNIX_FD, which is below `index_limit`, if that is something: the offset after it.

@@ -17,7 +17,7 @@ use crate::basic::basic_value;
 use crate::brackets::repeats;
 use crate::ends::{end_of, is_container, wants_lengths};
 use crate::items::padding;
-use crate::numbers::{are_booleans, free_number};
+use crate::numbers::{booleans_end, free_number};
 use crate::source::Source;
 use crate::texts::short_text;
 use dbus_types::{TextKind, boundary, free_width, lengths_in};
@@ -267,8 +267,9 @@ fn array(
         return Some(first);
     }
     // BOOLEANs are known by their words. A no says nothing.
-    if code == b'b' && are_booleans(source.bytes, first, first + n, source.order) {
-        return Some(first + n);
+    let after = first + n;
+    if code == b'b' && booleans_end(source.bytes, first, after, source.order) == after {
+        return Some(after);
     }
     if source.lengths.len() <= pos && wants_lengths(types) {
         return noted_elements(source, first, n, types, depth_left - 1);

@@ -3,6 +3,7 @@ use Rattle.std.proofs.lemmas.Bool.{eqb-true, eqb-false, eq-eqb, ne_eqb}
 use Rattle.std.proofs.lemmas.List.{length-take, length-drop, append-nil}
 use Rattle.dbus_texts.specs.Types.{TypeTree, NumberType, BOOLEAN, NoTypes, MoreTypes, sig, IsShaped}
 use Rattle.dbus_types.specs.Alignments.{alignment_of}
+use Rattle.dbus_value_model.specs.Bytes.{gap_to}
 use Rattle.dbus_value_model.specs.Reading.{padding, up_to, value}
 use Rattle.dbus_value_model.specs.Values.{NoValues, MoreValues}
 use Rattle.dbus_value_model.specs.ValueReaders.{array_value, struct_value, entry_value}
@@ -254,11 +255,11 @@ array-returns-else-n-from-eq0-clause-gives t c = λ u e shaped.
     array_answers source.bounds source.order c.args.depth_left c.args.end c.args.at source.bytes.now c.in_ok-start.start c.in_ok-start.ensures.gives (omega arith) u c.in_ok-n.n c.in_ok-n.first (c.in_ok-n.ensures.gives u bounded) None
     (free_elements source.bounds source.order (c.args.depth_left - 1) u c.free_width-width.result c.in_ok-n.n (c.in_ok-start.start + 4) c.in_ok-n.first source.bytes.now false c.if-width-gt0.true free (rw (← c.from.ensures) (ne_eqb _ 0 c.if-n-from-eq0.false)) (rw (← wide) c.in_ok-n.ensures.begins) (omega (arith, c.in_ok-n.ensures.fits)))
 
-pub array-are_booleans-requires-clause-begins : goal.array-are_booleans-requires-clause-begins
-array-are_booleans-requires-clause-begins t c = words_begin (c.in_ok-start.start + 4) c.in_ok-n.first c.boundary.result (c.boundary.ensures.value (NumberType BOOLEAN) (sym c.if-code-eq98.true)) c.in_ok-n.ensures.begins
+pub array-booleans_end-requires-clause-begins : goal.array-booleans_end-requires-clause-begins
+array-booleans_end-requires-clause-begins t c = words_begin (c.in_ok-start.start + 4) c.in_ok-n.first c.boundary.result (c.boundary.ensures.value (NumberType BOOLEAN) (sym c.if-code-eq98.true)) c.in_ok-n.ensures.begins
 
-pub array-returns-then-are_booleans-clause-gives : goal.array-returns-then-are_booleans-clause-gives
-array-returns-then-are_booleans-clause-gives t c = λ u e shaped.
+pub array-returns-then-booleans_end-after-clause-gives : goal.array-returns-then-booleans_end-after-clause-gives
+array-returns-then-booleans_end-after-clause-gives t c = λ u e shaped.
     let source = c.args.source.now in
     let n = c.in_ok-n.n in
     let first = c.in_ok-n.first in
@@ -267,7 +268,7 @@ array-returns-then-are_booleans-clause-gives t c = λ u e shaped.
     let is = boolean_is u (code ∙ c.if-code-eq98.true) in
     let begins = words_begin (c.in_ok-start.start + 4) first c.boundary.result (bounded ∙ ap alignment_of is) c.in_ok-n.ensures.begins in
     array_answers source.bounds source.order c.args.depth_left c.args.end c.args.at source.bytes.now c.in_ok-start.start c.in_ok-start.ensures.gives (omega arith) u n first (c.in_ok-n.ensures.gives u bounded) (Some (first + n))
-    (rw is (boolean_elements source.bounds source.order (c.args.depth_left - 1) n first source.bytes.now begins (c.are_booleans.ensures.whole c.if-are_booleans.true) (omega (arith, c.in_ok-n.ensures.fits)) (c.are_booleans.ensures.few c.if-are_booleans.true)))
+    (rw is (boolean_elements source.bounds source.order (c.args.depth_left - 1) n first source.bytes.now begins (subst (λ (q : ℕ). gap_to 4 q ≡ 0) c.if-booleans_end-after.true c.booleans_end.ensures.whole) (omega (arith, c.in_ok-n.ensures.fits)) (λ p from h le. c.booleans_end.ensures.few p from h (omega (arith, c.if-booleans_end-after.true, le)))))
 
 pub array-returns-then-n-eq0-clause-gives : goal.array-returns-then-n-eq0-clause-gives
 array-returns-then-n-eq0-clause-gives t c = λ u e shaped.

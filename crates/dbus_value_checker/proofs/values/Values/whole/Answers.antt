@@ -1,10 +1,10 @@
-use Rattle.std.proofs.Common.{◌≡◌, ◌+◌, ◌-◌, ◌%◌, List, ℕ, length, take, drop, sym, subst, arith}
+use Rattle.std.proofs.Common.{◌≡◌, ◌+◌, ◌-◌, ◌%◌, List, ℕ, length, take, drop, sym, subst, ◌∙◌, arith}
 use Rattle.dbus_value_validator.specs.NotedTypes.{AreNoted}
 use Rattle.dbus_value_checker.specs.declared.values.Doing.{Doing}
 use Rattle.dbus_value_checker.specs.Denotations.{Goes, Wants, after_piece, denotes}
 use Rattle.dbus_value_checker.proofs.FrameLaws.{inner_of, frame_within}
-use Rattle.dbus_value_checker.proofs.WholeValues.{read_goes, type_noted, types_are}
-use Rattle.dbus_value_checker.proofs.values.Values.whole.Goals.{else-loop-after-test, then-loop-after-test+in_default-one_value-2, then-loop-after-test+in_default-one_value, then-loop-after-test+in-Some+then-not-self}
+use Rattle.dbus_value_checker.proofs.WholeValues.{booleans_go, read_goes, type_noted, types_are}
+use Rattle.dbus_value_checker.proofs.values.Values.whole.Goals.{else-loop-after-test, then-loop-after-test+in_default-one_value-2, then-loop-after-test+in_default-one_value, then-loop-after-test+in-Some+then-not-self, then-before-after, else-before-after}
 use Rattle.dbus_value_checker.proofs.values.Values.whole.Goals as goal
 
 pub overflow_add-before : goal.overflow_add-before
@@ -58,4 +58,18 @@ returns-clause-goes c = λ answer h.
           subst Went (sym w.after-is)
           (read_goes x answer bytes n (λ i. omega (arith, c.type_inv.bytes i)) c.in-Wanted.pos c.in-Wanted.stop loop.after c.min-end.result w.in-Some.next c.as_slice-2.result.now c.as_slice-2.ensures.value v
           (omega (arith, c.if-n-before.false)) loop.invariant.low (loop.invariant.goes answer h) w.loop-after-test.true w.if-after-next.true (omega (arith, ends)) (omega (arith, ends)) w.in-Some.ensures.gives)
+    ]
+
+pub returns-then-gap-eq0-clause-goes : goal.returns-then-gap-eq0-clause-goes
+returns-then-gap-eq0-clause-goes c =
+    elim c.if-before-after.branch [
+      | then-before-after w ↦
+          rw w.result-is (λ answer h.
+          let x = c.args.self.now in
+          let v : Wants x c.in-Wanted.pos c.in-Wanted.stop answer = subst (λ (d : Doing). denotes d x answer) c.in-Wanted.is h in
+          let ends = c.min-end.ensures in
+          let words = c.booleans_end-after.ensures in
+          booleans_go x answer c.args.bytes.now c.args.n (λ i. omega (arith, c.type_inv.bytes i)) c.in-Wanted.pos c.in-Wanted.stop c.min-end.result c.booleans_end-after.result c.as_slice-2.result.now c.as_slice-2.ensures.value v c.if-self.true c.if-types-eq98.true
+          (omega (arith, c.if-n-before.false)) (sym c.gap.ensures ∙ c.if-gap-eq0.true) (omega (arith, ends)) (omega (arith, ends)) words.moves.1 words.few words.whole w.if-before-after.true)
+      | else-before-after w ↦ rw w.result-is tt
     ]

@@ -1,6 +1,6 @@
 use Rattle.std.proofs.Common.{arith}
 use Rattle.dbus_value_validator.proofs.NumberArrays.{stays_aligned, words_more}
-use Rattle.dbus_value_validator.proofs.numbers.are_booleans.Goals as goal
+use Rattle.dbus_value_validator.proofs.numbers.booleans_end.Goals as goal
 
 pub loop-place-init : goal.loop-place-init
 loop-place-init c = record { begun = omega arith; within = c.requires.at_most; aligned = c.requires.begins; few = λ p from h le. absurd (omega (arith, from, le)) }
