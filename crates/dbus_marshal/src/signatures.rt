@@ -173,6 +173,12 @@ pub fn write_variant_signature<A: Allocator>(out: &mut [u8], at: usize, value: &
         0 ∷ [] }
     ensures ends { result ≡ at + length (sig (type_of (value_tree value.now))) + 2 }
 {
+    if let Some(ty) = plain_type_of(value) {
+        // One code, as most of them are, without a walk over the value's type.
+        let place = write_byte(out, at, 1);
+        let place = write_byte(out, place, type_code(&ty));
+        return write_byte(out, place, 0);
+    }
     let start = write_byte(out, at, signature_length(value) as u8);
     let end = write_type_of(out, start, value);
     write_byte(out, end, 0)
