@@ -13,23 +13,21 @@ pub fn padding_length(alignment: u8, at: u64) -> u8
     ensures exact { result ≡ gap_to alignment at }
     ensures within { result < alignment }
 {
-    let alignment = u64::from(alignment);
-    ((alignment - at % alignment) % alignment) as u8
+    match alignment {
+        // The boundaries of types. 2^64 is a multiple of each, so nothing is divided.
+        1 | 2 | 4 | 8 => (at.wrapping_neg() & u64::from(alignment - 1)) as u8,
+        _ => {
+            let alignment = u64::from(alignment);
+            ((alignment - at % alignment) % alignment) as u8
+        }
+    }
 }
 
-/// How many zeros reach the boundary. The code has a constant for each boundary, so that nothing is divided.
-/// D-Bus Specification, "Marshaling (Wire Format)".
+/// How many zeros reach the boundary. D-Bus Specification, "Marshaling (Wire Format)".
 #[inline]
 pub fn gap(boundary: u8, at: usize) -> usize
     requires { 0 < boundary }
     ensures { result ≡ gap_to boundary at }
 {
-    let at = at as u64;
-    usize::from(match boundary {
-        1 => padding_length(1, at),
-        2 => padding_length(2, at),
-        4 => padding_length(4, at),
-        8 => padding_length(8, at),
-        other => padding_length(other, at),
-    })
+    usize::from(padding_length(boundary, at as u64))
 }
