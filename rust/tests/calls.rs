@@ -4,9 +4,8 @@ use std::thread;
 
 use dbus_wire::{
     build, byteswap, check, check_text, wanted, Answer, BuildError, Checker, Client, Descriptors, External, Fault,
-    HandshakeError, Kind, Limits, Message, Order, Owners, ParseError, Parts, Reason, Rule, RuleError, RuleReason, RuleSet, Server,
-    Status,
-    SwapError, Taken, TextFault, TextKind, Value, Values,
+    HandshakeError, Kind, Limits, Message, Order, Owners, ParseError, Parts, Reason, Rule, RuleError, RuleReason, RuleSet,
+    Server, Status, SwapError, Taken, TextFault, TextKind, Value, Values,
 };
 
 const CAPTURES: [&[u8]; 2] = [include_bytes!("../../samples/session.dbus"), include_bytes!("../../samples/big-endian.dbus")];
