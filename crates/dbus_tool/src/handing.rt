@@ -110,7 +110,7 @@ fn hand_all<R: Source, A: Allocator + Copy, W: Sink>(
                         offset,
                     },
                 };
-                match hand_one(output, lent, &mut window, &mut spare, gathered, first) {
+                match hand_one(output, &lent, &mut window, &mut spare, gathered, first) {
                     Ok(()) => {}
                     Err(cause) => return Err(cause),
                 }

@@ -60,10 +60,10 @@ pub(crate) fn output_of(command: &Command) -> Output<'_>
 }
 
 /// Whether the command makes a text of the message.
-fn picks(output: Output, lent: Lent) -> bool
-    requires { IsValidatedWhole lent.limits lent.bytes.now lent.validated }
+fn picks(output: Output, lent: &Lent) -> bool
+    requires { IsValidatedWhole lent.now.limits lent.now.bytes.now lent.now.validated }
     ensures { (order : Order) (m : MessageTree) →
-        IsWhole lent.entry.limits lent.entry.bytes.now order m (length lent.entry.bytes.now) →
+        IsWhole lent.now.limits lent.now.bytes.now order m (length lent.now.bytes.now) →
         IsTrue result ↔ Picks (command_of output.entry) m }
 {
     match output {
@@ -81,28 +81,26 @@ fn picks(output: Output, lent: Lent) -> bool
 // those before takes memory.
 fn write_one<A: Allocator + Copy, W: Sink>(
     output: Output,
-    lent: Lent,
+    lent: &Lent,
     spare: &mut Vec<u8, A>,
     gathered: &mut Gathered,
     first: &mut W,
 ) -> Result<(), Cause>
-    requires { IsValidatedWhole lent.limits lent.bytes.now lent.validated }
+    requires { IsValidatedWhole lent.now.limits lent.now.bytes.now lent.now.validated }
     ensures { (order : Order) (m : MessageTree) →
-        IsWhole lent.entry.limits lent.entry.bytes.now order m (length lent.entry.bytes.now) →
-        WritesOne (writing W.held W.failures first.old first.new) (command_of output.entry) order m lent.entry.place
+        IsWhole lent.now.limits lent.now.bytes.now order m (length lent.now.bytes.now) →
+        WritesOne (writing W.held W.failures first.old first.new) (command_of output.entry) order m lent.now.place
         (gathered_bytes gathered.old) (gathered_bytes gathered.new) result }
 {
-    let Lent {
-        bytes,
-        validated,
-        limits,
-        place,
-    } = lent;
+    let bytes = lent.bytes;
+    let validated = &lent.validated;
+    let limits = lent.limits;
+    let place = lent.place;
     match output {
         Output::Nothing => Ok(()),
-        Output::Text => show(bytes, &validated, limits, place.number, gathered, first),
-        Output::JsonLine => write_json_line(bytes, &validated, limits, place, gathered, first),
-        Output::InOrder(wanted) => swap(wanted, bytes, &validated, limits, spare, gathered, first),
+        Output::Text => show(bytes, validated, limits, place.number, gathered, first),
+        Output::JsonLine => write_json_line(bytes, validated, limits, place, gathered, first),
+        Output::InOrder(wanted) => swap(wanted, bytes, validated, limits, spare, gathered, first),
         Output::Matching(_) => put_out(bytes, gathered, first),
     }
 }
@@ -110,17 +108,17 @@ fn write_one<A: Allocator + Copy, W: Sink>(
 /// Writes or gathers what the window lets through of what the command makes of the message.
 pub(crate) fn hand_one<A: Allocator + Copy, W: Sink>(
     output: Output,
-    lent: Lent,
+    lent: &Lent,
     window: &mut Window,
     spare: &mut Vec<u8, A>,
     gathered: &mut Gathered,
     first: &mut W,
 ) -> Result<(), Cause>
-    requires { IsValidatedWhole lent.limits lent.bytes.now lent.validated }
+    requires { IsValidatedWhole lent.now.limits lent.now.bytes.now lent.now.validated }
     ensures { (order : Order) (m : MessageTree) →
-        IsWhole lent.entry.limits lent.entry.bytes.now order m (length lent.entry.bytes.now) →
+        IsWhole lent.now.limits lent.now.bytes.now order m (length lent.now.bytes.now) →
         HandsOne (writing W.held W.failures first.old first.new) (command_of output.entry) window.old window.new order m
-        lent.entry.place (gathered_bytes gathered.old) (gathered_bytes gathered.new) result }
+        lent.now.place (gathered_bytes gathered.old) (gathered_bytes gathered.new) result }
 {
     if !picks(output, lent) {
         return Ok(());

@@ -29,7 +29,7 @@ returns-then-lets_through g c = λ order m whole.
 
 pub returns-else-lets_through : goal.returns-else-lets_through
 returns-else-lets_through g c = λ order m whole.
-    let some = some_text (command_of c.args.output) order m c.args.lent.place.number c.args.lent.place.offset in
+    let some = some_text (command_of c.args.output) order m c.args.lent.now.place.number c.args.lent.now.place.offset in
     let none : written c.args.window.now (some.0 ∷ []) ≡ [] = c.lets_through.ensures.lets some.0 ∙ ap (λ b. text_if b some.0) c.if-lets_through.false in (
       some.0 ∷ [],
       inl ((c.picks.ensures order m whole).0 c.if-not-picks.false, some.0, some.1, refl),
