@@ -41,7 +41,7 @@ _dbus_wire() {
             ;;
         filter)
             if [[ $word == -* ]]; then
-                COMPREPLY=($(compgen -W "--invert --owner --skip --limit --keep-going $options" -- "$word"))
+                COMPREPLY=($(compgen -W "--invert --owner --learn-owners --skip --limit --keep-going $options" -- "$word"))
             else
                 compopt -o nospace
                 COMPREPLY=($(compgen -W 'type= sender= interface= member= path= path_namespace= destination=' -- "$word"))

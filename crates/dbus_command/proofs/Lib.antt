@@ -1,5 +1,6 @@
 pub mod WordLists
 pub mod OwnerWords
+pub mod Learned
 pub mod Selections
 pub mod Nothing
 pub mod Numbers

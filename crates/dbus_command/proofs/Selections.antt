@@ -10,11 +10,11 @@ use Rattle.std.proofs.lemmas.List.{drop_more}
 use Rattle.std.proofs.lemmas.Bool.Decides.{Decides-and}
 use Rattle.dbus_message_model.specs.Messages.{MessageTree}
 use Rattle.dbus_match.specs.declared.rule.Rule.{Rule}
-use Rattle.dbus_match.specs.Matching.{Matches, Ownership, ownership, ownerships}
+use Rattle.dbus_match.specs.Matching.{Matches, Ownership, ownership}
 use Rattle.dbus_match.specs.RuleViews.{rule_pairs}
 use Rattle.dbus_match.proofs.Decided.{Either, decided, one_of}
 use Rattle.dbus_match.proofs.SameRules.{owners_equal, rules_equal}
-use Rattle.dbus_command.specs.Selections.{AreSameSelection, OrInverted, Selects, SomeMatches}
+use Rattle.dbus_command.specs.Selections.{AreSameSelection, OrInverted, SelectsBy, SomeMatches}
 use Rattle.dbus_command.specs.contracts.selection.SelectionPartialEq.TheImpl as selection_eq
 use Rattle.dbus_command.specs.declared.selection.Selection.{Selection}
 
@@ -44,8 +44,8 @@ inverted_decided false e = e
 inverted_decided true (inl p) = inr (λ n. n p)
 inverted_decided true (inr n) = inl n
 
-pub selected : (s : Selection) (m : MessageTree) → Either (Selects s m)
-selected s m = inverted_decided s.is_inverted (some_decided s.rules.items m (ownerships s.owners.items))
+pub selected : (s : Selection) (os : List Ownership) (m : MessageTree) → Either (SelectsBy s os m)
+selected s os m = inverted_decided s.is_inverted (some_decided s.rules.items m os)
 
 -- what is told of a message by whether a rule matches it
 pub inverted_as : (met inverted : Bool) (P : Type 0) → Decides met P → Decides (not (beq met inverted)) (OrInverted inverted P)
@@ -81,6 +81,9 @@ pub selections_equal : (a b : Selection) → Decides (selection_eq.ghosts.eq a b
 selections_equal a b =
     let rules = mapped_decides rule_pairs _ rules_equal a.rules.items b.rules.items in
     let owners = mapped_decides ownership _ owners_equal a.owners.items b.owners.items in
-    let rest = Decides-and _ _ (bools_equal a.is_inverted b.is_inverted) owners in
-    let all = Decides-and _ _ rules rest in
-    (λ t. record { rules = (all.0 t).0; inverted = (all.0 t).1.0; owners = (all.0 t).1.1 }, λ h. all.1 (h.rules, (h.inverted, h.owners)))
+    let last = Decides-and _ _ owners (bools_equal a.learns b.learns) in
+    let rest = Decides-and _ _ (bools_equal a.is_inverted b.is_inverted) last in
+    let all = Decides-and _ _ rules rest in (
+      λ t. record { rules = (all.0 t).0; inverted = (all.0 t).1.0; owners = (all.0 t).1.1.0; learns = (all.0 t).1.1.1 },
+      λ h. all.1 (h.rules, (h.inverted, (h.owners, h.learns))),
+    )

@@ -71,7 +71,7 @@ abbrev pub swap_app : App
 swap_app = with_options (with_rule (new_app (codes "swap")) to_rule)
 
 abbrev pub filter_app : App
-filter_app = with_window (with_rule (with_rule (with_rule (new_app (codes "filter")) text_rule) (flag_rule (codes "invert"))) owner_rule)
+filter_app = with_window (with_rule (with_rule (with_rule (with_rule (new_app (codes "filter")) text_rule) (flag_rule (codes "invert"))) owner_rule) (flag_rule (codes "learn-owners")))
 
 -- the program has a version, and one of the subcommands must be named
 abbrev pub bare_app : App

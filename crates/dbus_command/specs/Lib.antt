@@ -2,6 +2,7 @@ pub mod CommandLine
 pub mod Limiting
 pub mod Owners
 pub mod Selections
+pub mod Learning
 pub mod Named
 pub mod Windows
 pub mod Told

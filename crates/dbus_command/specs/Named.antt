@@ -57,13 +57,14 @@ AreRulesOf texts rules = AllZip (λ text rule. SpellsRule text (rule_pairs rule)
 abbrev pub IsGiven : Text → List Row → Type 0
 IsGiven name rows = first_of name rows ≡ Some (codes "true")
 
--- the words after `filter` are texts that spell the rules, in their order; and so are the owners given
+-- the words after `filter` are texts that spell the rules, in their order; and so are the owners given, and it learns others if it is to
 pub record IsSelectionGiven (rows : List Row) (selection : Selection) : Type 0 where
   pub texts : List Text
   pub given : all_of (codes "rule") rows ≡ Some texts
   pub rules : AreRulesOf texts selection.rules.items
   pub inverted : (selection.is_inverted ≡ true) ↔ IsGiven (codes "invert") rows
   pub owners : AreOwnersOf (words_of (codes "owner") rows) selection.owners.items
+  pub learns : (selection.learns ≡ true) ↔ IsGiven (codes "learn-owners") rows
 
 -- the name of a subcommand and the words after it name the command
 abbrev pub NamesCommand : Text → List Row → Command → Type 0

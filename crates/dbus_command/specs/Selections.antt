@@ -18,18 +18,24 @@ abbrev pub OrInverted : Bool → Type 0 → Type 0
 OrInverted false P = P
 OrInverted true P = P → ⊥
 
--- the selection selects the message: some rule of it matches; or, inverted, none does
-abbrev pub Selects : Selection → MessageTree → Type 0
-Selects selection m = OrInverted selection.is_inverted (SomeMatches selection.rules.items m (ownerships selection.owners.items))
+-- the selection selects the message with these owners: some rule of it matches; or, inverted, none does
+abbrev pub SelectsBy : Selection → List Ownership → MessageTree → Type 0
+SelectsBy selection os m = OrInverted selection.is_inverted (SomeMatches selection.rules.items m os)
 
--- it is by this rule alone, with no owners
+-- with its own owners
+abbrev pub Selects : Selection → MessageTree → Type 0
+Selects selection m = SelectsBy selection (ownerships selection.owners.items) m
+
+-- it is by this rule alone, with no owners, and learns none
 pub record IsByRule (rule : Rule Global) (selection : Selection) : Type 0 where
   pub rules : map rule_pairs selection.rules.items ≡ rule_pairs rule ∷ []
   pub straight : selection.is_inverted ≡ false
   pub owners : selection.owners.items ≡ []
+  pub fixed : selection.learns ≡ false
 
--- both have the same rules and owners, each in the same order, and both are inverted or neither is
+-- both have the same rules and owners, each in the same order, and both are inverted, or neither is, and both learn, or neither does
 pub record AreSameSelection (a b : Selection) : Type 0 where
   pub rules : map rule_pairs a.rules.items ≡ map rule_pairs b.rules.items
   pub inverted : a.is_inverted ≡ b.is_inverted
   pub owners : ownerships a.owners.items ≡ ownerships b.owners.items
+  pub learns : a.learns ≡ b.learns

@@ -1,7 +1,6 @@
 -- Settings that ask for more than limits and a handshake.
 use Rattle.std.specs.Prelude.{ℕ, zero, suc, Bool, true, false, ◌||◌, Option, Some, None}
 use Rattle.dbus_command.specs.declared.settings.Settings.{Settings}
-use Rattle.dbus_command.specs.declared.window.Window.{Window}
 
 -- a window that leaves messages out
 abbrev leaves_out : (skip : ℕ) → (limit : Option ℕ) → Bool

@@ -159,6 +159,7 @@ fn selection_named(alloc: Global, inner: &ArgMatches) -> Result<Command, UsageFa
         rules,
         is_inverted: is_given(inner, "invert"),
         owners,
+        learns: is_given(inner, "learn-owners"),
     }))
 }
 

@@ -36,6 +36,7 @@ impl Clone for Selection {
             rules: self.rules.clone()?,
             is_inverted: self.is_inverted,
             owners: self.owners.clone()?,
+            learns: self.learns,
         })
     }
 }

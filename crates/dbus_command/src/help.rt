@@ -139,7 +139,8 @@ pub(crate) const FILTER_MORE: &str = more!(
   Who owns a well-known name is not known, so sender='org.a.B' matches only a
   message that has that name itself. With --owner org.a.B=:1.7 it also matches
   what :1.7 sent: `busctl --user list` prints unique names, and GetNameOwner of
-  the bus returns them.",
+  the bus returns them. With --learn-owners the signals NameOwnerChanged of the
+  bus in the input tell the owners, each for the messages after it.",
     "
   dbus-wire filter \"type='signal',member='NameLost'\" < capture | dbus-wire show"
 );
@@ -152,6 +153,9 @@ pub(crate) const INVERT: &str = "Writes the messages that match none of the rule
 
 /// What `--owner` of `filter` is.
 pub(crate) const OWNER: &str = "The owner of a name, as org.a.B=:1.7; any number";
+
+/// What `--learn-owners` of `filter` does.
+pub(crate) const LEARN_OWNERS: &str = "Owners are also those that the bus tells, from then on";
 
 /// What `--explain` does.
 pub(crate) const EXPLAIN: &str = "Explains what is refused, in three more lines";

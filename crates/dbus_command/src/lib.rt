@@ -9,6 +9,7 @@ mod command_line;
 mod copies;
 mod help;
 pub mod laws;
+mod learning;
 mod limits_named;
 mod owners;
 mod rules;

@@ -4,7 +4,7 @@ ghost use Rattle.dbus_value_model.specs.declared.order.Order.{Order};
 ghost use Rattle.dbus_message_model.specs.Messages.{MessageTree};
 ghost use Rattle.dbus_view.specs.Views.{Views};
 ghost use Rattle.dbus_match.specs.Matching.{ownerships};
-ghost use Rattle.dbus_command.specs.Selections.{IsByRule, Selects, SomeMatches};
+ghost use Rattle.dbus_command.specs.Selections.{IsByRule, Selects, SelectsBy, SomeMatches};
 
 use dbus_match::{Owner, Rule, matches_view};
 use dbus_view::MessageView;
@@ -20,10 +20,12 @@ pub struct Selection {
     pub is_inverted: bool,
     /// The owners of well-known names: `sender` with such a name also matches what its owner sent.
     pub owners: Vec<Owner>,
+    /// Whether the owners that the bus tells by its signals count from then on, in place of the old ones.
+    pub learns: bool,
 }
 
 impl Selection {
-    /// The messages that this rule matches, with no owners.
+    /// The messages that this rule matches, with no owners, and none is learned.
     ///
     /// Returns `AllocError` only if an allocation failed.
     pub fn by_rule(alloc: Global, rule: Rule) -> Result<Selection, AllocError>
@@ -35,6 +37,7 @@ impl Selection {
             rules,
             is_inverted: false,
             owners: Vec::new(alloc),
+            learns: false,
         })
     }
 
@@ -43,7 +46,15 @@ impl Selection {
         ensures { (order : Order) (m : MessageTree) → Views view.now order m →
             IsTrue result ↔ Selects self.now m }
     {
-        some_matches(&self.rules, view, &self.owners) != self.is_inverted
+        self.selects_by(view, &self.owners)
+    }
+
+    /// Whether it is selected where these are the owners. Nothing is allocated.
+    pub(crate) fn selects_by(&self, view: &MessageView, owners: &[Owner]) -> bool
+        ensures { (order : Order) (m : MessageTree) → Views view.now order m →
+            IsTrue result ↔ SelectsBy self.now (ownerships owners.now) m }
+    {
+        some_matches(&self.rules, view, owners) != self.is_inverted
     }
 }
 

@@ -167,7 +167,8 @@ fn filter_command<'a>(alloc: Global) -> Result<Command<'a>, AllocError>
     let ruled = filter.arg(rule_argument(alloc))?;
     let inverting = ruled.arg(flag(alloc, "invert", help::INVERT))?;
     let owning = inverting.arg(owner_option(alloc))?;
-    with_window(alloc, owning)
+    let learning = owning.arg(flag(alloc, "learn-owners", help::LEARN_OWNERS))?;
+    with_window(alloc, learning)
 }
 
 // The program before it has subcommands, with its version. Its texts call it `dbus-wire`, whatever the first word is.

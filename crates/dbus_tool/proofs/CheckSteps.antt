@@ -21,7 +21,7 @@ use Rattle.dbus_tool.proofs.Outputs.{front_of_whole}
 use Rattle.dbus_tool.proofs.WriteSteps.{wrote_nothing}
 
 -- `check` writes nothing of a message
-no_output : (n offset : ℕ) (items : List CutMessage) → IsOutputOfAll Check n offset items []
+no_output : (n offset : ℕ) (items : List CutMessage) → IsOutputOfAll Check [] n offset items []
 no_output n offset [] = refl
 no_output n offset (item ∷ items) = ([], [], refl, inr (λ never. never, refl), no_output (n + 1) (offset + item.size) items)
 

@@ -16,7 +16,7 @@ use Rattle.dbus_tool.specs.Onward.{HasRead, HandsOn, HandsSomeOn}
 use Rattle.dbus_tool.specs.declared.ending.Cause.{Cause}
 use Rattle.dbus_tool.specs.declared.ending.Cause.TheVariants.{Memory, ReadFailed, WriteFailed, TooManyReads}
 use Rattle.dbus_tool.specs.declared.ending.Counted.{Counted}
-use Rattle.dbus_tool.specs.declared.handing.Before.{Before}
+use Rattle.dbus_tool.specs.declared.place.Before.{Before}
 use Rattle.dbus_tool.proofs.HandSteps.{Faults}
 
 -- a writer that nothing is written by
@@ -25,7 +25,7 @@ unwritten = record { held = λ u. None; failures = λ u. 0; old = tt; new = tt }
 
 -- where the counting begins, with a window that leaves nothing out
 abbrev pub from_start : Before
-from_start = record { count = 0; window = record { skip = 0; limit = None } }
+from_start = record { count = 0; carried = record { window = record { skip = 0; limit = None }; owners = None } }
 
 module _ {R : Type 0} (left : R → Option (List ℕ)) (calls failures : R → ℕ) (limits : Limits) where
   -- what a fault of the reader says of the bytes that it keeps
@@ -56,7 +56,7 @@ module _ {R : Type 0} (left : R → Option (List ℕ)) (calls failures : R → �
       caused = caused;
     }
 
-    pub tallied : (res : Result Counted Cause) → HandsOn lengths left calls limits [] failures unwritten.held unwritten.failures Check from_start from_start.window old new [] [] tt tt res → Tallies Took limits most res
+    pub tallied : (res : Result Counted Cause) → HandsOn lengths left calls limits [] failures unwritten.held unwritten.failures Check from_start from_start.carried old new [] [] tt tt res → Tallies Took limits most res
     tallied (Ok counted) a = record {
       bytes = a.read.bytes;
       items = a.items;

@@ -21,13 +21,13 @@ use Rattle.dbus_stream.specs.declared.read_fault.ReadFault.{ReadFault}
 use Rattle.dbus_stream.specs.declared.read_fault.ReadFault.TheVariants as read
 use Rattle.dbus_command.specs.declared.settings.Settings.{Settings}
 use Rattle.dbus_command.specs.declared.command.Command.{Command}
-use Rattle.dbus_command.specs.declared.window.Window.{Window}
+use Rattle.dbus_match.specs.Matching.{Ownership}
 use Rattle.dbus_tool.specs.Devices.{reading, writing, taken, Taken}
 use Rattle.dbus_tool.specs.Gathering.{Passes, Breaks}
 use Rattle.dbus_tool.specs.Going.{first_of, second_of, Covers, IsThrough, HandsParts, StopsWithin, IsMore, IsAllOf, IsStopOf, cause_of, IsAllRead, PartsOf, GotFirst, GotSecond, TellsBy}
-use Rattle.dbus_tool.specs.Onward.{HasRead, HandsRawOn, HandsSomeOn, IsTrueEnd, stop_of}
-use Rattle.dbus_tool.specs.Output.{IsOutputOfAll}
-use Rattle.dbus_tool.specs.Parts.{Part, PassedOver, sizes_of, BeginWithParts, IsCutOff, IsLast, AreTexts, IsMade, IsToldOf, passed_count, passed_sizes, tally_of, closing_line}
+use Rattle.dbus_tool.specs.Onward.{HasRead, HandsRawOn, HandsSomeOn, IsTrueEnd, owners_after_all, stop_of}
+use Rattle.dbus_tool.specs.Output.{IsOutputOfAll, owners_known}
+use Rattle.dbus_tool.specs.Parts.{Part, PassedOver, sizes_of, BeginWithParts, IsCutOff, IsLast, AreMade, AreTold, passed_count, passed_sizes, tally_of, closing_line}
 use Rattle.dbus_tool.specs.Telling.{IsTold}
 use Rattle.dbus_tool.specs.Windows.{after, written}
 use Rattle.dbus_tool.specs.declared.ending.Cause.{Cause}
@@ -35,9 +35,10 @@ use Rattle.dbus_tool.specs.declared.ending.Cause.TheVariants.{Memory, ReadFailed
 use Rattle.dbus_tool.specs.declared.ending.Counted.{Counted}
 use Rattle.dbus_tool.specs.declared.going.Stop.{Stop}
 use Rattle.dbus_tool.specs.declared.going.Stop.TheVariants.{Cause as ByCause, Second}
+use Rattle.dbus_tool.specs.declared.place.Carried.{Carried}
 use Rattle.dbus_tool.specs.declared.tally.Tally.{Tally}
 use Rattle.dbus_tool.proofs.GatherSteps.{passes_whole}
-use Rattle.dbus_tool.proofs.PartLaws.{wholes, parts_more, parts_both, parts_of, few_parts, few_passed, few_passed_sizes, stated_bytes, sizes-both, passed-both, passed_sizes-both, length-wholes, sizes-wholes, passed-wholes, passed_sizes-wholes, texts_both, made_of, told_of, first_nothing, second_nothing, first_more}
+use Rattle.dbus_tool.proofs.PartLaws.{wholes, parts_more, parts_both, parts_of, few_parts, few_passed, few_passed_sizes, stated_bytes, sizes-both, passed-both, passed_sizes-both, length-wholes, sizes-wholes, passed-wholes, passed_sizes-wholes, made_both, told_both, made_of, owners_past_all, past_all_both, past_all_wholes, told_of, first_nothing, second_nothing, first_more}
 use Rattle.dbus_tool.proofs.WindowLaws.{after_more, after_none, written_more, written_none}
 use Rattle.dbus_tool.proofs.ReadSteps.{read_none, read_on}
 use Rattle.dbus_tool.proofs.WriteSteps.{HasTold, TellsMore, tells_more, wrote_nothing, wrote_both, wrote_breaks}
@@ -101,6 +102,10 @@ wholes_tally parts items count size tally is number bytes =
     = omega (arith, ap (λ (t : Tally). t.passed_size) is, passed_sizes-both parts (wholes items), passed_sizes-wholes items) in
     λ i. record { count = count_is i; size = size_is i; passed = passed_is i; passed_size = passed_size_is i }
 
+-- the owners that a command knows before the first message
+abbrev known_first : Command → List Ownership
+known_first command = owners_known command None
+
 -- what a run begins with: the devices, and where they stand
 pub record Begun (R A W E : Type 0) : Type 0 where
   pub left : R → Option (List ℕ)
@@ -127,15 +132,15 @@ module _ {R A W E : Type 0} (run : Begun R A W E) where
     pub at_end : IsTrueEnd run.left new.reader
     pub begin : BeginWithParts run.settings.limits bytes parts rest
     pub texts : List (List ℕ)
-    pub made : AreTexts (IsMade run.command) 1 0 parts texts
+    pub made : AreMade run.command (known_first run.command) 1 0 parts texts
     pub out_is : out ≡ written run.settings.window texts
-    pub tells : AreTexts (IsToldOf run.settings) 1 0 parts told
+    pub tells : AreTold run.settings 1 0 parts told
 
   -- more was read, and begins with more parts
-  abbrev covers_read : (mid new : RawReader R A) (parts more : List Part) (from rest out told t w out2 told2 : List ℕ) (items : List CutMessage) (ts : List (List ℕ)) (now : Window)
-      → (h : HasCovered mid parts from out told) → now ≡ after run.settings.window (length h.texts) → out ++ written now ts ≡ out2 → told ++ t ≡ told2
+  abbrev covers_read : (mid new : RawReader R A) (parts more : List Part) (from rest out told t w out2 told2 : List ℕ) (items : List CutMessage) (ts : List (List ℕ)) (now : Carried)
+      → (h : HasCovered mid parts from out told) → now.window ≡ after run.settings.window (length h.texts) → out ++ written now.window ts ≡ out2 → told ++ t ≡ told2
       → (r : HasRead gathering run.left run.calls run.settings.limits from mid.reader new.reader items w) → BeginWithParts run.settings.limits (from ++ r.bytes) more rest
-      → AreTexts (IsMade run.command) (1 + length parts) (0 + sizes_of parts) more ts → AreTexts (IsToldOf run.settings) (1 + length parts) (0 + sizes_of parts) more t
+      → AreMade run.command (owners_past_all run.command (known_first run.command) parts) (1 + length parts) (0 + sizes_of parts) more ts → AreTold run.settings (1 + length parts) (0 + sizes_of parts) more t
       → HasCovered new (parts ++ more) rest out2 told2
   covers_read mid new parts more from rest out told t w out2 told2 items ts now h window_is out_is told_is r begin made tells = record {
     bytes = h.bytes ++ r.bytes;
@@ -146,9 +151,9 @@ module _ {R A W E : Type 0} (run : Begun R A W E) where
     at_end = r.at_end h.at_end;
     begin = parts_both run.settings.limits (h.bytes ++ r.bytes) parts more (from ++ r.bytes) rest (parts_more run.settings.limits h.bytes parts from r.bytes h.begin) begin;
     texts = h.texts ++ ts;
-    made = texts_both (IsMade run.command) 1 0 parts more h.texts ts h.made made;
-    out_is = sym out_is ∙ (ap (λ l. l ++ written now ts) h.out_is ∙ written_more run.settings.window now h.texts ts window_is);
-    tells = subst (λ (l : List ℕ). AreTexts (IsToldOf run.settings) 1 0 (parts ++ more) l) told_is (texts_both (IsToldOf run.settings) 1 0 parts more told t h.tells tells);
+    made = made_both run.command (known_first run.command) 1 0 parts more h.texts ts h.made made;
+    out_is = sym out_is ∙ (ap (λ l. l ++ written now.window ts) h.out_is ∙ written_more run.settings.window now.window h.texts ts window_is);
+    tells = subst (λ (l : List ℕ). AreTold run.settings 1 0 (parts ++ more) l) told_is (told_both run.settings 1 0 parts more told t h.tells tells);
   }
 
   -- as a clause says it
@@ -166,18 +171,19 @@ module _ {R A W E : Type 0} (run : Begun R A W E) where
   }
 
   -- where a turn stands
-  pub record HasGone (new : RawReader R A) (tally : Tally) (window : Window) (w : W) (e : E) : Type 0 where
+  pub record HasGone (new : RawReader R A) (tally : Tally) (carried : Carried) (w : W) (e : E) : Type 0 where
     pub parts : List Part
     pub out : List ℕ
     pub told : List ℕ
     pub covered : HasCovered new parts (kept new) out told
     pub tally_is : tally ≡ tally_of parts
-    pub window_is : window ≡ after run.settings.window (length covered.texts)
+    pub window_is : carried.window ≡ after run.settings.window (length covered.texts)
+    pub owners_are : owners_known run.command carried.owners ≡ owners_past_all run.command (known_first run.command) parts
     pub done : done_of new ≡ sizes_of parts
     pub failed : run.failures (source_of new) ≡ run.failures (source_of run.old)
     pub wrote : HasTold run.held run.write_failures run.second_held run.second_failures run.command out told run.w0 w run.e0 e
 
-  pub gone_none : IsNewReader (source_of run.old) (most_reads_of run.old) run.settings.limits run.old → HasGone run.old (record { count = 0; size = 0; passed = 0; passed_size = 0 }) run.settings.window run.w0 run.e0
+  pub gone_none : IsNewReader (source_of run.old) (most_reads_of run.old) run.settings.limits run.old → HasGone run.old (record { count = 0; size = 0; passed = 0; passed_size = 0 }) (record { window = run.settings.window; owners = None }) run.w0 run.e0
   gone_none new_reader = record {
     parts = [];
     out = [];
@@ -197,6 +203,7 @@ module _ {R A W E : Type 0} (run : Begun R A W E) where
     };
     tally_is = refl;
     window_is = sym (after_none run.settings.window);
+    owners_are = refl;
     done = new_reader.done;
     failed = refl;
     wrote = record {
@@ -206,8 +213,8 @@ module _ {R A W E : Type 0} (run : Begun R A W E) where
   }
 
   -- the messages up to a fault, or up to the end, were handed on
-  pub record HasReached (new : RawReader R A) (counted : Counted) (tally : Tally) (window : Window) (w : W) (e : E) : Type 0 where
-    pub gone : HasGone new tally window w e
+  pub record HasReached (new : RawReader R A) (counted : Counted) (tally : Tally) (carried : Carried) (w : W) (e : E) : Type 0 where
+    pub gone : HasGone new tally carried w e
     pub count_is : tally.count ≡ counted.count
     pub size_is : tally.size ≡ counted.size
     pub outcome : CutOutcome
@@ -266,7 +273,7 @@ module _ {R A W E : Type 0} (run : Begun R A W E) where
 
 -- ---- messages are handed on
 
-module _ {R A W E : Type 0} {run : Begun R A W E} {mid : RawReader R A} {tally : Tally} {window : Window} {w1 : W} {e1 : E} (h : HasGone run mid tally window w1 e1) where
+module _ {R A W E : Type 0} {run : Begun R A W E} {mid : RawReader R A} {tally : Tally} {carried : Carried} {w1 : W} {e1 : E} (h : HasGone run mid tally carried w1 e1) where
   count_parts : tally.count ≡ length h.parts
   count_parts = ap (λ (t : Tally). t.count) h.tally_is
 
@@ -284,44 +291,54 @@ module _ {R A W E : Type 0} {run : Begun R A W E} {mid : RawReader R A} {tally :
 
   module _ (new : RawReader R A) (w2 : W) where
     -- they are the next parts
-    made_next : (items : List CutMessage) (o : List (List ℕ)) → IsOutputOfAll run.command (tally.count + 1) (done_of mid) items o
-        → AreTexts (IsMade run.command) (1 + length h.parts) (0 + sizes_of h.parts) (wholes items) o
+    made_next : (items : List CutMessage) (o : List (List ℕ)) → IsOutputOfAll run.command (owners_known run.command carried.owners) (tally.count + 1) (done_of mid) items o
+        → AreMade run.command (owners_past_all run.command (known_first run.command) h.parts) (1 + length h.parts) (0 + sizes_of h.parts) (wholes items) o
     made_next items o output =
         let n : tally.count + 1 ≡ 1 + length h.parts = omega (arith, count_parts) in
         let at : done_of mid ≡ 0 + sizes_of h.parts = omega (arith, h.done) in
-        made_of run.command (1 + length h.parts) (0 + sizes_of h.parts) items o
-        (subst (λ k. IsOutputOfAll run.command k (0 + sizes_of h.parts) items o) n (subst (λ k. IsOutputOfAll run.command (tally.count + 1) k items o) at output))
+        let known = owners_past_all run.command (known_first run.command) h.parts in
+        made_of run.command known (1 + length h.parts) (0 + sizes_of h.parts) items o
+        (subst (λ os. IsOutputOfAll run.command os (1 + length h.parts) (0 + sizes_of h.parts) items o) h.owners_are
+        (subst (λ k. IsOutputOfAll run.command (owners_known run.command carried.owners) k (0 + sizes_of h.parts) items o) n
+        (subst (λ k. IsOutputOfAll run.command (owners_known run.command carried.owners) (tally.count + 1) k items o) at output)))
+
+    owners_next : (items : List CutMessage)
+        → owners_after_all run.command (owners_known run.command carried.owners) items ≡ owners_past_all run.command (known_first run.command) (h.parts ++ wholes items)
+    owners_next items =
+        ap (λ os. owners_after_all run.command os items) h.owners_are
+        ∙ (sym (past_all_wholes run.command (owners_past_all run.command (known_first run.command) h.parts) items) ∙ sym (past_all_both run.command (known_first run.command) h.parts (wholes items)))
 
     abbrev covered_next : (items : List CutMessage) (rest last : List ℕ) (o : List (List ℕ)) → rest ≡ last → HasRead gathering run.left run.calls run.settings.limits (kept mid) mid.reader new.reader items rest
-        → IsOutputOfAll run.command (tally.count + 1) (done_of mid) items o → HasCovered run new (h.parts ++ wholes items) last (h.out ++ written window o) h.told
+        → IsOutputOfAll run.command (owners_known run.command carried.owners) (tally.count + 1) (done_of mid) items o → HasCovered run new (h.parts ++ wholes items) last (h.out ++ written carried.window o) h.told
     covered_next items rest last o e r output =
-        covers_read run mid new h.parts (wholes items) (kept mid) last h.out h.told [] rest (h.out ++ written window o) h.told items o window h.covered h.window_is refl (append-nil h.told) r
+        covers_read run mid new h.parts (wholes items) (kept mid) last h.out h.told [] rest (h.out ++ written carried.window o) h.told items o carried h.covered h.window_is refl (append-nil h.told) r
         (subst (λ (l : List ℕ). BeginWithParts run.settings.limits (kept mid ++ r.bytes) (wholes items) l) e (parts_of run.settings.limits (kept mid ++ r.bytes) items rest r.messages)) (made_next items o output)
         (told_of run.settings (1 + length h.parts) (0 + sizes_of h.parts) items)
 
-    out_next : (items : List CutMessage) (o : List (List ℕ)) → IsOutputOfAll run.command (tally.count + 1) (done_of mid) items o
-        → first_of run.command h.out h.told ++ written window o ≡ first_of run.command (h.out ++ written window o) h.told
-    out_next items o output = first_more run.command window (1 + length h.parts) (0 + sizes_of h.parts) (wholes items) h.out h.told o (made_next items o output)
+    out_next : (items : List CutMessage) (o : List (List ℕ)) → IsOutputOfAll run.command (owners_known run.command carried.owners) (tally.count + 1) (done_of mid) items o
+        → first_of run.command h.out h.told ++ written carried.window o ≡ first_of run.command (h.out ++ written carried.window o) h.told
+    out_next items o output = first_more run.command (owners_past_all run.command (known_first run.command) h.parts) carried.window (1 + length h.parts) (0 + sizes_of h.parts) (wholes items) h.out h.told o (made_next items o output)
 
-    wrote_next : (items : List CutMessage) (o : List (List ℕ)) → IsOutputOfAll run.command (tally.count + 1) (done_of mid) items o → Passes run.held run.write_failures (written window o) [] [] w1 w2
-        → Wrote run.held run.write_failures run.w0 (first_of run.command (h.out ++ written window o) h.told) w2
+    wrote_next : (items : List CutMessage) (o : List (List ℕ)) → IsOutputOfAll run.command (owners_known run.command carried.owners) (tally.count + 1) (done_of mid) items o → Passes run.held run.write_failures (written carried.window o) [] [] w1 w2
+        → Wrote run.held run.write_failures run.w0 (first_of run.command (h.out ++ written carried.window o) h.told) w2
     wrote_next items o output p =
         subst (λ l. Wrote run.held run.write_failures run.w0 l w2) (out_next items o output)
-        (wrote_both run.held run.write_failures (first_of run.command h.out h.told) (written window o) run.w0 w1 w2 h.wrote.first (passes_whole run.held run.write_failures (written window o) [] [] w1 w2 refl refl p))
+        (wrote_both run.held run.write_failures (first_of run.command h.out h.told) (written carried.window o) run.w0 w1 w2 h.wrote.first (passes_whole run.held run.write_failures (written carried.window o) [] [] w1 w2 refl refl p))
 
     -- up to a fault, or up to the end
-    pub reach : (counted : Counted) (now : Window) (up : Tally) → up ≡ record tally { count = counted.count; size = counted.size }
-        → HandsRawOn run.left run.calls run.failures run.held run.write_failures run.settings.limits run.command (record { count = tally.count; window = window }) counted now mid new [] [] w1 w2 → HasReached run new counted up now w2 e1
+    pub reach : (counted : Counted) (now : Carried) (up : Tally) → up ≡ record tally { count = counted.count; size = counted.size }
+        → HandsRawOn run.left run.calls run.failures run.held run.write_failures run.settings.limits run.command (record { count = tally.count; carried = carried }) counted now mid new [] [] w1 w2 → HasReached run new counted up now w2 e1
     reach counted now up is a =
         let size : counted.size ≡ sizes_of h.parts + sizes a.all.items = omega (arith, a.all.size_is, h.done) in
         record {
           gone = record {
             parts = h.parts ++ wholes a.all.items;
-            out = h.out ++ written window a.all.texts;
+            out = h.out ++ written carried.window a.all.texts;
             told = h.told;
             covered = covered_next a.all.items a.all.rest (kept new) a.all.texts (sym a.kept) a.all.read a.all.output;
             tally_is = is ∙ wholes_tally h.parts a.all.items counted.count counted.size tally h.tally_is a.all.count_is size;
-            window_is = a.all.window_is ∙ after_more run.settings.window window h.covered.texts a.all.texts h.window_is;
+            window_is = a.all.window_is ∙ after_more run.settings.window carried.window h.covered.texts a.all.texts h.window_is;
+            owners_are = a.all.owners_are ∙ owners_next a.all.items;
             done = omega (arith, a.all.done, size, sizes-both h.parts (wholes a.all.items), sizes-wholes a.all.items);
             failed = a.all.failed ∙ h.failed;
             wrote = record { first = wrote_next a.all.items a.all.texts a.all.output a.all.passes; second = h.wrote.second };
@@ -337,13 +354,13 @@ module _ {R A W E : Type 0} {run : Begun R A W E} {mid : RawReader R A} {tally :
 
     -- not all
     abbrev Handing : Cause → Type 0
-    Handing cause = HandsSomeOn gathering run.left run.calls run.settings.limits (kept mid) run.failures run.held run.write_failures run.command (record { count = tally.count; window = window }) cause mid.reader new.reader [] [] w1 w2
+    Handing cause = HandsSomeOn gathering run.left run.calls run.settings.limits (kept mid) run.failures run.held run.write_failures run.command (record { count = tally.count; carried = carried }) cause mid.reader new.reader [] [] w1 w2
 
     stops_some : (cause : Cause) (s : Handing cause) → AllRead run new (ByCause cause) (h.parts ++ wholes s.items) s.rest [] → Stopped run new (ByCause cause)
-        → GotFirst run.held run.write_failures (ByCause cause) (first_of run.command (h.out ++ written window s.texts) h.told) run.w0 w2 → Torn run new (ByCause cause) w2 e1
+        → GotFirst run.held run.write_failures (ByCause cause) (first_of run.command (h.out ++ written carried.window s.texts) h.told) run.w0 w2 → Torn run new (ByCause cause) w2 e1
     stops_some cause s all caused first =
-        stops_plain run cause new (h.parts ++ wholes s.items) s.rest (h.out ++ written window s.texts) h.told w2 e1 (covered_next s.items s.rest s.rest s.texts refl s.read s.output) all caused
-        (subst (λ (l : List ℕ). GotFirst run.held run.write_failures (ByCause cause) (first_of run.command (h.out ++ written window s.texts) l) run.w0 w2) (sym (append-nil h.told)) first)
+        stops_plain run cause new (h.parts ++ wholes s.items) s.rest (h.out ++ written carried.window s.texts) h.told w2 e1 (covered_next s.items s.rest s.rest s.texts refl s.read s.output) all caused
+        (subst (λ (l : List ℕ). GotFirst run.held run.write_failures (ByCause cause) (first_of run.command (h.out ++ written carried.window s.texts) l) run.w0 w2) (sym (append-nil h.told)) first)
         (subst (λ (l : List ℕ). Wrote run.second_held run.second_failures run.e0 (second_of run.command l) e1) (sym (append-nil h.told)) h.wrote.second)
 
     pub stop_hand : (cause : Cause) → Handing cause → Torn run new (ByCause cause) w2 e1
@@ -351,15 +368,15 @@ module _ {R A W E : Type 0} {run : Begun R A W E} {mid : RawReader R A} {tally :
     stop_hand ReadFailed s = stops_some ReadFailed s (inl (s.all, refl)) (s.caused ∙ ap one_more h.failed) (wrote_next s.items s.texts s.output s.leaves)
     stop_hand WriteFailed s =
         stops_some WriteFailed s (inl refl) (s.caused ∙ h.failed) (subst (λ l. Breaks run.held run.write_failures l [] run.w0 w2) (out_next s.items s.texts s.output)
-        (wrote_breaks run.held run.write_failures (first_of run.command h.out h.told) (written window s.texts) run.w0 w1 w2 h.wrote.first s.leaves))
+        (wrote_breaks run.held run.write_failures (first_of run.command h.out h.told) (written carried.window s.texts) run.w0 w1 w2 h.wrote.first s.leaves))
     stop_hand TooManyReads s =
         let covered = covered_next s.items s.rest s.rest s.texts refl s.read s.output in
         stops_some TooManyReads s (inl (s.all, refl))
-        (s.caused.0 ∙ h.failed, all_called run new (h.parts ++ wholes s.items) s.rest (h.out ++ written window s.texts) h.told covered s.caused.1) (wrote_next s.items s.texts s.output s.leaves)
+        (s.caused.0 ∙ h.failed, all_called run new (h.parts ++ wholes s.items) s.rest (h.out ++ written carried.window s.texts) h.told covered s.caused.1) (wrote_next s.items s.texts s.output s.leaves)
 
 -- ---- and then the input ends, or a message is refused
 
-module _ {R A W E : Type 0} {run : Begun R A W E} {mid : RawReader R A} {counted : Counted} {tally : Tally} {window : Window} {w1 : W} {e1 : E} (h : HasReached run mid counted tally window w1 e1) where
+module _ {R A W E : Type 0} {run : Begun R A W E} {mid : RawReader R A} {counted : Counted} {tally : Tally} {carried : Carried} {w1 : W} {e1 : E} (h : HasReached run mid counted tally carried w1 e1) where
   -- it ends after a message
   pub finished : counted.fault ≡ None → Handed run mid tally None w1 e1
   finished none =
@@ -595,7 +612,7 @@ module _ {R A W E : Type 0} {run : Begun R A W E} {mid : RawReader R A} {counted
 
       -- the message was passed over
       pub goes_on : (past : Tally) (end : ℕ) → end ≡ done_of new → past ≡ record { count = tally.count + 1; size = end; passed = tally.passed + 1; passed_size = tally.passed_size + (end - tally.size) }
-          → run.settings.keeps_going ≡ true → Passing run.left run.calls mid new (Ok true) → run.failures (source_of new) ≡ run.failures (source_of mid) → HasGone run new past window w2 e2
+          → run.settings.keeps_going ≡ true → Passing run.left run.calls mid new (Ok true) → run.failures (source_of new) ≡ run.failures (source_of mid) → HasGone run new past carried w2 e2
       goes_on past end there past_is goes answer same = elim answer [
         | inl p ↦ over past end there past_is goes p.1 p.4 p.0 p.2 p.3 p.5 same
         | inr none ↦ absurd (let e = none.1 in cc)
@@ -603,7 +620,7 @@ module _ {R A W E : Type 0} {run : Begun R A W E} {mid : RawReader R A} {counted
         where
           over : (past : Tally) (end : ℕ) → end ≡ done_of new → past ≡ record { count = tally.count + 1; size = end; passed = tally.passed + 1; passed_size = tally.passed_size + (end - tally.size) }
               → run.settings.keeps_going ≡ true → (n : ℕ) (r : ReadsUpTo n run.left run.calls mid new) (other : Fault) → IsRefusal (stopped_of mid) other → StatesLength (limits_of mid) (kept mid) n
-              → PassesOver n (kept mid ++ r.bytes) mid new → run.failures (source_of new) ≡ run.failures (source_of mid) → HasGone run new past window w2 e2
+              → PassesOver n (kept mid ++ r.bytes) mid new → run.failures (source_of new) ≡ run.failures (source_of mid) → HasGone run new past carried w2 e2
           over past end there past_is goes n r other refusal s p same =
               let parts = h.gone.parts in
               let is = h.gone.tally_is in
@@ -613,8 +630,8 @@ module _ {R A W E : Type 0} {run : Begun R A W E} {mid : RawReader R A} {counted
               let number : 1 + length parts ≡ length parts + 1 = omega arith in
               let offset : sizes_of parts ≡ 0 + sizes_of parts = omega arith in
               let told_next = subst (λ (o : ℕ). IsTold run.settings (record { number = 1 + length parts; offset = o; fault = fault }) (kept mid) text) offset (told_at (1 + length parts) text number told) in
-              let told_is : AreTexts (IsToldOf run.settings) (1 + length parts) (0 + sizes_of parts) (part ∷ []) text = (text, [], sym (append-nil text), (goes, told_next), refl) in
-              let none : h.gone.out ++ written window [] ≡ h.gone.out = ap (λ l. h.gone.out ++ l) (written_none window) ∙ append-nil h.gone.out in
+              let told_is : AreTold run.settings (1 + length parts) (0 + sizes_of parts) (part ∷ []) text = (text, [], sym (append-nil text), (goes, told_next), refl) in
+              let none : h.gone.out ++ written carried.window [] ≡ h.gone.out = ap (λ l. h.gone.out ++ l) (written_none carried.window) ∙ append-nil h.gone.out in
               let count_is : tally.count + 1 ≡ length (parts ++ part ∷ []) = omega (arith, ap (λ (t : Tally). t.count) is, length-append parts (part ∷ [])) in
               let size_is : done_of new ≡ sizes_of (parts ++ part ∷ []) = omega (arith, p.done, h.gone.done, sizes-both parts (part ∷ [])) in
               let passed_is : tally.passed + 1 ≡ passed_count (parts ++ part ∷ []) = omega (arith, ap (λ (t : Tally). t.passed) is, passed-both parts (part ∷ [])) in
@@ -624,10 +641,11 @@ module _ {R A W E : Type 0} {run : Begun R A W E} {mid : RawReader R A} {counted
                 parts = parts ++ part ∷ [];
                 out = h.gone.out;
                 told = h.gone.told ++ text;
-                covered = covers_read run mid new parts (part ∷ []) (kept mid) (kept new) h.gone.out h.gone.told text (kept mid ++ r.bytes) h.gone.out (h.gone.told ++ text) [] [] window h.gone.covered h.gone.window_is none refl
+                covered = covers_read run mid new parts (part ∷ []) (kept mid) (kept new) h.gone.out h.gone.told text (kept mid ++ r.bytes) h.gone.out (h.gone.told ++ text) [] [] carried h.gone.covered h.gone.window_is none refl
                     read begin ([], [], refl, refl, refl) told_is;
                 tally_is = past_is ∙ (λ i. record { count = count_is i; size = (there ∙ size_is) i; passed = passed_is i; passed_size = passed_size_is i });
                 window_is = h.gone.window_is ∙ ap (λ l. after run.settings.window (length l)) (sym (append-nil h.gone.covered.texts));
+                owners_are = h.gone.owners_are ∙ sym (past_all_both run.command (known_first run.command) parts (part ∷ []));
                 done = size_is;
                 failed = same ∙ h.gone.failed;
                 wrote = wrote;

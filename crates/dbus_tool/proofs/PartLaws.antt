@@ -10,13 +10,15 @@ use Rattle.dbus_stream.specs.Cut.{CutMessage, BeginWith}
 use Rattle.dbus_stream.specs.CutEnds.{sizes}
 use Rattle.dbus_command.specs.declared.settings.Settings.{Settings}
 use Rattle.dbus_command.specs.declared.window.Window.{Window}
+use Rattle.dbus_match.specs.Matching.{Ownership}
 use Rattle.dbus_command.specs.declared.command.Command.{Command}
 use Rattle.dbus_command.specs.declared.command.Command.TheVariants.{Show, Json, Check, Swap, Filter}
 use Rattle.dbus_tool.specs.Going.{first_of, second_of}
-use Rattle.dbus_tool.specs.Output.{IsOutputOf, IsOutputOfAll}
+use Rattle.dbus_tool.specs.Output.{IsOutputOf, IsOutputOfAll, owners_after}
+use Rattle.dbus_tool.specs.Onward.{owners_after_all}
 use Rattle.dbus_tool.specs.Windows.{written}
 use Rattle.dbus_tool.proofs.WindowLaws.{written_none}
-use Rattle.dbus_tool.specs.Parts.{Part, Whole, PassedOver, size_of, sizes_of, IsPart, BeginWithParts, AreTexts, IsMade, IsToldOf, passed_count, passed_sizes}
+use Rattle.dbus_tool.specs.Parts.{Part, Whole, PassedOver, size_of, sizes_of, IsPart, BeginWithParts, AreMade, AreTold, owners_past, passed_count, passed_sizes}
 
 -- ---- the input
 
@@ -117,39 +119,69 @@ few_passed_sizes (PassedOver kept fault size ∷ parts) = omega (arith, few_pass
 -- ---- texts
 
 -- those of parts after others
-pub texts_both : {A : Type 0} (Is : ℕ → ℕ → Part → List A → Type 0) (n offset : ℕ) (parts more : List Part) (a b : List A) → AreTexts Is n offset parts a
-    → AreTexts Is (n + length parts) (offset + sizes_of parts) more b → AreTexts Is n offset (parts ++ more) (a ++ b)
-texts_both Is n offset [] more a b p q =
+pub told_both : (settings : Settings) (n offset : ℕ) (parts more : List Part) (a b : List ℕ) → AreTold settings n offset parts a
+    → AreTold settings (n + length parts) (offset + sizes_of parts) more b → AreTold settings n offset (parts ++ more) (a ++ b)
+told_both settings n offset [] more a b p q =
     let number : n + 0 ≡ n = omega arith in
     let place : offset + 0 ≡ offset = omega arith in
     let first : [] ≡ a = sym p in
-    subst (λ l. AreTexts Is n offset more (l ++ b)) first
-    (subst (λ k. AreTexts Is k offset more b) number (subst (λ k. AreTexts Is (n + 0) k more b) place q))
-texts_both Is n offset (part ∷ parts) more a b p q =
+    subst (λ l. AreTold settings n offset more (l ++ b)) first
+    (subst (λ k. AreTold settings k offset more b) number (subst (λ k. AreTold settings (n + 0) k more b) place q))
+told_both settings n offset (part ∷ parts) more a b p q =
     let number : n + suc (length parts) ≡ n + 1 + length parts = omega arith in
     let place : offset + (size_of part + sizes_of parts) ≡ offset + size_of part + sizes_of parts = omega arith in
-    let rest : AreTexts Is (n + 1 + length parts) (offset + size_of part + sizes_of parts) more b
-    = subst (λ k. AreTexts Is k (offset + size_of part + sizes_of parts) more b) number (subst (λ k. AreTexts Is (n + suc (length parts)) k more b) place q) in
-    (p.0, p.1 ++ b, ap (λ l. l ++ b) p.2 ∙ append_assoc p.0 p.1 b, p.3, texts_both Is (n + 1) (offset + size_of part) parts more p.1 b p.4 rest)
+    let rest : AreTold settings (n + 1 + length parts) (offset + size_of part + sizes_of parts) more b
+    = subst (λ k. AreTold settings k (offset + size_of part + sizes_of parts) more b) number (subst (λ k. AreTold settings (n + suc (length parts)) k more b) place q) in
+    (p.0, p.1 ++ b, ap (λ l. l ++ b) p.2 ∙ append_assoc p.0 p.1 b, p.3, told_both settings (n + 1) (offset + size_of part) parts more p.1 b p.4 rest)
 
-pub made_of : (command : Command) (n offset : ℕ) (items : List CutMessage) (out : List (List ℕ)) → IsOutputOfAll command n offset items out → AreTexts (IsMade command) n offset (wholes items) out
-made_of command n offset [] out o = o
-made_of command n offset (item ∷ items) out o = (o.0, o.1, o.2, o.3, made_of command (n + 1) (offset + item.size) items o.1 o.4)
+-- the owners that a command knows after parts
+abbrev pub owners_past_all : Command → List Ownership → List Part → List Ownership
+owners_past_all command os [] = os
+owners_past_all command os (part ∷ parts) = owners_past_all command (owners_past command os part) parts
 
-pub told_of : (settings : Settings) (n offset : ℕ) (items : List CutMessage) → AreTexts (IsToldOf settings) n offset (wholes items) []
+pub past_all_both : (command : Command) (os : List Ownership) (parts more : List Part) → owners_past_all command os (parts ++ more) ≡ owners_past_all command (owners_past_all command os parts) more
+past_all_both command os [] more = refl
+past_all_both command os (part ∷ parts) more = past_all_both command (owners_past command os part) parts more
+
+pub past_all_wholes : (command : Command) (os : List Ownership) (items : List CutMessage) → owners_past_all command os (wholes items) ≡ owners_after_all command os items
+past_all_wholes command os [] = refl
+past_all_wholes command os (item ∷ items) = past_all_wholes command (owners_after command os item.message) items
+
+pub made_both : (command : Command) (os : List Ownership) (n offset : ℕ) (parts more : List Part) (a b : List (List ℕ)) → AreMade command os n offset parts a
+    → AreMade command (owners_past_all command os parts) (n + length parts) (offset + sizes_of parts) more b → AreMade command os n offset (parts ++ more) (a ++ b)
+made_both command os n offset [] more a b p q =
+    let number : n + 0 ≡ n = omega arith in
+    let place : offset + 0 ≡ offset = omega arith in
+    let first : [] ≡ a = sym p in
+    subst (λ l. AreMade command os n offset more (l ++ b)) first
+    (subst (λ k. AreMade command os k offset more b) number (subst (λ k. AreMade command os (n + 0) k more b) place q))
+made_both command os n offset (part ∷ parts) more a b p q =
+    let number : n + suc (length parts) ≡ n + 1 + length parts = omega arith in
+    let place : offset + (size_of part + sizes_of parts) ≡ offset + size_of part + sizes_of parts = omega arith in
+    let later = owners_past command os part in
+    let last = owners_past_all command later parts in
+    let rest : AreMade command last (n + 1 + length parts) (offset + size_of part + sizes_of parts) more b
+    = subst (λ k. AreMade command last k (offset + size_of part + sizes_of parts) more b) number (subst (λ k. AreMade command last (n + suc (length parts)) k more b) place q) in
+    (p.0, p.1 ++ b, ap (λ l. l ++ b) p.2 ∙ append_assoc p.0 p.1 b, p.3, made_both command later (n + 1) (offset + size_of part) parts more p.1 b p.4 rest)
+
+pub made_of : (command : Command) (os : List Ownership) (n offset : ℕ) (items : List CutMessage) (out : List (List ℕ)) → IsOutputOfAll command os n offset items out → AreMade command os n offset (wholes items) out
+made_of command os n offset [] out o = o
+made_of command os n offset (item ∷ items) out o = (o.0, o.1, o.2, o.3, made_of command (owners_after command os item.message) (n + 1) (offset + item.size) items o.1 o.4)
+
+pub told_of : (settings : Settings) (n offset : ℕ) (items : List CutMessage) → AreTold settings n offset (wholes items) []
 told_of settings n offset [] = refl
 told_of settings n offset (item ∷ items) = ([], [], refl, refl, told_of settings (n + 1) (offset + item.size) items)
 
 -- ---- what the writers get
 
-unpicked_none : (order : Order) (message : MessageTree) (n offset : ℕ) (texts : List (List ℕ)) → IsOutputOf Check order message n offset texts → texts ≡ []
-unpicked_none order message n offset texts o = elim o [ inl picked ↦ absurd picked.0 | inr none ↦ none.1 ]
+unpicked_none : (os : List Ownership) (order : Order) (message : MessageTree) (n offset : ℕ) (texts : List (List ℕ)) → IsOutputOf Check os order message n offset texts → texts ≡ []
+unpicked_none os order message n offset texts o = elim o [ inl picked ↦ absurd picked.0 | inr none ↦ none.1 ]
 
 -- `check` makes nothing
-checked_nothing : (n offset : ℕ) (parts : List Part) (out : List (List ℕ)) → AreTexts (IsMade Check) n offset parts out → out ≡ []
-checked_nothing n offset [] out o = o
-checked_nothing n offset (Whole item ∷ parts) out o = o.2 ∙ (λ i. unpicked_none item.order item.message n offset o.0 o.3 i ++ checked_nothing (n + 1) (offset + item.size) parts o.1 o.4 i)
-checked_nothing n offset (PassedOver kept fault size ∷ parts) out o = o.2 ∙ (λ i. o.3 i ++ checked_nothing (n + 1) (offset + size) parts o.1 o.4 i)
+checked_nothing : (os : List Ownership) (n offset : ℕ) (parts : List Part) (out : List (List ℕ)) → AreMade Check os n offset parts out → out ≡ []
+checked_nothing os n offset [] out o = o
+checked_nothing os n offset (Whole item ∷ parts) out o = o.2 ∙ (λ i. unpicked_none os item.order item.message n offset o.0 o.3 i ++ checked_nothing os (n + 1) (offset + item.size) parts o.1 o.4 i)
+checked_nothing os n offset (PassedOver kept fault size ∷ parts) out o = o.2 ∙ (λ i. o.3 i ++ checked_nothing os (n + 1) (offset + size) parts o.1 o.4 i)
 
 pub first_nothing : (command : Command) → first_of command [] [] ≡ []
 first_nothing Show = refl
@@ -166,11 +198,11 @@ second_nothing (Swap order) = refl
 second_nothing (Filter selection) = refl
 
 -- more is made
-pub first_more : (command : Command) (window : Window) (n offset : ℕ) (parts : List Part) (out told : List ℕ) (texts : List (List ℕ)) → AreTexts (IsMade command) n offset parts texts
+pub first_more : (command : Command) (os : List Ownership) (window : Window) (n offset : ℕ) (parts : List Part) (out told : List ℕ) (texts : List (List ℕ)) → AreMade command os n offset parts texts
     → first_of command out told ++ written window texts ≡ first_of command (out ++ written window texts) told
-first_more Show window n offset parts out told texts o = refl
-first_more Json window n offset parts out told texts o = refl
-first_more Check window n offset parts out told texts o =
-    ap (λ l. told ++ l) (ap (λ l. written window l) (checked_nothing n offset parts texts o) ∙ written_none window) ∙ append-nil told
-first_more (Swap order) window n offset parts out told texts o = refl
-first_more (Filter selection) window n offset parts out told texts o = refl
+first_more Show os window n offset parts out told texts o = refl
+first_more Json os window n offset parts out told texts o = refl
+first_more Check os window n offset parts out told texts o =
+    ap (λ l. told ++ l) (ap (λ l. written window l) (checked_nothing os n offset parts texts o) ∙ written_none window) ∙ append-nil told
+first_more (Swap order) os window n offset parts out told texts o = refl
+first_more (Filter selection) os window n offset parts out told texts o = refl

@@ -11,6 +11,7 @@ use Rattle.dbus_stream.specs.Cut.{CutMessage, BeginWith, CutOutcome, Ended, Unfi
 use Rattle.dbus_stream.specs.CutEnds.{fault_at_end, sizes}
 use Rattle.dbus_stream.proofs.CutLaws.{BeginWith-first}
 use Rattle.dbus_command.specs.declared.settings.Settings.{Settings}
+use Rattle.dbus_match.specs.Matching.{Ownership}
 use Rattle.dbus_command.specs.declared.command.Command.{Command}
 use Rattle.dbus_command.specs.declared.command.Command.TheVariants.{Show, Json, Check, Swap, Filter}
 use Rattle.dbus_tool.specs.Checking.{TellsLine, WritesMessages, WritesBefore, Answers, Fails, IsCause}
@@ -18,8 +19,8 @@ use Rattle.dbus_tool.specs.Devices.{Taken, reading, taken, writing}
 use Rattle.dbus_tool.specs.Going.{first_of, second_of, is_check, IsThrough, StopsWithin, IsAllOf, PartsOf, TellsStop}
 use Rattle.dbus_tool.specs.Gathering.{Breaks}
 use Rattle.dbus_tool.specs.Lines.{cause_line}
-use Rattle.dbus_tool.specs.Output.{IsFront, IsOutputOfAll, IsPrefixTo, fault_line, last_line, second_output, status_of}
-use Rattle.dbus_tool.specs.Parts.{Part, Whole, PassedOver, sizes_of, BeginWithParts, IsLast, AreTexts, IsMade, IsToldOf, IsToldLast}
+use Rattle.dbus_tool.specs.Output.{IsFront, IsOutputOfAll, IsPrefixTo, fault_line, last_line, owners_known, second_output, status_of}
+use Rattle.dbus_tool.specs.Parts.{Part, Whole, PassedOver, sizes_of, BeginWithParts, IsLast, AreMade, AreTold, IsToldLast, owners_past}
 use Rattle.dbus_tool.specs.Running.{Runs, Told}
 use Rattle.dbus_tool.specs.Windows.{written}
 use Rattle.dbus_tool.specs.declared.ending.ExitStatus.{ExitStatus}
@@ -59,18 +60,18 @@ divides (Swap order) e = record { first = λ _ _. refl; second = λ _. refl; las
 divides (Filter selection) e = record { first = λ _ _. refl; second = λ _. refl; last = λ _ _ _. refl; line = λ _ _. refl }
 
 -- nothing was passed over, so the parts are messages
-record AreMessages (limits : Limits) (command : Command) (n offset : ℕ) (bytes : List ℕ) (parts : List Part) (rest : List ℕ) (texts : List (List ℕ)) (told : List ℕ) : Type 0 where
+record AreMessages (limits : Limits) (command : Command) (os : List Ownership) (n offset : ℕ) (bytes : List ℕ) (parts : List Part) (rest : List ℕ) (texts : List (List ℕ)) (told : List ℕ) : Type 0 where
   items : List CutMessage
   messages : BeginWith limits bytes items rest
-  output : IsOutputOfAll command n offset items texts
+  output : IsOutputOfAll command os n offset items texts
   none_told : told ≡ []
   size : sizes_of parts ≡ sizes items
 
-are_messages : (limits : Limits) (command : Command) (n offset : ℕ) (bytes : List ℕ) (parts : List Part) (rest : List ℕ) (texts : List (List ℕ)) (told : List ℕ) → BeginWithParts limits bytes parts rest
-    → AreTexts (IsMade command) n offset parts texts → AreTexts (IsToldOf (plain limits)) n offset parts told → AreMessages limits command n offset bytes parts rest texts told
-are_messages limits command n offset bytes [] rest texts told b m t = record { items = []; messages = b; output = m; none_told = t; size = refl }
-are_messages limits command n offset bytes (Whole item ∷ parts) rest texts told b m t =
-    let more = are_messages limits command (n + 1) (offset + item.size) (drop item.size bytes) parts rest m.1 t.1 b.1 m.4 t.4 in
+are_messages : (limits : Limits) (command : Command) (os : List Ownership) (n offset : ℕ) (bytes : List ℕ) (parts : List Part) (rest : List ℕ) (texts : List (List ℕ)) (told : List ℕ) → BeginWithParts limits bytes parts rest
+    → AreMade command os n offset parts texts → AreTold (plain limits) n offset parts told → AreMessages limits command os n offset bytes parts rest texts told
+are_messages limits command os n offset bytes [] rest texts told b m t = record { items = []; messages = b; output = m; none_told = t; size = refl }
+are_messages limits command os n offset bytes (Whole item ∷ parts) rest texts told b m t =
+    let more = are_messages limits command (owners_past command os (Whole item)) (n + 1) (offset + item.size) (drop item.size bytes) parts rest m.1 t.1 b.1 m.4 t.4 in
     record {
       items = item ∷ more.items;
       messages = (b.0, more.messages);
@@ -78,7 +79,7 @@ are_messages limits command n offset bytes (Whole item ∷ parts) rest texts tol
       none_told = t.2 ∙ (λ i. t.3 i ++ more.none_told i);
       size = ap (λ s. item.size + s) more.size;
     }
-are_messages limits command n offset bytes (PassedOver kept fault size ∷ parts) rest texts told b m t = absurd (false≢true t.3.0)
+are_messages limits command os n offset bytes (PassedOver kept fault size ∷ parts) rest texts told b m t = absurd (false≢true t.3.0)
 
 -- all that was kept is the rest
 rest_is : (limits : Limits) (kept rest : List ℕ) (outcome : CutOutcome) (at_end : Type 0) → IsLast false limits kept rest outcome at_end
@@ -111,7 +112,7 @@ module _ {R W E : Type 0} (left : R → Option (List ℕ)) (calls read_failures 
   answers tally fault out told text e1 end h first second =
       let outcome = h.tells.outcome in
       let d = divides command other in
-      let m = are_messages limits command 1 0 h.covers.bytes h.parts h.rest h.covers.texts told h.covers.begin h.covers.made h.covers.tells in
+      let m = are_messages limits command (owners_known command None) 1 0 h.covers.bytes h.parts h.rest h.covers.texts told h.covers.begin h.covers.made h.covers.tells in
       let all = rest_is limits h.kept h.rest outcome _ h.last in
       let fault_is : fault ≡ fault_at_end h.rest outcome = h.tells.fault_is ∙ ap (λ (l : List ℕ). fault_at_end l outcome) (sym all.0) in
       let line : second_of command (told ++ text) ≡ second_output command (sizes m.items) (fault_at_end h.rest outcome)
@@ -142,8 +143,8 @@ module _ {R W E : Type 0} (left : R → Option (List ℕ)) (calls read_failures 
     abbrev Within : Cause → Type 0
     Within cause = StopsWithin Took held write_failures second_held second_failures (plain limits) limits most command (ByCause cause) w0 w1 e0 e1
 
-    messages_of : (cause : Cause) (s : Within cause) → AreMessages limits command 1 0 s.covers.bytes s.parts s.rest s.covers.texts s.told
-    messages_of cause s = are_messages limits command 1 0 s.covers.bytes s.parts s.rest s.covers.texts s.told s.covers.begin s.covers.made s.covers.tells
+    messages_of : (cause : Cause) (s : Within cause) → AreMessages limits command (owners_known command None) 1 0 s.covers.bytes s.parts s.rest s.covers.texts s.told
+    messages_of cause s = are_messages limits command (owners_known command None) 1 0 s.covers.bytes s.parts s.rest s.covers.texts s.told s.covers.begin s.covers.made s.covers.tells
 
     -- the first writer got a prefix of what is made of the messages
     front_of_some : (cause : Cause) (s : Within cause) (written : List ℕ) → IsPrefixTo written s.out → (items : List CutMessage) (rest : List ℕ) (outcome : CutOutcome)

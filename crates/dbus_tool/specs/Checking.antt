@@ -1,6 +1,6 @@
 -- What a command writes of what it reads, and why it gives up. limits are those that each message keeps, and most is how
 -- many reads may be made.
-use Rattle.std.specs.Prelude.{◌≡◌, ◌⊎◌, ℕ, List, Option}
+use Rattle.std.specs.Prelude.{◌≡◌, ◌⊎◌, ℕ, List, Option, None}
 use Rattle.std.specs.Io.KnownBytes.{Appends, Consumes, IsAtEnd}
 use Rattle.std.specs.List.{concat}
 use Rattle.dbus_value_model.specs.declared.fault.Fault.{Fault}
@@ -12,7 +12,7 @@ use Rattle.dbus_stream.specs.Cut.{CutMessage, BeginWith, IsCut, CutOutcome, Refu
 use Rattle.dbus_stream.specs.CutEnds.{fault_at_end, sizes}
 use Rattle.dbus_command.specs.declared.command.Command.{Command}
 use Rattle.dbus_tool.specs.Devices.{RisesAtMost}
-use Rattle.dbus_tool.specs.Output.{IsOutputOfAll, IsFirstOutput, IsFront, second_output, status_of}
+use Rattle.dbus_tool.specs.Output.{IsOutputOfAll, owners_known, IsFirstOutput, IsFront, second_output, status_of}
 use Rattle.dbus_tool.specs.declared.ending.ExitStatus.{ExitStatus}
 use Rattle.dbus_tool.specs.declared.ending.ExitStatus.TheVariants as status
 use Rattle.dbus_tool.specs.declared.ending.Cause.{Cause}
@@ -30,7 +30,7 @@ pub record WritesMessages (limits : Limits) (command : Command) (bytes written :
   pub messages : BeginWith limits bytes items rest
   pub partial : IsPartial limits rest
   pub texts : List (List ℕ)
-  pub output : IsOutputOfAll command 1 0 items texts
+  pub output : IsOutputOfAll command (owners_known command None) 1 0 items texts
   pub written_is : written ≡ concat texts
 
 -- where reading was given up, all messages that were read were written

@@ -1,6 +1,6 @@
 -- What a command writes of an input by its settings: whether refused messages are explained, and whether they are passed over. limits are those
 -- of the settings, and most is how many reads may be made.
-use Rattle.std.specs.Prelude.{◌≡◌, ◌⊎◌, ℕ, ◌+◌, Bool, true, false, List, [], ◌++◌, length, Option, Some, Result, Ok, Err}
+use Rattle.std.specs.Prelude.{◌≡◌, ◌⊎◌, ℕ, ◌+◌, Bool, true, false, List, [], ◌++◌, length, Option, None, Some, Result, Ok, Err}
 use Rattle.std.specs.Io.KnownBytes.{Consumes, IsAtEnd}
 use Rattle.dbus_value_model.specs.declared.fault.Fault.{Fault}
 use Rattle.dbus_value_model.specs.declared.limits.Limits.{Limits}
@@ -16,8 +16,8 @@ use Rattle.dbus_command.specs.declared.settings.Settings.{Settings}
 use Rattle.dbus_command.specs.declared.command.Command.TheVariants.{Show, Json, Check, Swap, Filter}
 use Rattle.dbus_tool.specs.Devices.{Reading, Writing, RisesAtMost, Taken, taken}
 use Rattle.dbus_tool.specs.Gathering.{Breaks}
-use Rattle.dbus_tool.specs.Output.{IsPrefixTo}
-use Rattle.dbus_tool.specs.Parts.{Part, sizes_of, BeginWithParts, IsCutOff, IsLast, AreTexts, IsMade, IsToldOf, IsToldLast, passed_count, tally_of, closing_line, status_at}
+use Rattle.dbus_tool.specs.Output.{IsPrefixTo, owners_known}
+use Rattle.dbus_tool.specs.Parts.{Part, sizes_of, BeginWithParts, IsCutOff, IsLast, AreMade, AreTold, IsToldLast, passed_count, tally_of, closing_line, status_at}
 use Rattle.dbus_tool.specs.Running.{Told}
 use Rattle.dbus_tool.specs.Telling.{IsTold}
 use Rattle.dbus_tool.specs.Windows.{written}
@@ -86,9 +86,9 @@ module _ {W E : Type 0} (t : Taken) (held : W → Option (List ℕ)) (write_fail
     pub called : RisesAtMost most t.calls0 t.calls1
     pub begin : BeginWithParts limits bytes parts rest
     pub texts : List (List ℕ)
-    pub made : AreTexts (IsMade command) 1 0 parts texts
+    pub made : AreMade command (owners_known command None) 1 0 parts texts
     pub out_is : out ≡ written settings.window texts
-    pub tells : AreTexts (IsToldOf settings) 1 0 parts told
+    pub tells : AreTold settings 1 0 parts told
 
   -- this is told of the fault of the rest, if it has one
   pub record TellsRest (parts : List Part) (kept : List ℕ) (fault : Option Fault) (text : List ℕ) : Type 0 where

@@ -1,5 +1,6 @@
 -- What was read and written where messages are handed to a command. g0 and g1 are what is gathered before and after.
-use Rattle.std.specs.Prelude.{◌≡◌, ℕ, List, [], ◌++◌, length, Option, Result, Ok, Err}
+use Rattle.std.specs.Prelude.{◌≡◌, ◌↔◌, ℕ, Bool, IsTrue, Vec, List, [], ◌++◌, length, Option, Result, Ok, Err, IfOk}
+use Rattle.std.specs.declared.alloc.Global.{Global}
 use Rattle.dbus_value_model.specs.declared.limits.Limits.{Limits}
 use Rattle.dbus_value_model.specs.declared.order.Order.{Order}
 use Rattle.dbus_message_model.specs.Messages.{MessageTree}
@@ -12,16 +13,17 @@ use Rattle.dbus_stream.specs.declared.raw_reader.RawReader.{RawReader}
 use Rattle.dbus_stream.specs.declared.read_fault.ReadFault.{ReadFault}
 use Rattle.dbus_stream.specs.declared.read_fault.ReadFault.TheVariants as read
 use Rattle.dbus_json.specs.JsonMessages.{IsJsonLine}
+use Rattle.dbus_match.specs.declared.owner.Owner.{Owner}
 use Rattle.dbus_command.specs.declared.command.Command.{Command}
-use Rattle.dbus_command.specs.declared.window.Window.{Window}
 use Rattle.dbus_tool.specs.Devices.{Writing}
 use Rattle.dbus_tool.specs.Windows.{after, written}
-use Rattle.dbus_tool.specs.Output.{IsOutputOf, IsTextOf}
+use Rattle.dbus_tool.specs.Output.{IsOutputOf, IsTextOf, Picks, owners_after, owners_known}
 use Rattle.dbus_tool.specs.Gathering.{Passes, Breaks, GathersOrNot}
 use Rattle.dbus_tool.specs.declared.ending.Cause.{Cause}
 use Rattle.dbus_tool.specs.declared.ending.Cause.TheVariants.{Memory, ReadFailed, WriteFailed, TooManyReads}
 use Rattle.dbus_tool.specs.declared.ending.NoMessage.{NoMessage}
 use Rattle.dbus_tool.specs.declared.ending.NoMessage.TheVariants.{Reader, Writer}
+use Rattle.dbus_tool.specs.declared.place.Carried.{Carried}
 use Rattle.dbus_tool.specs.declared.place.Place.{Place}
 
 -- a line of JSON of one message was written or gathered, which has this place in its input
@@ -34,10 +36,20 @@ abbrev pub WritesOne : {W : Type 0} → Writing W → Command → Order → Mess
 WritesOne w command order message place g0 g1 result =
     (text : List ℕ) × IsTextOf command order message place.number place.offset text × GathersOrNot w.held w.failures text g0 g1 w.old w.new result
 
--- what the window lets through of the texts that a command makes of one message was written or gathered, and now is the window for what follows
-abbrev pub HandsOne : {W : Type 0} → Writing W → Command → (window now : Window) → Order → MessageTree → Place → List ℕ → List ℕ → Result (Unit {0}) Cause → Type 0
-HandsOne w command window now order message place g0 g1 result = (texts : List (List ℕ)) × IsOutputOf command order message place.number place.offset texts
-    × (now ≡ after window (length texts)) × GathersOrNot w.held w.failures (written window texts) g0 g1 w.old w.new result
+-- whether the command makes a text of a message, and the owners that it has learned before and after it
+pub record IsPicked (command : Command) (message : MessageTree) (old new : Option (Vec (Owner Global) Global)) (picked : Bool) : Type 0 where
+  pub picks : IsTrue picked ↔ Picks command (owners_known command old) message
+  pub owners : owners_known command new ≡ owners_after command (owners_known command old) message
+
+-- the window and the owners for what follows such texts of a message
+pub record GoesOnAfter (command : Command) (message : MessageTree) (texts : List (List ℕ)) (old new : Carried) : Type 0 where
+  pub window : new.window ≡ after old.window (length texts)
+  pub owners : owners_known command new.owners ≡ owners_after command (owners_known command old.owners) message
+
+-- what the window lets through of the texts that a command makes of one message was written or gathered
+abbrev pub HandsOne : {W : Type 0} → Writing W → Command → (old new : Carried) → Order → MessageTree → Place → List ℕ → List ℕ → Result (Unit {0}) Cause → Type 0
+HandsOne w command old new order message place g0 g1 result = (texts : List (List ℕ)) × IsOutputOf command (owners_known command old.owners) order message place.number place.offset texts
+    × IfOk result (λ _. GoesOnAfter command message texts old new) × GathersOrNot w.held w.failures (written old.window texts) g0 g1 w.old w.new result
 
 -- where reading was given up, what is left is no message and no fault, as far as it goes
 abbrev pub AreAll : Limits → Cause → List ℕ → Type 0

@@ -1,7 +1,7 @@
 -- What is read and written where messages are handed to a command from where a reader stands. kept is what it keeps there, and before is
--- how many messages came before, and the window for those that follow. k is what is known of its taker, limits are those that each message keeps, and g0 and g1 are what is gathered before
+-- how many messages came before, with the window and the owners for those that follow, and now is what these are then. k is what is known of its taker, limits are those that each message keeps, and g0 and g1 are what is gathered before
 -- and after.
-use Rattle.std.specs.Prelude.{◌≡◌, ℕ, ◌+◌, List, ◌++◌, true, length, Option, None, Some, Result, Ok, Err}
+use Rattle.std.specs.Prelude.{◌≡◌, ℕ, ◌+◌, List, [], ◌∷◌, ◌++◌, true, length, Option, None, Some, Result, Ok, Err}
 use Rattle.std.specs.Io.KnownBytes.{Consumes, IsAtEnd}
 use Rattle.dbus_value_model.specs.declared.fault.Fault.{Fault}
 use Rattle.dbus_value_model.specs.declared.limits.Limits.{Limits}
@@ -17,13 +17,14 @@ use Rattle.dbus_stream.specs.declared.raw_reader.RawReader.{RawReader}
 use Rattle.dbus_stream.specs.declared.reader.Reader.{Reader}
 use Rattle.dbus_stream.specs.declared.read_fault.ReadFault.{ReadFault}
 use Rattle.dbus_stream.specs.declared.read_fault.ReadFault.TheVariants.{Format}
+use Rattle.dbus_match.specs.Matching.{Ownership}
 use Rattle.dbus_command.specs.declared.command.Command.{Command}
-use Rattle.dbus_command.specs.declared.window.Window.{Window}
-use Rattle.dbus_tool.specs.Output.{IsOutputOfAll}
+use Rattle.dbus_tool.specs.Output.{IsOutputOfAll, owners_after, owners_known}
 use Rattle.dbus_tool.specs.Gathering.{Passes, Leaves}
 use Rattle.dbus_tool.specs.Handing.{AreAll}
 use Rattle.dbus_tool.specs.Windows.{after, written}
-use Rattle.dbus_tool.specs.declared.handing.Before.{Before}
+use Rattle.dbus_tool.specs.declared.place.Before.{Before}
+use Rattle.dbus_tool.specs.declared.place.Carried.{Carried}
 use Rattle.dbus_tool.specs.declared.ending.Cause.{Cause}
 use Rattle.dbus_tool.specs.declared.ending.Cause.TheVariants.{Memory, ReadFailed, WriteFailed, TooManyReads}
 use Rattle.dbus_tool.specs.declared.ending.Counted.{Counted}
@@ -32,6 +33,11 @@ use Rattle.dbus_tool.specs.declared.ending.Counted.{Counted}
 abbrev pub stop_of : Option Fault → Option ReadFault
 stop_of None = None
 stop_of (Some fault) = Some (Format fault)
+
+-- the owners that a command knows after messages, if it knew these before
+abbrev pub owners_after_all : Command → List Ownership → List CutMessage → List Ownership
+owners_after_all command os [] = os
+owners_after_all command os (item ∷ items) = owners_after_all command (owners_after command os item.message) items
 
 module _ {R T B : Type 0} {b : Ghosts B} (left : R → Option (List ℕ)) where
   -- where a read gave the end, nothing is left
@@ -53,7 +59,7 @@ module _ {R T B G : Type 0} {b : Ghosts B} (k : Taking T G) (left : R → Option
 
   module _ {W : Type 0} (failures : R → ℕ) (held : W → Option (List ℕ)) (write_failures : W → ℕ) (command : Command) (before : Before) where
     -- all messages were handed to the command, up to the end of the input or a fault
-    pub record HandsAllOn (counted : Counted) (now : Window) (old new : Reader R T B b) (g0 g1 : List ℕ) (w0 w1 : W) : Type 0 where
+    pub record HandsAllOn (counted : Counted) (now : Carried) (old new : Reader R T B b) (g0 g1 : List ℕ) (w0 w1 : W) : Type 0 where
       pub items : List CutMessage
       pub rest : List ℕ
       pub outcome : CutOutcome
@@ -66,9 +72,10 @@ module _ {R T B G : Type 0} {b : Ghosts B} (k : Taking T G) (left : R → Option
       pub fault_is : counted.fault ≡ fault_at_end rest outcome
       pub done : done_of new ≡ counted.size
       pub texts : List (List ℕ)
-      pub output : IsOutputOfAll command (before.count + 1) (done_of old) items texts
-      pub window_is : now ≡ after before.window (length texts)
-      pub passes : Passes held write_failures (written before.window texts) g0 g1 w0 w1
+      pub output : IsOutputOfAll command (owners_known command before.carried.owners) (before.count + 1) (done_of old) items texts
+      pub window_is : now.window ≡ after before.carried.window (length texts)
+      pub owners_are : owners_known command now.owners ≡ owners_after_all command (owners_known command before.carried.owners) items
+      pub passes : Passes held write_failures (written before.carried.window texts) g0 g1 w0 w1
       pub failed : failures (source_of new) ≡ failures (source_of old)
 
     -- why no more messages are handed on, as far as the reader shows it
@@ -85,28 +92,23 @@ module _ {R T B G : Type 0} {b : Ghosts B} (k : Taking T G) (left : R → Option
       pub read : HasRead old new items rest
       pub all : AreAll limits cause rest
       pub texts : List (List ℕ)
-      pub output : IsOutputOfAll command (before.count + 1) (done_of old) items texts
-      pub leaves : Leaves held write_failures cause (written before.window texts) g0 g1 w0 w1
+      pub output : IsOutputOfAll command (owners_known command before.carried.owners) (before.count + 1) (done_of old) items texts
+      pub leaves : Leaves held write_failures cause (written before.carried.window texts) g0 g1 w0 w1
       pub caused : StopsFor cause old new
 
-    abbrev pub HandsOn : Window → Reader R T B b → Reader R T B b → List ℕ → List ℕ → W → W → Result Counted Cause → Type 0
+    abbrev pub HandsOn : Carried → Reader R T B b → Reader R T B b → List ℕ → List ℕ → W → W → Result Counted Cause → Type 0
     HandsOn now old new g0 g1 w0 w1 (Ok counted) = HandsAllOn counted now old new g0 g1 w0 w1
     HandsOn now old new g0 g1 w0 w1 (Err cause) = HandsSomeOn cause old new g0 g1 w0 w1
-
--- the count and the window that is left
-abbrev pub with_window : Window → Result Counted Cause → Result (Counted × Window) Cause
-with_window window (Ok counted) = Ok (counted, window)
-with_window window (Err cause) = Err cause
 
 module _ {R A W : Type 0} (left : R → Option (List ℕ)) (calls failures : R → ℕ) (held : W → Option (List ℕ)) (write_failures : W → ℕ)
     (limits : Limits) (command : Command) (before : Before) where
   -- a reader of raw messages keeps the rest then, and answers the fault
-  pub record HandsRawOn (counted : Counted) (now : Window) (old new : RawReader R A) (g0 g1 : List ℕ) (w0 w1 : W) : Type 0 where
+  pub record HandsRawOn (counted : Counted) (now : Carried) (old new : RawReader R A) (g0 g1 : List ℕ) (w0 w1 : W) : Type 0 where
     pub all : HandsAllOn gathering left calls limits (raw.kept old) failures held write_failures command before counted now old.reader new.reader g0 g1 w0 w1
     pub kept : raw.kept new ≡ all.rest
     pub stopped : raw.stopped_of new ≡ stop_of counted.fault
 
-  abbrev pub RawHandsOn : RawReader R A → RawReader R A → List ℕ → List ℕ → W → W → Result (Counted × Window) Cause → Type 0
-  RawHandsOn old new g0 g1 w0 w1 (Ok handed) = HandsRawOn handed.0 handed.1 old new g0 g1 w0 w1
-  RawHandsOn old new g0 g1 w0 w1 (Err cause) =
+  abbrev pub RawHandsOn : Carried → RawReader R A → RawReader R A → List ℕ → List ℕ → W → W → Result Counted Cause → Type 0
+  RawHandsOn now old new g0 g1 w0 w1 (Ok counted) = HandsRawOn counted now old new g0 g1 w0 w1
+  RawHandsOn now old new g0 g1 w0 w1 (Err cause) =
       HandsSomeOn gathering left calls limits (raw.kept old) failures held write_failures command before cause old.reader new.reader g0 g1 w0 w1

@@ -8,10 +8,11 @@ use Rattle.dbus_header.specs.StatedLengths.{StatesLength}
 use Rattle.dbus_stream.specs.Cut.{CutMessage, CutOutcome, Ended, Unfinished, Refused}
 use Rattle.dbus_stream.specs.Lasting.{is_truncated}
 use Rattle.dbus_stream.specs.Passing.{StatesAll}
+use Rattle.dbus_match.specs.Matching.{Ownership}
 use Rattle.dbus_command.specs.declared.command.Command.{Command}
 use Rattle.dbus_command.specs.declared.settings.Settings.{Settings}
 use Rattle.dbus_tool.specs.Lines.{counts_line}
-use Rattle.dbus_tool.specs.Output.{IsOutputOf, IsPrefixTo, last_line, status_of}
+use Rattle.dbus_tool.specs.Output.{IsOutputOf, IsPrefixTo, last_line, owners_after, status_of}
 use Rattle.dbus_tool.specs.Telling.{IsTold}
 use Rattle.dbus_tool.specs.declared.ending.ExitStatus.{ExitStatus}
 use Rattle.dbus_tool.specs.declared.ending.ExitStatus.TheVariants as status
@@ -62,21 +63,32 @@ IsLast goes_on limits kept rest (Refused fault) at_end =
 
 -- ---- what is made of its parts, and told of them
 
--- texts of parts, one after the other, of which the first is the n-th of its input and begins at this offset
-abbrev pub AreTexts : {A : Type 0} → (ℕ → ℕ → Part → List A → Type 0) → (n offset : ℕ) → List Part → List A → Type 0
-AreTexts Is n offset [] text = text ≡ []
-AreTexts {A} Is n offset (part ∷ parts) text = (one : List A) × (more : List A) × (text ≡ one ++ more)
-    × Is n offset part one × AreTexts Is (n + 1) (offset + size_of part) parts more
+-- the texts that a command makes of a part, if it knows these owners: of one that is passed over none
+abbrev pub IsMade : Command → List Ownership → (n offset : ℕ) → Part → List (List ℕ) → Type 0
+IsMade command os n offset (Whole item) texts = IsOutputOf command os item.order item.message n offset texts
+IsMade command os n offset (PassedOver kept fault size) texts = texts ≡ []
 
--- the texts that a command makes of a part: of one that is passed over none
-abbrev pub IsMade : Command → (n offset : ℕ) → Part → List (List ℕ) → Type 0
-IsMade command n offset (Whole item) texts = IsOutputOf command item.order item.message n offset texts
-IsMade command n offset (PassedOver kept fault size) texts = texts ≡ []
+-- the owners that it knows after the part
+abbrev pub owners_past : Command → List Ownership → Part → List Ownership
+owners_past command os (Whole item) = owners_after command os item.message
+owners_past command os (PassedOver kept fault size) = os
+
+-- the texts that it makes of several, one after the other, of which the first is the n-th of its input and begins at this offset
+abbrev pub AreMade : Command → List Ownership → (n offset : ℕ) → List Part → List (List ℕ) → Type 0
+AreMade command os n offset [] texts = texts ≡ []
+AreMade command os n offset (part ∷ parts) texts = (one : List (List ℕ)) × (more : List (List ℕ)) × (texts ≡ one ++ more)
+    × IsMade command os n offset part one × AreMade command (owners_past command os part) (n + 1) (offset + size_of part) parts more
 
 -- what is told of a part: of a message nothing. One is passed over only if the run is to go on
 abbrev pub IsToldOf : Settings → (n offset : ℕ) → Part → List ℕ → Type 0
 IsToldOf settings n offset (Whole item) text = text ≡ []
 IsToldOf settings n offset (PassedOver kept fault size) text = (settings.keeps_going ≡ true) × IsTold settings (record { number = n; offset = offset; fault = fault }) kept text
+
+-- of several
+abbrev pub AreTold : Settings → (n offset : ℕ) → List Part → List ℕ → Type 0
+AreTold settings n offset [] text = text ≡ []
+AreTold settings n offset (part ∷ parts) text = (one : List ℕ) × (more : List ℕ) × (text ≡ one ++ more)
+    × IsToldOf settings n offset part one × AreTold settings (n + 1) (offset + size_of part) parts more
 
 -- what is told of the fault after them
 abbrev pub IsToldLast : Settings → (n offset : ℕ) → List ℕ → Option Fault → List ℕ → Type 0

@@ -9,8 +9,9 @@ ghost use Rattle.dbus_tool.specs.Going.{IsUntold, PartsOf, RunsWith, TellsBy, Te
 use crate::ending::{Cause, ExitStatus};
 use crate::failing::give_up;
 use crate::gathered::Gathered;
-use crate::handing::{Before, hand_and_write};
+use crate::handing::hand_and_write;
 use crate::output::{Output, Plan, output_of};
+use crate::place::{Before, Carried};
 use crate::tally::{Tally, closing_line, tells_first};
 use crate::telling::{Refusal, refusal_text};
 use dbus_command::{Command, Settings};
@@ -197,17 +198,19 @@ fn hand_parts<R: Source, A: Allocator + Copy, W: Sink, E: Sink>(
         passed: 0,
         passed_size: 0,
     };
-    let mut window = plan.settings.window;
+    let mut before = Before {
+        count: 0,
+        carried: Carried {
+            window: plan.settings.window,
+            owners: None,
+        },
+    };
     'parts: loop {
-        let before = Before {
-            count: tally.count,
-            window,
-        };
-        let (counted, left) = match hand_and_write(alloc, plan, before, messages, gathered, first) {
-            Ok(handed) => handed,
+        before.count = tally.count;
+        let counted = match hand_and_write(alloc, plan, &mut before, messages, gathered, first) {
+            Ok(counted) => counted,
             Err(cause) => return Err(Stop::Cause(cause)),
         };
-        window = left;
         tally = tally.up_to(counted);
         let fault = match counted.fault {
             Some(fault) => fault,

@@ -5,15 +5,14 @@ ghost use Rattle.dbus_tool.specs.Counting.{ended_by, stopped_by};
 ghost use Rattle.dbus_tool.specs.Devices.{writing};
 ghost use Rattle.dbus_tool.specs.Gathering.{GathersOrNot, gathered_bytes};
 ghost use Rattle.dbus_tool.specs.Handing.{GivesNext};
-ghost use Rattle.dbus_tool.specs.Onward.{RawHandsOn, with_window};
+ghost use Rattle.dbus_tool.specs.Onward.{RawHandsOn};
 ghost use Rattle.dbus_tool.specs.Commands.{command_of};
 
 use crate::ending::{Cause, Counted, NoMessage};
 use crate::gathered::Gathered;
 use crate::gathering::{Unwritten, write_out};
 use crate::output::{Plan, hand_one};
-use crate::place::{Lent, Place};
-use dbus_command::Window;
+use crate::place::{Before, Lent, Place};
 use dbus_stream::{RawReader, ReadFault, Sink, Source};
 use dbus_validate::Validated;
 use std::alloc::Allocator;
@@ -64,37 +63,27 @@ fn read_message<R: Source, A: Allocator + Copy, W: Sink>(
     }
 }
 
-/// Where a run stands between messages.
-#[derive(Clone, Copy)]
-pub(crate) struct Before {
-    /// How many messages came before.
-    pub(crate) count: u64,
-    /// The window for those that follow.
-    pub(crate) window: Window,
-}
-
-// Writes what is wanted of each message of the reader, up to the end of the input or a fault. Returns also the window for those that
-// follow.
+// Writes what is wanted of each message of the reader, up to the end of the input or a fault. `before` is then what is carried on to
+// those that follow.
 fn hand_all<R: Source, A: Allocator + Copy, W: Sink>(
     alloc: A,
     plan: Plan,
-    before: Before,
+    before: &mut Before,
     messages: &mut RawReader<R, A>,
     gathered: &mut Gathered,
     first: &mut W,
-) -> Result<(Counted, Window), Cause>
+) -> Result<Counted, Cause>
     requires unstopped { stopped_of messages.old ≡ None }
     requires within { limits_of messages.old ≡ plan.settings.limits }
-    requires few { before.count ≤ done_of messages.old }
-    ensures hands { RawHandsOn R.left R.calls R.failures W.held W.failures plan.entry.settings.limits (command_of plan.entry.output) before
-        messages.old messages.new (gathered_bytes gathered.old) (gathered_bytes gathered.new) first.old first.new result }
+    requires few { before.old.count ≤ done_of messages.old }
+    ensures hands { RawHandsOn R.left R.calls R.failures W.held W.failures plan.entry.settings.limits (command_of plan.entry.output) before.old
+        before.new.carried messages.old messages.new (gathered_bytes gathered.old) (gathered_bytes gathered.new) first.old first.new result }
     ensures same_reference { R.reference (source_of messages.new) ≡
         R.reference (source_of messages.old) }
 {
     let output = plan.output;
     let limits = plan.settings.limits;
     let mut count = before.count;
-    let mut window = before.window;
     let mut spare = Vec::new(alloc);
     'messages: loop {
         let offset = messages.done();
@@ -110,38 +99,36 @@ fn hand_all<R: Source, A: Allocator + Copy, W: Sink>(
                         offset,
                     },
                 };
-                match hand_one(output, &lent, &mut window, &mut spare, gathered, first) {
+                match hand_one(
+                    output,
+                    &lent,
+                    &mut before.carried,
+                    &mut spare,
+                    gathered,
+                    first,
+                ) {
                     Ok(()) => {}
                     Err(cause) => return Err(cause),
                 }
             }
             Ok(None) => {
-                let counted = Counted {
+                return Ok(Counted {
                     count,
                     size: messages.done(),
                     fault: None,
-                };
-                return Ok((counted, window));
+                });
             }
-            Err(stop) => return stopped_by(count, messages.done(), window, stop),
+            Err(stop) => return stopped_by(count, messages.done(), stop),
         }
     }
 }
 
 // How the run goes on if no message follows.
-fn stopped_by(
-    count: u64,
-    size: u64,
-    window: Window,
-    stop: NoMessage,
-) -> Result<(Counted, Window), Cause>
-    ensures { result ≡ with_window window (stopped_by count size stop) }
+fn stopped_by(count: u64, size: u64, stop: NoMessage) -> Result<Counted, Cause>
+    ensures { result ≡ stopped_by count size stop }
 {
     match stop {
-        NoMessage::Reader(fault) => match ended_by(count, size, fault) {
-            Ok(counted) => Ok((counted, window)),
-            Err(cause) => Err(cause),
-        },
+        NoMessage::Reader(fault) => ended_by(count, size, fault),
         NoMessage::Writer => Err(Cause::WriteFailed),
     }
 }
@@ -162,22 +149,22 @@ pub(crate) fn ended_by(count: u64, size: u64, fault: ReadFault) -> Result<Counte
     }
 }
 
-/// Writes what is wanted of each message of the reader, up to the end of the input or a fault, and then what is gathered. Returns also
-/// the window for those that follow.
+/// Writes what is wanted of each message of the reader, up to the end of the input or a fault, and then what is gathered. `before` is
+/// then what is carried on to those that follow.
 pub(crate) fn hand_and_write<R: Source, A: Allocator + Copy, W: Sink>(
     alloc: A,
     plan: Plan,
-    before: Before,
+    before: &mut Before,
     messages: &mut RawReader<R, A>,
     gathered: &mut Gathered,
     first: &mut W,
-) -> Result<(Counted, Window), Cause>
+) -> Result<Counted, Cause>
     requires unstopped { stopped_of messages.old ≡ None }
     requires within { limits_of messages.old ≡ plan.settings.limits }
-    requires few { before.count ≤ done_of messages.old }
+    requires few { before.old.count ≤ done_of messages.old }
     requires empty { gathered_bytes gathered.old ≡ [] }
-    ensures hands { RawHandsOn R.left R.calls R.failures W.held W.failures plan.entry.settings.limits (command_of plan.entry.output) before
-        messages.old messages.new [] [] first.old first.new result }
+    ensures hands { RawHandsOn R.left R.calls R.failures W.held W.failures plan.entry.settings.limits (command_of plan.entry.output) before.old
+        before.new.carried messages.old messages.new [] [] first.old first.new result }
     ensures emptied { IfOk result (λ _. gathered_bytes gathered.new ≡ []) }
     ensures same_reference { R.reference (source_of messages.new) ≡
         R.reference (source_of messages.old) }

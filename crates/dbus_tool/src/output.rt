@@ -1,28 +1,28 @@
 //! What is written of each message.
-ghost use Rattle.std.specs.Prelude.{◌≡◌, ◌↔◌, ℕ, IsTrue, List, length};
+ghost use Rattle.std.specs.Prelude.{◌≡◌, ℕ, IfOk, List, length};
 ghost use Rattle.dbus_value_model.specs.declared.order.Order.{Order};
 ghost use Rattle.dbus_message_model.specs.Messages.{MessageTree};
 ghost use Rattle.dbus_header.specs.MessageOutcomes.{IsWhole};
 ghost use Rattle.dbus_validate.specs.Validating.{IsValidatedWhole};
 ghost use Rattle.dbus_tool.specs.Gathering.{gathered_bytes};
 ghost use Rattle.dbus_tool.specs.Devices.{writing};
-ghost use Rattle.dbus_tool.specs.Handing.{HandsOne, WritesOne};
-ghost use Rattle.dbus_tool.specs.Output.{Picks};
+ghost use Rattle.dbus_tool.specs.Handing.{HandsOne, IsPicked, WritesOne};
 ghost use Rattle.dbus_tool.specs.Commands.{command_of};
 
 use crate::ending::Cause;
-use crate::filtering::is_selected;
+use crate::filtering::select;
 use crate::gathered::Gathered;
 use crate::gathering::put_out;
 use crate::json_lines::write_json_line;
-use crate::place::Lent;
+use crate::place::{Carried, Lent};
 use crate::showing::show;
 use crate::swapping::swap;
 use crate::window::lets_through;
-use dbus_command::{Command, Selection, Settings, Window};
+use dbus_command::{Command, Selection, Settings};
+use dbus_match::Owner;
 use dbus_stream::Sink;
 use dbus_value::Order;
-use std::alloc::Allocator;
+use std::alloc::{AllocError, Allocator};
 
 /// What a command writes of each message.
 #[derive(Clone, Copy)]
@@ -59,21 +59,19 @@ pub(crate) fn output_of(command: &Command) -> Output<'_>
     }
 }
 
-/// Whether the command makes a text of the message.
-fn picks(output: Output, lent: &Lent) -> bool
+// Whether the command makes a text of the message. It learns from the message after that.
+fn picks(output: Output, lent: &Lent, owners: &mut Option<Vec<Owner>>) -> Result<bool, AllocError>
     requires { IsValidatedWhole lent.now.limits lent.now.bytes.now lent.now.validated }
     ensures { (order : Order) (m : MessageTree) →
         IsWhole lent.now.limits lent.now.bytes.now order m (length lent.now.bytes.now) →
-        IsTrue result ↔ Picks (command_of output.entry) m }
+        IfOk result (IsPicked (command_of output.entry) m owners.old owners.new) }
 {
     match output {
-        Output::Nothing => false,
-        Output::Text => true,
-        Output::JsonLine => true,
-        Output::InOrder(_) => true,
-        Output::Matching(selection) => {
-            is_selected(selection, lent.bytes, &lent.validated, lent.limits)
-        }
+        Output::Nothing => Ok(false),
+        Output::Text => Ok(true),
+        Output::JsonLine => Ok(true),
+        Output::InOrder(_) => Ok(true),
+        Output::Matching(selection) => select(selection, lent, owners),
     }
 }
 
@@ -105,11 +103,11 @@ fn write_one<A: Allocator + Copy, W: Sink>(
     }
 }
 
-/// Writes or gathers what the window lets through of what the command makes of the message.
+/// Writes or gathers what the window lets through of what the command makes of the message, and carries on what the next one needs.
 pub(crate) fn hand_one<A: Allocator + Copy, W: Sink>(
     output: Output,
     lent: &Lent,
-    window: &mut Window,
+    carried: &mut Carried,
     spare: &mut Vec<u8, A>,
     gathered: &mut Gathered,
     first: &mut W,
@@ -117,13 +115,16 @@ pub(crate) fn hand_one<A: Allocator + Copy, W: Sink>(
     requires { IsValidatedWhole lent.now.limits lent.now.bytes.now lent.now.validated }
     ensures { (order : Order) (m : MessageTree) →
         IsWhole lent.now.limits lent.now.bytes.now order m (length lent.now.bytes.now) →
-        HandsOne (writing W.held W.failures first.old first.new) (command_of output.entry) window.old window.new order m
+        HandsOne (writing W.held W.failures first.old first.new) (command_of output.entry) carried.old carried.new order m
         lent.now.place (gathered_bytes gathered.old) (gathered_bytes gathered.new) result }
 {
-    if !picks(output, lent) {
+    let Ok(picked) = picks(output, lent, &mut carried.owners) else {
+        return Err(Cause::Memory);
+    };
+    if !picked {
         return Ok(());
     }
-    if lets_through(window) {
+    if lets_through(&mut carried.window) {
         write_one(output, lent, spare, gathered, first)
     } else {
         Ok(())

@@ -1,4 +1,6 @@
 //! A message of an input, and which of its messages it is.
+use dbus_command::Window;
+use dbus_match::Owner;
 use dbus_validate::Validated;
 use dbus_value::Limits;
 
@@ -9,6 +11,23 @@ pub(crate) struct Place {
     pub(crate) number: u64,
     /// Where it begins, in bytes from the start of the input.
     pub(crate) offset: u64,
+}
+
+/// What is carried from message to message.
+#[derive(Drop)]
+pub(crate) struct Carried {
+    /// The window for the messages that follow.
+    pub(crate) window: Window,
+    /// The owners of names, once a message changed those of the command.
+    pub(crate) owners: Option<Vec<Owner>>,
+}
+
+/// Where a run stands between messages.
+#[derive(Drop)]
+pub(crate) struct Before {
+    /// How many messages came before.
+    pub(crate) count: u64,
+    pub(crate) carried: Carried,
 }
 
 /// A message of an input.

@@ -381,6 +381,7 @@ const USAGES: &[(&[&str], &str)] = &[
     (&["filter", "arg64='x'", "--handshake=both"], NO_SIDE),
     (&["filter", "--invert", "", "--invert"], TWO_INVERTS),
     (&["filter", "--invert"], NO_RULE_TO_INVERT),
+    (&["show", "--learn-owners"], SHOW_LEARNING),
     (&["filter", "", "--owner"], NO_WORD_OF_OWNER),
     // Before a bad rule.
     (&["filter", "arg64='x'", "--owner", "a.b"], NO_UNIQUE_NAME),

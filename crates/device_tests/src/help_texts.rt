@@ -249,6 +249,7 @@ Arguments:
 Options:
       --invert               Writes the messages that match none of the rules
       --owner <NAME=UNIQUE>  The owner of a name, as org.a.B=:1.7; any number
+      --learn-owners         Owners are also those that the bus tells, from then on
       --skip <N>             Messages to skip first: 0, the default, to 4294967295
       --limit <N>            Most messages to write after these: 0 to 4294967295
       --keep-going           Goes on after a refused message
@@ -276,7 +277,8 @@ Output:
   Who owns a well-known name is not known, so sender='org.a.B' matches only a
   message that has that name itself. With --owner org.a.B=:1.7 it also matches
   what :1.7 sent: `busctl --user list` prints unique names, and GetNameOwner of
-  the bus returns them.
+  the bus returns them. With --learn-owners the signals NameOwnerChanged of the
+  bus in the input tell the owners, each for the messages after it.
 
   With --keep-going a message that is refused gives a line of its own,
   `refused at P: NAME in message N at O`, and the next one is read, if its first

@@ -69,6 +69,32 @@ const DONE: &[(&[&str], &[&[u8]], &[&[u8]])] = &[
         &[FROM_7, FROM_8, SIGNAL],
         &[FROM_8],
     ),
+    // What the bus tells of owners counts for the messages after that, if it is to be learned, but nothing that another sender tells.
+    (
+        &[
+            "filter",
+            "sender='a.b'",
+            "--owner=a.b=:1.8",
+            "--learn-owners",
+        ],
+        &[
+            FROM_7,
+            FROM_8,
+            OWNED_BY_7_SAYS_9,
+            FROM_8,
+            OWNED_BY_7,
+            FROM_8,
+            FROM_7,
+            OWNED_BY_NONE,
+            FROM_7,
+        ],
+        &[FROM_8, FROM_8, FROM_7],
+    ),
+    (
+        &["filter", "sender='a.b'", "--owner=a.b=:1.8"],
+        &[OWNED_BY_7, FROM_7, FROM_8],
+        &[FROM_8],
+    ),
     // Limits that are met, each message by itself.
     (
         &[

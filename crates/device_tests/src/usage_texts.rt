@@ -186,6 +186,14 @@ Usage: dbus-wire swap --to <ORDER>
 For more information, try '--help'.
 ";
 
+pub(crate) const SHOW_LEARNING: &str = "\
+error: unexpected argument '--learn-owners' found
+
+Usage: dbus-wire show [OPTIONS]
+
+For more information, try '--help'.
+";
+
 pub(crate) const CHECK_SKIPPING: &str = "\
 error: unexpected argument '--skip' found
 

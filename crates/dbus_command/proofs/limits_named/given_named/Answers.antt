@@ -1,4 +1,4 @@
-use Rattle.std.proofs.Common.{Option, ℕ, sym, subst}
+use Rattle.std.proofs.Common.{sym, subst}
 use Rattle.std.specs.Str.Parse.{ParsesUnsigned, ExplainsUnsignedError, HasUnsignedDigitsIfOk}
 use Rattle.clap.specs.Words.{found_of, one_text}
 use Rattle.clap.proofs.WalkLemmas.{one_text-rows}

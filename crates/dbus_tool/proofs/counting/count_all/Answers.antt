@@ -49,8 +49,8 @@ messages-preserved g c =
     let item : CutMessage = record { order = gives.order; message = gives.message; size = c.in-Ok-Some.field-0-0 } in (
       drop item.size (c.messages.invariant.0 ++ given.0.bytes),
       gives.kept,
-      hands_more c.messages.invariant.2 given.0 item [] from_start.window gives.whole gives.done gives.unstopped c.in-Ok-Some.ensures.failed (inr (λ never. never, refl)) refl
-          (subst (λ l. Passes unwritten.held unwritten.failures l [] [] tt tt) (sym (written_none from_start.window)) (passes_none unwritten.held unwritten.failures [] tt)),
+      hands_more c.messages.invariant.2 given.0 item [] from_start.carried gives.whole gives.done gives.unstopped c.in-Ok-Some.ensures.failed (inr (λ never. never, refl)) (record { window = refl; owners = refl })
+          (subst (λ l. Passes unwritten.held unwritten.failures l [] [] tt tt) (sym (written_none from_start.carried.window)) (passes_none unwritten.held unwritten.failures [] tt)),
       c.next.ensures.same_reference ∙ c.messages.invariant.3,
     )
 

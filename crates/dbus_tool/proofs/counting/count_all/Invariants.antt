@@ -10,7 +10,7 @@ use Rattle.dbus_tool.proofs.counting.count_all.Given as goal
 abbrev pub invariant-messages : goal.invariant-messages
 invariant-messages g l = (rest : List ℕ) × Keeps l.messages rest
     × HasHanded lengths g.R.Source.left g.R.Source.calls g.R.Source.failures unwritten.held unwritten.failures (limits_of l.fn.messages) Check [] from_start
-    l.count from_start.window l.fn.messages l.messages rest [] [] tt tt
+    l.count from_start.carried l.fn.messages l.messages rest [] [] tt tt
     × (g.R.Source.reference (source_of l.messages) ≡ g.R.Source.reference (source_of l.fn.messages))
 
 abbrev pub decreases-messages : goal.decreases-messages

@@ -20,7 +20,7 @@ invariant-parts g l =
       old = l.fn.messages;
       w0 = l.fn.first;
       e0 = l.fn.second;
-    }) l.messages l.tally l.window l.first l.second
+    }) l.messages l.tally l.before.carried l.first l.second
     × (stopped_of l.messages ≡ None) × (gathered_bytes l.gathered ≡ []) × (g.R.Source.reference (source_of l.messages) ≡ g.R.Source.reference (source_of l.fn.messages))
 
 abbrev pub decreases-parts : goal.decreases-parts

@@ -6,10 +6,10 @@ use Rattle.dbus_stream.specs.RawNext.{Lends, Reads}
 use Rattle.dbus_stream.specs.RawReading.{limits_of, done_of, kept}
 use Rattle.dbus_tool.specs.Commands.{command_of}
 use Rattle.dbus_tool.specs.Counting.{stopped_by}
-use Rattle.dbus_tool.specs.Onward.{RawHandsOn, with_window}
+use Rattle.dbus_tool.specs.Onward.{RawHandsOn}
 use Rattle.dbus_tool.specs.Windows.{written}
 use Rattle.dbus_tool.specs.Gathering.{gathered_bytes}
-use Rattle.dbus_tool.specs.Output.{IsOutputOf}
+use Rattle.dbus_tool.specs.Output.{IsOutputOf, owners_known}
 use Rattle.dbus_tool.proofs.GatherSteps.{gathers_after}
 use Rattle.dbus_tool.proofs.ReadSteps.{length-sizes}
 use Rattle.dbus_tool.proofs.HandSteps.{HasHanded, hands_none, hands_more, hands_all, hands_stopped, hands_not}
@@ -19,7 +19,7 @@ use Rattle.dbus_tool.proofs.handing.hand_all.Goals.{In-Ok-Some}
 
 pub messages-init : goal.messages-init
 messages-init g c = (
-  hands_none gathering g.R.Source.left g.R.Source.calls g.R.Source.failures g.W.Sink.held g.W.Sink.failures c.args.plan.settings.limits (command_of c.args.plan.output) (kept c.args.messages.now) c.args.before c.args.messages.now.reader (gathered_bytes c.args.gathered.now) c.args.first.now c.requires.within c.requires.unstopped,
+  hands_none gathering g.R.Source.left g.R.Source.calls g.R.Source.failures g.W.Sink.held g.W.Sink.failures c.args.plan.settings.limits (command_of c.args.plan.output) (kept c.args.messages.now) c.args.before.now c.args.messages.now.reader (gathered_bytes c.args.gathered.now) c.args.first.now c.requires.within c.requires.unstopped,
   refl,
 )
 
@@ -53,11 +53,11 @@ messages-preserved g c =
     let whole = lent_whole c.args.plan.settings.limits (kept mid ++ lent.0.bytes) c.message.result.now c.in-Ok-Some.validated mid new c.message.ensures c.messages.invariant.0.read.limits_are l in
     let item : CutMessage = record { order = l.gives.order; message = l.gives.message; size = l.size } in
     let one = c.in-Ok.ensures l.gives.order l.gives.message whole in
-    let output = subst (λ k. IsOutputOf (command_of c.args.plan.output) l.gives.order l.gives.message (c.messages.count + 1) k one.0) c.done-offset.ensures one.1 in
-    let gathers = gathers_after g.W.Sink.held g.W.Sink.failures (written c.messages.window one.0) (gathered_bytes c.messages.gathered) (gathered_bytes c.next_message.new.gathered) (gathered_bytes c.hand_one.new.gathered)
+    let output = subst (λ k. IsOutputOf (command_of c.args.plan.output) (owners_known (command_of c.args.plan.output) c.messages.before.carried.owners) l.gives.order l.gives.message (c.messages.count + 1) k one.0) c.done-offset.ensures one.1 in
+    let gathers = gathers_after g.W.Sink.held g.W.Sink.failures (written c.messages.before.carried.window one.0) (gathered_bytes c.messages.gathered) (gathered_bytes c.next_message.new.gathered) (gathered_bytes c.hand_one.new.gathered)
     c.messages.first c.next_message.new.first c.hand_one.new.first (Ok tt) given.3 one.3 in
-    let more = hands_more c.messages.invariant.0 lent.0 item one.0 c.hand_one.new.window l.gives.whole l.gives.done l.gives.unstopped given.2 output one.2 gathers in (
-      subst (λ v. HasHanded gathering g.R.Source.left g.R.Source.calls g.R.Source.failures g.W.Sink.held g.W.Sink.failures c.args.plan.settings.limits (command_of c.args.plan.output) (kept c.args.messages.now) c.args.before (c.messages.count + 1) c.hand_one.new.window c.args.messages.now.reader new.reader v (gathered_bytes c.args.gathered.now) (gathered_bytes c.hand_one.new.gathered) c.args.first.now c.hand_one.new.first) (sym l.gives.kept) more,
+    let more = hands_more c.messages.invariant.0 lent.0 item one.0 c.hand_one.new.carried l.gives.whole l.gives.done l.gives.unstopped given.2 output one.2 gathers in (
+      subst (λ v. HasHanded gathering g.R.Source.left g.R.Source.calls g.R.Source.failures g.W.Sink.held g.W.Sink.failures c.args.plan.settings.limits (command_of c.args.plan.output) (kept c.args.messages.now) c.args.before.now (c.messages.count + 1) c.hand_one.new.carried c.args.messages.now.reader new.reader v (gathered_bytes c.args.gathered.now) (gathered_bytes c.hand_one.new.gathered) c.args.first.now c.hand_one.new.first) (sym l.gives.kept) more,
       c.next_message.ensures.same_reference ∙ c.messages.invariant.1,
     )
 
@@ -80,8 +80,8 @@ returns-in-Err-hand_one-clause-hands g c =
     let whole = lent_whole c.args.plan.settings.limits (kept mid ++ lent.0.bytes) c.message.result.now c.in-Ok-Some.validated mid new c.message.ensures c.messages.invariant.0.read.limits_are l in
     let item : CutMessage = record { order = l.gives.order; message = l.gives.message; size = l.size } in
     let one = c.in-Err-hand_one.ensures l.gives.order l.gives.message whole in
-    let output = subst (λ k. IsOutputOf (command_of c.args.plan.output) l.gives.order l.gives.message (c.messages.count + 1) k one.0) c.done-offset.ensures one.1 in
-    let gathers = gathers_after g.W.Sink.held g.W.Sink.failures (written c.messages.window one.0) (gathered_bytes c.messages.gathered) (gathered_bytes c.next_message.new.gathered) (gathered_bytes c.hand_one.new.gathered)
+    let output = subst (λ k. IsOutputOf (command_of c.args.plan.output) (owners_known (command_of c.args.plan.output) c.messages.before.carried.owners) l.gives.order l.gives.message (c.messages.count + 1) k one.0) c.done-offset.ensures one.1 in
+    let gathers = gathers_after g.W.Sink.held g.W.Sink.failures (written c.messages.before.carried.window one.0) (gathered_bytes c.messages.gathered) (gathered_bytes c.next_message.new.gathered) (gathered_bytes c.hand_one.new.gathered)
     c.messages.first c.next_message.new.first c.hand_one.new.first (Err c.in-Err-hand_one.cause) given.3 one.3 in
     hands_not c.messages.invariant.0 lent.0 c.in-Err-hand_one.cause item one.0 l.gives.whole given.2 output gathers
 
@@ -98,8 +98,8 @@ returns-in-Ok-None-clause-hands g c =
 pub returns-in-Err-clause-hands : goal.returns-in-Err-clause-hands
 returns-in-Err-clause-hands g c =
     let stop = c.in-Err.stop in
-    let answer : c.stopped_by.result ≡ with_window c.messages.window (stopped_by c.messages.count (done_of c.next_message.new.messages) stop)
-    = c.stopped_by.ensures ∙ ap (λ n. with_window c.messages.window (stopped_by c.messages.count n stop)) c.done-in-Err.ensures in
-    subst (λ x. RawHandsOn g.R.Source.left g.R.Source.calls g.R.Source.failures g.W.Sink.held g.W.Sink.failures c.args.plan.settings.limits (command_of c.args.plan.output) c.args.before c.args.messages.now c.next_message.new.messages
+    let answer : c.stopped_by.result ≡ stopped_by c.messages.count (done_of c.next_message.new.messages) stop
+    = c.stopped_by.ensures ∙ ap (λ n. stopped_by c.messages.count n stop) c.done-in-Err.ensures in
+    subst (λ x. RawHandsOn g.R.Source.left g.R.Source.calls g.R.Source.failures g.W.Sink.held g.W.Sink.failures c.args.plan.settings.limits (command_of c.args.plan.output) c.args.before.now c.messages.before.carried c.args.messages.now c.next_message.new.messages
     (gathered_bytes c.args.gathered.now) (gathered_bytes c.next_message.new.gathered) c.args.first.now c.next_message.new.first x) (sym answer)
     (hands_stopped c.args.messages.now c.messages.messages c.messages.invariant.0 c.next_message.new.messages (gathered_bytes c.next_message.new.gathered) c.next_message.new.first stop c.in-Err.ensures.gives)

@@ -2,18 +2,10 @@ use Rattle.std.proofs.Common.{List, subst}
 use Rattle.std.specs.Bool.{Decides}
 use Rattle.std.specs.declared.alloc.Global.{Global}
 use Rattle.dbus_match.specs.declared.owner.Owner.{Owner}
-use Rattle.dbus_match.specs.declared.rule.Rule.{Rule}
 use Rattle.dbus_match.specs.Matching.{ownerships}
-use Rattle.dbus_command.specs.Selections.{SomeMatches}
-use Rattle.dbus_command.proofs.Selections.{inverted_as}
+use Rattle.dbus_command.specs.Selections.{SelectsBy}
 use Rattle.dbus_command.proofs.selection.Selection.selects.Goals as goal
 
 pub returns : goal.returns
 returns c = λ order m views.
-    let met = c.some_matches.result in
-    let selection = c.args.self.now in
-    let by_rules : Decides met (SomeMatches selection.rules.items m (ownerships c.deref-2.result.now))
-    = subst (λ (rules : List (Rule Global)). Decides met (SomeMatches rules m (ownerships c.deref-2.result.now))) c.deref.ensures.value (c.some_matches.ensures order m views) in
-    let by_owners : Decides met (SomeMatches selection.rules.items m (ownerships selection.owners.items))
-    = subst (λ (owners : List (Owner Global)). Decides met (SomeMatches selection.rules.items m (ownerships owners))) c.deref-2.ensures.value by_rules in
-    inverted_as met selection.is_inverted (SomeMatches selection.rules.items m (ownerships selection.owners.items)) by_owners
+    subst (λ (owners : List (Owner Global)). Decides c.selects_by.result (SelectsBy c.args.self.now (ownerships owners) m)) c.deref.ensures.value (c.selects_by.ensures order m views)
