@@ -1,17 +1,18 @@
 -- The owners of well-known names that the bus tells by its signals, and those that are known before each message.
 -- D-Bus Specification, "Message Bus Messages" ("org.freedesktop.DBus.NameOwnerChanged").
 use Rattle.std.specs.Prelude.{ℕ, ◌==◌, Bool, false, ◌&&◌, not, if◌then◌else◌, List, [], ◌∷◌, ◌++◌, Option, None, Some, Vec, codes}
-use Rattle.std.specs.List.{filter}
+use Rattle.std.specs.List.{filter, list_any}
 use Rattle.std.specs.Str.{bytes_eq}
 use Rattle.std.specs.declared.alloc.Global.{Global}
-use Rattle.dbus_texts.specs.Characters.{colon}
 use Rattle.dbus_value_model.specs.Values.{ValueTree}
 use Rattle.dbus_message_model.specs.Messages.{MessageTree}
 use Rattle.dbus_message_model.specs.Lookups.{field_value, body_value}
 use Rattle.dbus_message_model.specs.declared.field_code.TheConstants as field
 use Rattle.dbus_message_model.specs.declared.message_type.TheConstants as message
 use Rattle.dbus_match.specs.declared.owner.Owner.{Owner}
-use Rattle.dbus_match.specs.Matching.{Ownership, ownerships, string_of, text_of}
+use Rattle.dbus_match.specs.declared.rule.Rule.{Rule}
+use Rattle.dbus_match.specs.Matching.{Ownership, asks_sender, ownerships, string_of, text_of}
+use Rattle.dbus_match.specs.RuleViews.{rule_pairs}
 use Rattle.dbus_command.specs.declared.selection.Selection.{Selection}
 
 -- the text is there, and it is this
@@ -30,18 +31,23 @@ bus = codes "org.freedesktop.DBus"
 abbrev pub is_change : MessageTree → Bool
 is_change m = (m.kind == message.SIGNAL) && (has_text field.SENDER m bus && (has_text field.INTERFACE m bus && has_text field.MEMBER m (codes "NameOwnerChanged")))
 
-abbrev pub is_unique : List ℕ → Bool
-is_unique [] = false
-is_unique (c ∷ cs) = c == colon
-
 -- of three STRINGs the first is the name, the second its old owner and the third its new one, which is empty if it has none
 abbrev pub told : (name old new : Option (List ℕ)) (more : Option ValueTree) → Option Ownership
-told (Some name) (Some old) (Some new) None = if is_unique name then None else Some (record { name = name; unique = new })
+told (Some name) (Some old) (Some new) None = Some (record { name = name; unique = new })
 told a b c d = None
 
--- the well-known name whose owner a message changes, and its new owner
+-- the name whose owner a message changes, and its new owner
 abbrev pub change_of : MessageTree → Option Ownership
 change_of m = if is_change m then told (string_of (body_value 0 m.body)) (string_of (body_value 1 m.body)) (string_of (body_value 2 m.body)) (body_value 3 m.body) else None
+
+-- some rule asks for messages from this name
+abbrev pub ask_sender : List (Rule Global) → List ℕ → Bool
+ask_sender rules name = list_any (λ rule. asks_sender (rule_pairs rule) name) rules
+
+-- the change, if it is of such a name: a rule does not look at the owner of another
+abbrev pub wanted : List (Rule Global) → Option Ownership → Option Ownership
+wanted rules None = None
+wanted rules (Some o) = if ask_sender rules o.name then Some o else None
 
 -- the owners of other names
 abbrev pub others : List ℕ → List Ownership → List Ownership
@@ -59,4 +65,4 @@ known selection (Some owners) = ownerships owners.items
 
 -- the owners that it knows after a message
 abbrev pub known_after : Selection → List Ownership → MessageTree → List Ownership
-known_after selection os m = if selection.learns then changed (change_of m) os else os
+known_after selection os m = if selection.learns then changed (wanted selection.rules.items (change_of m)) os else os

@@ -5,20 +5,19 @@ ghost use Rattle.dbus_message_model.specs.Lookups.{body_value};
 ghost use Rattle.dbus_message_model.specs.Messages.{MessageTree};
 ghost use Rattle.dbus_view.specs.Views.{Views};
 ghost use Rattle.dbus_match.specs.Matching.{ownerships, string_of};
-ghost use Rattle.dbus_command.specs.Learning.{change_of, changed, is_change, is_text, known, known_after, others};
+ghost use Rattle.dbus_command.specs.Learning.{ask_sender, change_of, changed, is_change, is_text, known, known_after, others};
 ghost use Rattle.dbus_command.specs.Selections.{SelectsBy};
 
 use crate::selection::Selection;
-use dbus_match::Owner;
+use dbus_match::{Owner, Rule};
 use dbus_message_model::message_type::SIGNAL;
-use dbus_texts::is_unique;
 use dbus_view::{ArgView, MessageView};
 use std::alloc::AllocError;
 
 // The name of the bus itself, and of its interface.
 const BUS: &str = "org.freedesktop.DBus";
 
-// A well-known name, and the unique name of its owner from now on, which is empty if it has none.
+// A name, and the unique name of its owner from now on, which is empty if it has none.
 #[derive(Clone, Copy)]
 struct Change<'a> {
     name: &'a str,
@@ -38,8 +37,8 @@ impl Selection {
         }
     }
 
-    /// Learns what the message tells of the owner of a name, if the selection learns: a signal `NameOwnerChanged` of the bus. `learned` is what
-    /// [`Selection::selects_knowing`] asks of the messages after it; at first it is `None`.
+    /// Learns what the message tells of the owner of a name that a rule's `sender` is, if the selection learns: a signal `NameOwnerChanged`
+    /// of the bus. `learned` is what [`Selection::selects_knowing`] asks of the messages after it; at first it is `None`.
     /// D-Bus Specification, "Message Bus Messages".
     ///
     /// `AllocError`: an allocation failed. Then `learned` is `None`.
@@ -58,6 +57,10 @@ impl Selection {
         let Some(change) = change_told(view) else {
             return Ok(());
         };
+        // So no more names are kept than the rules have.
+        if !ask_sender(&self.rules, change.name) {
+            return Ok(());
+        }
         let mut owners = self.take_known(learned)?;
         set_owner(&mut owners, change.name, change.unique)?;
         *learned = Some(owners);
@@ -112,10 +115,17 @@ fn change_told<'a>(view: &MessageView<'a>) -> Option<Change<'a>>
     let name = string_seen(view, 0)?;
     string_seen(view, 1)?;
     let unique = string_seen(view, 2)?;
-    if view.arg(3).is_some() || is_unique(name.as_bytes()) {
+    if view.arg(3).is_some() {
         return None;
     }
     Some(Change { name, unique })
+}
+
+// Whether one of the rules asks for messages from this name.
+fn ask_sender(rules: &[Rule], name: &str) -> bool
+    ensures { result ≡ ask_sender rules.now name.now }
+{
+    rules.iter().any(|rule| rule.asks_sender(name))
 }
 
 // The text of argument `n`, if that is a STRING.

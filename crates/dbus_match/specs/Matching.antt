@@ -1,7 +1,8 @@
 -- When a rule matches a message: each of its keys holds.
 -- D-Bus Specification, "Match Rules"; the owners of well-known names are a list that the caller hands in.
-use Rattle.std.specs.Prelude.{◌≡◌, ℕ, ◌⊎◌, Option, Some, None, List, [], ◌∷◌, ◌++◌, map, string_bytes, ◌==◌, if◌then◌else◌, codes}
+use Rattle.std.specs.Prelude.{◌≡◌, ℕ, ◌⊎◌, Option, Some, None, List, [], ◌∷◌, ◌++◌, map, string_bytes, ◌==◌, ◌&&◌, Bool, true, false, if◌then◌else◌, codes}
 use Rattle.std.specs.List.{AllByRecursion}
+use Rattle.std.specs.Str.{bytes_eq}
 use Rattle.dbus_texts.specs.Characters.{slash, dot}
 use Rattle.dbus_texts.specs.Types.{STRING, OBJECT_PATH}
 use Rattle.dbus_value_model.specs.Values.{ValueTree, TextValue}
@@ -101,3 +102,16 @@ HoldsAt Eavesdrop v m os = Unit {0}
 
 abbrev pub Matches : List Pair → MessageTree → List Ownership → Type 0
 Matches ps m os = AllByRecursion (λ p. HoldsAt p.key p.value m os) ps
+
+abbrev pub is_sender : Key → Bool
+is_sender Sender = true
+is_sender k = false
+
+-- a pair asks for messages from this name
+abbrev pub is_from : Pair → List ℕ → Bool
+is_from p name = is_sender p.key && bytes_eq p.value name
+
+-- some pair of a rule does
+abbrev pub asks_sender : List Pair → List ℕ → Bool
+asks_sender [] name = false
+asks_sender (p ∷ ps) name = if is_from p name then true else asks_sender ps name
