@@ -11,5 +11,6 @@ pub mod CheckSteps
 pub mod PartLaws
 pub mod WriteSteps
 pub mod GoSteps
+pub mod GoEnds
 pub mod GoClosing
 pub mod RunSteps

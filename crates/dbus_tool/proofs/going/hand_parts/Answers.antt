@@ -1,6 +1,7 @@
 use Rattle.std.proofs.Common.{◌≡◌, Ok, arith, refl, ◌∙◌}
 use Rattle.dbus_stream.specs.RawReading.{done_of}
-use Rattle.dbus_tool.proofs.GoSteps.{gone_none, within, done_small, grows, reach, stop_hand, finished, more_told, not_told, halts, stays, breaks, goes_on}
+use Rattle.dbus_tool.proofs.GoEnds.{finished, more_told, not_told, halts, stays, breaks, goes_on}
+use Rattle.dbus_tool.proofs.GoSteps.{gone_none, within, done_small, grows, reach, stop_hand}
 use Rattle.dbus_tool.proofs.going.hand_parts.Goals as goal
 
 pub parts-init : goal.parts-init
