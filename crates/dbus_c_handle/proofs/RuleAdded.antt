@@ -1,5 +1,5 @@
 -- A rule that comes to what was kept comes to the rules that were kept.
-use Rattle.std.proofs.Common.{◌≡◌, refl, ℕ, ◌+◌, List, Option, Result, Ok, Err, MatchResult, ap, subst, sym, ◌∙◌}
+use Rattle.std.proofs.Common.{◌≡◌, ℕ, ◌+◌, List, Option, Result, Ok, Err, MatchResult, ap, subst, sym, ◌∙◌}
 use Rattle.std.specs.declared.alloc.Global.{Global}
 use Rattle.dbus_match.specs.RuleReadings.{IsRuleFault}
 use Rattle.dbus_match.specs.Rules.{SpellsRule}
