@@ -25,6 +25,7 @@
 # make wrong-bodies prints the wrong bodies that the prover refuses, and what refuses each
 # make instructions prints the instructions per byte of each command, by valgrind, and of libdbus if its headers are there
 # make bench       MB/s of each command on several streams, by user and system time, and of the calls of the libraries
+# make bench-c     nanoseconds of calls of the library for C, and of a set of 100,000 match rules
 
 PREFIX ?= /usr/local
 BINDIR ?= $(PREFIX)/bin
@@ -57,7 +58,7 @@ ARGS = check
 FILE = samples/session.dbus
 
 .PHONY: kit run quick-test build library test test-c test-python test-memory gate-times wrong-bodies api definitions definitions-check \
-	doc-examples readme-test peers instructions bench install install-program install-c install-shared install-dev install-python install-notices uninstall deb tarball
+	doc-examples readme-test peers instructions bench bench-c install install-program install-c install-shared install-dev install-python install-notices uninstall deb tarball
 
 run: kit
 	@echo "dbus-wire without its proofs (make build proves it), which takes at most 64 MiB in and gives 1 MiB out:" >&2
@@ -129,6 +130,10 @@ instructions: build
 bench: build
 	bench/commands.sh $(PROGRAM)
 	cd crates/dbus_bench && rt run -- 64 < ../../samples/session.dbus
+
+bench-c: library
+	$(CC) -std=c99 -D_GNU_SOURCE -O2 -Iinclude -o out/calls bench/calls.c $(ARCHIVE)
+	head -c 169 samples/session.dbus | out/calls 100000
 
 install: install-program install-c
 

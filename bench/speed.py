@@ -1,6 +1,6 @@
 #!/usr/bin/env python3
-"""speed.py PROGRAM [LIBDBUS]: MB per second of user and system time of each command of PROGRAM, of a check in plain C
-(plain_check.c), and of LIBDBUS, a build of libdbus.c.
+"""speed.py PROGRAM [PEER..]: MB per second of user and system time of each command of PROGRAM, of a check in plain C
+(plain_check.c), and of each PEER, a build of libdbus.c or gdbus.c.
 
 The streams are the sample captures and the shapes of shapes.py, each repeated to about 32 MB, and one message of 64 MB. Each
 command line is run once to warm up and then five times; a row has the median of these and, in brackets, the best.
@@ -79,14 +79,13 @@ def speed(command_line, path):
 
 
 def main():
-    program, *libdbus = sys.argv[1:]
+    program, *peers = sys.argv[1:]
     command_lines = {name: (program, *words) for name, words in COMMANDS.items()}
     with tempfile.TemporaryDirectory() as folder:
         plain = os.path.join(folder, "plain")
         subprocess.run(["cc", "-O2", os.path.join(HERE, "plain_check.c"), "-o", plain], check=True)
         command_lines["plain C"] = (plain,)
-        if libdbus:
-            command_lines["libdbus"] = tuple(libdbus)
+        command_lines.update({os.path.basename(peer): (peer,) for peer in peers})
         print(f"{'MB/s':14}" + "".join(f"{name:>14}" for name in command_lines))
         for name, path in write_streams(folder).items():
             print(f"{name:14}" + "".join(f"{speed(line, path):>14}" for line in command_lines.values()), flush=True)
