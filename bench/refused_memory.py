@@ -30,6 +30,7 @@ COMMAND_LINES = (
     (("filter", "arg64='x'"), 1),
     (("filter", "type='signal'", "type='error'", "--invert", "--owner", "org.a.B=:1.7"), 1),
     (("filter", "", "--owner=org.a.B"), 1),
+    (("filter", "sender=':1.3'", "sender=':1.4'", "--learn-owners"), 1),
     (("swap",), 1),
     (("swap", "--to", "M"), 1),
     (("show", "--depth"), 36),
