@@ -212,9 +212,9 @@ impl<'a> Message<'a> {
     /// All values of the body, and all that is within them, in one row: each container comes before its parts, and an array of numbers
     /// is one item. `include/dbus_wire.h` says what each member is.
     pub fn flatten(&self) -> Vec<FlatItem> {
-        let (limits, mut items, mut count) = (Limits::default().raw(), Vec::new(), 0);
+        // Most bodies have no more items, and then one call is enough.
+        let (limits, mut items, mut count) = (Limits::default().raw(), vec![FlatItem::default(); 64], 0);
         loop {
-            items.resize(count as usize, FlatItem::default());
             // SAFETY: a slice, a vector's items and references, as `sys` says.
             let answer = unsafe {
                 let (bytes, room) = (self.bytes, items.len());
@@ -222,8 +222,10 @@ impl<'a> Message<'a> {
             };
             if answer != sys::DBUS_WIRE_NO_ROOM {
                 assert_eq!(answer, sys::DBUS_WIRE_WHOLE, "a message within limits is one within the specification's");
+                items.truncate(count as usize);
                 return items;
             }
+            items.resize(count as usize, FlatItem::default());
         }
     }
 
