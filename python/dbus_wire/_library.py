@@ -68,6 +68,13 @@ class Field(ctypes.Structure):
     _fields_ = [("code", c_uint32), ("reserved", c_uint32), ("value", Item)]
 
 
+class FlatItem(ctypes.Structure):
+    _fields_ = [
+        *((name, c_uint64) for name in ("number", "offset", "length")),
+        *((name, c_uint32) for name in ("code", "element")),
+    ]
+
+
 class Writer(ctypes.Structure):
     _fields_ = [("length", c_uint64), ("order", c_uint32), ("reserved", c_uint32)]
 
@@ -120,7 +127,7 @@ _CALLS = {
     "specification_limits": (None, POINTER(Limits)),
     "check": (c_uint32, *_MESSAGE, POINTER(Checked)),
     "parts_of": (c_uint32, *_MESSAGE, POINTER(Parts)),
-    "body_cursor": (c_uint32, *_MESSAGE, POINTER(Cursor)),
+    "flatten": (c_uint32, *_MESSAGE, POINTER(FlatItem), c_size_t, POINTER(c_uint64)),
     "next": (c_uint32, c_char_p, c_size_t, POINTER(Cursor), POINTER(Item)),
     "fields_cursor": (c_uint32, *_MESSAGE, POINTER(Cursor)),
     "next_field": (c_uint32, c_char_p, c_size_t, POINTER(Cursor), POINTER(Field)),

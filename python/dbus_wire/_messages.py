@@ -12,9 +12,9 @@ from typing import Any, BinaryIO, Iterator, NoReturn
 
 from . import _library
 from ._errors import refused, truncated
-from ._library import FIXED_HEADER_LENGTH, NO_MEMORY, OK, PARTIAL, REASON_TRAILING, REFUSED, WHOLE, Bytes, as_bytes, library
+from ._library import FIXED_HEADER_LENGTH, NO_MEMORY, NO_ROOM, OK, PARTIAL, REASON_TRAILING, REFUSED, WHOLE, Bytes, as_bytes, library
 from ._limits import Limits, limits_struct
-from ._values import ObjectPath, Signature, fields_at, text_at, values_at
+from ._values import ObjectPath, Signature, fields_at, text_at, values_of
 
 # The most bytes that one read asks for, so that a length that is only stated takes no memory.
 _PIECE = 1 << 20
@@ -123,9 +123,11 @@ class Message:
         No entry of a dictionary is lost: if Python finds two of its keys equal, as it does 0.0 and -0.0, it is the list of its pairs,
         in their order. (The specification has keys differ, and does not ask readers to look.)
         """
-        cursor = _library.Cursor()
-        library.dbus_wire_body_cursor(self.data, len(self.data), byref(limits_struct(None)), byref(cursor))
-        return list(values_at(self.data, cursor))
+        data, limits, count = self.data, byref(limits_struct(None)), ctypes.c_uint64()
+        items = (_library.FlatItem * 64)()
+        while library.dbus_wire_flatten(data, len(data), limits, items, len(items), byref(count)) == NO_ROOM:
+            items = (_library.FlatItem * count.value)()
+        return values_of(data, self.order, memoryview(items).cast("B")[: count.value * ctypes.sizeof(_library.FlatItem)])
 
     @cached_property
     def header_fields(self) -> list[tuple[int, Any]]:

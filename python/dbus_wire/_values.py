@@ -3,6 +3,7 @@
 from __future__ import annotations
 
 import ctypes
+import struct
 from ctypes import byref
 from dataclasses import dataclass
 from typing import Any, Callable, Iterator
@@ -63,18 +64,21 @@ _NUMBERS: dict[int, Callable[[int], Any]] = {
     ord("h"): UnixFd,
 }
 _TEXTS: dict[int, Callable[[str], str]] = {ord("s"): str, ord("o"): ObjectPath, ord("g"): Signature}
+_VARIANT, _ARRAY, _ENTRY = b"va{"
+# What `struct` calls the elements of an array of numbers, and how many bytes each has.
+_FORMS = {ord(code): (form, struct.calcsize(f"={form}")) for code, form in zip("bnqiuxtdh", "IhHiIqQdI")}
+# A FlatItem: its number, its place and its length, its code, and its elements' first code.
+_ITEM = struct.Struct("=3Q2I")
 
 
 def text_at(data: bytes, offset: int, length: int) -> str:
     return data[offset : offset + length].decode("utf-8")
 
 
-def values_at(data: bytes, cursor: Cursor) -> Iterator[Any]:
-    """The values that are left at the cursor, which moves past each of them."""
-    item, take, length = Item(), library.dbus_wire_next, len(data)
-    at, out = byref(cursor), byref(item)
-    while take(data, length, at, out) == WHOLE:
-        yield _value(data, item)
+def values_of(data: bytes, order: str, items: memoryview) -> list[Any]:
+    """The values of the message's body, of which the bytes are the FlatItems."""
+    rows = list(_ITEM.iter_unpack(items))
+    return _values_of(data, order, rows, 0, len(rows))
 
 
 def fields_at(data: bytes, cursor: Cursor) -> Iterator[tuple[int, Any]]:
@@ -84,24 +88,54 @@ def fields_at(data: bytes, cursor: Cursor) -> Iterator[tuple[int, Any]]:
         yield field.code, _value(data, field.value)
 
 
+def _values_of(data: bytes, order: str, rows: list[tuple[int, ...]], at: int, end: int) -> list[Any]:
+    values = []
+    while at < end:
+        number, offset, length, code, element = rows[at]
+        at += 1
+        if code in _NUMBERS or code in _TEXTS:
+            values.append(_basic(data, code, number, offset, length))
+        elif code == _ARRAY and element in _FORMS:
+            values.append(_numbers(data[offset : offset + length], order, element))
+        elif code == _ARRAY and element == ord("y"):
+            values.append(data[offset : offset + length])
+        else:
+            parts = _values_of(data, order, rows, at, at + number)
+            signature = text_at(data, offset, length) if code == _VARIANT else ""
+            values.append(_container(code, signature, parts, element))
+            at += number
+    return values
+
+
+def _numbers(data: bytes, order: str, code: int) -> list[Any]:
+    form, size = _FORMS[code]
+    numbers = struct.unpack(f"{'<' if order == 'l' else '>'}{len(data) // size}{form}", data)
+    return list(map(_NUMBERS[code], numbers)) if code in b"bh" else list(numbers)
+
+
 def _value(data: bytes, item: Item) -> Any:
     code = item.code
-    if code in _NUMBERS:
-        return _NUMBERS[code](item.number)
-    if code in _TEXTS:
-        return _TEXTS[code](text_at(data, item.offset, item.length))
+    if code in _NUMBERS or code in _TEXTS:
+        return _basic(data, code, item.number, item.offset, item.length)
     types = text_at(data, item.parts.types, item.parts.types_length)
-    if code == ord("a"):
-        return _array(data, item, types)
-    parts = tuple(values_at(data, item.parts))
-    return Variant(Signature(types), parts[0]) if code == ord("v") else parts
-
-
-def _array(data: bytes, item: Item, types: str) -> bytes | list[Any] | dict[Any, Any]:
-    if types == "ay":
+    if code == _ARRAY and types == "ay":
         return data[item.offset : item.offset + item.length]
-    elements = list(values_at(data, item.parts))
-    if not types.startswith("a{"):
-        return elements
-    entries = dict(elements)
-    return entries if len(entries) == len(elements) else elements
+    one, parts = Item(), []
+    while library.dbus_wire_next(data, len(data), byref(item.parts), byref(one)) == WHOLE:
+        parts.append(_value(data, one))
+    return _container(code, types, parts, ord(types[1]) if code == _ARRAY else 0)
+
+
+def _basic(data: bytes, code: int, number: int, offset: int, length: int) -> Any:
+    return _NUMBERS[code](number) if code in _NUMBERS else _TEXTS[code](text_at(data, offset, length))
+
+
+def _container(code: int, signature: str, parts: list[Any], element: int) -> Any:
+    if code == _VARIANT:
+        return Variant(Signature(signature), parts[0])
+    if code != _ARRAY:
+        return tuple(parts)
+    if element != _ENTRY:
+        return parts
+    entries = dict(parts)
+    return entries if len(entries) == len(parts) else parts
