@@ -42,6 +42,23 @@ for sample in session big-endian; do
 	for name in room threads; do "$built/$name" < "$here/../samples/$sample.dbus"; done
 	for length in 1 64 4096; do "$built/pieces" $length < "$here/../samples/$sample.dbus"; done
 done
+# Each growth is refused in turn: a caller ends by a status of its own, and has written a front of what it writes else.
+"$CC" -shared -fPIC -O2 -o "$built/refuse_nth.so" "$here/../bench/refuse_nth.c" -ldl
+try_growths() {
+	name=$1
+	shift
+	"$CC" -std=c99 -O2 $flags -o "$built/plain_$name" "$here/c/$name.c" -L"$built" -ldbus_wire
+	"$built/plain_$name" "$@" < "$here/../samples/session.dbus" > "$built/whole" || true
+	for nth in $(seq 60); do
+		status=0
+		REFUSE_NTH=$nth LD_PRELOAD=$built/refuse_nth.so "$built/plain_$name" "$@" < "$here/../samples/session.dbus" > "$built/front" 2> "$built/said" || status=$?
+		test "$status" -lt 126
+		head -c "$(stat -c %s "$built/front")" "$built/whole" | cmp - "$built/front"
+	done
+}
+try_growths rules "sender='org.a.B',member='NameOwnerChanged'" org.a.B=org.freedesktop.DBus
+try_growths pieces 64
+try_growths build again
 # Both ends of a handshake: one with the other, a client with a bus, and a server with a client of libdbus.
 "$CC" $sanitized -D_GNU_SOURCE -o "$built/handshake" "$here/c/handshake.c" -L"$built" -ldbus_wire
 for length in 1 7 4096; do "$built/handshake" pieces $length; done
