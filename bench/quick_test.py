@@ -74,6 +74,9 @@ def run(name):
 
 
 def main(*names):
+    if unknown := [it for it in names if it not in read_crates()]:
+        print(f"crates.txt has no {', '.join(unknown)}", file=sys.stderr)
+        return 2
     names = names or [it for it in read_crates() if (folder_of(it) / "stdout").exists() or has_tests(folder_of(it))]
     with futures.ThreadPoolExecutor(lanes()) as pool:
         counts = collections.Counter(pool.map(run, names))
