@@ -13,6 +13,7 @@ use Rattle.dbus_c_build.specs.declared.placed.Place.{Place}
 use Rattle.dbus_c_build.specs.declared.placed.PlacedParts.{PlacedParts}
 use Rattle.dbus_c_build.specs.declared.refusal.Refusal.{Refusal}
 use Rattle.dbus_c_build.specs.declared.refusal.Refusal.TheVariants as refusals
+use Rattle.dbus_c_build.proofs.OnlyMessage.{one_order}
 use Rattle.dbus_c.specs.Building.{AreNoParts, Builds, built, no_room, StandFor, StandForNone, place_given, refusal_told, field_told}
 use Rattle.dbus_c.specs.Building as builds
 use Rattle.dbus_c.specs.Checking.{whole_told}
@@ -57,12 +58,6 @@ stands_for w p s =
     ∙ ap (λ (x : Option Place). made p.order w.kind w.flags w.serial w.reply_serial w.unix_fds (place_given w.path) (place_given w.interface) (place_given w.member) (place_given w.error_name) (place_given w.destination) x p.signature p.body) s.sender
     ∙ ap (λ (x : Option Place). made p.order w.kind w.flags w.serial w.reply_serial w.unix_fds (place_given w.path) (place_given w.interface) (place_given w.member) (place_given w.error_name) (place_given w.destination) (place_given w.sender) x p.body) s.signature
     ∙ ap (λ (x : Place). made p.order w.kind w.flags w.serial w.reply_serial w.unix_fds (place_given w.path) (place_given w.interface) (place_given w.member) (place_given w.error_name) (place_given w.destination) (place_given w.sender) (place_given w.signature) x) s.body.1
-
-one_order : (order other : Order) → order_byte order ≡ order_byte other → order ≡ other
-one_order Little Little same = refl
-one_order Little Big same = absurd (omega (arith, same))
-one_order Big Little same = absurd (omega (arith, same))
-one_order Big Big same = refl
 
 stands_once : (w : Parts) (p q : PlacedParts) → StandFor w p → StandFor w q → p ≡ q
 stands_once w p q s t = stands_for w p s ∙ ap (λ (o : Order). stood_for o w) (one_order p.order q.order (sym s.order ∙ t.order)) ∙ sym (stands_for w q t)

@@ -1,6 +1,6 @@
 mod Cancelling
 mod SameFields
 mod PlainFields
-mod OnlyMessage
+pub mod OnlyMessage
 mod Spelling
 mod Refusing

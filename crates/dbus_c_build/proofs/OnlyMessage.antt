@@ -59,7 +59,8 @@ in_parts order kind flags serial fs body rest =
     ap (λ (a : List ℕ). (order_byte order ∷ (num order 1 kind ++ (num order 1 flags ++ (num order 1 1 ++ (num order 4 (length body) ++ (num order 4 serial ++ (a ++ (pad 8 (fields_end order fs) ++ body)))))))) ++ rest) (array_is order fs)
     ∙ simp append_assoc
 
-one_order : (order other : Order) → order_byte order ≡ order_byte other → order ≡ other
+-- the byte of an order names it
+pub one_order : (order other : Order) → order_byte order ≡ order_byte other → order ≡ other
 one_order Little Little same = refl
 one_order Little Big same = absurd (omega (arith, same))
 one_order Big Little same = absurd (omega (arith, same))

@@ -9,7 +9,8 @@ use Rattle.dbus_value_model.specs.Bytes.{num, pad}
 use Rattle.dbus_value_model.specs.Spelling.{spelling, spellings}
 use Rattle.dbus_value_model.specs.Values.{ValueTrees, NoValues, TextValue, value_trees, type_of}
 use Rattle.dbus_value_model.proofs.Numbers.{length-num}
-use Rattle.dbus_marshal.proofs.Written.{padding_is, written_none, written_more, written_path, num_1}
+use Rattle.dbus_value_model.proofs.OneByte.{num_1}
+use Rattle.dbus_marshal.proofs.Written.{padding_is, written_none, written_more, written_path}
 use Rattle.dbus_message_model.specs.Messages.{FieldTree, field_struct, field_array, fields_end, order_byte}
 use Rattle.dbus_encode.proofs.FieldWriting.{before_value, field_written}
 use Rattle.dbus_c_build.specs.Placed.{text_at, text_code, text_value, text_field, number_field, number_value, fields_of}

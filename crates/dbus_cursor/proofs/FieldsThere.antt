@@ -14,6 +14,7 @@ use Rattle.dbus_value_model.specs.Spelling.{spelling, spellings, IsWithinLimits,
 use Rattle.dbus_value_model.specs.Values.{ValueTree, StructValue, NumberValue, VariantValue, NoValues, MoreValues, type_of, IsWellFormed}
 use Rattle.dbus_value_model.proofs.Indexes.{any_below}
 use Rattle.dbus_value_model.proofs.Numbers.{length-num}
+use Rattle.dbus_value_model.proofs.Gaps.{no_gap}
 use Rattle.dbus_value_laws.proofs.ValueOutcomes.{one_value}
 use Rattle.dbus_value_validator.specs.Endings.{IsSpelledTo}
 use Rattle.dbus_message_model.specs.Messages.{FieldTree, field_struct, field_type}
@@ -24,7 +25,6 @@ use Rattle.dbus_walk.specs.declared.fields.FieldSpot.{FieldSpot}
 use Rattle.dbus_walk.specs.declared.spot.Source.{Source}
 use Rattle.dbus_walk.proofs.FieldParts.{FieldApart, field_apart}
 use Rattle.dbus_walk.proofs.Lists.{none_ends, some_ends, first_element, other_elements}
-use Rattle.dbus_walk.proofs.Parts.{no_gap}
 use Rattle.dbus_walk.proofs.Seams.{there_within, stands_after, stands_positive}
 use Rattle.dbus_cursor.specs.Cursors.{AreAt}
 use Rattle.dbus_cursor.specs.FieldCursors.{FieldsStandAt, AreFieldsAt, IsFirstField, structs, at_field}

@@ -11,13 +11,14 @@ use Rattle.dbus_value_model.specs.Reading.{number_of}
 use Rattle.dbus_value_model.specs.declared.order.Order.{Order}
 use Rattle.dbus_value_model.specs.Spelling.{spellings, contents_start}
 use Rattle.dbus_value_model.specs.Values.{ValueTree, VariantValue, StructValue, EntryValue, type_of, types_of, value_trees}
+use Rattle.dbus_value_model.proofs.Gaps.{no_gap}
 use Rattle.dbus_walk.specs.declared.container.Container.{Container}
 use Rattle.dbus_walk.specs.declared.container.Container.TheVariants as kind
 use Rattle.dbus_walk.specs.Containers.{IsOf, parts}
 use Rattle.dbus_walk.specs.Standing.{Stands}
 use Rattle.dbus_walk.specs.Widths.{number_width}
 use Rattle.dbus_walk.proofs.Containers.{ArrayStands}
-use Rattle.dbus_walk.proofs.Parts.{NumberStands, TextStands, no_gap}
+use Rattle.dbus_walk.proofs.Parts.{NumberStands, TextStands}
 use Rattle.dbus_walk.proofs.ReadThere.{number_read}
 use Rattle.dbus_cursor.specs.declared.flat_item.FlatItem.{FlatItem}
 use Rattle.dbus_cursor.specs.declared.flattener.Flattener.{Flattener}

@@ -32,6 +32,7 @@ use Rattle.dbus_value_laws.proofs.ReadSteps.{text_fits}
 use Rattle.dbus_value_laws.proofs.Composition.{number_to, number_from, text_to, text_from}
 use Rattle.dbus_value_laws.proofs.ValueItemLaws.{Agrees-value, value_inside, positive}
 use Rattle.dbus_value_model.specs.declared.fault.Reason.TheVariants as reasons
+use Rattle.dbus_value_model.proofs.Gaps.{no_gap}
 
 -- ---- what is wanted of a code
 
@@ -129,10 +130,6 @@ code_row_fits before p n e = elim (chosen (eqb n 0) _ _ _ e) [
 
 fits_code_row : (before : List FieldTree) (p n : ℕ) → 0 < n → is_known n && has_code n before ≡ false → code_row before p n ≡ None
 fits_code_row before p n h e = let other : eqb n 0 ≡ false = ne_eqb n 0 (omega arith) in rw (other, e) refl
-
-no_gap : (o : ℕ) → gap_to 1 o ≡ 0
-unfolding gap_to
-no_gap o = omega arith
 
 -- ---- opening
 

@@ -1,7 +1,6 @@
 pub mod Joining
 pub mod Sizing
 pub mod Signing
-pub mod Measuring
 pub mod Written
 pub mod Patching
 pub mod Spells

@@ -13,8 +13,10 @@ use Rattle.dbus_value_model.specs.ValueViews.{value_tree, value_trees_of, byte_v
 use Rattle.dbus_value_model.specs.declared.value.Value.{Value, Path}
 use Rattle.dbus_value_model.proofs.ValueRows.{tree-Path}
 use Rattle.dbus_value_model.proofs.Numbers.{length-num}
+use Rattle.dbus_value_model.proofs.Gaps.{no_gap}
+use Rattle.dbus_value_model.proofs.OneByte.{num_1, byte_spelled}
 use Rattle.dbus_marshal.proofs.Signing.{trees}
-use Rattle.dbus_marshal.proofs.Written.{length_value, length_number, written_number, written_path, written_none, written_more, num_1, no_gap}
+use Rattle.dbus_marshal.proofs.Written.{length_value, length_number, written_number, written_path, written_none, written_more}
 
 pub writes-Path : {A : Type 0} (order : Order) (s : String A) (front : List ℕ) → with_value order (value_tree {A = A} (Path s)) front ≡ with_value order (TextValue STRING (string_bytes s)) front
 writes-Path order s front = ap (λ (v : ValueTree). with_value order v front) (tree-Path s) ∙ written_path order (string_bytes s) front
@@ -30,10 +32,6 @@ pub writes_end : {A : Type 0} (order : Order) (vs : List (Value A)) (i : ℕ) (f
 writes_end {A} order vs i front le = at_drop_all (λ (l : List (Value A)). with_values order (value_trees_of l) front) vs i le ∙ written_none order front
 
 -- ---- an array of bytes
-
-byte_spelled : (order : Order) (o b : ℕ) → b < 256 → spelling order o (NumberValue BYTE b) ≡ b ∷ []
-unfolding spelling
-byte_spelled order o b h = ap (λ (n : ℕ). replicate n 0 ++ num order 1 b) (no_gap o) ∙ num_1 order b h
 
 bytes_spelled : (order : Order) (o : ℕ) (bs : List ℕ) → ((i : ℕ) → get_or bs i 0 < 256) → spellings order o (byte_values bs) ≡ bs
 unfolding spellings

@@ -12,6 +12,8 @@ use Rattle.dbus_value_model.specs.Spelling.{ended_text, spelling, spellings}
 use Rattle.dbus_value_model.specs.Appending.{with_padding, with_value, with_values}
 use Rattle.dbus_value_model.proofs.NumberBytes.{num_64_little, num_64_big}
 use Rattle.dbus_value_model.proofs.Numbers.{length-num}
+use Rattle.dbus_value_model.proofs.Gaps.{no_gap}
+use Rattle.dbus_value_model.proofs.OneByte.{num_1}
 
 -- ---- lengths
 
@@ -139,16 +141,6 @@ pub written_whole : (out rest x : List ℕ) (end : ℕ) → end ≤ length out �
 written_whole out rest x end within written long =
     let ends : length out ≤ end = omega (arith, ap length written, length-take-le end out within) in
     take_at out rest (length out) refl ∙ sym (take_all end out ends) ∙ written
-
--- the length of a signature
-pub num_1 : (order : Order) (n : ℕ) → n < 256 → num order 1 n ≡ n ∷ []
-unfolding num low_first
-num_1 Little n h = let e : n % 256 ≡ n = omega arith in ap (λ (m : ℕ). m ∷ []) e
-num_1 Big n h = let e : n % 256 ≡ n = omega arith in ap (λ (m : ℕ). m ∷ []) e
-
-pub no_gap : (o : ℕ) → gap_to 1 o ≡ 0
-unfolding gap_to
-no_gap o = omega arith
 
 pub no_padding : (front : List ℕ) → with_padding 1 front ≡ front
 unfolding with_padding

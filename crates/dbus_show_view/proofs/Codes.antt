@@ -11,9 +11,10 @@ use Rattle.dbus_value_model.specs.declared.order.Order.TheVariants.{Little, Big}
 use Rattle.dbus_value_model.specs.Spelling.{spelling, spellings}
 use Rattle.dbus_value_model.specs.Values.{ValueTree, ValueTrees, NoValues, MoreValues, NumberValue, AllOf, IsWellFormed, AreWellFormed}
 use Rattle.dbus_types.specs.SignatureCodes.{first_code}
+use Rattle.dbus_value_model.proofs.Gaps.{no_gap}
+use Rattle.dbus_value_model.proofs.OneByte.{byte_spelled}
 use Rattle.dbus_show.specs.ShownValues.{bytes_in}
 use Rattle.dbus_walk.proofs.NumberFacts.{number_of_type}
-use Rattle.dbus_walk.proofs.Parts.{no_gap}
 
 -- ---- a type's text is ASCII
 
@@ -60,15 +61,6 @@ not_byte t h = refl
 pub double_code : (k : NumberCode) → number_code k ≡ 100 → k ≡ DOUBLE
 double_code DOUBLE e = refl
 double_code k e = absurd (omega arith)
-
-one_num : (order : Order) (n : ℕ) → n < 256 → num order 1 n ≡ n ∷ []
-unfolding num low_first
-one_num Little n h = let same : n % 256 ≡ n = omega arith in ap (λ (k : ℕ). k ∷ []) same
-one_num Big n h = let same : n % 256 ≡ n = omega arith in ap (λ (k : ℕ). k ∷ []) same
-
-byte_spelled : (order : Order) (o n : ℕ) → n < 256 → spelling order o (NumberValue BYTE n) ≡ n ∷ []
-unfolding spelling
-byte_spelled order o n h = ap (λ (g : ℕ). replicate g 0 ++ num order 1 n) (no_gap o) ∙ one_num order n h
 
 pub bytes_spelled : (order : Order) (depth_left o : ℕ) (xs : ValueTrees) → AllOf (NumberType BYTE) xs → AreWellFormed depth_left xs → spellings order o xs ≡ bytes_in xs
 unfolding spellings

@@ -7,7 +7,7 @@ pub struct_leaves : (ts : TypeTrees) (inside : Bool) (a s n : ℕ) (r : Option �
 struct_leaves ts inside a s n (Some r) l m w h = ((l, w, h.0), omega (arith, h.1, length-append (sigs ts) (41 ∷ [])))
 struct_leaves ts inside a s n None l m w h = λ c. let k = h c.2 in omega (arith, k, length-append (sigs ts) (41 ∷ []))
 
-basic_length : (t : TypeTree) → IsBasic t → length (sig t) ≡ 1
+pub basic_length : (t : TypeTree) → IsBasic t → length (sig t) ≡ 1
 basic_length (NumberType n) h = omega arith
 basic_length (TextType n) h = omega arith
 basic_length VariantType h = absurd h

@@ -16,5 +16,7 @@ pub mod ShortLaws
 pub mod PartRanges
 pub mod FreeNumbers
 pub mod Gaps
+pub mod OneByte
+pub mod Measuring
 pub mod Items
 pub mod Periods

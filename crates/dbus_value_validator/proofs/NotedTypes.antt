@@ -10,6 +10,7 @@ use Rattle.dbus_texts.proofs.Codes.{basic_is_code, coded_signature, coded_single
 use Rattle.dbus_texts.proofs.TypeTexts.{sig_positive}
 use Rattle.dbus_types.specs.SignatureCodes.{IsTypeEnd, first_code}
 use Rattle.dbus_types.proofs.TypeLengths.{one_byte, first_there}
+use Rattle.dbus_types.proofs.Rooms.{basic_length}
 use Rattle.dbus_value_validator.specs.NotedTypes.{AreNoted}
 
 module _ (types lengths : List ℕ) where
@@ -34,15 +35,6 @@ one_byte_end types at lt array struct entry = λ t more e. ap (λ (i : ℕ). at 
 -- the code of a type that stands at a place
 pub first_front : (types : List ℕ) (at n : ℕ) (t : TypeTree) → at < length types → sig t ≡ take n (drop at types) → first_code t ≡ get_or types at 0
 first_front types at n t lt e = first_there types at t (drop n (drop at types)) lt (sym (take-append-drop n (drop at types)) ∙ ap (λ (l : List ℕ). l ++ drop n (drop at types)) (sym e))
-
--- and has one byte
-pub basic_long : (t : TypeTree) → IsBasic t → length (sig t) ≡ 1
-basic_long (NumberType k) h = refl
-basic_long (TextType k) h = refl
-basic_long VariantType h = absurd h
-basic_long (ArrayType u) h = absurd h
-basic_long (StructType ts) h = absurd h
-basic_long (EntryType k v) h = absurd h
 
 -- the code of a basic type is a signature, of one type
 pub one_code : (kind : TextKind) (w : List ℕ) → (kind ≡ Signature) ⊎ (kind ≡ Single) → length w ≡ 1 → is_basic_code (get_or w 0 0) ≡ true → IsKind kind w

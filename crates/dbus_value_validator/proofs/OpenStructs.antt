@@ -10,6 +10,7 @@ use Rattle.dbus_value_model.specs.Bytes.{gap_to}
 use Rattle.dbus_value_model.specs.Values.{ValueTree, MoreValues}
 use Rattle.dbus_value_model.specs.Reading.{Reader, Done, after, pure, padding, fields, value}
 use Rattle.dbus_value_model.specs.ValueReaders.{open_struct, struct_value}
+use Rattle.dbus_types.proofs.Rooms.{basic_length}
 use Rattle.dbus_value_laws.proofs.ReadSteps.{after_after, padding_is}
 use Rattle.dbus_value_laws.proofs.ValueSteps.{value_struct, shaped_inside}
 use Rattle.dbus_value_validator.specs.Endings.{Answers, EndsAt, IsNotRead}
@@ -17,7 +18,6 @@ use Rattle.dbus_value_validator.specs.Sources.{value_in, values_in}
 use Rattle.dbus_value_validator.specs.declared.source.Source.{Source}
 use Rattle.dbus_value_validator.proofs.ReadParts.{not_first, answers_same, answers_unmade, made_first}
 use Rattle.dbus_value_validator.proofs.ValueSteps.{as_struct}
-use Rattle.dbus_value_validator.proofs.NotedTypes.{basic_long}
 
 -- ---- the structs that are open: of each the types that are left in it, the innermost first
 
@@ -271,7 +271,7 @@ module _ (types : List ℕ) (pos : ℕ) (lt : pos < length types) where
   basic_there array struct variant t more e shaped =
       let code = first_there types pos t more lt e in
       let basic = plain_type t shaped (λ c. array (sym code ∙ c)) (λ c. struct (sym code ∙ c)) (λ c. variant (sym code ∙ c)) in
-      (code, basic, ap (λ (i : ℕ). pos + i) (sym (basic_long t basic)))
+      (code, basic, ap (λ (i : ℕ). pos + i) (sym (basic_length t basic)))
 
   pub variant_there : get_or types pos 0 ≡ 118 → (t : TypeTree) (more : List ℕ) → drop pos types ≡ sig t ++ more → (t ≡ VariantType) × (pos + 1 ≡ pos + length (sig t))
   variant_there code t more e =

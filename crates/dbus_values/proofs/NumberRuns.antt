@@ -11,6 +11,7 @@ use Rattle.dbus_value_model.specs.Spelling.{spelling, spellings}
 use Rattle.dbus_value_model.specs.Values.{ValueTree, ValueTrees, NumberValue, NoValues, MoreValues, type_of, value_trees, AllOf, IsWellFormed, AreWellFormed}
 use Rattle.dbus_value_model.specs.ValueViews.{byte_values}
 use Rattle.dbus_value_model.proofs.Numbers.{length-num}
+use Rattle.dbus_value_model.proofs.OneByte.{byte_spelled}
 use Rattle.dbus_walk.specs.Standing.{ElementsStand}
 use Rattle.dbus_walk.specs.Widths.{number_width}
 use Rattle.dbus_walk.proofs.Lists.{none_ends}
@@ -70,11 +71,6 @@ module _ (order : Order) (k : NumberCode) where
       subst (λ (x : ValueTree). spellings order place (MoreValues x us) ≡ pad w place ++ spellings order start (MoreValues x us)) (sym n.1) first
 
 -- ---- an array of bytes
-
-byte_spelled : (order : Order) (place n : ℕ) → n < 256 → spelling order place (NumberValue BYTE n) ≡ n ∷ []
-unfolding spelling gap_to num low_first
-byte_spelled Little place n small = let none : gap_to 1 place ≡ 0 = omega arith in let same : n % 256 ≡ n = omega arith in ap (λ (g : ℕ). replicate g 0 ++ n % 256 ∷ []) none ∙ ap (λ (b : ℕ). b ∷ []) same
-byte_spelled Big place n small = let none : gap_to 1 place ≡ 0 = omega arith in let same : n % 256 ≡ n = omega arith in ap (λ (g : ℕ). replicate g 0 ++ n % 256 ∷ []) none ∙ ap (λ (b : ℕ). b ∷ []) same
 
 byte_elements : (order : Order) (depth_left place : ℕ) (xs : ValueTrees) → AllOf (NumberType BYTE) xs → AreWellFormed depth_left xs → xs ≡ byte_values (spellings order place xs)
 unfolding spellings

@@ -13,6 +13,7 @@ use Rattle.dbus_value_model.proofs.Numbers.{length-num}
 use Rattle.dbus_value_laws.proofs.ReadSteps.{one_byte}
 use Rattle.dbus_types.specs.SignatureCodes.{first_code}
 use Rattle.dbus_types.proofs.TypeCodes.{code_is, text_is}
+use Rattle.dbus_value_model.proofs.Gaps.{no_gap}
 use Rattle.dbus_walk.specs.Standing.{Stands}
 use Rattle.dbus_walk.specs.Widths.{number_width}
 use Rattle.dbus_walk.proofs.NumberFacts.{number_of_type, number_there}
@@ -44,10 +45,6 @@ text_of_type (TextValue j t) k e = let same : j ≡ k = cc in (t, ap (λ (c : Te
 text_of_type v k e = absurd cc
 
 -- ---- numbers
-
-pub no_gap : (o : ℕ) → gap_to 1 o ≡ 0
-unfolding gap_to
-no_gap o = omega arith
 
 module _ {order : Order} {depth_left : ℕ} {types : List ℕ} {at : ℕ} {bytes : List ℕ} {v : ValueTree} {rest : List ℕ} (s : Stands order depth_left types at bytes v rest) where
   pub record NumberStands (size : ℕ) : Type 0 where

@@ -8,6 +8,7 @@ mod container;
 mod fields;
 mod layouts;
 mod lengths;
+mod nested;
 mod numbers;
 mod rows;
 mod skip;

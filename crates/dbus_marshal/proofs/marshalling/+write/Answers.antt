@@ -9,7 +9,7 @@ use Rattle.dbus_value_model.specs.Appending.{with_padding, with_value, with_valu
 use Rattle.dbus_value_model.specs.Values.{TextValue}
 use Rattle.dbus_value_model.specs.ValueViews.{value_tree, value_trees_of}
 use Rattle.dbus_value_model.specs.declared.value.Value.{the_lemmas}
-use Rattle.dbus_marshal.proofs.Measuring.{below_most_of_three}
+use Rattle.dbus_value_model.proofs.Measuring.{below_most_of_three}
 use Rattle.dbus_marshal.proofs.Patching.{array_written, length_array, array_grows, after_count}
 use Rattle.dbus_marshal.proofs.Signing.{short_more}
 use Rattle.dbus_value_model.proofs.ValueRows.{tree-Byte, tree-Bool, tree-I16, tree-U16, tree-I32, tree-U32, tree-I64, tree-U64, tree-Double, tree-Fd, tree-Array, tree-Struct, tree-Entry, tree-Sig, tree-Variant}

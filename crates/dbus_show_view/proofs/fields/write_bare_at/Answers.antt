@@ -1,8 +1,9 @@
 use Rattle.std.proofs.Common.{◌≡◌, ℕ, ◌+◌, ◌⊎◌, inl, inr, decimal, refl, subst, ◌∙◌, arith}
-use Rattle.dbus_walk.proofs.Parts.{no_gap, number_stands, long_stands, long_counts, text_ends, short_stands, short_counts, short_ends}
+use Rattle.dbus_walk.proofs.Parts.{number_stands, long_stands, long_counts, text_ends, short_stands, short_counts, short_ends}
 use Rattle.dbus_walk.proofs.ReadThere.{text_there, text_utf8}
 use Rattle.dbus_show_view.proofs.FieldParts.{bare_text, wide_4, bare_number, bare_shown}
 use Rattle.dbus_show_view.proofs.fields.write_bare_at.Goals as goal
+use Rattle.dbus_value_model.proofs.Gaps.{no_gap}
 
 -- the first test holds, or the second one does after it
 one_of : {c : ℕ} → (c ≡ 115) ⊎ ((c ≡ 115 → ⊥) × (c ≡ 111)) → (c ≡ 115) ⊎ (c ≡ 111)

@@ -1,16 +1,10 @@
 use Rattle.std.proofs.Common.{◌≡◌, ℕ, ◌+◌, ◌*◌, ◌<◌, ◌≤◌, ◌++◌, List, length, get_or, drop, sym, ap, ◌∙◌, arith, append_assoc}
-use denote.Param.Weighed.{most, at_most}
 use Rattle.std.proofs.lemmas.List.{length-append}
 use Rattle.dbus_texts.specs.Types.{sig, sigs}
 use Rattle.dbus_types.specs.SigTypes.{type_tree, type_trees_of}
 use Rattle.dbus_value_model.proofs.TypeRows.{sigs_more}
+use Rattle.dbus_value_model.proofs.Measuring.{below_most}
 use Rattle.dbus_unmarshal.proofs.type_text.+text.Goals as goal
-
-below_most : {X : Type 0} (μ : X → ℕ) (xs : List X) (i : ℕ) (x : X) → i < length xs → x ≡ get_or xs i x → 2 * μ x + 0 < 2 * most μ xs + 1
-below_most μ xs i x lt e =
-    let same : μ x ≡ μ (get_or xs i x) = ap μ e in
-    let le = at_most μ xs i x lt in
-    omega arith
 
 pub put_types-put_type-requires : goal.put_types-put_type-requires
 put_types-put_type-requires g t c κs within =

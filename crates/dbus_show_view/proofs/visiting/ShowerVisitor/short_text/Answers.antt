@@ -1,8 +1,9 @@
 use Rattle.std.proofs.Common.{◌+◌, refl, sym, ◌∙◌, arith}
-use Rattle.dbus_walk.proofs.Parts.{no_gap, short_stands, short_counts}
+use Rattle.dbus_walk.proofs.Parts.{short_stands, short_counts}
 use Rattle.dbus_walk.proofs.ReadThere.{text_there, text_utf8}
 use Rattle.dbus_show_view.proofs.Shown.{text_shown}
 use Rattle.dbus_show_view.proofs.visiting.ShowerVisitor.short_text.Goals as goal
+use Rattle.dbus_value_model.proofs.Gaps.{no_gap}
 
 pub overflow_add-spot : goal.overflow_add-spot
 overflow_add-spot g c = let is = short_counts c.requires.stands.2 (short_stands c.requires.stands.2 c.requires.code) in omega (arith, is.1)
