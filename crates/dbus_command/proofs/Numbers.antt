@@ -33,13 +33,6 @@ number_or None most (Some number) is = absurd is
 number_or (Some text) most None is = absurd is
 number_or (Some text) most (Some number) is = is.0
 
--- it has 32 bits
-pub number_few : (given : Option Text) (most : ℕ) (number : Option ℕ) → most < 2 ^ 32 → IsGivenNumber given number → unwrap_or number most < 2 ^ 32
-number_few None most None few is = few
-number_few None most (Some number) few is = absurd is
-number_few (Some text) most None few is = absurd is
-number_few (Some text) most (Some number) few is = is.1
-
 -- where there is no number of 32 bits, the default is none either
 pub no_number : (given : Option Text) (most : ℕ) → GivesGiven given None → GivesNumber given most None
 no_number None most none number is = absurd (none None tt)

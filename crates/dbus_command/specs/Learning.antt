@@ -11,7 +11,7 @@ use Rattle.dbus_message_model.specs.declared.field_code.TheConstants as field
 use Rattle.dbus_message_model.specs.declared.message_type.TheConstants as message
 use Rattle.dbus_match.specs.declared.owner.Owner.{Owner}
 use Rattle.dbus_match.specs.declared.rule.Rule.{Rule}
-use Rattle.dbus_match.specs.Matching.{Ownership, asks_sender, ownerships, string_of, text_of}
+use Rattle.dbus_match.specs.Matching.{Ownership, ownerships, sender_of, string_of, text_of}
 use Rattle.dbus_match.specs.RuleViews.{rule_pairs}
 use Rattle.dbus_command.specs.declared.selection.Selection.{Selection}
 
@@ -42,7 +42,7 @@ change_of m = if is_change m then told (string_of (body_value 0 m.body)) (string
 
 -- some rule asks for messages from this name
 abbrev pub ask_sender : List (Rule Global) → List ℕ → Bool
-ask_sender rules name = list_any (λ rule. asks_sender (rule_pairs rule) name) rules
+ask_sender rules name = list_any (λ rule. is_text (sender_of (rule_pairs rule)) name) rules
 
 -- the change, if it is of such a name: a rule does not look at the owner of another
 abbrev pub wanted : List (Rule Global) → Option Ownership → Option Ownership

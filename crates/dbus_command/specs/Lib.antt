@@ -3,6 +3,7 @@ pub mod Limiting
 pub mod Owners
 pub mod Selections
 pub mod Learning
+pub mod Unowned
 pub mod Named
 pub mod Windows
 pub mod Told

@@ -15,7 +15,7 @@ use dbus_view::{ArgView, MessageView};
 use std::alloc::AllocError;
 
 // The name of the bus itself, and of its interface.
-const BUS: &str = "org.freedesktop.DBus";
+pub(crate) const BUS: &str = "org.freedesktop.DBus";
 
 // A name, and the unique name of its owner from now on, which is empty if it has none.
 #[derive(Clone, Copy)]
@@ -125,7 +125,7 @@ fn change_told<'a>(view: &MessageView<'a>) -> Option<Change<'a>>
 fn ask_sender(rules: &[Rule], name: &str) -> bool
     ensures { result ≡ ask_sender rules.now name.now }
 {
-    rules.iter().any(|rule| rule.asks_sender(name))
+    rules.iter().any(|rule| is_text(rule.sender(), name))
 }
 
 // The text of argument `n`, if that is a STRING.

@@ -15,6 +15,7 @@ mod owners;
 mod rules;
 mod selection;
 mod settings;
+mod unowned;
 mod usage_fault;
 mod window;
 mod wire;

@@ -107,11 +107,7 @@ abbrev pub is_sender : Key → Bool
 is_sender Sender = true
 is_sender k = false
 
--- a pair asks for messages from this name
-abbrev pub is_from : Pair → List ℕ → Bool
-is_from p name = is_sender p.key && bytes_eq p.value name
-
--- some pair of a rule does
-abbrev pub asks_sender : List Pair → List ℕ → Bool
-asks_sender [] name = false
-asks_sender (p ∷ ps) name = if is_from p name then true else asks_sender ps name
+-- the sender that a rule asks for, if it asks for one
+abbrev pub sender_of : List Pair → Option (List ℕ)
+sender_of [] = None
+sender_of (p ∷ ps) = if is_sender p.key then Some p.value else sender_of ps

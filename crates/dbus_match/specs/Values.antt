@@ -47,6 +47,3 @@ pub record SpellsBefore (c w v : List ℕ) : Type 0 where
   pub are : ArePieces pieces c
   pub spelled : w ≡ pieces_text pieces
   pub value : v ≡ pieces_value pieces
-
-abbrev pub SpellsValue : List ℕ → List ℕ → Type 0
-SpellsValue w v = SpellsBefore [] w v

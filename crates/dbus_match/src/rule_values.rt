@@ -1,9 +1,9 @@
 //! The values of a rule's keys that ask for one text.
 #![tactic(auto)]
 
-ghost use Rattle.std.specs.Prelude.{◌≡◌, MatchOption};
-ghost use Rattle.dbus_match.specs.Conditions.{condition_pair, condition_pairs};
-ghost use Rattle.dbus_match.specs.Matching.{asks_sender, is_from};
+ghost use Rattle.std.specs.Prelude.{◌≡◌, MatchOption, option_map};
+ghost use Rattle.dbus_match.specs.Conditions.{condition_pairs};
+ghost use Rattle.dbus_match.specs.Matching.{is_sender, sender_of};
 ghost use Rattle.dbus_match.specs.Rules.{HasKey, IsIn};
 
 use crate::condition::Condition;
@@ -25,28 +25,28 @@ fn value_at<A: Allocator>(conditions: &[Condition<A>], key: Key) -> Option<&str>
     None
 }
 
-/// Whether the condition asks for messages from this name.
-fn is_from<A: Allocator>(condition: &Condition<A>, name: &str) -> bool
-    ensures { result ≡ is_from (condition_pair condition.now) name.now }
-{
-    matches!(condition.key, Key::Sender) && condition.value.as_str() == name
-}
-
-/// Whether one of the conditions does.
-fn asks_from<A: Allocator>(conditions: &[Condition<A>], name: &str) -> bool
-    ensures { result ≡ asks_sender (condition_pairs conditions.now) name.now }
+/// The value of the condition with the key `sender`, if one has it.
+fn sender_at<A: Allocator>(conditions: &[Condition<A>]) -> Option<&str>
+    ensures { option_map (λ s. s.now) result ≡ sender_of (condition_pairs conditions.now) }
 {
     for condition in conditions {
-        if is_from(condition, name) {
-            return true;
+        if is_sender(condition.key) {
+            return Some(condition.value.as_str());
         }
     }
-    false
+    None
+}
+
+/// Whether the key is `sender`.
+fn is_sender(key: Key) -> bool
+    ensures { result ≡ is_sender key }
+{
+    matches!(key, Key::Sender)
 }
 
 impl<A: Allocator> Rule<A> {
-    ghost use Rattle.std.specs.Prelude.{◌≡◌};
-    ghost use Rattle.dbus_match.specs.Matching.{asks_sender};
+    ghost use Rattle.std.specs.Prelude.{◌≡◌, option_map};
+    ghost use Rattle.dbus_match.specs.Matching.{sender_of};
     ghost use Rattle.dbus_match.specs.RuleViews.{rule_pairs};
     ghost use Rattle.dbus_match.specs.declared.key.Key.TheVariants.{Path, Interface, Member, Arg};
 
@@ -82,10 +82,10 @@ impl<A: Allocator> Rule<A> {
         value_at(&self.conditions, Key::Arg(0))
     }
 
-    /// Whether the rule's `sender` is this name. D-Bus Specification, "Match Rules".
-    pub fn asks_sender(&self, name: &str) -> bool
-        ensures { result ≡ asks_sender (rule_pairs self.now) name.now }
+    /// The value of the rule's `sender`, if it has that key. D-Bus Specification, "Match Rules".
+    pub fn sender(&self) -> Option<&str>
+        ensures { option_map (λ s. s.now) result ≡ sender_of (rule_pairs self.now) }
     {
-        asks_from(&self.conditions, name)
+        sender_at(&self.conditions)
     }
 }

@@ -1,11 +1,12 @@
 -- What the program does for the words of its command line.
-use Rattle.std.specs.Prelude.{◌≡◌, ◌⊎◌, ℕ, ◌^◌, Bool, true, false, List, Option, Some, None, Result, Ok, Err, IfOk, string_bytes}
+use Rattle.std.specs.Prelude.{◌≡◌, ◌⊎◌, ℕ, ◌^◌, Bool, true, false, ◌&&◌, codes, List, Option, Some, None, Result, Ok, Err, IfOk, string_bytes}
 use Rattle.clap.specs.Words.{Text}
 use Rattle.dbus_device.specs.Write.{Wrote, Stopped}
 use Rattle.dbus_command.specs.Named.{IsNamedBy}
 use Rattle.dbus_command.specs.Told.{TellsFault}
+use Rattle.dbus_command.specs.Unowned.{lacks_owner}
 use Rattle.dbus_command.specs.Windows.{ask_more}
-use Rattle.dbus_tool.specs.Devices.{Reading, Writing}
+use Rattle.dbus_tool.specs.Devices.{Reading, Writing, writing}
 use Rattle.dbus_tool.specs.Going.{RunsWith}
 use Rattle.dbus_tool.specs.Handshaking.{ReadsHandshake, Shows, StopsBy, TellsHandshake, ahead}
 use Rattle.dbus_tool.specs.RuleLines.{IsRuleTold}
@@ -37,6 +38,10 @@ abbrev pub RunsBy : {R W E : Type 0} → (more : Bool) → Reading R → Writing
 RunsBy false r w e settings command end = Runs r w e settings.limits (2 ^ 32) command end
 RunsBy true r w e settings command end = RunsWith r w e settings (2 ^ 32) command end
 
+-- what is said of a rule whose sender has no owner
+abbrev pub owner_note : List ℕ
+owner_note = codes "note: no owner is known for a rule's sender; --owner NAME=UNIQUE gives one, and --learn-owners takes them from the bus's signals\n"
+
 module _ {R W E : Type 0} (left : R → Option (List ℕ)) (failures : R → ℕ) (old new : ReadAhead R) (w : Writing W) (e : Writing E) where
   -- the handshake of the side was read, and the command had what follows; or none was read, which was told
   abbrev pub RunsBehind : Side → Settings → Command → ExitStatus → Type 0
@@ -50,9 +55,18 @@ module _ {R W E : Type 0} (left : R → Option (List ℕ)) (failures : R → ℕ
   RunsFrom None settings command end = RunsBy (ask_more settings) (ahead left failures old new) w e settings command end
   RunsFrom (Some side) settings command end = RunsBehind side settings command end
 
+module _ {R W E : Type 0} (left : R → Option (List ℕ)) (failures : R → ℕ) (old new : ReadAhead R) (w : Writing W) (e : Writing E) where
+  -- a note was written before that, if one is due; or a write of it failed
+  abbrev pub RunsNoted : (is_due : Bool) → Settings → Command → ExitStatus → Type 0
+  RunsNoted false settings command end = RunsFrom left failures old new w e settings.handshake settings command end
+  RunsNoted true settings command end =
+      ((begun : E) × Wrote e.held e.failures e.old owner_note begun
+      × RunsFrom left failures old new w (writing e.held e.failures begun e.new) settings.handshake settings command end)
+      ⊎ ((new ≡ old) × (w.new ≡ w.old) × (end ≡ status.Failed) × (n : ℕ) × Stopped e.held e.failures e.old owner_note n e.new)
+
   -- what is done for a command by its settings, or for words that name none
   abbrev pub Does : Result (Command × Settings) UsageFault → ExitStatus → Type 0
-  Does (Ok named) end = RunsFrom named.1.handshake named.1 named.0 end
+  Does (Ok named) end = RunsNoted (named.1.explains && lacks_owner named.0) named.1 named.0 end
   Does (Err Memory) end = (new ≡ old) × (w.new ≡ w.old) × StopsBy e.held e.failures e.old e.new cause.Memory end
   Does (Err (Help text)) end = (new ≡ old) × ShowsText w e (string_bytes text) end
   Does (Err (Version text)) end = (new ≡ old) × ShowsText w e (string_bytes text) end

@@ -1,9 +1,10 @@
 //! The program over the words of its command line.
-ghost use Rattle.std.specs.Prelude.{◌≤◌, ◌^◌, map, string_bytes};
+ghost use Rattle.std.specs.Prelude.{◌≤◌, ◌^◌, ◌&&◌, map, string_bytes};
+ghost use Rattle.dbus_command.specs.Unowned.{lacks_owner};
 ghost use Rattle.dbus_command.specs.Windows.{ask_more};
 ghost use Rattle.dbus_tool.specs.Devices.{reading, writing};
 ghost use Rattle.dbus_tool.specs.Handshaking.{Shows, TellsHandshake};
-ghost use Rattle.dbus_tool.specs.Words.{RefusesRule, RunsBy, RunsFrom, RunsWords, ShowsText};
+ghost use Rattle.dbus_tool.specs.Words.{RefusesRule, RunsBy, RunsFrom, RunsNoted, RunsWords, ShowsText};
 
 use crate::ending::{Cause, ExitStatus};
 use crate::failing::give_up;
@@ -16,12 +17,19 @@ use dbus_handshake_input::{HandshakeFault, ReadAhead, pass_handshake};
 use dbus_stream::{MOST_READS, Sink, Source, WrittenOnly, write_all};
 use std::alloc::Global;
 
+// What is said of a rule whose sender has no owner.
+const OWNER_NOTE: &str =
+    "note: no owner is known for a rule's sender; --owner NAME=UNIQUE gives one, and --learn-owners takes them from the bus's signals\n";
+
 /// Does what [`run_with`] does for the command that the words name, of which the first is the program's name, by the settings
 /// that they name and with at most 2^32 reads; or, if they ask neither for explanations nor to keep going nor for a
 /// window, what [`run_within`] does.
 /// If the words ask for help, its text goes to the first writer. If they name no command, a text that says how goes to the second;
 /// and if they name `filter` with a text that spells no rule, `rule refused at P: NAME` and LF, the place in that text and the name
 /// of the reason, and then the lines that explain it, if they ask for explanations.
+///
+/// If they ask for explanations, and a rule of `filter` asks for a well-known sender of which no owner is known, as
+/// `dbus_command::Command::lacks_owner` says, a line on the second writer says so first, and how to give owners.
 ///
 /// If they name the side of a handshake, that is taken first, as `dbus_handshake_input::pass_handshake` does, by reads which are none
 /// of the 2^32; the run has what follows, and counts its offsets from there. If the input begins with no handshake of that side,
@@ -43,7 +51,7 @@ pub fn run_words<R: Source, W: Sink, E: Sink>(
         (map string_bytes words.now) result }
 {
     match command_of(alloc, words) {
-        Ok((command, settings)) => run_named(alloc, command, settings, reader, first, second),
+        Ok((command, settings)) => run_noted(alloc, command, settings, reader, first, second),
         Err(UsageFault::Memory) => give_up(Cause::Memory, second),
         Err(UsageFault::Help(text) | UsageFault::Version(text)) => {
             show_text(text.as_str(), first, second)
@@ -51,6 +59,28 @@ pub fn run_words<R: Source, W: Sink, E: Sink>(
         Err(UsageFault::Usage(text)) => show(text.as_str(), ExitStatus::Usage, second),
         Err(UsageFault::Rule(refused)) => refuse_rule(alloc, &refused, second),
     }
+}
+
+// Runs a command by its settings. If they explain, and a rule's sender has no owner, it says so first.
+fn run_noted<R: Source, W: Sink, E: Sink>(
+    alloc: Global,
+    command: Command,
+    settings: Settings,
+    reader: &mut ReadAhead<R>,
+    first: &mut W,
+    second: &mut E,
+) -> ExitStatus
+    ensures { RunsNoted R.left R.failures reader.old reader.new
+        (writing W.held W.failures first.old first.new)
+        (writing E.held E.failures second.old second.new)
+        (settings.explains && lacks_owner command) settings command result }
+{
+    if settings.explains && command.lacks_owner() {
+        if let Err(WrittenOnly(_)) = write_all(second, OWNER_NOTE.as_bytes()) {
+            return ExitStatus::Failed;
+        }
+    }
+    run_named(alloc, command, settings, reader, first, second)
 }
 
 // Runs a command by its settings, after the handshake if they name its side.

@@ -162,13 +162,6 @@ module _ {A : Type 0} where
 
   -- ---- one part more
 
-  module _ (m : Gathered A) (r : Value A) where
-    pub push_fields : (ts : Arc (Vec (SigType A) A) A) (rs us : Vec (Value A) A) → m ≡ gathered.Fields ts rs → us.items ≡ rs.items ++ r ∷ [] → Pushes m r (gathered.Fields ts us)
-    push_fields ts rs us e is v x done more next b = let held = held_as m v x done more next e in (held.0, built_more rs.items us.items is held.1 b)
-
-    pub push_elements : (t : SigType A) (rs us : Vec (Value A) A) → m ≡ gathered.Elements t rs → us.items ≡ rs.items ++ r ∷ [] → Pushes m r (gathered.Elements t us)
-    push_elements t rs us e is v x done more next b = let held = held_as m v x done more next e in (held.0, built_more rs.items us.items is held.1 b)
-
   pub push_full : (m : Gathered A) (r : Value A) → ((t : SigType A) → m ≡ gathered.Variant t → ⊥) → ((t u : SigType A) → m ≡ gathered.Entry t u → ⊥) → ((u : SigType A) (x : Value A) → m ≡ gathered.Key u x → ⊥)
       → ((ts : Arc (Vec (SigType A) A) A) (rs : Vec (Value A) A) → m ≡ gathered.Fields ts rs → ⊥) → ((t : SigType A) (rs : Vec (Value A) A) → m ≡ gathered.Elements t rs → ⊥) → Pushes m r m
   push_full m r a b c d f v x done us next built = absurd (next_none m v x done us next a b c d f)

@@ -177,6 +177,34 @@ const REFUSED: &[(&[&str], usize, &[&[u8]], &[u8], &[u8])] = &[
     ),
 ];
 
+const NO_OWNER: &[u8] = b"note: no owner is known for a rule's sender; --owner NAME=UNIQUE gives one, and --learn-owners takes them from the bus's signals\n";
+
+// Words, an input of which nothing is refused, and what is written on the first writer and on the second.
+const NOT_REFUSED: &[(&[&str], &[u8], &[u8], &[u8])] = &[
+    (
+        &["check", "--explain", "--keep-going"],
+        RETURN,
+        b"ok 1 messages 24 bytes\n",
+        b"",
+    ),
+    // A well-known sender of which no owner is known, and those that need none.
+    (
+        &["filter", "--explain", "type='error'", "sender='a.b'", "--owner=a.c=:1.7"],
+        FROM_7,
+        b"",
+        NO_OWNER,
+    ),
+    (&["filter", "sender='a.b'"], FROM_7, b"", b""),
+    (&["filter", "--explain", "sender='a.b'", "--owner=a.b=:1.7"], FROM_7, FROM_7, b""),
+    (&["filter", "--explain", "sender='a.b'", "--learn-owners"], FROM_7, b"", b""),
+    (
+        &["filter", "--explain", "sender=':1.7'", "sender='org.freedesktop.DBus'"],
+        FROM_7,
+        FROM_7,
+        b"",
+    ),
+];
+
 // The first and the third message.
 const SHOWN: &[u8] = b"\
 #1 l method_return serial=1 flags=01 reply_serial=1
@@ -194,16 +222,10 @@ fn refusals_that_are_explained_or_passed_over(rt: HostRuntime) -> Result<(), Fai
         let (end, _, _) = ran_words(rt.alloc(), words, input.as_slice(), devices)?;
         assert_end(&rt, n, &end, ExitStatus::Refused, first, second);
     }
-    let words = &["check", "--explain", "--keep-going"];
-    let (end, _, _) = ran_words(rt.alloc(), words, RETURN, [BY_ONE; 3])?;
-    assert_end(
-        &rt,
-        0,
-        &end,
-        ExitStatus::Done,
-        b"ok 1 messages 24 bytes\n",
-        b"",
-    );
+    for (n, (words, input, first, second)) in NOT_REFUSED.iter().enumerate() {
+        let (end, _, _) = ran_words(rt.alloc(), words, input, [BY_ONE; 3])?;
+        assert_end(&rt, n, &end, ExitStatus::Done, first, second);
+    }
     let words = &["filter", "--explain", "type"];
     let (end, _, reads) = ran_words(rt.alloc(), words, RETURN, [BY_ONE; 3])?;
     assert_end(&rt, 0, &end, ExitStatus::Usage, b"", NO_RULE);
