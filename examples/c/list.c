@@ -4,6 +4,7 @@
 #include <dbus_wire.h>
 
 #include <stdio.h>
+#include <stdlib.h>
 #include <string.h>
 
 static void print_type(uint32_t kind) {
@@ -95,29 +96,43 @@ static void print_body(const uint8_t *bytes, size_t count) {
     }
 }
 
-/* A known field's value, a text or a number, stands alone; any other is shown as any value is. */
-static void print_field(const uint8_t *bytes, size_t count, const struct dbus_wire_field *field) {
+/* The offset after the last value within a container: a text has a 0 after it, and any other that is last ends with its bytes. */
+static uint64_t end_of(const struct dbus_wire_flat_item *last) {
+    return last->offset + last->length + (strchr("sog", (int)last->code) != NULL);
+}
+
+/* A cursor at the value that a field's VARIANT holds, which comes after its signature and a 0. Of 64 containers three are open there. */
+static struct dbus_wire_cursor held_by(const uint8_t *bytes, const struct dbus_wire_flat_item *variant) {
+    uint64_t start = variant->offset + variant->length + 1, end = end_of(variant + variant->number);
+    struct dbus_wire_cursor at = {start, end, variant->offset, variant->length, bytes[0], 0, 64 - 3, 0};
+    return at;
+}
+
+/* A field: a struct, its code, a VARIANT, and its value. A known field's value, a text or a number, stands alone; any other is shown
+ * as any value is. */
+static void print_field(const uint8_t *bytes, size_t count, const struct dbus_wire_flat_item *field) {
     static const char *const names[] = {"path", "interface", "member", "error_name", "reply_serial", "destination", "sender", "signature",
                                         "unix_fds"};
-    const struct dbus_wire_item *value = &field->value;
-    if (field->code > DBUS_WIRE_FIELD_UNIX_FDS) {
-        printf(" field%u=", (unsigned)field->code);
-        print_value(bytes, count, value);
+    const struct dbus_wire_flat_item *value = &field[3];
+    unsigned code = (unsigned)field[1].number;
+    if (code > DBUS_WIRE_FIELD_UNIX_FDS) {
+        printf(" field%u=", code);
+        print_values(bytes, count, held_by(bytes, &field[2]), "");
     } else if (value->code == 'u') {
-        printf(" %s=%u", names[field->code - 1], (unsigned)value->number);
+        printf(" %s=%u", names[code - 1], (unsigned)value->number);
     } else {
-        printf(" %s=%.*s", names[field->code - 1], (int)value->length, (const char *)bytes + value->offset);
+        printf(" %s=%.*s", names[code - 1], (int)value->length, (const char *)bytes + value->offset);
     }
 }
 
 static void print_message(unsigned long number, const uint8_t *bytes, size_t count, const struct dbus_wire_parts *parts) {
-    struct dbus_wire_cursor at;
-    struct dbus_wire_field field;
+    static struct dbus_wire_flat_item items[1 << 16];
+    uint64_t at, count_of_items;
     printf("#%lu %c ", number, (char)parts->order);
     print_type(parts->kind);
     printf(" serial=%u flags=%02x", (unsigned)parts->serial, (unsigned)parts->flags);
-    if (dbus_wire_fields_cursor(bytes, count, NULL, &at) != DBUS_WIRE_WHOLE) return;
-    while (dbus_wire_next_field(bytes, count, &at, &field) == DBUS_WIRE_WHOLE) print_field(bytes, count, &field);
+    if (dbus_wire_flatten_fields(bytes, count, NULL, items, sizeof items / sizeof *items, &count_of_items) != DBUS_WIRE_WHOLE) exit(1);
+    for (at = 1; at < count_of_items; at += items[at].number + 1) print_field(bytes, count, &items[at]);
     printf("\n");
 }
 

@@ -14,6 +14,8 @@
 enum { MOST = 1 << 20 };
 /* How many levels of values are open at once, as dbus_wire_next says. */
 enum { LEVELS = 129 };
+/* How many items of header fields are looked at. */
+enum { ROOM = 1 << 16 };
 
 static void expect(int holds, const char *what) {
     if (holds) return;
@@ -65,13 +67,13 @@ struct seen {
 
 static void add(struct seen *seen, uint64_t number) { seen->sum = (seen->sum ^ number) * 1099511628211u + 1; }
 
-static void add_value(struct seen *seen, const uint8_t *bytes, const struct dbus_wire_item *item) {
+static void add_value(struct seen *seen, uint32_t code, uint64_t number, const uint8_t *bytes, uint64_t length) {
     uint64_t at;
     seen->count++;
-    add(seen, item->code);
-    add(seen, item->number);
-    if (item->code == 's' || item->code == 'o' || item->code == 'g')
-        for (at = 0; at < item->length; at++) add(seen, bytes[item->offset + at]);
+    add(seen, code);
+    add(seen, number);
+    if (code == 's' || code == 'o' || code == 'g')
+        for (at = 0; at < length; at++) add(seen, bytes[at]);
 }
 
 /* Goes over all values at a cursor, and what is in them. Each has a place among the bytes, and the cursor moves on. */
@@ -83,27 +85,28 @@ static void walk(const uint8_t *bytes, size_t length, struct dbus_wire_cursor at
         count(item.code, (uint32_t)level);
         expect(before < at.at && at.at <= length, "a cursor moves on, within the bytes");
         expect(before <= item.offset && item.offset <= at.at && item.length <= at.at - item.offset, "a value is where it was passed");
-        add_value(seen, bytes, &item);
+        add_value(seen, item.code, item.number, bytes + item.offset, item.length);
         walk(bytes, length, item.parts, level + 1, seen);
         before = at.at;
     }
 }
 
-/* Goes over all header fields at a cursor, and what is in them. */
-static void walk_fields(const uint8_t *bytes, size_t length, struct dbus_wire_cursor at, struct seen *seen) {
-    struct dbus_wire_field field;
-    uint64_t before = at.at;
-    while (dbus_wire_next_field(bytes, length, &at, &field) == DBUS_WIRE_WHOLE) {
-        expect(before < at.at && at.at <= length, "a cursor moves on, within the bytes");
-        expect(before < field.value.offset && field.value.length <= at.at - field.value.offset, "a field's value is in it");
-        add(seen, field.code);
-        add_value(seen, bytes, &field.value);
-        walk(bytes, length, field.value.parts, 1, seen);
-        before = at.at;
+/* Goes over all header fields, and what is in them. Each item has a place among the bytes, and what is within it comes after it. */
+static void walk_fields(const uint8_t *bytes, size_t length, struct seen *seen) {
+    static struct dbus_wire_flat_item items[ROOM];
+    uint64_t at, count;
+    uint32_t answer = dbus_wire_flatten_fields(bytes, length, NULL, items, ROOM, &count);
+    expect(answer == DBUS_WIRE_WHOLE || answer == DBUS_WIRE_NO_ROOM, "a message has header fields");
+    if (answer == DBUS_WIRE_NO_ROOM) return;
+    for (at = 0; at < count; at++) {
+        const struct dbus_wire_flat_item *item = &items[at];
+        expect(item->offset <= length && item->length <= length - item->offset, "an item is among the bytes");
+        expect(strchr("a({v", (int)item->code) == NULL || item->number < count - at, "what is within it comes after it");
+        add_value(seen, item->code, item->number, bytes + item->offset, item->length);
     }
 }
 
-/* What the bytes of the input, taken as the numbers of a cursor, let the two calls see: anything, but it ends. */
+/* What the bytes of the input, taken as the numbers of a cursor, let the call see: anything, but it ends. */
 static void walk_wild(const uint8_t *bytes, size_t length) {
     struct dbus_wire_cursor at;
     struct seen seen = {0, 0};
@@ -114,15 +117,13 @@ static void walk_wild(const uint8_t *bytes, size_t length) {
         at.types %= length, at.types_length %= 8, at.elements %= 3, at.depth_left %= 66;
     }
     walk(bytes, length, at, 1, &seen);
-    walk_fields(bytes, length, at, &seen);
 }
 
 /* What a message has: its header fields and the values of its body. */
 static struct seen walk_message(const uint8_t *bytes, size_t length) {
     struct dbus_wire_cursor at;
     struct seen seen = {0, 0};
-    expect(dbus_wire_fields_cursor(bytes, length, NULL, &at) == DBUS_WIRE_WHOLE, "a message has header fields");
-    walk_fields(bytes, length, at, &seen);
+    walk_fields(bytes, length, &seen);
     expect(dbus_wire_body_cursor(bytes, length, NULL, &at) == DBUS_WIRE_WHOLE, "a message has a body");
     walk(bytes, length, at, 1, &seen);
     return seen;

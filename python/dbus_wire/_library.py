@@ -50,24 +50,6 @@ class Parts(ctypes.Structure):
     )
 
 
-class Cursor(ctypes.Structure):
-    _fields_ = [(name, c_uint64) for name in ("at", "end", "types", "types_length")] + [
-        (name, c_uint32) for name in ("order", "elements", "depth_left", "reserved")
-    ]
-
-
-class Item(ctypes.Structure):
-    _fields_ = [
-        *((name, c_uint64) for name in ("number", "offset", "length")),
-        *((name, c_uint32) for name in ("code", "reserved")),
-        ("parts", Cursor),
-    ]
-
-
-class Field(ctypes.Structure):
-    _fields_ = [("code", c_uint32), ("reserved", c_uint32), ("value", Item)]
-
-
 class FlatItem(ctypes.Structure):
     _fields_ = [
         *((name, c_uint64) for name in ("number", "offset", "length")),
@@ -128,9 +110,7 @@ _CALLS = {
     "check": (c_uint32, *_MESSAGE, POINTER(Checked)),
     "parts_of": (c_uint32, *_MESSAGE, POINTER(Parts)),
     "flatten": (c_uint32, *_MESSAGE, POINTER(FlatItem), c_size_t, POINTER(c_uint64)),
-    "next": (c_uint32, c_char_p, c_size_t, POINTER(Cursor), POINTER(Item)),
-    "fields_cursor": (c_uint32, *_MESSAGE, POINTER(Cursor)),
-    "next_field": (c_uint32, c_char_p, c_size_t, POINTER(Cursor), POINTER(Field)),
+    "flatten_fields": (c_uint32, *_MESSAGE, POINTER(FlatItem), c_size_t, POINTER(c_uint64)),
     "wanted": (c_uint64, *_MESSAGE),
     "swap": (c_uint32, *_MESSAGE, c_uint32, c_char_p, c_size_t, POINTER(Checked)),
     "build": (c_uint32, POINTER(Parts), *_MESSAGE, c_char_p, c_size_t, POINTER(Checked)),

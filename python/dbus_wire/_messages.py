@@ -14,7 +14,7 @@ from . import _library
 from ._errors import refused, truncated
 from ._library import FIXED_HEADER_LENGTH, NO_MEMORY, NO_ROOM, OK, PARTIAL, REASON_TRAILING, REFUSED, WHOLE, Bytes, as_bytes, library
 from ._limits import Limits, limits_struct
-from ._values import ObjectPath, Signature, fields_at, text_at, values_of
+from ._values import ObjectPath, Signature, text_at, values_of
 
 # The most bytes that one read asks for, so that a length that is only stated takes no memory.
 _PIECE = 1 << 20
@@ -123,20 +123,23 @@ class Message:
         No entry of a dictionary is lost: if Python finds two of its keys equal, as it does 0.0 and -0.0, it is the list of its pairs,
         in their order. (The specification has keys differ, and does not ask readers to look.)
         """
-        data, limits, count = self.data, byref(limits_struct(None)), ctypes.c_uint64()
-        items = (_library.FlatItem * 64)()
-        while library.dbus_wire_flatten(data, len(data), limits, items, len(items), byref(count)) == NO_ROOM:
-            items = (_library.FlatItem * count.value)()
-        return values_of(data, self.order, memoryview(items).cast("B")[: count.value * ctypes.sizeof(_library.FlatItem)])
+        return self._values(library.dbus_wire_flatten)
 
     @cached_property
     def header_fields(self) -> list[tuple[int, Any]]:
         """The header fields, each as its code and its value, in their order in the message: also those whose codes the specification
         does not name. The values are as those of the body.
         """
-        cursor = _library.Cursor()
-        library.dbus_wire_fields_cursor(self.data, len(self.data), byref(limits_struct(None)), byref(cursor))
-        return list(fields_at(self.data, cursor))
+        [fields] = self._values(library.dbus_wire_flatten_fields)
+        return [(code, variant.value) for code, variant in fields]
+
+    def _values(self, flatten: Any) -> list[Any]:
+        """The values of the part that the call flattens."""
+        data, limits, count = self.data, byref(limits_struct(None)), ctypes.c_uint64()
+        items = (_library.FlatItem * 64)()
+        while flatten(data, len(data), limits, items, len(items), byref(count)) == NO_ROOM:
+            items = (_library.FlatItem * count.value)()
+        return values_of(data, self.order, memoryview(items).cast("B")[: count.value * ctypes.sizeof(_library.FlatItem)])
 
     @property
     def body_bytes(self) -> bytes:

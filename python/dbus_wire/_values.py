@@ -1,14 +1,11 @@
-"""The values of a message's body as Python values."""
+"""The values of a message as Python values."""
 
 from __future__ import annotations
 
 import ctypes
 import struct
-from ctypes import byref
 from dataclasses import dataclass
-from typing import Any, Callable, Iterator
-
-from ._library import WHOLE, Cursor, Field, Item, library
+from typing import Any, Callable
 
 
 class ObjectPath(str):
@@ -76,16 +73,9 @@ def text_at(data: bytes, offset: int, length: int) -> str:
 
 
 def values_of(data: bytes, order: str, items: memoryview) -> list[Any]:
-    """The values of the message's body, of which the bytes are the FlatItems."""
+    """The values of a part of the message, of which the bytes are the FlatItems."""
     rows = list(_ITEM.iter_unpack(items))
     return _values_of(data, order, rows, 0, len(rows))
-
-
-def fields_at(data: bytes, cursor: Cursor) -> Iterator[tuple[int, Any]]:
-    """The header fields that are left at the cursor, each as its code and its value; the cursor moves past each of them."""
-    field = Field()
-    while library.dbus_wire_next_field(data, len(data), byref(cursor), byref(field)) == WHOLE:
-        yield field.code, _value(data, field.value)
 
 
 def _values_of(data: bytes, order: str, rows: list[tuple[int, ...]], at: int, end: int) -> list[Any]:
@@ -93,8 +83,10 @@ def _values_of(data: bytes, order: str, rows: list[tuple[int, ...]], at: int, en
     while at < end:
         number, offset, length, code, element = rows[at]
         at += 1
-        if code in _NUMBERS or code in _TEXTS:
-            values.append(_basic(data, code, number, offset, length))
+        if code in _NUMBERS:
+            values.append(_NUMBERS[code](number))
+        elif code in _TEXTS:
+            values.append(_TEXTS[code](text_at(data, offset, length)))
         elif code == _ARRAY and element in _FORMS:
             values.append(_numbers(data[offset : offset + length], order, element))
         elif code == _ARRAY and element == ord("y"):
@@ -111,23 +103,6 @@ def _numbers(data: bytes, order: str, code: int) -> list[Any]:
     form, size = _FORMS[code]
     numbers = struct.unpack(f"{'<' if order == 'l' else '>'}{len(data) // size}{form}", data)
     return list(map(_NUMBERS[code], numbers)) if code in b"bh" else list(numbers)
-
-
-def _value(data: bytes, item: Item) -> Any:
-    code = item.code
-    if code in _NUMBERS or code in _TEXTS:
-        return _basic(data, code, item.number, item.offset, item.length)
-    types = text_at(data, item.parts.types, item.parts.types_length)
-    if code == _ARRAY and types == "ay":
-        return data[item.offset : item.offset + item.length]
-    one, parts = Item(), []
-    while library.dbus_wire_next(data, len(data), byref(item.parts), byref(one)) == WHOLE:
-        parts.append(_value(data, one))
-    return _container(code, types, parts, ord(types[1]) if code == _ARRAY else 0)
-
-
-def _basic(data: bytes, code: int, number: int, offset: int, length: int) -> Any:
-    return _NUMBERS[code](number) if code in _NUMBERS else _TEXTS[code](text_at(data, offset, length))
 
 
 def _container(code: int, signature: str, parts: list[Any], element: int) -> Any:

@@ -3,7 +3,7 @@
 use std::fmt;
 use std::num::NonZeroU32;
 
-use crate::value::text_at;
+use crate::value::{flat_items, text_at};
 use crate::{byteswap, check, sys, Answer, Fields, FlatItem, Limits, Order, ParseError, Parts, Values};
 
 /// The type of a message.
@@ -184,7 +184,7 @@ impl<'a> Message<'a> {
     }
 
     /// The header fields, each as its code and its value, in their order in the message: also those whose codes the specification
-    /// does not name. Like [`body`](Self::body), the call looks over the message once more.
+    /// does not name. The call looks over the message once more, and takes memory for what the fields hold.
     pub fn fields(&self) -> Fields<'a> {
         Fields::of_message(self.bytes)
     }
@@ -212,21 +212,7 @@ impl<'a> Message<'a> {
     /// All values of the body, and all that is within them, in one row: each container comes before its parts, and an array of numbers
     /// is one item. `include/dbus_wire.h` says what each member is.
     pub fn flatten(&self) -> Vec<FlatItem> {
-        // Most bodies have no more items, and then one call is enough.
-        let (limits, mut items, mut count) = (Limits::default().raw(), vec![FlatItem::default(); 64], 0);
-        loop {
-            // SAFETY: a slice, a vector's items and references, as `sys` says.
-            let answer = unsafe {
-                let (bytes, room) = (self.bytes, items.len());
-                sys::dbus_wire_flatten(bytes.as_ptr(), bytes.len(), &limits, items.as_mut_ptr(), room, &mut count)
-            };
-            if answer != sys::DBUS_WIRE_NO_ROOM {
-                assert_eq!(answer, sys::DBUS_WIRE_WHOLE, "a message within limits is one within the specification's");
-                items.truncate(count as usize);
-                return items;
-            }
-            items.resize(count as usize, FlatItem::default());
-        }
+        flat_items(sys::dbus_wire_flatten, self.bytes)
     }
 
     /// A copy of the message in the byte order.

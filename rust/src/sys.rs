@@ -193,14 +193,6 @@ pub struct dbus_wire_flat_item {
 
 #[repr(C)]
 #[derive(Clone, Copy, Debug, Default)]
-pub struct dbus_wire_field {
-    pub code: u32,
-    pub reserved: u32,
-    pub value: dbus_wire_item,
-}
-
-#[repr(C)]
-#[derive(Clone, Copy, Debug, Default)]
 pub struct dbus_wire_writer {
     pub length: u64,
     pub order: u32,
@@ -289,7 +281,6 @@ const _: () = assert!(size_of::<dbus_wire_argument>() == 24);
 const _: () = assert!(size_of::<dbus_wire_cursor>() == 48);
 const _: () = assert!(size_of::<dbus_wire_item>() == 80);
 const _: () = assert!(size_of::<dbus_wire_flat_item>() == 32);
-const _: () = assert!(size_of::<dbus_wire_field>() == 88);
 const _: () = assert!(size_of::<dbus_wire_writer>() == 16);
 const _: () = assert!(size_of::<dbus_wire_array>() == 16);
 const _: () = assert!(size_of::<dbus_wire_text_checked>() == 16);
@@ -330,14 +321,14 @@ extern "C" {
         room: usize,
         count: *mut u64,
     ) -> u32;
-    pub fn dbus_wire_fields_cursor(
+    pub fn dbus_wire_flatten_fields(
         bytes: *const u8,
         length: usize,
         limits: *const dbus_wire_limits,
-        out: *mut dbus_wire_cursor,
+        items: *mut dbus_wire_flat_item,
+        room: usize,
+        count: *mut u64,
     ) -> u32;
-    pub fn dbus_wire_next_field(bytes: *const u8, length: usize, cursor: *mut dbus_wire_cursor, out: *mut dbus_wire_field)
-        -> u32;
     pub fn dbus_wire_wanted(bytes: *const u8, length: usize, limits: *const dbus_wire_limits) -> u64;
     pub fn dbus_wire_swap(
         bytes: *const u8,

@@ -3,7 +3,7 @@
 use std::fmt;
 use std::iter::FusedIterator;
 
-use crate::sys;
+use crate::{sys, FlatItem, Limits};
 
 /// The text of a message at a place among its bytes.
 ///
@@ -21,17 +21,25 @@ fn bytes_at(bytes: &[u8], offset: u64, length: u64) -> &[u8] {
     &bytes[offset as usize..][..length as usize]
 }
 
-// A call that writes a cursor at a part of a message.
-type MakeCursor = unsafe extern "C" fn(*const u8, usize, *const sys::dbus_wire_limits, *mut sys::dbus_wire_cursor) -> u32;
+// A call that writes the items of a part of a message.
+type Flatten = unsafe extern "C" fn(*const u8, usize, *const sys::dbus_wire_limits, *mut FlatItem, usize, *mut u64) -> u32;
 
-// The cursor that such a call writes for these bytes, which are a message.
-fn cursor_by(make: MakeCursor, bytes: &[u8]) -> sys::dbus_wire_cursor {
-    let limits = crate::Limits::default().raw();
-    let mut cursor = sys::dbus_wire_cursor::default();
-    // SAFETY: a slice and references, as `sys` says.
-    let answer = unsafe { make(bytes.as_ptr(), bytes.len(), &limits, &mut cursor) };
-    assert_eq!(answer, sys::DBUS_WIRE_WHOLE, "a message within limits is one within the specification's");
-    cursor
+const IS_MESSAGE: &str = "a message within limits is one within the specification's";
+
+/// The items that such a call writes for these bytes, which are a message.
+pub(crate) fn flat_items(flatten: Flatten, bytes: &[u8]) -> Vec<FlatItem> {
+    // Most parts have no more items, and then one call is enough.
+    let (limits, mut items, mut count) = (Limits::default().raw(), vec![FlatItem::default(); 64], 0);
+    loop {
+        // SAFETY: a slice, a vector's items and references, as `sys` says.
+        let answer = unsafe { flatten(bytes.as_ptr(), bytes.len(), &limits, items.as_mut_ptr(), items.len(), &mut count) };
+        if answer != sys::DBUS_WIRE_NO_ROOM {
+            assert_eq!(answer, sys::DBUS_WIRE_WHOLE, "{IS_MESSAGE}");
+            items.truncate(count as usize);
+            return items;
+        }
+        items.resize(count as usize, FlatItem::default());
+    }
 }
 
 /// A value. Numbers come in the order of the processor, whatever that of the message.
@@ -141,14 +149,34 @@ pub struct Values<'a> {
 impl<'a> Values<'a> {
     /// The values of the body of these bytes, which are a message.
     pub(crate) fn of_message(bytes: &'a [u8]) -> Self {
-        let cursor = cursor_by(sys::dbus_wire_body_cursor, bytes);
+        let (limits, mut cursor) = (Limits::default().raw(), sys::dbus_wire_cursor::default());
+        // SAFETY: a slice and references, as `sys` says.
+        let answer = unsafe { sys::dbus_wire_body_cursor(bytes.as_ptr(), bytes.len(), &limits, &mut cursor) };
+        assert_eq!(answer, sys::DBUS_WIRE_WHOLE, "{IS_MESSAGE}");
+        Self { bytes, cursor }
+    }
+
+    // The value that a variant holds, whose last part is the other item.
+    fn held_by(bytes: &'a [u8], variant: &FlatItem, last: &FlatItem) -> Self {
+        // A 0 comes after a text, and so after the signature.
+        let ends_in_0 = matches!(last.code as u8, b's' | b'o' | b'g');
+        let cursor = sys::dbus_wire_cursor {
+            at: variant.offset + variant.length + 1,
+            end: last.offset + last.length + u64::from(ends_in_0),
+            types: variant.offset,
+            types_length: variant.length,
+            order: u32::from(bytes[0]),
+            // The array of the fields, a struct and the variant are open.
+            depth_left: Limits::default().raw().depth - 3,
+            ..Default::default()
+        };
         Self { bytes, cursor }
     }
 
     /// The types of the values that are left, as a signature: `su` for a STRING and a UINT32. Of the elements of an array it is
     /// the type of each.
     pub fn types(&self) -> &'a str {
-        // SAFETY: only calls have written the cursor, for these bytes; its types are in a signature of theirs, which is ASCII.
+        // SAFETY: the cursor's types are in a signature of these bytes, as calls found it, which is ASCII.
         let types = unsafe { text_at(self.bytes, self.cursor.types, self.cursor.types_length) };
         &types[usize::from(self.cursor.elements != 0)..]
     }
@@ -172,16 +200,19 @@ impl FusedIterator for Values<'_> {}
 /// returns it.
 #[derive(Clone)]
 pub struct Fields<'a> {
-    // Those of the message that the cursor was made for.
+    // Those of the message that the items are of.
     bytes: &'a [u8],
-    cursor: sys::dbus_wire_cursor,
+    // Of each field a struct, its code, a variant, and the value that this holds with its parts.
+    items: std::vec::IntoIter<FlatItem>,
 }
 
 impl<'a> Fields<'a> {
     /// The header fields of these bytes, which are a message.
     pub(crate) fn of_message(bytes: &'a [u8]) -> Self {
-        let cursor = cursor_by(sys::dbus_wire_fields_cursor, bytes);
-        Self { bytes, cursor }
+        let mut items = flat_items(sys::dbus_wire_flatten_fields, bytes).into_iter();
+        // The first is that of their array.
+        items.next();
+        Self { bytes, items }
     }
 }
 
@@ -189,11 +220,13 @@ impl<'a> Iterator for Fields<'a> {
     type Item = (u8, Value<'a>);
 
     fn next(&mut self) -> Option<(u8, Value<'a>)> {
-        let mut field = sys::dbus_wire_field::default();
-        // SAFETY: a slice and references, as `sys` says. Any numbers in a cursor are safe.
-        let answer = unsafe { sys::dbus_wire_next_field(self.bytes.as_ptr(), self.bytes.len(), &mut self.cursor, &mut field) };
-        // SAFETY: the call wrote the field for these bytes. A code is a byte.
-        (answer == sys::DBUS_WIRE_WHOLE).then(|| (field.code as u8, unsafe { Value::of(self.bytes, &field.value) }))
+        let count = self.items.next()?.number as usize;
+        let [code, variant, .., last] = &self.items.as_slice()[..count] else {
+            unreachable!("a field has a code and a variant, which holds a value");
+        };
+        let field = (code.number as u8, known(Values::held_by(self.bytes, variant, last).next()));
+        self.items.nth(count - 1);
+        Some(field)
     }
 }
 

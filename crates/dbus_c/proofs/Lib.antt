@@ -9,4 +9,4 @@ pub mod OwnerLines
 pub mod RuleTelling
 pub mod EndsMade
 mod Built
-mod HeaderFields
+mod FlatParts

@@ -9,7 +9,7 @@ use Rattle.dbus_header.specs.MessageOutcomes.{IsWhole}
 use Rattle.dbus_header.proofs.OutcomeLaws.{one_outcome, one_whole}
 use Rattle.dbus_header.specs.NoMessage.{BeginsWithNone}
 use Rattle.dbus_c.specs.Checking.{Tells, whole, partial, refused}
-use Rattle.dbus_c.specs.FlatBodies.{IsTold}
+use Rattle.dbus_c.specs.FlatParts.{IsTold}
 use Rattle.dbus_c.specs.Outcomes.{BeginsWithValue, BeginsWithoutValue, TellsApart}
 use Rattle.dbus_c.specs.declared.checking.Checked.{Checked}
 

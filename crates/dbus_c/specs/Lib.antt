@@ -7,7 +7,7 @@ pub mod Parting
 pub mod Swapping
 pub mod Arguments
 pub mod MessageCursors
-pub mod FlatBodies
+pub mod FlatParts
 pub mod Outcomes
 pub mod TextKinds
 pub mod TextChecking

@@ -1,12 +1,10 @@
-//! The values of a message's body, and its header fields, told one after another at cursors of plain numbers.
+//! The values of a message's body, told one after another at cursors of plain numbers.
 #![tactic(auto)]
 
-ghost use Rattle.std.specs.Prelude.{◌≡◌, ◌≢◌, ◌↔◌, List, []};
+ghost use Rattle.std.specs.Prelude.{◌≡◌, ◌≢◌, ◌↔◌};
 ghost use Rattle.dbus_value_model.specs.Values.{ValueTrees, NoValues};
-ghost use Rattle.dbus_message_model.specs.Messages.{FieldTree};
 ghost use Rattle.dbus_cursor.specs.Cursors.{AreAt, IsNext};
-ghost use Rattle.dbus_cursor.specs.FieldCursors.{AreFieldsAt, IsNextField};
-ghost use Rattle.dbus_c.specs.MessageCursors.{IsAtBody, IsAtFields};
+ghost use Rattle.dbus_c.specs.MessageCursors.{IsAtBody};
 ghost use Rattle.dbus_c.specs.GivenLimits.{limits_of};
 ghost use Rattle.dbus_c.specs.Outcomes.{BeginsWithMessage, TellsApart};
 
@@ -14,9 +12,8 @@ use crate::answers::{NO_VALUE, WHOLE};
 use crate::checking::first_validated;
 use crate::given_limits::{WireLimits, given_limits};
 use crate::parts::{order_byte, place_of};
-use dbus_cursor::{Cursor, FIELDS, Field, Item, next_field, next_value};
+use dbus_cursor::{Cursor, Item, next_value};
 use dbus_message_model::field_code::SIGNATURE;
-use dbus_walk::{FIELDS_START, Source, fields_end};
 
 /// Writes a cursor at the values of the body of the message within the limits that the bytes begin with, and answers [`WHOLE`]. If
 /// they begin with none, answers [`crate::PARTIAL`] or [`crate::REFUSED`], as [`crate::dbus_wire_check`], which tells why, and
@@ -47,38 +44,6 @@ pub extern "C" fn dbus_wire_body_cursor(bytes: &[u8], limits: &WireLimits, out: 
     }
 }
 
-/// Writes a cursor at the header fields of the message within the limits that the bytes begin with, and answers [`WHOLE`]. If they
-/// begin with none, it answers as [`dbus_wire_body_cursor`] does. It allocates nothing. D-Bus Specification, "Header Fields".
-#[unsafe(no_mangle)]
-pub extern "C" fn dbus_wire_fields_cursor(
-    bytes: &[u8],
-    limits: &WireLimits,
-    out: &mut Cursor,
-) -> u32
-    ensures whole { BeginsWithMessage (limits_of limits.now) bytes.now ↔ (result ≡ WHOLE) }
-    ensures apart { TellsApart (limits_of limits.now) bytes.now result }
-    ensures fields { result ≡ WHOLE → IsAtFields (limits_of limits.now) bytes.now out.new }
-    ensures unchanged { result ≢ WHOLE → out.new ≡ out.old }
-{
-    match first_validated(bytes, limits) {
-        Ok(validated) => {
-            let order = validated.order;
-            *out = Cursor {
-                at: FIELDS_START as u64,
-                end: fields_end(&Source { bytes, order }) as u64,
-                types: 0,
-                types_length: 0,
-                order: order_byte(order),
-                elements: FIELDS,
-                depth_left: u32::from(given_limits(limits).depth) - 1,
-                reserved: 0,
-            };
-            WHOLE
-        }
-        Err(answer) => answer,
-    }
-}
-
 /// Writes the value that the cursor stands at, moves the cursor past it, and answers [`WHOLE`]; [`NO_VALUE`] if no value is left, and
 /// then the cursor and `out` stay as they are. In `out` is a cursor at the value's parts.
 ///
@@ -96,28 +61,6 @@ pub extern "C" fn dbus_wire_next(bytes: &[u8], cursor: &mut Cursor, out: &mut It
     match next_value(bytes, cursor) {
         Some(item) => {
             *out = item;
-            WHOLE
-        }
-        None => NO_VALUE,
-    }
-}
-
-/// Writes the header field that the cursor stands at, moves the cursor past it, and answers [`WHOLE`]; [`NO_VALUE`] if no field is
-/// left, and then the cursor and `out` stay as they are. Fields come in the order of the bytes, those of unknown codes too.
-///
-/// The bytes are those that the cursor was made for. At other bytes, or with other numbers, the call is safe too, as
-/// [`dbus_wire_next`] is. It allocates nothing. D-Bus Specification, "Header Fields".
-#[unsafe(no_mangle)]
-pub extern "C" fn dbus_wire_next_field(bytes: &[u8], cursor: &mut Cursor, out: &mut Field) -> u32
-    ensures next { result ≡ WHOLE → (fs : List FieldTree) → AreFieldsAt bytes.now cursor.old fs →
-        IsNextField bytes.now fs out.new cursor.new }
-    ensures none { result ≢ WHOLE → (fs : List FieldTree) → AreFieldsAt bytes.now cursor.old fs → fs ≡ [] }
-    ensures no_value { result ≢ WHOLE → result ≡ NO_VALUE }
-    ensures unchanged { result ≢ WHOLE → (cursor.new ≡ cursor.old) × (out.new ≡ out.old) }
-{
-    match next_field(bytes, cursor) {
-        Some(field) => {
-            *out = field;
             WHOLE
         }
         None => NO_VALUE,

@@ -1,10 +1,11 @@
-//! All values of a message's body as one row of items.
+//! All values of a message's body, and its header fields, as one row of items.
 #![tactic(auto)]
 
 ghost use Rattle.std.specs.Prelude.{◌≡◌, ◌↔◌, ◌≤◌, length};
-ghost use Rattle.dbus_c.specs.FlatBodies.{IsBodyFlat, IsTold};
+ghost use Rattle.dbus_c.specs.FlatParts.{IsPartFlat, IsTold};
 ghost use Rattle.dbus_c.specs.GivenLimits.{limits_of};
 ghost use Rattle.dbus_c.specs.Outcomes.{BeginsWithMessage, TellsApart};
+ghost use Rattle.dbus_c.specs.declared.flattening.Part.TheVariants.{Body, Fields};
 ghost use Rattle.dbus_validate.specs.Validating.{IsValidatedFirst};
 
 use crate::answers::{NO_ROOM, WHOLE};
@@ -14,6 +15,21 @@ use dbus_cursor::{FlatItem, flatten};
 use dbus_validate::Validated;
 use dbus_value_model::Limits;
 use dbus_walk::{Source, Spot, lengths_of};
+
+/// The offset of the array of the header fields. D-Bus Specification, "Message Format".
+const FIELDS_AT: usize = 12;
+
+/// The type of that array.
+const FIELDS_TYPE: &[u8] = b"a(yv)";
+
+/// What of a message is flattened.
+#[derive(Clone, Copy)]
+pub(crate) enum Part {
+    /// The array of its header fields.
+    Fields,
+    /// The values of its body.
+    Body,
+}
 
 /// Writes an item of each value of the body of the message within the limits that the bytes begin with, and of all parts of these, to
 /// the start of `items`, each container before its parts, and how many items there are to `count`.
@@ -30,13 +46,49 @@ pub extern "C" fn dbus_wire_flatten(
 ) -> u32
     ensures whole { BeginsWithMessage (limits_of limits.now) bytes.now ↔ IsTold result }
     ensures apart { TellsApart (limits_of limits.now) bytes.now result }
-    ensures flat { IsTold result → IsBodyFlat (limits_of limits.now) bytes.now items.old items.new count.new }
+    ensures flat { IsTold result → IsPartFlat Body (limits_of limits.now) bytes.now items.old items.new count.new }
+    ensures room { IsTold result → (result ≡ WHOLE) ↔ (count.new ≤ length items.old) }
+    ensures unchanged { (IsTold result → ⊥) → (items.new ≡ items.old) × (count.new ≡ count.old) }
+{
+    flatten_part(Part::Body, bytes, limits, items, count)
+}
+
+/// Writes the items of the array of the header fields of the message within the limits that the bytes begin with, as
+/// [`dbus_wire_flatten`] does those of its body: the first is that of the array, and then comes each field, a struct, with its code and
+/// the variant of its value. It answers as [`dbus_wire_flatten`] does. D-Bus Specification, "Header Fields".
+#[unsafe(no_mangle)]
+pub extern "C" fn dbus_wire_flatten_fields(
+    bytes: &[u8],
+    limits: &WireLimits,
+    items: &mut [FlatItem],
+    count: &mut u64,
+) -> u32
+    ensures whole { BeginsWithMessage (limits_of limits.now) bytes.now ↔ IsTold result }
+    ensures apart { TellsApart (limits_of limits.now) bytes.now result }
+    ensures flat { IsTold result → IsPartFlat Fields (limits_of limits.now) bytes.now items.old items.new count.new }
+    ensures room { IsTold result → (result ≡ WHOLE) ↔ (count.new ≤ length items.old) }
+    ensures unchanged { (IsTold result → ⊥) → (items.new ≡ items.old) × (count.new ≡ count.old) }
+{
+    flatten_part(Part::Fields, bytes, limits, items, count)
+}
+
+// The items of a part of the message that the bytes begin with, and the answer.
+fn flatten_part(
+    part: Part,
+    bytes: &[u8],
+    limits: &WireLimits,
+    items: &mut [FlatItem],
+    count: &mut u64,
+) -> u32
+    ensures whole { BeginsWithMessage (limits_of limits.now) bytes.now ↔ IsTold result }
+    ensures apart { TellsApart (limits_of limits.now) bytes.now result }
+    ensures flat { IsTold result → IsPartFlat part (limits_of limits.now) bytes.now items.old items.new count.new }
     ensures room { IsTold result → (result ≡ WHOLE) ↔ (count.new ≤ length items.old) }
     ensures unchanged { (IsTold result → ⊥) → (items.new ≡ items.old) × (count.new ≡ count.old) }
 {
     match first_validated(bytes, limits) {
         Ok(validated) => {
-            let told = flat_body(bytes, &validated, given_limits(limits), items);
+            let told = flat_part(part, bytes, &validated, given_limits(limits), items);
             *count = told as u64;
             if told > items.len() { NO_ROOM } else { WHOLE }
         }
@@ -44,19 +96,28 @@ pub extern "C" fn dbus_wire_flatten(
     }
 }
 
-// The items of the body of the message that was validated, which the bytes begin with: how many there are.
-fn flat_body(bytes: &[u8], validated: &Validated, limits: Limits, items: &mut [FlatItem]) -> usize
+// The items of a part of the message that was validated, which the bytes begin with: how many there are.
+fn flat_part(
+    part: Part,
+    bytes: &[u8],
+    validated: &Validated,
+    limits: Limits,
+    items: &mut [FlatItem],
+) -> usize
     requires validated { IsValidatedFirst limits bytes.now validated.now }
-    ensures { IsBodyFlat limits bytes.now items.old items.new result }
+    ensures { IsPartFlat part limits bytes.now items.old items.new result }
 {
     let source = Source {
         bytes: &bytes[..validated.length],
         order: validated.order,
     };
-    let types = validated.fields.signature(source.bytes);
+    let (at, types) = match part {
+        Part::Fields => (FIELDS_AT, FIELDS_TYPE),
+        Part::Body => (validated.body, validated.fields.signature(source.bytes)),
+    };
     let mut table = [0; 255];
     let spot = Spot {
-        at: validated.body,
+        at,
         types,
         lengths: lengths_of(types, &mut table),
         depth_left: limits.depth,

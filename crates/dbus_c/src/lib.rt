@@ -3,8 +3,8 @@
 //!
 //! [`dbus_wire_check`] checks bytes, [`dbus_wire_wanted`] says how many to read, [`dbus_wire_parts_of`] and
 //! [`dbus_wire_argument_of`] give a message's parts, and [`dbus_wire_swap`] byteswaps. [`dbus_wire_body_cursor`] and
-//! [`dbus_wire_next`] give the values of its body one by one, and [`dbus_wire_flatten`] all of them at once;
-//! [`dbus_wire_fields_cursor`] and [`dbus_wire_next_field`] give its header fields. [`dbus_wire_checker_new`] makes a checker that is
+//! [`dbus_wire_next`] give the values of its body one by one, and [`dbus_wire_flatten`] all of them at once, as
+//! [`dbus_wire_flatten_fields`] does its header fields. [`dbus_wire_checker_new`] makes a checker that is
 //! handed one piece after another, and [`dbus_wire_rules_add`] keeps match rules; [`dbus_wire_server_new`] and
 //! [`dbus_wire_client_new`] make an end of a handshake, and [`dbus_wire_build`] builds a message of its parts, whose body
 //! [`dbus_wire_put_number`] and its like spell. Of the other calls those on rules and [`dbus_wire_handshake_take`] take memory too.
@@ -43,10 +43,8 @@ pub use checkers::{
     dbus_wire_checker_take,
 };
 pub use checking::{Checked, dbus_wire_check};
-pub use cursors::{
-    dbus_wire_body_cursor, dbus_wire_fields_cursor, dbus_wire_next, dbus_wire_next_field,
-};
-pub use flattening::dbus_wire_flatten;
+pub use cursors::{dbus_wire_body_cursor, dbus_wire_next};
+pub use flattening::{dbus_wire_flatten, dbus_wire_flatten_fields};
 pub use given_limits::{ANY_INDEX, INDEX_BELOW_COUNT, WireLimits, dbus_wire_specification_limits};
 pub use handshakes::{
     HandshakeStep, dbus_wire_client_new, dbus_wire_handshake_free, dbus_wire_handshake_guid,

@@ -3,5 +3,4 @@ pub mod Heads
 pub mod Others
 pub mod PartTypes
 pub mod PartsThere
-mod FieldsThere
 mod FlatThere

@@ -9,7 +9,9 @@ ghost use Rattle.dbus_cursor.specs.Firsts.{IsFirstOf};
 
 use crate::cursor::Cursor;
 use crate::types::first_type;
-use crate::validated::validated;
+use dbus_message_model::order_named;
+use dbus_value_model::{DEPTH_LIMIT, Limits};
+use dbus_value_validator::validate_value;
 use dbus_walk::{Source, Spot};
 
 /// Where a value stands that was validated.
@@ -25,7 +27,7 @@ pub(crate) struct First<'a> {
     pub after: usize,
 }
 
-/// The first value at a cursor, if there is one and the cursor's numbers are right.
+/// The first value at a cursor, if the cursor's numbers are right and the bytes spell one within the limits of the specification.
 pub(crate) fn first_value<'a>(bytes: &'a [u8], cursor: &Cursor) -> Option<First<'a>>
     ensures some { IfSome result (λ f. (v : ValueTree) × IsFirstOf v f) }
     ensures left { IfSome result (λ f. cursor.now.at < cursor.now.end) }
@@ -39,14 +41,27 @@ pub(crate) fn first_value<'a>(bytes: &'a [u8], cursor: &Cursor) -> Option<First<
         AreAt bytes.now cursor.now (MoreValues x us) → ⊥ }
 {
     let (types, text) = first_type(bytes, cursor)?;
-    let (order, after) = validated(bytes, cursor, text)?;
+    if cursor.at >= cursor.end || cursor.end > bytes.len() as u64 {
+        return None;
+    }
+    if cursor.depth_left > u32::from(DEPTH_LIMIT) {
+        return None;
+    }
+    let order = order_named(cursor.order)?;
+    let (at, end, depth_left) = (
+        cursor.at as usize,
+        cursor.end as usize,
+        cursor.depth_left as u8,
+    );
+    let bounds = Limits::specification().bounds();
+    let after = validate_value(bytes, at, end, order, text, depth_left, bounds)?;
     Some(First {
         source: Source { bytes, order },
         spot: Spot {
-            at: cursor.at as usize,
+            at,
             types: text,
             lengths: &[],
-            depth_left: cursor.depth_left as u8,
+            depth_left,
         },
         types,
         after,

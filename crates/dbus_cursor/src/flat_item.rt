@@ -1,4 +1,4 @@
-//! What is told of a value among all values of a message's body.
+//! What is told of a value among all values of a part of a message.
 #![tactic(auto)]
 
 /// One of the items that [`crate::flatten`] gives, in plain numbers. All offsets are in bytes from the first.

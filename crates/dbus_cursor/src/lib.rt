@@ -2,13 +2,11 @@
 //! "Marshaling (Wire Format)".
 //!
 //! [`next_value`] gives the value that a [`Cursor`] stands at as an [`Item`] and moves past it; in the item is a cursor at the parts
-//! of a container. [`next_field`] gives a header field. Any numbers are safe: each value is validated before it is told. [`flatten`]
-//! writes a [`FlatItem`] of each value that was validated, and of all its parts. No memory is taken.
+//! of a container. Any numbers are safe: each value is validated before it is told. [`flatten`] writes a [`FlatItem`] of each value
+//! that was validated, and of all its parts. No memory is taken.
 #![tactic(auto)]
 
 mod cursor;
-mod field;
-mod fields;
 mod first;
 mod flat_item;
 mod flats;
@@ -19,11 +17,8 @@ mod next;
 mod numbers;
 mod told;
 mod types;
-mod validated;
 
 pub use cursor::Cursor;
-pub use field::Field;
-pub use fields::{FIELDS, next_field};
 pub use flat_item::FlatItem;
 pub use flats::flatten;
 pub use item::Item;

@@ -1,6 +1,6 @@
 use Rattle.std.proofs.Common.{arith}
 use Rattle.dbus_c.proofs.Outcomes.{not_told}
-use Rattle.dbus_c.proofs.flattening.dbus_wire_flatten.Goals as goal
+use Rattle.dbus_c.proofs.flattening.flatten_part.Goals as goal
 
 pub returns-in-Err-clause-whole : goal.returns-in-Err-clause-whole
 returns-in-Err-clause-whole c =
