@@ -1,0 +1,3 @@
+mod NameSteps
+mod RowLaws
+mod TableSteps

@@ -1,0 +1,4 @@
+pub mod Counting
+pub mod Kept
+pub mod Names
+pub mod Tables

@@ -1,0 +1,115 @@
+//! Counts by names.
+#![tactic(auto, unfolding(crate::specs::Kept::counting_of))]
+
+ghost use Rattle.std.specs.BTreeMap.{IsOrdered};
+ghost use Rattle.std.specs.String.{string_cmp};
+ghost use Rattle.std.proofs.Props.{props};
+
+use crate::count::Count;
+use crate::names::kind_name;
+use dbus_view::MessageView;
+use std::alloc::{AllocError, Global};
+use std::collections::BTreeMap;
+
+/// How many messages have each name, and how many bytes these have.
+#[derive(Drop)]
+pub struct Counts {
+    pub(crate) alloc: Global,
+    pub(crate) names: BTreeMap<String, Count>,
+    // Room for a name that is looked up.
+    spare: String,
+    ghost ordered: { IsOrdered string_cmp names } by { Prim.hlevel props },
+}
+
+impl Counts {
+    ghost use Rattle.std.specs.Prelude.{◌≡◌, List, ℕ, OnOk, codes, length, option_map, string_bytes};
+    ghost use Rattle.dbus_count.specs.Counting.{nothing, with_name, with_names};
+    ghost use Rattle.dbus_count.specs.Kept.{counting_of};
+    ghost use Rattle.dbus_count.specs.Names.{member_of, named, names_of};
+    ghost use Rattle.dbus_value_model.specs.declared.order.Order.{Order};
+    ghost use Rattle.dbus_message_model.specs.Messages.{MessageTree};
+    ghost use Rattle.dbus_view.specs.Views.{Views};
+
+    /// Nothing is counted. It allocates nothing.
+    pub fn new(alloc: Global) -> Counts
+        ensures { (name : List ℕ) → counting_of result name ≡ nothing name }
+    {
+        Counts {
+            alloc,
+            names: BTreeMap::new(alloc),
+            spare: String::new(alloc),
+        }
+    }
+
+    /// Counts a message of this size under each name that it has. An allocation is made only for a name that is new, or longer than
+    /// those before it.
+    ///
+    /// `AllocError`: an allocation failed, and it is counted under some of its names.
+    pub fn add(&mut self, view: &MessageView) -> Result<(), AllocError>
+        ensures { (order : Order) (m : MessageTree) → Views view.now order m → OnOk result ((name : List ℕ) →
+            counting_of self.new name ≡ with_names (names_of m) (length view.now.bytes) name (counting_of self.old name)) }
+    {
+        let size = view.bytes().len() as u64;
+        self.count_name("type ", Some(kind_name(view.kind())), size)?;
+        self.count_name("sender ", view.sender(), size)?;
+        self.count_name("destination ", view.destination(), size)?;
+        self.count_name("interface ", view.interface(), size)?;
+        self.count_member(view.interface(), view.member(), size)?;
+        self.count_name("error ", view.error_name(), size)
+    }
+
+    // Counts a message of this size under the name, if it has one.
+    fn count_name(&mut self, word: &str, name: Option<&str>, size: u64) -> Result<(), AllocError>
+        ensures { OnOk result ((other : List ℕ) → counting_of self.new other ≡
+            with_names (named word.now (option_map (λ t. t.now) name.entry)) size other (counting_of self.old other)) }
+    {
+        let Some(name) = name else {
+            return Ok(());
+        };
+        self.spare.clear();
+        self.spare.push_str(word)?;
+        self.spare.push_str(name)?;
+        self.count_spare(size)
+    }
+
+    // Counts a message of this size under its member, if it has one.
+    fn count_member(
+        &mut self,
+        interface: Option<&str>,
+        member: Option<&str>,
+        size: u64,
+    ) -> Result<(), AllocError>
+        ensures { OnOk result ((other : List ℕ) → counting_of self.new other ≡
+            with_names (named (codes "member ") (member_of (option_map (λ t. t.now) interface.entry) (option_map (λ t. t.now) member.entry))) size other (counting_of self.old other)) }
+    {
+        let Some(member) = member else {
+            return Ok(());
+        };
+        self.spare.clear();
+        self.spare.push_str("member ")?;
+        if let Some(interface) = interface {
+            self.spare.push_str(interface)?;
+            self.spare.push_str(".")?;
+        }
+        self.spare.push_str(member)?;
+        self.count_spare(size)
+    }
+
+    // Counts a message of this size by the name that is spared.
+    fn count_spare(&mut self, size: u64) -> Result<(), AllocError>
+        ensures { OnOk result ((name : List ℕ) →
+            counting_of self.new name ≡ with_name (string_bytes self.old.spare) size name (counting_of self.old name)) }
+    {
+        if let Some(count) = self.names.get_mut(self.spare.as_str()) {
+            *count = count.with_one(size);
+            return Ok(());
+        }
+        let none = Count {
+            messages: 0,
+            bytes: 0,
+        };
+        let name = String::from_str(self.alloc, self.spare.as_str())?;
+        self.names.insert(name, none.with_one(size))?;
+        Ok(())
+    }
+}

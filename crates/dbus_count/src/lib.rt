@@ -1,0 +1,13 @@
+//! How many messages have each name, and how many bytes these have: names of types, senders, destinations, interfaces, members and
+//! errors.
+//!
+//! [`Counts`] keeps the counts, and takes memory only for a name that is new.
+#![tactic(auto)]
+
+mod count;
+mod counts;
+mod names;
+mod table;
+
+pub use count::Count;
+pub use counts::Counts;
