@@ -17,12 +17,12 @@ PAGE = ROOT / "docs" / "API.md"
 
 # What a program names in its line of crates.txt. A call is listed under the first of them that has it.
 CALLERS = """dbus_value dbus_message dbus_compose dbus_body dbus_validate dbus_swap dbus_stream dbus_device dbus_match dbus_rule_set dbus_auth dbus_handshake_input
-    dbus_auth_lines dbus_show dbus_show_view dbus_json dbus_explain dbus_types dbus_texts""".split()
+    dbus_auth_lines dbus_count dbus_show dbus_show_view dbus_json dbus_explain dbus_types dbus_texts""".split()
 
 # Each heading, with the crates, and the files of crates, whose calls stand below it in this order.
 HEADINGS = {
     "Read a message": "dbus_decode dbus_message_model dbus_header",
-    "Look at a message without a tree": "dbus_view/view.rt dbus_view dbus_values/values.rt dbus_values dbus_unmarshal/copying.rt",
+    "Look at a message without a tree": "dbus_view/view.rt dbus_view dbus_values/values.rt dbus_values dbus_unmarshal/copying.rt dbus_count",
     "Check bytes": "dbus_check dbus_validate/validating.rt dbus_validate",
     "Make a message and encode it": "dbus_compose dbus_build dbus_encode dbus_body dbus_swap",
     "Values alone": "dbus_unmarshal dbus_marshal dbus_value_model",

@@ -1,0 +1,36 @@
+//! Counts of messages by their names.
+#![tactic(auto)]
+
+use dbus_count::Counts;
+use dbus_view::MessageView;
+use std::test::Fail;
+
+// A signal of the interface `a.b`.
+const SIGNAL: &[u8] =
+    b"l\x04\x00\x01\x18\x00\x00\x00\x02\x00\x00\x008\x00\x00\x00\x01\x01o\x00\x02\x00\x00\x00/a\x00\x00\x00\x00\x00\x00\x02\x01s\x00\x03\x00\x00\x00a.b\x00\x00\x00\x00\x00\x03\x01s\x00\x01\x00\x00\x00C\x00\x00\x00\x00\x00\x00\x00\x08\x01g\x00\x02sv\x00\x02\x00\x00\x00hi\x00\x02au\x00\x00\x08\x00\x00\x00\x01\x00\x00\x00\x02\x00\x00\x00";
+
+// A call without an interface, with a sender and a destination.
+const CALL: &[u8] =
+    b"l\x01\x00\x01\x00\x00\x00\x00\x09\x00\x00\x00=\x00\x00\x00\x01\x01o\x00\x02\x00\x00\x00/a\x00\x00\x00\x00\x00\x00\x03\x01s\x00\x01\x00\x00\x00M\x00\x00\x00\x00\x00\x00\x00\x06\x01s\x00\x04\x00\x00\x00:1.2\x00\x00\x00\x00\x07\x01s\x00\x04\x00\x00\x00:1.7\x00\x00\x00\x00";
+
+// An error.
+const ERROR: &[u8] =
+    b"l\x03\x00\x01\x00\x00\x00\x00\x01\x00\x00\x00\x14\x00\x00\x00\x05\x01u\x00\x01\x00\x00\x00\x04\x01s\x00\x03\x00\x00\x00d.e\x00\x00\x00\x00\x00";
+
+// The tables of two such signals, a call and an error.
+const TABLES: &str =
+    "2 messages 192 bytes type signal\n1 messages 40 bytes type error\n1 messages 80 bytes type method_call\n1 messages 80 bytes sender :1.7\n1 messages 80 bytes destination :1.2\n2 messages 192 bytes interface a.b\n2 messages 192 bytes member a.b.C\n1 messages 80 bytes member M\n1 messages 40 bytes error d.e\n";
+
+#[test]
+fn messages_are_counted_by_their_names(rt: HostRuntime) -> Result<(), Fail> {
+    let mut counts = Counts::new(rt.alloc());
+    for bytes in [SIGNAL, CALL, ERROR, SIGNAL] {
+        let Ok(view) = MessageView::of(bytes) else {
+            return Err(Fail::new("no message"));
+        };
+        counts.add(&view)?;
+    }
+    let tables = counts.tables()?;
+    assert_eq!(rt; tables.as_str(), TABLES);
+    Ok(())
+}
