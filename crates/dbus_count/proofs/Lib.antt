@@ -1,3 +1,4 @@
 mod NameSteps
+mod OneTable
 mod RowLaws
 mod TableSteps

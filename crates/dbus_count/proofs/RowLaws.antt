@@ -61,15 +61,13 @@ deref_rows (p ∷ ps) = ap (λ l. row_of p ∷ l) (deref_rows ps)
 
 -- ---- the order of rows
 
-order : Row → Row → Ordering
+abbrev pub order : Row → Row → Ordering
 order a b = ordering_then (nat_cmp b.1.messages a.1.messages) (slice_cmp nat_cmp a.0 b.0)
 
-order_total : IsTotalOrder order
-unfolding order
+pub order_total : IsTotalOrder order
 order_total = then_total (on_total (λ (r : Row). r.1.messages) (back_total nat_cmp_total)) (on_total (λ (r : Row). r.0) nat_list_cmp_total)
 
 pub rows_rank : IsStrictWeakOrder (λ (p q : Bor (String Global) × Bor Count). goes_before (row_of p) (row_of q))
-unfolding order
 rows_rank = ranks_by order_total row_of
 
 no_less : (k : ℕ) → k + 1 < 0 → ⊥

@@ -11,7 +11,17 @@ use dbus_view::MessageView;
 use std::alloc::{AllocError, Global};
 use std::collections::BTreeMap;
 
-/// How many messages have each name, and how many bytes these have.
+/// How many messages have each name, and how many bytes these have. It holds as much memory as the different names take, and a call
+/// takes time for the logarithm of their number.
+///
+/// ```rust
+/// use dbus_count::Counts;
+/// use dbus_message::MessageView;
+///
+/// let mut counts = Counts::new(alloc);
+/// counts.add(&MessageView::of(bytes)?)?;
+/// println!(rt; "{}", counts.tables()?)?;
+/// ```
 #[derive(Drop)]
 pub struct Counts {
     pub(crate) alloc: Global,
@@ -41,10 +51,10 @@ impl Counts {
         }
     }
 
-    /// Counts a message of this size under each name that it has. An allocation is made only for a name that is new, or longer than
-    /// those before it.
+    /// Counts the message of the view under each name that it has. An allocation is made only for a name that is new, or longer than
+    /// those before it. D-Bus Specification, "Header Fields".
     ///
-    /// `AllocError`: an allocation failed, and it is counted under some of its names.
+    /// `AllocError`: an allocation failed, and the message is counted under some of its names.
     pub fn add(&mut self, view: &MessageView) -> Result<(), AllocError>
         ensures { (order : Order) (m : MessageTree) → Views view.now order m → OnOk result ((name : List ℕ) →
             counting_of self.new name ≡ with_names (names_of m) (length view.now.bytes) name (counting_of self.old name)) }

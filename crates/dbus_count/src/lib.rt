@@ -6,6 +6,7 @@
 
 mod count;
 mod counts;
+pub mod laws;
 mod names;
 mod table;
 
