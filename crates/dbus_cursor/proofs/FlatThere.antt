@@ -79,15 +79,6 @@ variant_item order at (VariantValue x) of place types text offset long code =
     same_item refl there (long ∙ sym (ap length (sym (append-nil (sig (type_of x))) ∙ text))) code refl
 variant_item order at v of place types text offset long code = absurd of
 
-pub opened_listed : (what : Container) (v : ValueTree) → (what ≡ kind.Array → ⊥) → IsOf what v → IsListed v
-opened_listed kind.Variant (VariantValue x) not of = tt
-opened_listed kind.Struct (StructValue xs) not of = tt
-opened_listed kind.Entry (EntryValue x y) not of = tt
-opened_listed kind.Array v not of = absurd (not refl)
-opened_listed kind.Variant v not of = absurd of
-opened_listed kind.Struct v not of = absurd of
-opened_listed kind.Entry v not of = absurd of
-
 -- the items that a flattener has gained since it had none
 pub row_of : (order : Order) (at : ℕ) (xs : List ValueTree) (s t : Flattener) → Appends s (flats order at (value_trees xs)) t → s.count ≡ 0 → t.count < 2 ^ 64 → length s.out.now < 2 ^ 64 - 1 → AreFlat order at (value_trees xs) s.out.now t.out.now t.count
 row_of order at xs s t h none fits small =
