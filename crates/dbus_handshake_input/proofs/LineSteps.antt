@@ -1,5 +1,5 @@
 -- One line that is cut out of what a source gives, and what it says.
-use Rattle.std.proofs.Common.{false, ◌≡◌, ◌≢◌, inl, inr, ◌<◌, ◌≤◌, ◌+◌, ℕ, List, [], ◌∷◌, ◌++◌, length, take, drop, Option, None, Some, Result, Ok, Err, refl, sym, ap, ◌∙◌, subst, arith, lit≤, append-nil, length-append}
+use Rattle.std.proofs.Common.{true, false, ◌≡◌, ◌≢◌, inl, inr, ◌<◌, ◌≤◌, ◌+◌, ℕ, List, [], ◌∷◌, ◌++◌, length, take, drop, Option, None, Some, Result, Ok, Err, refl, sym, ap, ◌∙◌, subst, arith, lit≤, append-nil, length-append}
 use Rattle.std.specs.Prelude.{Vec}
 use Rattle.std.specs.Io.KnownBytes.{IsAtEnd}
 use Rattle.std.proofs.lemmas.List.{take_at, take_all, take-append-drop}
@@ -18,7 +18,9 @@ use Rattle.dbus_auth_lines.specs.declared.cutter.LineFault.TheVariants as line_f
 use Rattle.dbus_auth_lines.proofs.FirstLines.{some_beginning}
 use Rattle.dbus_auth_lines.proofs.Meanings.{client_row_means, server_row_means}
 use Rattle.dbus_handshake_input.specs.Ahead.{source_of, kept_of, Took}
-use Rattle.dbus_handshake_input.specs.Lines.{ReadsLine, Says, client_says, server_says, refusal_of}
+use Rattle.dbus_handshake_input.specs.Heard.{HeardLine, HearsLine, heard_line}
+use Rattle.dbus_handshake_input.specs.Lines.{ReadsLine, Says, client_says, is_nothing, server_says, refusal_of}
+use Rattle.dbus_handshake_input.specs.declared.lines.Said.{Said}
 use Rattle.dbus_handshake_input.specs.declared.lines.Said.TheVariants as says
 use Rattle.dbus_handshake_input.specs.declared.fault.HandshakeFault.TheVariants.{Refused}
 use Rattle.dbus_handshake_input.specs.declared.fault.HandshakeReason.TheVariants.{Truncated}
@@ -57,6 +59,19 @@ server_says_so line server.Agree (inl h) = says_more_to_client line server.Agree
 server_says_so line server.Other (inl h) = absurd h
 server_says_so line c (inr h) =
     subst (λ (d : ServerCommand). Says Server line (server_says d)) (sym h.0) (λ command. h.1 command.0 command.1)
+
+-- what a visitor heard that had the line unless it is no command
+pub hears_so : {V : Type 0} (E : Type 0) (hears : V → List HeardLine → V → Type 0) (side : Side) (offset : ℕ) (line : List ℕ) (old new : V) (said : Said) → Says side line said
+    → (is_nothing said ≡ false → hears old (heard_line side offset line ∷ []) new) → (is_nothing said ≡ true → new ≡ old)
+    → HearsLine hears side {E = E} offset line old new (Ok said)
+hears_so E hears side offset line old new says.Begin h some none = (h, some refl)
+hears_so E hears side offset line old new (says.GoesOn is_ok) h some none = (h, some refl)
+hears_so E hears side offset line old new says.Nothing h some none = (h, none refl)
+
+pub hears_as : {V : Type 0} (E : Type 0) (hears : V → List HeardLine → V → Type 0) (side : Side) (offset : ℕ) (slice line : List ℕ) (old new : V) (result said : Result Said E)
+    → slice ≡ line → result ≡ said → HearsLine hears side offset slice old new result → HearsLine hears side offset line old new said
+hears_as E hears side offset slice line old new result said same is h =
+    subst (λ r. HearsLine hears side {E = E} offset line old new r) is (subst (λ l. HearsLine hears side {E = E} offset l old new result) same h)
 
 -- ---- a line that is cut
 

@@ -54,12 +54,15 @@ abbrev pub MessagesFollow : List ℕ → (AtEnd : Type 0) → Type 0
 MessagesFollow [] AtEnd = AtEnd
 MessagesFollow (b ∷ more) AtEnd = (b ≡ 108) ⊎ (b ≡ 66)
 
+-- the lines are all that a side sends before its messages, and these bytes follow
+pub data AreAllLines (side : Side) (lines : List (List ℕ)) (next : List ℕ) (AtEnd : Type 0) : Type 0 where
+  begun : (before : List (List ℕ)) (last : List ℕ) → AllByRecursion (GoesOn side) before → length before < 1024 → IsLine last → IsBegin side last
+      → lines ≡ before ++ last ∷ [] → AreAllLines side lines next AtEnd
+  accepted : AllByRecursion (GoesOn side) lines → length lines < 1024 → HasOk side lines → MessagesFollow next AtEnd → AreAllLines side lines next AtEnd
+
 -- the bytes are all that a side sends before its messages, and these bytes follow
-pub data IsHandshake (side : Side) (bytes next : List ℕ) (AtEnd : Type 0) : Type 0 where
-  begun : (lines : List (List ℕ)) (last : List ℕ) → AllByRecursion (GoesOn side) lines → length lines < 1024 → IsLine last → IsBegin side last
-      → bytes ≡ sent side (lines ++ last ∷ []) → IsHandshake side bytes next AtEnd
-  accepted : (lines : List (List ℕ)) → AllByRecursion (GoesOn side) lines → length lines < 1024 → HasOk side lines → MessagesFollow next AtEnd
-      → bytes ≡ sent side lines → IsHandshake side bytes next AtEnd
+abbrev pub IsHandshake : Side → (bytes next : List ℕ) → (AtEnd : Type 0) → Type 0
+IsHandshake side bytes next AtEnd = (lines : List (List ℕ)) × AreAllLines side lines next AtEnd × (bytes ≡ sent side lines)
 
 -- the bytes begin with no line of the side, for this reason, at this place in them
 abbrev pub IsNoLine : Side → List ℕ → (AtEnd : Type 0) → (at : ℕ) → HandshakeReason → Type 0
@@ -71,12 +74,16 @@ IsNoLine side bytes AtEnd at reason.NoCommand =
 IsNoLine side bytes AtEnd at reason.Truncated = IsUnfinished bytes × AtEnd × (at ≡ length bytes)
 IsNoLine side bytes AtEnd at reason.TooManyLines = ⊥
 
--- the bytes begin with no handshake of the side, for this reason, at this place
-pub data IsNoHandshake (side : Side) (bytes : List ℕ) (AtEnd : Type 0) (at : ℕ) (why : HandshakeReason) : Type 0 where
-  first_byte : (b : ℕ) (more : List ℕ) → side ≡ Client → bytes ≡ b ∷ more → b ≢ 0 → at ≡ 0 → why ≡ reason.FirstByte → IsNoHandshake side bytes AtEnd at why
-  nothing : side ≡ Client → bytes ≡ [] → AtEnd → at ≡ 0 → why ≡ reason.Truncated → IsNoHandshake side bytes AtEnd at why
-  no_line : (lines : List (List ℕ)) (rest : List ℕ) (place : ℕ) → AllByRecursion (GoesOn side) lines → length lines < 1024
+-- the bytes begin with these lines of the side, and then with what makes them no handshake, for this reason, at this place
+pub data BreaksAfter (side : Side) (lines : List (List ℕ)) (bytes : List ℕ) (AtEnd : Type 0) (at : ℕ) (why : HandshakeReason) : Type 0 where
+  first_byte : (b : ℕ) (more : List ℕ) → side ≡ Client → lines ≡ [] → bytes ≡ b ∷ more → b ≢ 0 → at ≡ 0 → why ≡ reason.FirstByte → BreaksAfter side lines bytes AtEnd at why
+  nothing : side ≡ Client → lines ≡ [] → bytes ≡ [] → AtEnd → at ≡ 0 → why ≡ reason.Truncated → BreaksAfter side lines bytes AtEnd at why
+  no_line : (rest : List ℕ) (place : ℕ) → AllByRecursion (GoesOn side) lines → length lines < 1024
       → (HasOk side lines → MessagesFollow rest AtEnd → ⊥) → bytes ≡ sent side lines ++ rest → IsNoLine side rest AtEnd place why
-      → at ≡ length (sent side lines) + place → IsNoHandshake side bytes AtEnd at why
-  too_many : (lines : List (List ℕ)) (rest : List ℕ) → AllByRecursion (GoesOn side) lines → length lines ≡ 1024 → bytes ≡ sent side lines ++ rest
-      → at ≡ length (sent side lines) → why ≡ reason.TooManyLines → IsNoHandshake side bytes AtEnd at why
+      → at ≡ length (sent side lines) + place → BreaksAfter side lines bytes AtEnd at why
+  too_many : (rest : List ℕ) → AllByRecursion (GoesOn side) lines → length lines ≡ 1024 → bytes ≡ sent side lines ++ rest
+      → at ≡ length (sent side lines) → why ≡ reason.TooManyLines → BreaksAfter side lines bytes AtEnd at why
+
+-- the bytes begin with no handshake of the side, for this reason, at this place
+abbrev pub IsNoHandshake : Side → (bytes : List ℕ) → (AtEnd : Type 0) → (at : ℕ) → HandshakeReason → Type 0
+IsNoHandshake side bytes AtEnd at why = (lines : List (List ℕ)) × BreaksAfter side lines bytes AtEnd at why

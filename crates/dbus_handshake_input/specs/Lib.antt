@@ -1,5 +1,6 @@
 pub mod Ahead
 pub mod FaultTexts
 pub mod Handshakes
+pub mod Heard
 pub mod Lines
 pub mod Passing

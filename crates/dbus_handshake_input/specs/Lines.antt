@@ -1,5 +1,5 @@
 -- What is read of one line, and what a line says of the handshake.
-use Rattle.std.specs.Prelude.{ℕ, ◌≡◌, ◌↔◌, ◌++◌, true, false, List, Vec, Option, Result, Ok, Err}
+use Rattle.std.specs.Prelude.{ℕ, ◌≡◌, ◌↔◌, ◌++◌, Bool, true, false, List, Vec, Option, Result, Ok, Err}
 use Rattle.std.specs.Io.KnownBytes.{IsAtEnd}
 use Rattle.dbus_auth_lines.specs.ClientCommands.{ClientCommand}
 use Rattle.dbus_auth_lines.specs.ClientCommands as client
@@ -32,6 +32,12 @@ abbrev pub Says : Side → List ℕ → Said → Type 0
 Says side line says.Begin = IsBegin side line
 Says side line (says.GoesOn is_ok) = IsCommand side line × (IsBegin side line → ⊥) × ((is_ok ≡ true) ↔ IsOk side line)
 Says side line says.Nothing = IsCommand side line → ⊥
+
+-- it is no command
+abbrev pub is_nothing : Said → Bool
+is_nothing says.Begin = false
+is_nothing (says.GoesOn is_ok) = false
+is_nothing says.Nothing = true
 
 -- the fault of a line that the cutter gives
 abbrev pub refusal_of : LineFault → HandshakeFault

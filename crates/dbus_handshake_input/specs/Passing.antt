@@ -4,7 +4,7 @@ use Rattle.std.specs.Io.KnownBytes.{IsAtEnd}
 use Rattle.dbus_device.specs.Device.{one_more}
 use Rattle.dbus_device.specs.declared.device_fault.DeviceFault.{DeviceFault}
 use Rattle.dbus_handshake_input.specs.Ahead.{source_of, kept_of, Took}
-use Rattle.dbus_handshake_input.specs.Handshakes.{greeting, IsHandshake, IsNoHandshake, MessagesFollow}
+use Rattle.dbus_handshake_input.specs.Handshakes.{greeting, BreaksAfter, IsHandshake, IsNoHandshake, MessagesFollow}
 use Rattle.dbus_handshake_input.specs.declared.read_ahead.ReadAhead.{ReadAhead}
 use Rattle.dbus_handshake_input.specs.declared.side.Side.{Side}
 use Rattle.dbus_handshake_input.specs.declared.fault.HandshakeFault.{HandshakeFault}
@@ -30,7 +30,7 @@ abbrev pub Greets : {R : Type 0} → (R → Option (List ℕ)) → Side → Read
 Greets left side old new (Ok count) = Took left old new (greeting side) × (count ≡ length (greeting side))
 Greets left side old new (Err Memory) = ⊥
 Greets left side old new (Err Device) = Took left old new []
-Greets left side old new (Err (Refused at why)) = Took left old new [] × IsNoHandshake side (kept_of new) (IsAtEnd (left (source_of new))) at why
+Greets left side old new (Err (Refused at why)) = Took left old new [] × BreaksAfter side [] (kept_of new) (IsAtEnd (left (source_of new))) at why
 
 -- the next byte, of which one is kept, begins no message
 pub record IsLineNext (kept : List ℕ) : Type 0 where

@@ -2,12 +2,16 @@
 ghost use Rattle.std.specs.Prelude.{◌≡◌, ◌≤◌, []};
 ghost use Rattle.dbus_handshake_input.specs.Ahead.{Took, source_of};
 ghost use Rattle.dbus_device.specs.Device.{ReadCounts};
+ghost use Rattle.dbus_handshake_input.specs.Heard.{Reads};
 ghost use Rattle.dbus_handshake_input.specs.Passing.{Counts, Greets, IsShort, Passes, SeesMessages, placed};
 
 use crate::fault::{HandshakeFault, HandshakeReason};
-use crate::lines::{Said, next_line, read_said};
+use crate::lines::{Said, hear_line, next_line};
 use crate::read_ahead::ReadAhead;
 use crate::side::Side;
+use crate::size::HandshakeSize;
+use crate::unheard::Unheard;
+use crate::visitor::LineVisitor;
 use dbus_device::{DeviceFault, Source};
 use std::alloc::Allocator;
 
@@ -43,6 +47,7 @@ const MOST_LINES: usize = 1024;
 ///     Err(fault) => return Err(fault.into()),
 /// }
 /// ```
+#[tactic(auto, using(crate::proofs::HandshakeSteps::passes_by, crate::proofs::HandshakeSteps::passes_not))]
 pub fn pass_handshake<A: Allocator + Copy, R: Source>(
     alloc: A,
     side: Side,
@@ -54,31 +59,63 @@ pub fn pass_handshake<A: Allocator + Copy, R: Source>(
     ensures same_reference { R.reference (source_of input.new) ≡
         R.reference (source_of input.old) }
 {
-    let mut start = match greeted(side, input) {
+    match read_handshake(alloc, side, input, &mut Unheard) {
+        Ok(_) => Ok(()),
+        Err(fault) => Err(fault),
+    }
+}
+
+/// Takes the handshake of a side from the source, as [`pass_handshake`] does, hands each line of it to the visitor, and returns how many
+/// lines and bytes it has. The visitor has a line before bytes after it are read.
+///
+/// `Refused`, `Device`, `Memory`: as [`pass_handshake`] says; the visitor has the lines before that place.
+pub fn read_handshake<A: Allocator + Copy, R: Source, V: LineVisitor>(
+    alloc: A,
+    side: Side,
+    input: &mut ReadAhead<R>,
+    visitor: &mut V,
+) -> Result<HandshakeSize, HandshakeFault>
+    ensures reads { Reads V.hears side R.left input.old input.new visitor.old visitor.new result }
+    ensures failed { Counts (R.failures (source_of input.old)) (R.failures (source_of input.new))
+        result }
+    ensures same_reference { R.reference (source_of input.new) ≡
+        R.reference (source_of input.old) }
+{
+    let mut bytes = match greeted(side, input) {
         Ok(count) => count,
         Err(fault) => return Err(fault),
     };
     let mut accepted = false;
-    'lines: for _ in 0..MOST_LINES {
+    'lines: for count in 0..MOST_LINES {
         match sees_messages(accepted, input) {
-            Ok(true) => return Ok(()),
+            Ok(true) => {
+                return Ok(HandshakeSize {
+                    lines: count,
+                    bytes,
+                });
+            }
             Ok(false) => {}
             Err(DeviceFault) => return Err(HandshakeFault::Device),
         }
         let line = match next_line(alloc, side, input) {
             Ok(line) => line,
-            Err(fault) => return Err(placed(start, fault)),
+            Err(fault) => return Err(placed(bytes, fault)),
         };
-        let is_ok = match read_said(alloc, side, line.as_slice()) {
-            Ok(Said::GoesOn { is_ok }) => is_ok,
-            Ok(Said::Begin) => return Ok(()),
+        let start = bytes;
+        bytes += line.len() + 2;
+        match hear_line(alloc, side, start, line.as_slice(), visitor) {
+            Ok(Said::GoesOn { is_ok }) => accepted |= is_ok,
+            Ok(Said::Begin) => {
+                return Ok(HandshakeSize {
+                    lines: count + 1,
+                    bytes,
+                });
+            }
             Ok(Said::Nothing) => return Err(refused(start, HandshakeReason::NoCommand)),
             Err(_) => return Err(HandshakeFault::Memory),
-        };
-        accepted |= is_ok;
-        start += line.len() + 2;
+        }
     }
-    Err(refused(start, HandshakeReason::TooManyLines))
+    Err(refused(bytes, HandshakeReason::TooManyLines))
 }
 
 // Takes what comes before the lines of a side, and returns how many bytes that is.

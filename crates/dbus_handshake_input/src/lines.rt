@@ -1,13 +1,15 @@
 //! One line of a side.
-ghost use Rattle.std.specs.Prelude.{◌≡◌, IfOk};
+ghost use Rattle.std.specs.Prelude.{◌≡◌};
 ghost use Rattle.dbus_handshake_input.specs.Ahead.{source_of};
-ghost use Rattle.dbus_handshake_input.specs.Lines.{ReadsLine, Says, client_says, refusal_of, server_says};
+ghost use Rattle.dbus_handshake_input.specs.Heard.{HearsLine};
+ghost use Rattle.dbus_handshake_input.specs.Lines.{ReadsLine, client_says, is_nothing, refusal_of, server_says};
 ghost use Rattle.dbus_auth_lines.specs.LineViews.{client_command, server_command};
 ghost use Rattle.dbus_handshake_input.specs.Passing.{Counts};
 
 use crate::fault::{HandshakeFault, HandshakeReason};
 use crate::read_ahead::ReadAhead;
 use crate::side::Side;
+use crate::visitor::LineVisitor;
 use dbus_auth_lines::{ClientLine, LineCutter, LineFault, ServerLine, read_client, read_server};
 use dbus_device::{DeviceFault, Source};
 use std::alloc::{AllocError, Allocator};
@@ -24,6 +26,15 @@ pub(crate) enum Said {
     },
     // It is no command of the side.
     Nothing,
+}
+
+impl Said {
+    // Whether it is no command of the side.
+    fn is_nothing(self) -> bool
+        ensures { result ≡ is_nothing self }
+    {
+        matches!(self, Said::Nothing)
+    }
 }
 
 // The fault of a line, with its place in the line.
@@ -82,23 +93,35 @@ pub(crate) fn next_line<A: Allocator + Copy, R: Source>(
     }
 }
 
-// What a line says.
-#[tactic(auto, using(crate::proofs::LineSteps::client_says_so, crate::proofs::LineSteps::server_says_so))]
-pub(crate) fn read_said<A: Allocator + Copy>(
+// What a line says, which a visitor hears if it is a command of the side.
+#[tactic(auto, using(crate::proofs::LineSteps::client_says_so, crate::proofs::LineSteps::server_says_so, crate::proofs::LineSteps::hears_so))]
+pub(crate) fn hear_line<A: Allocator + Copy, V: LineVisitor>(
     alloc: A,
     side: Side,
+    offset: usize,
     line: &[u8],
+    visitor: &mut V,
 ) -> Result<Said, AllocError>
-    ensures { IfOk result (λ said. Says side line.now said) }
+    ensures { HearsLine V.hears side offset line.now visitor.old visitor.new result }
 {
     match side {
         Side::Client => {
             let read = read_client(alloc, line)?;
-            Ok(client_said(&read))
+            let said = client_said(&read);
+            if said.is_nothing() {
+                return Ok(said);
+            }
+            visitor.client_line(offset, line, &read);
+            Ok(said)
         }
         Side::Server => {
             let read = read_server(alloc, line)?;
-            Ok(server_said(&read))
+            let said = server_said(&read);
+            if said.is_nothing() {
+                return Ok(said);
+            }
+            visitor.server_line(offset, line, &read);
+            Ok(said)
         }
     }
 }
