@@ -17,7 +17,7 @@ PAGE = ROOT / "docs" / "API.md"
 
 # What a program names in its line of crates.txt. A call is listed under the first of them that has it.
 CALLERS = """dbus_value dbus_message dbus_compose dbus_body dbus_validate dbus_swap dbus_stream dbus_device dbus_match dbus_rule_set dbus_auth dbus_handshake_input
-    dbus_auth_lines dbus_count dbus_show dbus_show_view dbus_json dbus_explain dbus_types dbus_texts""".split()
+    dbus_auth_lines dbus_count dbus_show dbus_show_handshake dbus_show_view dbus_json dbus_explain dbus_types dbus_texts""".split()
 
 # Each heading, with the crates, and the files of crates, whose calls stand below it in this order.
 HEADINGS = {
@@ -30,7 +30,7 @@ HEADINGS = {
         dbus_stream/writing.rt dbus_device dbus_stream""",
     "Match rules": "dbus_match/parse.rt dbus_match/to_text.rt dbus_match dbus_rule_set",
     "The handshake": "dbus_auth/server_end.rt dbus_auth/client_end.rt dbus_auth dbus_handshake_input dbus_auth_lines",
-    "Print": "dbus_show/show.rt dbus_show_view dbus_json dbus_explain dbus_show",
+    "Print": "dbus_show/show.rt dbus_show_view dbus_json dbus_show_handshake dbus_explain dbus_show",
     "Texts and types": "dbus_types dbus_texts",
     "Limits": "dbus_value_model/limits.rt dbus_value_model/fd_rule.rt",
     "Others": "",
