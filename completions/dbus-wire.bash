@@ -2,7 +2,7 @@
 
 _dbus_wire() {
     local word=${COMP_WORDS[COMP_CWORD]} option=${COMP_WORDS[COMP_CWORD-1]}
-    local commands='show json check swap filter help'
+    local commands='show json check swap filter handshake help'
     local options='--explain --max-message --max-array --max-depth --fds --handshake -h --help'
     COMPREPLY=()
     # A redirection names a file, which bash completes.
@@ -26,7 +26,7 @@ _dbus_wire() {
             COMPREPLY=($(compgen -W 'any below-count' -- "$word"))
             return
             ;;
-        --handshake)
+        --handshake | --side)
             COMPREPLY=($(compgen -W 'client server' -- "$word"))
             return
             ;;
@@ -52,6 +52,9 @@ _dbus_wire() {
             ;;
         check)
             COMPREPLY=($(compgen -W "--keep-going $options" -- "$word"))
+            ;;
+        handshake)
+            COMPREPLY=($(compgen -W '--side -h --help' -- "$word"))
             ;;
         help)
             ((COMP_CWORD == 2)) && COMPREPLY=($(compgen -W "$commands" -- "$word"))

@@ -1,6 +1,6 @@
 # The completion of dbus-wire's commands and options, for fish.
 
-set -l commands show json check swap filter help
+set -l commands show json check swap filter handshake help
 
 complete -c dbus-wire -n "not __fish_seen_subcommand_from $commands" -f
 complete -c dbus-wire -n "not __fish_seen_subcommand_from $commands" -a show -d 'Write each message as text'
@@ -8,11 +8,13 @@ complete -c dbus-wire -n "not __fish_seen_subcommand_from $commands" -a json -d 
 complete -c dbus-wire -n "not __fish_seen_subcommand_from $commands" -a check -d 'Say whether the whole input is messages'
 complete -c dbus-wire -n "not __fish_seen_subcommand_from $commands" -a swap -d 'Write each message in another byte order'
 complete -c dbus-wire -n "not __fish_seen_subcommand_from $commands" -a filter -d 'Write the messages that match a rule'
+complete -c dbus-wire -n "not __fish_seen_subcommand_from $commands" -a handshake -d 'List the lines before the messages'
 complete -c dbus-wire -n "not __fish_seen_subcommand_from $commands" -a help -d 'Write the help'
 complete -c dbus-wire -s h -l help -f -d 'Write the help'
 complete -c dbus-wire -n "not __fish_seen_subcommand_from $commands" -s V -l version -f -d 'Write the version'
-complete -c dbus-wire -n '__fish_seen_subcommand_from help' -f -a 'show json check swap filter help'
+complete -c dbus-wire -n '__fish_seen_subcommand_from help' -f -a 'show json check swap filter handshake help'
 complete -c dbus-wire -n '__fish_seen_subcommand_from swap' -l to -x -a 'l B' -d 'The byte order to write'
+complete -c dbus-wire -n '__fish_seen_subcommand_from handshake' -l side -x -a 'client server' -d 'Whose lines they are'
 complete -c dbus-wire -n '__fish_seen_subcommand_from filter' -l invert -f -d 'Write the messages that match no rule'
 complete -c dbus-wire -n '__fish_seen_subcommand_from filter' -l owner -x -d 'The owner of a well-known name, NAME=UNIQUE'
 complete -c dbus-wire -n '__fish_seen_subcommand_from filter' -l learn-owners -f -d 'Owners are also those that the bus tells'

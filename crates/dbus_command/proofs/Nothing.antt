@@ -4,28 +4,55 @@ use Rattle.std.specs.List.{AllByRecursion}
 use Rattle.clap.specs.Words.{Row, Text, all_of, first_of}
 use Rattle.dbus_value_model.specs.declared.order.Order.{Order}
 use Rattle.dbus_match.specs.Matching.{Ownership, ownership}
-use Rattle.dbus_command.specs.Named.{HasSettings, NamesCommand, IsSelectionGiven, order_word, words_of}
+use Rattle.dbus_command.specs.Named.{HasSettings, Names, NamesCommand, IsSelectionGiven, order_word, side_word, words_of}
 use Rattle.dbus_command.specs.Owners.{IsOwnerWord}
 use Rattle.dbus_command.proofs.WordLists.{each_can}
 use Rattle.dbus_command.specs.Told.{IsNoCommand, NamesNothing}
+use Rattle.dbus_handshake_input.specs.declared.side.Side.{Side}
+use Rattle.dbus_command.specs.declared.asked.Asked.{Asked}
+use Rattle.dbus_command.specs.declared.asked.Asked.TheVariants.{Messages, Handshake}
 use Rattle.dbus_command.specs.declared.command.Command.{Command}
 use Rattle.dbus_command.specs.declared.command.Command.TheVariants.{Show, Json, Check, Swap, Filter}
 use Rattle.dbus_command.specs.declared.selection.Selection.{Selection}
 use Rattle.dbus_command.specs.declared.settings.Settings.{Settings}
 
-module _ (sub : Text × List Row) where
-  -- options that name no settings
+-- a name other than `handshake`
+module _ (sub : Text × List Row) (other : sub.0 ≡ codes "handshake" → ⊥) where
+  only_messages : ((command : Command) (settings : Settings) → Names (Some sub) (Messages command settings) → ⊥) → (asked : Asked) → Names (Some sub) asked → ⊥
+  only_messages none (Messages command settings) named = none command settings named
+  only_messages none (Handshake side) named = other named.0
+
+  -- with options that name no settings
   pub unset_names_nothing : ((settings : Settings) → HasSettings sub.1 settings → ⊥) → NamesNothing (Some sub)
   unset_names_nothing none = record {
-    no_command = λ command settings named. none settings named.1;
+    none_asked = only_messages (λ command settings named. none settings named.1);
     no_rule = λ refused found. none found.1.0 found.1.1;
   }
 
-  -- a name of a command, with words that name none
+  -- of a command, with words that name none
   pub no_command_names_nothing : IsNoCommand sub.0 sub.1 → NamesNothing (Some sub)
   no_command_names_nothing none = record {
-    no_command = λ command settings named. none.no_command command named.0;
+    none_asked = only_messages (λ command settings named. none.no_command command named.0);
     no_rule = λ refused found. none.no_fault refused found.0;
+  }
+
+-- `handshake` with no side
+module _ (rows : List Row) (no_side : (side : Side) → first_of (codes "side") rows ≡ Some (side_word side) → ⊥) where
+  no_messages : (command : Command) → NamesCommand (codes "handshake") rows command → ⊥
+  no_messages Show named = let bad : ◌≡◌ {A = ℕ} 104 115 = ap (λ t. slice_index t 0) named in absurd (omega arith)
+  no_messages Json named = let bad : ◌≡◌ {A = ℕ} 104 106 = ap (λ t. slice_index t 0) named in absurd (omega arith)
+  no_messages Check named = let bad : ◌≡◌ {A = ℕ} 104 99 = ap (λ t. slice_index t 0) named in absurd (omega arith)
+  no_messages (Swap order) named = let bad : ◌≡◌ {A = ℕ} 104 115 = ap (λ t. slice_index t 0) named.0 in absurd (omega arith)
+  no_messages (Filter selection) named = let bad : ◌≡◌ {A = ℕ} 104 102 = ap (λ t. slice_index t 0) named.0 in absurd (omega arith)
+
+  unsided : (asked : Asked) → Names (Some (codes "handshake", rows)) asked → ⊥
+  unsided (Messages command settings) named = no_messages command named.0
+  unsided (Handshake side) named = no_side side named.1
+
+  pub unsided_names_nothing : NamesNothing (Some (codes "handshake", rows))
+  unsided_names_nothing = record {
+    none_asked = unsided;
+    no_rule = λ refused found. let bad : ◌≡◌ {A = ℕ} 104 102 = ap (λ t. slice_index t 0) found.0.named in absurd (omega arith);
   }
 
 module _ (rows : List Row) (no_order : (order : Order) → first_of (codes "to") rows ≡ Some (order_word order) → ⊥) where

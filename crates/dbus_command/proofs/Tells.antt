@@ -16,7 +16,7 @@ use Rattle.dbus_command.specs.Told.{TellsFault, TellsKind, Tells, TellsCommand, 
 use Rattle.dbus_command.specs.Named.{HasRuleFault, HasSettings, IsGiven, IsNamedBy, Names, words_of}
 use Rattle.dbus_command.specs.Owners.{IsOwnerWord}
 use Rattle.dbus_command.proofs.Nothing.{no_command_names_nothing, unset_names_nothing, unowned_is_no_command}
-use Rattle.dbus_command.specs.declared.command.Command.{Command}
+use Rattle.dbus_command.specs.declared.asked.Asked.{Asked}
 use Rattle.dbus_command.specs.declared.settings.Settings.{Settings}
 use Rattle.dbus_command.specs.declared.usage_fault.UsageFault.{UsageFault}
 use Rattle.dbus_command.specs.declared.usage_fault.UsageFault.TheVariants.{Memory, Help, Version, Usage, Rule}
@@ -110,30 +110,30 @@ part_told Part Is has (Usage text) h = λ y is. let part = has y is in h part.0 
 part_told Part Is has (Rule refused) h = h
 
 -- and of a command after options that name no settings
-pub told_without_settings : (sub : Text × List Row) (told : UsageFault) → TellsNamed (HasSettings sub.1) (Err told) → Tells (Some sub) (Err told)
-told_without_settings sub Memory h = tt
-told_without_settings sub (Help text) h = h
-told_without_settings sub (Version text) h = h
-told_without_settings sub (Usage text) h = unset_names_nothing sub h
-told_without_settings sub (Rule refused) h = absurd h
+pub told_without_settings : (sub : Text × List Row) (told : UsageFault) → (sub.0 ≡ codes "handshake" → ⊥) → TellsNamed (HasSettings sub.1) (Err told) → Tells (Some sub) (Err told)
+told_without_settings sub Memory other h = tt
+told_without_settings sub (Help text) other h = h
+told_without_settings sub (Version text) other h = h
+told_without_settings sub (Usage text) other h = unset_names_nothing sub other h
+told_without_settings sub (Rule refused) other h = absurd h
 
 -- what is told of the words after a name, where they name settings
-pub told_under_settings : (sub : Text × List Row) (settings : Settings) (told : UsageFault) → HasSettings sub.1 settings → TellsCommand sub.0 sub.1 (Err told)
+pub told_under_settings : (sub : Text × List Row) (settings : Settings) (told : UsageFault) → (sub.0 ≡ codes "handshake" → ⊥) → HasSettings sub.1 settings → TellsCommand sub.0 sub.1 (Err told)
     → Tells (Some sub) (Err told)
-told_under_settings sub settings Memory given h = tt
-told_under_settings sub settings (Help text) given h = h
-told_under_settings sub settings (Version text) given h = h
-told_under_settings sub settings (Usage text) given h = no_command_names_nothing sub h
-told_under_settings sub settings (Rule refused) given h = (h, (settings, given))
+told_under_settings sub settings Memory other given h = tt
+told_under_settings sub settings (Help text) other given h = h
+told_under_settings sub settings (Version text) other given h = h
+told_under_settings sub settings (Usage text) other given h = no_command_names_nothing sub other h
+told_under_settings sub settings (Rule refused) other given h = (h, (settings, given))
 
-pub named_of_matches : (words : List Text) (sub : Option (Text × List Row)) (answer : Result (Command × Settings) UsageFault) → subcommand_of wire_app words ≡ sub
+pub named_of_matches : (words : List Text) (sub : Option (Text × List Row)) (answer : Result Asked UsageFault) → subcommand_of wire_app words ≡ sub
     → Tells sub answer → IfOk answer (IsNamedBy words)
-named_of_matches words sub (Ok named) same h = subst (λ s. Names s named.0 named.1) (sym same) h
+named_of_matches words sub (Ok asked) same h = subst (λ s. Names s asked) (sym same) h
 named_of_matches words sub (Err fault) same h = tt
 
-pub told_of_matches : (words : List Text) (sub : Option (Text × List Row)) (answer : Result (Command × Settings) UsageFault) → fault_of wire_app words ≡ []
+pub told_of_matches : (words : List Text) (sub : Option (Text × List Row)) (answer : Result Asked UsageFault) → fault_of wire_app words ≡ []
     → subcommand_of wire_app words ≡ sub → Tells sub answer → TellsFault words answer
-told_of_matches words sub (Ok named) none same h = none
+told_of_matches words sub (Ok asked) none same h = none
 told_of_matches words sub (Err Memory) none same h = tt
 told_of_matches words sub (Err (Help text)) none same h = absurd h
 told_of_matches words sub (Err (Version text)) none same h = absurd h

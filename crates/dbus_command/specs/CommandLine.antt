@@ -12,6 +12,10 @@ use Rattle.dbus_value_model.specs.declared.limits.TheConstants.{ARRAY_LIMIT, DEP
 abbrev pub to_rule : Rule
 to_rule = record (new_rule (codes "to")) { long = Some (codes "to"); value_names = 1; required = true }
 
+-- the option `--side`, which must be there, with one value
+abbrev pub side_rule : Rule
+side_rule = record (new_rule (codes "side")) { long = Some (codes "side"); value_names = 1; required = true }
+
 -- the rules' texts, each one word, of which one must be there
 abbrev pub text_rule : Rule
 text_rule = record (new_rule (codes "rule")) { value_names = 1; required = true; action = Some Append }
@@ -73,15 +77,19 @@ swap_app = with_options (with_rule (new_app (codes "swap")) to_rule)
 abbrev pub filter_app : App
 filter_app = with_window (with_rule (with_rule (with_rule (with_rule (new_app (codes "filter")) text_rule) (flag_rule (codes "invert"))) owner_rule) (flag_rule (codes "learn-owners")))
 
+abbrev pub handshake_app : App
+handshake_app = with_rule (new_app (codes "handshake")) side_rule
+
 -- the program has a version, and one of the subcommands must be named
 abbrev pub bare_app : App
 bare_app = on_top (λ s. record s { subcommand_required = true; has_version = true }) (new_app (codes "dbus-wire"))
 
--- the program, with its five subcommands
+-- the program, with its six subcommands
 abbrev pub wire_app : App
 wire_app = with_subcommand
+    (with_subcommand
     (with_subcommand (with_subcommand (with_subcommand (with_subcommand bare_app show_app.top) json_app.top) check_app.top) swap_app.top)
-    filter_app.top
+    filter_app.top) handshake_app.top
 
 -- clap reads this of the command, and it has no argument that its subcommands share
 pub record IsLocal (app : App) (command : Command) : Type 0 where

@@ -15,6 +15,8 @@ use Rattle.dbus_handshake_input.specs.declared.side.Side.TheVariants.{Client, Se
 use Rattle.dbus_command.specs.CommandLine.{wire_app}
 use Rattle.dbus_command.specs.Limiting.{HasLimits, HasWindow}
 use Rattle.dbus_command.specs.Owners.{AreOwnersOf, IsOwnerWord}
+use Rattle.dbus_command.specs.declared.asked.Asked.{Asked}
+use Rattle.dbus_command.specs.declared.asked.Asked.TheVariants.{Messages, Handshake}
 use Rattle.dbus_command.specs.declared.command.Command.{Command}
 use Rattle.dbus_command.specs.declared.command.Command.TheVariants.{Show, Json, Check, Swap, Filter}
 use Rattle.dbus_command.specs.declared.selection.Selection.{Selection}
@@ -82,14 +84,15 @@ pub record HasSettings (rows : List Row) (settings : Settings) : Type 0 where
   pub handshake : HasSide rows settings.handshake
   pub window : HasWindow rows settings.window
 
--- the subcommand and the words after it name the command and its settings
-abbrev pub Names : Option (Text × List Row) → Command → Settings → Type 0
-Names None command settings = ⊥
-Names (Some sub) command settings = NamesCommand sub.0 sub.1 command × HasSettings sub.1 settings
+-- the subcommand and the words after it name a command and its settings, or the side whose handshake is listed
+abbrev pub Names : Option (Text × List Row) → Asked → Type 0
+Names None asked = ⊥
+Names (Some sub) (Messages command settings) = NamesCommand sub.0 sub.1 command × HasSettings sub.1 settings
+Names (Some sub) (Handshake side) = (sub.0 ≡ codes "handshake") × (first_of (codes "side") sub.1 ≡ Some (side_word side))
 
--- the command and the settings are those that the words name
-abbrev pub IsNamedBy : List Text → Command × Settings → Type 0
-IsNamedBy words named = Names (subcommand_of wire_app words) named.0 named.1
+-- it is what the words name
+abbrev pub IsNamedBy : List Text → Asked → Type 0
+IsNamedBy words asked = Names (subcommand_of wire_app words) asked
 
 -- the first of the texts that spells no rule is this one, with its fault
 pub record HasFirstFault (texts : List Text) (refused : RefusedRule) : Type 0 where

@@ -13,8 +13,8 @@ use Rattle.dbus_match.specs.Matching.{Ownership, ownership}
 use Rattle.dbus_command.specs.CommandLine.{wire_app}
 use Rattle.dbus_command.specs.Owners.{AreOwnersOf, IsOwnerWord}
 use Rattle.dbus_command.specs.Named.{AreRulesOf, HasFirstFault, Names, NamesCommand, HasFault, HasRuleFault}
+use Rattle.dbus_command.specs.declared.asked.Asked.{Asked}
 use Rattle.dbus_command.specs.declared.command.Command.{Command}
-use Rattle.dbus_command.specs.declared.settings.Settings.{Settings}
 use Rattle.dbus_command.specs.declared.usage_fault.RefusedRule.{RefusedRule}
 use Rattle.dbus_command.specs.declared.usage_fault.UsageFault.{UsageFault}
 use Rattle.dbus_command.specs.declared.usage_fault.UsageFault.TheVariants.{Memory, Help, Version, Usage, Rule}
@@ -75,15 +75,15 @@ TellsCommand name rows (Err (Version text)) = ⊥
 TellsCommand name rows (Err (Usage text)) = IsNoCommand name rows
 TellsCommand name rows (Err (Rule refused)) = HasFault name rows refused
 
--- the subcommand and the words after it name no command with its settings, and no rule that is refused
+-- the subcommand and the words after it name nothing that is asked for, and no rule that is refused
 pub record NamesNothing (sub : Option (Text × List Row)) : Type 0 where
-  pub no_command : (command : Command) (settings : Settings) → Names sub command settings → ⊥
+  pub none_asked : (asked : Asked) → Names sub asked → ⊥
   pub no_rule : (refused : RefusedRule) → HasRuleFault sub refused → ⊥
 
--- the command and the settings that the subcommand and the words after it name; else the rule that is refused; else a fault
+-- what the subcommand and the words after it name; else the rule that is refused; else a fault
 -- of usage
-abbrev pub Tells : Option (Text × List Row) → Result (Command × Settings) UsageFault → Type 0
-Tells sub (Ok named) = Names sub named.0 named.1
+abbrev pub Tells : Option (Text × List Row) → Result Asked UsageFault → Type 0
+Tells sub (Ok asked) = Names sub asked
 Tells sub (Err Memory) = Unit {0}
 Tells sub (Err (Help text)) = ⊥
 Tells sub (Err (Version text)) = ⊥
@@ -97,10 +97,10 @@ pub record HasUsageFault (words : List Text) : Type 0 where
   pub no_help : kind ≢ DisplayHelp
   pub no_version : kind ≢ DisplayVersion
 
--- a command, and a refused rule, come only from words in which clap finds no fault, help or the version only from words that ask for it,
--- and a fault of usage only from words that have one, or that have neither a command nor a refused rule
-abbrev pub TellsFault : List Text → Result (Command × Settings) UsageFault → Type 0
-TellsFault words (Ok named) = fault_of wire_app words ≡ []
+-- what is asked for, and a refused rule, come only from words in which clap finds no fault, help or the version only from words that ask for it,
+-- and a fault of usage only from words that have one, or that name nothing and no refused rule
+abbrev pub TellsFault : List Text → Result Asked UsageFault → Type 0
+TellsFault words (Ok asked) = fault_of wire_app words ≡ []
 TellsFault words (Err Memory) = Unit {0}
 TellsFault words (Err (Help text)) = IsAmong DisplayHelp (fault_of wire_app words)
 TellsFault words (Err (Version text)) = IsAmong DisplayVersion (fault_of wire_app words)

@@ -1,10 +1,11 @@
 //! The command that the words of a command line name.
-ghost use Rattle.std.specs.Prelude.{◌≡◌, ◌↔◌, true, List, IfOk, MatchOption, map, string_bytes, codes};
+ghost use Rattle.std.specs.Prelude.{◌≡◌, ◌↔◌, true, List, Some, IfOk, MatchOption, map, string_bytes, codes};
 ghost use Rattle.clap.specs.Words.{found_of, kind_of, rows_of, subcommand_rows_of};
 ghost use Rattle.dbus_command.specs.Named.{HasSettings, HasSide, IsGiven, IsNamedBy, IsOrderOf, IsSideOf, words_of};
 ghost use Rattle.dbus_command.specs.Limiting.{TellsNamed};
 ghost use Rattle.dbus_command.specs.Told.{TellsKind, Tells, TellsCommand, TellsFault, TellsOwners};
 
+use crate::asked::Asked;
 use crate::command::Command;
 use crate::limits_named::{limits_named, window_named};
 use crate::owners::owners_given;
@@ -20,7 +21,7 @@ use dbus_match::Owner;
 use dbus_value::Order;
 use std::alloc::Global;
 
-/// The command that the words name, and its settings. The first of the words is the program's name. `--max-message` and
+/// What the words ask for: the command that they name, and its settings; or of `handshake` the side that `--side` names. The first of the words is the program's name. `--max-message` and
 /// `--max-array`, in bytes, `--max-depth`, in open containers, and `--fds`, a rule on indexes of descriptors, name the limits;
 /// one that they do not name is that of the specification. The flags `--explain`, and `--keep-going` of all commands but `swap`,
 /// are set if they are among the words. `--handshake` names the side whose handshake comes before the messages. `--skip` and `--limit`, of
@@ -29,8 +30,8 @@ use std::alloc::Global;
 /// `Usage`: the words name no command of the program, or have what it does not take, a limit over that of the specification,
 /// a number of messages over 4294967295 and an owner that is no NAME=UNIQUE of two bus names among it. `Rule`: they name `filter`, with a text that spells no rule;
 /// it is the first such text. `Help`, `Version`: they ask for help, or for the version. `Memory`: an allocation failed.
-pub fn command_of(alloc: Global, words: &[String]) -> Result<(Command, Settings), UsageFault>
-    // A command that is returned is the one that the words name, and so are its settings.
+pub fn command_of(alloc: Global, words: &[String]) -> Result<Asked, UsageFault>
+    // What is returned is what the words name: a command and its settings, or a side.
     ensures named { IfOk result (IsNamedBy (map string_bytes words.now)) }
     // Help or the version is returned if the words ask for it, a fault of usage if they have one, and a rule if it is refused.
     ensures faults { TellsFault (map string_bytes words.now) result }
@@ -44,16 +45,32 @@ pub fn command_of(alloc: Global, words: &[String]) -> Result<(Command, Settings)
     }
 }
 
-// The command that matches name, and its settings.
-fn command_named(alloc: Global, matches: &ArgMatches) -> Result<(Command, Settings), UsageFault>
+// What matches name.
+fn command_named(alloc: Global, matches: &ArgMatches) -> Result<Asked, UsageFault>
     ensures { Tells (subcommand_rows_of matches.now) result }
 {
     let Some((name, inner)) = matches.subcommand() else {
         return Err(usage(alloc, "error: no command\n"));
     };
+    if name == "handshake" {
+        return handshake_named(alloc, inner);
+    }
     let settings = settings_named(alloc, inner)?;
     let command = command_with(alloc, name, inner)?;
-    Ok((command, settings))
+    Ok(Asked::Messages(command, settings))
+}
+
+// The side that `handshake` is given.
+fn handshake_named(alloc: Global, inner: &ArgMatches) -> Result<Asked, UsageFault>
+    ensures { Tells (Some (codes "handshake", rows_of (found_of inner.now))) result }
+{
+    let Some(word) = inner.get_str("side") else {
+        return Err(usage(alloc, "error: no side\n"));
+    };
+    match side_of(word) {
+        Some(side) => Ok(Asked::Handshake(side)),
+        None => Err(bad_value(alloc, word, "--side <SIDE>", "client, server")),
+    }
 }
 
 // The settings that the options name.

@@ -183,3 +183,31 @@ pub(crate) const FDS: &str = "Descriptor indexes: any, the default, or below-cou
 
 /// What the side of a handshake is.
 pub(crate) const HANDSHAKE: &str = "Whose handshake comes first: client or server";
+
+/// What `handshake` does.
+pub(crate) const HANDSHAKES: &str = "Lists the lines before the messages, and what each says";
+
+/// What stands after the help of `handshake`.
+pub(crate) const HANDSHAKES_MORE: &str = "Input:
+  What one side of a connection sent, on standard input: a client the byte 0 and
+  its lines up to BEGIN, a server its lines, of which one is OK, up to its first
+  message. What follows is not looked at.
+
+Output:
+  For each line one on standard output: its offset, in bytes from the start of
+  the input, the line, and what it says. After them `ok N lines B bytes`: the
+  messages begin at offset B. If the input is refused,
+  `handshake refused at P: NAME` on standard error, and the lines before that
+  place stay.
+
+Exit status:
+  0  the input begins with the handshake of that side, or help was asked for
+  1  the input is refused: it does not
+  2  the command line is wrong
+  3  a read or a write failed, or memory ran out
+
+Example:
+  dbus-wire handshake --side client < sent";
+
+/// What the side of `handshake` is.
+pub(crate) const SIDE: &str = "Whose lines they are: client or server";

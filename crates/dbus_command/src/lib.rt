@@ -1,9 +1,10 @@
 //! The command line of the program `dbus-wire`: which command its words name, with which settings.
 //!
-//! [`command_of`] returns the [`Command`] or the [`UsageFault`] of some words. The texts of help are here too. `dbus_tool` runs the
+//! [`command_of`] returns what some words ask for, a [`Command`] as a rule, or their [`UsageFault`]. The texts of help are here too. `dbus_tool` runs the
 //! command. `man/dbus-wire.1` describes the words.
 #![tactic(auto)]
 
+mod asked;
 mod command;
 mod command_line;
 mod copies;
@@ -20,6 +21,7 @@ mod usage_fault;
 mod window;
 mod wire;
 
+pub use asked::Asked;
 pub use command::Command;
 pub use command_line::command_of;
 pub use dbus_handshake_input::Side;

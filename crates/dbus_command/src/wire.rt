@@ -1,7 +1,7 @@
 //! The command line, as `clap` is told it.
 ghost use Rattle.std.specs.Prelude.{◌≡◌, IfOk, false};
 ghost use Rattle.clap.specs.Words.{app_of, rule_of};
-ghost use Rattle.dbus_command.specs.CommandLine.{Adds, IsLocal, fds_rule, flag_rule, handshake_rule, limit_rule, owner_rule, text_rule, with_keep_going, with_options, with_window, wire_app, bare_app, show_app, json_app, check_app, swap_app, filter_app};
+ghost use Rattle.dbus_command.specs.CommandLine.{Adds, IsLocal, fds_rule, flag_rule, handshake_rule, limit_rule, owner_rule, text_rule, with_keep_going, with_options, with_window, wire_app, bare_app, show_app, json_app, check_app, swap_app, filter_app, handshake_app, side_rule};
 
 use crate::help;
 use clap::builder::ValueParser;
@@ -171,6 +171,28 @@ fn filter_command<'a>(alloc: Global) -> Result<Command<'a>, AllocError>
     with_window(alloc, learning)
 }
 
+// The side that `handshake` lists.
+fn side_option<'a>(alloc: Global) -> Arg<'a>
+    ensures rule { rule_of result ≡ side_rule }
+    ensures local { result.global ≡ false }
+{
+    Arg::new(alloc, "side")
+        .long("side")
+        .value_name("SIDE")
+        .help(help::SIDE)
+        .required(true)
+}
+
+// `handshake`, with its side.
+fn handshake_command<'a>(alloc: Global) -> Result<Command<'a>, AllocError>
+    ensures { IfOk result (IsLocal handshake_app) }
+{
+    Command::new(alloc, "handshake")
+        .about(help::HANDSHAKES)
+        .after_help(help::HANDSHAKES_MORE)
+        .arg(side_option(alloc))
+}
+
 // The program before it has subcommands, with its version. Its texts call it `dbus-wire`, whatever the first word is.
 fn bare_command<'a>(alloc: Global) -> Result<Command<'a>, AllocError>
     ensures { IfOk result (λ c. app_of c ≡ bare_app) }
@@ -192,10 +214,12 @@ pub(crate) fn wire<'a>(alloc: Global) -> Result<Command<'a>, AllocError>
     let check = check_command(alloc)?;
     let swap = swap_command(alloc)?;
     let filter = filter_command(alloc)?;
+    let handshake = handshake_command(alloc)?;
     let bare = bare_command(alloc)?;
     let showing = bare.subcommand(show)?;
     let listing = showing.subcommand(json)?;
     let checking = listing.subcommand(check)?;
     let swapping = checking.subcommand(swap)?;
-    swapping.subcommand(filter)
+    let filtering = swapping.subcommand(filter)?;
+    filtering.subcommand(handshake)
 }

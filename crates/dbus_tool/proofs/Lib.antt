@@ -3,6 +3,7 @@ pub mod OutputSteps
 pub mod Outputs
 pub mod GatherSteps
 pub mod LentSteps
+pub mod ListSteps
 pub mod ReadSteps
 pub mod GivenSteps
 pub mod HandSteps

@@ -1,5 +1,6 @@
 pub mod Devices
 pub mod Lines
+pub mod Listing
 pub mod RuleLines
 pub mod Windows
 pub mod Output

@@ -9,11 +9,14 @@ use Rattle.dbus_command.specs.Windows.{ask_more}
 use Rattle.dbus_tool.specs.Devices.{Reading, Writing, writing}
 use Rattle.dbus_tool.specs.Going.{RunsWith}
 use Rattle.dbus_tool.specs.Handshaking.{ReadsHandshake, Shows, StopsBy, TellsHandshake, ahead}
+use Rattle.dbus_tool.specs.Listing.{Lists}
 use Rattle.dbus_tool.specs.RuleLines.{IsRuleTold}
 use Rattle.dbus_tool.specs.Running.{Runs, Told}
 use Rattle.dbus_handshake_input.specs.declared.fault.HandshakeFault.{HandshakeFault}
 use Rattle.dbus_handshake_input.specs.declared.read_ahead.ReadAhead.{ReadAhead}
 use Rattle.dbus_handshake_input.specs.declared.side.Side.{Side}
+use Rattle.dbus_command.specs.declared.asked.Asked.{Asked}
+use Rattle.dbus_command.specs.declared.asked.Asked.TheVariants.{Messages, Handshake}
 use Rattle.dbus_command.specs.declared.command.Command.{Command}
 use Rattle.dbus_command.specs.declared.settings.Settings.{Settings}
 use Rattle.dbus_command.specs.declared.usage_fault.RefusedRule.{RefusedRule}
@@ -64,9 +67,10 @@ module _ {R W E : Type 0} (left : R → Option (List ℕ)) (failures : R → ℕ
       × RunsFrom left failures old new w (writing e.held e.failures begun e.new) settings.handshake settings command end)
       ⊎ ((new ≡ old) × (w.new ≡ w.old) × (end ≡ status.Failed) × (n : ℕ) × Stopped e.held e.failures e.old owner_note n e.new)
 
-  -- what is done for a command by its settings, or for words that name none
-  abbrev pub Does : Result (Command × Settings) UsageFault → ExitStatus → Type 0
-  Does (Ok named) end = RunsNoted (named.1.explains && lacks_owner named.0) named.1 named.0 end
+  -- what is done for a command by its settings, for the side whose handshake is listed, or for words that name nothing
+  abbrev pub Does : Result Asked UsageFault → ExitStatus → Type 0
+  Does (Ok (Messages command settings)) end = RunsNoted (settings.explains && lacks_owner command) settings command end
+  Does (Ok (Handshake side)) end = Lists left failures old new w e side end
   Does (Err Memory) end = (new ≡ old) × (w.new ≡ w.old) × StopsBy e.held e.failures e.old e.new cause.Memory end
   Does (Err (Help text)) end = (new ≡ old) × ShowsText w e (string_bytes text) end
   Does (Err (Version text)) end = (new ≡ old) × ShowsText w e (string_bytes text) end
@@ -75,7 +79,7 @@ module _ {R W E : Type 0} (left : R → Option (List ℕ)) (failures : R → ℕ
 
   -- the words were told from one another, and it did what they say
   pub record RunsWords (words : List Text) (end : ExitStatus) : Type 0 where
-    pub answer : Result (Command × Settings) UsageFault
+    pub answer : Result Asked UsageFault
     pub named : IfOk answer (IsNamedBy words)
     pub told : TellsFault words answer
     pub does : Does answer end

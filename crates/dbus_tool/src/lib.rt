@@ -18,6 +18,7 @@ mod handing;
 mod json_lines;
 pub mod laws;
 mod lines;
+mod listing;
 mod output;
 mod page;
 mod place;
@@ -31,7 +32,7 @@ mod window;
 mod words;
 
 pub use dbus_command::{
-    Command, RefusedRule, Selection, Settings, Side, UsageFault, Window, command_of,
+    Asked, Command, RefusedRule, Selection, Settings, Side, UsageFault, Window, command_of,
 };
 pub use dbus_handshake_input::ReadAhead;
 pub use ending::ExitStatus;

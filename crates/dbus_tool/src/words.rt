@@ -4,16 +4,19 @@ ghost use Rattle.dbus_command.specs.Unowned.{lacks_owner};
 ghost use Rattle.dbus_command.specs.Windows.{ask_more};
 ghost use Rattle.dbus_tool.specs.Devices.{reading, writing};
 ghost use Rattle.dbus_tool.specs.Handshaking.{Shows, TellsHandshake};
+ghost use Rattle.dbus_tool.specs.Listing.{Lists};
 ghost use Rattle.dbus_tool.specs.Words.{RefusesRule, RunsBy, RunsFrom, RunsNoted, RunsWords, ShowsText};
 
 use crate::ending::{Cause, ExitStatus};
 use crate::failing::give_up;
+use crate::gathering::Unwritten;
 use crate::going::run_with;
 use crate::lines::handshake_line;
+use crate::listing::write_lines;
 use crate::rule_lines::rule_text;
 use crate::running::run_within;
-use dbus_command::{Command, RefusedRule, Settings, UsageFault, command_of};
-use dbus_handshake_input::{HandshakeFault, ReadAhead, pass_handshake};
+use dbus_command::{Asked, Command, RefusedRule, Settings, UsageFault, command_of};
+use dbus_handshake_input::{HandshakeFault, ReadAhead, Side, pass_handshake};
 use dbus_stream::{MOST_READS, Sink, Source, WrittenOnly, write_all};
 use std::alloc::Global;
 
@@ -35,6 +38,10 @@ const OWNER_NOTE: &str =
 /// of the 2^32; the run has what follows, and counts its offsets from there. If the input begins with no handshake of that side,
 /// `handshake refused at P: NAME` and LF go to the second writer, with the place from the start of the input and the name of the reason.
 ///
+/// If they name `handshake` with a side, the first writer gets a line for each line of the side's handshake, its offset, the line and what it
+/// says, and then `ok N lines B bytes`; or, if the input begins with none, the lines before that place, and the second writer what is said
+/// above. All goes out before the status is given, and no more than 16,384 bytes are gathered. No byte after the handshake is looked at.
+///
 /// `Done`, `Refused`, `Failed`: as [`run_within`] says. `Done` also where help was written, and `Refused` where a handshake was refused.
 /// `Usage`: the words name no command, and that was reported. `Failed` also if such a text was not written, of help with
 /// `write failed` on the second writer; and if an allocation failed, with `out of memory` there.
@@ -51,7 +58,10 @@ pub fn run_words<R: Source, W: Sink, E: Sink>(
         (map string_bytes words.now) result }
 {
     match command_of(alloc, words) {
-        Ok((command, settings)) => run_noted(alloc, command, settings, reader, first, second),
+        Ok(Asked::Messages(command, settings)) => {
+            run_noted(alloc, command, settings, reader, first, second)
+        }
+        Ok(Asked::Handshake(side)) => list_handshake(alloc, side, reader, first, second),
         Err(UsageFault::Memory) => give_up(Cause::Memory, second),
         Err(UsageFault::Help(text) | UsageFault::Version(text)) => {
             show_text(text.as_str(), first, second)
@@ -126,6 +136,25 @@ fn run_by<R: Source, W: Sink, E: Sink>(
     } else {
         let limits = settings.limits;
         run_within(alloc, command, limits, MOST_READS, reader, first, second)
+    }
+}
+
+// Lists the lines of the handshake of a side.
+fn list_handshake<R: Source, W: Sink, E: Sink>(
+    alloc: Global,
+    side: Side,
+    reader: &mut ReadAhead<R>,
+    first: &mut W,
+    second: &mut E,
+) -> ExitStatus
+    ensures { Lists R.left R.failures reader.old reader.new
+        (writing W.held W.failures first.old first.new)
+        (writing E.held E.failures second.old second.new) side result }
+{
+    match write_lines(alloc, side, reader, first) {
+        (_, Err(Unwritten)) => give_up(Cause::WriteFailed, second),
+        (Ok(_), Ok(())) => ExitStatus::Done,
+        (Err(fault), Ok(())) => refuse_handshake(alloc, fault, second),
     }
 }
 

@@ -4,7 +4,7 @@ use crate::help_texts::*;
 use crate::running::words_of;
 use crate::usage_texts::*;
 use dbus_match::{RuleReason, rule_text};
-use dbus_tool::{Command, Selection, Settings, Side, UsageFault, command_of};
+use dbus_tool::{Asked, Command, Selection, Side, UsageFault, command_of};
 use dbus_value::{FdRule, Limits, Order};
 use std::alloc::Global;
 use std::process::Abort;
@@ -17,13 +17,14 @@ type Selected = (
     &'static [(&'static str, &'static str)],
 );
 
-// What words name: a command; or a rule that is refused: its text, the place and the reason, and whether it is to be explained.
+// What words name: a command; a side whose handshake is listed; or a rule that is refused: its text, the place and the reason, and whether it is to be explained.
 enum Named {
     Show,
     Json,
     Check,
     Swap(Order),
     Filter(Selected),
+    Handshake(Side),
     Refused(&'static str, usize, RuleReason, bool),
 }
 
@@ -31,7 +32,7 @@ enum Named {
 fn answer_to(
     alloc: Global,
     words: &[&str],
-) -> Result<Result<(Command, Settings), UsageFault>, Fail> {
+) -> Result<Result<Asked, UsageFault>, Fail> {
     let words = words_of(alloc, "/usr/bin/dbus-wire", words)?;
     Ok(command_of(alloc, words.as_slice()))
 }
@@ -58,13 +59,14 @@ fn is_selection(alloc: Global, given: &Selection, selected: &Selected) -> Result
 // Whether the words name this.
 fn is_named(alloc: Global, words: &[&str], named: &Named) -> Result<bool, Fail> {
     match (answer_to(alloc, words)?, named) {
-        (Ok((Command::Show, _)), Named::Show) => Ok(true),
-        (Ok((Command::Json, _)), Named::Json) => Ok(true),
-        (Ok((Command::Check, _)), Named::Check) => Ok(true),
-        (Ok((Command::Swap(given), _)), Named::Swap(order)) => Ok(given == *order),
-        (Ok((Command::Filter(given), _)), Named::Filter(selected)) => {
+        (Ok(Asked::Messages(Command::Show, _)), Named::Show) => Ok(true),
+        (Ok(Asked::Messages(Command::Json, _)), Named::Json) => Ok(true),
+        (Ok(Asked::Messages(Command::Check, _)), Named::Check) => Ok(true),
+        (Ok(Asked::Messages(Command::Swap(given), _)), Named::Swap(order)) => Ok(given == *order),
+        (Ok(Asked::Messages(Command::Filter(given), _)), Named::Filter(selected)) => {
             is_selection(alloc, &given, selected)
         }
+        (Ok(Asked::Handshake(given)), Named::Handshake(side)) => Ok(given == *side),
         (Err(UsageFault::Rule(given)), Named::Refused(text, at, reason, explains)) => {
             Ok(
                 given.text.as_str() == *text
@@ -109,6 +111,14 @@ const NAMED: &[(&[&str], Named)] = &[
     (
         &["filter", "--owner", "a.b=:1.7", "", "--owner=c-d.e=:1.a"],
         Named::Filter((&[""], false, &[("a.b", ":1.7"), ("c-d.e", ":1.a")])),
+    ),
+    (
+        &["handshake", "--side", "client"],
+        Named::Handshake(Side::Client),
+    ),
+    (
+        &["handshake", "--side=server"],
+        Named::Handshake(Side::Server),
     ),
     // The first of two rules that are refused.
     (
@@ -204,7 +214,7 @@ const LIMITED: &[(&[&str], u32, u32, u8, FdRule)] = &[
 #[test]
 fn limits(rt: HostRuntime) -> Result<(), Fail> {
     for (n, (words, message, array, depth, fds)) in LIMITED.iter().enumerate() {
-        let Ok((_, named)) = answer_to(rt.alloc(), words)? else {
+        let Ok(Asked::Messages(_, named)) = answer_to(rt.alloc(), words)? else {
             return Err(Fail::new("no command"));
         };
         let Some(limits) = Limits::new(*message, *array, *depth) else {
@@ -230,7 +240,7 @@ const FLAGGED: &[(&[&str], bool, bool)] = &[
 #[test]
 fn flags(rt: HostRuntime) -> Result<(), Fail> {
     for (n, (words, explains, keeps_going)) in FLAGGED.iter().enumerate() {
-        let Ok((_, named)) = answer_to(rt.alloc(), words)? else {
+        let Ok(Asked::Messages(_, named)) = answer_to(rt.alloc(), words)? else {
             return Err(Fail::new("no command"));
         };
         assert_eq!(rt; named.explains, *explains, "at {n}");
@@ -254,7 +264,7 @@ const WINDOWS: &[(&[&str], u32, Option<u32>)] = &[
 #[test]
 fn windows(rt: HostRuntime) -> Result<(), Fail> {
     for (n, (words, skip, limit)) in WINDOWS.iter().enumerate() {
-        let Ok((_, named)) = answer_to(rt.alloc(), words)? else {
+        let Ok(Asked::Messages(_, named)) = answer_to(rt.alloc(), words)? else {
             return Err(Fail::new("no command"));
         };
         assert_eq!(rt; named.window.skip, *skip, "at {n}");
@@ -278,7 +288,7 @@ const SIDED: &[(&[&str], Option<Side>)] = &[
 #[test]
 fn sides(rt: HostRuntime) -> Result<(), Fail> {
     for (n, (words, side)) in SIDED.iter().enumerate() {
-        let Ok((_, named)) = answer_to(rt.alloc(), words)? else {
+        let Ok(Asked::Messages(_, named)) = answer_to(rt.alloc(), words)? else {
             return Err(Fail::new("no command"));
         };
         assert_eq!(rt; named.handshake, *side, "at {n}");
@@ -331,6 +341,7 @@ const HELPS: &[(&[&str], &str)] = &[
     (&["swap", "--to", "x", "--help"], SWAP),
     (&["filter", "--help"], FILTER),
     (&["filter", "arg64='x'", "-h"], FILTER),
+    (&["handshake", "--help"], HANDSHAKE),
 ];
 
 #[test]
@@ -357,6 +368,8 @@ const USAGES: &[(&[&str], &str)] = &[
     (&["swap", "--to", "l", "--to=B"], TWO_ORDERS),
     (&["swap", "--to", "L"], CAPITAL_ORDER),
     (&["swap", "--to=lB"], TWO_LETTERS),
+    (&["handshake"], NO_LISTED_SIDE),
+    (&["handshake", "--side", "both"], LISTED_BOTH),
     (&["filter"], NO_RULE),
     (&["show", "--max-message", "134217729"], LONG_MESSAGE),
     (&["check", "--max-array=67108865"], LONG_ARRAY),
@@ -400,7 +413,7 @@ fn usages(rt: HostRuntime) -> Result<(), Fail> {
 
 #[test]
 fn copied_commands(rt: HostRuntime) -> Result<(), Fail> {
-    let Ok((command, _)) = answer_to(rt.alloc(), &["filter", "member='X'"])? else {
+    let Ok(Asked::Messages(command, _)) = answer_to(rt.alloc(), &["filter", "member='X'"])? else {
         return Err(Fail::new("no command"));
     };
     assert!(rt; command.clone()? == command);

@@ -7,12 +7,13 @@ Reads D-Bus messages from standard input, and shows, checks, swaps or filters th
 Usage: dbus-wire <COMMAND>
 
 Commands:
-  show    Writes each message as text
-  json    Writes each message as a line of JSON
-  check   Checks that the input is messages, and counts them
-  swap    Writes each message in one byte order
-  filter  Writes the messages that match a rule, as they came
-  help    Print this message or the help of the given subcommand(s)
+  show       Writes each message as text
+  json       Writes each message as a line of JSON
+  check      Checks that the input is messages, and counts them
+  swap       Writes each message in one byte order
+  filter     Writes the messages that match a rule, as they came
+  handshake  Lists the lines before the messages, and what each says
+  help       Print this message or the help of the given subcommand(s)
 
 Options:
   -h, --help     Print help
@@ -301,3 +302,35 @@ Example:
 
 /// Of the version.
 pub(crate) const VERSION: &str = "dbus-wire 0.1.0\n";
+
+/// Of `handshake`.
+pub(crate) const HANDSHAKE: &str = "\
+Lists the lines before the messages, and what each says
+
+Usage: dbus-wire handshake --side <SIDE>
+
+Options:
+      --side <SIDE>  Whose lines they are: client or server
+  -h, --help         Print help
+
+Input:
+  What one side of a connection sent, on standard input: a client the byte 0 and
+  its lines up to BEGIN, a server its lines, of which one is OK, up to its first
+  message. What follows is not looked at.
+
+Output:
+  For each line one on standard output: its offset, in bytes from the start of
+  the input, the line, and what it says. After them `ok N lines B bytes`: the
+  messages begin at offset B. If the input is refused,
+  `handshake refused at P: NAME` on standard error, and the lines before that
+  place stay.
+
+Exit status:
+  0  the input begins with the handshake of that side, or help was asked for
+  1  the input is refused: it does not
+  2  the command line is wrong
+  3  a read or a write failed, or memory ran out
+
+Example:
+  dbus-wire handshake --side client < sent
+";

@@ -5,7 +5,7 @@ use crate::narrow::Narrow;
 use crate::pieces::Pieces;
 use dbus_stream::{FromWrite, MOST_READS, Source};
 use dbus_tool::{
-    Command, ExitStatus, ReadAhead, Settings, command_of, run_reads, run_with, run_within,
+    Asked, Command, ExitStatus, ReadAhead, Settings, command_of, run_reads, run_with, run_within,
     run_words,
 };
 use std::alloc::{Allocator, Global};
@@ -44,7 +44,10 @@ pub(crate) fn words_of(alloc: Global, name: &str, words: &[&str]) -> Result<Vec<
 // The command that the words name, and its settings.
 fn named(alloc: Global, words: &[&str]) -> Result<(Command, Settings), Fail> {
     let words = words_of(alloc, "dbus-wire", words)?;
-    command_of(alloc, words.as_slice()).map_err(|_| Fail::new("no command"))
+    match command_of(alloc, words.as_slice()) {
+        Ok(Asked::Messages(command, settings)) => Ok((command, settings)),
+        _ => Err(Fail::new("no command")),
+    }
 }
 
 /// How the command that the words name ends over this reader, by the settings that they name. The run alone takes memory of the

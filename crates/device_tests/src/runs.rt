@@ -212,6 +212,13 @@ const CLIENT: &[u8] = b"\0AUTH EXTERNAL 30\r\nNEGOTIATE_UNIX_FD\r\nBEGIN\r\n";
 const SERVER: &[u8] =
     b"REJECTED EXTERNAL\r\nOK 000102030405060708090a0b0c0d0e0f\r\nAGREE_UNIX_FD\r\n";
 
+// What is said of the server's lines where they begin at offset 31 as the fourth.
+const SERVER_LINES: &[u8] = b"31: \"REJECTED EXTERNAL\": refuses; offers: \"EXTERNAL\"
+50: \"OK 000102030405060708090a0b0c0d0e0f\": accepts, GUID 000102030405060708090a0b0c0d0e0f
+87: \"AGREE_UNIX_FD\": agrees to descriptors
+ok 6 lines 102 bytes
+";
+
 // Words, the input, how the run ends, and what is written on the first writer and on the second.
 const BEHIND: &[(&[&str], &[&[u8]], ExitStatus, &[&[u8]], &[u8])] = &[
     (
@@ -257,6 +264,47 @@ const BEHIND: &[(&[&str], &[&[u8]], ExitStatus, &[&[u8]], &[u8])] = &[
         ExitStatus::Refused,
         &[],
         b"handshake refused at 6: NoCommand\n",
+    ),
+    // Each line, and what it says. What follows is not looked at.
+    (
+        &["handshake", "--side", "client"],
+        &[CLIENT, FRONT],
+        ExitStatus::Done,
+        &[
+            b"1: \"AUTH EXTERNAL 30\": asks for \"EXTERNAL\" as \"0\"\n",
+            b"19: \"NEGOTIATE_UNIX_FD\": asks for descriptors\n",
+            b"38: \"BEGIN\": begins messages\nok 3 lines 45 bytes\n",
+        ],
+        b"",
+    ),
+    (
+        &["handshake", "--side=client"],
+        &[b"\0AUTH\r\nCANCEL \r\nAUTH A\r\nDATA 00ff\r\nDATA 7f\r\nERROR \t\"\r\nBEGIN"],
+        ExitStatus::Refused,
+        &[
+            b"1: \"AUTH\": asks for mechanisms\n7: \"CANCEL \": gives up\n16: \"AUTH A\": asks for \"A\"\n",
+            b"24: \"DATA 00ff\": data 00ff\n35: \"DATA 7f\": data \"\\x7f\"\n",
+            b"44: \"ERROR \\x09\\\"\": error \"\\x09\\\"\"\n",
+        ],
+        b"handshake refused at 59: Truncated\n",
+    ),
+    (
+        &["handshake", "--side=server"],
+        &[b"REJECTED  A B\r\nREJECTED\r\nDATA\r\n", SERVER, RETURN],
+        ExitStatus::Done,
+        &[
+            b"0: \"REJECTED  A B\": refuses; offers: \"A\" \"B\"\n15: \"REJECTED\": refuses; offers:\n",
+            b"25: \"DATA\": data \"\"\n",
+            SERVER_LINES,
+        ],
+        b"",
+    ),
+    (
+        &["handshake", "--side=server"],
+        &[b"AGREE_UNIX_FD\r\nBEGIN\r\n"],
+        ExitStatus::Refused,
+        &[b"0: \"AGREE_UNIX_FD\": agrees to descriptors\n"],
+        b"handshake refused at 15: NoCommand\n",
     ),
     (
         &["show", "--handshake=client"],

@@ -2,7 +2,7 @@
 
 pub(crate) const NO_COMMAND: &str = "\
 error: 'dbus-wire' requires a subcommand but one was not provided
-  [subcommands: show, json, check, swap, filter, help]
+  [subcommands: show, json, check, swap, filter, handshake, help]
 
 Usage: dbus-wire <COMMAND>
 
@@ -277,3 +277,19 @@ pub(crate) const NOT_A_UNIQUE_NAME: &str = bad_owner!("a.b=c.d");
 pub(crate) const NOT_A_WELL_KNOWN_NAME: &str = bad_owner!(":1.7=:1.7");
 
 pub(crate) const TWO_EQUALS: &str = bad_owner!("a.b=:1.7=");
+
+pub(crate) const NO_LISTED_SIDE: &str = "\
+error: the following required arguments were not provided:
+  --side <SIDE>
+
+Usage: dbus-wire handshake --side <SIDE>
+
+For more information, try '--help'.
+";
+
+pub(crate) const LISTED_BOTH: &str = "\
+error: invalid value 'both' for '--side <SIDE>'
+  [possible values: client, server]
+
+For more information, try '--help'.
+";

@@ -1,0 +1,13 @@
+//! What words ask for.
+use crate::command::Command;
+use crate::settings::Settings;
+use dbus_handshake_input::Side;
+
+/// What the words of a command line ask for.
+#[derive(Debug, Drop)]
+pub enum Asked {
+    /// A command over messages, by its settings.
+    Messages(Command, Settings),
+    /// A list of the lines of this side's handshake.
+    Handshake(Side),
+}

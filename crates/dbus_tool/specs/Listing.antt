@@ -1,0 +1,60 @@
+-- The lines of a handshake, listed: a function of those that were read. r0 and r1 are the source before and after.
+use Rattle.std.specs.Prelude.{◌≡◌, ◌⊎◌, ℕ, List, [], ◌++◌, Option, Result, Ok, Err}
+use Rattle.std.specs.List.{flat_map}
+use Rattle.dbus_handshake_input.specs.Ahead.{source_of}
+use Rattle.dbus_handshake_input.specs.Heard.{HeardLine, Reads}
+use Rattle.dbus_handshake_input.specs.Passing.{Counts}
+use Rattle.dbus_handshake_input.specs.declared.fault.HandshakeFault.{HandshakeFault}
+use Rattle.dbus_handshake_input.specs.declared.read_ahead.ReadAhead.{ReadAhead}
+use Rattle.dbus_handshake_input.specs.declared.side.Side.{Side}
+use Rattle.dbus_handshake_input.specs.declared.size.HandshakeSize.{HandshakeSize}
+use Rattle.dbus_show_handshake.specs.ShownHandshakes.{line_text, size_line}
+use Rattle.dbus_tool.specs.Devices.{Writing}
+use Rattle.dbus_tool.specs.Gathering.{Gathers}
+use Rattle.dbus_tool.specs.Handshaking.{StopsBy, TellsHandshake}
+use Rattle.dbus_tool.specs.Pages.{Goes}
+use Rattle.dbus_tool.specs.declared.ending.ExitStatus.{ExitStatus}
+use Rattle.dbus_tool.specs.declared.ending.ExitStatus.TheVariants as status
+use Rattle.dbus_tool.specs.declared.ending.Cause.TheVariants as cause
+use Rattle.dbus_tool.specs.declared.gathering.Unwritten.{Unwritten}
+use Rattle.dbus_tool.specs.declared.page.Page.{Page}
+
+-- a text with a line more for each line that is heard
+abbrev pub Lengthens : List ℕ → List HeardLine → List ℕ → Type 0
+Lengthens old lines new = new ≡ old ++ flat_map line_text lines
+
+-- what is written after the lines
+abbrev pub last_line : Result HandshakeSize HandshakeFault → List ℕ
+last_line (Ok size) = size_line size
+last_line (Err fault) = []
+
+module _ {R : Type 0} (left : R → Option (List ℕ)) (r0 r1 : ReadAhead R) where
+  -- the handshake was read, or none, and this is the text of its lines, or of those before the place that was reached
+  abbrev pub IsListed : Side → Result HandshakeSize HandshakeFault → List ℕ → Type 0
+  IsListed side read text = Reads Lengthens side left r0 r1 [] text read
+
+  -- it went to a page
+  abbrev pub PutsLines : {W : Type 0} → (W → Option (List ℕ)) → (W → ℕ) → Page W → Page W → Side → Result HandshakeSize HandshakeFault → Type 0
+  PutsLines held failures p0 p1 side read = (text : List ℕ) × IsListed side read text × Goes held failures p0 (text ++ last_line read) p1
+
+  -- it was gathered or written, or a write failed; g0 and g1 are what is gathered before and after
+  abbrev pub GathersLines : {W : Type 0} → Writing W → Side → (g0 g1 : List ℕ) → Result HandshakeSize HandshakeFault → Result (Unit {0}) Unwritten → Type 0
+  GathersLines w side g0 g1 read put = (text : List ℕ) × IsListed side read text × Gathers w.held w.failures (text ++ last_line read) g0 g1 w.old w.new put
+
+  -- all of it was written, or a write failed
+  abbrev pub WritesLines : {W : Type 0} → Writing W → Side → Result HandshakeSize HandshakeFault → Result (Unit {0}) Unwritten → Type 0
+  WritesLines w side read put = GathersLines w side [] [] read put
+
+-- the handshake was listed; or why there is none was told, after the lines before that; or a write failed, which was told
+abbrev pub EndsList : {E : Type 0} → Writing E → Result HandshakeSize HandshakeFault → Result (Unit {0}) Unwritten → ExitStatus → Type 0
+EndsList e read (Err u) end = StopsBy e.held e.failures e.old e.new cause.WriteFailed end
+EndsList e (Ok size) (Ok x) end = (end ≡ status.Done) × (e.new ≡ e.old)
+EndsList e (Err fault) (Ok x) end = TellsHandshake e.held e.failures e.old e.new fault end
+
+-- what `handshake` does
+pub record Lists {R W E : Type 0} (left : R → Option (List ℕ)) (failures : R → ℕ) (r0 r1 : ReadAhead R) (w : Writing W) (e : Writing E) (side : Side) (end : ExitStatus) : Type 0 where
+  pub read : Result HandshakeSize HandshakeFault
+  pub put : Result (Unit {0}) Unwritten
+  pub lines : WritesLines left r0 r1 w side read put
+  pub counts : Counts (failures (source_of r0)) (failures (source_of r1)) read
+  pub ends : EndsList e read put end
