@@ -1,9 +1,9 @@
 #!/bin/sh
 # test.sh PROGRAM ARCHIVE SHARED: builds the examples over the archive, and compares what they write with what `PROGRAM check` does:
 # of the captures in samples/ and of messages of which a byte is changed; the C example once more under AddressSanitizer, and over
-# the shared library. Compares the header's numbers with the crates', and what is said of texts with the cases of texts. Runs the fuzz
-# target over the captures and changed copies of their messages; shakes hands with a bus and with a client, if they are there; tests the
-# Rust crate, and compares what its examples write.
+# the shared library; the callers in C under valgrind, if it is there. Compares the header's numbers with the crates', and what is said
+# of texts with the cases of texts. Runs the fuzz target over the captures and changed copies of their messages; shakes hands with a bus
+# and with a client, if they are there; tests the Rust crate, and compares what its examples write.
 set -eu
 program=$1 archive=$2 shared=$3
 here=$(cd "$(dirname "$0")" && pwd)
@@ -37,7 +37,10 @@ echo '#include <dbus_wire.h>' | "$CXX" $flags -x c++ -fsyntax-only -
 "$CC" -std=c99 -O2 $flags -o "$built/check" "$here/c/check.c" -L"$built" -ldbus_wire
 "$CC" -std=c99 -O2 $flags -o "$built/check_shared" "$here/c/check.c" "$shared" -Wl,-rpath,"$(cd "$(dirname "$shared")" && pwd)"
 "$CC" $sanitized -o "$built/check_sanitized" "$here/c/check.c" -L"$built" -ldbus_wire
-for name in list swap rules build signal room habits texts pieces threads; do "$CC" $sanitized -pthread -o "$built/$name" "$here/c/$name.c" -L"$built" -ldbus_wire; done
+for name in list swap rules build signal room habits texts pieces threads; do
+	"$CC" $sanitized -pthread -o "$built/$name" "$here/c/$name.c" -L"$built" -ldbus_wire
+	"$CC" -std=c99 -O2 -g $flags -pthread -o "$built/plain_$name" "$here/c/$name.c" -L"$built" -ldbus_wire
+done
 for sample in session big-endian; do
 	for name in room threads; do "$built/$name" < "$here/../samples/$sample.dbus"; done
 	for length in 1 64 4096; do "$built/pieces" $length < "$here/../samples/$sample.dbus"; done
@@ -47,7 +50,6 @@ done
 try_growths() {
 	name=$1
 	shift
-	"$CC" -std=c99 -O2 $flags -o "$built/plain_$name" "$here/c/$name.c" -L"$built" -ldbus_wire
 	"$built/plain_$name" "$@" < "$here/../samples/session.dbus" > "$built/whole" || true
 	for nth in $(seq 60); do
 		status=0
@@ -88,11 +90,9 @@ if command -v dbus-send > /dev/null; then
 fi
 rm -rf "$sockets"
 # A checker for which there is no memory is not made.
-"$CC" -std=c99 -O2 $flags -o "$built/pieces_plain" "$here/c/pieces.c" -L"$built" -ldbus_wire
-"$CC" -shared -fPIC -o "$built/refuse_nth.so" "$here/../bench/refuse_nth.c" -ldl
 for nth in 1 2; do
 	status=0
-	LD_PRELOAD=$built/refuse_nth.so REFUSE_NTH=$nth "$built/pieces_plain" < "$here/../samples/session.dbus" || status=$?
+	LD_PRELOAD=$built/refuse_nth.so REFUSE_NTH=$nth "$built/plain_pieces" < "$here/../samples/session.dbus" || status=$?
 	test $status = 3
 done
 # An end for which there is no memory is not made; one that has too little for a call goes on by the same call.
@@ -102,9 +102,20 @@ for nth in $(seq 1 60); do
 	LD_PRELOAD=$built/refuse_nth.so REFUSE_NTH=$nth "$built/handshake_plain" pieces 7 > "$built/said" 2>&1 || status=$?
 	test $status = 0 || grep -qx 'no client\|no server' "$built/said"
 done
+# In the library's machine code too, which no sanitizer sees, no caller touches a byte that is not its own, or keeps a block to its end.
+if command -v valgrind > /dev/null; then
+	under_valgrind() { valgrind --quiet --leak-check=full --error-exitcode=9 "$@"; }
+	under_valgrind "$built/plain_signal" Name "a b" Number 7 > "$built/one"
+	under_valgrind "$built/plain_room" < "$built/one"
+	for words in list "swap B" "rules member='NameAcquired'" "build again" habits "pieces 64" threads; do
+		under_valgrind "$built/plain_"$words < "$here/../samples/session.dbus" > "$built/said"
+	done
+	under_valgrind "$built/handshake_plain" pieces 7
+else
+	echo "no valgrind here: the callers are not tried under it"
+fi
 # No message is built if there is no memory (stdio takes the first block), or of parts that no message has.
-"$CC" -std=c99 -O2 $flags -o "$built/build_plain" "$here/c/build.c" -L"$built" -ldbus_wire
-must_fail env LD_PRELOAD="$built/refuse_nth.so" REFUSE_NTH=2 "$built/build_plain" < "$here/../samples/session.dbus" 2> "$built/told" > /dev/null
+must_fail env LD_PRELOAD="$built/refuse_nth.so" REFUSE_NTH=2 "$built/plain_build" < "$here/../samples/session.dbus" 2> "$built/told" > /dev/null
 grep -q 'out of memory' "$built/told"
 must_fail "$built/build" serial 0 < "$here/../samples/session.dbus" 2> "$built/told"
 grep -q 'is 0$' "$built/told"
@@ -128,7 +139,7 @@ if pkg-config --exists dbus-1; then
 fi
 
 listers=$built/list swappers=$built/swap filters=$built/rules
-set -- "$built/check" "$built/check_sanitized" "$built/check_shared" "$built/pieces_plain"
+set -- "$built/check" "$built/check_sanitized" "$built/check_shared" "$built/plain_pieces"
 if command -v cargo > /dev/null; then
 	export DBUS_WIRE_LIBRARY="$built" CARGO_TARGET_DIR="$built/rust"
 	cargo test --quiet --offline --manifest-path "$here/../rust/Cargo.toml"
