@@ -8,7 +8,6 @@ mod container;
 mod fields;
 mod layouts;
 mod lengths;
-mod nested;
 mod numbers;
 mod rows;
 mod skip;

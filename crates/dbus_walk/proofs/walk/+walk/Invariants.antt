@@ -4,7 +4,7 @@ use Rattle.dbus_value_model.specs.Values.{ValueTree, ValueTrees}
 use Rattle.dbus_walk.specs.Standing.{AllStand, AllStandAt, ElementsStand, ElementsStandAt}
 use Rattle.dbus_walk.specs.Rows.{between}
 use Rattle.dbus_walk.proofs.Walks.{Left, Taken}
-use Rattle.dbus_walk.proofs.+walk.Given as goal
+use Rattle.dbus_walk.proofs.walk.+walk.Given as goal
 
 -- a container takes one of the room, or bytes of its type, and a variant's own type has at most 255 bytes
 
