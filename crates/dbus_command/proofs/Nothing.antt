@@ -10,7 +10,7 @@ use Rattle.dbus_command.proofs.WordLists.{each_can}
 use Rattle.dbus_command.specs.Told.{IsNoCommand, NamesNothing}
 use Rattle.dbus_handshake_input.specs.declared.side.Side.{Side}
 use Rattle.dbus_command.specs.declared.asked.Asked.{Asked}
-use Rattle.dbus_command.specs.declared.asked.Asked.TheVariants.{Messages, Handshake}
+use Rattle.dbus_command.specs.declared.asked.Asked.TheVariants.{Messages, Count, Handshake}
 use Rattle.dbus_command.specs.declared.command.Command.{Command}
 use Rattle.dbus_command.specs.declared.command.Command.TheVariants.{Show, Json, Check, Swap, Filter}
 use Rattle.dbus_command.specs.declared.selection.Selection.{Selection}
@@ -18,23 +18,25 @@ use Rattle.dbus_command.specs.declared.settings.Settings.{Settings}
 
 -- a name other than `handshake`
 module _ (sub : Text × List Row) (other : sub.0 ≡ codes "handshake" → ⊥) where
-  only_messages : ((command : Command) (settings : Settings) → Names (Some sub) (Messages command settings) → ⊥) → (asked : Asked) → Names (Some sub) asked → ⊥
-  only_messages none (Messages command settings) named = none command settings named
-  only_messages none (Handshake side) named = other named.0
+  unset : ((settings : Settings) → HasSettings sub.1 settings → ⊥) → (asked : Asked) → Names (Some sub) asked → ⊥
+  unset none (Messages command settings) named = none settings named.1
+  unset none (Count settings) named = none settings named.1
+  unset none (Handshake side) named = other named.0
 
   -- with options that name no settings
   pub unset_names_nothing : ((settings : Settings) → HasSettings sub.1 settings → ⊥) → NamesNothing (Some sub)
-  unset_names_nothing none = record {
-    none_asked = only_messages (λ command settings named. none settings named.1);
-    no_rule = λ refused found. none found.1.0 found.1.1;
-  }
+  unset_names_nothing none = record { none_asked = unset none; no_rule = λ refused found. none found.1.0 found.1.1 }
 
-  -- of a command, with words that name none
-  pub no_command_names_nothing : IsNoCommand sub.0 sub.1 → NamesNothing (Some sub)
-  no_command_names_nothing none = record {
-    none_asked = only_messages (λ command settings named. none.no_command command named.0);
-    no_rule = λ refused found. none.no_fault refused found.0;
-  }
+  -- and than `count`
+  module _ (uncounted : sub.0 ≡ codes "count" → ⊥) where
+    unnamed : IsNoCommand sub.0 sub.1 → (asked : Asked) → Names (Some sub) asked → ⊥
+    unnamed none (Messages command settings) named = none.no_command command named.0
+    unnamed none (Count settings) named = uncounted named.0
+    unnamed none (Handshake side) named = other named.0
+
+    -- of a command, with words that name none
+    pub no_command_names_nothing : IsNoCommand sub.0 sub.1 → NamesNothing (Some sub)
+    no_command_names_nothing none = record { none_asked = unnamed none; no_rule = λ refused found. none.no_fault refused found.0 }
 
 -- `handshake` with no side
 module _ (rows : List Row) (no_side : (side : Side) → first_of (codes "side") rows ≡ Some (side_word side) → ⊥) where
@@ -47,6 +49,7 @@ module _ (rows : List Row) (no_side : (side : Side) → first_of (codes "side") 
 
   unsided : (asked : Asked) → Names (Some (codes "handshake", rows)) asked → ⊥
   unsided (Messages command settings) named = no_messages command named.0
+  unsided (Count settings) named = let bad : ◌≡◌ {A = ℕ} 104 99 = ap (λ t. slice_index t 0) named.0 in absurd (omega arith)
   unsided (Handshake side) named = no_side side named.1
 
   pub unsided_names_nothing : NamesNothing (Some (codes "handshake", rows))

@@ -54,7 +54,7 @@ with_options app = with_rule
     (limit_rule (codes "max-array") ARRAY_LIMIT))
     (limit_rule (codes "max-depth") DEPTH_LIMIT)) fds_rule) handshake_rule
 
--- and with `--keep-going`, which all but `swap` have
+-- and with `--keep-going`, which all but `count` and `swap` have
 abbrev pub with_keep_going : App → App
 with_keep_going app = with_options (with_rule app (flag_rule (codes "keep-going")))
 
@@ -77,6 +77,9 @@ swap_app = with_options (with_rule (new_app (codes "swap")) to_rule)
 abbrev pub filter_app : App
 filter_app = with_window (with_rule (with_rule (with_rule (with_rule (new_app (codes "filter")) text_rule) (flag_rule (codes "invert"))) owner_rule) (flag_rule (codes "learn-owners")))
 
+abbrev pub count_app : App
+count_app = with_options (new_app (codes "count"))
+
 abbrev pub handshake_app : App
 handshake_app = with_rule (new_app (codes "handshake")) side_rule
 
@@ -84,12 +87,13 @@ handshake_app = with_rule (new_app (codes "handshake")) side_rule
 abbrev pub bare_app : App
 bare_app = on_top (λ s. record s { subcommand_required = true; has_version = true }) (new_app (codes "dbus-wire"))
 
--- the program, with its six subcommands
+-- the program, with its seven subcommands
 abbrev pub wire_app : App
 wire_app = with_subcommand
     (with_subcommand
-    (with_subcommand (with_subcommand (with_subcommand (with_subcommand bare_app show_app.top) json_app.top) check_app.top) swap_app.top)
-    filter_app.top) handshake_app.top
+    (with_subcommand
+    (with_subcommand (with_subcommand (with_subcommand (with_subcommand bare_app show_app.top) json_app.top) check_app.top) count_app.top)
+    swap_app.top) filter_app.top) handshake_app.top
 
 -- clap reads this of the command, and it has no argument that its subcommands share
 pub record IsLocal (app : App) (command : Command) : Type 0 where

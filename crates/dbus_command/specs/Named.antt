@@ -16,7 +16,7 @@ use Rattle.dbus_command.specs.CommandLine.{wire_app}
 use Rattle.dbus_command.specs.Limiting.{HasLimits, HasWindow}
 use Rattle.dbus_command.specs.Owners.{AreOwnersOf, IsOwnerWord}
 use Rattle.dbus_command.specs.declared.asked.Asked.{Asked}
-use Rattle.dbus_command.specs.declared.asked.Asked.TheVariants.{Messages, Handshake}
+use Rattle.dbus_command.specs.declared.asked.Asked.TheVariants.{Messages, Count, Handshake}
 use Rattle.dbus_command.specs.declared.command.Command.{Command}
 use Rattle.dbus_command.specs.declared.command.Command.TheVariants.{Show, Json, Check, Swap, Filter}
 use Rattle.dbus_command.specs.declared.selection.Selection.{Selection}
@@ -84,10 +84,11 @@ pub record HasSettings (rows : List Row) (settings : Settings) : Type 0 where
   pub handshake : HasSide rows settings.handshake
   pub window : HasWindow rows settings.window
 
--- the subcommand and the words after it name a command and its settings, or the side whose handshake is listed
+-- the subcommand and the words after it name a command and its settings, the settings of `count`, or the side whose handshake is listed
 abbrev pub Names : Option (Text × List Row) → Asked → Type 0
 Names None asked = ⊥
 Names (Some sub) (Messages command settings) = NamesCommand sub.0 sub.1 command × HasSettings sub.1 settings
+Names (Some sub) (Count settings) = (sub.0 ≡ codes "count") × HasSettings sub.1 settings
 Names (Some sub) (Handshake side) = (sub.0 ≡ codes "handshake") × (first_of (codes "side") sub.1 ≡ Some (side_word side))
 
 -- it is what the words name

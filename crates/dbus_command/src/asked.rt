@@ -8,6 +8,8 @@ use dbus_handshake_input::Side;
 pub enum Asked {
     /// A command over messages, by its settings.
     Messages(Command, Settings),
+    /// Tables of how many messages have each name, by these settings.
+    Count(Settings),
     /// A list of the lines of this side's handshake.
     Handshake(Side),
 }

@@ -56,6 +56,9 @@ fn command_named(alloc: Global, matches: &ArgMatches) -> Result<Asked, UsageFaul
         return handshake_named(alloc, inner);
     }
     let settings = settings_named(alloc, inner)?;
+    if name == "count" {
+        return Ok(Asked::Count(settings));
+    }
     let command = command_with(alloc, name, inner)?;
     Ok(Asked::Messages(command, settings))
 }

@@ -109,6 +109,22 @@ pub(crate) const CHECK_MORE: &str = more!(
   dbus-wire check < capture"
 );
 
+/// What `count` does.
+pub(crate) const COUNT: &str = "Counts the messages of each type, sender, member and so on";
+
+/// What stands after the help of `count`.
+pub(crate) const COUNT_MORE: &str = more!(
+    "
+  Tables on standard output: for each type, sender, destination, interface,
+  member and error name a line `N messages B bytes WORD NAME`, those of most
+  messages first. If the input is refused, `refused at P: NAME` on standard
+  error, and the tables are those of the messages before. Memory is taken for
+  each name, and not for each message.",
+    "",
+    "
+  dbus-wire count < capture | grep ' member '"
+);
+
 /// What `swap` does.
 pub(crate) const SWAP: &str = "Writes each message in one byte order";
 

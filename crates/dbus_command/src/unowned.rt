@@ -36,9 +36,7 @@ impl Selection {
 fn some_needs_owner(rules: &[Rule], owners: &[Owner]) -> bool
     ensures { result ≡ some_needs_owner owners.now rules.now }
 {
-    rules
-        .iter()
-        .any(|rule| needs_owner(rule.sender(), owners))
+    rules.iter().any(|rule| needs_owner(rule.sender(), owners))
 }
 
 // Whether the sender is there, and needs another owner than these.

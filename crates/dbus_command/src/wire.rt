@@ -1,7 +1,7 @@
 //! The command line, as `clap` is told it.
 ghost use Rattle.std.specs.Prelude.{◌≡◌, IfOk, false};
 ghost use Rattle.clap.specs.Words.{app_of, rule_of};
-ghost use Rattle.dbus_command.specs.CommandLine.{Adds, IsLocal, fds_rule, flag_rule, handshake_rule, limit_rule, owner_rule, text_rule, with_keep_going, with_options, with_window, wire_app, bare_app, show_app, json_app, check_app, swap_app, filter_app, handshake_app, side_rule};
+ghost use Rattle.dbus_command.specs.CommandLine.{Adds, IsLocal, fds_rule, flag_rule, handshake_rule, limit_rule, owner_rule, text_rule, with_keep_going, with_options, with_window, wire_app, bare_app, show_app, json_app, check_app, count_app, swap_app, filter_app, handshake_app, side_rule};
 
 use crate::help;
 use clap::builder::ValueParser;
@@ -117,6 +117,16 @@ fn check_command<'a>(alloc: Global) -> Result<Command<'a>, AllocError>
     with_keep_going(alloc, check)
 }
 
+// `count`, which takes no words but its options.
+fn count_command<'a>(alloc: Global) -> Result<Command<'a>, AllocError>
+    ensures { IfOk result (IsLocal count_app) }
+{
+    let count = Command::new(alloc, "count")
+        .about(help::COUNT)
+        .after_help(help::COUNT_MORE);
+    with_options(alloc, count)
+}
+
 // `swap`, with its order.
 fn swap_command<'a>(alloc: Global) -> Result<Command<'a>, AllocError>
     ensures { IfOk result (IsLocal swap_app) }
@@ -212,6 +222,7 @@ pub(crate) fn wire<'a>(alloc: Global) -> Result<Command<'a>, AllocError>
     let show = show_command(alloc)?;
     let json = json_command(alloc)?;
     let check = check_command(alloc)?;
+    let count = count_command(alloc)?;
     let swap = swap_command(alloc)?;
     let filter = filter_command(alloc)?;
     let handshake = handshake_command(alloc)?;
@@ -219,7 +230,8 @@ pub(crate) fn wire<'a>(alloc: Global) -> Result<Command<'a>, AllocError>
     let showing = bare.subcommand(show)?;
     let listing = showing.subcommand(json)?;
     let checking = listing.subcommand(check)?;
-    let swapping = checking.subcommand(swap)?;
+    let counting = checking.subcommand(count)?;
+    let swapping = counting.subcommand(swap)?;
     let filtering = swapping.subcommand(filter)?;
     filtering.subcommand(handshake)
 }

@@ -56,7 +56,7 @@ module _ {R T B G W : Type 0} {b : Ghosts B} (k : Taking T G) (left : R → Opti
     pub owners_are : owners_known command carried.owners ≡ owners_after_all command (owners_known command before.carried.owners) items
     pub passes : Passes held write_failures (written before.carried.window texts) g0 g1 w0 w1
 
-  pub hands_none : (reader : Reader R T B b) (g : List ℕ) (w : W) → limits_of k reader ≡ limits → stopped_of reader ≡ None
+  unfoldable pub hands_none : (reader : Reader R T B b) (g : List ℕ) (w : W) → limits_of k reader ≡ limits → stopped_of reader ≡ None
       → HasHanded before.count before.carried reader reader kept g g w w
   hands_none reader g w within unstopped = record {
     items = [];
@@ -83,13 +83,13 @@ module _ {R T B G W : Type 0} {b : Ghosts B} (k : Taking T G) (left : R → Opti
 module _ {R T B G W : Type 0} {b : Ghosts B} {k : Taking T G} {left : R → Option (List ℕ)} {calls failures : R → ℕ} {held : W → Option (List ℕ)} {write_failures : W → ℕ}
     {limits : Limits} {command : Command} {kept : List ℕ} {before : Before} {count : ℕ} {carried : Carried} {old mid : Reader R T B b} {rest g0 g1 : List ℕ} {w0 w1 : W}
     (h : HasHanded k left calls failures held write_failures limits command kept before count carried old mid rest g0 g1 w0 w1) {new : Reader R T B b} (r : Reads k left calls rest mid new) where
-  read_item : (item : CutMessage) → IsWhole (limits_of k mid) (rest ++ r.bytes) item.order item.message item.size
+  pub read_item : (item : CutMessage) → IsWhole (limits_of k mid) (rest ++ r.bytes) item.order item.message item.size
       → HasRead k left calls limits kept old new (h.items ++ item ∷ []) (drop item.size (rest ++ r.bytes))
   read_item item whole =
       read_message k left calls limits kept old new h.items item (rest ++ r.bytes) (read_more k left calls limits kept old mid new h.items rest h.read r)
       (subst (λ l. IsWhole l (rest ++ r.bytes) item.order item.message item.size) h.read.limits_are whole)
 
-  next_output : (item : CutMessage) (one : List (List ℕ)) → IsOutputOf command (owners_known command carried.owners) item.order item.message (count + 1) (done_of mid) one
+  pub next_output : (item : CutMessage) (one : List (List ℕ)) → IsOutputOf command (owners_known command carried.owners) item.order item.message (count + 1) (done_of mid) one
       → IsOutputOfAll command (owners_known command before.carried.owners) (before.count + 1) (done_of old) (h.items ++ item ∷ []) (h.texts ++ one)
   next_output item one output =
       let number : count + 1 ≡ before.count + 1 + length h.items = omega (arith, h.count_is) in
@@ -100,7 +100,7 @@ module _ {R T B G W : Type 0} {b : Ghosts B} {k : Taking T G} {left : R → Opti
       (subst (λ k. IsOutputOf command (owners_known command carried.owners) item.order item.message (count + 1) k one) h.done output)))
 
   -- one more message
-  pub hands_more : {g2 : List ℕ} {w2 : W} (item : CutMessage) (one : List (List ℕ)) (now : Carried) → IsWhole (limits_of k mid) (rest ++ r.bytes) item.order item.message item.size → done_of new ≡ done_of mid + item.size
+  unfoldable pub hands_more : {g2 : List ℕ} {w2 : W} (item : CutMessage) (one : List (List ℕ)) (now : Carried) → IsWhole (limits_of k mid) (rest ++ r.bytes) item.order item.message item.size → done_of new ≡ done_of mid + item.size
       → stopped_of new ≡ None → failures (source_of new) ≡ failures (source_of mid) → IsOutputOf command (owners_known command carried.owners) item.order item.message (count + 1) (done_of mid) one → GoesOnAfter command item.message one carried now
       → Passes held write_failures (written carried.window one) g1 g2 w1 w2
       → HasHanded k left calls failures held write_failures limits command kept before (count + 1) now old new (drop item.size (rest ++ r.bytes)) g0 g2 w0 w2

@@ -8,6 +8,7 @@ pub mod ReadSteps
 pub mod GivenSteps
 pub mod HandSteps
 pub mod CountSteps
+pub mod ByNameSteps
 pub mod CheckSteps
 pub mod PartLaws
 pub mod WriteSteps

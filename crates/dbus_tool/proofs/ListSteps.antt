@@ -1,5 +1,5 @@
 -- The text of the lines of a handshake, by what its page gained.
-use Rattle.std.proofs.Common.{◌≡◌, ℕ, List, [], ◌++◌, Option, Result, Ok, Err, refl, sym, subst, append-nil}
+use Rattle.std.proofs.Common.{ℕ, List, [], ◌++◌, Option, Result, Ok, Err, refl, sym, subst, append-nil}
 use Rattle.std.specs.List.{flat_map}
 use Rattle.dbus_handshake_input.specs.Heard.{HeardLine, Reads, heard}
 use Rattle.dbus_handshake_input.specs.declared.fault.HandshakeFault.{HandshakeFault}

@@ -13,6 +13,7 @@ pub mod Counting
 pub mod Handing
 pub mod Onward
 pub mod Checking
+pub mod ByName
 pub mod Running
 pub mod Closing
 pub mod Telling

@@ -1,5 +1,5 @@
 -- The lines of a handshake, listed: a function of those that were read. r0 and r1 are the source before and after.
-use Rattle.std.specs.Prelude.{◌≡◌, ◌⊎◌, ℕ, List, [], ◌++◌, Option, Result, Ok, Err}
+use Rattle.std.specs.Prelude.{◌≡◌, ℕ, List, [], ◌++◌, Option, Result, Ok, Err}
 use Rattle.std.specs.List.{flat_map}
 use Rattle.dbus_handshake_input.specs.Ahead.{source_of}
 use Rattle.dbus_handshake_input.specs.Heard.{HeardLine, Reads}

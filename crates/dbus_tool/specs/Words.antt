@@ -6,6 +6,7 @@ use Rattle.dbus_command.specs.Named.{IsNamedBy}
 use Rattle.dbus_command.specs.Told.{TellsFault}
 use Rattle.dbus_command.specs.Unowned.{lacks_owner}
 use Rattle.dbus_command.specs.Windows.{ask_more}
+use Rattle.dbus_tool.specs.ByName.{CountsByName}
 use Rattle.dbus_tool.specs.Devices.{Reading, Writing, writing}
 use Rattle.dbus_tool.specs.Going.{RunsWith}
 use Rattle.dbus_tool.specs.Handshaking.{ReadsHandshake, Shows, StopsBy, TellsHandshake, ahead}
@@ -16,7 +17,7 @@ use Rattle.dbus_handshake_input.specs.declared.fault.HandshakeFault.{HandshakeFa
 use Rattle.dbus_handshake_input.specs.declared.read_ahead.ReadAhead.{ReadAhead}
 use Rattle.dbus_handshake_input.specs.declared.side.Side.{Side}
 use Rattle.dbus_command.specs.declared.asked.Asked.{Asked}
-use Rattle.dbus_command.specs.declared.asked.Asked.TheVariants.{Messages, Handshake}
+use Rattle.dbus_command.specs.declared.asked.Asked.TheVariants.{Messages, Count, Handshake}
 use Rattle.dbus_command.specs.declared.command.Command.{Command}
 use Rattle.dbus_command.specs.declared.settings.Settings.{Settings}
 use Rattle.dbus_command.specs.declared.usage_fault.RefusedRule.{RefusedRule}
@@ -46,17 +47,21 @@ abbrev pub owner_note : List ℕ
 owner_note = codes "note: no owner is known for a rule's sender; --owner NAME=UNIQUE gives one, and --learn-owners takes them from the bus's signals\n"
 
 module _ {R W E : Type 0} (left : R → Option (List ℕ)) (failures : R → ℕ) (old new : ReadAhead R) (w : Writing W) (e : Writing E) where
-  -- the handshake of the side was read, and the command had what follows; or none was read, which was told
-  abbrev pub RunsBehind : Side → Settings → Command → ExitStatus → Type 0
-  RunsBehind side settings command end =
-      ((begun : ReadAhead R) × ReadsHandshake left failures side old begun (Ok tt)
-      × RunsBy (ask_more settings) (ahead left failures begun new) w e settings command end)
+  -- the handshake of the side was read, and this was done with what follows; or none was read, which was told
+  abbrev pub FollowsHandshake : Side → (Reading (ReadAhead R) → Type 0) → ExitStatus → Type 0
+  FollowsHandshake side Done end =
+      ((begun : ReadAhead R) × ReadsHandshake left failures side old begun (Ok tt) × Done (ahead left failures begun new))
       ⊎ ((why : HandshakeFault) × ReadsHandshake left failures side old new (Err why) × (w.new ≡ w.old) × TellsHandshake e.held e.failures e.old e.new why end)
 
   -- what is done for a command by its settings, with all that the reader gives, or with what follows the handshake of a side
   abbrev pub RunsFrom : Option Side → Settings → Command → ExitStatus → Type 0
   RunsFrom None settings command end = RunsBy (ask_more settings) (ahead left failures old new) w e settings command end
-  RunsFrom (Some side) settings command end = RunsBehind side settings command end
+  RunsFrom (Some side) settings command end = FollowsHandshake side (λ r. RunsBy (ask_more settings) r w e settings command end) end
+
+  -- the same of counts by names
+  abbrev pub CountsFrom : Option Side → Settings → ExitStatus → Type 0
+  CountsFrom None settings end = CountsByName (ahead left failures old new) w e settings (2 ^ 32) end
+  CountsFrom (Some side) settings end = FollowsHandshake side (λ r. CountsByName r w e settings (2 ^ 32) end) end
 
 module _ {R W E : Type 0} (left : R → Option (List ℕ)) (failures : R → ℕ) (old new : ReadAhead R) (w : Writing W) (e : Writing E) where
   -- a note was written before that, if one is due; or a write of it failed
@@ -67,9 +72,10 @@ module _ {R W E : Type 0} (left : R → Option (List ℕ)) (failures : R → ℕ
       × RunsFrom left failures old new w (writing e.held e.failures begun e.new) settings.handshake settings command end)
       ⊎ ((new ≡ old) × (w.new ≡ w.old) × (end ≡ status.Failed) × (n : ℕ) × Stopped e.held e.failures e.old owner_note n e.new)
 
-  -- what is done for a command by its settings, for the side whose handshake is listed, or for words that name nothing
+  -- what is done for a command by its settings, for `count`, for the side whose handshake is listed, or for words that name nothing
   abbrev pub Does : Result Asked UsageFault → ExitStatus → Type 0
   Does (Ok (Messages command settings)) end = RunsNoted (settings.explains && lacks_owner command) settings command end
+  Does (Ok (Count settings)) end = CountsFrom left failures old new w e settings.handshake settings end
   Does (Ok (Handshake side)) end = Lists left failures old new w e side end
   Does (Err Memory) end = (new ≡ old) × (w.new ≡ w.old) × StopsBy e.held e.failures e.old e.new cause.Memory end
   Does (Err (Help text)) end = (new ≡ old) × ShowsText w e (string_bytes text) end

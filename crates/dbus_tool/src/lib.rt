@@ -6,6 +6,7 @@
 //! `dbus_wire` is the program.
 #![tactic(auto)]
 
+mod by_name;
 mod closing;
 mod counting;
 mod ending;

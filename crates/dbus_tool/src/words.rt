@@ -1,12 +1,13 @@
 //! The program over the words of its command line.
-ghost use Rattle.std.specs.Prelude.{◌≤◌, ◌^◌, ◌&&◌, map, string_bytes};
+ghost use Rattle.std.specs.Prelude.{◌≡◌, ◌≤◌, ◌^◌, ◌&&◌, map, string_bytes};
 ghost use Rattle.dbus_command.specs.Unowned.{lacks_owner};
 ghost use Rattle.dbus_command.specs.Windows.{ask_more};
 ghost use Rattle.dbus_tool.specs.Devices.{reading, writing};
 ghost use Rattle.dbus_tool.specs.Handshaking.{Shows, TellsHandshake};
 ghost use Rattle.dbus_tool.specs.Listing.{Lists};
-ghost use Rattle.dbus_tool.specs.Words.{RefusesRule, RunsBy, RunsFrom, RunsNoted, RunsWords, ShowsText};
+ghost use Rattle.dbus_tool.specs.Words.{CountsFrom, RefusesRule, RunsBy, RunsFrom, RunsNoted, RunsWords, ShowsText};
 
+use crate::by_name::count_by_name;
 use crate::ending::{Cause, ExitStatus};
 use crate::failing::give_up;
 use crate::gathering::Unwritten;
@@ -61,6 +62,7 @@ pub fn run_words<R: Source, W: Sink, E: Sink>(
         Ok(Asked::Messages(command, settings)) => {
             run_noted(alloc, command, settings, reader, first, second)
         }
+        Ok(Asked::Count(settings)) => count_named(alloc, settings, reader, first, second),
         Ok(Asked::Handshake(side)) => list_handshake(alloc, side, reader, first, second),
         Err(UsageFault::Memory) => give_up(Cause::Memory, second),
         Err(UsageFault::Help(text) | UsageFault::Version(text)) => {
@@ -85,12 +87,20 @@ fn run_noted<R: Source, W: Sink, E: Sink>(
         (writing E.held E.failures second.old second.new)
         (settings.explains && lacks_owner command) settings command result }
 {
-    if settings.explains && command.lacks_owner() {
-        if let Err(WrittenOnly(_)) = write_all(second, OWNER_NOTE.as_bytes()) {
-            return ExitStatus::Failed;
-        }
+    if !is_note_due(&command, settings) {
+        return run_named(alloc, command, settings, reader, first, second);
     }
-    run_named(alloc, command, settings, reader, first, second)
+    match write_all(second, OWNER_NOTE.as_bytes()) {
+        Ok(()) => run_named(alloc, command, settings, reader, first, second),
+        Err(WrittenOnly(_)) => ExitStatus::Failed,
+    }
+}
+
+// Whether that is to be said.
+fn is_note_due(command: &Command, settings: Settings) -> bool
+    ensures { result ≡ settings.explains && lacks_owner command.now }
+{
+    settings.explains && command.lacks_owner()
 }
 
 // Runs a command by its settings, after the handshake if they name its side.
@@ -112,6 +122,28 @@ fn run_named<R: Source, W: Sink, E: Sink>(
     };
     match pass_handshake(alloc, side, reader) {
         Ok(()) => run_by(alloc, command, settings, reader, first, second),
+        Err(fault) => refuse_handshake(alloc, fault, second),
+    }
+}
+
+// Counts messages by their names, after the handshake if the settings name its side.
+fn count_named<R: Source, W: Sink, E: Sink>(
+    alloc: Global,
+    settings: Settings,
+    reader: &mut ReadAhead<R>,
+    first: &mut W,
+    second: &mut E,
+) -> ExitStatus
+    ensures { CountsFrom R.left R.failures reader.old reader.new
+        (writing W.held W.failures first.old first.new)
+        (writing E.held E.failures second.old second.new)
+        settings.handshake settings result }
+{
+    let Some(side) = settings.handshake else {
+        return count_by_name(alloc, settings, reader, first, second);
+    };
+    match pass_handshake(alloc, side, reader) {
+        Ok(()) => count_by_name(alloc, settings, reader, first, second),
         Err(fault) => refuse_handshake(alloc, fault, second),
     }
 }

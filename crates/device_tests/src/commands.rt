@@ -17,22 +17,20 @@ type Selected = (
     &'static [(&'static str, &'static str)],
 );
 
-// What words name: a command; a side whose handshake is listed; or a rule that is refused: its text, the place and the reason, and whether it is to be explained.
+// What words name: a command; counts by names; a side whose handshake is listed; or a rule that is refused: its text, the place and the reason, and whether it is to be explained.
 enum Named {
     Show,
     Json,
     Check,
     Swap(Order),
     Filter(Selected),
+    Count,
     Handshake(Side),
     Refused(&'static str, usize, RuleReason, bool),
 }
 
 // What the command line answers to these words after the program's path.
-fn answer_to(
-    alloc: Global,
-    words: &[&str],
-) -> Result<Result<Asked, UsageFault>, Fail> {
+fn answer_to(alloc: Global, words: &[&str]) -> Result<Result<Asked, UsageFault>, Fail> {
     let words = words_of(alloc, "/usr/bin/dbus-wire", words)?;
     Ok(command_of(alloc, words.as_slice()))
 }
@@ -66,6 +64,7 @@ fn is_named(alloc: Global, words: &[&str], named: &Named) -> Result<bool, Fail> 
         (Ok(Asked::Messages(Command::Filter(given), _)), Named::Filter(selected)) => {
             is_selection(alloc, &given, selected)
         }
+        (Ok(Asked::Count(_)), Named::Count) => Ok(true),
         (Ok(Asked::Handshake(given)), Named::Handshake(side)) => Ok(given == *side),
         (Err(UsageFault::Rule(given)), Named::Refused(text, at, reason, explains)) => {
             Ok(
@@ -112,6 +111,8 @@ const NAMED: &[(&[&str], Named)] = &[
         &["filter", "--owner", "a.b=:1.7", "", "--owner=c-d.e=:1.a"],
         Named::Filter((&[""], false, &[("a.b", ":1.7"), ("c-d.e", ":1.a")])),
     ),
+    (&["count"], Named::Count),
+    (&["count", "--explain", "--fds=any"], Named::Count),
     (
         &["handshake", "--side", "client"],
         Named::Handshake(Side::Client),
@@ -341,6 +342,7 @@ const HELPS: &[(&[&str], &str)] = &[
     (&["swap", "--to", "x", "--help"], SWAP),
     (&["filter", "--help"], FILTER),
     (&["filter", "arg64='x'", "-h"], FILTER),
+    (&["count", "--help"], COUNT),
     (&["handshake", "--help"], HANDSHAKE),
 ];
 
@@ -368,6 +370,7 @@ const USAGES: &[(&[&str], &str)] = &[
     (&["swap", "--to", "l", "--to=B"], TWO_ORDERS),
     (&["swap", "--to", "L"], CAPITAL_ORDER),
     (&["swap", "--to=lB"], TWO_LETTERS),
+    (&["count", "--keep-going"], COUNT_KEEPS_GOING),
     (&["handshake"], NO_LISTED_SIDE),
     (&["handshake", "--side", "both"], LISTED_BOTH),
     (&["filter"], NO_RULE),

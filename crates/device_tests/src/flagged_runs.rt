@@ -101,6 +101,13 @@ const REFUSED: &[(&[&str], usize, &[&[u8]], &[u8], &[u8])] = &[
         TOO_LONG,
         b"",
     ),
+    (
+        &["count", "--explain"],
+        3,
+        &[RETURN, FRONT],
+        b"1 messages 24 bytes type method_return\n",
+        EXPLAINED,
+    ),
     // Nothing is passed over unless it is asked for.
     (&["check", "--explain"], 1, &[RETURN, FRONT], EXPLAINED, b""),
     (
@@ -177,7 +184,8 @@ const REFUSED: &[(&[&str], usize, &[&[u8]], &[u8], &[u8])] = &[
     ),
 ];
 
-const NO_OWNER: &[u8] = b"note: no owner is known for a rule's sender; --owner NAME=UNIQUE gives one, and --learn-owners takes them from the bus's signals\n";
+const NO_OWNER: &[u8] =
+    b"note: no owner is known for a rule's sender; --owner NAME=UNIQUE gives one, and --learn-owners takes them from the bus's signals\n";
 
 // Words, an input of which nothing is refused, and what is written on the first writer and on the second.
 const NOT_REFUSED: &[(&[&str], &[u8], &[u8], &[u8])] = &[
@@ -189,16 +197,37 @@ const NOT_REFUSED: &[(&[&str], &[u8], &[u8], &[u8])] = &[
     ),
     // A well-known sender of which no owner is known, and those that need none.
     (
-        &["filter", "--explain", "type='error'", "sender='a.b'", "--owner=a.c=:1.7"],
+        &[
+            "filter",
+            "--explain",
+            "type='error'",
+            "sender='a.b'",
+            "--owner=a.c=:1.7",
+        ],
         FROM_7,
         b"",
         NO_OWNER,
     ),
     (&["filter", "sender='a.b'"], FROM_7, b"", b""),
-    (&["filter", "--explain", "sender='a.b'", "--owner=a.b=:1.7"], FROM_7, FROM_7, b""),
-    (&["filter", "--explain", "sender='a.b'", "--learn-owners"], FROM_7, b"", b""),
     (
-        &["filter", "--explain", "sender=':1.7'", "sender='org.freedesktop.DBus'"],
+        &["filter", "--explain", "sender='a.b'", "--owner=a.b=:1.7"],
+        FROM_7,
+        FROM_7,
+        b"",
+    ),
+    (
+        &["filter", "--explain", "sender='a.b'", "--learn-owners"],
+        FROM_7,
+        b"",
+        b"",
+    ),
+    (
+        &[
+            "filter",
+            "--explain",
+            "sender=':1.7'",
+            "sender='org.freedesktop.DBus'",
+        ],
         FROM_7,
         FROM_7,
         b"",

@@ -10,6 +10,7 @@ Commands:
   show       Writes each message as text
   json       Writes each message as a line of JSON
   check      Checks that the input is messages, and counts them
+  count      Counts the messages of each type, sender, member and so on
   swap       Writes each message in one byte order
   filter     Writes the messages that match a rule, as they came
   handshake  Lists the lines before the messages, and what each says
@@ -236,6 +237,49 @@ Exit status:
 
 Example:
   dbus-wire swap --to B < capture > big-endian
+";
+
+/// Of `count`.
+pub(crate) const COUNT: &str = "\
+Counts the messages of each type, sender, member and so on
+
+Usage: dbus-wire count [OPTIONS]
+
+Options:
+      --explain           Explains what is refused, in three more lines
+      --max-message <N>   Most bytes of a message: 0 to 134217728, the default
+      --max-array <N>     Most bytes of an array: 0 to 67108864, the default
+      --max-depth <N>     Most containers open at once: 0 to 64, the default
+      --fds <RULE>        Descriptor indexes: any, the default, or below-count
+      --handshake <SIDE>  Whose handshake comes first: client or server
+  -h, --help              Print help
+
+Input:
+  Raw messages on standard input, one after the other, as
+  `dbus-monitor --binary` writes them. A message over one of the limits, which
+  the options of a command lower, is refused. With --handshake they follow what
+  that side of a connection sent before its messages; offsets count from the
+  first message.
+
+Output:
+  Tables on standard output: for each type, sender, destination, interface,
+  member and error name a line `N messages B bytes WORD NAME`, those of most
+  messages first. If the input is refused, `refused at P: NAME` on standard
+  error, and the tables are those of the messages before. Memory is taken for
+  each name, and not for each message.
+
+  With --explain three lines after a refusal say where the fault is, and what
+  has to be there.
+
+Exit status:
+  0  the whole input is messages, or help was asked for
+  1  the input is refused: it has bytes that are no message, or ends within one,
+     or does not begin with the handshake
+  2  the command line is wrong, or a limit is out of its range
+  3  a read or a write failed, too many reads were made, or memory ran out
+
+Example:
+  dbus-wire count < capture | grep ' member '
 ";
 
 /// Of `filter`.

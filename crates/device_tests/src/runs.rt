@@ -206,6 +206,16 @@ fn inputs_that_are_refused(rt: HostRuntime) -> Result<(), Fail> {
     Ok(())
 }
 
+const COUNTS: &[u8] = b"\
+3 messages 96 bytes type other
+1 messages 24 bytes type method_return
+1 messages 96 bytes type signal
+2 messages 64 bytes sender :1.7
+1 messages 32 bytes sender :1.8
+1 messages 96 bytes interface a.b
+1 messages 96 bytes member a.b.C
+";
+
 // What a client and a server sent before their messages.
 const CLIENT: &[u8] = b"\0AUTH EXTERNAL 30\r\nNEGOTIATE_UNIX_FD\r\nBEGIN\r\n";
 
@@ -226,6 +236,28 @@ const BEHIND: &[(&[&str], &[&[u8]], ExitStatus, &[&[u8]], &[u8])] = &[
         &[CLIENT, RETURN, BIG_RETURN],
         ExitStatus::Done,
         &[b"ok 2 messages 48 bytes\n"],
+        b"",
+    ),
+    // How many messages have each name, those of most messages first.
+    (
+        &["count"],
+        &[RETURN, FROM_7, SIGNAL, FROM_8, FROM_7],
+        ExitStatus::Done,
+        &[COUNTS],
+        b"",
+    ),
+    (
+        &["count", "--max-message=95"],
+        &[RETURN, SIGNAL],
+        ExitStatus::Refused,
+        &[b"1 messages 24 bytes type method_return\n"],
+        b"refused at 36: MessageTooLong\n",
+    ),
+    (
+        &["count", "--handshake=client"],
+        &[CLIENT, RETURN],
+        ExitStatus::Done,
+        &[b"1 messages 24 bytes type method_return\n"],
         b"",
     ),
     // Offsets count from the first message.

@@ -2,7 +2,7 @@
 
 pub(crate) const NO_COMMAND: &str = "\
 error: 'dbus-wire' requires a subcommand but one was not provided
-  [subcommands: show, json, check, swap, filter, handshake, help]
+  [subcommands: show, json, check, count, swap, filter, handshake, help]
 
 Usage: dbus-wire <COMMAND>
 
@@ -277,6 +277,14 @@ pub(crate) const NOT_A_UNIQUE_NAME: &str = bad_owner!("a.b=c.d");
 pub(crate) const NOT_A_WELL_KNOWN_NAME: &str = bad_owner!(":1.7=:1.7");
 
 pub(crate) const TWO_EQUALS: &str = bad_owner!("a.b=:1.7=");
+
+pub(crate) const COUNT_KEEPS_GOING: &str = "\
+error: unexpected argument '--keep-going' found
+
+Usage: dbus-wire count [OPTIONS]
+
+For more information, try '--help'.
+";
 
 pub(crate) const NO_LISTED_SIDE: &str = "\
 error: the following required arguments were not provided:

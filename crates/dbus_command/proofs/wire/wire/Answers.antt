@@ -11,6 +11,7 @@ returns c =
     let showing = c.in_ok-showing.ensures.shape c.in_ok-show.ensures.local ∙ ap₂ with_subcommand c.in_ok-bare.ensures (top_of _ _ c.in_ok-show.ensures.app_is) in
     let listing = c.in_ok-listing.ensures.shape c.in_ok-json.ensures.local ∙ ap₂ with_subcommand showing (top_of _ _ c.in_ok-json.ensures.app_is) in
     let checking = c.in_ok-checking.ensures.shape c.in_ok-check.ensures.local ∙ ap₂ with_subcommand listing (top_of _ _ c.in_ok-check.ensures.app_is) in
-    let swapping = c.in_ok-swapping.ensures.shape c.in_ok-swap.ensures.local ∙ ap₂ with_subcommand checking (top_of _ _ c.in_ok-swap.ensures.app_is) in
+    let counting = c.in_ok-counting.ensures.shape c.in_ok-count.ensures.local ∙ ap₂ with_subcommand checking (top_of _ _ c.in_ok-count.ensures.app_is) in
+    let swapping = c.in_ok-swapping.ensures.shape c.in_ok-swap.ensures.local ∙ ap₂ with_subcommand counting (top_of _ _ c.in_ok-swap.ensures.app_is) in
     let filtering = c.in_ok-filtering.ensures.shape c.in_ok-filter.ensures.local ∙ ap₂ with_subcommand swapping (top_of _ _ c.in_ok-filter.ensures.app_is) in
-    IfOk-weaker c.subcommand-6.result _ _ (λ m h. h.shape c.in_ok-handshake.ensures.local ∙ ap₂ with_subcommand filtering (top_of _ _ c.in_ok-handshake.ensures.app_is)) c.subcommand-6.ensures
+    IfOk-weaker c.subcommand-7.result _ _ (λ m h. h.shape c.in_ok-handshake.ensures.local ∙ ap₂ with_subcommand filtering (top_of _ _ c.in_ok-handshake.ensures.app_is)) c.subcommand-7.ensures

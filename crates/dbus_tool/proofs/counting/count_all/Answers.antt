@@ -68,7 +68,7 @@ returns-in-Ok-None-clause-counts g c =
     let h = c.messages.invariant.2 in
     let read = rw c.in-Ok-None.field-0-is at (c.in-Ok-None.ensures.read rest c.messages.invariant.1) in
     let answer = read.1 h.unstopped in
-    tallied g.R.Source.left g.R.Source.calls g.R.Source.failures (limits_of c.args.messages.now) (most_reads_of c.args.messages.now) c.args.messages.now c.requires c.next.new.self (Ok _)
+    tallied lengths g.R.Source.left g.R.Source.calls g.R.Source.failures (limits_of c.args.messages.now) (most_reads_of c.args.messages.now) [] refl c.args.messages.now c.requires.reads c.requires.most_reads c.requires.done c.requires.ended c.next.new.self (Ok _)
     (hands_all h read.0 [] tt Ended _ refl c.done.ensures answer.2.done refl answer.0 (λ _. answer.1) c.in-Ok-None.ensures.failed (passes_none unwritten.held unwritten.failures [] tt))
 
 pub returns-in-Err-clause-counts : goal.returns-in-Err-clause-counts
@@ -79,5 +79,5 @@ returns-in-Err-clause-counts g c =
     let read = c.in-Err.ensures.read rest c.messages.invariant.1 in
     let answer : c.ended_by.result ≡ ended_by c.messages.count (done_of c.next.new.self) fault = c.ended_by.ensures ∙ ap (λ n. ended_by c.messages.count n fault) c.done-in-Err.ensures in
     subst (λ x. Tallies (taken (reading g.R.Source.left g.R.Source.calls g.R.Source.failures (source_of c.args.messages.now) (source_of c.next.new.self))) (limits_of c.args.messages.now) (most_reads_of c.args.messages.now) x) (sym answer)
-    (tallied g.R.Source.left g.R.Source.calls g.R.Source.failures (limits_of c.args.messages.now) (most_reads_of c.args.messages.now) c.args.messages.now c.requires c.next.new.self (ended_by c.messages.count (done_of c.next.new.self) fault)
+    (tallied lengths g.R.Source.left g.R.Source.calls g.R.Source.failures (limits_of c.args.messages.now) (most_reads_of c.args.messages.now) [] refl c.args.messages.now c.requires.reads c.requires.most_reads c.requires.done c.requires.ended c.next.new.self (ended_by c.messages.count (done_of c.next.new.self) fault)
     (hands_faulted h read.0 [] tt (passes_none unwritten.held unwritten.failures [] tt) fault (check_faults g.R.Source.left g.R.Source.calls g.R.Source.failures (limits_of c.args.messages.now) (rest ++ read.0.bytes) c.messages.messages c.next.new.self fault (read.1 h.unstopped)) c.in-Err.ensures.failed (written_out fault [] refl)))
