@@ -2,7 +2,7 @@
 
 _dbus_wire() {
     local word=${COMP_WORDS[COMP_CWORD]} option=${COMP_WORDS[COMP_CWORD-1]}
-    local commands='show json check swap filter handshake help'
+    local commands='show json check count swap filter handshake help'
     local options='--explain --max-message --max-array --max-depth --fds --handshake -h --help'
     COMPREPLY=()
     # A redirection names a file, which bash completes.
@@ -52,6 +52,9 @@ _dbus_wire() {
             ;;
         check)
             COMPREPLY=($(compgen -W "--keep-going $options" -- "$word"))
+            ;;
+        count)
+            COMPREPLY=($(compgen -W "$options" -- "$word"))
             ;;
         handshake)
             COMPREPLY=($(compgen -W '--side -h --help' -- "$word"))

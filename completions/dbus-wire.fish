@@ -1,18 +1,19 @@
 # The completion of dbus-wire's commands and options, for fish.
 
-set -l commands show json check swap filter handshake help
+set -l commands show json check count swap filter handshake help
 
 complete -c dbus-wire -n "not __fish_seen_subcommand_from $commands" -f
 complete -c dbus-wire -n "not __fish_seen_subcommand_from $commands" -a show -d 'Write each message as text'
 complete -c dbus-wire -n "not __fish_seen_subcommand_from $commands" -a json -d 'Write each message as a line of JSON'
 complete -c dbus-wire -n "not __fish_seen_subcommand_from $commands" -a check -d 'Say whether the whole input is messages'
+complete -c dbus-wire -n "not __fish_seen_subcommand_from $commands" -a count -d 'Count the messages of each type, sender, member and so on'
 complete -c dbus-wire -n "not __fish_seen_subcommand_from $commands" -a swap -d 'Write each message in another byte order'
 complete -c dbus-wire -n "not __fish_seen_subcommand_from $commands" -a filter -d 'Write the messages that match a rule'
 complete -c dbus-wire -n "not __fish_seen_subcommand_from $commands" -a handshake -d 'List the lines before the messages'
 complete -c dbus-wire -n "not __fish_seen_subcommand_from $commands" -a help -d 'Write the help'
 complete -c dbus-wire -s h -l help -f -d 'Write the help'
 complete -c dbus-wire -n "not __fish_seen_subcommand_from $commands" -s V -l version -f -d 'Write the version'
-complete -c dbus-wire -n '__fish_seen_subcommand_from help' -f -a 'show json check swap filter handshake help'
+complete -c dbus-wire -n '__fish_seen_subcommand_from help' -f -a 'show json check count swap filter handshake help'
 complete -c dbus-wire -n '__fish_seen_subcommand_from swap' -l to -x -a 'l B' -d 'The byte order to write'
 complete -c dbus-wire -n '__fish_seen_subcommand_from handshake' -l side -x -a 'client server' -d 'Whose lines they are'
 complete -c dbus-wire -n '__fish_seen_subcommand_from filter' -l invert -f -d 'Write the messages that match no rule'
@@ -22,7 +23,7 @@ complete -c dbus-wire -n '__fish_seen_subcommand_from filter' -f -a 'type= sende
 complete -c dbus-wire -n '__fish_seen_subcommand_from show json filter' -l skip -x -d 'Messages to skip first'
 complete -c dbus-wire -n '__fish_seen_subcommand_from show json filter' -l limit -x -d 'Most messages to write'
 complete -c dbus-wire -n '__fish_seen_subcommand_from show json check filter' -l keep-going -f -d 'Go on after a refused message'
-for command in show json check swap filter
+for command in show json check count swap filter
     complete -c dbus-wire -n "__fish_seen_subcommand_from $command" -l explain -f -d 'Explain what is refused'
     complete -c dbus-wire -n "__fish_seen_subcommand_from $command" -l max-message -x -d 'Most bytes of a message'
     complete -c dbus-wire -n "__fish_seen_subcommand_from $command" -l max-array -x -d 'Most bytes of an array'
