@@ -25,6 +25,7 @@ COMMANDS = {
     "swap B": ("swap", "--to", "B"),
     "show": ("show",),
     "json": ("json",),
+    "count": ("count",),
 }
 # A method return in little endian, whose body is one array of 64,000,000 bytes.
 LONG_HEADER = (
