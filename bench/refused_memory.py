@@ -37,7 +37,7 @@ COMMAND_LINES = (
     (("handshake", "--side", "client"), 1),
     (("swap",), 1),
     (("swap", "--to", "M"), 1),
-    (("show", "--depth"), 36),
+    (("show", "--depth"), 43),
     (("help", "filter"), 1),
     (("--version",), 1),
     ((), 1),
