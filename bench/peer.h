@@ -1,4 +1,4 @@
-/* The messages of standard input by a peer, one after the other: what its program does but for reading one of them. */
+/* The messages of standard input, one after the other: what a program that checks them does but for reading one of them. */
 #include "read_input.h"
 
 /* Says how many messages there are, or where the first begins that is refused, for which the status is 1. `read_one` parses the message

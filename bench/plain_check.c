@@ -1,7 +1,7 @@
 /* Checks the messages of standard input as a C programmer would by hand: whether each is one by the D-Bus Specification, with no
  * place and no reason, and no message in pieces. It is what bench/instructions.sh and bench/speed.py measure `check` beside; it is
  * not proved, and no part of the product. */
-#include "read_input.h"
+#include "peer.h"
 #include <stdbool.h>
 #include <stdint.h>
 #include <string.h>
@@ -343,7 +343,7 @@ static bool is_message(Bytes bytes, size_t size, bool big) {
 }
 
 /* The length of the message that the bytes begin with, or 0. */
-static size_t first_message(Bytes bytes, size_t size) {
+static size_t first_message(unsigned char *bytes, size_t size) {
     if (size < 16 || (bytes[0] != 'l' && bytes[0] != 'B'))
         return 0;
     bool big = bytes[0] == 'B';
@@ -354,17 +354,6 @@ static size_t first_message(Bytes bytes, size_t size) {
 }
 
 int main(void) {
-    struct input input = read_input();
-    size_t at = 0, count = 0;
     fill_classes();
-    for (; at < input.size; count++) {
-        size_t length = first_message(input.bytes + at, input.size - at);
-        if (length == 0) {
-            printf("refused in the message at %zu\n", at);
-            return 1;
-        }
-        at += length;
-    }
-    printf("ok %zu messages %zu bytes\n", count, input.size);
-    return 0;
+    return read_messages(first_message);
 }

@@ -33,6 +33,7 @@ COMMAND_LINES = (
     (("filter", "sender=':1.3'", "sender=':1.4'", "--learn-owners"), 1),
     (("filter", "sender='org.a.B'", "--explain"), 1),
     (("count",), 1),
+    (("count", "--json"), 1),
     (("count", "--max-array", "100", "--explain"), 1),
     (("handshake", "--side", "client"), 1),
     (("swap",), 1),
