@@ -20,7 +20,7 @@ use Rattle.dbus_command.specs.declared.settings.Settings.{Settings}
 module _ (sub : Text × List Row) (other : sub.0 ≡ codes "handshake" → ⊥) where
   unset : ((settings : Settings) → HasSettings sub.1 settings → ⊥) → (asked : Asked) → Names (Some sub) asked → ⊥
   unset none (Messages command settings) named = none settings named.1
-  unset none (Count settings) named = none settings named.1
+  unset none (Count settings form) named = none settings named.1
   unset none (Handshake side) named = other named.0
 
   -- with options that name no settings
@@ -31,7 +31,7 @@ module _ (sub : Text × List Row) (other : sub.0 ≡ codes "handshake" → ⊥) 
   module _ (uncounted : sub.0 ≡ codes "count" → ⊥) where
     unnamed : IsNoCommand sub.0 sub.1 → (asked : Asked) → Names (Some sub) asked → ⊥
     unnamed none (Messages command settings) named = none.no_command command named.0
-    unnamed none (Count settings) named = uncounted named.0
+    unnamed none (Count settings form) named = uncounted named.0
     unnamed none (Handshake side) named = other named.0
 
     -- of a command, with words that name none
@@ -49,7 +49,7 @@ module _ (rows : List Row) (no_side : (side : Side) → first_of (codes "side") 
 
   unsided : (asked : Asked) → Names (Some (codes "handshake", rows)) asked → ⊥
   unsided (Messages command settings) named = no_messages command named.0
-  unsided (Count settings) named = let bad : ◌≡◌ {A = ℕ} 104 99 = ap (λ t. slice_index t 0) named.0 in absurd (omega arith)
+  unsided (Count settings form) named = let bad : ◌≡◌ {A = ℕ} 104 99 = ap (λ t. slice_index t 0) named.0 in absurd (omega arith)
   unsided (Handshake side) named = no_side side named.1
 
   pub unsided_names_nothing : NamesNothing (Some (codes "handshake", rows))

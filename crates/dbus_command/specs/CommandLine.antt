@@ -78,7 +78,7 @@ abbrev pub filter_app : App
 filter_app = with_window (with_rule (with_rule (with_rule (with_rule (new_app (codes "filter")) text_rule) (flag_rule (codes "invert"))) owner_rule) (flag_rule (codes "learn-owners")))
 
 abbrev pub count_app : App
-count_app = with_options (new_app (codes "count"))
+count_app = with_options (with_rule (new_app (codes "count")) (flag_rule (codes "json")))
 
 abbrev pub handshake_app : App
 handshake_app = with_rule (new_app (codes "handshake")) side_rule

@@ -10,6 +10,8 @@ use Rattle.dbus_match.specs.Faults.{IsFault}
 use Rattle.dbus_match.specs.Matching.{Ownership}
 use Rattle.dbus_match.specs.Rules.{Pair, SpellsRule}
 use Rattle.dbus_match.specs.RuleViews.{rule_pairs}
+use Rattle.dbus_count.specs.declared.form.Form.{Form}
+use Rattle.dbus_count.specs.declared.form.Form.TheVariants as written
 use Rattle.dbus_handshake_input.specs.declared.side.Side.{Side}
 use Rattle.dbus_handshake_input.specs.declared.side.Side.TheVariants.{Client, Server}
 use Rattle.dbus_command.specs.CommandLine.{wire_app}
@@ -84,11 +86,16 @@ pub record HasSettings (rows : List Row) (settings : Settings) : Type 0 where
   pub handshake : HasSide rows settings.handshake
   pub window : HasWindow rows settings.window
 
--- the subcommand and the words after it name a command and its settings, the settings of `count`, or the side whose handshake is listed
+-- the form of tables is JSON if its flag is given
+abbrev pub HasForm : List Row → Form → Type 0
+HasForm rows form = (form ≡ written.Json) ↔ IsGiven (codes "json") rows
+
+-- the subcommand and the words after it name a command and its settings, the settings and the form of `count`, or the side whose handshake
+-- is listed
 abbrev pub Names : Option (Text × List Row) → Asked → Type 0
 Names None asked = ⊥
 Names (Some sub) (Messages command settings) = NamesCommand sub.0 sub.1 command × HasSettings sub.1 settings
-Names (Some sub) (Count settings) = (sub.0 ≡ codes "count") × HasSettings sub.1 settings
+Names (Some sub) (Count settings form) = (sub.0 ≡ codes "count") × HasSettings sub.1 settings × HasForm sub.1 form
 Names (Some sub) (Handshake side) = (sub.0 ≡ codes "handshake") × (first_of (codes "side") sub.1 ≡ Some (side_word side))
 
 -- it is what the words name

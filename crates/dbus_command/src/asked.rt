@@ -1,6 +1,7 @@
 //! What words ask for.
 use crate::command::Command;
 use crate::settings::Settings;
+use dbus_count::Form;
 use dbus_handshake_input::Side;
 
 /// What the words of a command line ask for.
@@ -8,8 +9,8 @@ use dbus_handshake_input::Side;
 pub enum Asked {
     /// A command over messages, by its settings.
     Messages(Command, Settings),
-    /// Tables of how many messages have each name, by these settings.
-    Count(Settings),
+    /// Tables of how many messages have each name, by these settings and in this form.
+    Count(Settings, Form),
     /// A list of the lines of this side's handshake.
     Handshake(Side),
 }

@@ -1,7 +1,7 @@
 //! The command that the words of a command line name.
 ghost use Rattle.std.specs.Prelude.{◌≡◌, ◌↔◌, true, List, Some, IfOk, MatchOption, map, string_bytes, codes};
 ghost use Rattle.clap.specs.Words.{found_of, kind_of, rows_of, subcommand_rows_of};
-ghost use Rattle.dbus_command.specs.Named.{HasSettings, HasSide, IsGiven, IsNamedBy, IsOrderOf, IsSideOf, words_of};
+ghost use Rattle.dbus_command.specs.Named.{HasForm, HasSettings, HasSide, IsGiven, IsNamedBy, IsOrderOf, IsSideOf, words_of};
 ghost use Rattle.dbus_command.specs.Limiting.{TellsNamed};
 ghost use Rattle.dbus_command.specs.Told.{TellsKind, Tells, TellsCommand, TellsFault, TellsOwners};
 
@@ -16,6 +16,7 @@ use crate::usage_fault::{UsageFault, bad_value, usage};
 use crate::wire::wire;
 use clap::ArgMatches;
 use clap::error::ErrorKind;
+use dbus_count::Form;
 use dbus_handshake_input::Side;
 use dbus_match::Owner;
 use dbus_value::Order;
@@ -24,7 +25,7 @@ use std::alloc::Global;
 /// What the words ask for: the command that they name, and its settings; or of `handshake` the side that `--side` names. The first of the words is the program's name. `--max-message` and
 /// `--max-array`, in bytes, `--max-depth`, in open containers, and `--fds`, a rule on indexes of descriptors, name the limits;
 /// one that they do not name is that of the specification. The flags `--explain`, and `--keep-going` of all commands but `swap`,
-/// are set if they are among the words. `--handshake` names the side whose handshake comes before the messages. `--skip` and `--limit`, of
+/// are set if they are among the words, and `--json` of `count` is its form. `--handshake` names the side whose handshake comes before the messages. `--skip` and `--limit`, of
 /// `show`, `json` and `filter`, are the numbers of the window; without them it leaves no message out.
 ///
 /// `Usage`: the words name no command of the program, or have what it does not take, a limit over that of the specification,
@@ -57,7 +58,7 @@ fn command_named(alloc: Global, matches: &ArgMatches) -> Result<Asked, UsageFaul
     }
     let settings = settings_named(alloc, inner)?;
     if name == "count" {
-        return Ok(Asked::Count(settings));
+        return Ok(Asked::Count(settings, form_named(inner)));
     }
     let command = command_with(alloc, name, inner)?;
     Ok(Asked::Messages(command, settings))
@@ -73,6 +74,17 @@ fn handshake_named(alloc: Global, inner: &ArgMatches) -> Result<Asked, UsageFaul
     match side_of(word) {
         Some(side) => Ok(Asked::Handshake(side)),
         None => Err(bad_value(alloc, word, "--side <SIDE>", "client, server")),
+    }
+}
+
+// The form of the tables of `count`.
+fn form_named(inner: &ArgMatches) -> Form
+    ensures { HasForm (rows_of (found_of inner.now)) result }
+{
+    if is_given(inner, "json") {
+        Form::Json
+    } else {
+        Form::Text
     }
 }
 

@@ -50,7 +50,7 @@ pub(crate) const VERSION: &str = "0.1.0";
 
 /// What the program does.
 pub(crate) const PROGRAM: &str =
-    "Reads D-Bus messages from standard input, and shows, checks, swaps or filters them";
+    "Reads D-Bus messages from standard input, and shows, checks, counts, swaps or filters them";
 
 /// What stands after the program's help.
 pub(crate) const PROGRAM_MORE: &str = more!(
@@ -117,13 +117,17 @@ pub(crate) const COUNT_MORE: &str = more!(
     "
   Tables on standard output: for each type, sender, destination, interface,
   member and error name a line `N messages B bytes WORD NAME`, those of most
-  messages first. If the input is refused, `refused at P: NAME` on standard
-  error, and the tables are those of the messages before. Memory is taken for
-  each name, and not for each message.",
+  messages first. With --json each line is an object: the name behind its word,
+  `messages` and `bytes`. If the input is refused, `refused at P: NAME` on
+  standard error, and the tables are those of the messages before. Memory is
+  taken for each name, and not for each message.",
     "",
     "
   dbus-wire count < capture | grep ' member '"
 );
+
+/// What `--json` of `count` does.
+pub(crate) const COUNT_JSON: &str = "Writes each line of the tables as JSON";
 
 /// What `swap` does.
 pub(crate) const SWAP: &str = "Writes each message in one byte order";

@@ -117,14 +117,15 @@ fn check_command<'a>(alloc: Global) -> Result<Command<'a>, AllocError>
     with_keep_going(alloc, check)
 }
 
-// `count`, which takes no words but its options.
+// `count`, with its flag.
 fn count_command<'a>(alloc: Global) -> Result<Command<'a>, AllocError>
     ensures { IfOk result (IsLocal count_app) }
 {
     let count = Command::new(alloc, "count")
         .about(help::COUNT)
         .after_help(help::COUNT_MORE);
-    with_options(alloc, count)
+    let formed = count.arg(flag(alloc, "json", help::COUNT_JSON))?;
+    with_options(alloc, formed)
 }
 
 // `swap`, with its order.

@@ -1,4 +1,4 @@
 mod NameSteps
 mod OneTable
 mod RowLaws
-mod TableSteps
+mod RowTexts

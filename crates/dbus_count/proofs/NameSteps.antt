@@ -6,7 +6,8 @@ use Rattle.dbus_value_model.specs.Values.{ValueTree, TextValue}
 use Rattle.dbus_message_model.specs.Messages.{MessageTree}
 use Rattle.dbus_message_model.specs.declared.field_code.TheConstants as field
 use Rattle.dbus_count.specs.Counting.{with_name, with_names}
-use Rattle.dbus_count.specs.Names.{kind_name, member_of, named, names_of, text_at, text_of}
+use Rattle.dbus_count.specs.Names.{member_of, named, names_of, text_at, text_of}
+use Rattle.dbus_show.specs.ShownMessages.{kind_text}
 use Rattle.dbus_count.specs.declared.count.Count.{Count}
 
 pub on_ok : {A E P Q : Type 0} (result : Result A E) → (P → Q) → OnOk result P → OnOk result Q
@@ -27,7 +28,7 @@ module _ (m : MessageTree) (size : ℕ) (q : List ℕ) where
   W names c = with_names names size q c
 
   pub all_names : (c0 c1 c2 c3 c4 c5 c6 : Option Count)
-      → c1 ≡ W (named (codes "type ") (Some (kind_name m.kind))) c0
+      → c1 ≡ W (named (codes "type ") (Some (kind_text m.kind))) c0
       → c2 ≡ W (named (codes "sender ") (text_at field.SENDER m)) c1
       → c3 ≡ W (named (codes "destination ") (text_at field.DESTINATION m)) c2
       → c4 ≡ W (named (codes "interface ") (text_at field.INTERFACE m)) c3

@@ -15,6 +15,7 @@ use Rattle.std.proofs.lemmas.Map.Keys.{apart_from_distinct, sorted_from_all_adja
 use Rattle.std.proofs.lemmas.Map.Lookups.{CmpEqualImpliesEq, btree_set_from_contains, exact_bytes, exact_pairs, exact_unsigned}
 use Rattle.std.proofs.lemmas.Map.Views.{btree_set_contains_iff}
 use Rattle.dbus_count.specs.Counting.{Counting}
+use Rattle.dbus_count.specs.declared.form.Form.{Form}
 use Rattle.dbus_count.specs.Tables.{AreRows, AreTables, Row, rows_text}
 use Rattle.dbus_count.proofs.RowLaws.{order, order_total}
 
@@ -80,7 +81,7 @@ module _ (c : Counting) (word : List ℕ) where
       let there = btree_set_contains_iff full_total full_exact t r in
       same_bool (contains full s r) (contains full t r) (λ x. there.1 (into rows others h g r (inside.0 x))) (λ x. inside.1 (into others rows g h r (there.0 x)))) full_exact
 
-pub one_text : (c : Counting) (words : List (List ℕ)) (text other : List ℕ) → AreTables c words text → AreTables c words other → text ≡ other
-one_text c [] text other t u = t ∙ sym u
-one_text c (word ∷ words) text other t u =
-    t.4 ∙ (ap (λ rows. rows_text rows ++ t.1) (one c word t.0 u.0 t.2 u.2) ∙ (ap (λ more. rows_text u.0 ++ more) (one_text c words t.1 u.1 t.3 u.3) ∙ sym u.4))
+pub one_text : (form : Form) (c : Counting) (words : List (List ℕ)) (text other : List ℕ) → AreTables form c words text → AreTables form c words other → text ≡ other
+one_text form c [] text other t u = t ∙ sym u
+one_text form c (word ∷ words) text other t u =
+    t.4 ∙ (ap (λ rows. rows_text form word rows ++ t.1) (one c word t.0 u.0 t.2 u.2) ∙ (ap (λ more. rows_text form word u.0 ++ more) (one_text form c words t.1 u.1 t.3 u.3) ∙ sym u.4))

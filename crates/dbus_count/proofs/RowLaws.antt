@@ -1,9 +1,9 @@
 -- The rows of a table are the entries of a map whose names begin with a word, in another order.
-use Rattle.std.proofs.Common.{◌≡◌, ◌<◌, ◌+◌, ℕ, List, [], ◌∷◌, ◌++◌, append-nil, take, Ordering, Bool, true, false, cond, nat_eq, length, Some, String, string_bytes, map, refl, sym, ap, ◌∙◌, subst, arith, slice_index_or}
+use Rattle.std.proofs.Common.{◌≡◌, ◌<◌, ◌+◌, ℕ, List, [], ◌∷◌, Ordering, Bool, true, false, cond, nat_eq, length, Some, String, string_bytes, map, refl, sym, ap, ◌∙◌, subst, arith, slice_index_or}
 use Rattle.std.specs.BTreeMap.{BTreeMap, IsOrdered, get_by_text, is_at}
 use Rattle.std.specs.Borrow.{Bor}
 use Rattle.std.specs.Cmp.Lexicographic.{slice_cmp}
-use Rattle.std.specs.List.{All, AllByRecursion, Contains, IsDistinct, concat, filter, starts_with}
+use Rattle.std.specs.List.{All, AllByRecursion, Contains, IsDistinct, filter, starts_with}
 use Rattle.std.specs.Cmp.{IsStrictWeakOrder, IsTotalOrder}
 use Rattle.std.proofs.lemmas.Cmp.{back_total, nat_cmp_total, nat_list_cmp_total, on_total, then_total}
 use Rattle.std.specs.List.Sorted.{IsPermutation, IsSortedBy}
@@ -14,8 +14,7 @@ use Rattle.std.specs.Str.{bytes_eq}
 use Rattle.std.specs.String.{string_cmp}
 use Rattle.std.specs.Cmp.Lexicographic.{bytes_decides, nat_list_eq_equiv}
 use Rattle.std.specs.declared.alloc.Global.{Global}
-use Rattle.std.proofs.lemmas.List.{get_or_default, get_or-map, length-map, map-append, take_more}
-use Rattle.std.proofs.lemmas.List.Folds.{concat-append}
+use Rattle.std.proofs.lemmas.List.{get_or_default, get_or-map, length-map}
 use Rattle.std.proofs.lemmas.List.Elements.{All-filter, filter_passes}
 use Rattle.std.proofs.lemmas.List.Sorted.{All-permutation, Contains-permutation, IsPermutation-map, ranks_by}
 use Rattle.std.proofs.lemmas.Map.Entries.{lookup-filter-keys}
@@ -23,7 +22,7 @@ use Rattle.std.proofs.lemmas.Map.Keys.{IsDistinct-from_sorted, IsDistinct-IsPerm
 use Rattle.std.proofs.lemmas.Map.Made.{IsDistinct-keys_filter}
 use Rattle.std.proofs.lemmas.Map.Text.{is_eq-slice_cmp, text_cmp}
 use Rattle.std.proofs.lemmas.Map.Views.{Contains-from_lookup, lookup-from_Contains}
-use Rattle.dbus_count.specs.Tables.{Row, goes_before, row_of, row_text, rows_text}
+use Rattle.dbus_count.specs.Tables.{Row, goes_before, row_of}
 use Rattle.dbus_count.specs.declared.count.Count.{Count}
 
 abbrev pub row : String Global × Count → Row
@@ -80,17 +79,6 @@ rows_sorted (p ∷ ps) sorted = λ k d low l.
     let next : k + 1 < length (p ∷ ps) = subst (λ n. k + 1 < n) same l in
     ap (λ a. goes_before a (slice_index_or (map row_of (p ∷ ps)) k d)) (get_or-map row_of (p ∷ ps) (k + 1) p d next)
     ∙ (ap (λ b. goes_before (row_of (slice_index_or (p ∷ ps) (k + 1) p)) b) (get_or-map row_of (p ∷ ps) k p d (omega (arith, next))) ∙ sorted k p low next)
-
--- ---- the lines of rows
-
-pub rows_more : (ps : List (Bor (String Global) × Bor Count)) (i : ℕ) (d : Bor (String Global) × Bor Count) → i < length ps
-    → rows_text (map row_of (take (i + 1) ps)) ≡ rows_text (map row_of (take i ps)) ++ row_text (row_of (slice_index_or ps i d))
-rows_more ps i d l =
-    let p = slice_index_or ps i d in
-    ap (λ xs. rows_text (map row_of xs)) (take_more ps i d l)
-    ∙ (ap rows_text (map-append row_of (take i ps) (p ∷ []))
-    ∙ (ap concat (map-append row_text (map row_of (take i ps)) (row_of p ∷ []))
-    ∙ (concat-append (map row_text (map row_of (take i ps))) (row_text (row_of p) ∷ []) ∙ ap (λ t. rows_text (map row_of (take i ps)) ++ t) (append-nil (row_text (row_of p))))))
 
 -- ---- the rows of a map
 

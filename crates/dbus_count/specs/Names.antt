@@ -1,17 +1,11 @@
 -- The names that a message has, each with a word before it that says what it names.
 -- D-Bus Specification, "Message Format" and "Header Fields".
-use Rattle.std.specs.Prelude.{ℕ, nat_eq, List, [], ◌∷◌, ◌++◌, Option, None, Some, codes, if◌then◌else◌}
+use Rattle.std.specs.Prelude.{ℕ, List, [], ◌∷◌, ◌++◌, Option, None, Some, codes}
 use Rattle.dbus_value_model.specs.Values.{ValueTree, TextValue}
 use Rattle.dbus_message_model.specs.Messages.{MessageTree}
 use Rattle.dbus_message_model.specs.Lookups.{field_value}
 use Rattle.dbus_message_model.specs.declared.field_code.TheConstants as field
-use Rattle.dbus_message_model.specs.declared.message_type.TheConstants as message
-
--- the name of a message type
-abbrev pub kind_name : ℕ → List ℕ
-kind_name kind =
-    if nat_eq kind message.METHOD_CALL then codes "method_call" else if nat_eq kind message.METHOD_RETURN then codes "method_return"
-    else if nat_eq kind message.ERROR then codes "error" else if nat_eq kind message.SIGNAL then codes "signal" else codes "other"
+use Rattle.dbus_show.specs.ShownMessages.{kind_text}
 
 -- the text of a field
 abbrev pub text_of : Option ValueTree → Option (List ℕ)
@@ -34,6 +28,6 @@ member_of (Some interface) (Some member) = Some (interface ++ (codes "." ++ memb
 
 abbrev pub names_of : MessageTree → List (List ℕ)
 names_of m =
-    (codes "type " ++ kind_name m.kind) ∷ (named (codes "sender ") (text_at field.SENDER m)
+    (codes "type " ++ kind_text m.kind) ∷ (named (codes "sender ") (text_at field.SENDER m)
     ++ (named (codes "destination ") (text_at field.DESTINATION m) ++ (named (codes "interface ") (text_at field.INTERFACE m)
     ++ (named (codes "member ") (member_of (text_at field.INTERFACE m) (text_at field.MEMBER m)) ++ named (codes "error ") (text_at field.ERROR_NAME m)))))

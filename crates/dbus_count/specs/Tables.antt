@@ -1,14 +1,17 @@
--- The rows of a table: the names that begin with a word, the most frequent first.
-use Rattle.std.specs.Prelude.{◌≡◌, ℕ, nat_eq, List, [], ◌∷◌, ◌++◌, Bool, true, Some, map, codes, decimal, String, string_bytes}
+-- The rows of a table: the names that begin with a word, the most frequent first; and their lines.
+use Rattle.std.specs.Prelude.{◌≡◌, ℕ, nat_eq, List, [], ◌∷◌, ◌++◌, Bool, true, Some, map, drop, length, codes, decimal, if◌then◌else◌, String, string_bytes}
 use Rattle.std.specs.Borrow.{Bor}
 use Rattle.std.specs.Cmp.Lexicographic.{slice_cmp}
-use Rattle.std.specs.List.{All, Contains, IsDistinct, concat, starts_with}
+use Rattle.std.specs.List.{All, Contains, IsDistinct, flat_map, starts_with}
 use Rattle.std.specs.List.Sorted.{IsSortedBy}
 use Rattle.std.specs.Ordering.{is_lt, nat_cmp, ordering_then}
 use Rattle.std.specs.Str.{bytes_eq}
 use Rattle.std.specs.declared.alloc.Global.{Global}
 use Rattle.dbus_count.specs.Counting.{Counting}
 use Rattle.dbus_count.specs.declared.count.Count.{Count}
+use Rattle.dbus_count.specs.declared.form.Form.{Form}
+use Rattle.dbus_count.specs.declared.form.Form.TheVariants.{Text, Json}
+use Rattle.dbus_json.specs.JsonValues.{member, object, string}
 
 -- a name with its count
 abbrev pub Row : Type 0
@@ -28,22 +31,37 @@ pub record AreRows (c : Counting) (word : List ℕ) (rows : List Row) : Type 0 w
   pub distinct : IsDistinct bytes_eq (map (λ row. row.0) rows)
   pub sorted : IsSortedBy goes_before rows
 
--- how many messages of how many bytes have the name
-abbrev pub row_text : Row → List ℕ
-row_text row = decimal row.1.messages ++ (codes " messages " ++ (decimal row.1.bytes ++ (codes " bytes " ++ (row.0 ++ codes "\n"))))
+-- what stands behind the front of a text; all of it if the front is not there
+abbrev pub behind : (front text : List ℕ) → List ℕ
+behind front text = if starts_with nat_eq text front then drop (length front) text else text
 
-abbrev pub rows_text : List Row → List ℕ
-rows_text rows = concat (map row_text rows)
+-- the name of a row, which stands behind its word and a space
+abbrev pub name_of : (word : List ℕ) → Row → List ℕ
+name_of word row = behind (codes " ") (behind word row.0)
 
--- the lines of such rows come after the text
-abbrev pub HasRows : Counting → (word old new : List ℕ) → Type 0
-HasRows c word old new = (rows : List Row) × AreRows c word rows × (new ≡ old ++ rows_text rows)
+-- how many messages of how many bytes have the name, in words
+abbrev pub in_words : Row → List ℕ
+in_words row = decimal row.1.messages ++ (codes " messages " ++ (decimal row.1.bytes ++ (codes " bytes " ++ (row.0 ++ codes "\n"))))
 
--- a table for each word, one after the other
-abbrev pub AreTables : Counting → (words : List (List ℕ)) → (text : List ℕ) → Type 0
-AreTables c [] text = text ≡ []
-AreTables c (word ∷ words) text = (rows : List Row) × (more : List ℕ) × AreRows c word rows × AreTables c words more × (text ≡ rows_text rows ++ more)
+-- the same as an object of JSON
+abbrev pub as_object : (word : List ℕ) → Row → List ℕ
+as_object word row =
+    object (member word (string (name_of word row)) ∷ member (codes "messages") (decimal row.1.messages) ∷ member (codes "bytes") (decimal row.1.bytes) ∷ []) ++ codes "\n"
 
--- the words of the tables
+-- the line of a row
+abbrev pub row_text : Form → (word : List ℕ) → Row → List ℕ
+row_text Text word row = in_words row
+row_text Json word row = as_object word row
+
+abbrev pub rows_text : Form → (word : List ℕ) → List Row → List ℕ
+rows_text form word rows = flat_map (row_text form word) rows
+
+module _ (form : Form) (c : Counting) where
+  -- a table for each word, one after the other
+  abbrev pub AreTables : (words : List (List ℕ)) → (text : List ℕ) → Type 0
+  AreTables [] text = text ≡ []
+  AreTables (word ∷ words) text = (rows : List Row) × (more : List ℕ) × AreRows c word rows × AreTables words more × (text ≡ rows_text form word rows ++ more)
+
+-- the words of the tables, of which none begins with another
 abbrev pub words : List (List ℕ)
-words = codes "type " ∷ codes "sender " ∷ codes "destination " ∷ codes "interface " ∷ codes "member " ∷ codes "error " ∷ []
+words = codes "type" ∷ codes "sender" ∷ codes "destination" ∷ codes "interface" ∷ codes "member" ∷ codes "error" ∷ []

@@ -6,7 +6,7 @@ ghost use Rattle.std.specs.String.{string_cmp};
 ghost use Rattle.std.proofs.Props.{props};
 
 use crate::count::Count;
-use crate::names::kind_name;
+use dbus_show::{Draft, StringDraft, write_kind};
 use dbus_view::MessageView;
 use std::alloc::{AllocError, Global};
 use std::collections::BTreeMap;
@@ -15,12 +15,12 @@ use std::collections::BTreeMap;
 /// takes time for the logarithm of their number.
 ///
 /// ```rust
-/// use dbus_count::Counts;
+/// use dbus_count::{Counts, Form};
 /// use dbus_message::MessageView;
 ///
 /// let mut counts = Counts::new(alloc);
 /// counts.add(&MessageView::of(bytes)?)?;
-/// println!(rt; "{}", counts.tables()?)?;
+/// println!(rt; "{}", counts.tables(Form::Text)?)?;
 /// ```
 #[derive(Drop)]
 pub struct Counts {
@@ -32,12 +32,13 @@ pub struct Counts {
 }
 
 impl Counts {
-    ghost use Rattle.std.specs.Prelude.{◌≡◌, List, ℕ, OnOk, codes, length, option_map, string_bytes};
+    ghost use Rattle.std.specs.Prelude.{◌≡◌, List, ℕ, OnOk, Some, codes, length, option_map, string_bytes};
     ghost use Rattle.dbus_count.specs.Counting.{nothing, with_name, with_names};
     ghost use Rattle.dbus_count.specs.Kept.{counting_of};
     ghost use Rattle.dbus_count.specs.Names.{member_of, named, names_of};
     ghost use Rattle.dbus_value_model.specs.declared.order.Order.{Order};
     ghost use Rattle.dbus_message_model.specs.Messages.{MessageTree};
+    ghost use Rattle.dbus_show.specs.ShownMessages.{kind_text};
     ghost use Rattle.dbus_view.specs.Views.{Views};
 
     /// Nothing is counted. It allocates nothing.
@@ -60,12 +61,24 @@ impl Counts {
             counting_of self.new name ≡ with_names (names_of m) (length view.now.bytes) name (counting_of self.old name)) }
     {
         let size = view.bytes().len() as u64;
-        self.count_name("type ", Some(kind_name(view.kind())), size)?;
+        self.count_kind(view.kind(), size)?;
         self.count_name("sender ", view.sender(), size)?;
         self.count_name("destination ", view.destination(), size)?;
         self.count_name("interface ", view.interface(), size)?;
         self.count_member(view.interface(), view.member(), size)?;
         self.count_name("error ", view.error_name(), size)
+    }
+
+    // Counts a message of this size under its type.
+    fn count_kind(&mut self, kind: u8, size: u64) -> Result<(), AllocError>
+        ensures { OnOk result ((other : List ℕ) → counting_of self.new other ≡
+            with_names (named (codes "type ") (Some (kind_text kind))) size other (counting_of self.old other)) }
+    {
+        let mut name = StringDraft::new(&mut self.spare);
+        name.push_str("type ");
+        write_kind(&mut name, kind);
+        name.finish()?;
+        self.count_spare(size)
     }
 
     // Counts a message of this size under the name, if it has one.

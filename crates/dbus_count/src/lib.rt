@@ -6,9 +6,10 @@
 
 mod count;
 mod counts;
+mod form;
 pub mod laws;
-mod names;
 mod table;
 
 pub use count::Count;
 pub use counts::Counts;
+pub use form::Form;

@@ -1,13 +1,16 @@
-//! The names of one word, the most frequent first.
-ghost use Rattle.std.specs.Prelude.{◌≡◌, IfOk, OnOk, map, nat_eq, string_bytes};
+//! The names of one word, the most frequent first, and their lines.
+ghost use Rattle.std.specs.Prelude.{◌≡◌, IfOk, List, OnOk, ℕ, map, nat_eq, string_bytes};
 ghost use Rattle.std.specs.List.{filter, starts_with};
 ghost use Rattle.std.specs.Map.Iter.{deref_pair};
-ghost use Rattle.dbus_count.specs.Tables.{AreRows, HasRows, row_of, row_text};
+ghost use Rattle.dbus_count.specs.Tables.{AreRows, AreTables, Row, as_object, behind, in_words, row_of, row_text, rows_text, words};
 ghost use Rattle.dbus_count.specs.Kept.{counting_of};
 
 use crate::count::Count;
 use crate::counts::Counts;
-use std::alloc::{AllocError, Global};
+use crate::form::Form;
+use dbus_json::write_string;
+use dbus_show::{Draft, StringDraft, write_integer};
+use std::alloc::AllocError;
 
 // The entries of the names that begin with this word.
 fn chosen<'a>(counts: &'a Counts, word: &str) -> Result<Vec<(&'a String, &'a Count)>, AllocError>
@@ -30,46 +33,109 @@ fn rows_of<'a>(counts: &'a Counts, word: &str) -> Result<Vec<(&'a String, &'a Co
     Ok(rows)
 }
 
-// The line of a row.
-fn row_text(alloc: Global, name: &str, count: Count) -> Result<String, AllocError>
-    ensures { IfOk result (λ line. string_bytes line ≡ row_text (name.now, count)) }
+// What stands behind the front of a text.
+fn behind<'a>(text: &'a str, front: &str) -> &'a str
+    ensures { result.now ≡ behind front.now text.now }
 {
-    let messages = count.messages;
-    let bytes = count.bytes;
-    format!(in alloc; "{messages} messages {bytes} bytes {name}\n")
+    text.strip_prefix(front).unwrap_or(text)
 }
 
-// Appends the rows of the names that begin with this word, a line each.
-fn push_rows(counts: &Counts, word: &str, out: &mut String) -> Result<(), AllocError>
-    ensures { OnOk result (HasRows (counting_of counts.now) word.now (string_bytes out.old) (string_bytes out.new)) }
+// Appends the line of a row in words.
+fn write_words<D: Draft>(draft: &mut D, name: &str, count: Count)
+    ensures { D.gains draft.old (in_words (name.now, count)) draft.new }
+{
+    write_integer(draft, count.messages);
+    draft.push_str(" messages ");
+    write_integer(draft, count.bytes);
+    draft.push_str(" bytes ");
+    draft.push_str(name);
+    draft.push_str("\n");
+}
+
+// Appends the line of a row as an object of JSON.
+fn write_object<D: Draft>(draft: &mut D, word: &str, name: &str, count: Count)
+    ensures { D.gains draft.old (as_object word.now (name.now, count)) draft.new }
+{
+    draft.push_str("{\"");
+    draft.push_str(word);
+    draft.push_str("\":");
+    write_string(draft, behind(behind(name, word), " "));
+    draft.push_str(",\"messages\":");
+    write_integer(draft, count.messages);
+    draft.push_str(",\"bytes\":");
+    write_integer(draft, count.bytes);
+    draft.push_str("}\n");
+}
+
+// Appends the line of a row.
+fn write_row<D: Draft>(draft: &mut D, form: Form, word: &str, row: (&String, &Count))
+    ensures { D.gains draft.old (row_text form word.now (row_of row.entry)) draft.new }
+{
+    match form {
+        Form::Text => write_words(draft, row.0.as_str(), *row.1),
+        Form::Json => write_object(draft, word, row.0.as_str(), *row.1),
+    }
+}
+
+// Appends the line of each row.
+fn write_rows<D: Draft>(draft: &mut D, form: Form, word: &str, rows: &[(&String, &Count)])
+    ensures { D.gains draft.old (rows_text form word.now (map row_of rows.now)) draft.new }
+{
+    for row in rows {
+        write_row(draft, form, word, *row);
+    }
+}
+
+// Appends the table of the names that begin with this word.
+fn write_table<D: Draft>(
+    draft: &mut D,
+    form: Form,
+    counts: &Counts,
+    word: &str,
+) -> Result<(), AllocError>
+    ensures { OnOk result ((rows : List Row) × AreRows (counting_of counts.now) word.now rows ×
+        D.gains draft.old (rows_text form word.now rows) draft.new) }
 {
     let rows = rows_of(counts, word)?;
-    for row in &rows {
-        let line = row_text(counts.alloc, row.0.as_str(), *row.1)?;
-        out.push_str(line.as_str())?;
-    }
+    write_rows(draft, form, word, &rows);
     Ok(())
+}
+
+// Appends all tables.
+fn write_tables<D: Draft>(draft: &mut D, form: Form, counts: &Counts) -> Result<(), AllocError>
+    ensures { OnOk result ((text : List ℕ) × AreTables form (counting_of counts.now) words text ×
+        D.gains draft.old text draft.new) }
+{
+    write_table(draft, form, counts, "type")?;
+    write_table(draft, form, counts, "sender")?;
+    write_table(draft, form, counts, "destination")?;
+    write_table(draft, form, counts, "interface")?;
+    write_table(draft, form, counts, "member")?;
+    write_table(draft, form, counts, "error")
+}
+
+// Writes all tables in an empty text.
+fn tables_into(out: &mut String, form: Form, counts: &Counts) -> Result<(), AllocError>
+    ensures { OnOk result (AreTables form (counting_of counts.now) words (string_bytes out.new)) }
+{
+    let mut draft = StringDraft::new(out);
+    write_tables(&mut draft, form, counts)?;
+    draft.finish()
 }
 
 impl Counts {
     ghost use Rattle.dbus_count.specs.Tables.{AreTables, words};
 
     /// The tables as text: those of types, senders, destinations, interfaces, members and errors, one after the other. A table has a
-    /// line for each name that was counted, `M messages B bytes`, a space, the word for what it names, a space and the name. A name that
-    /// more messages have comes first; of those that as many have, the one whose bytes come first. A member has its interface and a dot
-    /// before it, if it has one.
+    /// line for each name that was counted, in this form. A name that more messages have comes first; of those that as many have, the
+    /// one whose bytes come first. A member has its interface and a dot before it, if it has one.
     ///
     /// `AllocError`: an allocation failed.
-    pub fn tables(&self) -> Result<String, AllocError>
-        ensures { IfOk result (λ text. AreTables (counting_of self.now) words (string_bytes text)) }
+    pub fn tables(&self, form: Form) -> Result<String, AllocError>
+        ensures { IfOk result (λ text. AreTables form (counting_of self.now) words (string_bytes text)) }
     {
         let mut text = String::new(self.alloc);
-        push_rows(self, "type ", &mut text)?;
-        push_rows(self, "sender ", &mut text)?;
-        push_rows(self, "destination ", &mut text)?;
-        push_rows(self, "interface ", &mut text)?;
-        push_rows(self, "member ", &mut text)?;
-        push_rows(self, "error ", &mut text)?;
+        tables_into(&mut text, form, self)?;
         Ok(text)
     }
 }

@@ -14,3 +14,4 @@ mod values;
 mod visiting;
 
 pub use line::write_json;
+pub use texts::write_string;

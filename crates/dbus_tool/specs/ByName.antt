@@ -8,6 +8,7 @@ use Rattle.dbus_count.specs.Counting.{Counting, with_names}
 use Rattle.dbus_count.specs.Names.{names_of}
 use Rattle.dbus_count.specs.Tables.{AreTables, words}
 use Rattle.dbus_count.specs.declared.count.Count.{Count}
+use Rattle.dbus_count.specs.declared.form.Form.{Form}
 use Rattle.dbus_command.specs.declared.settings.Settings.{Settings}
 use Rattle.dbus_tool.specs.Counting.{CountsAll, CountsSome}
 use Rattle.dbus_tool.specs.Devices.{Reading, Taken, Writing, taken}
@@ -53,25 +54,25 @@ ReadsNames t settings most c0 c1 (Ok read) =
 ReadsNames t settings most c0 c1 (Err cause) = CountsSome t settings.limits most cause
 
 -- the tables were written, or a write failed within them; or for want of memory nothing was written
-abbrev pub WritesTables : {W : Type 0} → Writing W → Counting → Result (Unit {0}) Cause → Type 0
-WritesTables w c (Ok x) = (text : List ℕ) × AreTables c words text × Wrote w.held w.failures w.old text w.new
-WritesTables w c (Err Memory) = w.new ≡ w.old
-WritesTables w c (Err ReadFailed) = ⊥
-WritesTables w c (Err WriteFailed) = (text : List ℕ) × AreTables c words text × (n : ℕ) × Stopped w.held w.failures w.old text n w.new
-WritesTables w c (Err TooManyReads) = ⊥
+abbrev pub WritesTables : {W : Type 0} → Writing W → Form → Counting → Result (Unit {0}) Cause → Type 0
+WritesTables w form c (Ok x) = (text : List ℕ) × AreTables form c words text × Wrote w.held w.failures w.old text w.new
+WritesTables w form c (Err Memory) = w.new ≡ w.old
+WritesTables w form c (Err ReadFailed) = ⊥
+WritesTables w form c (Err WriteFailed) = (text : List ℕ) × AreTables form c words text × (n : ℕ) × Stopped w.held w.failures w.old text n w.new
+WritesTables w form c (Err TooManyReads) = ⊥
 
 -- the tables were written, and then what is told of the fault; or a write failed, or memory was wanted, which was told if it was not a
 -- write to the second writer
-abbrev pub WritesCounts : {W E : Type 0} → Writing W → Writing E → Counting → Option Fault → (told : List ℕ) → ExitStatus → Type 0
-WritesCounts w e c fault told end =
-    (WritesTables w c (Ok tt) × (((end ≡ status_of fault) × Wrote e.held e.failures e.old told e.new)
+abbrev pub WritesCounts : {W E : Type 0} → Writing W → Writing E → Form → Counting → Option Fault → (told : List ℕ) → ExitStatus → Type 0
+WritesCounts w e form c fault told end =
+    (WritesTables w form c (Ok tt) × (((end ≡ status_of fault) × Wrote e.held e.failures e.old told e.new)
     ⊎ ((end ≡ status.Failed) × (n : ℕ) × Stopped e.held e.failures e.old told n e.new)))
-    ⊎ ((cause : Cause) × WritesTables w c (Err cause) × (end ≡ status.Failed) × Told e.held e.failures e.old e.new cause)
+    ⊎ ((cause : Cause) × WritesTables w form c (Err cause) × (end ≡ status.Failed) × Told e.held e.failures e.old e.new cause)
 
 -- all messages were counted, and their counts are written; or reading was given up, which was told, and nothing is written
-abbrev pub CountsByName : {R W E : Type 0} → Reading R → Writing W → Writing E → Settings → (most : ℕ) → ExitStatus → Type 0
-CountsByName r w e settings most end =
+abbrev pub CountsByName : {R W E : Type 0} → Reading R → Writing W → Writing E → Settings → Form → (most : ℕ) → ExitStatus → Type 0
+CountsByName r w e settings form most end =
     ((counted : Counted) × (all : CountsAll (taken r) settings.limits most counted) × (told : List ℕ)
-    × IsFaultTold settings counted all.rest counted.fault told × WritesCounts w e (counting all.items) counted.fault told end)
+    × IsFaultTold settings counted all.rest counted.fault told × WritesCounts w e form (counting all.items) counted.fault told end)
     ⊎ ((cause : Cause) × CountsSome (taken r) settings.limits most cause × (w.new ≡ w.old) × (end ≡ status.Failed)
     × Told e.held e.failures e.old e.new cause)

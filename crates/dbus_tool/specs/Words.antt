@@ -26,6 +26,8 @@ use Rattle.dbus_command.specs.declared.usage_fault.UsageFault.TheVariants.{Memor
 use Rattle.dbus_tool.specs.declared.ending.ExitStatus.{ExitStatus}
 use Rattle.dbus_tool.specs.declared.ending.ExitStatus.TheVariants as status
 use Rattle.dbus_tool.specs.declared.ending.Cause.TheVariants as cause
+use Rattle.dbus_tool.specs.declared.words.Task.{Task}
+use Rattle.dbus_tool.specs.declared.words.Task.TheVariants.{Run, CountAll}
 
 -- the rule's fault was told, or a write failed; or memory was wanted
 abbrev pub RefusesRule : {E : Type 0} → (E → Option (List ℕ)) → (E → ℕ) → RefusedRule → E → E → ExitStatus → Type 0
@@ -42,6 +44,11 @@ abbrev pub RunsBy : {R W E : Type 0} → (more : Bool) → Reading R → Writing
 RunsBy false r w e settings command end = Runs r w e settings.limits (2 ^ 32) command end
 RunsBy true r w e settings command end = RunsWith r w e settings (2 ^ 32) command end
 
+-- what is done with messages by settings: a command is run, or they are counted by their names
+abbrev pub DoesBy : {R W E : Type 0} → Reading R → Writing W → Writing E → Settings → Task → ExitStatus → Type 0
+DoesBy r w e settings (Run command) end = RunsBy (ask_more settings) r w e settings command end
+DoesBy r w e settings (CountAll form) end = CountsByName r w e settings form (2 ^ 32) end
+
 -- what is said of a rule whose sender has no owner
 abbrev pub owner_note : List ℕ
 owner_note = codes "note: no owner is known for a rule's sender; --owner NAME=UNIQUE gives one, and --learn-owners takes them from the bus's signals\n"
@@ -53,29 +60,24 @@ module _ {R W E : Type 0} (left : R → Option (List ℕ)) (failures : R → ℕ
       ((begun : ReadAhead R) × ReadsHandshake left failures side old begun (Ok tt) × Done (ahead left failures begun new))
       ⊎ ((why : HandshakeFault) × ReadsHandshake left failures side old new (Err why) × (w.new ≡ w.old) × TellsHandshake e.held e.failures e.old e.new why end)
 
-  -- what is done for a command by its settings, with all that the reader gives, or with what follows the handshake of a side
-  abbrev pub RunsFrom : Option Side → Settings → Command → ExitStatus → Type 0
-  RunsFrom None settings command end = RunsBy (ask_more settings) (ahead left failures old new) w e settings command end
-  RunsFrom (Some side) settings command end = FollowsHandshake side (λ r. RunsBy (ask_more settings) r w e settings command end) end
-
-  -- the same of counts by names
-  abbrev pub CountsFrom : Option Side → Settings → ExitStatus → Type 0
-  CountsFrom None settings end = CountsByName (ahead left failures old new) w e settings (2 ^ 32) end
-  CountsFrom (Some side) settings end = FollowsHandshake side (λ r. CountsByName r w e settings (2 ^ 32) end) end
+  -- the task is done with all that the reader gives, or with what follows the handshake of a side
+  abbrev pub DoesFrom : Option Side → Settings → Task → ExitStatus → Type 0
+  DoesFrom None settings task end = DoesBy (ahead left failures old new) w e settings task end
+  DoesFrom (Some side) settings task end = FollowsHandshake side (λ r. DoesBy r w e settings task end) end
 
 module _ {R W E : Type 0} (left : R → Option (List ℕ)) (failures : R → ℕ) (old new : ReadAhead R) (w : Writing W) (e : Writing E) where
   -- a note was written before that, if one is due; or a write of it failed
   abbrev pub RunsNoted : (is_due : Bool) → Settings → Command → ExitStatus → Type 0
-  RunsNoted false settings command end = RunsFrom left failures old new w e settings.handshake settings command end
+  RunsNoted false settings command end = DoesFrom left failures old new w e settings.handshake settings (Run command) end
   RunsNoted true settings command end =
       ((begun : E) × Wrote e.held e.failures e.old owner_note begun
-      × RunsFrom left failures old new w (writing e.held e.failures begun e.new) settings.handshake settings command end)
+      × DoesFrom left failures old new w (writing e.held e.failures begun e.new) settings.handshake settings (Run command) end)
       ⊎ ((new ≡ old) × (w.new ≡ w.old) × (end ≡ status.Failed) × (n : ℕ) × Stopped e.held e.failures e.old owner_note n e.new)
 
   -- what is done for a command by its settings, for `count`, for the side whose handshake is listed, or for words that name nothing
   abbrev pub Does : Result Asked UsageFault → ExitStatus → Type 0
   Does (Ok (Messages command settings)) end = RunsNoted (settings.explains && lacks_owner command) settings command end
-  Does (Ok (Count settings)) end = CountsFrom left failures old new w e settings.handshake settings end
+  Does (Ok (Count settings form)) end = DoesFrom left failures old new w e settings.handshake settings (CountAll form) end
   Does (Ok (Handshake side)) end = Lists left failures old new w e side end
   Does (Err Memory) end = (new ≡ old) × (w.new ≡ w.old) × StopsBy e.held e.failures e.old e.new cause.Memory end
   Does (Err (Help text)) end = (new ≡ old) × ShowsText w e (string_bytes text) end

@@ -17,7 +17,7 @@ use crate::failing::give_up;
 use crate::handing::ended_by;
 use crate::telling::{Refusal, refusal_text};
 use dbus_command::Settings;
-use dbus_count::Counts;
+use dbus_count::{Counts, Form};
 use dbus_stream::{MOST_READS, RawReader, Sink, Source, WrittenOnly, write_all};
 use dbus_validate::Validated;
 use dbus_value::Limits;
@@ -34,13 +34,14 @@ pub(crate) struct Read {
 }
 
 /// Counts the messages of a source by their names, up to the end of the input or a fault, with at most 2^32 reads. Then the tables of
-/// the counts go to the first writer, and what is told of the fault to the second.
+/// the counts go to the first writer, in this form, and what is told of the fault to the second.
 ///
 /// `Done`, `Refused`: all was written, and whether there is a fault. `Failed`: a read or a write failed, as many reads were made as may
 /// be, or memory ran out; if it was not a write to the second writer, that is told there.
 pub(crate) fn count_by_name<R: Source, W: Sink, E: Sink>(
     alloc: Global,
     settings: Settings,
+    form: Form,
     reader: &mut R,
     first: &mut W,
     second: &mut E,
@@ -48,11 +49,11 @@ pub(crate) fn count_by_name<R: Source, W: Sink, E: Sink>(
     ensures { CountsByName (reading R.left R.calls R.failures reader.old reader.new)
         (writing W.held W.failures first.old first.new)
         (writing E.held E.failures second.old second.new)
-        settings (2 ^ 32) result }
+        settings form (2 ^ 32) result }
 {
     let mut counts = Counts::new(alloc);
     match read_names(alloc, settings, reader, &mut counts) {
-        Ok(read) => write_counts(&counts, &read, first, second),
+        Ok(read) => write_counts(&counts, form, &read, first, second),
         Err(cause) => give_up(cause, second),
     }
 }
@@ -191,15 +192,16 @@ fn count_one(
 // Writes the tables on the first writer, and then what is told of the fault on the second.
 fn write_counts<W: Sink, E: Sink>(
     counts: &Counts,
+    form: Form,
     read: &Read,
     first: &mut W,
     second: &mut E,
 ) -> ExitStatus
     ensures { WritesCounts (writing W.held W.failures first.old first.new)
         (writing E.held E.failures second.old second.new)
-        (counting_of counts.now) read.now.counted.fault (string_bytes read.now.told) result }
+        form (counting_of counts.now) read.now.counted.fault (string_bytes read.now.told) result }
 {
-    match write_tables(counts, first) {
+    match write_tables(counts, form, first) {
         Ok(()) => match write_all(second, read.told.as_bytes()) {
             Ok(()) => status_of(read.counted.fault),
             Err(WrittenOnly(_)) => ExitStatus::Failed,
@@ -209,10 +211,10 @@ fn write_counts<W: Sink, E: Sink>(
 }
 
 // Writes the tables.
-fn write_tables<W: Sink>(counts: &Counts, first: &mut W) -> Result<(), Cause>
-    ensures { WritesTables (writing W.held W.failures first.old first.new) (counting_of counts.now) result }
+fn write_tables<W: Sink>(counts: &Counts, form: Form, first: &mut W) -> Result<(), Cause>
+    ensures { WritesTables (writing W.held W.failures first.old first.new) form (counting_of counts.now) result }
 {
-    match counts.tables() {
+    match counts.tables(form) {
         Ok(text) => match write_all(first, text.as_bytes()) {
             Ok(()) => Ok(()),
             Err(WrittenOnly(_)) => Err(Cause::WriteFailed),

@@ -35,6 +35,7 @@ mod words;
 pub use dbus_command::{
     Asked, Command, RefusedRule, Selection, Settings, Side, UsageFault, Window, command_of,
 };
+pub use dbus_count::Form;
 pub use dbus_handshake_input::ReadAhead;
 pub use ending::ExitStatus;
 pub use going::run_with;

@@ -5,7 +5,7 @@ ghost use Rattle.dbus_command.specs.Windows.{ask_more};
 ghost use Rattle.dbus_tool.specs.Devices.{reading, writing};
 ghost use Rattle.dbus_tool.specs.Handshaking.{Shows, TellsHandshake};
 ghost use Rattle.dbus_tool.specs.Listing.{Lists};
-ghost use Rattle.dbus_tool.specs.Words.{CountsFrom, RefusesRule, RunsBy, RunsFrom, RunsNoted, RunsWords, ShowsText};
+ghost use Rattle.dbus_tool.specs.Words.{DoesBy, DoesFrom, RefusesRule, RunsBy, RunsNoted, RunsWords, ShowsText};
 
 use crate::by_name::count_by_name;
 use crate::ending::{Cause, ExitStatus};
@@ -17,6 +17,7 @@ use crate::listing::write_lines;
 use crate::rule_lines::rule_text;
 use crate::running::run_within;
 use dbus_command::{Asked, Command, RefusedRule, Settings, UsageFault, command_of};
+use dbus_count::Form;
 use dbus_handshake_input::{HandshakeFault, ReadAhead, Side, pass_handshake};
 use dbus_stream::{MOST_READS, Sink, Source, WrittenOnly, write_all};
 use std::alloc::Global;
@@ -38,6 +39,9 @@ const OWNER_NOTE: &str =
 /// If they name the side of a handshake, that is taken first, as `dbus_handshake_input::pass_handshake` does, by reads which are none
 /// of the 2^32; the run has what follows, and counts its offsets from there. If the input begins with no handshake of that side,
 /// `handshake refused at P: NAME` and LF go to the second writer, with the place from the start of the input and the name of the reason.
+///
+/// If they name `count`, all messages are read, up to the end of the input or a fault, and then the first writer gets the tables of how many
+/// have each name, as [`dbus_count::Counts::tables`] says, and the second what is told of the fault.
 ///
 /// If they name `handshake` with a side, the first writer gets a line for each line of the side's handshake, its offset, the line and what it
 /// says, and then `ok N lines B bytes`; or, if the input begins with none, the lines before that place, and the second writer what is said
@@ -62,7 +66,9 @@ pub fn run_words<R: Source, W: Sink, E: Sink>(
         Ok(Asked::Messages(command, settings)) => {
             run_noted(alloc, command, settings, reader, first, second)
         }
-        Ok(Asked::Count(settings)) => count_named(alloc, settings, reader, first, second),
+        Ok(Asked::Count(settings, form)) => {
+            begin(alloc, Task::CountAll(form), settings, reader, first, second)
+        }
         Ok(Asked::Handshake(side)) => list_handshake(alloc, side, reader, first, second),
         Err(UsageFault::Memory) => give_up(Cause::Memory, second),
         Err(UsageFault::Help(text) | UsageFault::Version(text)) => {
@@ -88,10 +94,10 @@ fn run_noted<R: Source, W: Sink, E: Sink>(
         (settings.explains && lacks_owner command) settings command result }
 {
     if !is_note_due(&command, settings) {
-        return run_named(alloc, command, settings, reader, first, second);
+        return begin(alloc, Task::Run(command), settings, reader, first, second);
     }
     match write_all(second, OWNER_NOTE.as_bytes()) {
-        Ok(()) => run_named(alloc, command, settings, reader, first, second),
+        Ok(()) => begin(alloc, Task::Run(command), settings, reader, first, second),
         Err(WrittenOnly(_)) => ExitStatus::Failed,
     }
 }
@@ -103,48 +109,55 @@ fn is_note_due(command: &Command, settings: Settings) -> bool
     settings.explains && command.lacks_owner()
 }
 
-// Runs a command by its settings, after the handshake if they name its side.
-fn run_named<R: Source, W: Sink, E: Sink>(
+// What is done with the messages of an input.
+#[derive(Drop)]
+enum Task {
+    // A command is run.
+    Run(Command),
+    // The messages are counted by their names, for tables in this form.
+    CountAll(Form),
+}
+
+// Does it by the settings, after the handshake if they name its side.
+fn begin<R: Source, W: Sink, E: Sink>(
     alloc: Global,
-    command: Command,
+    task: Task,
     settings: Settings,
     reader: &mut ReadAhead<R>,
     first: &mut W,
     second: &mut E,
 ) -> ExitStatus
-    ensures { RunsFrom R.left R.failures reader.old reader.new
+    ensures { DoesFrom R.left R.failures reader.old reader.new
         (writing W.held W.failures first.old first.new)
         (writing E.held E.failures second.old second.new)
-        settings.handshake settings command result }
+        settings.handshake settings task result }
 {
     let Some(side) = settings.handshake else {
-        return run_by(alloc, command, settings, reader, first, second);
+        return do_by(alloc, task, settings, reader, first, second);
     };
     match pass_handshake(alloc, side, reader) {
-        Ok(()) => run_by(alloc, command, settings, reader, first, second),
+        Ok(()) => do_by(alloc, task, settings, reader, first, second),
         Err(fault) => refuse_handshake(alloc, fault, second),
     }
 }
 
-// Counts messages by their names, after the handshake if the settings name its side.
-fn count_named<R: Source, W: Sink, E: Sink>(
+// Does it by the settings.
+fn do_by<R: Source, W: Sink, E: Sink>(
     alloc: Global,
+    task: Task,
     settings: Settings,
-    reader: &mut ReadAhead<R>,
+    reader: &mut R,
     first: &mut W,
     second: &mut E,
 ) -> ExitStatus
-    ensures { CountsFrom R.left R.failures reader.old reader.new
+    ensures { DoesBy (reading R.left R.calls R.failures reader.old reader.new)
         (writing W.held W.failures first.old first.new)
         (writing E.held E.failures second.old second.new)
-        settings.handshake settings result }
+        settings task result }
 {
-    let Some(side) = settings.handshake else {
-        return count_by_name(alloc, settings, reader, first, second);
-    };
-    match pass_handshake(alloc, side, reader) {
-        Ok(()) => count_by_name(alloc, settings, reader, first, second),
-        Err(fault) => refuse_handshake(alloc, fault, second),
+    match task {
+        Task::Run(command) => run_by(alloc, command, settings, reader, first, second),
+        Task::CountAll(form) => count_by_name(alloc, settings, form, reader, first, second),
     }
 }
 

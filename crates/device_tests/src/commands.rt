@@ -4,7 +4,7 @@ use crate::help_texts::*;
 use crate::running::words_of;
 use crate::usage_texts::*;
 use dbus_match::{RuleReason, rule_text};
-use dbus_tool::{Asked, Command, Selection, Side, UsageFault, command_of};
+use dbus_tool::{Asked, Command, Form, Selection, Side, UsageFault, command_of};
 use dbus_value::{FdRule, Limits, Order};
 use std::alloc::Global;
 use std::process::Abort;
@@ -24,7 +24,7 @@ enum Named {
     Check,
     Swap(Order),
     Filter(Selected),
-    Count,
+    Count(Form),
     Handshake(Side),
     Refused(&'static str, usize, RuleReason, bool),
 }
@@ -64,7 +64,7 @@ fn is_named(alloc: Global, words: &[&str], named: &Named) -> Result<bool, Fail> 
         (Ok(Asked::Messages(Command::Filter(given), _)), Named::Filter(selected)) => {
             is_selection(alloc, &given, selected)
         }
-        (Ok(Asked::Count(_)), Named::Count) => Ok(true),
+        (Ok(Asked::Count(_, given)), Named::Count(form)) => Ok(given == *form),
         (Ok(Asked::Handshake(given)), Named::Handshake(side)) => Ok(given == *side),
         (Err(UsageFault::Rule(given)), Named::Refused(text, at, reason, explains)) => {
             Ok(
@@ -111,8 +111,12 @@ const NAMED: &[(&[&str], Named)] = &[
         &["filter", "--owner", "a.b=:1.7", "", "--owner=c-d.e=:1.a"],
         Named::Filter((&[""], false, &[("a.b", ":1.7"), ("c-d.e", ":1.a")])),
     ),
-    (&["count"], Named::Count),
-    (&["count", "--explain", "--fds=any"], Named::Count),
+    (&["count"], Named::Count(Form::Text)),
+    (
+        &["count", "--explain", "--fds=any"],
+        Named::Count(Form::Text),
+    ),
+    (&["count", "--json"], Named::Count(Form::Json)),
     (
         &["handshake", "--side", "client"],
         Named::Handshake(Side::Client),

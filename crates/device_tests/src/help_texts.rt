@@ -2,7 +2,7 @@
 
 /// Of the program.
 pub(crate) const PROGRAM: &str = "\
-Reads D-Bus messages from standard input, and shows, checks, swaps or filters them
+Reads D-Bus messages from standard input, and shows, checks, counts, swaps or filters them
 
 Usage: dbus-wire <COMMAND>
 
@@ -246,6 +246,7 @@ Counts the messages of each type, sender, member and so on
 Usage: dbus-wire count [OPTIONS]
 
 Options:
+      --json              Writes each line of the tables as JSON
       --explain           Explains what is refused, in three more lines
       --max-message <N>   Most bytes of a message: 0 to 134217728, the default
       --max-array <N>     Most bytes of an array: 0 to 67108864, the default
@@ -264,9 +265,10 @@ Input:
 Output:
   Tables on standard output: for each type, sender, destination, interface,
   member and error name a line `N messages B bytes WORD NAME`, those of most
-  messages first. If the input is refused, `refused at P: NAME` on standard
-  error, and the tables are those of the messages before. Memory is taken for
-  each name, and not for each message.
+  messages first. With --json each line is an object: the name behind its word,
+  `messages` and `bytes`. If the input is refused, `refused at P: NAME` on
+  standard error, and the tables are those of the messages before. Memory is
+  taken for each name, and not for each message.
 
   With --explain three lines after a refusal say where the fault is, and what
   has to be there.

@@ -254,6 +254,13 @@ const BEHIND: &[(&[&str], &[&[u8]], ExitStatus, &[&[u8]], &[u8])] = &[
         b"refused at 36: MessageTooLong\n",
     ),
     (
+        &["count", "--json"],
+        &[RETURN],
+        ExitStatus::Done,
+        &[b"{\"type\":\"method_return\",\"messages\":1,\"bytes\":24}\n"],
+        b"",
+    ),
+    (
         &["count", "--handshake=client"],
         &[CLIENT, RETURN],
         ExitStatus::Done,

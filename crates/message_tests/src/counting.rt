@@ -1,7 +1,7 @@
 //! Counts of messages by their names.
 #![tactic(auto)]
 
-use dbus_count::Counts;
+use dbus_count::{Counts, Form};
 use dbus_view::MessageView;
 use std::test::Fail;
 
@@ -21,6 +21,10 @@ const ERROR: &[u8] =
 const TABLES: &str =
     "2 messages 192 bytes type signal\n1 messages 40 bytes type error\n1 messages 80 bytes type method_call\n1 messages 80 bytes sender :1.7\n1 messages 80 bytes destination :1.2\n2 messages 192 bytes interface a.b\n2 messages 192 bytes member a.b.C\n1 messages 80 bytes member M\n1 messages 40 bytes error d.e\n";
 
+// The same as lines of JSON.
+const OBJECTS: &str =
+    "{\"type\":\"signal\",\"messages\":2,\"bytes\":192}\n{\"type\":\"error\",\"messages\":1,\"bytes\":40}\n{\"type\":\"method_call\",\"messages\":1,\"bytes\":80}\n{\"sender\":\":1.7\",\"messages\":1,\"bytes\":80}\n{\"destination\":\":1.2\",\"messages\":1,\"bytes\":80}\n{\"interface\":\"a.b\",\"messages\":2,\"bytes\":192}\n{\"member\":\"a.b.C\",\"messages\":2,\"bytes\":192}\n{\"member\":\"M\",\"messages\":1,\"bytes\":80}\n{\"error\":\"d.e\",\"messages\":1,\"bytes\":40}\n";
+
 #[test]
 fn messages_are_counted_by_their_names(rt: HostRuntime) -> Result<(), Fail> {
     let mut counts = Counts::new(rt.alloc());
@@ -30,7 +34,9 @@ fn messages_are_counted_by_their_names(rt: HostRuntime) -> Result<(), Fail> {
         };
         counts.add(&view)?;
     }
-    let tables = counts.tables()?;
+    let tables = counts.tables(Form::Text)?;
     assert_eq!(rt; tables.as_str(), TABLES);
+    let objects = counts.tables(Form::Json)?;
+    assert_eq!(rt; objects.as_str(), OBJECTS);
     Ok(())
 }

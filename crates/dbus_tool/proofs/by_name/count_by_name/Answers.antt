@@ -19,5 +19,5 @@ returns-in-Ok g c =
       a.all,
       told,
       subst (λ (kept : List ℕ). IsFaultTold c.args.settings read.counted kept read.counted.fault told) a.kept_is r.2,
-      subst (λ (n : Counting). WritesCounts w e n read.counted.fault told c.write_counts.result) counts c.write_counts.ensures,
+      subst (λ (n : Counting). WritesCounts w e c.args.form n read.counted.fault told c.write_counts.result) counts c.write_counts.ensures,
     )

@@ -8,7 +8,7 @@ pub returns-in-Ok : goal.returns-in-Ok
 returns-in-Ok g c =
     let due : (c.args.settings.explains && lacks_owner c.args.command) ≡ true = search rules in
     let wrote : Wrote g.E.Sink.held g.E.Sink.failures c.args.second.now owner_note c.write_all.new.sink = rw c.as_bytes.ensures.value at c.in-Ok.ensures.writes in
-    rw due (inl (c.write_all.new.sink, wrote, c.run_named-in-Ok.ensures))
+    rw due (inl (c.write_all.new.sink, wrote, c.begin-in-Ok.ensures))
 
 pub returns-in-Err : goal.returns-in-Err
 returns-in-Err g c =

@@ -4,12 +4,13 @@ use Rattle.dbus_message_model.specs.Lookups.{field_value}
 use Rattle.dbus_message_model.specs.declared.field_code.TheConstants as field
 use Rattle.dbus_count.specs.Counting.{with_names}
 use Rattle.dbus_count.specs.Kept.{counting_of}
-use Rattle.dbus_count.specs.Names.{kind_name, member_of, named, names_of, text_at}
+use Rattle.dbus_count.specs.Names.{member_of, named, names_of, text_at}
+use Rattle.dbus_show.specs.ShownMessages.{kind_text}
 use Rattle.dbus_count.proofs.NameSteps.{all_names, on_ok, text_seen}
 use Rattle.dbus_count.proofs.counts.Counts.add.Goals as goal
 
 pub returns : goal.returns
-returns c = λ order m views. on_ok c.count_name-5.result (λ last q.
+returns c = λ order m views. on_ok c.count_name-4.result (λ last q.
     let size = length c.bytes.result.now in
     let sender = text_seen c.sender.result STRING (field_value field.SENDER m.fields) (c.sender.ensures order m views) in
     let destination = text_seen c.destination.result STRING (field_value field.DESTINATION m.fields) (c.destination.ensures order m views) in
@@ -17,19 +18,19 @@ returns c = λ order m views. on_ok c.count_name-5.result (λ last q.
     let interface2 = text_seen c.interface-2.result STRING (field_value field.INTERFACE m.fields) (c.interface-2.ensures order m views) in
     let member = text_seen c.member.result STRING (field_value field.MEMBER m.fields) (c.member.ensures order m views) in
     let error = text_seen c.error_name.result STRING (field_value field.ERROR_NAME m.fields) (c.error_name.ensures order m views) in
-    let kind = c.kind_name.ensures ∙ ap kind_name (c.kind.ensures order m views) in
+    let kind = ap kind_text (c.kind.ensures order m views) in
     let c0 = counting_of c.args.self.now q in
-    let c1 = counting_of c.count_name.new.self q in
-    let c2 = counting_of c.count_name-2.new.self q in
-    let c3 = counting_of c.count_name-3.new.self q in
-    let c4 = counting_of c.count_name-4.new.self q in
+    let c1 = counting_of c.count_kind.new.self q in
+    let c2 = counting_of c.count_name.new.self q in
+    let c3 = counting_of c.count_name-2.new.self q in
+    let c4 = counting_of c.count_name-3.new.self q in
     let c5 = counting_of c.count_member.new.self q in
-    let c6 = counting_of c.count_name-5.new.self q in
+    let c6 = counting_of c.count_name-4.new.self q in
     subst (λ b. c6 ≡ with_names (names_of m) (length b) q c0) c.bytes.ensures.bytes (all_names m size q c0 c1 c2 c3 c4 c5 c6
-    (c.in_ok-count_name.ensures q ∙ ap (λ t. with_names (named (codes "type ") (Some t)) size q c0) kind)
-    (c.in_ok-count_name-2.ensures q ∙ ap (λ t. with_names (named (codes "sender ") t) size q c1) sender)
-    (c.in_ok-count_name-3.ensures q ∙ ap (λ t. with_names (named (codes "destination ") t) size q c2) destination)
-    (c.in_ok-count_name-4.ensures q ∙ ap (λ t. with_names (named (codes "interface ") t) size q c3) interface)
+    (c.in_ok-count_kind.ensures q ∙ ap (λ t. with_names (named (codes "type ") (Some t)) size q c0) kind)
+    (c.in_ok-count_name.ensures q ∙ ap (λ t. with_names (named (codes "sender ") t) size q c1) sender)
+    (c.in_ok-count_name-2.ensures q ∙ ap (λ t. with_names (named (codes "destination ") t) size q c2) destination)
+    (c.in_ok-count_name-3.ensures q ∙ ap (λ t. with_names (named (codes "interface ") t) size q c3) interface)
     (c.in_ok-count_member.ensures q ∙ (ap (λ t. with_names (named (codes "member ") (member_of t (option_map (λ s. s.now) c.member.result))) size q c4) interface2
     ∙ ap (λ t. with_names (named (codes "member ") (member_of (text_at field.INTERFACE m) t)) size q c4) member))
-    (last q ∙ ap (λ t. with_names (named (codes "error ") t) size q c5) error))) c.count_name-5.ensures
+    (last q ∙ ap (λ t. with_names (named (codes "error ") t) size q c5) error))) c.count_name-4.ensures

@@ -1,0 +1,5 @@
+use Rattle.dbus_show.proofs.Gaining.{then}
+use Rattle.dbus_count.proofs.table.write_words.Goals as goal
+
+pub returns : goal.returns
+returns g c = then g.D.Draft.gains g.met.D.Draft.joins c.write_integer.ensures (then g.D.Draft.gains g.met.D.Draft.joins c.push_str.ensures (then g.D.Draft.gains g.met.D.Draft.joins c.write_integer-2.ensures (then g.D.Draft.gains g.met.D.Draft.joins c.push_str-2.ensures (then g.D.Draft.gains g.met.D.Draft.joins c.push_str-3.ensures c.push_str-4.ensures))))
