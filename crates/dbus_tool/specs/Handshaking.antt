@@ -1,21 +1,22 @@
 -- A handshake is read before the messages, from a source that is read ahead.
 -- D-Bus Specification, "Authentication Protocol".
-use Rattle.std.specs.Prelude.{◌≡◌, ◌⊎◌, ℕ, List, Option, Result}
+use Rattle.std.specs.Prelude.{◌≡◌, ◌⊎◌, ℕ, List, ◌++◌, Option, Result, codes, decimal}
 use Rattle.std.specs.Io.KnownBytes.{prepend_known}
 use Rattle.dbus_device.specs.Write.{Wrote, Stopped}
 use Rattle.dbus_handshake_input.specs.Ahead.{kept_of, source_of}
 use Rattle.dbus_handshake_input.specs.Passing.{Counts, Passes}
 use Rattle.dbus_handshake_input.specs.declared.fault.HandshakeFault.{HandshakeFault}
+use Rattle.dbus_handshake_input.specs.FaultTexts.{handshake_reason_text}
 use Rattle.dbus_handshake_input.specs.declared.fault.HandshakeFault.TheVariants as fault
+use Rattle.dbus_handshake_input.specs.declared.fault.HandshakeReason.{HandshakeReason}
 use Rattle.dbus_handshake_input.specs.declared.read_ahead.ReadAhead.{ReadAhead}
 use Rattle.dbus_handshake_input.specs.declared.side.Side.{Side}
-use Rattle.dbus_tool.specs.Devices.{Reading, reading}
-use Rattle.dbus_tool.specs.Lines.{handshake_line}
-use Rattle.dbus_tool.specs.Running.{Told}
-use Rattle.dbus_tool.specs.declared.ending.ExitStatus.{ExitStatus}
-use Rattle.dbus_tool.specs.declared.ending.ExitStatus.TheVariants as status
-use Rattle.dbus_tool.specs.declared.ending.Cause.{Cause}
-use Rattle.dbus_tool.specs.declared.ending.Cause.TheVariants as cause
+use Rattle.dbus_report.specs.Devices.{Reading, reading}
+use Rattle.dbus_report.specs.Failing.{Told}
+use Rattle.dbus_report.specs.declared.ending.ExitStatus.{ExitStatus}
+use Rattle.dbus_report.specs.declared.ending.ExitStatus.TheVariants as status
+use Rattle.dbus_report.specs.declared.ending.Cause.{Cause}
+use Rattle.dbus_report.specs.declared.ending.Cause.TheVariants as cause
 
 module _ {R : Type 0} (left : R → Option (List ℕ)) (failures : R → ℕ) where
   -- a source before and after: what is left in it is what it keeps, and then what the source below has
@@ -25,6 +26,10 @@ module _ {R : Type 0} (left : R → Option (List ℕ)) (failures : R → ℕ) wh
   -- the handshake of the side was taken, or what was read begins with none; the reads that failed count
   abbrev pub ReadsHandshake : Side → ReadAhead R → ReadAhead R → Result (Unit {0}) HandshakeFault → Type 0
   ReadsHandshake side old new result = Passes left side old new result × Counts (failures (source_of old)) (failures (source_of new)) result
+
+-- the offset of the fault of a handshake and its reason
+abbrev pub handshake_line : ℕ → HandshakeReason → List ℕ
+handshake_line at why = codes "handshake refused at " ++ (decimal at ++ (codes ": " ++ (handshake_reason_text why ++ codes "\n")))
 
 module _ {E : Type 0} (held : E → Option (List ℕ)) (failures : E → ℕ) (old new : E) where
   -- the text was written, and this is the status; or a write failed after its first bytes

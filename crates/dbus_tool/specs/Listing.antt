@@ -9,15 +9,15 @@ use Rattle.dbus_handshake_input.specs.declared.read_ahead.ReadAhead.{ReadAhead}
 use Rattle.dbus_handshake_input.specs.declared.side.Side.{Side}
 use Rattle.dbus_handshake_input.specs.declared.size.HandshakeSize.{HandshakeSize}
 use Rattle.dbus_show_handshake.specs.ShownHandshakes.{line_text, size_line}
-use Rattle.dbus_tool.specs.Devices.{Writing}
-use Rattle.dbus_tool.specs.Gathering.{Gathers}
+use Rattle.dbus_report.specs.Devices.{Writing}
+use Rattle.dbus_report.specs.Gathering.{Gathers}
 use Rattle.dbus_tool.specs.Handshaking.{StopsBy, TellsHandshake}
-use Rattle.dbus_tool.specs.Pages.{Goes}
-use Rattle.dbus_tool.specs.declared.ending.ExitStatus.{ExitStatus}
-use Rattle.dbus_tool.specs.declared.ending.ExitStatus.TheVariants as status
-use Rattle.dbus_tool.specs.declared.ending.Cause.TheVariants as cause
-use Rattle.dbus_tool.specs.declared.gathering.Unwritten.{Unwritten}
-use Rattle.dbus_tool.specs.declared.page.Page.{Page}
+use Rattle.dbus_report.specs.Pages.{Goes}
+use Rattle.dbus_report.specs.declared.ending.ExitStatus.{ExitStatus}
+use Rattle.dbus_report.specs.declared.ending.ExitStatus.TheVariants as status
+use Rattle.dbus_report.specs.declared.ending.Cause.TheVariants as cause
+use Rattle.dbus_report.specs.declared.gathering.Unwritten.{Unwritten}
+use Rattle.dbus_report.specs.declared.page.Page.{Page}
 
 -- a text with a line more for each line that is heard
 abbrev pub Lengthens : List ℕ → List HeardLine → List ℕ → Type 0

@@ -6,13 +6,14 @@ use Rattle.dbus_command.specs.Named.{IsNamedBy}
 use Rattle.dbus_command.specs.Told.{TellsFault}
 use Rattle.dbus_command.specs.Unowned.{lacks_owner}
 use Rattle.dbus_command.specs.Windows.{ask_more}
-use Rattle.dbus_tool.specs.ByName.{CountsByName}
-use Rattle.dbus_tool.specs.Devices.{Reading, Writing, writing}
-use Rattle.dbus_tool.specs.Going.{RunsWith}
+use Rattle.dbus_runs.specs.ByName.{CountsByName}
+use Rattle.dbus_report.specs.Devices.{Reading, Writing, writing}
+use Rattle.dbus_runs.specs.Going.{RunsWith}
 use Rattle.dbus_tool.specs.Handshaking.{ReadsHandshake, Shows, StopsBy, TellsHandshake, ahead}
 use Rattle.dbus_tool.specs.Listing.{Lists}
 use Rattle.dbus_tool.specs.RuleLines.{IsRuleTold}
-use Rattle.dbus_tool.specs.Running.{Runs, Told}
+use Rattle.dbus_runs.specs.Running.{Runs}
+use Rattle.dbus_report.specs.Failing.{Told}
 use Rattle.dbus_handshake_input.specs.declared.fault.HandshakeFault.{HandshakeFault}
 use Rattle.dbus_handshake_input.specs.declared.read_ahead.ReadAhead.{ReadAhead}
 use Rattle.dbus_handshake_input.specs.declared.side.Side.{Side}
@@ -23,9 +24,9 @@ use Rattle.dbus_command.specs.declared.settings.Settings.{Settings}
 use Rattle.dbus_command.specs.declared.usage_fault.RefusedRule.{RefusedRule}
 use Rattle.dbus_command.specs.declared.usage_fault.UsageFault.{UsageFault}
 use Rattle.dbus_command.specs.declared.usage_fault.UsageFault.TheVariants.{Memory, Help, Version, Usage, Rule}
-use Rattle.dbus_tool.specs.declared.ending.ExitStatus.{ExitStatus}
-use Rattle.dbus_tool.specs.declared.ending.ExitStatus.TheVariants as status
-use Rattle.dbus_tool.specs.declared.ending.Cause.TheVariants as cause
+use Rattle.dbus_report.specs.declared.ending.ExitStatus.{ExitStatus}
+use Rattle.dbus_report.specs.declared.ending.ExitStatus.TheVariants as status
+use Rattle.dbus_report.specs.declared.ending.Cause.TheVariants as cause
 use Rattle.dbus_tool.specs.declared.words.Task.{Task}
 use Rattle.dbus_tool.specs.declared.words.Task.TheVariants.{Run, CountAll}
 

@@ -2,23 +2,19 @@
 ghost use Rattle.std.specs.Prelude.{◌≡◌, ◌≤◌, ◌^◌, ◌&&◌, map, string_bytes};
 ghost use Rattle.dbus_command.specs.Unowned.{lacks_owner};
 ghost use Rattle.dbus_command.specs.Windows.{ask_more};
-ghost use Rattle.dbus_tool.specs.Devices.{reading, writing};
+ghost use Rattle.dbus_report.specs.Devices.{reading, writing};
 ghost use Rattle.dbus_tool.specs.Handshaking.{Shows, TellsHandshake};
 ghost use Rattle.dbus_tool.specs.Listing.{Lists};
 ghost use Rattle.dbus_tool.specs.Words.{DoesBy, DoesFrom, RefusesRule, RunsBy, RunsNoted, RunsWords, ShowsText};
 
-use crate::by_name::count_by_name;
-use crate::ending::{Cause, ExitStatus};
-use crate::failing::give_up;
-use crate::gathering::Unwritten;
-use crate::going::run_with;
 use crate::lines::handshake_line;
 use crate::listing::write_lines;
 use crate::rule_lines::rule_text;
-use crate::running::run_within;
 use dbus_command::{Asked, Command, RefusedRule, Settings, UsageFault, command_of};
 use dbus_count::Form;
 use dbus_handshake_input::{HandshakeFault, ReadAhead, Side, pass_handshake};
+use dbus_report::{Cause, ExitStatus, Unwritten, give_up};
+use dbus_runs::{count_by_name, run_with, run_within};
 use dbus_stream::{MOST_READS, Sink, Source, WrittenOnly, write_all};
 use std::alloc::Global;
 

@@ -1,0 +1,108 @@
+-- How a run ends that passes over refused messages.
+use Rattle.std.proofs.Common.{◌≡◌, ℕ, ◌≤◌, List, [], ◌++◌, Bool, Err, Ok, Option, Result, refl, sym, ap, ◌∙◌, subst, arith, inl, inr, append_assoc, append-nil}
+use Rattle.dbus_value_model.specs.declared.fault.Fault.{Fault}
+use Rattle.dbus_value_model.specs.declared.limits.Limits.{Limits}
+use Rattle.dbus_device.specs.Write.{Wrote}
+use Rattle.dbus_stream.specs.Cut.{CutOutcome, Ended, Unfinished, Refused}
+use Rattle.dbus_command.specs.declared.settings.Settings.{Settings}
+use Rattle.dbus_command.specs.declared.command.Command.{Command}
+use Rattle.dbus_report.specs.Devices.{writing, Taken}
+use Rattle.dbus_runs.specs.Going.{first_of, second_of, is_check, HandsParts, GoesThrough, StopsWithin, IsMore, IsStopOf, IsAllRead, GotFirst, GotSecond, Says}
+use Rattle.dbus_report.specs.Gathering.{IsPrefixTo}
+use Rattle.dbus_runs.specs.Parts.{IsLast, closing_line, status_at}
+use Rattle.dbus_report.specs.declared.ending.ExitStatus.{ExitStatus}
+use Rattle.dbus_report.specs.declared.ending.Cause.TheVariants.{Memory, ReadFailed, WriteFailed, TooManyReads}
+use Rattle.dbus_runs.specs.declared.going.Stop.{Stop}
+use Rattle.dbus_runs.specs.declared.going.Stop.TheVariants.{Cause as ByCause, Second}
+use Rattle.dbus_runs.specs.declared.tally.Tally.{Tally}
+use Rattle.dbus_runs.proofs.PartLaws.{few_passed, few_passed_sizes}
+use Rattle.dbus_runs.proofs.WriteSteps.{TellsMore, tells_more}
+
+last_front : (goes_on : Bool) (limits : Limits) (kept rest : List ℕ) (outcome : CutOutcome) (at_end : Type 0) → IsLast goes_on limits kept rest outcome at_end → IsPrefixTo kept rest
+last_front goes_on limits kept rest Ended at_end last = ([], last.0 ∙ sym (append-nil kept))
+last_front goes_on limits kept rest Unfinished at_end last = ([], last.0 ∙ sym (append-nil kept))
+last_front goes_on limits kept rest (Refused fault) at_end last = elim last [
+  | inl none ↦ ([], none.0 ∙ sym (append-nil kept))
+  | inr short ↦ short.0.front
+]
+
+module _ {W E : Type 0} {t : Taken} {held : W → Option (List ℕ)} {write_failures : W → ℕ} {second_held : E → Option (List ℕ)} {second_failures : E → ℕ}
+    {settings : Settings} {limits : Limits} {most : ℕ} {command : Command} {tally : Tally} {fault : Option Fault} {w0 w1 : W} {e0 e1 : E}
+    (h : HandsParts t held write_failures second_held second_failures settings limits most command tally fault w0 w1 e0 e1) where
+  -- no more are passed over than there are
+  pub few : (tally.passed ≤ tally.count) × (tally.passed_size ≤ tally.size)
+  few =
+      let is = h.through.tally_is in (
+        omega (arith, ap (λ (x : Tally). x.passed) is, ap (λ (x : Tally). x.count) is, few_passed h.through.parts),
+        omega (arith, ap (λ (x : Tally). x.passed_size) is, ap (λ (x : Tally). x.size) is, few_passed_sizes h.through.parts),
+      )
+
+  abbrev pub IsClosing : List ℕ → Type 0
+  IsClosing line = line ≡ closing_line command tally tally.passed fault
+
+  module _ (w2 : W) (e2 : E) where
+    abbrev Closes : Result (Unit {0}) Stop → Type 0
+    Closes res = Says (is_check command) (writing held write_failures w1 w2) (writing second_held second_failures e1 e2) IsClosing res
+
+    more_told : (res : Result (Unit {0}) Stop) → Closes res
+        → TellsMore held write_failures second_held second_failures command h.out (h.told ++ h.text) IsClosing w0 w1 w2 e0 e1 e2 (record { first = h.first; second = h.second }) res
+    more_told res w =
+        tells_more held write_failures second_held second_failures command h.out (h.told ++ h.text) IsClosing w0 w1 w2 e0 e1 e2 (record { first = h.first; second = h.second }) res w
+
+    pub closes : (end : ExitStatus) → end ≡ status_at tally.passed fault → Closes (Ok tt) → GoesThrough t held write_failures second_held second_failures settings limits most command w0 w2 e0 e2 end
+    closes end end_is w =
+        let all = more_told (Ok tt) w in
+        record {
+          tally = tally;
+          fault = fault;
+          out = h.out;
+          told = h.told;
+          text = h.text;
+          through = h.through;
+          first = subst (λ (l : List ℕ). Wrote held write_failures w0 (first_of command h.out ((h.told ++ h.text) ++ l)) w2) all.1 all.2.first;
+          second = subst (λ (l : List ℕ). Wrote second_held second_failures e0 (second_of command ((h.told ++ h.text) ++ l)) e2) all.1 all.2.second;
+          end_is = end_is;
+        }
+
+    stops : (stop : Stop) (more : List ℕ) → IsPrefixTo more (closing_line command tally tally.passed fault)
+        → (IsMore t held write_failures second_held second_failures settings limits most command h.through.parts h.through.rest (h.text ++ more)
+        → IsAllRead t held write_failures second_held second_failures settings limits most command stop h.through.parts h.through.rest (h.text ++ more))
+        → IsStopOf t held write_failures second_held second_failures settings limits most command stop
+        → GotFirst held write_failures stop (first_of command h.out ((h.told ++ h.text) ++ more)) w0 w2 → GotSecond second_held second_failures stop (second_of command ((h.told ++ h.text) ++ more)) e0 e2
+        → StopsWithin t held write_failures second_held second_failures settings limits most command stop w0 w2 e0 e2
+    stops stop more prefix all caused first second =
+        let line_is = ap (λ (x : Tally). closing_line command x x.passed fault) h.through.tally_is in
+        let front = subst (λ (l : List ℕ). IsPrefixTo more l) line_is prefix in
+        record {
+          parts = h.through.parts;
+          rest = h.through.rest;
+          out = h.out;
+          told = h.told;
+          covers = h.through.covers;
+          more = h.text ++ more;
+          all = all (inr (
+            h.through.kept,
+            fault,
+            h.text,
+            last_front settings.keeps_going limits h.through.kept h.through.rest h.through.tells.outcome _ h.through.last,
+            h.through.tells,
+            (front.0, ap (λ l. h.text ++ l) front.1 ∙ sym (append_assoc h.text more front.0)),
+          ));
+          caused = caused;
+          first = subst (λ (l : List ℕ). GotFirst held write_failures stop (first_of command h.out l) w0 w2) (append_assoc h.told h.text more) first;
+          second = subst (λ (l : List ℕ). GotSecond second_held second_failures stop (second_of command l) e0 e2) (append_assoc h.told h.text more) second;
+        }
+
+    stops_line : (stop : Stop) (line : List ℕ) → IsClosing line → ((more : List ℕ) → IsMore t held write_failures second_held second_failures settings limits most command h.through.parts h.through.rest more
+        → IsAllRead t held write_failures second_held second_failures settings limits most command stop h.through.parts h.through.rest more)
+        → IsStopOf t held write_failures second_held second_failures settings limits most command stop
+        → GotFirst held write_failures stop (first_of command h.out ((h.told ++ h.text) ++ line)) w0 w2 → GotSecond second_held second_failures stop (second_of command ((h.told ++ h.text) ++ line)) e0 e2
+        → StopsWithin t held write_failures second_held second_failures settings limits most command stop w0 w2 e0 e2
+    stops_line stop line is all caused first second = stops stop line ([], sym is ∙ sym (append-nil line)) (all (h.text ++ line)) caused first second
+
+    pub not_closed : (stop : Stop) → Closes (Err stop) → StopsWithin t held write_failures second_held second_failures settings limits most command stop w0 w2 e0 e2
+    not_closed (ByCause Memory) w = let more = more_told (Err (ByCause Memory)) w in stops (ByCause Memory) [] (closing_line command tally tally.passed fault, refl) (λ m. m) h.through.read_failed more.0 more.1
+    not_closed (ByCause ReadFailed) w = absurd (more_told (Err (ByCause ReadFailed)) w)
+    not_closed (ByCause WriteFailed) w = let more = more_told (Err (ByCause WriteFailed)) w in stops_line (ByCause WriteFailed) more.0 more.1 (λ _ m. m) h.through.read_failed more.2.0 more.2.1
+    not_closed (ByCause TooManyReads) w = absurd (more_told (Err (ByCause TooManyReads)) w)
+    not_closed Second w = let more = more_told (Err Second) w in stops_line Second more.0 more.1 (λ _ m. m) h.through.read_failed more.2.0 more.2.1

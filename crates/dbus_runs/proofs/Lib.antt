@@ -1,0 +1,16 @@
+pub mod WindowLaws
+pub mod OutputSteps
+pub mod Outputs
+pub mod LentSteps
+pub mod ReadSteps
+pub mod GivenSteps
+pub mod HandSteps
+pub mod CountSteps
+pub mod ByNameSteps
+pub mod CheckSteps
+pub mod PartLaws
+pub mod WriteSteps
+pub mod GoSteps
+pub mod GoEnds
+pub mod GoClosing
+pub mod RunSteps

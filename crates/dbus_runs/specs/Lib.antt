@@ -1,0 +1,14 @@
+pub mod Windows
+pub mod CountLines
+pub mod Output
+pub mod Commands
+pub mod Laws
+pub mod Counting
+pub mod Handing
+pub mod Onward
+pub mod Checking
+pub mod ByName
+pub mod Running
+pub mod Closing
+pub mod Parts
+pub mod Going

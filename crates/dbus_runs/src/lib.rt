@@ -1,0 +1,28 @@
+//! The commands of the program `dbus-wire` over messages, with any reader and two writers.
+//!
+//! [`run_within`] runs a command under limits, with at most a given number of reads, [`run_with`] by settings, and [`count_by_name`] counts
+//! messages by their names. Each returns the exit status. `specs/` states what a command writes: of all but `Json` it is a function of what
+//! it reads.
+#![tactic(auto)]
+
+mod by_name;
+mod closing;
+mod count_lines;
+mod counted;
+mod counting;
+mod filtering;
+mod going;
+mod handing;
+mod json_lines;
+pub mod laws;
+mod output;
+mod place;
+mod running;
+mod showing;
+mod swapping;
+mod tally;
+mod window;
+
+pub use by_name::count_by_name;
+pub use going::run_with;
+pub use running::{run, run_reads, run_within};
