@@ -6,6 +6,7 @@ pub mod FirstLines
 pub mod CutterAnswers
 pub mod RoundTrips
 pub mod WordForms
+pub mod HexTexts
 pub mod Meanings
 pub mod SameWords
 pub mod SameLines

@@ -1,22 +1,23 @@
 -- What a line means is what its row says, and Other where no row has it.
 use Rattle.std.proofs.Common.{◌≡◌, ◌⊎◌, inl, inr, ℕ, ◌==◌, not, Bool, true, false, cond, List, [], ◌∷◌, ◌++◌, length, drop, refl, sym, ◌∙◌, ap, subst}
-use Rattle.std.specs.Prelude.{codes, bytes_eq, Result, Ok, Err, ◌↔◌}
+use Rattle.std.specs.Prelude.{codes, bytes_eq, Some, Result, Ok, Err, ◌↔◌}
 use Rattle.std.specs.List.{list_all}
 use Rattle.std.proofs.lemmas.Bool.{and_parts, not-true, eqb-true, eq-eqb}
 use Rattle.std.proofs.lemmas.List.{drop_at}
 use Rattle.std.proofs.lemmas.Slice.Eq.{bytes_eq-Decides}
-use Rattle.hex.specs.Hex.{decode_of}
+use Rattle.hex.specs.Hex.{decode_of, decode_pairs}
 use Rattle.hex.specs.declared.error.FromHexError.{FromHexError}
 use Rattle.dbus_auth_lines.specs.ClientCommands.{ClientCommand}
 use Rattle.dbus_auth_lines.specs.ClientCommands as client
 use Rattle.dbus_auth_lines.specs.ServerCommands.{ServerCommand}
 use Rattle.dbus_auth_lines.specs.ServerCommands as server
 use Rattle.dbus_auth_lines.specs.Lines.{client_name, server_name, client_meaning, server_meaning, command_name, words, arguments, at_word_end, by_hex, auth_by, client_data, server_data, alone, accepted, client_row, server_row}
+use Rattle.dbus_auth_lines.specs.WordPlaces.{one_word}
 use Rattle.dbus_auth_lines.specs.LineForms.{HasForm, HasText, IsClientLine, IsServerLine, MeansToServer, MeansToClient}
-use Rattle.dbus_auth_lines.specs.declared.reading.ClientName.{ClientName}
-use Rattle.dbus_auth_lines.specs.declared.reading.ClientName.TheVariants as of_client
-use Rattle.dbus_auth_lines.specs.declared.reading.ServerName.{ServerName}
-use Rattle.dbus_auth_lines.specs.declared.reading.ServerName.TheVariants as of_server
+use Rattle.dbus_auth_lines.specs.declared.places.ClientName.{ClientName}
+use Rattle.dbus_auth_lines.specs.declared.places.ClientName.TheVariants as of_client
+use Rattle.dbus_auth_lines.specs.declared.places.ServerName.{ServerName}
+use Rattle.dbus_auth_lines.specs.declared.places.ServerName.TheVariants as of_server
 use Rattle.dbus_auth_lines.proofs.Spaces.{command_is, no_command}
 use Rattle.dbus_auth_lines.proofs.WordForms.{ends_word, words_of, form_of, by_end}
 
@@ -204,10 +205,25 @@ server_means line = decided (IsServerLine line) server.Other (server_meaning lin
 
 -- ---- what the code answers
 
-pub client_answer_means : (line : List ℕ) (name : ClientName) (ws : List (List ℕ)) (said : ClientCommand) → name ≡ client_name (command_name line) → ws ≡ arguments line → said ≡ client_row name ws line → MeansToServer line said
-unfolding client_meaning
-client_answer_means line name ws said n w e = (client_means line said).1 (sym (e ∙ ap (λ m. client_row m ws line) n ∙ ap (λ v. client_row (client_name (command_name line)) v line) w))
+pub client_answer_means : (line : List ℕ) (said found : ClientCommand) → said ≡ found → found ≡ client_meaning line → MeansToServer line said
+client_answer_means line said found is means = (client_means line said).1 (sym (is ∙ means))
 
-pub server_answer_means : (line : List ℕ) (name : ServerName) (ws : List (List ℕ)) (said : ServerCommand) → name ≡ server_name (command_name line) → ws ≡ arguments line → said ≡ server_row name ws line → MeansToClient line said
-unfolding server_meaning
-server_answer_means line name ws said n w e = (server_means line said).1 (sym (e ∙ ap (λ m. server_row m ws line) n ∙ ap (λ v. server_row (server_name (command_name line)) v line) w))
+pub server_answer_means : (line : List ℕ) (said found : ServerCommand) → said ≡ found → found ≡ server_meaning line → MeansToClient line said
+server_answer_means line said found is means = (server_means line said).1 (sym (is ∙ means))
+
+-- the only word, which is empty if there is none, is the hexadecimal one
+module _ {C : Type 0} (good : List ℕ → C) (bad : C) (row : List (List ℕ) → C) (none : row [] ≡ good []) (one : (w : List ℕ) → row (w ∷ []) ≡ by_hex good bad (decode_of w)) where
+  by_one_word : (ws : List (List ℕ)) (w : List ℕ) → Some w ≡ one_word ws → by_hex good bad (decode_of w) ≡ row ws
+  unfolding decode_pairs
+  by_one_word [] w e = let same : w ≡ [] = cc in rw same (sym none)
+  by_one_word (v ∷ []) w e = let same : w ≡ v = cc in rw same (sym (one v))
+  by_one_word (v ∷ more ∷ rest) w e = cc e
+
+pub auth_response : (mech w : List ℕ) (all ws : List (List ℕ)) → all ≡ mech ∷ ws → Some w ≡ one_word ws → by_hex (client.AuthBy mech) client.Other (decode_of w) ≡ auth_by all
+auth_response mech w all ws is e = by_one_word (client.AuthBy mech) client.Other (λ vs. auth_by (mech ∷ vs)) refl (λ v. refl) ws w e ∙ ap auth_by (sym is)
+
+pub client_data_word : (w : List ℕ) (ws : List (List ℕ)) → Some w ≡ one_word ws → by_hex client.DataOf client.Other (decode_of w) ≡ client_data ws
+client_data_word w ws = by_one_word client.DataOf client.Other client_data refl (λ v. refl) ws w
+
+pub server_data_word : (w : List ℕ) (ws : List (List ℕ)) → Some w ≡ one_word ws → by_hex server.DataOf server.Other (decode_of w) ≡ server_data ws
+server_data_word w ws = by_one_word server.DataOf server.Other server_data refl (λ v. refl) ws w

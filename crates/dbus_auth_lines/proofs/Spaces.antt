@@ -1,8 +1,8 @@
 -- The steps of the functions that find words.
-use Rattle.std.proofs.Common.{◌≡◌, ℕ, ◌+◌, ◌-◌, ◌<◌, ◌≤◌, ◌==◌, Bool, true, false, cond, List, [], ◌∷◌, length, take, drop, get_or, refl, sym, ◌∙◌, ap, arith, length-drop}
+use Rattle.std.proofs.Common.{◌≡◌, ℕ, ◌+◌, ◌-◌, ◌<◌, ◌≤◌, ◌==◌, Bool, true, false, cond, List, [], ◌∷◌, length, take, drop, get_or, refl, sym, ◌∙◌, ap, arith, length-drop, length-take}
 use Rattle.std.proofs.lemmas.Bool.{ne_eqb, false≢true, false_from_ne_true}
-use Rattle.std.proofs.lemmas.List.{at_drop_more, at_drop_all, take_all}
-use Rattle.dbus_auth_lines.specs.Lines.{command_name, words, arguments, at_word_end, onto_first}
+use Rattle.std.proofs.lemmas.List.{at_drop_more, at_drop_all, take_all, drop-drop}
+use Rattle.dbus_auth_lines.specs.Lines.{command_name, words, at_word_end, onto_first}
 
 command_next : (b : ℕ) (bs : List ℕ) → (b ≡ 32 → ⊥) → length (command_name (b ∷ bs)) ≡ length (command_name bs) + 1
 unfolding command_name
@@ -81,15 +81,28 @@ unfolding words
 words_none [] h = refl
 words_none (x ∷ xs) h = absurd (omega (arith, h))
 
--- cut where the first word ends
-pub word_cut : (xs : List ℕ) (n m : ℕ) → n ≡ length (command_name xs) → m ≡ length xs - n → (length xs ≡ 0 → ⊥) → (at_word_end xs ≡ true → xs ≡ []) → words xs ≡ take n xs ∷ words (take m (drop n xs))
-word_cut xs n m is rest some starts =
-    let e = word_first xs (false_from_ne_true (at_word_end xs) (λ h. some (ap length (starts h)))) in
-    let all : take m (drop n xs) ≡ drop n xs = take_all m (drop n xs) (omega (arith, length-drop n xs)) in
-    rw (all, is) e
+pub rest_is : (xs : List ℕ) (n m : ℕ) → m ≡ length xs - n → take m (drop n xs) ≡ drop n xs
+rest_is xs n m rest = take_all m (drop n xs) (omega (arith, length-drop n xs))
 
-pub arguments_cut : (xs : List ℕ) (n m : ℕ) → n ≡ length (command_name xs) → m ≡ length xs - n → words (take m (drop n xs)) ≡ arguments xs
-unfolding arguments
-arguments_cut xs n m is rest =
-    let all : take m (drop n xs) ≡ drop n xs = take_all m (drop n xs) (omega (arith, length-drop n xs)) in
-    ap words all ∙ ap (λ (k : ℕ). words (drop k xs)) is
+-- all bytes from a place on
+whole_rest : (line : List ℕ) (at n : ℕ) → at + n ≡ length line → take n (drop at line) ≡ drop at line
+whole_rest line at n end = take_all n (drop at line) (omega (arith, length-drop at line))
+
+-- cut where the first word ends
+pub word_cut : (line : List ℕ) (from at n k : ℕ) → words (take n (drop at line)) ≡ words (drop from line) → (at_word_end (take n (drop at line)) ≡ true → n ≡ 0)
+    → at + n ≡ length line → (n ≡ 0 → ⊥) → k ≡ length (command_name (drop at line)) → words (drop from line) ≡ take k (drop at line) ∷ words (drop (at + k) line)
+word_cut line from at n k same starts end some is =
+    let all = whole_rest line at n end in
+    let e = word_first (drop at line) (false_from_ne_true (at_word_end (drop at line)) (λ h. some (starts (ap at_word_end all ∙ h)))) in
+    sym same ∙ ap words all ∙ rw (is, ← drop-drop (length (command_name (drop at line))) at line) e
+
+pub no_words : (line : List ℕ) (from at n : ℕ) → words (take n (drop at line)) ≡ words (drop from line) → n ≡ 0 → words (drop from line) ≡ []
+no_words line from at n same none = sym same ∙ words_none (take n (drop at line)) (omega (arith, length-take n (drop at line)))
+
+pub words_at : (line : List ℕ) (from k n : ℕ) → words (drop k (drop from line)) ≡ words (drop from line) → from + k + n ≡ length line → words (take n (drop (from + k) line)) ≡ words (drop from line)
+words_at line from k n same end = ap words (whole_rest line (from + k) n end ∙ sym (drop-drop k from line)) ∙ same
+
+pub starts_at : (line : List ℕ) (from k n : ℕ) → (at_word_end (drop k (drop from line)) ≡ true → k ≡ length (drop from line)) → from + k + n ≡ length line
+    → at_word_end (take n (drop (from + k) line)) ≡ true → n ≡ 0
+starts_at line from k n starts end h =
+    let all = starts (ap at_word_end (drop-drop k from line ∙ sym (whole_rest line (from + k) n end)) ∙ h) in omega (arith, length-drop from line)

@@ -5,6 +5,7 @@ pub mod LineForms
 pub mod Cut
 pub mod FirstLine
 pub mod LineViews
+pub mod WordPlaces
 pub mod WrittenLines
 pub mod RoundTrip
 pub mod CutterViews

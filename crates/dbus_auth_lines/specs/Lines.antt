@@ -7,10 +7,10 @@ use Rattle.dbus_auth_lines.specs.ClientCommands.{ClientCommand}
 use Rattle.dbus_auth_lines.specs.ClientCommands as client
 use Rattle.dbus_auth_lines.specs.ServerCommands.{ServerCommand}
 use Rattle.dbus_auth_lines.specs.ServerCommands as server
-use Rattle.dbus_auth_lines.specs.declared.reading.ClientName.{ClientName}
-use Rattle.dbus_auth_lines.specs.declared.reading.ClientName.TheVariants as of_client
-use Rattle.dbus_auth_lines.specs.declared.reading.ServerName.{ServerName}
-use Rattle.dbus_auth_lines.specs.declared.reading.ServerName.TheVariants as of_server
+use Rattle.dbus_auth_lines.specs.declared.places.ClientName.{ClientName}
+use Rattle.dbus_auth_lines.specs.declared.places.ClientName.TheVariants as of_client
+use Rattle.dbus_auth_lines.specs.declared.places.ServerName.{ServerName}
+use Rattle.dbus_auth_lines.specs.declared.places.ServerName.TheVariants as of_server
 
 -- the bytes up to the first space
 unfoldable pub command_name : List ℕ → List ℕ

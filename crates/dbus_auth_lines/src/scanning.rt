@@ -1,8 +1,10 @@
-//! Where the first line of some bytes ends, for an end of a connection that keeps the bytes of an unfinished line.
+//! Where the first line of some bytes ends, for an end of a connection that keeps the bytes of an unfinished line, and for who has
+//! all bytes.
 
-ghost use Rattle.std.specs.Prelude.{◌≡◌, ◌++◌, ◌-◌, ◌≤◌, ℕ, length, take, false, IfOk};
+ghost use Rattle.std.specs.Prelude.{◌≡◌, ◌++◌, ◌-◌, ◌≤◌, ℕ, length, take, false, IfOk, MatchOption, MatchResult};
 ghost use Rattle.dbus_auth_lines.specs.Cut.{passes_limit, is_bad, scan_from, cut, Ends, More};
-ghost use Rattle.dbus_auth_lines.specs.CutterViews.{found, cr_after, IsWithin};
+ghost use Rattle.dbus_auth_lines.specs.CutterViews.{fault_of, found, cr_after, IsWithin};
+ghost use Rattle.dbus_auth_lines.specs.FirstLine.{Beginning, BeginsAs, Faulty, Unfinished, WholeLine};
 
 use std::alloc::{AllocError, Allocator};
 
@@ -38,6 +40,21 @@ pub fn find(kept: &[u8], piece: &[u8]) -> Found
     ensures size { IsWithin (length kept.now) (length piece.now) (found result) }
 {
     scan_piece(kept.len(), ends_in_cr(kept), piece)
+}
+
+/// The line that the bytes begin with, without its CR LF; `None` if more bytes are wanted, since they are a prefix of a line and not
+/// all of it. Returns the first fault if one comes before any line ends. It takes no memory.
+#[tactic(auto, using(crate::proofs::Scans::cut_empty, crate::proofs::CutterAnswers::whole_line, crate::proofs::CutterAnswers::faulty_line, crate::proofs::CutterAnswers::no_line))]
+pub fn first_line(bytes: &[u8]) -> Result<Option<&[u8]>, BadLine>
+    ensures { (b : Beginning) → BeginsAs bytes.now b →
+        MatchResult result (λ r. MatchOption r (b ≡ Unfinished) (λ line. b ≡ WholeLine line.now))
+        (λ f. b ≡ Faulty (fault_of f)) }
+{
+    match find(&[], bytes) {
+        Found::Ends(size) => Ok(Some(&bytes[..size - 2])),
+        Found::Bad(fault) => Err(fault),
+        Found::More => Ok(None),
+    }
 }
 
 /// The line of this size, which `find` found, without its CR LF.

@@ -1,12 +1,39 @@
 //! A line as a command and words.
 //! D-Bus Specification, "Authentication Protocol", "Protocol Overview".
 
-ghost use Rattle.std.specs.Prelude.{◌≡◌, ℕ, ◌+◌, ◌<◌, ◌≤◌, true, List, [], ◌∷◌, length, take, drop, MatchOption};
-ghost use Rattle.dbus_auth_lines.specs.Lines.{command_name, words, arguments, at_word_end};
+ghost use Rattle.std.specs.Prelude.{◌≡◌, ℕ, ◌+◌, ◌≤◌, true, false, List, [], ◌∷◌, length, drop, MatchOption, IfSome, option_map};
+ghost use Rattle.dbus_auth_lines.specs.Lines.{alone, command_name, words, at_word_end};
+ghost use Rattle.dbus_auth_lines.specs.WordPlaces.{IsWithin, one_word, text_at};
+
+/// Where a text stands in a line. If there is no such text, it has no bytes.
+#[derive(Clone, Copy, PartialEq, Eq, Debug, Drop)]
+pub struct Place {
+    /// Its offset, in bytes from the line's first.
+    pub at: usize,
+    /// The number of bytes that it has.
+    pub length: usize,
+}
+
+/// The text there.
+pub(crate) fn text_at(line: &[u8], place: Place) -> &[u8]
+    requires { IsWithin line.now place }
+    ensures { result.now ≡ text_at line.now place }
+{
+    &line[place.at..place.at + place.length]
+}
+
+/// The bytes from there on.
+#[tactic(auto, using(crate::proofs::Spaces::rest_is))]
+pub(crate) fn rest_of(line: &[u8], from: usize) -> &[u8]
+    requires { from ≤ length line.now }
+    ensures { result.now ≡ drop from line.now }
+{
+    &line[from..]
+}
 
 /// The number of bytes before the first space.
 #[tactic(auto, using(crate::proofs::Spaces::command_on, crate::proofs::Spaces::command_stops, crate::proofs::Spaces::command_all))]
-fn word_len(bytes: &[u8]) -> usize
+pub(crate) fn word_len(bytes: &[u8]) -> usize
     ensures is { result ≡ length (command_name bytes.now) }
     ensures within { result ≤ length bytes.now }
 {
@@ -18,40 +45,77 @@ fn word_len(bytes: &[u8]) -> usize
     bytes.len()
 }
 
-/// The text from its first byte on that is no space.
+/// The number of spaces before the first other byte.
 #[tactic(auto, using(crate::proofs::Spaces::words_more))]
-fn without_spaces(bytes: &[u8]) -> &[u8]
-    ensures same_words { words result.now ≡ words bytes.now }
-    ensures starts { at_word_end result.now ≡ true → result.now ≡ [] }
+fn space_count(bytes: &[u8]) -> usize
+    ensures within { result ≤ length bytes.now }
+    ensures same_words { words (drop result bytes.now) ≡ words bytes.now }
+    ensures starts { at_word_end (drop result bytes.now) ≡ true → result ≡ length bytes.now }
 {
     for (i, b) in bytes.iter().enumerate() {
         if *b != b' ' {
-            return &bytes[i..];
+            return i;
         }
     }
-    &bytes[bytes.len()..]
+    bytes.len()
 }
 
-/// The first word, and the text after it.
-#[tactic(auto, using(crate::proofs::Spaces::word_cut, crate::proofs::Spaces::words_none))]
-pub fn next_word(bytes: &[u8]) -> Option<(&[u8], &[u8])>
-    ensures { MatchOption result (words bytes.now ≡ []) (λ p. words bytes.now ≡
-        p.0.now ∷ words p.1.now) }
+/// From the first word on, up to the line's end.
+#[tactic(auto, using(crate::proofs::Spaces::words_at, crate::proofs::Spaces::starts_at))]
+pub(crate) fn words_from(line: &[u8], from: usize) -> Place
+    requires { from ≤ length line.now }
+    ensures within { result.at + result.length ≡ length line.now }
+    ensures is { words (text_at line.now result) ≡ words (drop from line.now) }
+    ensures starts { at_word_end (text_at line.now result) ≡ true → result.length ≡ 0 }
 {
-    let start = without_spaces(bytes);
-    if start.is_empty() {
+    let at = from + space_count(rest_of(line, from));
+    Place {
+        at,
+        length: line.len() - at,
+    }
+}
+
+/// The first word from there on.
+#[tactic(auto, using(crate::proofs::Spaces::word_cut, crate::proofs::Spaces::no_words))]
+pub(crate) fn next_word(line: &[u8], from: usize) -> Option<Place>
+    requires { from ≤ length line.now }
+    ensures is { MatchOption result (words (drop from line.now) ≡ [])
+        (λ p. words (drop from line.now) ≡ text_at line.now p ∷ words (drop (p.at + p.length) line.now)) }
+    ensures within { IfSome result (λ p. IsWithin line.now p) }
+{
+    let left = words_from(line, from);
+    if left.length == 0 {
         return None;
     }
-    let n = word_len(start);
-    Some((&start[..n], &start[n..]))
+    Some(Place {
+        at: left.at,
+        length: word_len(rest_of(line, left.at)),
+    })
 }
 
-/// The command, and what comes after it.
-#[tactic(auto, using(crate::proofs::Spaces::take_command_name, crate::proofs::Spaces::arguments_cut))]
-pub fn split_line(line: &[u8]) -> (&[u8], &[u8])
-    ensures name { result.0.now ≡ command_name line.now }
-    ensures rest { words result.1.now ≡ arguments line.now }
+/// Whether no word comes from there on.
+pub(crate) fn is_alone(line: &[u8], from: usize) -> bool
+    requires { from ≤ length line.now }
+    ensures { result ≡ alone true false (words (drop from line.now)) }
 {
-    let n = word_len(line);
-    (&line[..n], &line[n..])
+    next_word(line, from).is_none()
+}
+
+/// The only word from there on; no bytes if there is none, and `None` if there are more.
+pub(crate) fn only_word(line: &[u8], from: usize) -> Option<Place>
+    requires { from ≤ length line.now }
+    ensures is { option_map (text_at line.now) result ≡ one_word (words (drop from line.now)) }
+    ensures within { IfSome result (λ p. IsWithin line.now p) }
+{
+    let Some(word) = next_word(line, from) else {
+        return Some(Place {
+            at: from,
+            length: 0,
+        });
+    };
+    if is_alone(line, word.at + word.length) {
+        Some(word)
+    } else {
+        None
+    }
 }
