@@ -1,9 +1,10 @@
 #!/usr/bin/env python3
-"""tables.py HABITS TEXTS PROGRAM: compares the header's numbers with the crates' and the program's.
+"""tables.py HABITS TEXTS LINES PROGRAM: compares the header's numbers with the crates' and the program's.
 
-The numbers of message types, flags, header fields, answers, mechanisms, rooms and rules on indexes are those of the crates' constants,
-and those of kinds of text are those of `kind_of` in dbus_c. The names of reasons, as HABITS prints them, are those of the header's constants. The version is the
-program's. What TEXTS says of the cases of names and signatures (cases/README.md) is what these say. The exit status is 1 if not.
+The numbers of message types, flags, header fields, answers, mechanisms, commands of lines, rooms and rules on indexes are those of the
+crates' constants, and those of kinds of text are those of `kind_of` in dbus_c. The names of reasons, as HABITS prints them, are those of the header's constants. The version is the
+program's. What TEXTS says of the cases of names and signatures, and LINES of those of a handshake's lines (cases/README.md), is what these
+say. The exit status is 1 if not.
 """
 
 import pathlib
@@ -20,6 +21,7 @@ CONSTANTS = (
     ("FLAG_", "dbus_message_model/src/flag.rt"),
     ("FIELD_", "dbus_message_model/src/field_code.rt"),
     ("EXTERNAL_", "dbus_c_auth/src/mechanisms.rt"),
+    ("LINE_", "dbus_c/src/line_command.rt"),
 )
 ANSWERS = "dbus_c/src/answers.rt"
 # What a caller has to have room for, and the crate's constant.
@@ -84,7 +86,53 @@ def differing_texts(program, numbers):
     return [f"{kind} {text!r}: {line}, not {said}" for (kind, text, _), line, said in zip(cases, lines, right, strict=True) if line != said]
 
 
-def main(habits, texts, program):
+def words_of(meaning):
+    """A case's meaning of a line, as LINES writes it: the command and its words."""
+    command, _, rest = meaning.partition(" ")
+    command = {"negotiate": "NEGOTIATE_UNIX_FD", "agree": "AGREE_UNIX_FD", "other": "other"}.get(command, command.upper())
+    mechanism, has_response, response = rest.partition(" response ")
+    if command == "REJECTED":
+        words = [read_bytes(it) for it in rest.split(", ") if it]
+    elif has_response:
+        words = [read_bytes(mechanism), read_bytes(response).hex().encode()]
+    else:
+        words = [read_bytes(rest) if command == "ERROR" else read_bytes(rest).hex().encode()]
+    return b" ".join([command.encode(), *(it for it in words if it)])
+
+
+def line_cases():
+    """Of each case the side, what it sends, and what LINES says of it, or of lines that are cut their lengths."""
+    data = ROOT / "crates/handshake_cases/data"
+    for side in ("client", "server"):
+        for _, text, meaning, _ in read_cases(data / f"{side}_lines.txt"):
+            line = read_bytes(text)
+            if text != "none" and len(line) <= 16382 and all(0 < it < 128 and it not in b"\r\n" for it in line):
+                rest = b"messages" if meaning == "begin" else b"partial"
+                yield side, line + b"\r\n", [b"%d %s" % (len(line) + 2, words_of(meaning)), rest + b", 0 bytes left"]
+    for _, text, said in read_cases(data / "cut_lines.txt"):
+        *lines, rest = said.split(", ")
+        sizes = [int(it.removeprefix("line ")) + 2 for it in lines]
+        left = len(read_bytes(text)) - sum(sizes)
+        rest = re.sub("^partial .*", "partial", rest)
+        yield "server", read_bytes(text), [*sizes, f"{rest}, {left} bytes left".encode()]
+
+
+def is_said(told, right):
+    """Whether a line of LINES is this one, with hexadecimal digits of either case, or is of a line of this length."""
+    return int(told.split()[0]) == right if isinstance(right, int) else told.lower() == right.lower()
+
+
+def differing_lines(program):
+    wrong, count = [], 0
+    for count, (side, sent, right) in enumerate(line_cases(), 1):
+        told = subprocess.run([program, side], input=sent, capture_output=True).stdout.splitlines()
+        if len(told) != len(right) or not all(map(is_said, told, right)):
+            wrong.append(f"{side} {sent[:99]!r}: {told}, not {right}")
+    print(f"{count} texts of a handshake's lines checked")
+    return wrong
+
+
+def main(habits, texts, lines, program):
     numbers, wrong = header_numbers(), []
 
     def hold(what, one, other):
@@ -108,7 +156,7 @@ def main(habits, texts, program):
         wrong.append(f"the header has the version {version}, not that of {program}")
     for name, path in ROOMS:
         hold(name, {name: int(re.search(rf"#define DBUS_WIRE_{name} (\d+)", header)[1])}, {name: room(path)})
-    wrong += differing_texts(texts, text_kinds)
+    wrong += differing_texts(texts, text_kinds) + differing_lines(lines)
     print("\n".join(wrong) or "the header's numbers are the crates'")
     return 1 if wrong else 0
 

@@ -2,8 +2,8 @@
 # test.sh PROGRAM ARCHIVE SHARED: builds the examples over the archive, and compares what they write with what `PROGRAM check` does:
 # of the captures in samples/ and of messages of which a byte is changed; the C example once more under AddressSanitizer, and over
 # the shared library; the callers in C under valgrind, if it is there. Compares the header's numbers with the crates', and what is said
-# of texts with the cases of texts. Runs the fuzz target over the captures and changed copies of their messages; shakes hands with a bus
-# and with a client, if they are there; tests the Rust crate, and compares what its examples write.
+# of texts and of a handshake's lines with their cases. Runs the fuzz target over the captures and changed copies of their messages;
+# shakes hands with a bus and with a client, if they are there; tests the Rust crate, and compares what its examples write.
 set -eu
 program=$1 archive=$2 shared=$3
 here=$(cd "$(dirname "$0")" && pwd)
@@ -37,7 +37,7 @@ echo '#include <dbus_wire.h>' | "$CXX" $flags -x c++ -fsyntax-only -
 "$CC" -std=c99 -O2 $flags -o "$built/check" "$here/c/check.c" -L"$built" -ldbus_wire
 "$CC" -std=c99 -O2 $flags -o "$built/check_shared" "$here/c/check.c" "$shared" -Wl,-rpath,"$(cd "$(dirname "$shared")" && pwd)"
 "$CC" $sanitized -o "$built/check_sanitized" "$here/c/check.c" -L"$built" -ldbus_wire
-for name in list swap rules build signal room habits texts pieces threads; do
+for name in list swap rules build signal room habits texts lines pieces threads; do
 	"$CC" $sanitized -pthread -o "$built/$name" "$here/c/$name.c" -L"$built" -ldbus_wire
 	"$CC" -std=c99 -O2 -g $flags -pthread -o "$built/plain_$name" "$here/c/$name.c" -L"$built" -ldbus_wire
 done
@@ -111,6 +111,7 @@ if command -v valgrind > /dev/null; then
 		under_valgrind "$built/plain_"$words < "$here/../samples/session.dbus" > "$built/said"
 	done
 	under_valgrind "$built/handshake_plain" pieces 7
+	printf '\0AUTH EXTERNAL 31303030\r\nBEGIN\r\nl' | under_valgrind "$built/plain_lines" client > "$built/said"
 else
 	echo "no valgrind here: the callers are not tried under it"
 fi
@@ -122,7 +123,7 @@ grep -q 'is 0$' "$built/told"
 # A body that is spelled value by value is read as these values.
 "$built/signal" Name "a b" Number 7 | "$program" show > "$built/said"
 grep -q "a b" "$built/said"
-"$here/tables.py" "$built/habits" "$built/texts" "$program"
+"$here/tables.py" "$built/habits" "$built/texts" "$built/lines" "$program"
 # The fuzz target finds nothing, and finds a parser that takes everything for a message.
 try_fuzz() {
 	"$CC" $sanitized -I"$here/fuzz" -o "$built/fuzz" "$here/fuzz/fuzz.c" "$here/fuzz/files.c" "$@" -L"$built" -ldbus_wire

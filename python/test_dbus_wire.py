@@ -17,11 +17,13 @@ from read_cases import read_bytes, read_cases
 
 import dbus_wire
 from dbus_wire import (
+    BadLine,
     BadRule,
     Checker,
     Client,
     HeaderField,
     Limits,
+    LineCommand,
     Message,
     MessageFlag,
     MessageType,
@@ -41,7 +43,9 @@ from dbus_wire import (
     build,
     byteswap,
     check_text,
+    client_line,
     messages,
+    server_line,
     spell_body,
     stated_length,
 )
@@ -477,6 +481,16 @@ class Handshakes(unittest.TestCase):
                 return at_client.status, at_server.status, lines
         self.fail("the ends do not come to an end")
 
+    def test_lines(self):
+        self.assertEqual(client_line(b"AUTH  A 6C \r\nBEGIN"), (13, LineCommand.AUTH, "A", "6C"))
+        self.assertEqual(server_line(b"REJECTED A  B\r\n"), (15, LineCommand.REJECTED, None, "A  B"))
+        self.assertEqual(server_line(b"BEGIN\r\n"), (7, LineCommand.OTHER, None, None))
+        self.assertIsNone(client_line(b"BEGIN\r"))
+        for data, at in ((b"A\n", 1), (b"A" * 16383, None)):
+            with self.assertRaises(BadLine) as caught:
+                client_line(data)
+            self.assertEqual(caught.exception.at, at)
+
     def test_both_ends(self):
         begun = (Status.BEGUN, Status.BEGUN)
         for asked, offered, ends, lines in (
@@ -563,7 +577,7 @@ class Header(unittest.TestCase):
         return ctypes.POINTER(found) if "*" in spelled else found
 
     def test_numbers(self):
-        for prefix, names in (("TYPE_", MessageType), ("FLAG_", MessageFlag), ("FIELD_", HeaderField), ("TEXT_", TextKind)):
+        for prefix, names in (("TYPE_", MessageType), ("FLAG_", MessageFlag), ("FIELD_", HeaderField), ("TEXT_", TextKind), ("LINE_", LineCommand)):
             right = {name.removeprefix(prefix): number for name, number in self.numbers.items() if name.startswith(prefix)}
             self.assertEqual({name: int(it) for name, it in names.__members__.items()}, right)
         mine = {name: number for name, number in vars(_library).items() if type(number) is int}
@@ -572,7 +586,7 @@ class Header(unittest.TestCase):
 
     def test_structs(self):
         declared = re.findall(r"(\d+) bytes\. \*/\nstruct dbus_wire_(\w+) \{(.*?)\n\};", self.text, re.DOTALL)
-        self.assertEqual(len(declared), 19)
+        self.assertEqual(len(declared), 20)
         for size, name, fields in declared:
             if name not in ("argument", "cursor", "item"):
                 lines = re.findall(r"^    (struct \w+|\w+_t|void \*) ?([\w, ]+);", fields, re.MULTILINE)

@@ -1,5 +1,5 @@
 """D-Bus messages, by libdbus_wire: checked, taken apart into Python values, built of their parts, byteswapped, and matched by rules; and both
-ends of the handshake before them.
+ends of the handshake before them, and its lines.
 
 The module finds no place and no number in the bytes itself: each is what a call of include/dbus_wire.h returns. The library is the
 file that the environment variable DBUS_WIRE_LIBRARY names, or else libdbus_wire.so.0 as the dynamic linker finds it.
@@ -19,6 +19,7 @@ from ._errors import HeaderField, NotAMessage, Refused, Truncated
 from ._handshake import Client, Server, Status, Step
 from ._library import LIBRARY_VERSION
 from ._limits import Limits
+from ._lines import BadLine, Line, LineCommand, client_line, server_line
 from ._messages import Message, MessageFlag, MessageType, Order, build, byteswap, messages, stated_length
 from ._rules import BadRule, Rule, RuleSet
 from ._spelling import spell_body
@@ -27,11 +28,14 @@ from ._values import ObjectPath, Signature, UnixFd, Variant
 
 __all__ = [
     "LIBRARY_VERSION",
+    "BadLine",
     "BadRule",
     "Checker",
     "Client",
     "HeaderField",
     "Limits",
+    "Line",
+    "LineCommand",
     "Message",
     "MessageFlag",
     "MessageType",
@@ -53,7 +57,9 @@ __all__ = [
     "build",
     "byteswap",
     "check_text",
+    "client_line",
     "messages",
+    "server_line",
     "spell_body",
     "stated_length",
 ]

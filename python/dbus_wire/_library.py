@@ -101,6 +101,14 @@ class HandshakeStep(ctypes.Structure):
     _fields_ = [("count", c_uint64), ("reply", c_uint64)]
 
 
+class Line(ctypes.Structure):
+    _fields_ = [
+        *((name, c_uint64) for name in ("length", "offset")),
+        *((name, c_uint32) for name in ("command", "is_too_long")),
+        *((name, Text) for name in ("mechanism", "text")),
+    ]
+
+
 # Of each call its result, and then its arguments. Python's bytes do not change and are never null, so they are handed over as they are.
 _MESSAGE = (c_char_p, c_size_t, POINTER(Limits))
 _BODY = (c_char_p, c_size_t, POINTER(Writer))
@@ -136,6 +144,8 @@ _CALLS = {
     "handshake_take": (c_uint32, POINTER(Handshake), c_char_p, c_size_t, c_char_p, c_size_t, POINTER(HandshakeStep)),
     "handshake_guid": (c_uint32, POINTER(Handshake), c_char_p, c_size_t),
     "handshake_free": (None, POINTER(Handshake)),
+    "client_line": (c_uint32, c_char_p, c_size_t, POINTER(Line)),
+    "server_line": (c_uint32, c_char_p, c_size_t, POINTER(Line)),
     "reason_name": (c_size_t, c_uint32, c_char_p, c_size_t),
 }
 

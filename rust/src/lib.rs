@@ -26,7 +26,8 @@
 //! * [`byteswap`] writes a message in the other byte order, and [`check_text`] checks names, signatures and other texts.
 //! * A match [`Rule`], or a [`RuleSet`] of many, says which messages a program wants; [`Owners`] says who owns the names that they
 //!   ask for.
-//! * [`Server`] and [`Client`] are the ends of the authentication handshake.
+//! * [`Server`] and [`Client`] are the ends of the authentication handshake, and [`client_line`] and [`server_line`] give the lines of one
+//!   between others.
 //! * [`Limits`] are those that a message has to keep, and a [`Fault`] says where and why bytes are no message.
 //! * [`sys`] has the C calls themselves.
 //!
@@ -49,6 +50,7 @@ mod checker;
 mod fault;
 mod handshake;
 mod limits;
+mod line;
 mod message;
 mod rule;
 mod swap;
@@ -63,6 +65,7 @@ pub use checker::{Checker, OutOfMemory, Taken};
 pub use fault::{Fault, ParseError, Reason, RuleReason};
 pub use handshake::{Client, External, HandshakeError, Server, Status, Step};
 pub use limits::{Descriptors, Limits};
+pub use line::{client_line, server_line, Command, Line, LineFault};
 pub use message::{Flags, Kind, Message};
 pub use rule::{Owners, Rule, RuleError, RuleFault, RuleId, RuleSet};
 pub use swap::{byteswap, SwapError};

@@ -100,6 +100,17 @@ pub const DBUS_WIRE_RULE_REASON_NOT_UTF8: u32 = 8;
 pub const DBUS_WIRE_EXTERNAL_AS_USER: u32 = 1;
 pub const DBUS_WIRE_EXTERNAL_AS_REPORTED: u32 = 2;
 
+pub const DBUS_WIRE_LINE_OTHER: u32 = 0;
+pub const DBUS_WIRE_LINE_AUTH: u32 = 1;
+pub const DBUS_WIRE_LINE_CANCEL: u32 = 2;
+pub const DBUS_WIRE_LINE_BEGIN: u32 = 3;
+pub const DBUS_WIRE_LINE_DATA: u32 = 4;
+pub const DBUS_WIRE_LINE_ERROR: u32 = 5;
+pub const DBUS_WIRE_LINE_NEGOTIATE_UNIX_FD: u32 = 6;
+pub const DBUS_WIRE_LINE_REJECTED: u32 = 7;
+pub const DBUS_WIRE_LINE_OK: u32 = 8;
+pub const DBUS_WIRE_LINE_AGREE_UNIX_FD: u32 = 9;
+
 #[repr(C)]
 #[derive(Clone, Copy, Debug, Default)]
 pub struct dbus_wire_limits {
@@ -273,6 +284,17 @@ pub struct dbus_wire_handshake_step {
     pub reply: u64,
 }
 
+#[repr(C)]
+#[derive(Clone, Copy, Debug, Default)]
+pub struct dbus_wire_line {
+    pub length: u64,
+    pub offset: u64,
+    pub command: u32,
+    pub is_too_long: u32,
+    pub mechanism: dbus_wire_text,
+    pub text: dbus_wire_text,
+}
+
 const _: () = assert!(size_of::<dbus_wire_limits>() == 16);
 const _: () = assert!(size_of::<dbus_wire_checked>() == 32);
 const _: () = assert!(size_of::<dbus_wire_text>() == 24);
@@ -292,6 +314,7 @@ const _: () = assert!(size_of::<dbus_wire_rule_refused>() == 16);
 const _: () = assert!(size_of::<dbus_wire_mechanisms>() == 16);
 const _: () = assert!(size_of::<dbus_wire_handshake>() == 8);
 const _: () = assert!(size_of::<dbus_wire_handshake_step>() == 16);
+const _: () = assert!(size_of::<dbus_wire_line>() == 72);
 
 extern "C" {
     pub fn dbus_wire_version() -> u32;
@@ -431,5 +454,7 @@ extern "C" {
     ) -> u32;
     pub fn dbus_wire_handshake_guid(handshake: *mut dbus_wire_handshake, out: *mut u8, room: usize) -> u32;
     pub fn dbus_wire_handshake_free(handshake: *mut dbus_wire_handshake);
+    pub fn dbus_wire_client_line(bytes: *const u8, length: usize, out: *mut dbus_wire_line) -> u32;
+    pub fn dbus_wire_server_line(bytes: *const u8, length: usize, out: *mut dbus_wire_line) -> u32;
     pub fn dbus_wire_reason_name(reason: u32, out: *mut u8, room: usize) -> usize;
 }

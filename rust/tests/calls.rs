@@ -3,9 +3,9 @@
 use std::thread;
 
 use dbus_wire::{
-    build, byteswap, check, check_text, wanted, Answer, BuildError, Checker, Client, Descriptors, External, Fault,
-    HandshakeError, Kind, Limits, Message, Order, Owners, ParseError, Parts, Reason, Rule, RuleError, RuleReason, RuleSet,
-    Server, Status, SwapError, Taken, TextFault, TextKind, Value, Values,
+    build, byteswap, check, check_text, client_line, server_line, wanted, Answer, BuildError, Checker, Client, Command,
+    Descriptors, External, Fault, HandshakeError, Kind, Limits, Line, LineFault, Message, Order, Owners, ParseError, Parts,
+    Reason, Rule, RuleError, RuleReason, RuleSet, Server, Status, SwapError, Taken, TextFault, TextKind, Value, Values,
 };
 
 const CAPTURES: [&[u8]; 2] = [include_bytes!("../../samples/session.dbus"), include_bytes!("../../samples/big-endian.dbus")];
@@ -430,6 +430,18 @@ fn both_ends_shake_hands() {
             assert_eq!(client.guid(), Some(guid.to_lowercase()));
         }
     }
+}
+
+#[test]
+fn lines_between_others() {
+    let line = client_line(b"AUTH  A 6C \r\nBEGIN").unwrap().unwrap();
+    assert_eq!(line, Line { length: 13, command: Command::Auth, mechanism: Some("A"), text: Some("6C") });
+    let line = server_line(b"REJECTED A  B\r\n").unwrap().unwrap();
+    assert_eq!(line, Line { length: 15, command: Command::Rejected, mechanism: None, text: Some("A  B") });
+    assert_eq!(server_line(b"BEGIN\r\n").unwrap().map(|line| line.command), Some(Command::Other));
+    assert_eq!(client_line(b"BEGIN\r"), Ok(None));
+    assert_eq!(client_line(b"A\n"), Err(LineFault::BadByte { at: 1 }));
+    assert_eq!(client_line(&[b'A'; 16383]), Err(LineFault::TooLong));
 }
 
 #[test]

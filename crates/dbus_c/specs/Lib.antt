@@ -16,5 +16,6 @@ pub mod Owners
 pub mod RuleReasons
 pub mod Rules
 pub mod Handshakes
+pub mod HandshakeLines
 pub mod Building
 pub mod Writers

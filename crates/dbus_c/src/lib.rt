@@ -6,7 +6,8 @@
 //! [`dbus_wire_next`] give the values of its body one by one, and [`dbus_wire_flatten`] all of them at once, as
 //! [`dbus_wire_flatten_fields`] does its header fields. [`dbus_wire_checker_new`] makes a checker that is
 //! handed one piece after another, and [`dbus_wire_rules_add`] keeps match rules; [`dbus_wire_server_new`] and
-//! [`dbus_wire_client_new`] make an end of a handshake, and [`dbus_wire_build`] builds a message of its parts, whose body
+//! [`dbus_wire_client_new`] make an end of a handshake; [`dbus_wire_client_line`] and [`dbus_wire_server_line`] give the lines of one
+//! between others, and [`dbus_wire_build`] builds a message of its parts, whose body
 //! [`dbus_wire_put_number`] and its like spell. Of the other calls those on rules and [`dbus_wire_handshake_take`] take memory too.
 //! `include/dbus_wire.h` declares them and says what a caller owes; `examples/c` has callers.
 #![tactic(auto)]
@@ -19,7 +20,9 @@ mod checking;
 mod cursors;
 mod flattening;
 mod given_limits;
+mod handshake_lines;
 mod handshakes;
+pub mod line_command;
 mod names;
 mod owners;
 mod parts;
@@ -46,6 +49,7 @@ pub use checking::{Checked, dbus_wire_check};
 pub use cursors::{dbus_wire_body_cursor, dbus_wire_next};
 pub use flattening::{dbus_wire_flatten, dbus_wire_flatten_fields};
 pub use given_limits::{ANY_INDEX, INDEX_BELOW_COUNT, WireLimits, dbus_wire_specification_limits};
+pub use handshake_lines::{HandshakeLine, dbus_wire_client_line, dbus_wire_server_line};
 pub use handshakes::{
     HandshakeStep, dbus_wire_client_new, dbus_wire_handshake_free, dbus_wire_handshake_guid,
     dbus_wire_handshake_take, dbus_wire_server_new,

@@ -18,15 +18,15 @@ use dbus_message_model::field_code::{
 use dbus_validate::Seen;
 use dbus_value_model::Order;
 
-/// Where the text of a header field is among the bytes that were handed in.
+/// Where a text, as that of a header field, is among the bytes that were handed in.
 #[repr(C)]
 #[derive(Drop)]
 pub struct TextPlace {
-    /// Its offset, in bytes from the first, or 0 if there is no such field.
+    /// Its offset, in bytes from the first, or 0 if there is no such text.
     pub offset: u64,
     /// The number of bytes that it has, or 0.
     pub length: u64,
-    /// 1, or 0 if there is no such field.
+    /// 1, or 0 if there is no such text.
     pub is_there: u64,
 }
 

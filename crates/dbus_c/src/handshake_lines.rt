@@ -1,0 +1,153 @@
+//! One line of a handshake, in numbers, for who looks on.
+#![tactic(auto)]
+
+ghost use Rattle.std.specs.Prelude.{◌≡◌};
+ghost use Rattle.dbus_auth_lines.specs.CutterViews.{fault_of};
+ghost use Rattle.dbus_auth_lines.specs.FirstLine.{Beginning, BeginsAs};
+ghost use Rattle.dbus_c.specs.HandshakeLines.{HasClientLine, HasServerLine, TellsLine, client_told, fault_told, line_told, nothing_told, place_told, server_told};
+
+use crate::answers::{PARTIAL, REFUSED, WHOLE};
+use crate::line_command::{
+    AGREE_UNIX_FD, AUTH, BEGIN, CANCEL, DATA, ERROR, NEGOTIATE_UNIX_FD, OK, OTHER, REJECTED,
+};
+use crate::parts::TextPlace;
+use dbus_auth_lines::scanning::{BadLine, first_line};
+use dbus_auth_lines::{ClientWords, Place, ServerWords, client_words, server_words};
+
+// No text.
+const NOWHERE: Place = Place { at: 0, length: 0 };
+
+/// A line of a handshake. Fields that do not apply are 0. D-Bus Specification, "Authentication Protocol".
+#[repr(C)]
+#[derive(Drop)]
+pub struct HandshakeLine {
+    /// Of a line: the number of bytes that it has, its CR LF included.
+    pub length: u64,
+    /// Of bytes that are refused and not too long: the offset of the first one that a line may not have there.
+    pub offset: u64,
+    /// Of a line: the number of its command, as [`crate::line_command`] has it.
+    pub command: u32,
+    /// 1 if the line has more than 16,384 bytes; else 0.
+    pub is_too_long: u32,
+    /// The mechanism of `AUTH`.
+    pub mechanism: TextPlace,
+    /// The hexadecimal digits of the response of `AUTH`, of `DATA` or of the GUID of `OK`; the text of `ERROR`; the mechanisms of
+    /// `REJECTED`, from the first one up to the line's end.
+    pub text: TextPlace,
+}
+
+/// Writes the line of a client that the bytes begin with, and returns [`WHOLE`]. If they begin with none, returns [`PARTIAL`] if more
+/// bytes may make one, and [`REFUSED`] with the first fault if not. It allocates nothing.
+///
+/// The byte 0 that a client sends before its first line is none of it. D-Bus Specification, "Authentication Protocol".
+#[unsafe(no_mangle)]
+pub extern "C" fn dbus_wire_client_line(bytes: &[u8], out: &mut HandshakeLine) -> u32
+    ensures { (b : Beginning) → BeginsAs bytes.now b → TellsLine HasClientLine b result out.new }
+{
+    match first_line(bytes) {
+        Ok(Some(line)) => {
+            *out = client_told(line.len() + 2, client_words(line));
+            WHOLE
+        }
+        Ok(None) => tell_nothing(out),
+        Err(fault) => tell_fault(fault, out),
+    }
+}
+
+/// As [`dbus_wire_client_line`], of a line of a server.
+#[unsafe(no_mangle)]
+pub extern "C" fn dbus_wire_server_line(bytes: &[u8], out: &mut HandshakeLine) -> u32
+    ensures { (b : Beginning) → BeginsAs bytes.now b → TellsLine HasServerLine b result out.new }
+{
+    match first_line(bytes) {
+        Ok(Some(line)) => {
+            *out = server_told(line.len() + 2, server_words(line));
+            WHOLE
+        }
+        Ok(None) => tell_nothing(out),
+        Err(fault) => tell_fault(fault, out),
+    }
+}
+
+// What is told of a client's line of this length.
+fn client_told(length: usize, words: ClientWords) -> HandshakeLine
+    ensures { result ≡ client_told length words }
+{
+    match words {
+        ClientWords::Auth => line_told(length, AUTH, NOWHERE, NOWHERE),
+        ClientWords::AuthBy { mech, response } => line_told(length, AUTH, mech, response),
+        ClientWords::Cancel => line_told(length, CANCEL, NOWHERE, NOWHERE),
+        ClientWords::Begin => line_told(length, BEGIN, NOWHERE, NOWHERE),
+        ClientWords::DataOf(digits) => line_told(length, DATA, NOWHERE, digits),
+        ClientWords::Error(text) => line_told(length, ERROR, NOWHERE, text),
+        ClientWords::Negotiate => line_told(length, NEGOTIATE_UNIX_FD, NOWHERE, NOWHERE),
+        ClientWords::Other => line_told(length, OTHER, NOWHERE, NOWHERE),
+    }
+}
+
+// And of a server's.
+fn server_told(length: usize, words: ServerWords) -> HandshakeLine
+    ensures { result ≡ server_told length words }
+{
+    match words {
+        ServerWords::Rejected(mechanisms) => line_told(length, REJECTED, NOWHERE, mechanisms),
+        ServerWords::Accepted(digits) => line_told(length, OK, NOWHERE, digits),
+        ServerWords::DataOf(digits) => line_told(length, DATA, NOWHERE, digits),
+        ServerWords::Error(text) => line_told(length, ERROR, NOWHERE, text),
+        ServerWords::Agree => line_told(length, AGREE_UNIX_FD, NOWHERE, NOWHERE),
+        ServerWords::Other => line_told(length, OTHER, NOWHERE, NOWHERE),
+    }
+}
+
+fn line_told(length: usize, command: u32, mechanism: Place, text: Place) -> HandshakeLine
+    ensures { result ≡ line_told length command mechanism text }
+{
+    HandshakeLine {
+        length: length as u64,
+        offset: 0,
+        command,
+        is_too_long: 0,
+        mechanism: place_told(mechanism),
+        text: place_told(text),
+    }
+}
+
+// Where a text stands; there is none if it has no bytes.
+fn place_told(place: Place) -> TextPlace
+    ensures { result ≡ place_told place }
+{
+    if place.length == 0 {
+        return TextPlace {
+            offset: 0,
+            length: 0,
+            is_there: 0,
+        };
+    }
+    TextPlace {
+        offset: place.at as u64,
+        length: place.length as u64,
+        is_there: 1,
+    }
+}
+
+// More bytes are wanted.
+fn tell_nothing(out: &mut HandshakeLine) -> u32
+    ensures told { out.new ≡ nothing_told }
+    ensures answer { result ≡ PARTIAL }
+{
+    *out = line_told(0, OTHER, NOWHERE, NOWHERE);
+    PARTIAL
+}
+
+// The bytes are at fault.
+fn tell_fault(fault: BadLine, out: &mut HandshakeLine) -> u32
+    ensures told { out.new ≡ fault_told (fault_of fault) }
+    ensures answer { result ≡ REFUSED }
+{
+    *out = line_told(0, OTHER, NOWHERE, NOWHERE);
+    match fault {
+        BadLine::TooLong => out.is_too_long = 1,
+        BadLine::BadByte { at } => out.offset = at as u64,
+    }
+    REFUSED
+}
