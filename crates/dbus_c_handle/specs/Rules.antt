@@ -1,6 +1,6 @@
 -- The match rules that a handle keeps, each by what stands for it, and what its calls do with them.
 -- D-Bus Specification, "Match Rules".
-use Rattle.std.specs.Prelude.{◌≡◌, ℕ, ◌+◌, List, [], Option, Some, None, Result, Ok, Err, String, string_bytes}
+use Rattle.std.specs.Prelude.{◌≡◌, ℕ, ◌+◌, List, [], Option, Some, None, Result, Ok, Err, Bool, true, false, String, string_bytes}
 use Rattle.std.specs.declared.alloc.Global.{Global}
 use Rattle.std.specs.declared.alloc.AllocError.{AllocError}
 use Rattle.dbus_match.specs.Rules.{SpellsRule, canonical}
@@ -14,12 +14,19 @@ use Rattle.dbus_c_handle.specs.declared.kept.Kept.TheVariants as kept
 -- the rules that are kept
 abbrev pub rules_of : Option Kept → List (RuleHandle × Rule Global)
 rules_of (Some (kept.Rules s)) = held s
+rules_of (Some (kept.Shared s)) = held s.value
 rules_of _ = []
 
 -- how many were added since the first of them
 abbrev pub given_of : Option Kept → ℕ
 given_of (Some (kept.Rules s)) = given s
+given_of (Some (kept.Shared s)) = given s.value
 given_of _ = 0
+
+-- they are shared, so no call changes them
+abbrev pub is_shared : Option Kept → Bool
+is_shared (Some (kept.Shared s)) = true
+is_shared _ = false
 
 -- a rule comes to those that are kept, and this stands for it, which stood for none before
 pub record AddsRule (rule : Rule Global) (old new : Option Kept) (h : RuleHandle) : Type 0 where
@@ -36,6 +43,13 @@ Adds w old new h = (rule : Rule Global) × SpellsRule w (rule_pairs rule) × Add
 pub record KeepsRules (old new : Option Kept) : Type 0 where
   pub rules : rules_of new ≡ rules_of old
   pub given : given_of new ≡ given_of old
+
+-- the rules stay, another handle keeps the same, and both are shared
+pub record SharesRules (old new other : Option Kept) : Type 0 where
+  pub stay : KeepsRules old new
+  pub same : KeepsRules old other
+  pub shared : is_shared new ≡ true
+  pub other_shared : is_shared other ≡ true
 
 -- the rule's canonical text, or that memory ran out; of no rule nothing is answered
 abbrev pub IsWritten : Option (Rule Global) → Option (Result (String Global) AllocError) → Type 0

@@ -30,7 +30,7 @@ impl WireHandle {
         let mut kept = self.take_box(alloc)?;
         let check = match &mut *kept {
             Kept::Checker(checker) => Some(checker.take(piece)),
-            Kept::Rules(_) | Kept::Handshake(_) => None,
+            _ => None,
         };
         *self = WireHandle::of(kept);
         check
@@ -48,7 +48,7 @@ impl WireHandle {
                 checker.restart();
                 true
             }
-            Kept::Rules(_) | Kept::Handshake(_) => false,
+            _ => false,
         };
         *self = WireHandle::of(kept);
         is_checker

@@ -4,6 +4,7 @@
 use dbus_c_auth::Handshake;
 use dbus_check::Checker;
 use dbus_rule_set::RuleSet;
+use std::sync::Arc;
 
 /// What a handle keeps in its block.
 #[derive(Drop)]
@@ -12,6 +13,8 @@ pub enum Kept {
     Checker(Box<Checker>),
     /// Match rules.
     Rules(RuleSet),
+    /// Match rules that other handles may keep too. They stay as they are.
+    Shared(Arc<RuleSet>),
     /// An end of a handshake.
     Handshake(Handshake),
 }

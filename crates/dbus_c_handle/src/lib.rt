@@ -10,6 +10,7 @@ mod handle;
 mod handshakes;
 mod kept;
 mod rules;
+mod sharing;
 
 pub use handle::WireHandle;
 pub use kept::Kept;

@@ -1,9 +1,9 @@
 //! Match rules that a handle keeps.
 #![tactic(auto)]
 
-ghost use Rattle.std.specs.Prelude.{◌≡◌, Some, MatchResult};
+ghost use Rattle.std.specs.Prelude.{◌≡◌, Some, MatchResult, false};
 ghost use Rattle.dbus_match.specs.declared.fault.RuleFault.TheVariants.{Memory};
-ghost use Rattle.dbus_c_handle.specs.Rules.{AddsRule, KeepsRules};
+ghost use Rattle.dbus_c_handle.specs.Rules.{AddsRule, KeepsRules, is_shared};
 
 use crate::handle::WireHandle;
 use crate::kept::Kept;
@@ -13,21 +13,23 @@ use dbus_view::MessageView;
 use std::alloc::{AllocError, Global};
 
 impl WireHandle {
-    ghost use Rattle.std.specs.Prelude.{◌≡◌, [], IfOk, MatchResult, is_some};
+    ghost use Rattle.std.specs.Prelude.{◌≡◌, [], IfOk, MatchResult, false, is_some};
     ghost use Rattle.dbus_value_model.specs.declared.order.Order.{Order};
     ghost use Rattle.dbus_message_model.specs.Messages.{MessageTree};
     ghost use Rattle.dbus_match.specs.Matching.{ownerships};
     ghost use Rattle.dbus_match.specs.RuleReadings.{IsRuleFault};
     ghost use Rattle.dbus_rule_set.specs.Held.{Collects, EntryMatches, rule_at, without};
     ghost use Rattle.dbus_view.specs.Views.{Views};
-    ghost use Rattle.dbus_c_handle.specs.Rules.{Adds, IsWritten, KeepsRules, given_of, rules_of};
+    ghost use Rattle.dbus_c_handle.specs.Rules.{Adds, IsWritten, KeepsRules, given_of, is_shared, rules_of};
 
     /// Keeps the rule that the text spells, as [`parse_rule`] reads it, beside the rules that it keeps, and returns what stands for the
     /// rule. Its fault if there is one, or that memory runs out: then it keeps the rules that it kept. A handle that keeps something
-    /// else frees that.
+    /// else frees that. The rules must not be shared: [`WireHandle::are_shared`] says whether they are.
     pub fn add_rule(&mut self, alloc: Global, text: &str) -> Result<RuleHandle, RuleFault>
-        ensures { MatchResult result (Adds text.now self.old.state self.new.state)
+        requires { is_shared self.old.state ≡ false }
+        ensures added { MatchResult result (Adds text.now self.old.state self.new.state)
             (λ fault. IsRuleFault text.now fault × KeepsRules self.old.state self.new.state) }
+        ensures own { is_shared self.new.state ≡ false }
     {
         let rule = parse_rule(alloc, text)?;
         let mut kept = self.take_or_make(alloc)?;
@@ -37,8 +39,9 @@ impl WireHandle {
     }
 
     // The box of what the handle kept, or of rules of which there are none yet. From then on it keeps nothing.
-    fn take_or_make(&mut self, alloc: Global) -> Result<Box<Kept>, AllocError>
-        ensures { MatchResult result (λ kept. KeepsRules self.old.state (Some kept.value)) (λ _. KeepsRules self.old.state self.new.state) }
+    pub(crate) fn take_or_make(&mut self, alloc: Global) -> Result<Box<Kept>, AllocError>
+        ensures rules { MatchResult result (λ kept. KeepsRules self.old.state (Some kept.value)) (λ _. KeepsRules self.old.state self.new.state) }
+        ensures own { MatchResult result (λ kept. is_shared (Some kept.value) ≡ is_shared self.old.state) (λ _. is_shared self.new.state ≡ is_shared self.old.state) }
     {
         match self.take_box(alloc) {
             Some(kept) => Ok(kept),
@@ -46,18 +49,20 @@ impl WireHandle {
         }
     }
 
-    /// Removes the rule that this stands for. Whether there was one.
+    /// Removes the rule that this stands for. Whether there was one. The rules must not be shared.
     pub fn remove_rule(&mut self, alloc: Global, handle: RuleHandle) -> bool
+        requires { is_shared self.old.state ≡ false }
         ensures was { result ≡ is_some (rule_at handle (rules_of self.old.state)) }
         ensures removed { rules_of self.new.state ≡ without handle (rules_of self.old.state) }
         ensures given { given_of self.new.state ≡ given_of self.old.state }
+        ensures own { is_shared self.new.state ≡ false }
     {
         let Some(mut kept) = self.take_box(alloc) else {
             return false;
         };
         let was = match &mut *kept {
             Kept::Rules(rules) => rules.remove(handle).is_some(),
-            Kept::Checker(_) | Kept::Handshake(_) => false,
+            _ => false,
         };
         *self = WireHandle::of(kept);
         was
@@ -79,9 +84,9 @@ impl WireHandle {
         let Some(kept) = self.take_box(alloc) else {
             return Ok(found);
         };
-        let searched = match &*kept {
-            Kept::Rules(rules) => rules.matching(view, owners, &mut found),
-            Kept::Checker(_) | Kept::Handshake(_) => Ok(()),
+        let searched = match kept.rules() {
+            Some(rules) => rules.matching(view, owners, &mut found),
+            None => Ok(()),
         };
         *self = WireHandle::of(kept);
         searched?;
@@ -99,22 +104,41 @@ impl WireHandle {
         ensures written { IsWritten (rule_at handle (rules_of self.old.state)) result }
     {
         let kept = self.take_box(alloc)?;
-        let text = match &*kept {
-            Kept::Rules(rules) => match rules.get(handle) {
+        let text = match kept.rules() {
+            Some(rules) => match rules.get(handle) {
                 Some(rule) => Some(rule_text(alloc, rule)),
                 None => None,
             },
-            Kept::Checker(_) | Kept::Handshake(_) => None,
+            None => None,
         };
         *self = WireHandle::of(kept);
         text
     }
 }
 
-// Adds the rule to those that are kept. What is kept otherwise is dropped.
+impl Kept {
+    ghost use Rattle.std.specs.Prelude.{◌≡◌, [], Some, MatchOption};
+    ghost use Rattle.dbus_rule_set.specs.Held.{held};
+    ghost use Rattle.dbus_c_handle.specs.Rules.{rules_of};
+
+    /// The rules, shared or not; `None` if something else is kept.
+    pub(crate) fn rules(&self) -> Option<&RuleSet>
+        ensures { MatchOption result (rules_of (Some self.now) ≡ []) (λ rules. held rules.now ≡ rules_of (Some self.now)) }
+    {
+        match self {
+            Kept::Rules(rules) => Some(rules),
+            Kept::Shared(rules) => Some(&**rules),
+            _ => None,
+        }
+    }
+}
+
+// Adds the rule to those that are kept, which are not shared. What is kept otherwise is dropped.
 fn add_to(alloc: Global, kept: &mut Kept, rule: Rule) -> Result<RuleHandle, RuleFault>
-    ensures { MatchResult result (AddsRule rule (Some kept.old) (Some kept.new))
+    requires { is_shared (Some kept.old) ≡ false }
+    ensures added { MatchResult result (AddsRule rule (Some kept.old) (Some kept.new))
         (λ fault. (fault ≡ Memory) × KeepsRules (Some kept.old) (Some kept.new)) }
+    ensures own { is_shared (Some kept.new) ≡ false }
 {
     let added = match kept {
         Kept::Rules(rules) => rules.add(rule),
