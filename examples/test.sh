@@ -37,12 +37,12 @@ echo '#include <dbus_wire.h>' | "$CXX" $flags -x c++ -fsyntax-only -
 "$CC" -std=c99 -O2 $flags -o "$built/check" "$here/c/check.c" -L"$built" -ldbus_wire
 "$CC" -std=c99 -O2 $flags -o "$built/check_shared" "$here/c/check.c" "$shared" -Wl,-rpath,"$(cd "$(dirname "$shared")" && pwd)"
 "$CC" $sanitized -o "$built/check_sanitized" "$here/c/check.c" -L"$built" -ldbus_wire
-for name in list swap rules build signal room habits texts lines pieces threads; do
+for name in list swap rules build signal room habits texts lines pieces threads sharing; do
 	"$CC" $sanitized -pthread -o "$built/$name" "$here/c/$name.c" -L"$built" -ldbus_wire
 	"$CC" -std=c99 -O2 -g $flags -pthread -o "$built/plain_$name" "$here/c/$name.c" -L"$built" -ldbus_wire
 done
 for sample in session big-endian; do
-	for name in room threads; do "$built/$name" < "$here/../samples/$sample.dbus"; done
+	for name in room threads "sharing type='signal' member='NameAcquired' sender='org.a.B'"; do "$built/"$name < "$here/../samples/$sample.dbus"; done
 	for length in 1 64 4096; do "$built/pieces" $length < "$here/../samples/$sample.dbus"; done
 done
 # Each growth is refused in turn: a caller ends by a status of its own, and has written a front of what it writes else.
@@ -59,6 +59,7 @@ try_growths() {
 	done
 }
 try_growths rules "sender='org.a.B',member='NameOwnerChanged'" org.a.B=org.freedesktop.DBus
+try_growths sharing "type='signal'" "member='NameAcquired'"
 try_growths pieces 64
 try_growths build again
 # Both ends of a handshake: one with the other, a client with a bus, and a server with a client of libdbus.
@@ -107,7 +108,7 @@ if command -v valgrind > /dev/null; then
 	under_valgrind() { valgrind --quiet --leak-check=full --error-exitcode=9 "$@"; }
 	under_valgrind "$built/plain_signal" Name "a b" Number 7 > "$built/one"
 	under_valgrind "$built/plain_room" < "$built/one"
-	for words in list "swap B" "rules member='NameAcquired'" "build again" habits "pieces 64" threads; do
+	for words in list "swap B" "rules member='NameAcquired'" "build again" habits "pieces 64" threads "sharing type='signal'"; do
 		under_valgrind "$built/plain_"$words < "$here/../samples/session.dbus" > "$built/said"
 	done
 	under_valgrind "$built/handshake_plain" pieces 7

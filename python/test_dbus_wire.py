@@ -557,6 +557,23 @@ class Threads(unittest.TestCase):
                     self.assertEqual(body, [":1.2"])
         self.assertEqual(zeros, 2000)
 
+    def test_rules_that_threads_ask_at_once(self):
+        rules = RuleSet()
+        signals = rules.add("type='signal'")
+        sets = [rules, *(rules.share() for _ in range(3))]
+
+        def work(shared):
+            return [shared.matching(message) for message in messages(SESSION)]
+
+        with ThreadPoolExecutor(4) as pool:
+            found = list(pool.map(work, sets))
+        self.assertTrue(any(found[0]) and all(one == found[0] for one in found))
+        for shared in sets:
+            self.assertRaises(ValueError, shared.add, "")
+            self.assertRaises(ValueError, shared.remove, signals)
+            self.assertEqual(shared.text(signals), "type='signal'")
+            shared.close()
+
 
 class Header(unittest.TestCase):
     """The module's numbers, structs and calls are those of include/dbus_wire.h."""

@@ -20,6 +20,7 @@ NO_ROOM = 4
 NO_CHECKER = 7
 NO_RULE = 8
 NO_HANDSHAKE = 9
+SHARED = 10
 EXTERNAL_AS_USER = 1
 EXTERNAL_AS_REPORTED = 2
 REPLY_ROOM = 528
@@ -135,6 +136,7 @@ _CALLS = {
     "checker_free": (None, POINTER(Checker)),
     "rules_add": (c_uint32, POINTER(Rules), c_char_p, c_size_t, POINTER(RuleId), POINTER(RuleRefused)),
     "rules_remove": (c_uint32, POINTER(Rules), POINTER(RuleId)),
+    "rules_share": (c_uint32, POINTER(Rules), POINTER(Rules)),
     "rules_matching": (c_uint32, POINTER(Rules), *_MESSAGE, c_char_p, c_size_t, POINTER(RuleId), c_size_t, POINTER(c_uint64)),
     "rules_text": (c_uint32, POINTER(Rules), POINTER(RuleId), c_char_p, c_size_t, POINTER(c_uint64)),
     "rules_free": (None, POINTER(Rules)),

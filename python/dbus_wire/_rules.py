@@ -11,7 +11,7 @@ from ctypes import byref
 from types import TracebackType
 
 from . import _library
-from ._library import NO_MEMORY, NO_ROOM, REFUSED, Bytes, as_bytes, library
+from ._library import NO_MEMORY, NO_ROOM, REFUSED, SHARED, Bytes, as_bytes, library
 from ._limits import limits_struct
 from ._messages import Message
 from ._texts import TextKind, check_text
@@ -35,7 +35,7 @@ class BadRule(ValueError):
 class RuleSet:
     """Match rules, each with a number; those that match a message are found without asking each of them.
 
-    It may be shared by threads, whose calls wait for each other. `close`, or the end of a `with`, frees it; ValueError is raised by
+    It may be shared by threads, whose calls wait for each other; those of sets that `share` makes do not. `close`, or the end of a `with`, frees it; ValueError is raised by
     its other calls from then on. Each call may raise MemoryError.
 
         rules = RuleSet()
@@ -67,7 +67,17 @@ class RuleSet:
     def remove(self, number: int) -> None:
         """Removes the rule of this number. Raises KeyError if there is none."""
         with self._open():
-            library.dbus_wire_rules_remove(byref(self._handle), byref(self._ids.pop(number)))
+            _raise_if_failed(library.dbus_wire_rules_remove(byref(self._handle), byref(self._ids[number])))
+            del self._ids[number]
+
+    def share(self) -> RuleSet:
+        """A set of the same rules, by the same numbers, for another thread: no rule is copied. From then on neither changes: `add` and
+        `remove` raise ValueError."""
+        other = RuleSet()
+        with self._open():
+            _raise_if_failed(library.dbus_wire_rules_share(byref(self._handle), byref(other._handle)))
+            other._ids.update(self._ids)
+        return other
 
     def matching(self, message: Message, owners: Mapping[str, str] | None = None) -> list[int]:
         """The numbers of the rules each key of which holds of the message. A `sender` that is a well-known name matches a message whose
@@ -168,3 +178,5 @@ def _name_of(reason: int) -> str:
 def _raise_if_failed(answer: int) -> None:
     if answer == NO_MEMORY:
         raise MemoryError
+    if answer == SHARED:
+        raise ValueError("the rules are shared")

@@ -95,7 +95,7 @@ pub struct RuleSet {
 }
 
 // SAFETY: the header allows calls on rules from any thread, if one returns before the next begins. Each takes them by a mutable
-// reference, which sees to that.
+// reference, which sees to that. Calls on two structs may overlap, also if these share rules.
 unsafe impl Send for RuleSet {}
 
 impl Default for RuleSet {
@@ -181,6 +181,62 @@ impl Drop for RuleSet {
     fn drop(&mut self) {
         // SAFETY: a reference, as `sys` says; only calls write `raw`, and nothing uses it after its drop.
         unsafe { sys::dbus_wire_rules_free(&mut self.raw) };
+    }
+}
+
+/// Match rules that stay as they are, and that many threads may ask at the same time: each by a `SharedRules` of its own, which
+/// [`SharedRules::share`] makes without copying a rule. The last of them frees the rules.
+///
+/// ```
+/// use std::thread;
+/// use dbus_wire::{Message, Owners, RuleSet, SharedRules};
+///
+/// # let signal = b"l\x04\0\x01\0\0\0\0\x01\0\0\0\x2a\0\0\0\x01\x01o\0\x01\0\0\0/\0\0\0\0\0\0\0\x02\x01s\0\x03\0\0\0a.b\0\0\0\0\0\x03\x01s\0\x01\0\0\0c\0\0\0\0\0\0\0";
+/// let mut rules = RuleSet::default();
+/// let signals = rules.add("type='signal',member=c")?;
+/// let mut one = SharedRules::from(rules);
+/// let mut other = one.share()?;
+/// let message = Message::parse(signal)?;
+/// thread::scope(|scope| {
+///     scope.spawn(|| assert_eq!(one.matching(&message, &Owners::default()), Ok(vec![signals])));
+///     assert_eq!(other.matching(&message, &Owners::default()), Ok(vec![signals]));
+/// });
+/// # Ok::<(), Box<dyn std::error::Error>>(())
+/// ```
+#[derive(Debug)]
+pub struct SharedRules {
+    // No rule is added to it or removed.
+    rules: RuleSet,
+}
+
+impl From<RuleSet> for SharedRules {
+    fn from(rules: RuleSet) -> Self {
+        Self { rules }
+    }
+}
+
+impl SharedRules {
+    /// The same rules, by the same ids, for another thread.
+    pub fn share(&mut self) -> Result<Self, OutOfMemory> {
+        let mut rules = RuleSet::default();
+        // SAFETY: references to two structs, as `sys` says; only calls write what they are of.
+        match unsafe { sys::dbus_wire_rules_share(&mut self.rules.raw, &mut rules.raw) } {
+            sys::DBUS_WIRE_OK => {
+                rules.count = self.rules.count;
+                Ok(Self { rules })
+            }
+            _ => Err(OutOfMemory),
+        }
+    }
+
+    /// The rules each key of which holds of the message, as [`RuleSet::matching`] says.
+    pub fn matching(&mut self, message: &Message<'_>, owners: &Owners) -> Result<Vec<RuleId>, OutOfMemory> {
+        self.rules.matching(message, owners)
+    }
+
+    /// The canonical text of the rule, as [`RuleSet::text`] gives it.
+    pub fn text(&mut self, id: RuleId) -> Result<Option<String>, OutOfMemory> {
+        self.rules.text(id)
     }
 }
 

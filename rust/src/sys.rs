@@ -28,6 +28,7 @@ pub const DBUS_WIRE_NO_KIND: u32 = 6;
 pub const DBUS_WIRE_NO_CHECKER: u32 = 7;
 pub const DBUS_WIRE_NO_RULE: u32 = 8;
 pub const DBUS_WIRE_NO_HANDSHAKE: u32 = 9;
+pub const DBUS_WIRE_SHARED: u32 = 10;
 
 pub const DBUS_WIRE_TYPE_METHOD_CALL: u32 = 1;
 pub const DBUS_WIRE_TYPE_METHOD_RETURN: u32 = 2;
@@ -412,6 +413,7 @@ extern "C" {
         out: *mut dbus_wire_rule_refused,
     ) -> u32;
     pub fn dbus_wire_rules_remove(rules: *mut dbus_wire_rules, id: *const dbus_wire_rule_id) -> u32;
+    pub fn dbus_wire_rules_share(rules: *mut dbus_wire_rules, other: *mut dbus_wire_rules) -> u32;
     pub fn dbus_wire_rules_matching(
         rules: *mut dbus_wire_rules,
         bytes: *const u8,

@@ -5,7 +5,8 @@ use std::thread;
 use dbus_wire::{
     build, byteswap, check, check_text, client_line, server_line, wanted, Answer, BuildError, Checker, Client, Command,
     Descriptors, External, Fault, HandshakeError, Kind, Limits, Line, LineFault, Message, Order, Owners, ParseError, Parts,
-    Reason, Rule, RuleError, RuleReason, RuleSet, Server, Status, SwapError, Taken, TextFault, TextKind, Value, Values,
+    Reason, Rule, RuleError, RuleReason, RuleSet, Server, SharedRules, Status, SwapError, Taken, TextFault, TextKind, Value,
+    Values,
 };
 
 const CAPTURES: [&[u8]; 2] = [include_bytes!("../../samples/session.dbus"), include_bytes!("../../samples/big-endian.dbus")];
@@ -376,6 +377,28 @@ fn rules_match_messages_by_their_keys_and_owners() {
     assert!(rules.remove(mine) && !rules.remove(mine) && rules.text(mine).unwrap().is_none());
     assert_eq!(rules.matching(&message, &owners).unwrap(), [all]);
     assert_eq!(rules.text(errors).unwrap().unwrap(), "type='error'");
+}
+
+#[test]
+fn shared_rules_are_asked_by_many_threads() {
+    let bytes = signal("s", b"\x02\0\0\0hi\0");
+    let mut rules = RuleSet::default();
+    let [all, errors] = ["", "type='error'"].map(|text| rules.add(text).unwrap());
+    let mut first = SharedRules::from(rules);
+    let threads: Vec<_> = (0..4)
+        .map(|_| {
+            let (mut shared, bytes) = (first.share().unwrap(), bytes.clone());
+            thread::spawn(move || {
+                let message = Message::parse(&bytes).unwrap();
+                (0..1000).for_each(|_| assert_eq!(shared.matching(&message, &Owners::default()).unwrap(), [all]));
+                shared
+            })
+        })
+        .collect();
+    drop(first);
+    for thread in threads {
+        assert_eq!(thread.join().unwrap().text(errors).unwrap().unwrap(), "type='error'");
+    }
 }
 
 #[test]

@@ -15,7 +15,7 @@ use Rattle.dbus_match.specs.declared.fault.RuleReason.{RuleReason}
 use Rattle.dbus_match.specs.declared.rule.Rule.{Rule}
 use Rattle.dbus_rule_set.specs.Held.{Collects, EntryMatches}
 use Rattle.dbus_rule_set.specs.declared.handle.RuleHandle.{RuleHandle}
-use Rattle.dbus_c_handle.specs.Rules.{Adds, KeepsRules}
+use Rattle.dbus_c_handle.specs.Rules.{Adds, KeepsRules, SharesRules}
 use Rattle.dbus_c_handle.specs.declared.kept.Kept.{Kept}
 use Rattle.dbus_c.specs.Outcomes.{BeginsWithMessage, TellsApart}
 use Rattle.dbus_c.specs.Owners.{AreOwnersIn}
@@ -41,6 +41,11 @@ pub data TellsRule (w : List ℕ) (answer : ℕ) (before after : Option Kept) (i
 abbrev pub removal_told : Option (Rule Global) → ℕ
 removal_told None = NO_RULE
 removal_told (Some rule) = WHOLE
+
+-- the rules are shared with another handle; or memory ran out, and the rules of both stay
+pub data TellsSharing (before after other_before other_after : Option Kept) (answer : ℕ) : Type 0 where
+  shared : SharesRules before after other_after → answer ≡ WHOLE → TellsSharing before after other_before other_after answer
+  no_memory : KeepsRules before after → other_after ≡ other_before → answer ≡ NO_MEMORY → TellsSharing before after other_before other_after answer
 
 -- all handles are told, at the start of a room that has room for them; or it has not
 pub data TellsAll (handles : List RuleHandle) (answer : ℕ) (old new : List RuleHandle) : Type 0 where

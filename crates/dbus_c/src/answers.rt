@@ -30,3 +30,6 @@ pub const NO_RULE: u32 = 8;
 
 /// There is no end of a handshake: none was made, or it was freed.
 pub const NO_HANDSHAKE: u32 = 9;
+
+/// The rules are shared, and no call changes them.
+pub const SHARED: u32 = 10;

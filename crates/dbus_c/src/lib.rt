@@ -37,7 +37,7 @@ mod writers;
 
 pub use answers::{
     NO_CHECKER, NO_HANDSHAKE, NO_KIND, NO_MEMORY, NO_ROOM, NO_RULE, NO_VALUE, PARTIAL, REFUSED,
-    WHOLE,
+    SHARED, WHOLE,
 };
 pub use arguments::{Argument, dbus_wire_argument_of};
 pub use building::dbus_wire_build;
@@ -62,7 +62,7 @@ pub use rule_reasons::{
 };
 pub use rules::{
     RuleRefused, dbus_wire_rules_add, dbus_wire_rules_free, dbus_wire_rules_matching,
-    dbus_wire_rules_remove, dbus_wire_rules_text,
+    dbus_wire_rules_remove, dbus_wire_rules_share, dbus_wire_rules_text,
 };
 pub use swapping::dbus_wire_swap;
 pub use texts::{TextChecked, dbus_wire_text_check};

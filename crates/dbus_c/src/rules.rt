@@ -1,13 +1,13 @@
 //! Match rules that C keeps from call to call.
 #![tactic(auto)]
 
-ghost use Rattle.std.specs.Prelude.{◌≡◌, None};
+ghost use Rattle.std.specs.Prelude.{◌≡◌, None, true, false};
 ghost use Rattle.dbus_c.specs.GivenLimits.{limits_of};
-ghost use Rattle.dbus_c.specs.Rules.{TellsAll, TellsMatching, TellsRule, TellsRuleText, removal_told, rule_fault_told};
-ghost use Rattle.dbus_c_handle.specs.Rules.{given_of, rules_of};
+ghost use Rattle.dbus_c.specs.Rules.{TellsAll, TellsMatching, TellsRule, TellsRuleText, TellsSharing, removal_told, rule_fault_told};
+ghost use Rattle.dbus_c_handle.specs.Rules.{given_of, is_shared, rules_of};
 ghost use Rattle.dbus_rule_set.specs.Held.{rule_at, without};
 
-use crate::answers::{NO_MEMORY, NO_ROOM, NO_RULE, REFUSED, WHOLE};
+use crate::answers::{NO_MEMORY, NO_ROOM, NO_RULE, REFUSED, SHARED, WHOLE};
 use crate::arguments::first_view;
 use crate::checking::answer_to_none;
 use crate::given_limits::{WireLimits, given_limits};
@@ -34,7 +34,7 @@ pub struct RuleRefused {
 /// Adds the match rule that the text spells to the rules, and writes to `id` what stands for it, which stands for none before:
 /// [`WHOLE`]. Else the rules stay as they are: [`REFUSED`] with the text's one fault, as [`dbus_match::parse_rule`] finds it, or that it
 /// is not UTF-8, which comes first; [`NO_MEMORY`] if memory runs out. `id` changes in the first case alone, and `out` in the second.
-/// D-Bus Specification, "Match Rules".
+/// To rules that are shared it adds none, whatever the text is: [`SHARED`], and nothing changes. D-Bus Specification, "Match Rules".
 #[unsafe(no_mangle)]
 pub extern "C" fn dbus_wire_rules_add(
     alloc: Global,
@@ -43,8 +43,13 @@ pub extern "C" fn dbus_wire_rules_add(
     id: &mut RuleHandle,
     out: &mut RuleRefused,
 ) -> u32
-    ensures { TellsRule text.now result rules.old.state rules.new.state id.old id.new out.old out.new }
+    ensures told { is_shared rules.old.state ≡ false → TellsRule text.now result rules.old.state rules.new.state id.old id.new out.old out.new }
+    ensures own { is_shared rules.new.state ≡ is_shared rules.old.state }
+    ensures shared { is_shared rules.old.state ≡ true → (result ≡ SHARED) × (rules.new.state ≡ rules.old.state) × (id.new ≡ id.old) × (out.new ≡ out.old) }
 {
+    if rules.are_shared(alloc) {
+        return SHARED;
+    }
     let added = match str::from_utf8(text) {
         Ok(text) => rules.add_rule(alloc, text),
         Err(error) => {
@@ -65,21 +70,44 @@ pub extern "C" fn dbus_wire_rules_add(
     }
 }
 
-/// Removes the rule that `id` stands for: [`WHOLE`]; [`NO_RULE`] if it stands for none. From then on it stands for none.
+/// Removes the rule that `id` stands for: [`WHOLE`]; [`NO_RULE`] if it stands for none. From then on it stands for none. Of rules that
+/// are shared it removes none: [`SHARED`].
 #[unsafe(no_mangle)]
 pub extern "C" fn dbus_wire_rules_remove(
     alloc: Global,
     rules: &mut WireHandle,
     id: &RuleHandle,
 ) -> u32
-    ensures told { result ≡ removal_told (rule_at id.now (rules_of rules.old.state)) }
-    ensures removed { rules_of rules.new.state ≡ without id.now (rules_of rules.old.state) }
+    ensures told { is_shared rules.old.state ≡ false → result ≡ removal_told (rule_at id.now (rules_of rules.old.state)) }
+    ensures removed { is_shared rules.old.state ≡ false → rules_of rules.new.state ≡ without id.now (rules_of rules.old.state) }
     ensures given { given_of rules.new.state ≡ given_of rules.old.state }
+    ensures own { is_shared rules.new.state ≡ is_shared rules.old.state }
+    ensures shared { is_shared rules.old.state ≡ true → (result ≡ SHARED) × (rules.new.state ≡ rules.old.state) }
 {
-    if rules.remove_rule(alloc, *id) {
+    if rules.are_shared(alloc) {
+        SHARED
+    } else if rules.remove_rule(alloc, *id) {
         WHOLE
     } else {
         NO_RULE
+    }
+}
+
+/// Shares the rules with `other`, another handle, which from then on keeps the same rules, and frees what it kept before: [`WHOLE`].
+/// From then on no call changes the rules of either, and each may be used by a thread of its own at the same time; what they share is
+/// freed with the last of them. [`NO_MEMORY`] if memory runs out: then both keep the rules that they kept.
+/// D-Bus Specification, "Match Rules".
+#[unsafe(no_mangle)]
+pub extern "C" fn dbus_wire_rules_share(
+    alloc: Global,
+    rules: &mut WireHandle,
+    other: &mut WireHandle,
+) -> u32
+    ensures { TellsSharing rules.old.state rules.new.state other.old.state other.new.state result }
+{
+    match rules.share_rules(alloc, other) {
+        Ok(()) => WHOLE,
+        Err(_) => NO_MEMORY,
     }
 }
 
