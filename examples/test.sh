@@ -59,7 +59,7 @@ try_growths() {
 	done
 }
 try_growths rules "sender='org.a.B',member='NameOwnerChanged'" org.a.B=org.freedesktop.DBus
-try_growths sharing "type='signal'" "member='NameAcquired'"
+try_growths sharing "member='Hello'"
 try_growths pieces 64
 try_growths build again
 # Both ends of a handshake: one with the other, a client with a bus, and a server with a client of libdbus.

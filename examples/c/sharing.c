@@ -67,7 +67,8 @@ static void share(struct dbus_wire_rules *rules, struct dbus_wire_rules *other, 
     struct dbus_wire_rule_id id;
     uint32_t answer = dbus_wire_rules_share(rules, other);
     if (answer == DBUS_WIRE_OK) return;
-    if (answer != DBUS_WIRE_NO_MEMORY || other->inner != had || add(rules, "member='A'", &id) != (may_change ? DBUS_WIRE_OK : DBUS_WIRE_SHARED))
+    if (answer != DBUS_WIRE_NO_MEMORY || other->inner != had ||
+        add(rules, "member='A'", &id) != (may_change ? DBUS_WIRE_OK : DBUS_WIRE_SHARED))
         exit(4);
     out_of_memory();
 }
