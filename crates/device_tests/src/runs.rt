@@ -207,7 +207,7 @@ fn inputs_that_are_refused(rt: HostRuntime) -> Result<(), Fail> {
 }
 
 const COUNTS: &[u8] = b"\
-3 messages 96 bytes type other
+3 messages 96 bytes type kind5
 1 messages 24 bytes type method_return
 1 messages 96 bytes type signal
 2 messages 64 bytes sender :1.7
