@@ -3,6 +3,8 @@
  * messages and of rules. */
 #include <dbus_wire.h>
 
+#include "expect.h"
+
 #include <stdio.h>
 #include <string.h>
 
@@ -13,15 +15,6 @@ enum { NUMBERS = 64 };
 static const uint8_t SIGNAL[] = "l\4\0\1\7\0\0\0\1\0\0\0\67\0\0\0\1\1o\0\1\0\0\0/\0\0\0\0\0\0\0\2\1s\0\3\0\0\0a.b\0\0\0\0\0\3\1s\0"
                                 "\1\0\0\0c\0\0\0\0\0\0\0\10\1g\0\1s\0\0\2\0\0\0hi";
 enum { SIGNAL_LENGTH = sizeof SIGNAL };
-
-static int failures = 0;
-
-static void expect(int holds, const char *what) {
-    if (!holds) {
-        printf("it does not hold: %s\n", what);
-        failures++;
-    }
-}
 
 static void sizes(void) {
     expect(dbus_wire_version() == DBUS_WIRE_VERSION, "the library has the header's version");

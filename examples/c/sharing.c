@@ -3,6 +3,8 @@
  * if memory runs out, and 2 if a rule is refused. */
 #include <dbus_wire.h>
 
+#include "expect.h"
+
 #include <pthread.h>
 #include <stdio.h>
 #include <stdlib.h>
@@ -13,14 +15,6 @@
 
 static uint8_t bytes[1 << 20];
 static size_t length;
-static int failures = 0;
-
-static void expect(int holds, const char *what) {
-    if (!holds) {
-        printf("it does not hold: %s\n", what);
-        failures++;
-    }
-}
 
 static uint32_t add(struct dbus_wire_rules *rules, const char *text, struct dbus_wire_rule_id *id) {
     struct dbus_wire_rule_refused told;

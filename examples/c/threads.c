@@ -2,19 +2,13 @@
  * each checker went to the other thread. Says what does not hold of them, and of the answers of calls on no checker. */
 #include <dbus_wire.h>
 
+#include "expect.h"
+
 #include <pthread.h>
 #include <stdio.h>
 
 static uint8_t bytes[1 << 20];
 static size_t length;
-static int failures = 0;
-
-static void expect(int holds, const char *what) {
-    if (!holds) {
-        printf("it does not hold: %s\n", what);
-        failures++;
-    }
-}
 
 /* A run of a checker over all bytes: how many messages it finds, and where it ends. */
 struct run {
