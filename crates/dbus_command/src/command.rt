@@ -1,6 +1,6 @@
 //! The commands.
 use crate::selection::Selection;
-use dbus_value::Order;
+use dbus_value_model::Order;
 
 /// What the program does with the messages that it reads.
 #[derive(PartialEq, Eq, Debug, Drop)]

@@ -19,7 +19,7 @@ use clap::error::ErrorKind;
 use dbus_count::Form;
 use dbus_handshake_input::Side;
 use dbus_match::Owner;
-use dbus_value::Order;
+use dbus_value_model::Order;
 use std::alloc::Global;
 
 /// What the words ask for: the command that they name, and its settings; or of `handshake` the side that `--side` names. The first of the words is the program's name. `--max-message` and

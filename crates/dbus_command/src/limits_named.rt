@@ -5,7 +5,7 @@ ghost use Rattle.dbus_command.specs.Limiting.{GivesGiven, GivesNumber, GivesNumb
 use crate::usage_fault::{UsageFault, bad_value, usage};
 use crate::window::Window;
 use clap::ArgMatches;
-use dbus_value::{ARRAY_LIMIT, DEPTH_LIMIT, FdRule, Limits, MESSAGE_LIMIT};
+use dbus_value_model::{ARRAY_LIMIT, DEPTH_LIMIT, FdRule, Limits, MESSAGE_LIMIT};
 use std::alloc::Global;
 
 /// The limits that the options name. `Usage`: one of them is given what it may not be. `Memory`: an allocation failed.

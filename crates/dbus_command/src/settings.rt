@@ -4,7 +4,7 @@ ghost use Rattle.dbus_command.specs.Windows.{ask_more};
 
 use crate::window::Window;
 use dbus_handshake_input::Side;
-use dbus_value::Limits;
+use dbus_value_model::Limits;
 
 /// How the messages of the input are read, and what follows one that is refused.
 #[derive(Clone, Copy, PartialEq, Eq, Debug)]

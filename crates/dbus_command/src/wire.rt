@@ -6,7 +6,7 @@ ghost use Rattle.dbus_command.specs.CommandLine.{Adds, IsLocal, fds_rule, flag_r
 use crate::help;
 use clap::builder::ValueParser;
 use clap::{Arg, ArgAction, Command};
-use dbus_value::{ARRAY_LIMIT, DEPTH_LIMIT, MESSAGE_LIMIT};
+use dbus_value_model::{ARRAY_LIMIT, DEPTH_LIMIT, MESSAGE_LIMIT};
 use std::alloc::{AllocError, Global};
 
 // The option of one limit: a number up to this one.

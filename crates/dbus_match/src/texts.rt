@@ -8,7 +8,7 @@ ghost use Rattle.dbus_message_model.specs.MessageViews.{message_tree};
 ghost use Rattle.dbus_match.specs.Matching.{string_of, string_or_path_of, text_of};
 
 use dbus_message_model::{Message, arg, field};
-use dbus_value::Value;
+use dbus_value_model::Value;
 use std::alloc::Allocator;
 
 /// The text of a STRING, an OBJECT_PATH or a SIGNATURE.

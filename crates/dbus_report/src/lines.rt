@@ -3,7 +3,7 @@ ghost use Rattle.std.specs.Prelude.{◌≡◌, ◌+◌, IfOk, string_bytes};
 ghost use Rattle.dbus_report.specs.Lines.{refused_line, cause_line};
 
 use crate::ending::Cause;
-use dbus_value::Fault;
+use dbus_value_model::Fault;
 use std::alloc::{AllocError, Allocator};
 
 /// What is written of a fault after messages of this size: `refused at P: NAME` and LF. The place counts from the start of the input.

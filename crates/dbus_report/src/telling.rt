@@ -8,7 +8,7 @@ use crate::lines::refused_line;
 use dbus_explain::{Refused, explain_message};
 use dbus_show::StringDraft;
 use dbus_stream::{RawReader, Source};
-use dbus_value::Fault;
+use dbus_value_model::Fault;
 use std::alloc::{AllocError, Allocator};
 
 /// A message that is refused.

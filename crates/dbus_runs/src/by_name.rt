@@ -19,7 +19,7 @@ use dbus_count::{Counts, Form};
 use dbus_report::{Cause, ExitStatus, Refusal, give_up, refusal_text};
 use dbus_stream::{MOST_READS, RawReader, Sink, Source, WrittenOnly, write_all};
 use dbus_validate::Validated;
-use dbus_value::Limits;
+use dbus_value_model::Limits;
 use dbus_view::MessageView;
 use std::alloc::{AllocError, Global};
 

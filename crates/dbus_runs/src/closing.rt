@@ -7,7 +7,7 @@ use crate::count_lines::ok_line;
 use crate::counted::Counted;
 use dbus_report::{Cause, ExitStatus, refused_line};
 use dbus_stream::{Sink, WrittenOnly, write_all};
-use dbus_value::Fault;
+use dbus_value_model::Fault;
 use std::alloc::{AllocError, Allocator};
 
 /// Writes the line of what was counted.

@@ -1,6 +1,6 @@
 //! What was read of an input, and why no more.
 use dbus_stream::ReadFault;
-use dbus_value::Fault;
+use dbus_value_model::Fault;
 
 /// Why there is no next message.
 #[derive(Clone, Copy, Debug, PartialEq, Eq)]

@@ -10,7 +10,7 @@ use crate::counted::Counted;
 use crate::handing::ended_by;
 use dbus_report::Cause;
 use dbus_stream::{CheckReader, Source};
-use dbus_value::Limits;
+use dbus_value_model::Limits;
 
 // Counts the messages of the reader, up to the end of the input or a fault.
 fn count_all<R: Source>(messages: &mut CheckReader<R>) -> Result<Counted, Cause>

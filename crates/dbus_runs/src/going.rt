@@ -13,7 +13,7 @@ use crate::tally::{Tally, closing_line, tells_first};
 use dbus_command::{Command, Settings};
 use dbus_report::{Cause, ExitStatus, Gathered, Refusal, give_up, refusal_text};
 use dbus_stream::{RawReader, ReadFault, Sink, Source, WrittenOnly, write_all};
-use dbus_value::Fault;
+use dbus_value_model::Fault;
 use std::alloc::{AllocError, Allocator};
 
 /// Why a run is given up.

@@ -13,7 +13,7 @@ use dbus_json::write_json;
 use dbus_report::{Cause, Gathered, Page};
 use dbus_stream::Sink;
 use dbus_validate::Validated;
-use dbus_value::Limits;
+use dbus_value_model::Limits;
 
 /// Writes or gathers the line of JSON of the message that the bytes are.
 pub(crate) fn write_json_line<W: Sink>(

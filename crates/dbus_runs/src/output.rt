@@ -19,7 +19,7 @@ use dbus_command::{Command, Selection, Settings};
 use dbus_match::Owner;
 use dbus_report::{Cause, Gathered, put_out};
 use dbus_stream::Sink;
-use dbus_value::Order;
+use dbus_value_model::Order;
 use std::alloc::{AllocError, Allocator};
 
 /// What a command writes of each message.

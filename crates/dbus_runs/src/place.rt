@@ -2,7 +2,7 @@
 use dbus_command::Window;
 use dbus_match::Owner;
 use dbus_validate::Validated;
-use dbus_value::Limits;
+use dbus_value_model::Limits;
 
 /// The place of a message among the messages of its input.
 #[derive(Clone, Copy, Debug, PartialEq, Eq)]

@@ -11,7 +11,7 @@ use crate::output::{Plan, output_of};
 use dbus_command::{Command, Settings, Window};
 use dbus_report::{ExitStatus, give_up};
 use dbus_stream::{MOST_READS, Sink, Source};
-use dbus_value::Limits;
+use dbus_value_model::Limits;
 use std::alloc::Allocator;
 
 /// Does what [`run_within`] does, with at most 2^32 reads and under the limits of the specification.

@@ -11,7 +11,7 @@ use dbus_report::{Cause, Gathered, Page};
 use dbus_show_view::write_message;
 use dbus_stream::Sink;
 use dbus_validate::Validated;
-use dbus_value::Limits;
+use dbus_value_model::Limits;
 
 /// Writes or gathers the text of the message that the bytes are.
 pub(crate) fn show<W: Sink>(

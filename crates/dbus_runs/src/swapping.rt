@@ -11,7 +11,7 @@ use dbus_report::{Cause, Gathered, put_out};
 use dbus_stream::Sink;
 use dbus_swap::byteswap;
 use dbus_validate::Validated;
-use dbus_value::{Limits, Order};
+use dbus_value_model::{Limits, Order};
 use std::alloc::Allocator;
 
 /// Writes or gathers the message that the bytes are, in the order that is wanted.

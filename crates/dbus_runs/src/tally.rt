@@ -8,7 +8,7 @@ use crate::count_lines::{counts_line, ok_line};
 use crate::counted::Counted;
 use crate::output::Output;
 use dbus_report::ExitStatus;
-use dbus_value::Fault;
+use dbus_value_model::Fault;
 use std::alloc::{AllocError, Allocator};
 
 /// What was handed on and passed over of an input.

@@ -12,7 +12,7 @@ use crate::draft::Draft;
 use crate::numbers::write_integer;
 use crate::values::write_value;
 use dbus_message_model::HeaderField;
-use dbus_value::Value;
+use dbus_value_model::Value;
 use std::alloc::Allocator;
 
 /// Whether a field's code has a meaning. D-Bus Specification, "Header Fields".

@@ -6,7 +6,7 @@ ghost use Rattle.dbus_show.specs.ShownValues.{number_in};
 
 use crate::draft::Draft;
 use crate::hexadecimal::write_hex;
-use dbus_value::Value;
+use dbus_value_model::Value;
 use itoa::{Buffer, Integer};
 use std::alloc::Allocator;
 

@@ -16,7 +16,7 @@ use crate::numbers::write_integer;
 use crate::string_draft::StringDraft;
 use crate::values::write_value;
 use dbus_message_model::{Message, Parts, order_byte};
-use dbus_value::{Order, Value};
+use dbus_value_model::{Order, Value};
 use std::alloc::{AllocError, Allocator};
 
 /// Appends the name of a message type. D-Bus Specification, "Message Format".

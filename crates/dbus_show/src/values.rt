@@ -16,7 +16,7 @@ use crate::hexadecimal::write_hex;
 use crate::numbers::write_number;
 use crate::types::write_type;
 use dbus_types::{SigType, is_byte};
-use dbus_value::{Value, plain_type_of};
+use dbus_value_model::{Value, plain_type_of};
 use std::alloc::Allocator;
 
 /// Appends the text of a value.

@@ -9,7 +9,7 @@ use crate::lengths::Lengths;
 use crate::reader::Reader;
 use crate::reads::MOST_READS;
 use dbus_device::Source;
-use dbus_value::Limits;
+use dbus_value_model::Limits;
 
 /// Reads messages from a source, one after another, by a buffer of 262,144 bytes inside it, and returns their lengths.
 ///

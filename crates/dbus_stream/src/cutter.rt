@@ -13,8 +13,10 @@ use crate::decoded::decoded;
 use crate::gatherer::Gatherer;
 use crate::stream_fault::StreamFault;
 use crate::taker::Taker;
-use dbus_message::{Answer, Message, decode_known, stated_length_within};
-use dbus_value::{Fault, Limits, Order, Reason, Refusal};
+use dbus_decode::{Answer, decode_known};
+use dbus_header::stated_length_within;
+use dbus_message_model::Message;
+use dbus_value_model::{Fault, Limits, Order, Reason, Refusal};
 use std::alloc::{Allocator, Global};
 use std::marker::Model;
 

@@ -3,8 +3,8 @@ ghost use Rattle.std.specs.Prelude.{length};
 ghost use Rattle.dbus_decode.specs.Decodes.{Decodes};
 ghost use Rattle.dbus_stream.specs.Decoded.{IsInside};
 
-use dbus_message::{Answer, decode_within};
-use dbus_value::{Limits, Refusal};
+use dbus_decode::{Answer, decode_within};
+use dbus_value_model::{Limits, Refusal};
 use std::alloc::Allocator;
 
 /// What `decode_within` returns. A message has at least one byte, and all of its bytes are there.

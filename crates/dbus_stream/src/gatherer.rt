@@ -10,7 +10,7 @@ use crate::stream_fault::StreamFault;
 use crate::taker::Taker;
 use dbus_check::{Check, Checker};
 use dbus_validate::{Validated, validate_first, validate_known};
-use dbus_value::Limits;
+use dbus_value_model::Limits;
 use std::alloc::Allocator;
 use std::marker::Model;
 use std::mem;

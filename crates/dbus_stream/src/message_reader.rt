@@ -7,8 +7,8 @@ use crate::read_fault::ReadFault;
 use crate::reader::Reader;
 use crate::reads::MOST_READS;
 use dbus_device::Source;
-use dbus_message::Message;
-use dbus_value::{Limits, Order};
+use dbus_message_model::Message;
+use dbus_value_model::{Limits, Order};
 use std::alloc::{Allocator, Global};
 
 /// Reads messages from a source, one after another, by a buffer of 4,096 bytes inside it.

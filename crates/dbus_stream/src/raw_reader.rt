@@ -9,9 +9,9 @@ use crate::read_fault::ReadFault;
 use crate::reader::Reader;
 use crate::reads::MOST_READS;
 use dbus_device::Source;
-use dbus_message::stated_length_within;
+use dbus_header::stated_length_within;
 use dbus_validate::Validated;
-use dbus_value::{Fault, Limits, Reason};
+use dbus_value_model::{Fault, Limits, Reason};
 use std::alloc::{Allocator, Global};
 
 /// Reads messages from a source, one after another, by a buffer of 262,144 bytes inside it, and lends or copies their bytes.

@@ -7,7 +7,7 @@ use crate::read_fault::ReadFault;
 use crate::stream_fault::StreamFault;
 use crate::taker::Taker;
 use dbus_device::{DeviceFault, Source};
-use dbus_value::{Fault, Reason};
+use dbus_value_model::{Fault, Reason};
 
 /// Reads messages from a source, one after another, by a buffer inside it, and gives what its taker makes of
 /// each: a [`crate::MessageReader`] the message, a [`crate::CheckReader`] its length.

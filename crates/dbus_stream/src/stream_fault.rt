@@ -1,5 +1,5 @@
 //! Why a cutter returns no message.
-use dbus_value::Fault;
+use dbus_value_model::Fault;
 use thiserror::Error;
 
 /// Why a cutter returns no message.

@@ -6,8 +6,9 @@ ghost use Rattle.dbus_stream.specs.Write.{WritesMessage};
 
 use crate::write_fault::WriteFault;
 use dbus_device::{Sink, WrittenOnly, write_all};
-use dbus_message::{Message, encode};
-use dbus_value::Order;
+use dbus_encode::encode;
+use dbus_message_model::Message;
+use dbus_value_model::Order;
 use std::alloc::Allocator;
 
 /// Writes the bytes that spell the message in this order.
