@@ -10,8 +10,8 @@ use Rattle.dbus_match.specs.Faults.{IsFault}
 use Rattle.dbus_match.specs.Matching.{Ownership}
 use Rattle.dbus_match.specs.Rules.{Pair, SpellsRule}
 use Rattle.dbus_match.specs.RuleViews.{rule_pairs}
-use Rattle.dbus_count.specs.declared.form.Form.{Form}
-use Rattle.dbus_count.specs.declared.form.Form.TheVariants as written
+use Rattle.dbus_command.specs.declared.form.Form.{Form}
+use Rattle.dbus_command.specs.declared.form.Form.TheVariants as written
 use Rattle.dbus_handshake_input.specs.declared.side.Side.{Side}
 use Rattle.dbus_handshake_input.specs.declared.side.Side.TheVariants.{Client, Server}
 use Rattle.dbus_command.specs.CommandLine.{wire_app}

@@ -1,7 +1,7 @@
 //! What words ask for.
 use crate::command::Command;
+use crate::form::Form;
 use crate::settings::Settings;
-use dbus_count::Form;
 use dbus_handshake_input::Side;
 
 /// What the words of a command line ask for.

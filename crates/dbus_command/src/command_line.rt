@@ -7,6 +7,7 @@ ghost use Rattle.dbus_command.specs.Told.{TellsKind, Tells, TellsCommand, TellsF
 
 use crate::asked::Asked;
 use crate::command::Command;
+use crate::form::Form;
 use crate::limits_named::{limits_named, window_named};
 use crate::owners::owners_given;
 use crate::rules::rules_spelled;
@@ -16,7 +17,6 @@ use crate::usage_fault::{UsageFault, bad_value, usage};
 use crate::wire::wire;
 use clap::ArgMatches;
 use clap::error::ErrorKind;
-use dbus_count::Form;
 use dbus_handshake_input::Side;
 use dbus_match::Owner;
 use dbus_value_model::Order;

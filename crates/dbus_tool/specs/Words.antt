@@ -20,6 +20,10 @@ use Rattle.dbus_handshake_input.specs.declared.side.Side.{Side}
 use Rattle.dbus_command.specs.declared.asked.Asked.{Asked}
 use Rattle.dbus_command.specs.declared.asked.Asked.TheVariants.{Messages, Count, Handshake}
 use Rattle.dbus_command.specs.declared.command.Command.{Command}
+use Rattle.dbus_command.specs.declared.form.Form.{Form}
+use Rattle.dbus_command.specs.declared.form.Form.TheVariants as asked
+use Rattle.dbus_count.specs.declared.form.Form as tables
+use Rattle.dbus_count.specs.declared.form.Form.TheVariants as written
 use Rattle.dbus_command.specs.declared.settings.Settings.{Settings}
 use Rattle.dbus_command.specs.declared.usage_fault.RefusedRule.{RefusedRule}
 use Rattle.dbus_command.specs.declared.usage_fault.UsageFault.{UsageFault}
@@ -45,10 +49,15 @@ abbrev pub RunsBy : {R W E : Type 0} → (more : Bool) → Reading R → Writing
 RunsBy false r w e settings command end = Runs r w e settings.limits (2 ^ 32) command end
 RunsBy true r w e settings command end = RunsWith r w e settings (2 ^ 32) command end
 
+-- the form in which the tables are written
+abbrev pub table_form : Form → tables.Form
+table_form asked.Text = written.Text
+table_form asked.Json = written.Json
+
 -- what is done with messages by settings: a command is run, or they are counted by their names
 abbrev pub DoesBy : {R W E : Type 0} → Reading R → Writing W → Writing E → Settings → Task → ExitStatus → Type 0
 DoesBy r w e settings (Run command) end = RunsBy (ask_more settings) r w e settings command end
-DoesBy r w e settings (CountAll form) end = CountsByName r w e settings form (2 ^ 32) end
+DoesBy r w e settings (CountAll form) end = CountsByName r w e settings (table_form form) (2 ^ 32) end
 
 -- what is said of a rule whose sender has no owner
 abbrev pub owner_note : List ℕ

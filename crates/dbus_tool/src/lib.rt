@@ -10,9 +10,8 @@ mod rule_lines;
 mod words;
 
 pub use dbus_command::{
-    Asked, Command, RefusedRule, Selection, Settings, Side, UsageFault, Window, command_of,
+    Asked, Command, Form, RefusedRule, Selection, Settings, Side, UsageFault, Window, command_of,
 };
-pub use dbus_count::Form;
 pub use dbus_handshake_input::ReadAhead;
 pub use dbus_report::ExitStatus;
 pub use dbus_runs::{run, run_reads, run_with, run_within};

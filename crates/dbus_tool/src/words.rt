@@ -5,13 +5,12 @@ ghost use Rattle.dbus_command.specs.Windows.{ask_more};
 ghost use Rattle.dbus_report.specs.Devices.{reading, writing};
 ghost use Rattle.dbus_tool.specs.Handshaking.{Shows, TellsHandshake};
 ghost use Rattle.dbus_tool.specs.Listing.{Lists};
-ghost use Rattle.dbus_tool.specs.Words.{DoesBy, DoesFrom, RefusesRule, RunsBy, RunsNoted, RunsWords, ShowsText};
+ghost use Rattle.dbus_tool.specs.Words.{DoesBy, DoesFrom, RefusesRule, RunsBy, RunsNoted, RunsWords, ShowsText, table_form};
 
 use crate::lines::handshake_line;
 use crate::listing::write_lines;
 use crate::rule_lines::rule_text;
-use dbus_command::{Asked, Command, RefusedRule, Settings, UsageFault, command_of};
-use dbus_count::Form;
+use dbus_command::{Asked, Command, Form, RefusedRule, Settings, UsageFault, command_of};
 use dbus_handshake_input::{HandshakeFault, ReadAhead, Side, pass_handshake};
 use dbus_report::{Cause, ExitStatus, Unwritten, give_up};
 use dbus_runs::{count_by_name, run_with, run_within};
@@ -153,7 +152,19 @@ fn do_by<R: Source, W: Sink, E: Sink>(
 {
     match task {
         Task::Run(command) => run_by(alloc, command, settings, reader, first, second),
-        Task::CountAll(form) => count_by_name(alloc, settings, form, reader, first, second),
+        Task::CountAll(form) => {
+            count_by_name(alloc, settings, table_form(form), reader, first, second)
+        }
+    }
+}
+
+// The form of tables, as they are written.
+fn table_form(form: Form) -> dbus_count::Form
+    ensures { result ≡ table_form form }
+{
+    match form {
+        Form::Text => dbus_count::Form::Text,
+        Form::Json => dbus_count::Form::Json,
     }
 }
 
