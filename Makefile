@@ -8,7 +8,7 @@
 # make readme-test runs the commands of README.md, by what make build made or else without proofs, and compares what they write;
 #                  those of docs/RECIPES.md too, if make build made dbus-wire
 # make build       proves dbus-wire and all below it, on all processors, and builds it: half an hour on four
-# make test        the gate: every proof from nothing, the must-fail edits, the tests and the programs' stored runs
+# make test        the gate: every proof from nothing, the wrong bodies that are due, the tests and the programs' stored runs
 # make gate-times  the gate, and the processor minutes of each of its steps
 # make library     proves and builds the library for C, static and shared
 # make peers       compares the message cases with libdbus, GDBus and sd-bus, and writes docs/PEERS.md
@@ -22,7 +22,7 @@
 #                  compilers need. install-python installs the module for Python in PYTHONDIR
 # make deb         packages both for Debian, by dpkg-deb, in out/
 # make tarball     packs both, and a checksum, in out/
-# make wrong-bodies prints the wrong bodies that the prover refuses, and what refuses each
+# make wrong-bodies prints the wrong bodies that the prover refuses, and what refuses each; bench/wrong_bodies.py tries those that are due, some or all
 # make instructions prints the instructions per byte of each command, by valgrind, and of libdbus if its headers are there
 # make bench       MB/s of each command on several streams, by user and system time, and of the calls of the libraries
 # make bench-c     nanoseconds of calls of the library for C, and of a set of 100,000 match rules
@@ -83,10 +83,8 @@ library: kit
 	$(CC) -shared -o $(SHARED) -Wl,-soname,$(SONAME) -Wl,--whole-archive $(ARCHIVE) -Wl,--no-whole-archive \
 		-Wl,--version-script=include/libdbus_wire.map -Wl,-z,defs -Wl,-z,text
 
-# (what a killed build left, rt ci would refuse)
 test: kit
-	rm -rf out/building
-	rt ci
+	.ci/run
 
 test-c: build library
 	examples/test.sh $(PROGRAM) $(ARCHIVE) $(SHARED)
@@ -98,7 +96,6 @@ test-memory: build
 	bench/refused_memory.py $(PROGRAM) samples/big-endian.dbus
 
 gate-times: kit
-	rm -rf out/building
 	bench/gate_times.py
 
 wrong-bodies:

@@ -1,11 +1,9 @@
 #!/usr/bin/env python3
-"""gate_times.py [WORD..]: runs the gate, `rt ci` with these words, and prints the processor minutes of each of its steps, crate by crate.
-
-With `--anew` nothing counts that earlier runs kept; with names of crates it runs for these and those below them alone.
+"""gate_times.py [WORD..]: runs the gate, `.ci/run` with these words, and prints the processor minutes of each of its steps, crate by crate.
 
 A step's processes are looked at twice a second, so each process may be counted half a second short. What is left over,
 as building and running the tests, stands under `other`. Last it says how long the gate would take on two and on four
-processors by these figures, if each step had one. The exit status is that of `rt ci`.
+processors by these figures, if each step had one. The exit status is that of the gate.
 """
 
 import collections
@@ -15,7 +13,7 @@ import sys
 import threading
 import time
 
-from crate_list import read_crates
+from crate_list import ROOT, read_crates
 
 STEPS = ("proof", "tests", "edits")
 TICKS = os.sysconf("SC_CLK_TCK")
@@ -127,7 +125,7 @@ def simulate(minutes, processors):
 
 def main():
     began, used, ended = time.time(), {}, threading.Event()
-    gate = subprocess.Popen(["rt", "ci", *sys.argv[1:]])
+    gate = subprocess.Popen([ROOT / ".ci" / "run", *sys.argv[1:]])
     watcher = threading.Thread(target=watch, args=(gate.pid, used, ended))
     watcher.start()
     _, status, resources = os.wait4(gate.pid, 0)

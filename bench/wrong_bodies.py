@@ -1,89 +1,76 @@
 #!/usr/bin/env python3
-"""Prints the wrong bodies that the prover has to refuse, crate by crate, from the files crates/NAME/must-fail/*.edit.
+"""wrong_bodies.py [--due | --all | --draw N] [NAME..]: prints or tries the wrong bodies that the prover has to refuse (bench/edits.py).
 
-The lines of such a file:
+Without an option it prints them, crate by crate, with what refuses each. With --due it tries those of each crate that has changed since they were
+tried, or of which what it sees of the crates below has; with --all all of them, and with --draw N so many, which the commit's hash draws. With names,
+only of these crates. They are tried in a copy, by `rt must-fail`. A crate's file wrong/TRIED then has on what all of them were refused.
 
-    calls:   the public calls whose meaning it turns, as crate::function
-    clause:  the clause that refuses it, or the definition in it; `CLAUSE of STEP` if it is that of a step below the call
-    file:    the file that it changes
-    old:     a text that stands once in that file
-    new:     what stands there in its place
-
-The exit status is 1 if a file lacks one of these lines, names a call that is not there, or cannot be applied.
+The exit status is 1 if the file of one lacks a line, names a call that is not there or cannot be applied, or if one that was tried was not refused
+at the goal that it names.
 """
 
-import collections
-import pathlib
-import re
+import argparse
 import sys
 
-CRATES = pathlib.Path(__file__).resolve().parent.parent / "crates"
-
-Edit = collections.namedtuple("Edit", "path calls clause changes")
-Change = collections.namedtuple("Change", "file old new")
-
-
-def read_edit(path):
-    said, changes = {}, []
-    for line in path.read_text().splitlines():
-        word, _, text = line.partition(":")
-        said[word] = text.removeprefix(" ")
-        if word == "new":
-            changes.append(Change(said.get("file"), said.pop("old", ""), said["new"]))
-    calls = said.get("calls", "").split(", ")
-    return Edit(path, [it for it in calls if it], said.get("clause", ""), changes)
-
-
-def is_call(call):
-    crate, *_, function = call.split("::")
-    sources = (CRATES / crate).glob("src/*.rt")
-    return any(re.search(rf"\bfn {function}\b", it.read_text()) for it in sources)
-
-
-def faults_of(edit):
-    for word, said in (("calls", edit.calls), ("clause", edit.clause), ("new", edit.changes)):
-        if not said:
-            yield f"no line `{word}:`"
-    for call in edit.calls:
-        if not is_call(call):
-            yield f"no call {call}"
-    texts = {}
-    for file, old, new in edit.changes:
-        path = edit.path.parent.parent / str(file)
-        if not path.is_file():
-            yield f"no file {file}"
-            continue
-        # A later pair changes what an earlier one left.
-        text = texts.get(file) or path.read_text()
-        found = text.count(old) if old else 0
-        if found != 1:
-            yield f"`{old.strip()}` stands {found} times in {file}"
-        texts[file] = text.replace(old, new)
+from crate_list import read_crates
+from edits import all_edits, edits_in, faults_of, relative
+from trying import copy_with, drawn_edits, due_edits, hold, link_libraries, note_tried, refusals_in, run_in, tell
 
 
 def print_edit(edit):
-    print(f"\n  {edit.path.stem}")
+    print(f"\n  {edit.path.parent.name}/{edit.path.stem}")
     print(f"    calls   {', '.join(edit.calls)}")
     print(f"    clause  {edit.clause}")
+    print(f"    left    {edit.left}")
     for file, old, new in edit.changes:
         print(f"    {file}")
         print(f"      - {old.strip()}")
         print(f"      + {new.strip()}")
 
 
-def main():
-    total, faults = 0, []
-    for folder in sorted(CRATES.glob("*/must-fail")):
-        edits = [read_edit(path) for path in sorted(folder.glob("*.edit"))]
-        total += len(edits)
-        print(f"\n{folder.parent.name}: {len(edits)}")
+def print_edits(crates):
+    for crate in crates:
+        edits = edits_in(crate, "wrong", "must-fail")
+        if edits:
+            print(f"\n{crate}: {len(edits)}")
         for edit in edits:
             print_edit(edit)
-            faults += [f"{edit.path.relative_to(CRATES.parent)}: {it}" for it in faults_of(edit)]
-    print(f"\n{total} wrong bodies")
+
+
+def find_faults(edits):
+    """The edits whose files are not as they have to be, each with why."""
+    return [f"{relative(edit)}: {fault}" for edit in edits for fault in faults_of(edit)]
+
+
+def try_edits(edits):
+    """Whether all were refused where they should be."""
+    with copy_with(edits) as copy:
+        link_libraries(copy)
+        _, lines = run_in(copy, "rt", "must-fail", *dict.fromkeys(it.crate for it in edits))
+    faults = hold(edits, refusals_in(lines))
+    note_tried(edits, faults)
+    tell(edits, faults)
+    return not faults
+
+
+def main():
+    words = argparse.ArgumentParser(description=__doc__.splitlines()[0])
+    words.add_argument("--due", action="store_true")
+    words.add_argument("--all", action="store_true")
+    words.add_argument("--draw", type=int, metavar="N")
+    words.add_argument("names", nargs="*", metavar="NAME")
+    given = words.parse_args()
+    crates = given.names or [*read_crates()]
+    faults = find_faults([it for it in all_edits() if it.crate in crates])
     for fault in faults:
         print(fault, file=sys.stderr)
-    return 1 if faults else 0
+    if not (given.due or given.all or given.draw):
+        print_edits(crates)
+        print(f"\n{sum(it.crate in crates for it in all_edits())} wrong bodies")
+        return 1 if faults else 0
+    edits = all_edits() if given.all else due_edits() if given.due else drawn_edits(given.draw)
+    edits = [it for it in edits if it.crate in crates]
+    return 1 if faults or edits and not try_edits(edits) else 0
 
 
 if __name__ == "__main__":
