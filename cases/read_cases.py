@@ -1,7 +1,9 @@
 #!/usr/bin/env python3
 """read_cases.py FILE..: says how many cases each file has. Other scripts import it to read the cases; cases/README.md has the format."""
 
+import pathlib
 import re
+import shlex
 import sys
 
 ITEM = re.compile(r'(?:(\d+)\*)?(?:"((?:[^"\\]|\\.)*)"|((?:[0-9a-f]{2})+))(?:\s+|$)')
@@ -26,6 +28,24 @@ def read_bytes(column):
         plain = text is not None and ESCAPE.sub(lambda it: bytes.fromhex(it[1].decode()) if it[1] else it[2], text.encode())
         found += int(times or 1) * (bytes.fromhex(digits) if digits else plain)
         at = item.end()
+    return found
+
+
+def read_words(column):
+    """The words of a command line."""
+    return shlex.split(column)
+
+
+def read_parts(column, folder):
+    """The bytes that a column of a run spells, with what it names of the folder; or None if it is `unread`."""
+    if column == "unread":
+        return None
+    parts = dict(read_cases(pathlib.Path(folder, "parts.txt")))
+    items, *named = column.removeprefix("whole ").split("@")
+    found = read_bytes(items)
+    for name, _, items in (it.partition(" ") for it in named):
+        found += pathlib.Path(folder, name).read_bytes() if "." in name else read_bytes(parts[name])
+        found += read_bytes(items)
     return found
 
 
