@@ -1,6 +1,7 @@
 # make run         builds dbus-wire without its proofs, in 40 seconds, and checks a sample capture; ARGS='show' FILE=my.dbus for
 #                  another command and capture
 # make quick-test  the tests, the programs that compare every case and the examples of doc comments, without proofs: some minutes
+#                  It also holds the manual page and the completions against the texts of help
 # make api         prints docs/API.md, the calls of the libraries, out of the sources; make quick-test checks that it is current
 # make definitions writes the tables of docs/DEFINITIONS.md and docs/WORKED-EXAMPLES.md out of the definitions and their examples; make definitions-check, and quick-test,
 # check them
@@ -70,6 +71,7 @@ kit:
 
 quick-test: kit definitions-check
 	bench/api.py --check
+	bench/options_check.py
 	bench/doc_examples.py
 	bench/quick_test.py
 

@@ -1,0 +1,120 @@
+#!/usr/bin/env python3
+"""options_check.py: whether the manual page, the completions and the cases name the commands and options that the texts of help name, and no others.
+
+The texts of help are crates/tool_cases/data/*.help, which the program prints, as the cases there say.
+"""
+
+import pathlib
+import re
+import sys
+
+HERE = pathlib.Path(__file__).resolve().parent.parent
+DATA = HERE / "crates/tool_cases/data"
+PROGRAM = "dbus-wire"
+OPTION = re.compile(r"(?<![\w-])(--[a-z]+(?:-[a-z]+)*)")
+# A line of help for an option, with its letter if it has one.
+HELP_LINE = re.compile(r"^  (?:-[a-zA-Z], |    )(--[a-z-]+)", re.M)
+# A line of help for a command.
+COMMAND_LINE = re.compile(r"^  ([a-z]+)  ", re.M)
+
+
+def text_of(path):
+    return (HERE / path).read_text(encoding="utf-8")
+
+
+def help_of(name):
+    return (DATA / f"{name}.help").read_text(encoding="utf-8")
+
+
+def commands():
+    """The commands that the help of the program names."""
+    _, _, after = help_of(PROGRAM).partition("\nCommands:\n")
+    return set(COMMAND_LINE.findall(after.partition("\n\n")[0]))
+
+
+def options():
+    """The options of each command that has any, by the texts of help, and those of the program."""
+    return {path.stem: set(HELP_LINE.findall(path.read_text(encoding="utf-8"))) for path in DATA.glob("*.help")}
+
+
+def manual():
+    """The commands and the options that the manual page describes."""
+    page = text_of("man/dbus-wire.1").replace("\\-", "-")
+    described, shown = page.split(".SH OPTIONS\n")[1].split(".SH MATCH RULES\n")[0], page.split(".SH COMMANDS\n")[1].split(".SH OPTIONS\n")[0]
+    heads = re.findall(r"^\.TP\n(.*)", described, re.M)
+    names = {it for head in heads for it in OPTION.findall(head.replace("\\fI", " "))}
+    return {it.split()[1] for it in re.findall(r"^\.TP\n(.*)", shown, re.M)}, names
+
+
+def synopsis(command):
+    """The options that the manual page's synopsis gives a command."""
+    page = text_of("man/dbus-wire.1").replace("\\-", "-").split(".SH DESCRIPTION")[0]
+    lines = [it for it in page.split("\n.br\n") if re.search(rf"^\.B dbus-wire {command}\b", it, re.M)]
+    named = {option for line in lines for option in OPTION.findall(line)}
+    return named | ({"--max-message", "--max-array", "--max-depth", "--fds"} if any("LIMITS" in it for it in lines) else set())
+
+
+def bash(command):
+    """The options that bash completes for a command."""
+    text = text_of("completions/dbus-wire.bash")
+    shared = re.search(r"local options='([^']*)'", text)[1]
+    body = re.search(rf"^        (?:\w+ \| )*{command}(?: \| \w+)*\)\n(.*?);;", text, re.M | re.S)
+    return set(OPTION.findall(body[1].replace("$options", shared))) if body else set()
+
+
+def zsh(command):
+    """The options that zsh completes for a command."""
+    text = text_of("completions/_dbus-wire")
+    lists = {name: body for name, body in re.findall(r"local -a (\w+)=\(\n(.*?)\n    \)", text, re.S)}
+    lists["going"] = re.search(r"local going=(.*)", text)[1]
+    body = re.search(rf"^        (?:\w+ \| )*{command}(?: \| \w+)*\)\n(.*?);;", text, re.M | re.S)
+    whole = re.sub(r"\$(options|window|going)", lambda it: lists[it[1]], body[1] if body else "")
+    return set(OPTION.findall(re.sub(r"\[[^]]*\]", "", whole)))
+
+
+def fish(command):
+    """The options that fish completes for a command. The first `-h` is for all."""
+    found = {"--help"}
+    text = text_of("completions/dbus-wire.fish")
+    everywhere = re.search(r"^for command in (.*)$", text, re.M)[1].split()
+    for seen, option in re.findall(r"""__fish_seen_subcommand_from ([^'"]+)['"] -l ([a-z-]+)""", text):
+        names = everywhere if seen == "$command" else seen.split()
+        found |= {f"--{option}"} if command in names else set()
+    return found
+
+
+def cases(command):
+    """The options that the cases of a command give it, those of help in `words.txt`."""
+    rows = [line.split(" | ")[1] for name in (command, "words") for line in (DATA / f"{name}.txt").read_text(encoding="utf-8").splitlines()
+            if line[:1] not in ("", "#")]
+    return {option for row in rows if row.split(" ")[0] == command for option in OPTION.findall(row)}
+
+
+def main():
+    """0 if all is named."""
+    wrong = []
+
+    def hold(where, wanted, found):
+        wrong.extend(f"{where}: {it} is missing" for it in sorted(wanted - found))
+        wrong.extend(f"{where}: {it} is in no text of help" for it in sorted(found - wanted))
+
+    options_of, all_commands = options(), commands()
+    described, named = manual()
+    hold("the manual page's commands", all_commands, described)
+    hold("the manual page's options", set().union(*options_of.values()), named)
+    hold("the files of help", all_commands - {"help"}, set(options_of) - {PROGRAM})
+    for path in ("completions/dbus-wire.bash", "completions/_dbus-wire", "completions/dbus-wire.fish"):
+        words = set(re.findall(r"[a-z]+", text_of(path)))
+        hold(path, all_commands, words & all_commands)
+    for command in sorted(all_commands - {"help"}):
+        wanted = options_of[command]
+        hold(f"the synopsis of {command}", wanted - {"--help"}, synopsis(command))
+        for shell in (bash, zsh, fish):
+            hold(f"{shell.__name__} for {command}", wanted, shell(command))
+        wrong.extend(f"the cases of {command}: {it} is missing" for it in sorted(wanted - cases(command)))
+    print("\n".join(wrong) or f"{len(all_commands)} commands, {len(set().union(*options_of.values()))} options: all are named")
+    return 1 if wrong else 0
+
+
+if __name__ == "__main__":
+    sys.exit(main())
