@@ -4,7 +4,8 @@ use anyhow::Result;
 use case_files::{Case, bytes_of};
 use std::fs;
 
-// Puts the bytes that a name stands for: those of a file, if the name has a period, or else of the part of that name.
+// Puts the bytes that a name stands for: those of a file, if the name has a period, or else of the
+// part of that name.
 fn put_named(
     rt: &HostRuntime,
     parts: &[Case],

@@ -1,8 +1,9 @@
-//! `tool_cases`: holds the program, over the words of its command line, against the cases of a file for each command.
+//! `tool_cases`: holds the program, over the words of its command line, against the cases of files.
 //!
-//! `words.txt` has words that ask for help or the version, and wrong ones; each other file has runs of the command that it is
-//! named after. A case has the words, the input, the exit status, and what is written on standard output and on standard
-//! error. A line is printed for each run that ends otherwise, and then one for each file. It reads no input.
+//! `words.txt` has words that ask for help or the version, and wrong ones; each other file has runs
+//! of the command that it is named after. A case has the words, the input, the exit status, and
+//! what is written on standard output and on standard error. A line is printed for each run that
+//! ends otherwise, and then one for each file. It reads no input.
 #![tactic(auto)]
 
 mod columns;

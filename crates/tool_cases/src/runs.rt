@@ -9,7 +9,8 @@ use case_files::{Case, Tally};
 use dbus_tool::{ReadAhead, run_words};
 use std::alloc::Global;
 
-// How many bytes the reader and both writers move a call: less and more than the first 16 bytes of a message, and than short ones.
+// How many bytes the reader and both writers move a call: less and more than the first 16 bytes of
+// a message, and than short messages. The first brings an input at once.
 const SIZES: [(usize, &str); 9] = [
     (100_000, "by 100000"),
     (1, "by 1"),

@@ -17,7 +17,8 @@ fn quoted(words: &str) -> Option<(&str, &str)> {
     }
 }
 
-// The first word, and what comes after it. A word is not quoted in part, so that a shell reads the column in the same way.
+// The first word, and what comes after it. A word is not quoted in part, so that a shell reads the
+// column in the same way.
 fn word_of(words: &str) -> Option<(&str, &str)> {
     if let Some(rest) = words.strip_prefix('"') {
         return quoted(rest);
