@@ -16,16 +16,8 @@ pub(crate) const RETURN_TEXT: &[u8] = b"#1 l method_return serial=1 flags=01 rep
 pub(crate) const RETURN_JSON: &[u8] =
     b"{\"number\":1,\"offset\":0,\"length\":24,\"order\":\"l\",\"type\":\"method_return\",\"flags\":1,\"serial\":1,\"reply_serial\":1,\"fields\":[],\"body\":[]}\n";
 
-/// The same in Big, as the second, third and fourth of some messages.
-pub(crate) const BIG_AS_SECOND: &[u8] = b"#2 B method_return serial=1 flags=01 reply_serial=1\n";
-
+/// The same in Big, as the third of some messages.
 pub(crate) const BIG_AS_THIRD: &[u8] = b"#3 B method_return serial=1 flags=01 reply_serial=1\n";
-
-pub(crate) const BIG_AS_FOURTH: &[u8] = b"#4 B method_return serial=1 flags=01 reply_serial=1\n";
-
-/// The line of JSON of the one in Big, as the third after 120 bytes.
-pub(crate) const BIG_JSON_AS_THIRD: &[u8] =
-    b"{\"number\":3,\"offset\":120,\"length\":24,\"order\":\"B\",\"type\":\"method_return\",\"flags\":1,\"serial\":1,\"reply_serial\":1,\"fields\":[],\"body\":[]}\n";
 
 /// The first 5 bytes of the one in Little.
 pub(crate) const FRONT: &[u8] = b"\x6c\x02\x01\x01\x00";
@@ -55,49 +47,9 @@ pub(crate) const SIGNAL: &[u8] =
 pub(crate) const SIGNAL_AS_SECOND: &[u8] =
     b"#2 l signal serial=2 flags=00 path=/a interface=a.b member=C signature=sv\n  s:\"hi\"\n  <au:[u:1, u:2]>\n";
 
-/// Its line of JSON, as the second after 24 bytes.
-pub(crate) const SIGNAL_JSON_AS_SECOND: &[u8] =
-    b"{\"number\":2,\"offset\":24,\"length\":96,\"order\":\"l\",\"type\":\"signal\",\"flags\":0,\"serial\":2,\"path\":\"/a\",\"interface\":\"a.b\",\"member\":\"C\",\"signature\":\"sv\",\"fields\":[],\"body\":[\"hi\",{\"type\":\"au\",\"value\":[1,2]}]}\n";
-
 /// The header of a method return with a body of 5,000 bytes in an array, and the length of that array.
 pub(crate) const LONG_HEADER: &[u8] =
     b"\x6c\x02\x00\x01\x8c\x13\x00\x00\x01\x00\x00\x00\x10\x00\x00\x00\x05\x01\x75\x00\x01\x00\x00\x00\x08\x01\x67\x00\x02\x61\x79\x00\x88\x13\x00\x00";
-
-/// The header of a method return with a body of 2,700 signatures in an array, the length of that array, and the text up to
-/// the first of them.
-pub(crate) const SIGNATURES_HEADER: &[u8] =
-    b"\x6c\x02\x00\x01\x1c\x15\x00\x00\x01\x00\x00\x00\x10\x00\x00\x00\x05\x01\x75\x00\x01\x00\x00\x00\x08\x01\x67\x00\x02\x61\x67\x00\x18\x15\x00\x00";
-
-pub(crate) const SIGNATURES_TEXT: &[u8] =
-    b"#1 l method_return serial=1 flags=00 reply_serial=1 signature=ag\n  ag:[";
-
-/// Method returns with bodies of `h`, with which one descriptor comes: the index 0, and the index 1.
-pub(crate) const INDEX_OF_ONE: &[u8] =
-    b"\x6c\x02\x00\x01\x04\x00\x00\x00\x01\x00\x00\x00\x18\x00\x00\x00\x05\x01\x75\x00\x01\x00\x00\x00\x08\x01\x67\x00\x01\x68\x00\x00\x09\x01\x75\x00\x01\x00\x00\x00\x00\x00\x00\x00";
-
-pub(crate) const INDEX_PAST_ONE: &[u8] =
-    b"\x6c\x02\x00\x01\x04\x00\x00\x00\x01\x00\x00\x00\x18\x00\x00\x00\x05\x01\x75\x00\x01\x00\x00\x00\x08\x01\x67\x00\x01\x68\x00\x00\x09\x01\x75\x00\x01\x00\x00\x00\x01\x00\x00\x00";
-
-/// Messages of a type without a name, which have nothing but a SENDER: `:1.7`, and `:1.8`.
-pub(crate) const FROM_7: &[u8] =
-    b"\x6c\x05\x00\x01\x00\x00\x00\x00\x01\x00\x00\x00\x0d\x00\x00\x00\x07\x01\x73\x00\x04\x00\x00\x00:1.7\x00\x00\x00\x00";
-
-/// The line of JSON of the first of them, as the first message.
-pub(crate) const FROM_7_JSON: &[u8] =
-    b"{\"number\":1,\"offset\":0,\"length\":32,\"order\":\"l\",\"type\":5,\"flags\":0,\"serial\":1,\"sender\":\":1.7\",\"fields\":[],\"body\":[]}\n";
-
-pub(crate) const FROM_8: &[u8] =
-    b"\x6c\x05\x00\x01\x00\x00\x00\x00\x01\x00\x00\x00\x0d\x00\x00\x00\x07\x01\x73\x00\x04\x00\x00\x00:1.8\x00\x00\x00\x00";
-
-/// Signals `NameOwnerChanged`: of the bus, that `:1.7` owns the name `a.b` now, and that nobody does; and the first of another sender.
-pub(crate) const OWNED_BY_7: &[u8] =
-    b"l\x04\x01\x01\x19\x00\x00\x00\x01\x00\x00\x00\x89\x00\x00\x00\x01\x01o\x00\x15\x00\x00\x00/org/freedesktop/DBus\x00\x00\x00\x02\x01s\x00\x14\x00\x00\x00org.freedesktop.DBus\x00\x00\x00\x00\x03\x01s\x00\x10\x00\x00\x00NameOwnerChanged\x00\x00\x00\x00\x00\x00\x00\x00\x07\x01s\x00\x14\x00\x00\x00org.freedesktop.DBus\x00\x00\x00\x00\x08\x01g\x00\x03sss\x00\x00\x00\x00\x00\x00\x00\x00\x03\x00\x00\x00a.b\x00\x00\x00\x00\x00\x00\x00\x00\x00\x04\x00\x00\x00:1.7\x00";
-
-pub(crate) const OWNED_BY_NONE: &[u8] =
-    b"l\x04\x01\x01\x15\x00\x00\x00\x01\x00\x00\x00\x89\x00\x00\x00\x01\x01o\x00\x15\x00\x00\x00/org/freedesktop/DBus\x00\x00\x00\x02\x01s\x00\x14\x00\x00\x00org.freedesktop.DBus\x00\x00\x00\x00\x03\x01s\x00\x10\x00\x00\x00NameOwnerChanged\x00\x00\x00\x00\x00\x00\x00\x00\x07\x01s\x00\x14\x00\x00\x00org.freedesktop.DBus\x00\x00\x00\x00\x08\x01g\x00\x03sss\x00\x00\x00\x00\x00\x00\x00\x00\x03\x00\x00\x00a.b\x00\x00\x00\x00\x00\x00\x00\x00\x00\x00\x00\x00\x00\x00";
-
-pub(crate) const OWNED_BY_7_SAYS_9: &[u8] =
-    b"l\x04\x01\x01\x19\x00\x00\x00\x01\x00\x00\x00y\x00\x00\x00\x01\x01o\x00\x15\x00\x00\x00/org/freedesktop/DBus\x00\x00\x00\x02\x01s\x00\x14\x00\x00\x00org.freedesktop.DBus\x00\x00\x00\x00\x03\x01s\x00\x10\x00\x00\x00NameOwnerChanged\x00\x00\x00\x00\x00\x00\x00\x00\x07\x01s\x00\x04\x00\x00\x00:1.9\x00\x00\x00\x00\x08\x01g\x00\x03sss\x00\x00\x00\x00\x00\x00\x00\x00\x03\x00\x00\x00a.b\x00\x00\x00\x00\x00\x00\x00\x00\x00\x04\x00\x00\x00:1.7\x00";
 
 /// Bytes one after the other.
 pub(crate) fn joined(alloc: Global, parts: &[&[u8]]) -> Result<Vec<u8>, Fail> {

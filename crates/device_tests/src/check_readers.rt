@@ -6,42 +6,31 @@ use dbus_stream::{CheckReader, ReadFault};
 use std::process::Abort;
 use std::test::Fail;
 
-// What a call gives.
-#[derive(Clone, Copy)]
-enum Given {
-    // The length of a message.
-    Length(u64),
-    // None, at the end.
-    Ends,
-    TooMany,
-    Failed,
-}
+// What a call gives: the length of a message, or none, at the end.
+type Given = Result<Option<u64>, ReadFault>;
 
-use Given::{Ends, Failed, Length, TooMany};
+const WHOLE: Given = Ok(Some(24));
 
-fn answer_of(given: Given) -> Result<Option<u64>, ReadFault> {
-    match given {
-        Length(length) => Ok(Some(length)),
-        Ends => Ok(None),
-        TooMany => Err(ReadFault::TooManyReads),
-        Failed => Err(ReadFault::Device),
-    }
-}
+const ENDS: Given = Ok(None);
+
+const TOO_MANY: Given = Err(ReadFault::TooManyReads);
+
+const FAILED: Given = Err(ReadFault::Device);
 
 // How many reads may be made of a reply that comes byte by byte; what the calls give, one after another; and how many bytes
 // the messages have, and how many reads were made.
 const READ: &[(u32, &[Given], [u64; 2])] = &[
-    (0, &[TooMany, TooMany], [0, 0]),
-    (2, &[TooMany, TooMany], [0, 2]),
-    (24, &[Length(24), TooMany, TooMany], [24, 24]),
+    (0, &[TOO_MANY, TOO_MANY], [0, 0]),
+    (2, &[TOO_MANY, TOO_MANY], [0, 2]),
+    (24, &[WHOLE, TOO_MANY, TOO_MANY], [24, 24]),
     // The last read finds the end.
-    (25, &[Length(24), Ends, Ends], [24, 25]),
+    (25, &[WHOLE, ENDS, ENDS], [24, 25]),
 ];
 
 // The calls of the reader of row `n` give this.
 fn calls_give(rt: &impl Abort, n: u64, reader: &mut CheckReader<Pieces>, script: &[Given]) {
     for (i, given) in script.iter().enumerate() {
-        assert_eq!(rt; reader.next(), answer_of(*given), "at {n}, {i}");
+        assert_eq!(rt; reader.next(), *given, "at {n}, {i}");
     }
 }
 
@@ -60,9 +49,9 @@ fn few_reads(rt: HostRuntime) {
 fn read_fails(rt: &impl Abort, bytes: &[u8], n: u64) {
     let size = bytes.len() as u64;
     let script = if n <= size {
-        [Failed, Length(size), Ends]
+        [FAILED, Ok(Some(size)), ENDS]
     } else {
-        [Length(size), Failed, Ends]
+        [Ok(Some(size)), FAILED, ENDS]
     };
     let mut reader = CheckReader::new(Pieces::new(bytes, 1, n));
     calls_give(rt, n, &mut reader, script.as_slice());

@@ -8,121 +8,70 @@ use std::process::Abort;
 use std::test::Fail;
 
 // More than a run moves at once, and none fails.
-const WHOLE: Device = (100_000, 0);
+const ALL: Device = (100_000, 0);
 
-// A run that fails.
-struct Failing {
-    words: &'static [&'static str],
-    input: &'static [&'static [u8]],
-    // The reader and both writers, what these hold in the end, and how often each device failed.
-    devices: [Device; 3],
-    first: &'static [u8],
-    second: &'static [u8],
-    failures: [u64; 3],
-}
+const ONE: &[&[u8]] = &[RETURN];
 
-const FAILING: &[Failing] = &[
-    Failing {
-        words: CHECK,
-        input: &[RETURN],
-        devices: [(1, 5), BY_ONE, BY_ONE],
-        first: b"",
-        second: b"read failed\n",
-        failures: [1, 0, 0],
-    },
-    Failing {
-        words: CHECK,
-        input: &[RETURN],
-        devices: [BY_ONE, (1, 3), BY_ONE],
-        first: b"ok",
-        second: b"write failed\n",
-        failures: [0, 1, 0],
-    },
-    Failing {
-        words: CHECK,
-        input: &[RETURN],
-        devices: [BY_ONE, (1, 3), (1, 1)],
-        first: b"ok",
-        second: b"",
-        failures: [0, 1, 1],
-    },
+const CUT: &[&[u8]] = &[RETURN, FRONT];
+
+const BEHIND: &[&[u8]] = &[b"\0AUTH\r\nBEGIN\r\n", RETURN];
+
+const CLIENT: &[&str] = &["show", "--handshake=client"];
+
+const REFUSED_RULE: &[&str] = &["filter", "arg64='x'"];
+
+const READ: &[u8] = b"read failed\n";
+
+const WRITE: &[u8] = b"write failed\n";
+
+// Words, the input, the reader and both writers, what these hold in the end, and how often each
+// device failed.
+const FAILING: &[(&[&str], &[&[u8]], [Device; 3], &[u8], &[u8], [u64; 3])] = &[
+    (CHECK, ONE, [(1, 5), BY_ONE, BY_ONE], b"", READ, [1, 0, 0]),
+    (CHECK, ONE, [ALL, (1, 3), BY_ONE], b"ok", WRITE, [0, 1, 0]),
+    (CHECK, ONE, [BY_ONE, (1, 3), (1, 1)], b"ok", b"", [0, 1, 1]),
     // The reader gives all that it has, and then fails.
-    Failing {
-        words: SHOW,
-        input: &[RETURN],
-        devices: [(100, 2), WHOLE, WHOLE],
-        first: RETURN_TEXT,
-        second: b"read failed\n",
-        failures: [1, 0, 0],
-    },
+    (SHOW, ONE, [(99, 2), ALL, ALL], RETURN_TEXT, READ, [1, 0, 0]),
     // A refusal that cannot be told is a failure.
-    Failing {
-        words: SHOW,
-        input: &[RETURN, FRONT],
-        devices: [WHOLE, WHOLE, (1, 1)],
-        first: RETURN_TEXT,
-        second: b"",
-        failures: [0, 0, 1],
-    },
+    (SHOW, CUT, [ALL, ALL, (1, 1)], RETURN_TEXT, b"", [0, 0, 1]),
     // A writer that takes nothing failed.
-    Failing {
-        words: TO_BIG,
-        input: &[RETURN],
-        devices: [WHOLE, (0, 0), WHOLE],
-        first: b"",
-        second: b"write failed\n",
-        failures: [0, 1, 0],
-    },
-    Failing {
-        words: &["filter", "arg64='x'"],
-        input: &[],
-        devices: [BY_ONE, BY_ONE, (1, 5)],
-        first: b"",
-        second: b"rule",
-        failures: [0, 0, 1],
-    },
+    (TO_BIG, ONE, [ALL, (0, 0), ALL], b"", WRITE, [0, 1, 0]),
+    (
+        REFUSED_RULE,
+        &[],
+        [ALL, ALL, (1, 5)],
+        b"",
+        b"rule",
+        [0, 0, 1],
+    ),
     // Within a handshake.
-    Failing {
-        words: &["show", "--handshake=client"],
-        input: &[b"\0AUTH\r\nBEGIN\r\n", RETURN],
-        devices: [(1, 5), WHOLE, WHOLE],
-        first: b"",
-        second: b"read failed\n",
-        failures: [1, 0, 0],
-    },
-    Failing {
-        words: &["check", "--handshake=client"],
-        input: &[RETURN],
-        devices: [WHOLE, WHOLE, (4, 3)],
-        first: b"",
-        second: b"handshak",
-        failures: [0, 0, 1],
-    },
-    Failing {
-        words: &["swap"],
-        input: &[],
-        devices: [BY_ONE, BY_ONE, (1, 7)],
-        first: b"",
-        second: b"error:",
-        failures: [0, 0, 1],
-    },
-    Failing {
-        words: &["--help"],
-        input: &[],
-        devices: [BY_ONE, (1, 6), BY_ONE],
-        first: b"Reads",
-        second: b"write failed\n",
-        failures: [0, 1, 0],
-    },
+    (CLIENT, BEHIND, [(1, 5), ALL, ALL], b"", READ, [1, 0, 0]),
+    (CLIENT, ONE, [ALL, ALL, (4, 2)], b"", b"hand", [0, 0, 1]),
+    (
+        &["swap"],
+        &[],
+        [ALL, ALL, (1, 7)],
+        b"",
+        b"error:",
+        [0, 0, 1],
+    ),
+    (
+        &["--help"],
+        &[],
+        [ALL, (1, 6), ALL],
+        b"Reads",
+        WRITE,
+        [0, 1, 0],
+    ),
 ];
 
 #[test]
 fn devices_that_fail(rt: HostRuntime) -> Result<(), Fail> {
-    for (n, row) in FAILING.iter().enumerate() {
-        let input = joined(rt.alloc(), row.input)?;
-        let (end, failures, _) = ran_words(rt.alloc(), row.words, input.as_slice(), row.devices)?;
-        assert_end(&rt, n, &end, ExitStatus::Failed, row.first, row.second);
-        assert_eq!(rt; failures, row.failures, "at {n}");
+    for (n, (words, input, devices, first, second, failures)) in FAILING.iter().enumerate() {
+        let input = joined(rt.alloc(), input)?;
+        let (end, found) = ran_words(rt.alloc(), words, input.as_slice(), *devices)?;
+        assert_end(&rt, n, &end, ExitStatus::Failed, first, second);
+        assert_eq!(rt; found, *failures, "at {n}");
     }
     Ok(())
 }
@@ -174,7 +123,7 @@ fn calls_of(
     let (status, first, second) = whole;
     for n in 1..1000usize {
         let (devices, failures) = failing_at(place, n as u64);
-        let (end, found, _) = ran_words(rt.alloc(), words, bytes, devices)?;
+        let (end, found) = ran_words(rt.alloc(), words, bytes, devices)?;
         if found == [0; 3] {
             assert_end(rt, n, &end, status, first, second);
             return Ok(n - 1);

@@ -14,26 +14,24 @@ const TRUNCATED: Fault = Fault {
     reason: Reason::Truncated,
 };
 
+const NO_MEMORY: &str = "allocation failed";
+
+const NO_MESSAGE: &str = "the bytes are no message: Truncated at offset 1000";
+
 const STREAM_FAULTS: &[(StreamFault, &str)] = &[
-    (StreamFault::Memory, "allocation failed"),
-    (
-        StreamFault::Format(TRUNCATED),
-        "the bytes are no message: Truncated at offset 1000",
-    ),
+    (StreamFault::Memory, NO_MEMORY),
+    (StreamFault::Format(TRUNCATED), NO_MESSAGE),
 ];
 
 const READ_FAULTS: &[(ReadFault, &str)] = &[
-    (ReadFault::Memory, "allocation failed"),
-    (
-        ReadFault::Format(TRUNCATED),
-        "the bytes are no message: Truncated at offset 1000",
-    ),
+    (ReadFault::Memory, NO_MEMORY),
+    (ReadFault::Format(TRUNCATED), NO_MESSAGE),
     (ReadFault::Device, "the device failed"),
     (ReadFault::TooManyReads, "too many reads"),
 ];
 
 const WRITE_FAULTS: &[(WriteFault, &str)] = &[
-    (WriteFault::Memory, "allocation failed"),
+    (WriteFault::Memory, NO_MEMORY),
     (
         WriteFault::Device { written: 24 },
         "the device failed after 24 bytes",
@@ -41,7 +39,7 @@ const WRITE_FAULTS: &[(WriteFault, &str)] = &[
 ];
 
 const HANDSHAKE_FAULTS: &[(HandshakeFault, &str)] = &[
-    (HandshakeFault::Memory, "allocation failed"),
+    (HandshakeFault::Memory, NO_MEMORY),
     (HandshakeFault::Device, "the device failed"),
     (
         HandshakeFault::Refused {
@@ -53,7 +51,7 @@ const HANDSHAKE_FAULTS: &[(HandshakeFault, &str)] = &[
 ];
 
 const PUT_FAULTS: &[(PutFault, &str)] = &[
-    (PutFault::Memory, "allocation failed"),
+    (PutFault::Memory, NO_MEMORY),
     (PutFault::TooLong, "too many bytes for their length"),
     (PutFault::NotOpen, "no array is open at this place"),
 ];

@@ -1,7 +1,6 @@
 //! Each command with each allocation failing in turn, and how many allocations a message takes.
 
 use crate::captures::*;
-use crate::flagged_runs::{EXPLAINED, PASSED};
 use crate::pieces::Pieces;
 use crate::running::{CHECK, End, JSON, SHOW, TO_BIG, TO_LITTLE, assert_end, ran};
 use dbus_tool::ExitStatus;
@@ -12,18 +11,16 @@ use std::test::Fail;
 
 const RETURNS: &[&str] = &["filter", "type='method_return'"];
 
+const EXPLAIN: &[&str] = &["show", "--explain"];
+
+const KEEP_GOING: &[&str] = &["check", "--keep-going"];
+
+const EACH: &[&str] = &["filter", ""];
+
+const ERRORS: &[&str] = &["filter", "type='error'"];
+
 // Two rules, inverted.
 const OTHERS: &[&str] = &["filter", "type='error'", "type='signal'", "--invert"];
-
-// The same over bytes that come one by one.
-fn ran_by_one<A: Allocator + Copy>(
-    alloc: Global,
-    heap: A,
-    words: &[&str],
-    bytes: &[u8],
-) -> Result<End, Fail> {
-    ran(alloc, heap, words, Pieces::new(bytes, 1, 0))
-}
 
 // If the allocation of this number fails, the run has failed and says so, what it wrote is a front of the whole, and
 // all that was taken is given back. If there are fewer allocations the run ends as it should, and this tells how many.
@@ -35,7 +32,7 @@ fn growth_refused(
     n: usize,
 ) -> Result<Option<u64>, Fail> {
     let heap = Refusing::nth(rt.alloc(), n as u64);
-    let end = ran_by_one(rt.alloc(), &heap, words, bytes)?;
+    let end = ran(rt.alloc(), &heap, words, Pieces::new(bytes, 1, 0))?;
     assert_eq!(rt; heap.blocks(), 0, "at {n}");
     let (status, first, second) = whole;
     if heap.refusals() == 0 {
@@ -76,22 +73,8 @@ pub(crate) const RUNS: &[(&[&str], &[&[u8]], ExitStatus, &[&[u8]], &[u8], u64)] 
     (CHECK, CUT, REFUSED, &[TRUNCATED], b"", 0),
     (TO_LITTLE, CUT, REFUSED, &[RETURN], TRUNCATED, 2),
     (RETURNS, CUT, REFUSED, &[RETURN], TRUNCATED, 2),
-    (
-        &["show", "--explain"],
-        &[RETURN, FRONT],
-        REFUSED,
-        &[RETURN_TEXT],
-        EXPLAINED,
-        3,
-    ),
-    (
-        &["check", "--keep-going"],
-        &[RETURN, BARE_WITH_BODY, RETURN],
-        REFUSED,
-        &[PASSED],
-        b"",
-        2,
-    ),
+    (EXPLAIN, CUT, REFUSED, &[RETURN_TEXT], EXPLAINED, 3),
+    (KEEP_GOING, OVER, REFUSED, &[PASSED], b"", 2),
 ];
 
 const ALL: &[&[u8]] = &[RETURN, SIGNAL, BIG_RETURN];
@@ -100,7 +83,21 @@ const TEXTS: &[&[u8]] = &[RETURN_TEXT, SIGNAL_AS_SECOND, BIG_AS_THIRD];
 
 const CUT: &[&[u8]] = &[RETURN, BIG_FRONT];
 
+const OVER: &[&[u8]] = &[RETURN, BARE_WITH_BODY, RETURN];
+
 const TRUNCATED: &[u8] = b"refused at 29: Truncated\n";
+
+const EXPLAINED: &[u8] = b"\
+refused at 29: Truncated
+  message 2 at 24, byte 5: the length of the body
+  42 02 01 01 00 []
+  the input goes on to the end of the message (D-Bus Specification, \"Message Format\")
+";
+
+const PASSED: &[u8] = b"\
+refused at 40: FieldMissing(5) in message 2 at 24
+2 messages 48 bytes, 1 passed over 24 bytes
+";
 
 const DONE: ExitStatus = ExitStatus::Done;
 
@@ -140,16 +137,7 @@ fn growths_of(
     Ok(heap.growths())
 }
 
-const COMMANDS: &[&[&str]] = &[
-    SHOW,
-    JSON,
-    CHECK,
-    TO_LITTLE,
-    TO_BIG,
-    &["filter", ""],
-    &["filter", "type='error'"],
-    OTHERS,
-];
+const COMMANDS: &[&[&str]] = &[SHOW, JSON, CHECK, TO_LITTLE, TO_BIG, EACH, ERRORS, OTHERS];
 
 // A message like those before takes no memory, whether it comes whole or byte by byte.
 #[test]
@@ -167,14 +155,7 @@ fn further_messages_take_no_more_memory(rt: HostRuntime) -> Result<(), Fail> {
 // that byteswaps them takes it once.
 #[test]
 fn messages_in_the_buffer_take_no_memory(rt: HostRuntime) -> Result<(), Fail> {
-    for words in [
-        SHOW,
-        JSON,
-        TO_LITTLE,
-        &["filter", ""],
-        &["filter", "type='error'"],
-        OTHERS,
-    ] {
+    for words in [SHOW, JSON, TO_LITTLE, EACH, ERRORS, OTHERS] {
         assert_eq!(rt; growths_of(&rt, words, 3, 1000)?, 0);
     }
     assert_eq!(rt; growths_of(&rt, TO_BIG, 3, 1000)?, 1);

@@ -1,4 +1,5 @@
-//! Tests of streams, of the command line and of the commands, over devices that fail and with allocations that fail, of handshakes, and of the texts of streams' faults.
+//! Tests of streams, of the commands and of handshakes, over devices that fail and with allocations
+//! that fail, and of the texts of streams' faults.
 #![tactic(auto)]
 
 #[cfg(test)]
@@ -14,13 +15,9 @@ mod failures;
 #[cfg(test)]
 mod fault_texts;
 #[cfg(test)]
-mod flagged_runs;
-#[cfg(test)]
 mod growths;
 #[cfg(test)]
 mod handshakes;
-#[cfg(test)]
-mod help_texts;
 #[cfg(test)]
 mod narrow;
 #[cfg(test)]
@@ -34,10 +31,6 @@ mod readers;
 #[cfg(test)]
 mod running;
 #[cfg(test)]
-mod runs;
-#[cfg(test)]
 mod spelling;
-#[cfg(test)]
-mod usage_texts;
 #[cfg(test)]
 mod writers;

@@ -97,105 +97,48 @@ fn calls_give<A: Allocator + Copy>(
     }
 }
 
-// The bytes; how many of them come with a read, and which read fails; how many reads may be made; what the calls give, one
-// after another; and how many bytes the messages have, and how many reads were made and failed.
-const READ: &[(&[u8], usize, u64, u32, &[(Call, Given<'static>)], [u64; 3])] = &[
-    (
-        SIGNAL,
-        1000,
-        0,
-        100,
-        &[
-            (AdvanceKept, NOTHING),
-            (Advance, Gives(SIGNAL)),
-            (AdvanceKept, NOTHING),
-            (Advance, NOTHING),
-            (Next, NOTHING),
-        ],
-        [96, 2, 0],
-    ),
-    (
-        SIGNAL,
-        1,
-        0,
-        100,
-        &[(Next, Gives(SIGNAL)), (Next, NOTHING), (Advance, NOTHING)],
-        [96, 97, 0],
-    ),
-    (
-        SIGNAL,
-        40,
-        2,
-        100,
-        &[
-            (Advance, FAILED),
-            (AdvanceKept, NOTHING),
-            (Advance, Gives(SIGNAL)),
-            (Next, NOTHING),
-        ],
-        [96, 5, 1],
-    ),
-    (
-        RETURN,
-        1,
-        0,
-        2,
-        &[(Advance, TOO_MANY), (Next, TOO_MANY)],
-        [0, 2, 0],
-    ),
-    (
-        RETURN,
-        1,
-        0,
-        24,
-        &[
-            (Next, Gives(RETURN)),
-            (Next, TOO_MANY),
-            (AdvanceKept, TOO_MANY),
-        ],
-        [24, 24, 0],
-    ),
-    // The last read finds the end.
-    (
-        RETURN,
-        1,
-        0,
-        25,
-        &[
-            (Advance, Gives(RETURN)),
-            (Advance, NOTHING),
-            (Next, NOTHING),
-        ],
-        [24, 25, 0],
-    ),
-    // A fault stays, also for a call that reads nothing.
-    (
-        BARE,
-        1,
-        0,
-        100,
-        &[
-            (Advance, NO_REPLY_SERIAL),
-            (Next, NO_REPLY_SERIAL),
-            (AdvanceKept, NO_REPLY_SERIAL),
-        ],
-        [0, 16, 0],
-    ),
+// Calls of a reader, and what they give.
+type Script = &'static [(Call, Given<'static>)];
+
+// Of a message that comes whole, of one that comes in pieces, and of one where a read fails.
+const ONE: Script = &[
+    (AdvanceKept, NOTHING),
+    (Advance, Gives(SIGNAL)),
+    (AdvanceKept, NOTHING),
+    (Advance, NOTHING),
+    (Next, NOTHING),
 ];
 
-#[test]
-fn messages_and_faults(rt: HostRuntime) {
-    for (n, (bytes, size, fails_at, most, script, counts)) in READ.iter().enumerate() {
-        let source = Pieces::new(bytes, *size, *fails_at);
-        let mut reader = RawReader::with_reads(rt.alloc(), source, u64::from(*most));
-        calls_give(&rt, n as u64, &mut reader, *script);
-        let done = reader.done();
-        let source = reader.into_source();
-        assert_eq!(rt; [done, source.calls, source.failures], *counts, "at {n}");
-    }
-}
+const ONE_BY_ONE: Script = &[(Next, Gives(SIGNAL)), (Next, NOTHING), (Advance, NOTHING)];
 
-const GOES_ON: &[(Call, Given<'static>)] = &[
+const FAILS_ONCE: Script = &[
+    (Advance, FAILED),
+    (AdvanceKept, NOTHING),
+    (Advance, Gives(SIGNAL)),
+    (Next, NOTHING),
+];
+
+const FEW: Script = &[(Advance, TOO_MANY), (Next, TOO_MANY)];
+
+const NONE_FOR_THE_END: Script = &[
+    (Next, Gives(RETURN)),
+    (Next, TOO_MANY),
+    (AdvanceKept, TOO_MANY),
+];
+
+const ONE_FOR_THE_END: Script = &[
+    (Advance, Gives(RETURN)),
+    (Advance, NOTHING),
+    (Next, NOTHING),
+];
+
+const STAYS: Script = &[
+    (Advance, NO_REPLY_SERIAL),
+    (Next, NO_REPLY_SERIAL),
+    (AdvanceKept, NO_REPLY_SERIAL),
+];
+
+const GOES_ON: Script = &[
     (PassOver, Passes(false)),
     (Advance, NO_REPLY_SERIAL),
     (PassOver, Passes(true)),
@@ -205,38 +148,34 @@ const GOES_ON: &[(Call, Given<'static>)] = &[
     (Advance, NOTHING),
 ];
 
-const ENDS: &[(Call, Given<'static>)] = &[
+const ENDS: Script = &[
     (Advance, NO_REPLY_SERIAL),
     (PassOver, Passes(false)),
     (Advance, NO_REPLY_SERIAL),
     (PassOver, Passes(false)),
 ];
 
-const FAILS: &[(Call, Given<'static>)] = &[
+const FAILS: Script = &[
     (Advance, NO_REPLY_SERIAL),
     (PassOver, FAILED),
     (PassOver, Passes(false)),
     (Next, NO_REPLY_SERIAL),
 ];
 
-const FAILS_LATE: &[(Call, Given<'static>)] = &[
+const FAILS_LATE: Script = &[
     (Next, NO_REPLY_SERIAL),
     (PassOver, TOO_MANY),
     (Advance, NO_REPLY_SERIAL),
 ];
 
-const STATES_NONE: &[(Call, Given<'static>)] = &[
-    (
-        Advance,
-        Fails(ReadFault::Format(Fault {
-            at: 3,
-            reason: Reason::Version,
-        })),
-    ),
-    (PassOver, Passes(false)),
-];
+const WRONG_AT_3: Given = Fails(ReadFault::Format(Fault {
+    at: 3,
+    reason: Reason::Version,
+}));
 
-const CUT: &[(Call, Given<'static>)] = &[
+const STATES_NONE: Script = &[(Advance, WRONG_AT_3), (PassOver, Passes(false))];
+
+const CUT: Script = &[
     (Advance, Gives(RETURN)),
     (PassOver, Passes(false)),
     (
@@ -249,15 +188,20 @@ const CUT: &[(Call, Given<'static>)] = &[
     (PassOver, Passes(false)),
 ];
 
-// Rows as those above, of two parts of the bytes, in which messages are passed over.
-const PASSED: &[(
-    &[&[u8]],
-    usize,
-    u64,
-    u32,
-    &[(Call, Given<'static>)],
-    [u64; 3],
-)] = &[
+// The bytes; how many of them come with a read, and which read fails; how many reads may be made;
+// what the calls give, one after another; and how many bytes the messages have, and how many reads
+// were made and failed.
+const READ: &[(&[&[u8]], usize, u64, u32, Script, [u64; 3])] = &[
+    (&[SIGNAL], 1000, 0, 100, ONE, [96, 2, 0]),
+    (&[SIGNAL], 1, 0, 100, ONE_BY_ONE, [96, 97, 0]),
+    (&[SIGNAL], 40, 2, 100, FAILS_ONCE, [96, 5, 1]),
+    (&[RETURN], 1, 0, 2, FEW, [0, 2, 0]),
+    (&[RETURN], 1, 0, 24, NONE_FOR_THE_END, [24, 24, 0]),
+    // The last read finds the end.
+    (&[RETURN], 1, 0, 25, ONE_FOR_THE_END, [24, 25, 0]),
+    // A fault stays, also for a call that reads nothing.
+    (&[BARE], 1, 0, 100, STAYS, [0, 16, 0]),
+    // Messages are passed over.
     (&[BARE_WITH_BODY, RETURN], 1000, 0, 100, GOES_ON, [48, 2, 0]),
     (&[BARE_WITH_BODY, RETURN], 1, 0, 100, GOES_ON, [48, 49, 0]),
     (&[BARE_WITH_BODY, RETURN], 17, 0, 100, GOES_ON, [48, 4, 0]),
@@ -271,8 +215,8 @@ const PASSED: &[(
 ];
 
 #[test]
-fn messages_passed_over(rt: HostRuntime) -> Result<(), Fail> {
-    for (n, (parts, size, fails_at, most, script, counts)) in PASSED.iter().enumerate() {
+fn messages_and_faults(rt: HostRuntime) -> Result<(), Fail> {
+    for (n, (parts, size, fails_at, most, script, counts)) in READ.iter().enumerate() {
         let bytes = joined(rt.alloc(), *parts)?;
         let source = Pieces::new(bytes.as_slice(), *size, *fails_at);
         let mut reader = RawReader::with_reads(rt.alloc(), source, u64::from(*most));
@@ -337,12 +281,7 @@ fn a_message_that_two_reads_give(rt: HostRuntime) -> Result<(), Fail> {
     }
     // What lies in the buffer takes no memory.
     assert_eq!(rt; heap.growths(), 0);
-    calls_give(
-        &rt,
-        0,
-        &mut reader,
-        [(Advance, Gives(RETURN)), (Advance, NOTHING)].as_slice(),
-    );
+    calls_give(&rt, 0, &mut reader, ONE_FOR_THE_END);
     let done = reader.done();
     assert_eq!(rt; [done, reader.into_source().calls], [262_152, 3]);
     Ok(())
@@ -366,12 +305,7 @@ fn growth_refused(
     }
     assert!(rt; no_memory, "at {n}");
     assert_eq!(rt; reader.done(), 24, "at {n}");
-    calls_give(
-        rt,
-        n,
-        &mut reader,
-        [(Next, Gives(SIGNAL)), (Next, NOTHING)].as_slice(),
-    );
+    calls_give(rt, n, &mut reader, ONE_BY_ONE);
     assert_eq!(rt; reader.done(), 120, "at {n}");
     drop(reader);
     assert_eq!(rt; heap.blocks(), 0, "at {n}");

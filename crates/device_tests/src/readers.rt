@@ -129,26 +129,34 @@ fn reads(
     gives(rt, n, reader, script, counts)
 }
 
+const KEEPS_NONE: &[(Call, Given<'static>)] = &[
+    (NextKept, NOTHING),
+    (Next, TOO_MANY),
+    (NextKept, TOO_MANY),
+];
+
+const TOO_FEW: &[(Call, Given<'static>)] = &[(Next, TOO_MANY), (Next, TOO_MANY)];
+
+const ONE_TOO_FEW: &[(Call, Given<'static>)] = &[
+    (Next, Gives(RETURN)),
+    (Next, TOO_MANY),
+    (Next, TOO_MANY),
+];
+
+const ENOUGH: &[(Call, Given<'static>)] = &[
+    (Next, Gives(RETURN)),
+    (Next, NOTHING),
+    (Next, NOTHING),
+];
+
 // How many reads a reader may make, and what its calls give where a method return comes one byte a read; how many bytes the
 // messages have, and how many reads were made and failed.
 const FEW_READS: &[(u32, &[(Call, Given<'static>)], [u64; 3])] = &[
-    (
-        0,
-        &[(NextKept, NOTHING), (Next, TOO_MANY), (NextKept, TOO_MANY)],
-        [0, 0, 0],
-    ),
-    (2, &[(Next, TOO_MANY), (Next, TOO_MANY)], [0, 2, 0]),
-    (
-        24,
-        &[(Next, Gives(RETURN)), (Next, TOO_MANY), (Next, TOO_MANY)],
-        [24, 24, 0],
-    ),
+    (0, KEEPS_NONE, [0, 0, 0]),
+    (2, TOO_FEW, [0, 2, 0]),
+    (24, ONE_TOO_FEW, [24, 24, 0]),
     // The last read finds the end.
-    (
-        25,
-        &[(Next, Gives(RETURN)), (Next, NOTHING), (Next, NOTHING)],
-        [24, 25, 0],
-    ),
+    (25, ENOUGH, [24, 25, 0]),
 ];
 
 #[test]
@@ -210,64 +218,38 @@ fn each_read_fails_once(rt: HostRuntime) -> Result<(), Fail> {
 // many bytes the messages have that they gave; the call that finds it, which asks for more allocations than this, and the message
 // that it gives if none is refused; what the calls after it give; how many bytes the messages have in the end, and how many
 // reads there were.
-struct Refused {
-    input: &'static [&'static [u8]],
-    size: usize,
-    before: &'static [(Call, Given<'static>)],
-    done_before: u64,
-    call: Call,
-    least: u64,
-    message: &'static [u8],
-    after: &'static [(Call, Given<'static>)],
-    done: u64,
-    calls: u64,
-}
+type Refused = (
+    &'static [&'static [u8]],
+    usize,
+    &'static [(Call, Given<'static>)],
+    u64,
+    Call,
+    u64,
+    &'static [u8],
+    &'static [(Call, Given<'static>)],
+    [u64; 2],
+);
 
 const AT_END: &[(Call, Given<'static>)] = &[(NextKept, NOTHING), (Next, NOTHING)];
 
+const AT_5: &[(Call, Given<'static>)] = &[
+    (NextKept, NOTHING),
+    (Next, TRUNCATED_AT_5),
+    (NextKept, TRUNCATED_AT_5),
+];
+
+const FIRST: &[(Call, Given<'static>)] = &[(Next, Gives(RETURN))];
+
+const CUT: &[&[u8]] = &[RETURN, FRONT];
+
+const TWO: &[&[u8]] = &[RETURN, SIGNAL];
+
 const REFUSED: &[Refused] = &[
-    Refused {
-        input: &[SIGNAL],
-        size: 1,
-        before: &[],
-        done_before: 0,
-        call: Next,
-        least: 5,
-        message: SIGNAL,
-        after: AT_END,
-        done: 96,
-        calls: 97,
-    },
+    (&[SIGNAL], 1, &[], 0, Next, 5, SIGNAL, AT_END, [96, 97]),
     // The signal is kept already, after another message.
-    Refused {
-        input: &[RETURN, SIGNAL],
-        size: 1000,
-        before: &[(Next, Gives(RETURN))],
-        done_before: 24,
-        call: NextKept,
-        least: 5,
-        message: SIGNAL,
-        after: AT_END,
-        done: 120,
-        calls: 2,
-    },
+    (TWO, 999, FIRST, 24, NextKept, 5, SIGNAL, AT_END, [120, 2]),
     // A prefix of another message stands after it.
-    Refused {
-        input: &[RETURN, FRONT],
-        size: 1000,
-        before: &[],
-        done_before: 0,
-        call: Next,
-        least: 0,
-        message: RETURN,
-        after: &[
-            (NextKept, NOTHING),
-            (Next, TRUNCATED_AT_5),
-            (NextKept, TRUNCATED_AT_5),
-        ],
-        done: 24,
-        calls: 2,
-    },
+    (CUT, 999, &[], 0, Next, 0, RETURN, AT_5, [24, 2]),
 ];
 
 // The reader, that found a failing allocation, kept all that was read: the call made again gives the message.
@@ -279,16 +261,13 @@ fn goes_on<A: Allocator + Copy>(
     row: &Refused,
 ) -> Result<(), Fail> {
     let mut reader = reader;
-    assert_eq!(rt; reader.done(), row.done_before, "at {n}");
-    let script = [(row.call, Gives(row.message))];
+    let (_, _, _, done_before, call, _, message, after, counts) = *row;
+    assert_eq!(rt; reader.done(), done_before, "at {n}");
+    let script = [(call, Gives(message))];
     calls_give(rt, n, alloc, &mut reader, script.as_slice())?;
-    calls_give(rt, n, alloc, &mut reader, row.after)?;
+    calls_give(rt, n, alloc, &mut reader, after)?;
     let done = reader.done();
-    assert_eq!(rt;
-        [done, reader.into_source().calls],
-        [row.done, row.calls],
-        "at {n}"
-    );
+    assert_eq!(rt; [done, reader.into_source().calls], counts, "at {n}");
     Ok(())
 }
 
@@ -312,11 +291,12 @@ fn growth_refused(
     bytes: &[u8],
     n: u64,
 ) -> Result<Option<u64>, Fail> {
+    let (_, size, before, _, call, ..) = *row;
     let heap = Refusing::none(rt.alloc());
-    let mut reader = MessageReader::new(&heap, Pieces::new(bytes, row.size, 0));
-    calls_give(rt, n, &heap, &mut reader, row.before)?;
+    let mut reader = MessageReader::new(&heap, Pieces::new(bytes, size, 0));
+    calls_give(rt, n, &heap, &mut reader, before)?;
     heap.refuse_nth(n);
-    let answer = answer_of(&mut reader, row.call);
+    let answer = answer_of(&mut reader, call);
     let refused = heap.refusals() == 1;
     assert_eq!(rt; answer, [!refused, refused], "at {n}");
     if !refused {
@@ -329,7 +309,7 @@ fn growth_refused(
 
 // How many allocations the row's call meets.
 fn growths_of(rt: &(impl Abort + AllocGlobal), row: &Refused) -> Result<u64, Fail> {
-    let bytes = joined(rt.alloc(), row.input)?;
+    let bytes = joined(rt.alloc(), row.0)?;
     for n in 1..100 {
         if let Some(met) = growth_refused(rt, row, bytes.as_slice(), n)? {
             return Ok(met);
@@ -342,7 +322,7 @@ fn growths_of(rt: &(impl Abort + AllocGlobal), row: &Refused) -> Result<u64, Fai
 fn calls_with_each_growth_refused(rt: HostRuntime) -> Result<(), Fail> {
     for row in REFUSED {
         let met = growths_of(&rt, row)?;
-        assert!(rt; met > row.least, "{met}");
+        assert!(rt; met > row.5, "{met}");
     }
     Ok(())
 }

@@ -41,12 +41,24 @@ pub(crate) fn words_of(alloc: Global, name: &str, words: &[&str]) -> Result<Vec<
     Ok(all)
 }
 
-// The command that the words name, and its settings.
-fn named(alloc: Global, words: &[&str]) -> Result<(Command, Settings), Fail> {
+/// The command that the words name, and its settings.
+pub(crate) fn named(alloc: Global, words: &[&str]) -> Result<(Command, Settings), Fail> {
     let words = words_of(alloc, "dbus-wire", words)?;
     match command_of(alloc, words.as_slice()) {
         Ok(Asked::Messages(command, settings)) => Ok((command, settings)),
         _ => Err(Fail::new("no command")),
+    }
+}
+
+/// A writer in memory.
+type Written = FromWrite<Vec<u8>>;
+
+/// The end of a run with this status, which wrote on these.
+pub(crate) fn ended(status: ExitStatus, first: Written, second: Written) -> End {
+    End {
+        status,
+        first: first.into_inner(),
+        second: second.into_inner(),
     }
 }
 
@@ -59,35 +71,17 @@ pub(crate) fn ran<A: Allocator + Copy, R: Source + Drop>(
     reader: R,
 ) -> Result<End, Fail> {
     let (command, settings) = named(alloc, words)?;
+    let limits = settings.limits;
     let mut reader = reader;
     let mut first = FromWrite::new(Vec::new(alloc));
     let mut second = FromWrite::new(Vec::new(alloc));
+    let (from, to, other) = (&mut reader, &mut first, &mut second);
     let status = if settings.ask_more() {
-        run_with(
-            heap,
-            command,
-            settings,
-            MOST_READS,
-            &mut reader,
-            &mut first,
-            &mut second,
-        )
+        run_with(heap, command, settings, MOST_READS, from, to, other)
     } else {
-        run_within(
-            heap,
-            command,
-            settings.limits,
-            MOST_READS,
-            &mut reader,
-            &mut first,
-            &mut second,
-        )
+        run_within(heap, command, limits, MOST_READS, from, to, other)
     };
-    Ok(End {
-        status,
-        first: first.into_inner(),
-        second: second.into_inner(),
-    })
+    Ok(ended(status, first, second))
 }
 
 /// How the command ends if the reader may make this number of reads.
@@ -100,19 +94,9 @@ pub(crate) fn ran_reads(
     let (command, _) = named(alloc, words)?;
     let mut first = FromWrite::new(Vec::new(alloc));
     let mut second = FromWrite::new(Vec::new(alloc));
-    let status = run_reads(
-        alloc,
-        command,
-        u64::from(reads),
-        reader,
-        &mut first,
-        &mut second,
-    );
-    Ok(End {
-        status,
-        first: first.into_inner(),
-        second: second.into_inner(),
-    })
+    let (to, other) = (&mut first, &mut second);
+    let status = run_reads(alloc, command, u64::from(reads), reader, to, other);
+    Ok(ended(status, first, second))
 }
 
 /// How many bytes a device moves a call at most, and which of its calls fails; 0 for none.
@@ -121,14 +105,14 @@ pub(crate) type Device = (usize, u64);
 /// One byte a call, and none fails.
 pub(crate) const BY_ONE: Device = (1, 0);
 
-/// How the program ends for these words over a reader of these bytes and two writers; how often each of the three failed;
-/// and how many reads were made.
+/// How the program ends for these words over a reader of these bytes and two writers; and how often
+/// each of the three failed.
 pub(crate) fn ran_words(
     alloc: Global,
     words: &[&str],
     bytes: &[u8],
     devices: [Device; 3],
-) -> Result<(End, [u64; 3], u64), Fail> {
+) -> Result<(End, [u64; 3]), Fail> {
     let words = words_of(alloc, "dbus-wire", words)?;
     let [reader, first, second] = devices;
     let mut reader = Pieces::new(bytes, reader.0, reader.1);
@@ -147,7 +131,7 @@ pub(crate) fn ran_words(
         first: first.held,
         second: second.held,
     };
-    Ok((end, failures, reader.calls))
+    Ok((end, failures))
 }
 
 /// The run of the row `n` ended so, and wrote this.
