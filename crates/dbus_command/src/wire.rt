@@ -1,6 +1,7 @@
 //! The command line, as `clap` is told it.
-ghost use Rattle.std.specs.Prelude.{◌≡◌, IfOk, false};
+ghost use Rattle.std.specs.Prelude.{◌≡◌, IfOk, false, pos};
 ghost use Rattle.clap.specs.Words.{app_of, rule_of};
+ghost use Rattle.clap.specs.declared.builder.value_parser.ValueParser.TheVariants.{Signed};
 ghost use Rattle.dbus_command.specs.CommandLine.{Adds, IsLocal, fds_rule, flag_rule, handshake_rule, limit_rule, owner_rule, text_rule, with_keep_going, with_options, with_window, wire_app, bare_app, show_app, json_app, check_app, count_app, swap_app, filter_app, handshake_app, side_rule};
 
 use crate::help;
@@ -8,6 +9,13 @@ use clap::builder::ValueParser;
 use clap::{Arg, ArgAction, Command};
 use dbus_value_model::{ARRAY_LIMIT, DEPTH_LIMIT, MESSAGE_LIMIT};
 use std::alloc::{AllocError, Global};
+
+// A number from 0 up to this one.
+fn number_up_to<'a>(most: u32) -> ValueParser<'a>
+    ensures { result ≡ Signed (pos 0) (pos most) }
+{
+    ValueParser::signed(0, i64::from(most))
+}
 
 // The option of one limit: a number up to this one.
 fn limit_option<'a>(alloc: Global, name: &'a str, most: u32, help: &'a str) -> Arg<'a>
@@ -18,7 +26,7 @@ fn limit_option<'a>(alloc: Global, name: &'a str, most: u32, help: &'a str) -> A
         .long(name)
         .value_name("N")
         .help(help)
-        .value_parser(ValueParser::signed(0, i64::from(most)))
+        .value_parser(number_up_to(most))
 }
 
 // The option of the rule on indexes of file descriptors.
