@@ -4,7 +4,7 @@ The lines of such a file:
 
     calls:   the public calls whose meaning it turns, as crate::function
     clause:  the clause that refuses it, or the definition in it; `CLAUSE of STEP` if it is that of a step below the call
-    left:    what the prover leaves open, as it prints it: the function, as FILE::FUNCTION, and the goal. Without this line it is due until it has one
+    left:    what the prover leaves open, as it prints it: the function, as FILE::FUNCTION, and the goal.
     file:    the file that it changes
     old:     a text that stands once in that file
     new:     what stands there in its place
@@ -65,7 +65,7 @@ def is_call(call):
 
 def faults_of(edit):
     """What is wrong with the file itself."""
-    for word, said in (("calls", edit.calls), ("clause", edit.clause), ("new", edit.changes)):
+    for word, said in (("calls", edit.calls), ("clause", edit.clause), ("left", edit.left), ("new", edit.changes)):
         if not said:
             yield f"no line `{word}:`"
     if len(edit.changes) > 1 and not edit.both:
@@ -76,6 +76,11 @@ def faults_of(edit):
     for file, text in edited(edit).items():
         if text is None:
             yield f"a text that it changes does not stand in {file} once"
+
+
+def find_faults(edits):
+    """The edits whose files are not as they have to be, each with why."""
+    return [f"{relative(edit)}: {fault}" for edit in edits for fault in faults_of(edit)]
 
 
 def function_at(text, line):

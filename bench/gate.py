@@ -10,7 +10,7 @@ line says how many crates and wrong bodies passed, and how many failed; the exit
 
 import sys
 
-from edits import all_edits
+from edits import all_edits, find_faults
 from trying import copy_with, drawn_edits, due_edits, hold, is_count, note_tried, refusals_in, run_in, tell
 
 DRAWN = 5
@@ -28,6 +28,9 @@ def main(*words):
     if words not in ((), ("--all",)):
         print(__doc__, file=sys.stderr)
         return 2
+    if broken := find_faults(all_edits()):
+        print(*broken, f"0 passed, {len(broken)} failed", sep="\n")
+        return 1
     edits = chosen_edits(words)
     with copy_with(edits) as copy:
         status, lines = run_in(copy, "rt", "ci")

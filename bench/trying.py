@@ -98,9 +98,9 @@ def left_of(edit, said):
 
 
 def is_refused_there(edit, said):
-    """Whether the prover refused the edit at the goal that it names, or, if it names none yet, at some goal. A long goal is cut off in what it says."""
+    """Whether the prover refused the edit at the goal that it names. Of a long goal it prints only the first part, and that is compared."""
     left, is_whole = left_of(edit, said)
-    return bool(left) and (edit.left in ("", left) or (not is_whole and edit.left.startswith(left)))
+    return bool(left) and (left == edit.left or (not is_whole and edit.left.startswith(left)))
 
 
 def refusals_in(lines):
@@ -118,7 +118,7 @@ def note_tried(edits, faults):
     """Notes for each crate whose wrong bodies were all tried and refused, at the goals that they name, on what."""
     refused = collections.defaultdict(set)
     for edit in edits:
-        if edit.left and edit.name not in faults:
+        if edit.name not in faults:
             refused[edit.crate].add(edit.name)
     for crate, names in refused.items():
         wanted = {it.name for it in edits_in(crate, "wrong")}
@@ -132,7 +132,5 @@ def tell(edits, faults):
             said = faults[edit.name]
             why = "not refused" if said is None else f"refused elsewhere than at `{edit.left}`: {said}"
             print(f"{edit.name}: {why}", flush=True)
-        elif not edit.left:
-            print(f"{edit.name}: refused, but it has no line `left:`", flush=True)
     crates = len({it.crate for it in edits})
     print(f"{len(edits) - len(faults)} wrong bodies of {crates} crates refused where they should be, {len(faults)} not", flush=True)

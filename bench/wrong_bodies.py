@@ -13,7 +13,7 @@ import argparse
 import sys
 
 from crate_list import read_crates
-from edits import all_edits, edits_in, faults_of, relative
+from edits import all_edits, edits_in, find_faults
 from trying import copy_with, drawn_edits, due_edits, hold, link_libraries, note_tried, refusals_in, run_in, tell
 
 
@@ -35,11 +35,6 @@ def print_edits(crates):
             print(f"\n{crate}: {len(edits)}")
         for edit in edits:
             print_edit(edit)
-
-
-def find_faults(edits):
-    """The edits whose files are not as they have to be, each with why."""
-    return [f"{relative(edit)}: {fault}" for edit in edits for fault in faults_of(edit)]
 
 
 def try_edits(edits):
