@@ -39,9 +39,9 @@ def main(*words):
     tell(edits, faults)
     counted = is_count(lines[-1]) if lines else None
     passed, failed = (int(it) for it in counted.groups()) if counted else (0, 1)
-    # Those that were not refused at all `rt ci` counts itself.
+    # Those that were not refused at all `rt ci` counts itself, if it tried them.
     elsewhere = sum(said is not None for said in faults.values())
-    print(f"{passed - elsewhere} passed, {failed + elsewhere} failed")
+    print(f"{passed - elsewhere} passed, {max(failed + elsewhere, len(faults))} failed")
     return 1 if status or faults else 0
 
 
