@@ -1,7 +1,7 @@
 #!/usr/bin/env python3
 """gate.py [--all]: the gate. Runs `rt ci` over a copy of the repository, and in it tries
 
-* the wrong bodies of must-fail/, those of the crates that are due, and five that the commit's hash draws;
+* the wrong bodies of must-fail/, those of the crates that are due, and at most five of a crate, which the commit's hash draws;
 * with --all, all of them.
 
 So the libraries are proved once for all of them. Beyond what `rt ci` says, each wrong body has to be refused at the goal that it names. The last

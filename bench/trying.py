@@ -39,11 +39,13 @@ def due_edits():
 
 
 def drawn_edits(number):
-    """So many of those that are not always tried, as the commit's hash draws them."""
+    """At most so many of those that are not always tried, as the commit's hash draws them: of one crate, since the first wrong body of a crate
+    costs the crate's proof. Each crate is as likely as it has wrong bodies."""
     words = ["git", "-C", str(ROOT), "rev-parse", "HEAD"]
     ran = subprocess.run(words, capture_output=True, text=True)
     edits = [it for it in all_edits() if it.path.parent.name == "wrong"]
-    return random.Random(ran.stdout.strip()).sample(edits, min(number, len(edits)))
+    random.Random(ran.stdout.strip()).shuffle(edits)
+    return [it for it in edits if it.crate == edits[0].crate][:number]
 
 
 @contextlib.contextmanager
