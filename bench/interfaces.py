@@ -1,5 +1,9 @@
-"""What the wrong bodies of a crate rest on, as a checksum: the crate's own files, and what it sees of the libraries below it."""
+"""What the wrong bodies of a crate rest on, as a checksum: the crate's own files, and what it sees of the libraries below it.
 
+Of a library it sees the public functions that its own sources name, the types, traits and constants that these and its sources name, with those
+that stand beside them, and the files of specs/ that all these and its contracts import, with those that these import in turn."""
+
+import collections
 import functools
 import hashlib
 import re
@@ -8,10 +12,17 @@ from crate_list import folder_of, libraries_below, read_crates
 
 OWN = ("src/*.rt", "specs/*.antt", "proofs/**/*.antt", "wrong/*.edit")
 
-HEAD = re.compile(r"( *)(pub (?:const |unsafe |ghost )*fn|(?:pub\(\w+\) )?(?:const |unsafe |ghost )*fn)\b")
+HEAD = re.compile(r"( *)(pub (?:const |unsafe |ghost )*fn|(?:pub\(\w+\) )?(?:const |unsafe |ghost )*fn) (\w+)")
 CLAUSE = re.compile(r"\s+(ensures|requires|decreases)\b")
 # Lines that say nothing to another crate.
 SILENT = re.compile(r"\s*(//|use |$)")
+IMPORT = re.compile(r"\bRattle\.(\w+)\.specs\.(\w+)")
+WORD = re.compile(r"\w+")
+DECLARES = re.compile(r"(pub (?:struct|enum|trait|type|const|static)|(?:unsafe )?impl)\b")
+
+# Of a source file: what stands outside of functions, with the methods of traits; the words by which that is named; the public functions, each
+# by its name; and the files of specs/ that it imports.
+Source = collections.namedtuple("Source", "items words functions imports")
 
 
 def head_of(lines):
@@ -27,41 +38,82 @@ def head_of(lines):
     return len(lines), False
 
 
-def interface(text):
-    """The lines of a source file that other crates can rest on: not its comments, the bodies of functions, and functions that none of them can call."""
+def types_in(text):
+    """The words that may name a type, a trait or a constant."""
+    return {it for it in WORD.findall(text) if it[0].isupper()}
+
+
+def read_source(text):
+    """What other crates can rest on: not comments, the bodies of functions, and functions that none of them can call."""
     lines = [it for it in text.splitlines() if not SILENT.match(it)]
-    seen, owner, at = [], "", 0
+    items, functions, owner, at = [], [], "", 0
     while at < len(lines):
         line, found = lines[at], HEAD.match(lines[at])
         if not found:
             owner = line if line.startswith(("impl", "trait", "pub trait")) else owner
-            seen.append(line)
+            items.append(line)
             at += 1
             continue
         size, has_body = head_of(lines[at:])
         # A method of a trait is as public as the trait.
-        of_trait = found[1] and (" for " in owner or "trait" in owner.split("<")[0])
-        if found[2].startswith("pub ") or of_trait:
-            seen += lines[at : at + size]
+        if found[1] and (" for " in owner or "trait" in owner.split("<")[0]):
+            items += lines[at : at + size]
+        elif found[2].startswith("pub "):
+            functions.append((found[3], owner, lines[at : at + size]))
         at += size
         while has_body and lines[at] != found[1] + "}":
             at += 1
         at += has_body
-    return "\n".join(seen)
+    words = {word for it in items if DECLARES.match(it.lstrip()) for word in types_in(it)}
+    return Source(items, words, functions, IMPORT.findall(text))
 
 
 @functools.cache
-def seen_of(library):
-    """The texts by which the crates above know a library."""
-    folder = folder_of(library)
-    sources = [(it.name, interface(it.read_text())) for it in sorted((folder / "src").glob("*.rt"))]
-    specs = [(it.name, it.read_text()) for it in sorted((folder / "specs").glob("*.antt"))]
-    return repr((library, sources, specs))
+def sources_of(library):
+    return [read_source(it.read_text()) for it in sorted((folder_of(library) / "src").glob("*.rt"))]
+
+
+@functools.cache
+def definitions_in(library, name):
+    """The text of a file of specs/, and the files that it imports. A library may pass on those of another."""
+    folder = folder_of(library) / "specs"
+    file = folder / f"{name}.antt"
+    if file.is_file():
+        return file.read_text(), IMPORT.findall(file.read_text())
+    passed = folder / "Lib.antt"
+    return "", [it for it in IMPORT.findall(passed.read_text()) if it[1] == name] if passed.is_file() else []
+
+
+def definitions_behind(imports):
+    """The texts of these files of specs/, and of those that they import in turn."""
+    found, left = {}, list(imports)
+    while left:
+        one = left.pop()
+        if one not in found:
+            found[one], more = definitions_in(*one)
+            left += more
+    return sorted(it for it in found.items() if it[1])
+
+
+def seen_by(crate, words):
+    """What a crate whose sources have these words sees of the libraries below it, and the files of specs/ that this imports."""
+    sources = [it for library in libraries_below(crate, read_crates()) for it in sources_of(library)]
+    functions = [[one for one in source.functions if one[0] in words] for source in sources]
+    types = types_in(repr(functions)) | {it for it in words if it[0].isupper()}
+    seen = set()
+    while more := [n for n, it in enumerate(sources) if n not in seen and it.words & types]:
+        seen.update(more)
+        types |= {word for n in more for word in types_in(repr(sources[n].items))}
+    seen_items = [sources[n].items for n in sorted(seen)]
+    imports = [it for n, source in enumerate(sources) if n in seen or functions[n] for it in source.imports]
+    return [seen_items, functions], imports
 
 
 def checksum(crate):
     folder = folder_of(crate)
     files = sorted(path for pattern in OWN for path in folder.glob(pattern))
     made_of = [(str(path.relative_to(folder)), path.read_text()) for path in files]
-    below = [seen_of(it) for it in libraries_below(crate, read_crates())]
-    return hashlib.sha256(repr((made_of, below)).encode()).hexdigest()[:16]
+    words = {word for name, text in made_of if not name.startswith(("specs", "proofs")) for word in WORD.findall(text)}
+    seen, imports = seen_by(crate, words)
+    imports += [it for name, text in made_of if name.startswith(("src", "specs")) for it in IMPORT.findall(text)]
+    return hashlib.sha256(repr((made_of, seen, definitions_behind(imports))).encode()).hexdigest()[:16]
