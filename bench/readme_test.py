@@ -3,8 +3,8 @@
 
 A command is a line `$ ..` of an indented block; what it writes, on standard output and standard error, are the lines after it. `dbus-wire` is the
 program that was built by `make build`. Without it README's commands are run by `rt try`, which builds the program without proofs for each run: some
-minutes in all. A command with `jq` is passed over if there is none. The exit status is 1 if a command writes something else, or if code of a page
-that is said to be from a crate does not stand there.
+minutes in all. A command with `jq` is passed over if there is none. The exit status is 1 if a command writes something else, or if code of
+docs/EXAMPLES.md that is said to be from a crate is not there.
 """
 
 import difflib
@@ -18,7 +18,7 @@ import tempfile
 
 from crate_list import ROOT, folder_of
 
-README, RECIPES = ROOT / "README.md", ROOT / "docs" / "RECIPES.md"
+README, RECIPES, EXAMPLES = ROOT / "README.md", ROOT / "docs" / "RECIPES.md", ROOT / "docs" / "EXAMPLES.md"
 BUILT = folder_of("dbus_wire") / "out" / "dbus_wire"
 
 # `rt try` does not wait for input that comes late, and what it says itself, and empty lines, come on standard error too.
@@ -90,9 +90,9 @@ def is_as_shown(command, wanted, folder):
 
 def main():
     text = "".join(page.read_text() for page in ((README, RECIPES) if BUILT.exists() else (README,)))
-    misquotes = list(misquoted(text))
+    misquotes = list(misquoted(EXAMPLES.read_text()))
     for crate in misquotes:
-        print(f"the code from {crate} does not stand there")
+        print(f"the code from {crate} is not there")
     with tempfile.TemporaryDirectory() as folder:
         make_program(folder)
         right = [is_as_shown(command, wanted, folder) for command, wanted in shown(text)]
