@@ -1,6 +1,8 @@
 //! Answers to the bytes of a message.
 
 use crate::bytes::number_of;
+use crate::case::Case;
+use crate::case_fault::CaseFault;
 use dbus_value_model::{Fault, Reason};
 use std::alloc::{AllocError, Global};
 use std::fmt;
@@ -108,5 +110,13 @@ pub fn answer_of(alloc: Global, column: &str) -> Result<Option<Answer>, AllocErr
     match column.strip_prefix("refused ") {
         Some(text) => refused_of(alloc, text),
         None => Ok(None),
+    }
+}
+
+/// The answer to a message's bytes that the column of this number says.
+pub fn answer_in(alloc: Global, case: &Case, n: usize) -> Result<Answer, CaseFault> {
+    match answer_of(alloc, case.column(n))? {
+        Some(answer) => Ok(answer),
+        None => Err(case.malformed("no answer to a message's bytes")),
     }
 }

@@ -1,10 +1,7 @@
 //! The cases of a text.
 
-use crate::answer::{Answer, answer_of};
 use crate::bytes::{bytes_of, number_of};
 use crate::case_fault::CaseFault;
-use crate::limits::limits_of;
-use dbus_value_model::Limits;
 use std::alloc::{AllocError, Global};
 
 /// A case: the columns of a line. The first, of number 0, is its name.
@@ -36,22 +33,6 @@ impl<'a> Case<'a> {
     /// The column of this number as bytes.
     pub fn bytes(&self, alloc: Global, n: usize) -> Result<Vec<u8>, CaseFault> {
         bytes_of(alloc, self.column(n), self.line)
-    }
-
-    /// The column of this number as limits.
-    pub fn limits(&self, n: usize) -> Result<Limits, CaseFault> {
-        match limits_of(self.column(n)) {
-            Some(limits) => Ok(limits),
-            None => Err(self.malformed("no limits")),
-        }
-    }
-
-    /// The column of this number as the answer to a message's bytes.
-    pub fn answer(&self, alloc: Global, n: usize) -> Result<Answer, CaseFault> {
-        match answer_of(alloc, self.column(n))? {
-            Some(answer) => Ok(answer),
-            None => Err(self.malformed("no answer to a message's bytes")),
-        }
     }
 
     /// The column of this number as a decimal number.

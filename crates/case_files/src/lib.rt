@@ -23,7 +23,7 @@
 //! for case in cases(rt.alloc(), text.as_str(), 4)?.iter() {
 //!     tally.begin(case);
 //!     let bytes = case.bytes(rt.alloc(), 2)?;
-//!     let wanted = case.answer(rt.alloc(), 3)?;
+//!     let wanted = answer_in(rt.alloc(), case, 3)?;
 //!     tally.compare(&rt, "decode", &wanted, &decoded(&bytes))?;
 //! }
 //! tally.end(&rt)?;
@@ -40,9 +40,9 @@ mod case_fault;
 mod limits;
 mod tally;
 
-pub use answer::{Answer, answer_of};
+pub use answer::{Answer, answer_in, answer_of};
 pub use bytes::{bytes_of, number_of};
 pub use case::{Case, cases};
 pub use case_fault::CaseFault;
-pub use limits::limits_of;
+pub use limits::limits_in;
 pub use tally::Tally;

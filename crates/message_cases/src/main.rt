@@ -20,7 +20,7 @@ mod validating;
 mod viewing;
 
 use anyhow::{Context, Result};
-use case_files::{Case, Tally, cases};
+use case_files::{Case, Tally, answer_in, cases, limits_in};
 use engine::try_engines;
 use input::Input;
 use reading::try_readers;
@@ -48,8 +48,8 @@ const FILES: [(&str, bool); 4] = [
 
 // A case in both orders. The column of one order may be empty.
 fn try_case(rt: &HostRuntime, tally: &mut Tally, case: &Case, decides: bool) -> Result<()> {
-    let limits = case.limits(LIMITS)?;
-    let wanted = case.answer(rt.alloc(), ANSWER)?;
+    let limits = limits_in(case, LIMITS)?;
+    let wanted = answer_in(rt.alloc(), case, ANSWER)?;
     let little = case.bytes(rt.alloc(), LITTLE)?;
     let big = case.bytes(rt.alloc(), BIG)?;
     for bytes in [&little, &big] {

@@ -5,7 +5,7 @@ use crate::outcome::{Contents, Rest, contents_of};
 use crate::reading::read_all;
 use crate::runs::{End, ran};
 use anyhow::Result;
-use case_files::{Case, Tally, cases};
+use case_files::{Case, Tally, cases, limits_in};
 use dbus_match::parse_rule;
 use dbus_message::encode;
 use dbus_show::show_message;
@@ -176,7 +176,7 @@ fn try_stream(rt: &HostRuntime, tally: &mut Tally, case: &Case) -> Result<()> {
     let alloc = rt.alloc();
     let stream = Stream {
         bytes: case.bytes(alloc, 2)?,
-        limits: case.limits(1)?,
+        limits: limits_in(case, 1)?,
     };
     let contents = contents_of(alloc, &stream.bytes, stream.limits)?;
     let line = line_of_column(alloc, case.column(3))?;
