@@ -1,9 +1,9 @@
 #!/usr/bin/env python3
 """api.py [--check]: writes docs/API.md, the calls of the libraries by what a caller wants to do, out of the sources.
 
-A call is a public function, or a method of a public type or trait, that a crate of CALLERS declares or re-exports. Laws are none:
-docs/PROVED.md names them. With --check nothing is written, and the exit status is 1 if the page is not current. It is 1 too if a call has
-no doc comment.
+A call is a public function, or a method of a public type or trait, that a crate of CALLERS declares or re-exports. A law is a function
+without a body in a module `laws`. With --check nothing is written, and the exit status is 1 if the page is not current. It is 1 too if a call
+or a law has no doc comment.
 """
 
 import collections
@@ -11,13 +11,17 @@ import re
 import sys
 
 from crate_list import ROOT, read_crates
-from sources import TYPES, all_types, cases, exports, methods
+from sources import TYPES, all_items, all_types, cases, exports, methods
 
 PAGE = ROOT / "docs" / "API.md"
 
 # What a program names in its line of crates.txt. A call is listed under the first of them that has it.
-CALLERS = """dbus_value dbus_message dbus_compose dbus_body dbus_validate dbus_swap dbus_stream dbus_device dbus_match dbus_rule_set dbus_auth dbus_handshake_input
-    dbus_auth_lines dbus_count dbus_show dbus_show_handshake dbus_show_view dbus_json dbus_explain dbus_types dbus_texts""".split()
+CALLERS = """dbus_c dbus_value dbus_message dbus_compose dbus_body dbus_validate dbus_swap dbus_stream dbus_device dbus_match dbus_rule_set dbus_auth dbus_handshake_input
+    dbus_auth_lines dbus_count dbus_show dbus_show_handshake dbus_show_view dbus_json dbus_explain dbus_types dbus_texts dbus_tool dbus_runs
+    dbus_command dbus_report""".split()
+
+# What tests are made of.
+NOT_CALLED = ("_tests", "case_files", "refusing_alloc")
 
 # Each heading, with the crates, and the files of crates, whose calls stand below it in this order.
 HEADINGS = {
@@ -33,16 +37,23 @@ HEADINGS = {
     "Print": "dbus_show/show.rt dbus_show_view dbus_json dbus_show_handshake dbus_explain dbus_show",
     "Texts and types": "dbus_types dbus_texts",
     "Limits": "dbus_value_model/limits.rt dbus_value_model/fd_rule.rt",
-    "Others": "",
+    "From C": "dbus_c",
+    "The program": "dbus_tool dbus_runs dbus_command dbus_report",
 }
+
+# What no crate of CALLERS has, which our crates call of one another.
+OWN = "Between the crates"
 
 HEAD = """\
 # The calls of the libraries
 
-`make api` prints this page out of the sources, and `make quick-test` fails if it is not current. A row has a call without its contract, the first
-sentence of its doc comment, its error type with the cases of that, and the crate that a program names in `crates.txt` to call it. The doc comment, in
-the file of the row, says the rest: when each error comes, and what stands after it. docs/PROVED.md says which clause promises what, and docs/LIBRARY.md
-how a program uses a library.
+`make api` prints this page out of the sources, and `make quick-test` fails if it is not current. A row has a call, the first sentence of its doc
+comment, its error type with the cases of that, what is proved of it, and the crate that a program names in `crates.txt` to call it. The doc comment, in
+the file of the row, says the rest: what is promised, when each error comes, and what stands after it.
+
+What is proved are the clauses of the call's contract, each by its name, or by the definition that it states if it is the only one. A method of a trait
+has the trait's clauses, if it has none of its own. docs/DEFINITIONS.md says where definitions are, docs/PROVED.md what clauses do not say, and
+docs/LIBRARY.md how a program uses a library.
 """
 
 # Of an error type with more cases the row has the name alone: "Errors" lists them.
@@ -59,7 +70,8 @@ def first_sentence(doc):
 def calls():
     """Each call once: the crate that a caller names, how it is called there, and its item."""
     seen = set()
-    for caller in (it for it in CALLERS if it in read_crates()):
+    libraries = [it for it in read_crates() if (ROOT / "crates" / it / "src" / "lib.rt").exists()]
+    for caller in dict.fromkeys(it for it in (*CALLERS, *libraries) if it in libraries and not it.endswith(NOT_CALLED)):
         for item, path in exports(caller).values():
             if item in seen:
                 continue
@@ -94,13 +106,13 @@ def cases_of(name):
     return [(case, first_sentence(doc)) for case, doc in cases(item)] if item and item.kind == "enum" else []
 
 
-def place_of(item):
+def place_of(caller, item):
     """The heading of a call, by its file, else by its crate, and the number of that below the heading."""
     for key in (f"{item.crate}/{item.file}", item.crate):
         for heading, places in HEADINGS.items():
-            if key in places.split():
+            if caller in CALLERS and key in places.split():
                 return heading, places.split().index(key)
-    return "Others", 0
+    return OWN, [*read_crates()].index(item.crate)
 
 
 def row(caller, name, item):
@@ -110,7 +122,31 @@ def row(caller, name, item):
     told = f"`{error}`" if error else ""
     if 0 < len(listed) <= CASES_IN_A_ROW:
         told += ": " + ", ".join(listed)
-    return f"| `{signature}` | {first_sentence(item.doc)} | {told} | `{caller}` | `{item.crate}/src/{item.file}` |"
+    return f"| `{signature}` | {first_sentence(item.doc)} | {told} | {proved_of(item)} | `{caller}` | `{item.crate}/src/{item.file}` |"
+
+
+def stated_in(clause):
+    """The definition that a clause without a name states, if it is one: else what it says."""
+    left = re.sub(r"\(\w+( \w+)* : [^)]*\)|\b(Is|If|On)(True|Some|None|Ok|Err)\b|\b(Some|None|Ok|Err)\b|\.[A-Z]\w+", "", clause)
+    found = re.search(r"\b[A-Z]\w+", left)
+    return found[0] if found else " ".join(clause.split()).replace("|", "\\|")
+
+
+def proved_of(item):
+    """The clauses of a call, by their names, or what an only clause states."""
+    if not item.clauses:
+        return "its trait's" if " for " in item.owner or item.owner.startswith("trait") else "that it returns"
+    return ", ".join(f"`{name or stated_in(text)}`" for name, text in item.clauses)
+
+
+def laws():
+    """The laws of all libraries, lowest crate first."""
+    libraries = (it for it in read_crates() if (ROOT / "crates" / it / "src" / "lib.rt").exists())
+    return [it for crate in libraries for it in all_items(crate) if it.kind == "fn" and it.file.endswith("laws.rt")]
+
+
+def law_row(law):
+    return f"| `{law.crate}::{law.name}` | {first_sentence(law.doc)} | {proved_of(law)} | `{law.crate}/src/{law.file}` |"
 
 
 def error_rows(listed):
@@ -130,19 +166,21 @@ def table(heading, columns, rows):
 def page(listed):
     files = list(dict.fromkeys((item.crate, item.file) for *_, item in listed))
     found = collections.defaultdict(list)
-    for call in sorted(listed, key=lambda it: (place_of(it[2]), files.index((it[2].crate, it[2].file)), it[2].line)):
-        found[place_of(call[2])[0]].append(row(*call))
+    for call in sorted(listed, key=lambda it: (place_of(it[0], it[2]), files.index((it[2].crate, it[2].file)), it[2].line)):
+        found[place_of(call[0], call[2])[0]].append(row(*call))
     lines = []
-    for heading in HEADINGS:
+    for heading in (*HEADINGS, OWN):
         if found[heading]:
-            lines += table(heading, ("call", "what it does", "errors", "crate", "file"), found[heading])
+            lines += table(heading, ("call", "what it does", "errors", "proved", "crate", "file"), found[heading])
+    lines += table("Laws", ("law", "what it says", "proved", "file"), map(law_row, laws()))
     lines += table("Errors", ("error", "when it comes", "file"), error_rows(listed))
     return HEAD + "\n".join(lines) + "\n"
 
 
 def main(*words):
     listed = list(calls())
-    faults = [f"{item.crate}/src/{item.file}: {name} has no doc comment" for _, name, item in listed if not item.doc]
+    told = [*((name, it) for caller, name, it in listed if caller in CALLERS), *((it.name, it) for it in laws())]
+    faults = [f"{it.crate}/src/{it.file}: {name} has no doc comment" for name, it in told if not it.doc]
     text = page(listed)
     if words != ("--check",):
         PAGE.write_text(text)

@@ -7,10 +7,12 @@ import re
 from crate_list import folder_of, read_crates
 
 # `kind` is the word that declares it, `doc` the lines of its comment, `line` its line in the file, from 1. `owner` is the head of the impl or the trait
-# that it stands in.
-Item = collections.namedtuple("Item", "kind name crate file line signature doc owner")
+# that it stands in. `clauses` are what a function ensures, each as its name, if it has one, and its text.
+Item = collections.namedtuple("Item", "kind name crate file line signature doc owner clauses")
 
-DECLARES = re.compile(r"( *)(pub )?(?:const |unsafe )*(fn|struct|enum|trait|type|impl)\b")
+DECLARES = re.compile(r"( *)(pub )?(?:const |unsafe |extern \"C\" )*(fn|struct|enum|trait|type|impl)\b")
+CLAUSE = re.compile(r"\n\s+(ghost|requires|ensures)\*?(?: (\w+):?)? \{")
+HEAD_ENDS = re.compile(r"\n\s+(?:ghost|requires|ensures)\*?(?: \w+:?)? \{|[{;}]$", re.M)
 ENDS = re.compile(r"^\s*(ensures|requires|ghost|\{|//)|\{$|;$")
 NAME = re.compile(r"\w+")
 TYPES = ("struct", "enum", "type", "trait")
@@ -25,8 +27,22 @@ def declaration(lines):
         said.append(line.strip())
         if ENDS.search(line):
             break
-    text = " ".join(said).removesuffix("{").strip(" ;,").removeprefix("pub ").removeprefix("unsafe ")
+    text = " ".join(said).removesuffix("{").strip(" ;,").removeprefix("pub ").removeprefix("unsafe ").removeprefix('extern "C" ')
     return text.replace("( ", "(").replace(", )", ")")
+
+
+def clauses(lines):
+    """What a function that begins on the first line ensures."""
+    text, found = "\n".join(lines), []
+    at = HEAD_ENDS.search(text).start()
+    while clause := CLAUSE.match(text, at):
+        depth, at = 1, clause.end()
+        while depth:
+            depth += {"{": 1, "}": -1}.get(text[at], 0)
+            at += 1
+        if clause[1] == "ensures":
+            found.append((clause[2] or "", text[clause.end() : at - 1].strip()))
+    return tuple(found)
 
 
 @functools.cache
@@ -47,7 +63,8 @@ def read_file(crate, file):
             # A method of a trait is as public as the trait.
             called = kind == "fn" and len(indent) == 4 and owner and (public or " for " in owner or owner.startswith("trait"))
             if called or (public and not indent):
-                items.append(Item(kind, name, crate, file, at + 1, text, tuple(doc), owner if indent else ""))
+                said = clauses(lines[at:]) if kind == "fn" else ()
+                items.append(Item(kind, name, crate, file, at + 1, text, tuple(doc), owner if indent else "", said))
         if not stripped.startswith(("///", "#[")):
             doc = []
     return items
