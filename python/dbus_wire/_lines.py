@@ -28,7 +28,7 @@ class LineCommand(enum.IntEnum):
 
 class Line(NamedTuple):
     """A line: its number of bytes, with its CR LF; its command; the mechanism of AUTH; and the hexadecimal digits of AUTH, DATA or OK, the
-    text of ERROR, or the mechanisms of REJECTED, with spaces between them. What is not there is None."""
+    text of ERROR, or the mechanisms of REJECTED, with the spaces between them and after the last one. What is not there is None."""
 
     length: int
     command: LineCommand

@@ -56,8 +56,8 @@ pub struct Line<'a> {
     pub command: Command,
     /// The mechanism of AUTH, if it names one.
     pub mechanism: Option<&'a str>,
-    /// The hexadecimal digits of AUTH's initial response, of DATA or of the GUID of OK; the text of ERROR; or the mechanisms of REJECTED,
-    /// with one or more spaces between them, and maybe some after the last. `None` if there is none.
+    /// The hexadecimal digits of AUTH's initial response, of DATA or of the GUID of OK; the text of ERROR; or the mechanisms of REJECTED
+    /// up to the line's end, with the spaces between them and after the last one. `None` if there is none.
     pub text: Option<&'a str>,
 }
 

@@ -1,8 +1,9 @@
 -- The steps of the functions that find words.
-use Rattle.std.proofs.Common.{◌≡◌, ℕ, ◌+◌, ◌-◌, ◌<◌, ◌≤◌, ◌==◌, Bool, true, false, cond, List, [], ◌∷◌, length, take, drop, get_or, refl, sym, ◌∙◌, ap, arith, length-drop, length-take}
+use Rattle.std.proofs.Common.{◌≡◌, ◌≢◌, ℕ, ◌+◌, ◌-◌, ◌<◌, ◌≤◌, ◌==◌, Bool, true, false, cond, List, [], ◌∷◌, length, take, drop, get_or, refl, sym, ◌∙◌, ap, subst, arith, length-drop, length-take}
 use Rattle.std.proofs.lemmas.Bool.{ne_eqb, false≢true, false_from_ne_true}
-use Rattle.std.proofs.lemmas.List.{at_drop_more, at_drop_all, take_all, drop-drop}
+use Rattle.std.proofs.lemmas.List.{at_drop_more, at_drop_all, take_all, drop-drop, get_or-drop}
 use Rattle.dbus_auth_lines.specs.Lines.{command_name, words, at_word_end, onto_first}
+use Rattle.dbus_auth_lines.specs.WordPlaces.{AreNextWords, IsNextWord}
 
 command_next : (b : ℕ) (bs : List ℕ) → (b ≡ 32 → ⊥) → length (command_name (b ∷ bs)) ≡ length (command_name bs) + 1
 unfolding command_name
@@ -106,3 +107,39 @@ pub starts_at : (line : List ℕ) (from k n : ℕ) → (at_word_end (drop k (dro
     → at_word_end (take n (drop (from + k) line)) ≡ true → n ≡ 0
 starts_at line from k n starts end h =
     let all = starts (ap at_word_end (drop-drop k from line ∙ sym (whole_rest line (from + k) n end)) ∙ h) in omega (arith, length-drop from line)
+
+-- ---- where words are
+
+-- the bytes of a line, found from one of them on
+module _ (line : List ℕ) (from : ℕ) (rest : List ℕ) (is : rest ≡ drop from line) where
+  rest_length : length rest ≡ length line - from
+  rest_length = ap length is ∙ length-drop from line
+
+  byte_from : (P : ℕ → Type 0) (i k : ℕ) → P (get_or rest i 0) → k ≡ from + i → P (get_or line k 0)
+  byte_from P i k h e = subst P (ap (λ (xs : List ℕ). get_or xs i 0) is ∙ get_or-drop from line i 0 ∙ ap (λ n. get_or line n 0) (sym e)) h
+
+  bytes_from : (P : ℕ → Type 0) (n : ℕ) → ((i : ℕ) → i < n → P (get_or rest i 0)) → (k : ℕ) → from ≤ k → k < from + n → P (get_or line k 0)
+  bytes_from P n each k le lt = byte_from P (k - from) k (each (k - from) (omega arith)) (omega arith)
+
+pub next_words_at : (line rest : List ℕ) (from k n : ℕ) → rest ≡ drop from line → ((i : ℕ) → i < k → get_or rest i 0 ≡ 32) → (k < length rest → get_or rest k 0 ≢ 32)
+    → from ≤ length line → k ≤ length rest → n ≡ length line - (from + k) → AreNextWords line from (record { at = from + k; length = n })
+next_words_at line rest from k n is spaces begins within le end = record {
+  follows = omega arith;
+  to_end = omega (arith, rest_length line from rest is);
+  after_spaces = bytes_from line from rest is (λ b. b ≡ 32) k spaces;
+  begins = λ some. byte_from line from rest is (λ b. b ≢ 32) k (from + k) (begins (omega (arith, rest_length line from rest is))) refl;
+}
+
+pub next_word_at : (line rest : List ℕ) (from at n k : ℕ) → rest ≡ drop at line → AreNextWords line from (record { at = at; length = n }) → (n ≡ 0 → ⊥)
+    → ((i : ℕ) → i < k → get_or rest i 0 ≢ 32) → (k < length rest → get_or rest k 0 ≡ 32) → k ≤ length rest → IsNextWord line from (record { at = at; length = k })
+next_word_at line rest from at n k is left some word stops le =
+    let all : length rest ≡ n = omega (arith, rest_length line at rest is, left.to_end) in
+    let has : k ≡ 0 → ⊥ = λ none. left.begins (omega arith) (byte_from line at rest is (λ b. b ≡ 32) k at (stops (omega arith)) (omega arith)) in
+    record {
+      follows = left.follows;
+      within = omega (arith, left.to_end);
+      after_spaces = left.after_spaces;
+      some = omega arith;
+      no_space = bytes_from line at rest is (λ b. b ≢ 32) k word;
+      ends = λ lt. byte_from line at rest is (λ b. b ≡ 32) k (at + k) (stops (omega (arith, left.to_end))) refl;
+    }

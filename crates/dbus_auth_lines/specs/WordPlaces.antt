@@ -1,6 +1,6 @@
 -- What a line says by the places of its words.
 -- D-Bus Specification, "Authentication Protocol", "Protocol Overview" and the section of each command.
-use Rattle.std.specs.Prelude.{ℕ, ◌+◌, ◌≤◌, ◌≡◌, Bool, true, false, List, [], ◌∷◌, length, take, drop, Option, Some, None, Ok}
+use Rattle.std.specs.Prelude.{ℕ, ◌+◌, ◌<◌, ◌≤◌, ◌≡◌, ◌≢◌, ◌⊎◌, min, Bool, true, false, List, [], ◌∷◌, length, take, drop, slice_index, Option, Some, None, Ok}
 use Rattle.hex.specs.Hex.{decode_of}
 use Rattle.dbus_auth_lines.specs.ClientCommands.{ClientCommand}
 use Rattle.dbus_auth_lines.specs.ClientCommands as client
@@ -27,11 +27,11 @@ HasTextAt line p text = IsWithin line p × (text ≡ text_at line p)
 abbrev pub HasHexAt : List ℕ → Place → List ℕ → Type 0
 HasHexAt line p bytes = IsWithin line p × (decode_of (text_at line p) ≡ Ok bytes)
 
--- and its text has these words; it begins with the first, or is empty
+-- and its text has these words
 abbrev pub HasWordsAt : List ℕ → Place → List (List ℕ) → Type 0
-HasWordsAt line p ws = IsWithin line p × (words (text_at line p) ≡ ws) × (at_word_end (text_at line p) ≡ true → p.length ≡ 0)
+HasWordsAt line p ws = IsWithin line p × (words (text_at line p) ≡ ws)
 
--- the places in a client's line are those of the words of this command
+-- the texts at the places in a client's line are those of this command
 abbrev pub SaysToServer : List ℕ → ClientWords → ClientCommand → Type 0
 SaysToServer line c.Auth command = command ≡ client.Auth
 SaysToServer line (c.AuthBy mech response) command =
@@ -52,6 +52,61 @@ SaysToClient line (s.Error text) command = (t : List ℕ) × (HasTextAt line tex
 SaysToClient line s.Agree command = command ≡ server.Agree
 SaysToClient line s.Other command = command ≡ server.Other
 
+-- ---- which places these are, also if other words of the line have the same bytes
+
+abbrev pub AreSpaces : List ℕ → (from to : ℕ) → Type 0
+AreSpaces line from to = (k : ℕ) → from ≤ k → k < to → slice_index line k ≡ 32
+
+-- where the next word is, from an offset on: after spaces alone, and up to a space or the line's end
+pub record IsNextWord (line : List ℕ) (from : ℕ) (p : Place) : Type 0 where
+  pub follows : from ≤ p.at
+  pub within : IsWithin line p
+  pub after_spaces : AreSpaces line from p.at
+  pub some : 0 < p.length
+  pub no_space : (k : ℕ) → p.at ≤ k → k < p.at + p.length → slice_index line k ≢ 32
+  pub ends : p.at + p.length < length line → slice_index line (p.at + p.length) ≡ 32
+
+-- if only spaces come from an offset on, it is there and has no bytes
+pub record HasNoWord (line : List ℕ) (from : ℕ) (p : Place) : Type 0 where
+  pub here : p.at ≡ from
+  pub none : p.length ≡ 0
+  pub all_spaces : AreSpaces line from (length line)
+
+abbrev pub IsWordOrNone : List ℕ → ℕ → Place → Type 0
+IsWordOrNone line from p = IsWithin line p × (IsNextWord line from p ⊎ HasNoWord line from p)
+
+-- all from the next word on up to the line's end, the spaces after the last word too; if no word comes, no bytes at the line's end
+pub record AreNextWords (line : List ℕ) (from : ℕ) (p : Place) : Type 0 where
+  pub follows : from ≤ p.at
+  pub to_end : p.at + p.length ≡ length line
+  pub after_spaces : AreSpaces line from p.at
+  pub begins : 0 < p.length → slice_index line p.at ≢ 32
+
+-- what follows ERROR and one space, up to the line's end; nothing, at the line's end, if no space follows
+pub record IsErrorText (line : List ℕ) (p : Place) : Type 0 where
+  pub at : p.at ≡ min 6 (length line)
+  pub to_end : p.at + p.length ≡ length line
+
+-- of the words in a client's line, by the offset at which its command's name ends
+abbrev pub AreClientPlaces : List ℕ → ℕ → ClientWords → Type 0
+AreClientPlaces line name_end c.Auth = Unit {0}
+AreClientPlaces line name_end (c.AuthBy mech response) = IsNextWord line name_end mech × IsWordOrNone line (mech.at + mech.length) response
+AreClientPlaces line name_end c.Cancel = Unit {0}
+AreClientPlaces line name_end c.Begin = Unit {0}
+AreClientPlaces line name_end (c.DataOf digits) = IsWordOrNone line name_end digits
+AreClientPlaces line name_end (c.Error text) = IsErrorText line text
+AreClientPlaces line name_end c.Negotiate = Unit {0}
+AreClientPlaces line name_end c.Other = Unit {0}
+
+-- and in a server's
+abbrev pub AreServerPlaces : List ℕ → ℕ → ServerWords → Type 0
+AreServerPlaces line name_end (s.Rejected mechanisms) = AreNextWords line name_end mechanisms
+AreServerPlaces line name_end (s.Accepted digits) = IsNextWord line name_end digits × (digits.length ≡ 32)
+AreServerPlaces line name_end (s.DataOf digits) = IsWordOrNone line name_end digits
+AreServerPlaces line name_end (s.Error text) = IsErrorText line text
+AreServerPlaces line name_end s.Agree = Unit {0}
+AreServerPlaces line name_end s.Other = Unit {0}
+
 -- ---- before it is known whether the words are hexadecimal: if not, the line is Other
 
 abbrev pub client_found : List ℕ → ClientWords → ClientCommand
@@ -71,24 +126,6 @@ server_found line (s.DataOf digits) = by_hex server.DataOf server.Other (decode_
 server_found line (s.Error text) = server.Error (text_at line text)
 server_found line s.Agree = server.Agree
 server_found line s.Other = server.Other
-
-abbrev pub AreClientPlaces : List ℕ → ClientWords → Type 0
-AreClientPlaces line c.Auth = Unit {0}
-AreClientPlaces line (c.AuthBy mech response) = IsWithin line mech × IsWithin line response
-AreClientPlaces line c.Cancel = Unit {0}
-AreClientPlaces line c.Begin = Unit {0}
-AreClientPlaces line (c.DataOf digits) = IsWithin line digits
-AreClientPlaces line (c.Error text) = IsWithin line text
-AreClientPlaces line c.Negotiate = Unit {0}
-AreClientPlaces line c.Other = Unit {0}
-
-abbrev pub AreServerPlaces : List ℕ → ServerWords → Type 0
-AreServerPlaces line (s.Rejected mechanisms) = IsWithin line mechanisms × (at_word_end (text_at line mechanisms) ≡ true → mechanisms.length ≡ 0)
-AreServerPlaces line (s.Accepted digits) = IsWithin line digits × (digits.length ≡ 32)
-AreServerPlaces line (s.DataOf digits) = IsWithin line digits
-AreServerPlaces line (s.Error text) = IsWithin line text
-AreServerPlaces line s.Agree = Unit {0}
-AreServerPlaces line s.Other = Unit {0}
 
 -- the only word of a text, or none at all; of more words nothing
 abbrev pub one_word : List (List ℕ) → Option (List ℕ)

@@ -6,8 +6,8 @@ ghost use Rattle.std.specs.List.{list_all};
 ghost use Rattle.hex.specs.Hex.{is_hex_digit};
 ghost use Rattle.dbus_auth_lines.specs.ClientCommands as client;
 ghost use Rattle.dbus_auth_lines.specs.ServerCommands as server;
-ghost use Rattle.dbus_auth_lines.specs.Lines.{words, alone, auth_by, accepted, client_meaning, server_meaning, client_name, server_name, client_row, server_row};
-ghost use Rattle.dbus_auth_lines.specs.WordPlaces.{AreClientPlaces, AreServerPlaces, IsWithin, SaysToClient, SaysToServer, client_found, is_hex, server_found, text_at};
+ghost use Rattle.dbus_auth_lines.specs.Lines.{command_name, words, alone, auth_by, accepted, client_meaning, server_meaning, client_name, server_name, client_row, server_row};
+ghost use Rattle.dbus_auth_lines.specs.WordPlaces.{AreClientPlaces, AreServerPlaces, IsErrorText, IsWithin, SaysToClient, SaysToServer, client_found, is_hex, server_found, text_at};
 
 use crate::words::{Place, is_alone, next_word, only_word, text_at, word_len, words_from};
 
@@ -20,16 +20,16 @@ pub enum ClientWords {
     AuthBy {
         /// The mechanism's name.
         mech: Place,
-        /// The response's hexadecimal digits, or no bytes.
+        /// The response's hexadecimal digits, or no bytes where the mechanism ends.
         response: Place,
     },
     /// `CANCEL`, which gives the mechanism up.
     Cancel,
     /// `BEGIN`, the last line: messages follow.
     Begin,
-    /// `DATA` and its hexadecimal digits, or no bytes.
+    /// `DATA` and its hexadecimal digits, or no bytes where the command ends.
     DataOf(Place),
-    /// `ERROR` and its text, which may be empty.
+    /// `ERROR` and its text, which may be empty: all after one space, up to the line's end.
     Error(Place),
     /// `NEGOTIATE_UNIX_FD`, which asks to pass descriptors.
     Negotiate,
@@ -40,14 +40,14 @@ pub enum ClientWords {
 /// What a line of a server says, by the places of its words in the line.
 #[derive(Clone, Copy, PartialEq, Eq, Debug, Drop)]
 pub enum ServerWords {
-    /// `REJECTED` and the mechanisms that the server offers: from the first one up to the line's end. Spaces separate them,
-    /// and may come after the last.
+    /// `REJECTED` and the mechanisms that the server offers: from the first one up to the line's end,
+    /// spaces after the last one too. If there are none, no bytes at the line's end.
     Rejected(Place),
     /// `OK` and the 32 hexadecimal digits of the server's GUID.
     Accepted(Place),
-    /// `DATA` and its hexadecimal digits, or no bytes.
+    /// `DATA` and its hexadecimal digits, or no bytes where the command ends.
     DataOf(Place),
-    /// `ERROR` and its text, which may be empty.
+    /// `ERROR` and its text, which may be empty: all after one space, up to the line's end.
     Error(Place),
     /// `AGREE_UNIX_FD`, which agrees to pass descriptors.
     Agree,
@@ -55,9 +55,11 @@ pub enum ServerWords {
     Other,
 }
 
-/// What a line of a client means, given without its CR LF, as [`crate::read_client`] says, without memory for its words.
+/// What a line of a client means, given without its CR LF, as [`crate::read_client`] says, without
+/// memory for its words: each is told by its own place, also if another has the same bytes.
 pub fn client_words(line: &[u8]) -> ClientWords
-    ensures { SaysToServer line.now result (client_meaning line.now) }
+    ensures says { SaysToServer line.now result (client_meaning line.now) }
+    ensures places { AreClientPlaces line.now (length (command_name line.now)) result }
 {
     let found = find_client(line);
     match found {
@@ -69,9 +71,11 @@ pub fn client_words(line: &[u8]) -> ClientWords
     }
 }
 
-/// What a line of a server means, given without its CR LF, as [`crate::read_server`] says, without memory for its words.
+/// What a line of a server means, given without its CR LF, as [`crate::read_server`] says, without
+/// memory for its words, which are told by their places as [`client_words`] tells them.
 pub fn server_words(line: &[u8]) -> ServerWords
-    ensures { SaysToClient line.now result (server_meaning line.now) }
+    ensures says { SaysToClient line.now result (server_meaning line.now) }
+    ensures places { AreServerPlaces line.now (length (command_name line.now)) result }
 {
     let found = find_server(line);
     match found {
@@ -85,7 +89,7 @@ pub fn server_words(line: &[u8]) -> ServerWords
 #[tactic(auto, unfolding(crate::specs::Lines::client_meaning, crate::specs::Lines::arguments), using(crate::proofs::Spaces::take_command_name))]
 pub(crate) fn find_client(line: &[u8]) -> ClientWords
     ensures is { client_found line.now result ≡ client_meaning line.now }
-    ensures within { AreClientPlaces line.now result }
+    ensures places { AreClientPlaces line.now (length (command_name line.now)) result }
 {
     let end = word_len(line);
     client_line_by(client_name_of(&line[..end]), line, end)
@@ -95,7 +99,7 @@ pub(crate) fn find_client(line: &[u8]) -> ClientWords
 #[tactic(auto, unfolding(crate::specs::Lines::server_meaning, crate::specs::Lines::arguments), using(crate::proofs::Spaces::take_command_name))]
 pub(crate) fn find_server(line: &[u8]) -> ServerWords
     ensures is { server_found line.now result ≡ server_meaning line.now }
-    ensures within { AreServerPlaces line.now result }
+    ensures places { AreServerPlaces line.now (length (command_name line.now)) result }
 {
     let end = word_len(line);
     server_line_by(server_name_of(&line[..end]), line, end)
@@ -106,7 +110,7 @@ pub(crate) fn find_server(line: &[u8]) -> ServerWords
 fn client_line_by(name: ClientName, line: &[u8], end: usize) -> ClientWords
     requires { end ≤ length line.now }
     ensures is { client_found line.now result ≡ client_row name (words (drop end line.now)) line.now }
-    ensures within { AreClientPlaces line.now result }
+    ensures places { AreClientPlaces line.now end result }
 {
     match name {
         ClientName::Auth => find_auth(line, end),
@@ -127,7 +131,7 @@ fn client_line_by(name: ClientName, line: &[u8], end: usize) -> ClientWords
 fn server_line_by(name: ServerName, line: &[u8], end: usize) -> ServerWords
     requires { end ≤ length line.now }
     ensures is { server_found line.now result ≡ server_row name (words (drop end line.now)) line.now }
-    ensures within { AreServerPlaces line.now result }
+    ensures places { AreServerPlaces line.now end result }
 {
     match name {
         ServerName::Rejected => ServerWords::Rejected(words_from(line, end)),
@@ -206,9 +210,9 @@ fn server_name_of(name: &[u8]) -> ServerName
 /// A line of a client that takes no words.
 fn client_alone(line: &[u8], end: usize, said: ClientWords) -> ClientWords
     requires from { end ≤ length line.now }
-    requires within { AreClientPlaces line.now said }
+    requires places { AreClientPlaces line.now end said }
     ensures is { client_found line.now result ≡ alone (client_found line.now said) client.Other (words (drop end line.now)) }
-    ensures within { AreClientPlaces line.now result }
+    ensures places { AreClientPlaces line.now end result }
 {
     if is_alone(line, end) {
         said
@@ -221,7 +225,7 @@ fn client_alone(line: &[u8], end: usize, said: ClientWords) -> ClientWords
 fn find_agree(line: &[u8], end: usize) -> ServerWords
     requires { end ≤ length line.now }
     ensures is { server_found line.now result ≡ alone server.Agree server.Other (words (drop end line.now)) }
-    ensures within { AreServerPlaces line.now result }
+    ensures places { AreServerPlaces line.now end result }
 {
     if is_alone(line, end) {
         ServerWords::Agree
@@ -234,7 +238,7 @@ fn find_agree(line: &[u8], end: usize) -> ServerWords
 fn find_auth(line: &[u8], end: usize) -> ClientWords
     requires { end ≤ length line.now }
     ensures is { client_found line.now result ≡ auth_by (words (drop end line.now)) }
-    ensures within { AreClientPlaces line.now result }
+    ensures places { AreClientPlaces line.now end result }
 {
     let Some(mech) = next_word(line, end) else {
         return ClientWords::Auth;
@@ -249,7 +253,7 @@ fn find_auth(line: &[u8], end: usize) -> ClientWords
 fn find_accepted(line: &[u8], end: usize) -> ServerWords
     requires { end ≤ length line.now }
     ensures is { server_found line.now result ≡ accepted (words (drop end line.now)) }
-    ensures within { AreServerPlaces line.now result }
+    ensures places { AreServerPlaces line.now end result }
 {
     match only_word(line, end) {
         Some(digits) if digits.length == 32 => ServerWords::Accepted(digits),
@@ -260,7 +264,7 @@ fn find_accepted(line: &[u8], end: usize) -> ServerWords
 /// What comes after `ERROR` and one space.
 fn error_text(line: &[u8]) -> Place
     ensures is { text_at line.now result ≡ drop 6 line.now }
-    ensures within { IsWithin line.now result }
+    ensures place { IsErrorText line.now result }
 {
     let at = line.len().min(6);
     Place {

@@ -3,7 +3,7 @@
 
 ghost use Rattle.std.specs.Prelude.{◌≡◌, ◌+◌, ◌++◌, Some, None, IfOk, option_map, map, length};
 ghost use Rattle.hex.specs.Hex.{decode_of};
-ghost use Rattle.dbus_auth_lines.specs.Lines.{words, by_hex, client_meaning, server_meaning};
+ghost use Rattle.dbus_auth_lines.specs.Lines.{command_name, words, by_hex, client_meaning, server_meaning};
 ghost use Rattle.dbus_auth_lines.specs.LineForms.{MeansToServer, MeansToClient};
 ghost use Rattle.dbus_auth_lines.specs.ServerCommands as server;
 ghost use Rattle.dbus_auth_lines.specs.LineViews.{client_command, server_command};
@@ -48,7 +48,7 @@ fn copy_client<A: Allocator + Copy>(
     words: ClientWords,
     line: &[u8],
 ) -> Result<ClientLine<A>, AllocError>
-    requires { AreClientPlaces line.now words }
+    requires { AreClientPlaces line.now (length (command_name line.now)) words }
     ensures { IfOk result (λ said. client_command said ≡ client_found line.now words) }
 {
     Ok(match words {
@@ -78,7 +78,7 @@ fn copy_server<A: Allocator + Copy>(
     words: ServerWords,
     line: &[u8],
 ) -> Result<ServerLine<A>, AllocError>
-    requires { AreServerPlaces line.now words }
+    requires { AreServerPlaces line.now (length (command_name line.now)) words }
     ensures { IfOk result (λ said. server_command said ≡ server_found line.now words) }
 {
     Ok(match words {

@@ -1,9 +1,9 @@
 //! A line as a command and words.
 //! D-Bus Specification, "Authentication Protocol", "Protocol Overview".
 
-ghost use Rattle.std.specs.Prelude.{◌≡◌, ℕ, ◌+◌, ◌≤◌, true, false, List, [], ◌∷◌, length, drop, MatchOption, IfSome, option_map};
+ghost use Rattle.std.specs.Prelude.{◌≡◌, ◌≢◌, ℕ, ◌+◌, ◌<◌, ◌≤◌, true, false, List, [], ◌∷◌, length, drop, slice_index, MatchOption, IfSome, option_map};
 ghost use Rattle.dbus_auth_lines.specs.Lines.{alone, command_name, words, at_word_end};
-ghost use Rattle.dbus_auth_lines.specs.WordPlaces.{IsWithin, one_word, text_at};
+ghost use Rattle.dbus_auth_lines.specs.WordPlaces.{AreNextWords, AreSpaces, IsNextWord, IsWithin, IsWordOrNone, one_word, text_at};
 
 /// Where a text stands in a line. If there is no such text, it has no bytes.
 #[derive(Clone, Copy, PartialEq, Eq, Debug, Drop)]
@@ -36,6 +36,8 @@ pub(crate) fn rest_of(line: &[u8], from: usize) -> &[u8]
 pub(crate) fn word_len(bytes: &[u8]) -> usize
     ensures is { result ≡ length (command_name bytes.now) }
     ensures within { result ≤ length bytes.now }
+    ensures no_space { (k : ℕ) → k < result → slice_index bytes.now k ≢ 32 }
+    ensures ends { result < length bytes.now → slice_index bytes.now result ≡ 32 }
 {
     for (i, b) in bytes.iter().enumerate() {
         if *b == b' ' {
@@ -51,6 +53,8 @@ fn space_count(bytes: &[u8]) -> usize
     ensures within { result ≤ length bytes.now }
     ensures same_words { words (drop result bytes.now) ≡ words bytes.now }
     ensures starts { at_word_end (drop result bytes.now) ≡ true → result ≡ length bytes.now }
+    ensures spaces { (k : ℕ) → k < result → slice_index bytes.now k ≡ 32 }
+    ensures begins { result < length bytes.now → slice_index bytes.now result ≢ 32 }
 {
     for (i, b) in bytes.iter().enumerate() {
         if *b != b' ' {
@@ -64,7 +68,7 @@ fn space_count(bytes: &[u8]) -> usize
 #[tactic(auto, using(crate::proofs::Spaces::words_at, crate::proofs::Spaces::starts_at))]
 pub(crate) fn words_from(line: &[u8], from: usize) -> Place
     requires { from ≤ length line.now }
-    ensures within { result.at + result.length ≡ length line.now }
+    ensures place { AreNextWords line.now from result }
     ensures is { words (text_at line.now result) ≡ words (drop from line.now) }
     ensures starts { at_word_end (text_at line.now result) ≡ true → result.length ≡ 0 }
 {
@@ -81,7 +85,7 @@ pub(crate) fn next_word(line: &[u8], from: usize) -> Option<Place>
     requires { from ≤ length line.now }
     ensures is { MatchOption result (words (drop from line.now) ≡ [])
         (λ p. words (drop from line.now) ≡ text_at line.now p ∷ words (drop (p.at + p.length) line.now)) }
-    ensures within { IfSome result (λ p. IsWithin line.now p) }
+    ensures place { MatchOption result (AreSpaces line.now from (length line.now)) (λ p. IsNextWord line.now from p) }
 {
     let left = words_from(line, from);
     if left.length == 0 {
@@ -105,7 +109,7 @@ pub(crate) fn is_alone(line: &[u8], from: usize) -> bool
 pub(crate) fn only_word(line: &[u8], from: usize) -> Option<Place>
     requires { from ≤ length line.now }
     ensures is { option_map (text_at line.now) result ≡ one_word (words (drop from line.now)) }
-    ensures within { IfSome result (λ p. IsWithin line.now p) }
+    ensures place { IfSome result (λ p. IsWordOrNone line.now from p) }
 {
     let Some(word) = next_word(line, from) else {
         return Some(Place {

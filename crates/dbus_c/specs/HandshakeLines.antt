@@ -3,8 +3,8 @@
 use Rattle.std.specs.Prelude.{◌≡◌, ℕ, ◌+◌, ◌==◌, List, length, if◌then◌else◌}
 use Rattle.dbus_auth_lines.specs.Cut.{Fault, TooLong, BadByte}
 use Rattle.dbus_auth_lines.specs.FirstLine.{Beginning, WholeLine, Faulty, Unfinished}
-use Rattle.dbus_auth_lines.specs.Lines.{client_meaning, server_meaning}
-use Rattle.dbus_auth_lines.specs.WordPlaces.{SaysToServer, SaysToClient}
+use Rattle.dbus_auth_lines.specs.Lines.{client_meaning, command_name, server_meaning}
+use Rattle.dbus_auth_lines.specs.WordPlaces.{AreClientPlaces, AreServerPlaces, SaysToServer, SaysToClient}
 use Rattle.dbus_auth_lines.specs.declared.words.Place.{Place}
 use Rattle.dbus_auth_lines.specs.declared.places.ClientWords.{ClientWords}
 use Rattle.dbus_auth_lines.specs.declared.places.ClientWords.TheVariants as c
@@ -45,12 +45,18 @@ server_told n (s.Error text) = line_told n command.ERROR nowhere text
 server_told n s.Agree = line_told n command.AGREE_UNIX_FD nowhere nowhere
 server_told n s.Other = line_told n command.OTHER nowhere nowhere
 
--- of a line, here without its CR LF, what it means is told with the places of its words
-abbrev pub HasClientLine : List ℕ → HandshakeLine → Type 0
-HasClientLine line told = (words : ClientWords) × (SaysToServer line words (client_meaning line) × (told ≡ client_told (length line + 2) words))
+-- of a line, here without its CR LF, what it means is told with the words' own places
+pub record HasClientLine (line : List ℕ) (told : HandshakeLine) : Type 0 where
+  pub words : ClientWords
+  pub says : SaysToServer line words (client_meaning line)
+  pub places : AreClientPlaces line (length (command_name line)) words
+  pub is_told : told ≡ client_told (length line + 2) words
 
-abbrev pub HasServerLine : List ℕ → HandshakeLine → Type 0
-HasServerLine line told = (words : ServerWords) × (SaysToClient line words (server_meaning line) × (told ≡ server_told (length line + 2) words))
+pub record HasServerLine (line : List ℕ) (told : HandshakeLine) : Type 0 where
+  pub words : ServerWords
+  pub says : SaysToClient line words (server_meaning line)
+  pub places : AreServerPlaces line (length (command_name line)) words
+  pub is_told : told ≡ server_told (length line + 2) words
 
 -- where more bytes are wanted
 abbrev pub nothing_told : HandshakeLine

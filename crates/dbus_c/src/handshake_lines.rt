@@ -32,7 +32,7 @@ pub struct HandshakeLine {
     /// The mechanism of `AUTH`.
     pub mechanism: TextPlace,
     /// The hexadecimal digits of the response of `AUTH`, of `DATA` or of the GUID of `OK`; the text of `ERROR`; the mechanisms of
-    /// `REJECTED`, from the first one up to the line's end.
+    /// `REJECTED`, from the first one up to the line's end, with the spaces after the last one.
     pub text: TextPlace,
 }
 
