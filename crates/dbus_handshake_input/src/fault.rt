@@ -36,6 +36,7 @@ pub enum HandshakeReason {
     NoCommand,
     /// The input ended within the handshake: at its end.
     Truncated,
-    /// After 1,024 lines the handshake has not ended: at the end of these.
+    /// The handshake does not end within 1,024 lines of a client, or 1,023 of a server: at the end of
+    /// 1,024 lines.
     TooManyLines,
 }

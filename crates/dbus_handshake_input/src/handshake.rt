@@ -66,7 +66,8 @@ pub fn pass_handshake<A: Allocator + Copy, R: Source>(
 }
 
 /// Takes the handshake of a side from the source, as [`pass_handshake`] does, hands each line of it to the visitor, and returns how many
-/// lines and bytes it has. The visitor has a line before bytes after it are read.
+/// lines and bytes it has. The visitor has a line before the next one is sought, but bytes after it
+/// may be read by then: one read of the source takes what it gives, up to 512 bytes.
 ///
 /// `Refused`, `Device`, `Memory`: as [`pass_handshake`] says; the visitor has the lines before that place.
 pub fn read_handshake<A: Allocator + Copy, R: Source, V: LineVisitor>(
