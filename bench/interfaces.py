@@ -1,7 +1,8 @@
 """What the wrong bodies of a crate rest on, as a checksum: the crate's own files, and what it sees of the libraries below it.
 
-Of a library it sees the public functions that its own sources name, the types, traits and constants that these and its sources name, with those
-that stand beside them, and the files of specs/ that all these and its contracts import, with those that these import in turn."""
+Of a library it sees the public functions that its sources name: methods of types that it sees, others if it names the library. It sees the types,
+traits and constants that its sources, those functions and such types name, and the files of specs/ that all these and its contracts import, with
+those that these import in turn."""
 
 import collections
 import functools
@@ -20,9 +21,9 @@ IMPORT = re.compile(r"\bRattle\.(\w+)\.specs\.(\w+)")
 WORD = re.compile(r"\w+")
 DECLARES = re.compile(r"(pub (?:struct|enum|trait|type|const|static)|(?:unsafe )?impl)\b")
 
-# Of a source file: what stands outside of functions, with the methods of traits; the words by which that is named; the public functions, each
-# by its name; and the files of specs/ that it imports.
-Source = collections.namedtuple("Source", "items words functions imports")
+# Of a source file: its library and those that it names; what stands outside of functions, with the methods of traits; the words by which that is
+# named; the public functions, each by its name; and the files of specs/ that it imports.
+Source = collections.namedtuple("Source", "library libraries items words functions imports")
 
 
 def head_of(lines):
@@ -43,15 +44,37 @@ def types_in(text):
     return {it for it in WORD.findall(text) if it[0].isupper()}
 
 
-def read_source(text):
+def named_in(text):
+    return set(WORD.findall(text)) & set(read_crates())
+
+
+@functools.cache
+def passed_on(library):
+    """The libraries whose items a library passes on."""
+    root = folder_of(library) / "src" / "lib.rt"
+    return named_in("".join(re.findall(r"^pub use .*", root.read_text(), re.M))) if root.exists() else set()
+
+
+def libraries_in(text):
+    """The libraries that a text names, and those whose items these pass on."""
+    found, left = set(), named_in(text)
+    while left:
+        found |= left
+        left = {it for library in left for it in passed_on(library)} - found
+    return found
+
+
+def read_source(library, text):
     """What other crates can rest on: not comments, the bodies of functions, and functions that none of them can call."""
     lines = [it for it in text.splitlines() if not SILENT.match(it)]
     items, functions, owner, at = [], [], "", 0
     while at < len(lines):
         line, found = lines[at], HEAD.match(lines[at])
         if not found:
-            owner = line if line.startswith(("impl", "trait", "pub trait")) else owner
-            items.append(line)
+            owner = line if not line.startswith((" ", "}", "#")) else owner
+            # What stands in an impl of no trait beside functions is no other crate's business.
+            if not owner.startswith("impl") or " for " in owner:
+                items.append(line)
             at += 1
             continue
         size, has_body = head_of(lines[at:])
@@ -64,13 +87,13 @@ def read_source(text):
         while has_body and lines[at] != found[1] + "}":
             at += 1
         at += has_body
-    words = {word for it in items if DECLARES.match(it.lstrip()) for word in types_in(it)}
-    return Source(items, words, functions, IMPORT.findall(text))
+    words = {word for it in lines if DECLARES.match(it) for word in types_in(it)}
+    return Source(library, libraries_in(text) | {library}, items, words, functions, IMPORT.findall(text))
 
 
 @functools.cache
 def sources_of(library):
-    return [read_source(it.read_text()) for it in sorted((folder_of(library) / "src").glob("*.rt"))]
+    return [read_source(library, it.read_text()) for it in sorted((folder_of(library) / "src").glob("*.rt"))]
 
 
 @functools.cache
@@ -98,15 +121,24 @@ def definitions_behind(imports):
 def seen_by(crate, words):
     """What a crate whose sources have these words sees of the libraries below it, and the files of specs/ that this imports."""
     sources = [it for library in libraries_below(crate, read_crates()) for it in sources_of(library)]
-    functions = [[one for one in source.functions if one[0] in words] for source in sources]
-    types = types_in(repr(functions)) | {it for it in words if it[0].isupper()}
-    seen = set()
-    while more := [n for n, it in enumerate(sources) if n not in seen and it.words & types]:
-        seen.update(more)
-        types |= {word for n in more for word in types_in(repr(sources[n].items))}
-    seen_items = [sources[n].items for n in sorted(seen)]
-    imports = [it for n, source in enumerate(sources) if n in seen or functions[n] for it in source.imports]
-    return [seen_items, functions], imports
+    own = libraries_in(" ".join(words))
+    # Each word that may name a type, with the library that declares it.
+    types = {(it, library) for it in types_in(" ".join(words)) for library in own}
+    seen, functions = set(), {}
+    while True:
+        before = len(types)
+        for n, it in enumerate(sources):
+            if n not in seen and any((word, it.library) in types for word in it.words):
+                seen.add(n)
+                types |= {(word, library) for word in types_in(repr(it.items)) for library in it.libraries}
+            # A method is called on a value of a type that is seen, any other function by the name of its library.
+            if n in seen or it.library in own:
+                functions[n] = [one for one in it.functions if one[0] in words]
+                types |= {(word, library) for word in types_in(repr(functions[n])) for library in it.libraries}
+        if len(types) == before:
+            break
+    imports = [it for n in sorted({*seen, *(n for n, found in functions.items() if found)}) for it in sources[n].imports]
+    return [[sources[n].items for n in sorted(seen)], [functions[n] for n in sorted(functions)]], imports
 
 
 def checksum(crate):
