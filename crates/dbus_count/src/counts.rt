@@ -32,8 +32,8 @@ pub struct Counts {
 }
 
 impl Counts {
-    ghost use Rattle.std.specs.Prelude.{◌≡◌, List, ℕ, OnOk, Some, codes, length, option_map, string_bytes};
-    ghost use Rattle.dbus_count.specs.Counting.{nothing, with_name, with_names};
+    ghost use Rattle.std.specs.Prelude.{◌≡◌, List, ℕ, OnErr, OnOk, Some, codes, length, option_map, string_bytes};
+    ghost use Rattle.dbus_count.specs.Counting.{CountsFirst, nothing, with_name, with_names};
     ghost use Rattle.dbus_count.specs.Kept.{counting_of};
     ghost use Rattle.dbus_count.specs.Names.{member_of, named, names_of};
     ghost use Rattle.dbus_value_model.specs.declared.order.Order.{Order};
@@ -55,10 +55,13 @@ impl Counts {
     /// Counts the message of the view under each name that it has. An allocation is made only for a name that is new, or longer than
     /// those before it. D-Bus Specification, "Header Fields".
     ///
-    /// `AllocError`: an allocation failed, and the message is counted under some of its names.
+    /// `AllocError`: an allocation failed. Then the message is counted under the names that come before the first one whose count
+    /// takes memory that is not there, in the order type, sender, destination, interface, member, error; and under no other.
     pub fn add(&mut self, view: &MessageView) -> Result<(), AllocError>
-        ensures { (order : Order) (m : MessageTree) → Views view.now order m → OnOk result ((name : List ℕ) →
+        ensures counted { (order : Order) (m : MessageTree) → Views view.now order m → OnOk result ((name : List ℕ) →
             counting_of self.new name ≡ with_names (names_of m) (length view.now.bytes) name (counting_of self.old name)) }
+        ensures failed { (order : Order) (m : MessageTree) → Views view.now order m → OnErr result
+            (CountsFirst (names_of m) (length view.now.bytes) (counting_of self.old) (counting_of self.new)) }
     {
         let size = view.bytes().len() as u64;
         self.count_kind(view.kind(), size)?;
@@ -71,8 +74,10 @@ impl Counts {
 
     // Counts a message of this size under its type.
     fn count_kind(&mut self, kind: u8, size: u64) -> Result<(), AllocError>
-        ensures { OnOk result ((other : List ℕ) → counting_of self.new other ≡
+        ensures counted { OnOk result ((other : List ℕ) → counting_of self.new other ≡
             with_names (named (codes "type ") (Some (kind_text kind))) size other (counting_of self.old other)) }
+        ensures failed { OnErr result
+            (CountsFirst (named (codes "type ") (Some (kind_text kind))) size (counting_of self.old) (counting_of self.new)) }
     {
         let mut name = StringDraft::new(&mut self.spare);
         name.push_str("type ");
@@ -83,8 +88,10 @@ impl Counts {
 
     // Counts a message of this size under the name, if it has one.
     fn count_name(&mut self, word: &str, name: Option<&str>, size: u64) -> Result<(), AllocError>
-        ensures { OnOk result ((other : List ℕ) → counting_of self.new other ≡
+        ensures counted { OnOk result ((other : List ℕ) → counting_of self.new other ≡
             with_names (named word.now (option_map (λ t. t.now) name.entry)) size other (counting_of self.old other)) }
+        ensures failed { OnErr result
+            (CountsFirst (named word.now (option_map (λ t. t.now) name.entry)) size (counting_of self.old) (counting_of self.new)) }
     {
         let Some(name) = name else {
             return Ok(());
@@ -102,8 +109,10 @@ impl Counts {
         member: Option<&str>,
         size: u64,
     ) -> Result<(), AllocError>
-        ensures { OnOk result ((other : List ℕ) → counting_of self.new other ≡
+        ensures counted { OnOk result ((other : List ℕ) → counting_of self.new other ≡
             with_names (named (codes "member ") (member_of (option_map (λ t. t.now) interface.entry) (option_map (λ t. t.now) member.entry))) size other (counting_of self.old other)) }
+        ensures failed { OnErr result
+            (CountsFirst (named (codes "member ") (member_of (option_map (λ t. t.now) interface.entry) (option_map (λ t. t.now) member.entry))) size (counting_of self.old) (counting_of self.new)) }
     {
         let Some(member) = member else {
             return Ok(());
@@ -120,8 +129,9 @@ impl Counts {
 
     // Counts a message of this size by the name that is spared.
     fn count_spare(&mut self, size: u64) -> Result<(), AllocError>
-        ensures { OnOk result ((name : List ℕ) →
+        ensures counted { OnOk result ((name : List ℕ) →
             counting_of self.new name ≡ with_name (string_bytes self.old.spare) size name (counting_of self.old name)) }
+        ensures failed { OnErr result ((name : List ℕ) → counting_of self.new name ≡ counting_of self.old name) }
     {
         if let Some(count) = self.names.get_mut(self.spare.as_str()) {
             *count = count.with_one(size);

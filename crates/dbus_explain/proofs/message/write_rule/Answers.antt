@@ -1,5 +1,0 @@
-use Rattle.dbus_show.proofs.Gaining.{then}
-use Rattle.dbus_explain.proofs.message.write_rule.Goals as goal
-
-pub returns : goal.returns
-returns g c = then g.D.Draft.gains g.met.D.Draft.joins c.push_str.ensures (then g.D.Draft.gains g.met.D.Draft.joins c.push_str-2.ensures (c.push_str-3.ensures))
