@@ -1,14 +1,13 @@
 -- Texts of bytes in a row.
 use Rattle.std.proofs.Common.{◌≡◌, ◌≤◌, ◌<◌, ℕ, ◌+◌, ◌-◌, List, [], ◌∷◌, ◌++◌, length, get_or, take, drop, min, codes, sym, ap, ap₂, ◌∙◌, subst, arith, append-nil}
-use Rattle.std.specs.List.{concat, flat_map}
+use Rattle.std.specs.List.{flat_map}
 use Rattle.std.proofs.Math.Nat.{min_comm}
 use Rattle.std.proofs.lemmas.List.{take_min, take_more, take_rest}
 use Rattle.std.proofs.lemmas.List.Concat.{flat_map-append}
 use Rattle.hex.specs.Hex.{encode_lower}
-use Rattle.dbus_show.specs.ShownValues.{quoted}
 use Rattle.dbus_show.proofs.Gaining.{then}
 use Rattle.dbus_explain.specs.Windows.{byte_text, marked, window}
-use Rattle.dbus_explain.specs.ExplainedRules.{blank_of, marked_rule}
+use Rattle.dbus_explain.specs.ExplainedRules.{blank_of, mark_line}
 
 -- the text of one more is after those before
 one_last : (text : ℕ → List ℕ) (bs : List ℕ) (b : ℕ) → flat_map text (bs ++ b ∷ []) ≡ flat_map text bs ++ text b
@@ -36,5 +35,5 @@ window_is bytes front back at start n f b s e =
     ap₂ (λ x y. flat_map byte_text x ++ marked y) before from
 
 -- a place past a text's end is marked as the end is
-pub marked_within : (text : List ℕ) (at n : ℕ) → n ≡ min at (length text) → marked_rule text n ≡ marked_rule text at
-marked_within text at n e = ap (λ front. concat (codes "  " ∷ quoted text ∷ codes "\n   " ∷ flat_map blank_of front ∷ codes "^" ∷ [])) (ap (λ k. take k text) e ∙ take_min at text)
+pub marked_within : (text : List ℕ) (at n : ℕ) → n ≡ min at (length text) → mark_line text n ≡ mark_line text at
+marked_within text at n e = ap (λ front. codes "   " ++ (flat_map blank_of front ++ codes "^")) (ap (λ k. take k text) e ∙ take_min at text)

@@ -1,10 +1,11 @@
 //! Why a message is refused.
 #![tactic(auto)]
 
-ghost use Rattle.std.specs.Prelude.{◌≡◌, ℕ, List};
-ghost use Rattle.dbus_explain.specs.Explained.{IsExplained, place_in, place_line, rule_line};
+ghost use Rattle.std.specs.Prelude.{◌≡◌, ◌≤◌, ℕ, List, length};
+ghost use Rattle.dbus_explain.specs.Explained.{IsExplained, place_in, place_line};
+ghost use Rattle.dbus_explain.specs.Names.{IsNameOf};
 
-use crate::places::place_of;
+use crate::places::write_name;
 use crate::reasons::rule_of;
 use crate::window::write_window;
 use dbus_show::{Draft, write_integer};
@@ -23,7 +24,7 @@ pub struct Refused<'a> {
     pub offset: u64,
 }
 
-/// Appends three lines that explain why a message is refused.
+/// Appends three lines that explain why a message is refused, each ended by a line feed, with no other one in it.
 ///
 /// The first has the message's number and where it begins, the place of the fault from there, and its name: a part of the header, a
 /// header field, or the path to a value, such as `body[1][3].key`, in which arrays and structs count from 0. The second has the
@@ -36,16 +37,18 @@ pub struct Refused<'a> {
 ///   a BOOLEAN is 0 or 1 (D-Bus Specification, "Marshaling (Wire Format)")
 /// ```
 ///
-/// Of a place past the bytes, their end is named and shown. Any bytes and any fault are safe, and only the draft allocates. The name of the
-/// place and the last line are not proved. D-Bus Specification, "Message Protocol".
+/// Of a place past the bytes, their end is named and shown. Any bytes and any fault are safe, and only the draft allocates. That a path
+/// goes as far as it can, and which rule is said, are not proved. D-Bus Specification, "Message Protocol".
 pub fn explain_message<D: Draft>(draft: &mut D, refused: &Refused)
     ensures { (text : List ℕ) × IsExplained refused.now text × D.gains draft.old text draft.new }
 {
     let at = place_in(refused.bytes, refused.fault);
-    let place = place_of(refused.bytes, refused.fault.reason, at);
-    write_place(draft, refused, at, place.text.as_str());
+    write_place(draft, refused, at);
+    draft.push_str("\n ");
     write_window(draft, refused.bytes, at);
-    write_rule(draft, rule_of(refused.fault.reason));
+    draft.push_str("\n  ");
+    draft.push_str(rule_of(refused.fault.reason));
+    draft.push_str("\n");
 }
 
 // The place of the fault, or the end of the bytes if it is past them.
@@ -55,9 +58,11 @@ fn place_in(bytes: &[u8], fault: Fault) -> usize
     fault.at.min(bytes.len() as u64) as usize
 }
 
-// Appends the line of the place, and what comes before the bytes.
-fn write_place<D: Draft>(draft: &mut D, refused: &Refused, at: usize, place: &str)
-    ensures { D.gains draft.old (place_line refused.now at place.now) draft.new }
+// Appends the line of the place.
+fn write_place<D: Draft>(draft: &mut D, refused: &Refused, at: usize)
+    requires { at ≤ length refused.now.bytes.now }
+    ensures { (name : List ℕ) × IsNameOf refused.now.bytes.now refused.now.fault.reason at name ×
+        D.gains draft.old (place_line refused.now at name) draft.new }
 {
     draft.push_str("  message ");
     write_integer(draft, refused.number);
@@ -66,15 +71,5 @@ fn write_place<D: Draft>(draft: &mut D, refused: &Refused, at: usize, place: &st
     draft.push_str(", byte ");
     write_integer(draft, at);
     draft.push_str(": ");
-    draft.push_str(place);
-    draft.push_str("\n ");
-}
-
-/// Appends the end of a line, and a line of this rule.
-pub(crate) fn write_rule<D: Draft>(draft: &mut D, rule: &str)
-    ensures { D.gains draft.old (rule_line rule.now) draft.new }
-{
-    draft.push_str("\n  ");
-    draft.push_str(rule);
-    draft.push_str("\n");
+    write_name(draft, refused.bytes, refused.fault.reason, at);
 }

@@ -1,11 +1,16 @@
 //! Where in a message a fault is, by name. D-Bus Specification, "Message Format", "Header Fields".
 #![tactic(auto)]
 
-ghost use Rattle.std.specs.Prelude.{◌≤◌, length, IfSome};
+ghost use Rattle.std.specs.Prelude.{◌≡◌, ◌<◌, ◌≤◌, ℕ, List, IfSome, length, true};
+ghost use Rattle.dbus_texts.specs.Types.{TypeTree, TypeTrees, IsShaped, AreShaped, sig, sigs};
+ghost use Rattle.dbus_explain.specs.Names.{IsFieldName, IsNameOf, IsValueName, code_name, first_part, path_text};
+ghost use Rattle.dbus_explain.specs.Places.{AreBodyTypes, IsAmong, IsInField, IsPath, IsSignatureField, body_begin, order_of};
+ghost use Rattle.dbus_explain.specs.declared.path.Step.{Step as StepTo};
 
-use crate::path::Path;
-use crate::search::{Search, Spot, write_index};
+use crate::path::{Step, write_step};
+use crate::search::{Search, Spot};
 use dbus_show::{Draft, write_field_name, write_integer};
+use dbus_types::TextKind;
 use dbus_value_model::{Order, Reason, padding_length};
 
 /// Where the header fields begin.
@@ -17,34 +22,47 @@ const FIELD: &[u8] = b"(yv)";
 /// The code of the field that has the types of the body.
 const SIGNATURE: u8 = 8;
 
-/// The name of the place at which the message is at fault.
-pub(crate) fn place_of(bytes: &[u8], reason: Reason, at: usize) -> Path {
-    let mut path = Path::new();
-    let order = match bytes {
-        [b'B', ..] => Order::Big,
-        _ => Order::Little,
-    };
-    let search = Search { bytes, order, at };
-    if at < FIELDS || bytes.len() < FIELDS {
-        path.push_str(first_part(at));
-        return path;
+/// How many values are entered at most: 64 containers, and a dict entry in each.
+const MOST_ENTERED: usize = 128;
+
+/// Appends the name of the place at which the message is at fault.
+pub(crate) fn write_name<D: Draft>(draft: &mut D, bytes: &[u8], reason: Reason, at: usize)
+    requires { at ≤ length bytes.now }
+    ensures { (name : List ℕ) × IsNameOf bytes.now reason at name × D.gains draft.old name draft.new }
+{
+    if at < FIELDS {
+        draft.push_str(first_part(at));
+        return;
     }
+    let order = order_of(bytes);
     let fields_end = FIELDS + order.u32_at(bytes, 12) as usize;
     let body = fields_end + usize::from(padding_length(8, fields_end as u64));
+    let search = Search { bytes, order, at };
     if let Reason::FieldMissing(_) = reason {
-        path.push_str("the end of the header fields");
+        draft.push_str("the end of the header fields");
     } else if at < fields_end {
-        name_field(&mut path, &search);
+        write_field(draft, &search);
     } else if at < body {
-        path.push_str("the padding after the header fields");
+        draft.push_str("the padding after the header fields");
     } else {
-        name_value(&mut path, &search, body);
+        write_value(draft, &search, body);
     }
-    path
+}
+
+// The byte order of a message that is at fault: little, if its first byte says none.
+fn order_of(bytes: &[u8]) -> Order
+    ensures { result ≡ order_of bytes.now }
+{
+    match bytes {
+        [b'B', ..] => Order::Big,
+        _ => Order::Little,
+    }
 }
 
 // The part of the first 16 bytes in which the place is.
-fn first_part(at: usize) -> &'static str {
+fn first_part(at: usize) -> &'static str
+    ensures { result.now ≡ first_part at }
+{
     match at {
         0 => "the byte order",
         1 => "the message type",
@@ -56,72 +74,120 @@ fn first_part(at: usize) -> &'static str {
     }
 }
 
-// Names the header field in which the fault is, and the value in it.
-fn name_field(path: &mut Path, search: &Search) {
+// Appends the name of the header field in which the fault is.
+fn write_field<D: Draft>(draft: &mut D, search: &Search)
+    requires { 16 ≤ search.now.at }
+    ensures { (name : List ℕ) × IsFieldName search.now.bytes.now search.now.at name × D.gains draft.old name draft.new }
+{
+    match field_code(search) {
+        Some(code) => {
+            draft.push_str("header field ");
+            write_code(draft, code);
+        }
+        None => draft.push_str("the header fields"),
+    }
+}
+
+// The code of the header field in which the fault is.
+fn field_code(search: &Search) -> Option<u8>
+    requires { 16 ≤ search.now.at }
+    ensures { IfSome result (IsInField search.now.bytes.now search.now.at) }
+{
     let first = Spot {
         types: FIELD,
         place: FIELDS,
     };
-    let (_, field) = search.after_values(first);
-    match search.aligned(field.place, b'(') {
-        Some(place) if place < search.bytes.len() => {
-            path.push_str("header field ");
-            write_name(path, search.bytes[place]);
-        }
-        _ => path.push_str("the header fields"),
+    let (_, field) = search.after_values(first)?;
+    let place = search.aligned(field.place, b'(')?;
+    if place >= search.bytes.len() {
+        return None;
     }
+    Some(search.bytes[place])
 }
 
-// Writes the name of a header field of this code, or the code if it has none.
-fn write_name(path: &mut Path, code: u8) {
+// Appends the name of a header field of this code, or the code if it has none.
+fn write_code<D: Draft>(draft: &mut D, code: u8)
+    ensures { D.gains draft.old (code_name code) draft.new }
+{
     match code {
-        1..=9 => write_field_name(path, code),
-        _ => write_integer(path, code),
+        1..=9 => write_field_name(draft, code),
+        _ => write_integer(draft, code),
     }
 }
 
-// Names the value of the body in which the fault is.
-fn name_value(path: &mut Path, search: &Search, body: usize) {
-    let values = Spot {
-        types: body_types(search),
-        place: body,
-    };
-    match search.among(values) {
+// Appends the path to the value of the body in which the fault is.
+fn write_value<D: Draft>(draft: &mut D, search: &Search, body: usize)
+    requires begin { body ≡ body_begin search.now.bytes.now }
+    requires within { body ≤ search.now.at }
+    requires fields { 16 ≤ search.now.at }
+    ensures { (name : List ℕ) × IsValueName search.now.bytes.now search.now.at name × D.gains draft.old name draft.new }
+{
+    match body_value(search, body) {
         Some((number, value)) => {
-            path.push_str("body");
-            write_index(path, number);
-            search.enter(path, value);
+            draft.push_str("body");
+            write_step(draft, Step::Number(number));
+            write_steps(draft, search, value);
         }
-        None => path.push_str("the end of the body"),
+        None => draft.push_str("the end of the body"),
+    }
+}
+
+// The value of the body in which the fault is, and its number from 0.
+fn body_value<'a>(search: &Search<'a>, body: usize) -> Option<(usize, Spot<'a>)>
+    requires within { body ≤ search.now.at }
+    requires fields { 16 ≤ search.now.at }
+    ensures { IfSome result (λ r. (ts : TypeTrees) × (t : TypeTree) × AreBodyTypes search.now.bytes.now search.now.at ts ×
+        (sig t ≡ r.1.types.now) × IsShaped true t ×
+        IsAmong search.now.bytes.now search.now.at ts body r.0 t r.1.place) }
+{
+    let types = body_types(search)?;
+    search.among(Spot { types, place: body })
+}
+
+// Appends the steps from a value to the one in it in which the fault is.
+fn write_steps<'a, D: Draft>(draft: &mut D, search: &Search<'a>, value: Spot<'a>)
+    ensures { (steps : List StepTo) × D.gains draft.old (path_text steps) draft.new × ((t : TypeTree) →
+        sig t ≡ value.entry.types.now → IsShaped true t →
+        IsPath search.now.bytes.now search.now.at t value.entry.place steps) }
+{
+    let mut spot = value;
+    for _ in 0..MOST_ENTERED {
+        let Some((step, inside)) = search.entered(spot) else {
+            return;
+        };
+        write_step(draft, step);
+        spot = inside;
     }
 }
 
 // The types of the body, by the first SIGNATURE field, which is a variant.
-fn body_types<'a>(search: &Search<'a>) -> &'a [u8] {
-    let mut field = Spot {
-        types: FIELD,
-        place: FIELDS,
-    };
+fn body_types<'a>(search: &Search<'a>) -> Option<&'a [u8]>
+    requires { 16 ≤ search.now.at }
+    ensures { IfSome result (λ types. (ts : TypeTrees) × (sigs ts ≡ types.now) × AreShaped ts ×
+        AreBodyTypes search.now.bytes.now search.now.at ts) }
+{
+    let mut place = FIELDS;
     for _ in 0..search.bytes.len() {
-        if let Some(types) = signature_field(search, field) {
-            return types;
+        if let Some(types) = signature_field(search, place) {
+            return Some(types);
         }
-        match search.passed(field) {
-            Some(after) => field.place = after,
-            None => return &[],
-        }
+        place = search.passed(Spot {
+            types: FIELD,
+            place,
+        })?;
     }
-    &[]
+    None
 }
 
-// The signature in a header field, if that is a SIGNATURE field.
-fn signature_field<'a>(search: &Search<'a>, field: Spot<'a>) -> Option<&'a [u8]> {
-    let code = search.aligned(field.place, b'(')?;
-    let variant = search.skip(code, 1)?;
-    if search.bytes[code] != SIGNATURE {
+// The signature in a header field at this place, if that is a SIGNATURE field.
+fn signature_field<'a>(search: &Search<'a>, place: usize) -> Option<&'a [u8]>
+    ensures { IfSome result (λ types. IsSignatureField search.now.bytes.now search.now.at place types.now) }
+{
+    let code = search.aligned(place, b'(')?;
+    if code >= search.bytes.len() || search.bytes[code] != SIGNATURE {
         return None;
     }
-    let value = search.signature(variant)?;
-    let signature = search.signature(value.place)?;
+    let variant = search.typed(code + 1, TextKind::Signature)?;
+    let signature = search.typed(variant.place, TextKind::Signature)?;
     Some(signature.types)
 }

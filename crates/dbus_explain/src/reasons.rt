@@ -1,6 +1,9 @@
 //! The rules that a refused message breaks, in words.
 #![tactic(auto)]
 
+ghost use Rattle.std.specs.Prelude.{◌≡◌};
+ghost use Rattle.dbus_show.specs.Laws.{line_feeds};
+
 use dbus_value_model::Reason;
 
 // A rule, and the section of the D-Bus Specification that has it.
@@ -11,7 +14,9 @@ macro_rules! rule {
 }
 
 /// What has to be where a message is refused for this reason.
-pub(crate) fn rule_of(reason: Reason) -> &'static str {
+pub(crate) fn rule_of(reason: Reason) -> &'static str
+    ensures { line_feeds result.now ≡ 0 }
+{
     match reason {
         Reason::ByteOrder => rule!(
             "a message begins with l or B, its byte order",
@@ -25,7 +30,7 @@ pub(crate) fn rule_of(reason: Reason) -> &'static str {
             "Message Format"
         ),
         Reason::Truncated => rule!(
-            "the input goes on to the end of the message",
+            "a message has all the bytes that its header states",
             "Message Format"
         ),
         Reason::Trailing => rule!(
@@ -46,7 +51,9 @@ pub(crate) fn rule_of(reason: Reason) -> &'static str {
 }
 
 // What has to be in a header field of another type than its own.
-fn field_type() -> &'static str {
+fn field_type() -> &'static str
+    ensures { line_feeds result.now ≡ 0 }
+{
     rule!(
         "path is an OBJECT_PATH, reply_serial and unix_fds are UINT32, signature is a SIGNATURE, the other fields are STRINGs",
         "Header Fields"
@@ -54,7 +61,9 @@ fn field_type() -> &'static str {
 }
 
 // Which messages have a header field of this code, which is missing.
-fn missing_field(code: u8) -> &'static str {
+fn missing_field(code: u8) -> &'static str
+    ensures { line_feeds result.now ≡ 0 }
+{
     match code {
         1 => rule!(
             "a method_call and a signal have the header field path",
@@ -78,7 +87,9 @@ fn missing_field(code: u8) -> &'static str {
 }
 
 // What a value has to be.
-fn value_rule(reason: Reason) -> &'static str {
+fn value_rule(reason: Reason) -> &'static str
+    ensures { line_feeds result.now ≡ 0 }
+{
     match reason {
         Reason::ArrayTooLong => rule!(
             "an array has at most 67108864 bytes, or as many as --max-array says",
@@ -112,7 +123,9 @@ fn value_rule(reason: Reason) -> &'static str {
 }
 
 // What a name has to be.
-fn name_rule(reason: Reason) -> &'static str {
+fn name_rule(reason: Reason) -> &'static str
+    ensures { line_feeds result.now ≡ 0 }
+{
     match reason {
         Reason::Interface => rule!(
             "an interface is two or more elements of A-Z, a-z, 0-9 and _ with . between them, and no digit first in one",

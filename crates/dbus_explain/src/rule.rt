@@ -3,16 +3,15 @@
 
 ghost use Rattle.std.specs.Prelude.{◌≡◌, ◌≤◌, ℕ, List, length};
 ghost use Rattle.std.specs.List.{flat_map};
-ghost use Rattle.dbus_explain.specs.ExplainedRules.{IsExplainedRule, blank_of, marked_rule};
+ghost use Rattle.dbus_explain.specs.ExplainedRules.{IsExplainedRule, blank_of, mark_line};
 
-use crate::message::write_rule;
 use crate::values::allowed_at;
 use dbus_match::RuleReason;
 use dbus_show::{Draft, write_quoted};
 
-/// Appends three lines that explain why a text spells no rule, for this reason at this place: the text, with its escapes, between
-/// quotation marks; a `^` below the character at the place, or below the closing mark if the place is at the text's end or past it; and
-/// what may be there.
+/// Appends three lines that explain why a text spells no rule, for this reason at this place, each ended by a line feed, with no other
+/// one in it: the text, with its escapes, between quotation marks; a `^` below the character at the place, or below the closing mark if
+/// the place is at the text's end or past it; and what may be there.
 ///
 /// ```text
 ///   "type='signal'member='M'"
@@ -20,24 +19,27 @@ use dbus_show::{Draft, write_quoted};
 ///   type takes signal, method_call, method_return or error; a comma comes between two pairs
 /// ```
 ///
-/// Only the draft allocates. The last line is not proved. D-Bus Specification, "Match Rules".
+/// Only the draft allocates. Which words the last line has is not proved. D-Bus Specification, "Match Rules".
 pub fn explain_rule<D: Draft>(draft: &mut D, text: &str, at: usize, reason: RuleReason)
     ensures { (explained : List ℕ) × IsExplainedRule text.now at explained ×
         D.gains draft.old explained draft.new }
 {
     let at = at.min(text.len());
-    write_marked(draft, text, at);
-    write_rule(draft, allowed_at(text.as_bytes(), at, reason));
-}
-
-// Appends the rule, and below it the mark.
-fn write_marked<D: Draft>(draft: &mut D, text: &str, at: usize)
-    requires { at ≤ length text.now }
-    ensures { D.gains draft.old (marked_rule text.now at) draft.new }
-{
     draft.push_str("  ");
     write_quoted(draft, text);
-    draft.push_str("\n   ");
+    draft.push_str("\n");
+    write_mark(draft, text, at);
+    draft.push_str("\n  ");
+    draft.push_str(allowed_at(text.as_bytes(), at, reason));
+    draft.push_str("\n");
+}
+
+// Appends the line of the mark.
+fn write_mark<D: Draft>(draft: &mut D, text: &str, at: usize)
+    requires { at ≤ length text.now }
+    ensures { D.gains draft.old (mark_line text.now at) draft.new }
+{
+    draft.push_str("   ");
     write_blanks(draft, &text.as_bytes()[..at]);
     draft.push_str("^");
 }

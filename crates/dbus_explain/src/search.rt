@@ -2,23 +2,27 @@
 //! entered. D-Bus Specification, "Marshaling (Wire Format)".
 #![tactic(auto)]
 
-ghost use Rattle.std.specs.Prelude.{◌≡◌, ◌+◌, ◌≤◌, length, IfSome};
+ghost use Rattle.std.specs.Prelude.{◌≡◌, ℕ, ◌+◌, ◌≤◌, None, IfSome, length, true};
+ghost use Rattle.dbus_texts.specs.Types.{TypeTree, TypeTrees, VariantType, ArrayType, StructType, EntryType, NoTypes, MoreTypes, IsShaped, AreShaped, sig, sigs};
+ghost use Rattle.dbus_types.specs.Alignments.{alignment_of};
+ghost use Rattle.dbus_types.specs.SignatureCodes.{first_code};
+ghost use Rattle.dbus_value_model.specs.Bytes.{gap_to};
+ghost use Rattle.dbus_explain.specs.Places.{IsAmong, IsIn, IsTyped, Pass, Passes, order_of};
+ghost use Rattle.dbus_explain.specs.Leads.{Leads};
 
-use crate::path::Path;
-use dbus_show::{Draft, write_integer};
+use crate::path::Step;
 use dbus_types::{TextKind, boundary, type_end};
 use dbus_value_model::{DEPTH_LIMIT, Limits, Order, gap};
 use dbus_value_validator::{short_text, validate_value};
 
-/// How many values are entered at most: 64 containers, and a dict entry in each.
-const MOST_ENTERED: usize = 128;
-
-/// The bytes of a message as far as they were read, their order, and the place of their fault.
+/// The bytes of a message as far as they were read, their order, and the place of their fault, which is not past them.
 #[derive(Clone, Copy)]
 pub(crate) struct Search<'a> {
     pub(crate) bytes: &'a [u8],
     pub(crate) order: Order,
     pub(crate) at: usize,
+    ghost order_is: { order ≡ order_of bytes.now },
+    ghost within: { at ≤ length bytes.now },
 }
 
 /// Where a value is to be, before its padding, and the bytes of its type.
@@ -29,60 +33,77 @@ pub(crate) struct Spot<'a> {
 }
 
 impl<'a> Search<'a> {
-    /// The place this many bytes on, if they are there and end at or before the fault.
+    /// The place this many bytes on, if it is at or before the fault.
     pub(crate) fn skip(&self, place: usize, count: usize) -> Option<usize>
-        ensures { IfSome result (λ after.
-            (after ≡ place + count) × (after ≤ length self.now.bytes.now)) }
+        ensures { IfSome result (λ after. (after ≡ place + count) × (after ≤ self.now.at)) }
     {
         let after = place.checked_add(count)?;
-        if after > self.at || after > self.bytes.len() {
-            return None;
-        }
-        Some(after)
-    }
-
-    /// The place after the padding before a value of a type that begins with this code, in the same way.
-    pub(crate) fn aligned(&self, place: usize, code: u8) -> Option<usize>
-        ensures { IfSome result (λ after. after ≤ length self.now.bytes.now) }
-    {
-        self.skip(place, gap(boundary(code), place))
-    }
-
-    /// The place after a value of the type, if it is valid and ends at or before the fault.
-    pub(crate) fn passed(&self, spot: Spot<'a>) -> Option<usize> {
-        if spot.place > self.bytes.len() {
-            return None;
-        }
-        let bounds = Limits::specification().bounds();
-        let after = validate_value(
-            self.bytes,
-            spot.place,
-            self.bytes.len(),
-            self.order,
-            spot.types,
-            DEPTH_LIMIT,
-            bounds,
-        )?;
         if after > self.at {
             return None;
         }
         Some(after)
     }
 
-    /// How many values of the type are passed from the place on, and where the next one is.
-    pub(crate) fn after_values(&self, spot: Spot<'a>) -> (usize, Spot<'a>) {
-        let mut next = spot;
+    /// The place after the padding before a value of a type that begins with this code, if it is at or before the fault.
+    pub(crate) fn aligned(&self, place: usize, code: u8) -> Option<usize>
+        ensures gap { IfSome result (λ after. (t : TypeTree) → first_code t ≡ code →
+            after ≡ place + gap_to (alignment_of t) place) }
+        ensures within { IfSome result (λ after. after ≤ self.now.at) }
+    {
+        self.skip(place, gap(boundary(code), place))
+    }
+
+    /// The place after a value of the type, if it is valid and ends at or before the fault.
+    pub(crate) fn passed(&self, spot: Spot<'a>) -> Option<usize>
+        requires { spot.place ≤ self.now.at }
+        ensures some { IfSome result (λ after. (t : TypeTree) → sig t ≡ spot.entry.types.now → IsShaped true t →
+            Passes self.now.bytes.now self.now.at t spot.entry.place after) }
+        ensures none { result ≡ None → (t : TypeTree) → sig t ≡ spot.entry.types.now → IsShaped true t →
+            IsIn self.now.bytes.now self.now.at t spot.entry.place }
+        ensures within { IfSome result (λ after. after ≤ self.now.at) }
+    {
+        let bounds = Limits::specification().bounds();
+        validate_value(
+            self.bytes,
+            spot.place,
+            self.at,
+            self.order,
+            spot.types,
+            DEPTH_LIMIT,
+            bounds,
+        )
+    }
+
+    /// How many values of the type are passed from the place on, and where the next one is, in which the fault is.
+    pub(crate) fn after_values(&self, first: Spot<'a>) -> Option<(usize, Spot<'a>)>
+        requires { first.place ≤ self.now.at }
+        ensures types { IfSome result (λ r. r.1.types.now ≡ first.entry.types.now) }
+        ensures passed { IfSome result (λ r. (t : TypeTree) → sig t ≡ first.entry.types.now → IsShaped true t →
+            Pass self.now.bytes.now self.now.at t r.0 first.entry.place r.1.place ×
+            IsIn self.now.bytes.now self.now.at t r.1.place) }
+        ensures within { IfSome result (λ r. r.1.place ≤ self.now.at) }
+    {
+        let types = first.types;
+        let mut place = first.place;
+        // Each value has a byte at least.
         for count in 0..self.bytes.len() {
-            match self.passed(next) {
-                Some(after) => next.place = after,
-                None => return (count, next),
+            let spot = Spot { types, place };
+            match self.passed(spot) {
+                Some(after) => place = after,
+                None => return Some((count, spot)),
             }
         }
-        (self.bytes.len(), next)
+        None
     }
 
     /// Of values of these types, which begin at the place, the one in which the fault is, and its number from 0.
-    pub(crate) fn among(&self, values: Spot<'a>) -> Option<(usize, Spot<'a>)> {
+    pub(crate) fn among(&self, values: Spot<'a>) -> Option<(usize, Spot<'a>)>
+        requires { values.place ≤ self.now.at }
+        ensures found { IfSome result (λ r. (ts : TypeTrees) → sigs ts ≡ values.entry.types.now → AreShaped ts →
+            (t : TypeTree) × (sig t ≡ r.1.types.now) × IsShaped true t ×
+            IsAmong self.now.bytes.now self.now.at ts values.entry.place r.0 t r.1.place) }
+        ensures within { IfSome result (λ r. r.1.place ≤ self.now.at) }
+    {
         let mut types = values.types;
         let mut place = values.place;
         for number in 0..values.types.len() {
@@ -103,85 +124,85 @@ impl<'a> Search<'a> {
         None
     }
 
-    /// The signature whose length is at the place, and the place after it, if it is valid and ends at or before the fault.
-    pub(crate) fn signature(&self, place: usize) -> Option<Spot<'a>> {
-        if place > self.bytes.len() {
+    /// The text of this kind whose length is at the place, and the place after it, if it is valid and ends at or before the fault.
+    pub(crate) fn typed(&self, place: usize, kind: TextKind) -> Option<Spot<'a>>
+        ensures typed { IfSome result (λ spot. IsTyped self.now.bytes.now self.now.at kind place spot.types.now spot.place) }
+        ensures within { IfSome result (λ spot. spot.place ≤ self.now.at) }
+    {
+        if place > self.at {
             return None;
         }
-        let length = short_text(self.bytes, place, self.bytes.len(), TextKind::Signature)?;
+        let length = short_text(self.bytes, place, self.at, kind)?;
         let first = place + 1;
-        let after = self.skip(first + length, 1)?;
         Some(Spot {
             types: &self.bytes[first..first + length],
-            place: after,
+            place: first + length + 1,
         })
     }
 
-    // The element of the array in which the fault is.
-    fn element(&self, path: &mut Path, array: Spot<'a>) -> Option<Spot<'a>> {
-        let types = array.types.strip_prefix(b"a")?;
-        let code = *types.first()?;
-        let length = self.aligned(array.place, b'a')?;
-        let first = self.aligned(self.skip(length, 4)?, code)?;
+    // The element in which the fault is, of an array of this type whose length is at the place.
+    fn element(&self, types: &'a [u8], place: usize) -> Option<(Step, Spot<'a>)>
+        ensures leads { IfSome result (λ r. (t : TypeTree) → sig t ≡ types.now → IsShaped true t →
+            Leads self.now.bytes.now self.now.at (ArrayType t) place r.0 r.1) }
+        ensures within { IfSome result (λ r. r.1.place ≤ self.now.at) }
+    {
+        let [code, ..] = types else {
+            return None;
+        };
+        let length = self.aligned(place, b'a')?;
+        let first = self.aligned(self.skip(length, 4)?, *code)?;
         let (index, element) = self.after_values(Spot {
             types,
             place: first,
-        });
-        write_index(path, index);
-        Some(element)
+        })?;
+        Some((Step::Number(index), element))
     }
 
-    // The value of the struct in which the fault is.
-    fn member(&self, path: &mut Path, whole: Spot<'a>) -> Option<Spot<'a>> {
-        let types = whole.types.strip_prefix(b"(")?.strip_suffix(b")")?;
-        let place = self.aligned(whole.place, b'(')?;
+    // The value in which the fault is, of a struct of these types at the place.
+    fn member(&self, types: &'a [u8], place: usize) -> Option<(Step, Spot<'a>)>
+        ensures leads { IfSome result (λ r. (ts : TypeTrees) → sigs ts ≡ types.now → AreShaped ts →
+            Leads self.now.bytes.now self.now.at (StructType ts) place r.0 r.1) }
+        ensures within { IfSome result (λ r. r.1.place ≤ self.now.at) }
+    {
+        let place = self.aligned(place, b'(')?;
         let (index, spot) = self.among(Spot { types, place })?;
-        write_index(path, index);
-        Some(spot)
+        Some((Step::Number(index), spot))
     }
 
-    // The half of the dict entry in which the fault is.
-    fn half(&self, path: &mut Path, entry: Spot<'a>) -> Option<Spot<'a>> {
-        let types = entry.types.strip_prefix(b"{")?.strip_suffix(b"}")?;
-        let place = self.aligned(entry.place, b'{')?;
+    // The half in which the fault is, of a dict entry of these two types at the place.
+    fn half(&self, types: &'a [u8], place: usize) -> Option<(Step, Spot<'a>)>
+        ensures leads { IfSome result (λ r. (k v : TypeTree) → sigs (MoreTypes k (MoreTypes v NoTypes)) ≡ types.now →
+            AreShaped (MoreTypes k (MoreTypes v NoTypes)) →
+            Leads self.now.bytes.now self.now.at (EntryType k v) place r.0 r.1) }
+        ensures within { IfSome result (λ r. r.1.place ≤ self.now.at) }
+    {
+        let place = self.aligned(place, b'{')?;
         let (index, spot) = self.among(Spot { types, place })?;
-        path.push_str(if index == 0 { ".key" } else { ".value" });
-        Some(spot)
+        let step = if index == 0 { Step::Key } else { Step::Value };
+        Some((step, spot))
     }
 
-    // The value of the variant, if the fault is in it.
-    fn inner(&self, path: &mut Path, variant: Spot<'a>) -> Option<Spot<'a>> {
-        let spot = self.signature(variant.place)?;
-        path.push_str(".variant");
-        Some(spot)
+    // The value of a variant whose signature's length is at the place.
+    fn inner(&self, place: usize) -> Option<(Step, Spot<'a>)>
+        ensures leads { IfSome result (λ r. Leads self.now.bytes.now self.now.at VariantType place r.0 r.1) }
+        ensures within { IfSome result (λ r. r.1.place ≤ self.now.at) }
+    {
+        let spot = self.typed(place, TextKind::Single)?;
+        Some((Step::Variant, spot))
     }
 
-    // The value inside of this one in which the fault is. Its step is appended to the path.
-    fn entered(&self, path: &mut Path, spot: Spot<'a>) -> Option<Spot<'a>> {
-        match *spot.types.first()? {
-            b'a' => self.element(path, spot),
-            b'(' => self.member(path, spot),
-            b'{' => self.half(path, spot),
-            b'v' => self.inner(path, spot),
+    /// The value inside of this one in which the fault is, and the step to it.
+    pub(crate) fn entered(&self, spot: Spot<'a>) -> Option<(Step, Spot<'a>)>
+        ensures leads { IfSome result (λ r. (t : TypeTree) → sig t ≡ spot.entry.types.now → IsShaped true t →
+            Leads self.now.bytes.now self.now.at t spot.entry.place r.0 r.1) }
+        ensures within { IfSome result (λ r. r.1.place ≤ self.now.at) }
+    {
+        match spot.types {
+            [b'a', types @ ..] => self.element(types, spot.place),
+            [b'(', types @ .., b')'] => self.member(types, spot.place),
+            [b'{', types @ .., b'}'] => self.half(types, spot.place),
+            [b'v'] => self.inner(spot.place),
             _ => None,
         }
     }
-
-    /// Appends the steps from a value to the one in which the fault is.
-    pub(crate) fn enter(&self, path: &mut Path, spot: Spot<'a>) {
-        let mut spot = spot;
-        for _ in 0..MOST_ENTERED {
-            match self.entered(path, spot) {
-                Some(inside) => spot = inside,
-                None => return,
-            }
-        }
-    }
-}
-
-/// Appends a number between brackets.
-pub(crate) fn write_index(path: &mut Path, index: usize) {
-    path.push_code(b'[');
-    write_integer(path, index);
-    path.push_code(b']');
 }

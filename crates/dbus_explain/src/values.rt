@@ -1,7 +1,8 @@
 //! What may be in a match rule, in words. D-Bus Specification, "Match Rules".
 #![tactic(auto)]
 
-ghost use Rattle.std.specs.Prelude.{◌≤◌, length};
+ghost use Rattle.std.specs.Prelude.{◌≡◌, ◌≤◌, length};
+ghost use Rattle.dbus_show.specs.Laws.{line_feeds};
 
 use dbus_match::RuleReason;
 
@@ -31,6 +32,7 @@ const VALUES: &[(&str, &str, &str)] = &[
 /// What may be at this place of a rule's text, which has this fault there.
 pub(crate) fn allowed_at(text: &[u8], at: usize, reason: RuleReason) -> &'static str
     requires { at ≤ length text.now }
+    ensures { line_feeds result.now ≡ 0 }
 {
     match reason {
         RuleReason::Nul => "a rule has no U+0000",
@@ -47,7 +49,9 @@ pub(crate) fn allowed_at(text: &[u8], at: usize, reason: RuleReason) -> &'static
 }
 
 // What the key takes whose `=` ends the text before its value.
-fn value_after(before: &[u8], value: &[u8]) -> &'static str {
+fn value_after(before: &[u8], value: &[u8]) -> &'static str
+    ensures { line_feeds result.now ≡ 0 }
+{
     for (key, takes, takes_one) in VALUES {
         if before.ends_with(key.as_bytes()) {
             return if goes_on(value) { takes_one } else { takes };

@@ -91,7 +91,7 @@ const EXPLAINED: &[u8] = b"\
 refused at 29: Truncated
   message 2 at 24, byte 5: the length of the body
   42 02 01 01 00 []
-  the input goes on to the end of the message (D-Bus Specification, \"Message Format\")
+  a message has all the bytes that its header states (D-Bus Specification, \"Message Format\")
 ";
 
 const PASSED: &[u8] = b"\

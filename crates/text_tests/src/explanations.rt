@@ -341,7 +341,7 @@ const MESSAGES: &[(&[u8], u8, &str)] = &[
         "\
 \x20 message 2 at 96, byte 3: the protocol version
   6c 01 00 []
-  the input goes on to the end of the message (D-Bus Specification, \"Message Format\")
+  a message has all the bytes that its header states (D-Bus Specification, \"Message Format\")
 ",
     ),
     (
@@ -350,7 +350,7 @@ const MESSAGES: &[(&[u8], u8, &str)] = &[
         "\
 \x20 message 2 at 96, byte 30: body[1]
   75 00 01 00 00 00 03 00 []
-  the input goes on to the end of the message (D-Bus Specification, \"Message Format\")
+  a message has all the bytes that its header states (D-Bus Specification, \"Message Format\")
 ",
     ),
     (
@@ -359,7 +359,7 @@ const MESSAGES: &[(&[u8], u8, &str)] = &[
         "\
 \x20 message 2 at 96, byte 22: header field path
   00 00 01 01 6f 00 02 00 []
-  the input goes on to the end of the message (D-Bus Specification, \"Message Format\")
+  a message has all the bytes that its header states (D-Bus Specification, \"Message Format\")
 ",
     ),
 ];

@@ -1,7 +1,9 @@
-use Rattle.std.proofs.Common.{◌++◌, ℕ, refl, subst}
+use Rattle.std.proofs.Common.{◌++◌, ℕ, codes, min, subst}
 use Rattle.dbus_show.proofs.Gaining.{then}
-use Rattle.dbus_explain.specs.Explained.{place_in, place_line, rule_line}
+use Rattle.dbus_explain.specs.Explained.{place_in, place_line}
+use Rattle.dbus_explain.specs.Names.{IsNameOf}
 use Rattle.dbus_explain.specs.Windows.{window}
+use Rattle.dbus_explain.proofs.ThreeLines.{message_lines}
 use Rattle.dbus_explain.proofs.message.explain_message.Goals as goal
 
 pub returns : goal.returns
@@ -9,10 +11,13 @@ returns g c =
     let refused = c.args.refused.now in
     let bytes = refused.bytes.now in
     let at = place_in bytes refused.fault in
-    let name = c.as_str.result.now in
-    let rule = c.rule_of.result.now in (
-      place_line refused at name ++ (window bytes at ++ rule_line rule),
-      record { name = name; rule = rule; text_is = refl },
-      subst (λ (n : ℕ). g.D.Draft.gains c.args.draft.now (place_line refused n name ++ (window bytes n ++ rule_line rule)) c.write_rule.new.draft) c.place_in-at.ensures
-          (then g.D.Draft.gains g.met.D.Draft.joins c.write_place.ensures (then g.D.Draft.gains g.met.D.Draft.joins c.write_window.ensures c.write_rule.ensures)),
+    let name = c.write_place.ensures.0 in
+    let rule = c.rule_of.result.now in
+    let gains = g.D.Draft.gains in
+    let joins = g.met.D.Draft.joins in
+    let named = subst (λ (n : ℕ). IsNameOf bytes refused.fault.reason n name) c.place_in-at.ensures c.write_place.ensures.1 in
+    let all = then gains joins c.write_place.ensures.2 (then gains joins c.push_str.ensures (then gains joins c.write_window.ensures (then gains joins c.push_str-2.ensures (then gains joins c.push_str-3.ensures c.push_str-4.ensures)))) in (
+      place_line refused at name ++ (codes "\n " ++ (window bytes at ++ (codes "\n  " ++ (rule ++ codes "\n")))),
+      record { name = name; rule = rule; named = named; lines = message_lines refused bytes refused.fault.reason at name rule named c.rule_of.ensures },
+      subst (λ (n : ℕ). gains c.args.draft.now (place_line refused n name ++ (codes "\n " ++ (window bytes n ++ (codes "\n  " ++ (rule ++ codes "\n"))))) c.push_str-4.new.self) c.place_in-at.ensures all,
     )

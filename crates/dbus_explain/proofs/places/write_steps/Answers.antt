@@ -1,0 +1,30 @@
+use Rattle.std.proofs.Common.{List, ℕ, [], ◌∷◌, ◌++◌, subst}
+use Rattle.dbus_show.proofs.Gaining.{then}
+use Rattle.dbus_explain.proofs.Paths.{ends_there, goes_on, text_more}
+use Rattle.dbus_explain.proofs.places.write_steps.Goals as goal
+
+pub loop-init : goal.loop-init
+loop-init g c = ([], g.met.D.Draft.nothing c.args.draft.now, λ t is shaped. (t, is, shaped, λ more path. path))
+
+pub loop-preserved : goal.loop-preserved
+loop-preserved g c =
+    let before = c.loop.invariant in
+    let search = c.args.search.now in
+    let step = c.in-Some.step in (
+      before.0 ++ step ∷ [],
+      subst (λ (s : List ℕ). g.D.Draft.gains c.args.draft.now s c.write_step.new.draft) (text_more before.0 step) (then g.D.Draft.gains g.met.D.Draft.joins before.1 c.write_step.ensures),
+      λ t is shaped.
+          let from = before.2 t is shaped in
+          let leads = c.in-Some.ensures.leads from.0 from.1 from.2 in
+          (leads.0, leads.1, leads.2, goes_on search.bytes.now search.at t c.args.value.place before.0 from.0 c.loop.spot.place step leads.0 c.in-Some.inside.place from.3 leads.3),
+    )
+
+pub returns-in_default : goal.returns-in_default
+returns-in_default g c =
+    let before = c.loop.invariant in
+    (before.0, before.1, λ t is shaped. let from = before.2 t is shaped in ends_there c.args.search.now.bytes.now c.args.search.now.at t c.args.value.place before.0 from.0 c.loop.spot.place from.3)
+
+pub returns : goal.returns
+returns g c =
+    let before = c.loop.invariant in
+    (before.0, before.1, λ t is shaped. let from = before.2 t is shaped in ends_there c.args.search.now.bytes.now c.args.search.now.at t c.args.value.place before.0 from.0 c.loop.spot.place from.3)

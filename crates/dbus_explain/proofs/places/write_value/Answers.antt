@@ -1,0 +1,22 @@
+use Rattle.std.proofs.Common.{ℕ, ◌∷◌, ◌++◌, codes, subst}
+use Rattle.dbus_show.proofs.Gaining.{then}
+use Rattle.dbus_explain.specs.Names.{behind_values, in_value, path_text}
+use Rattle.dbus_explain.specs.Places.{IsAmong}
+use Rattle.dbus_explain.specs.declared.path.Step.TheVariants.{Number}
+use Rattle.dbus_explain.proofs.places.write_value.Goals as goal
+
+pub returns-in-Some : goal.returns-in-Some
+returns-in-Some g c =
+    let search = c.args.search.now in
+    let found = c.in-Some.ensures in
+    let value = c.in-Some.value in
+    let number = c.in-Some.number in
+    let steps = c.write_steps.ensures.0 in
+    let among = subst (λ (b : ℕ). IsAmong search.bytes.now search.at found.0 b number found.1 value.place) c.requires.begin found.5 in (
+      codes "body" ++ path_text (Number number ∷ steps),
+      in_value found.0 number found.1 value.place steps found.2 among (c.write_steps.ensures.2 found.1 found.3 found.4),
+      then g.D.Draft.gains g.met.D.Draft.joins c.push_str.ensures (then g.D.Draft.gains g.met.D.Draft.joins c.write_step.ensures c.write_steps.ensures.1),
+    )
+
+pub returns-in-None : goal.returns-in-None
+returns-in-None g c = (codes "the end of the body", behind_values, c.push_str-in-None.ensures)

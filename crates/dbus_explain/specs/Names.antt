@@ -1,0 +1,63 @@
+-- The names of places in a message.
+-- D-Bus Specification, "Message Format" and "Header Fields".
+use Rattle.std.specs.Prelude.{◌≡◌, ℕ, ◌<◌, ◌≤◌, List, ◌∷◌, ◌++◌, Bool, true, false, nat_eq, nat_lt, ◌&&◌, if◌then◌else◌, codes, decimal}
+use Rattle.std.specs.List.{flat_map}
+use Rattle.dbus_value_model.specs.declared.fault.Reason.{Reason}
+use Rattle.dbus_value_model.specs.declared.fault.Reason.TheVariants.{FieldMissing}
+use Rattle.dbus_show.specs.ShownMessages.{field_name}
+use Rattle.dbus_texts.specs.Types.{TypeTree, TypeTrees}
+use Rattle.dbus_explain.specs.Places.{AreBodyTypes, IsAmong, IsInField, IsPath, body_begin, fields_end}
+use Rattle.dbus_explain.specs.declared.path.Step.{Step}
+use Rattle.dbus_explain.specs.declared.path.Step.TheVariants.{Number, Key, Value, Variant}
+
+-- ---- paths
+
+-- a step from a value to one in it: to the element or the member of a number, counted from 0, to the key or the value of a dict entry, or to
+-- the value of a variant
+abbrev pub step_text : Step → List ℕ
+step_text (Number n) = codes "[" ++ (decimal n ++ codes "]")
+step_text Key = codes ".key"
+step_text Value = codes ".value"
+step_text Variant = codes ".variant"
+
+abbrev pub path_text : List Step → List ℕ
+path_text steps = flat_map step_text steps
+
+-- ---- the parts of a message
+
+-- a part of the first sixteen bytes
+abbrev pub first_part : (at : ℕ) → List ℕ
+first_part at =
+    if nat_eq at 0 then codes "the byte order" else if nat_eq at 1 then codes "the message type"
+    else if nat_eq at 2 then codes "the flags" else if nat_eq at 3 then codes "the protocol version"
+    else if nat_lt at 8 then codes "the length of the body" else if nat_lt at 12 then codes "the serial"
+    else codes "the length of the header fields"
+
+abbrev pub is_missing : Reason → Bool
+is_missing (FieldMissing code) = true
+is_missing reason = false
+
+-- the name of a header field, or its code if it has none
+abbrev pub code_name : ℕ → List ℕ
+code_name code = if nat_lt 0 code && nat_lt code 10 then field_name code else decimal code
+
+-- the name of a place in the header fields: of the field that it is in, or behind the fields
+pub data IsFieldName (bytes : List ℕ) (at : ℕ) : List ℕ → Type 0 where
+  in_field : (code : ℕ) → IsInField bytes at code → IsFieldName bytes at (codes "header field " ++ code_name code)
+  behind_fields : IsFieldName bytes at (codes "the header fields")
+
+-- the name of a place in the body: the path to the value that it is in, by its number among the values of the body and the steps from there on;
+-- or behind the values
+pub data IsValueName (bytes : List ℕ) (at : ℕ) : List ℕ → Type 0 where
+  in_value : (ts : TypeTrees) (number : ℕ) (t : TypeTree) (p : ℕ) (steps : List Step) → AreBodyTypes bytes at ts → IsAmong bytes at ts (body_begin bytes) number t p
+      → IsPath bytes at t p steps → IsValueName bytes at (codes "body" ++ path_text (Number number ∷ steps))
+  behind_values : IsValueName bytes at (codes "the end of the body")
+
+-- the name of the place of a fault in a message
+pub data IsNameOf (bytes : List ℕ) (reason : Reason) (at : ℕ) : List ℕ → Type 0 where
+  first : at < 16 → IsNameOf bytes reason at (first_part at)
+  missing : 16 ≤ at → is_missing reason ≡ true → IsNameOf bytes reason at (codes "the end of the header fields")
+  field : (name : List ℕ) → 16 ≤ at → is_missing reason ≡ false → at < fields_end bytes → IsFieldName bytes at name → IsNameOf bytes reason at name
+  padding : 16 ≤ at → is_missing reason ≡ false → fields_end bytes ≤ at → at < body_begin bytes
+      → IsNameOf bytes reason at (codes "the padding after the header fields")
+  value : (name : List ℕ) → 16 ≤ at → is_missing reason ≡ false → body_begin bytes ≤ at → IsValueName bytes at name → IsNameOf bytes reason at name

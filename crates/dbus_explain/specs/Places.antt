@@ -1,0 +1,105 @@
+-- In which value of a message a place is, by the values before it.
+-- D-Bus Specification, "Marshaling (Wire Format)", "Header Fields".
+use Rattle.std.specs.Prelude.{◌≡◌, ℕ, zero, suc, ◌+◌, ◌<◌, ◌≤◌, List, [], ◌∷◌, length, nat_eq, if◌then◌else◌, slice_index, take, drop}
+use Rattle.dbus_texts.specs.Types.{TypeTree, TypeTrees, BYTE, NumberType, VariantType, ArrayType, StructType, EntryType, NoTypes, MoreTypes, sig, sigs}
+use Rattle.dbus_texts.specs.declared.text_kind.TextKind.{TextKind}
+use Rattle.dbus_texts.specs.declared.text_kind.TextKind.TheVariants.{Signature, Single}
+use Rattle.dbus_types.specs.Alignments.{alignment_of}
+use Rattle.dbus_value_model.specs.Bytes.{gap_to}
+use Rattle.dbus_value_model.specs.Reading.{number_of}
+use Rattle.dbus_value_model.specs.Reading.{Done, number}
+use Rattle.dbus_value_model.specs.ValueItems.{text_row}
+use Rattle.dbus_value_model.specs.Specification.{specification}
+use Rattle.dbus_value_model.specs.Bounds.{bounds_of}
+use Rattle.dbus_value_model.specs.declared.limits.TheConstants.{DEPTH_LIMIT}
+use Rattle.dbus_value_model.specs.declared.order.Order.{Order}
+use Rattle.dbus_value_model.specs.declared.order.Order.TheVariants.{Little, Big}
+use Rattle.dbus_value_validator.specs.Endings.{EndedText, IsNotSpelled, IsSpelledTo}
+use Rattle.dbus_explain.specs.declared.path.Step.{Step}
+use Rattle.dbus_explain.specs.declared.path.Step.TheVariants.{Number, Key, Value, Variant}
+
+-- the order of the bytes, of which the first is l or B, 66
+abbrev pub order_of : List ℕ → Order
+order_of [] = Little
+order_of (b ∷ bytes) = if nat_eq b 66 then Big else Little
+
+-- where the header fields end, by the length that is stated of them
+abbrev pub fields_end : List ℕ → ℕ
+fields_end bytes = 16 + number_of (order_of bytes) (take 4 (drop 12 bytes))
+
+abbrev pub body_begin : List ℕ → ℕ
+body_begin bytes = fields_end bytes + gap_to 8 (fields_end bytes)
+
+-- the type of a header field
+abbrev pub field_type : TypeTree
+field_type = StructType (MoreTypes (NumberType BYTE) (MoreTypes VariantType NoTypes))
+
+-- where the first element of an array is, whose length is at p, after its padding
+abbrev pub first_element : TypeTree → (p : ℕ) → ℕ
+first_element t p = p + gap_to 4 p + 4 + gap_to (alignment_of t) (p + gap_to 4 p + 4)
+
+module _ (bytes : List ℕ) (at : ℕ) where
+  -- a value of the type is spelled from p up to q, and ends at the place or before it
+  abbrev pub Passes : TypeTree → (p q : ℕ) → Type 0
+  Passes t p q = IsSpelledTo (bounds_of specification) (order_of bytes) DEPTH_LIMIT at t p bytes q
+
+  -- no such value is: the place is in what is at p
+  abbrev pub IsIn : TypeTree → (p : ℕ) → Type 0
+  IsIn t p = IsNotSpelled (bounds_of specification) (order_of bytes) DEPTH_LIMIT at t p bytes
+
+  -- n values of the type, one after the other
+  abbrev pub Pass : TypeTree → (n p q : ℕ) → Type 0
+  Pass t zero p q = q ≡ p
+  Pass t (suc n) p q = (r : ℕ) × Pass t n p r × Passes t r q
+
+  -- of values of these types, which begin at p, those before number n end there, and the place is in that one, which is of type u and at q
+  abbrev pub IsAmong : TypeTrees → (p n : ℕ) → (u : TypeTree) → (q : ℕ) → Type 0
+  IsAmong NoTypes p n u q = ⊥
+  IsAmong (MoreTypes t ts) p zero u q = (u ≡ t) × (q ≡ p) × IsIn t p
+  IsAmong (MoreTypes t ts) p (suc n) u q = (r : ℕ) × Passes t p r × IsAmong ts r n u q
+
+  -- the text w of a type or of several is at p, after its length, and ends at q
+  pub record IsTyped (kind : TextKind) (p : ℕ) (w : List ℕ) (q : ℕ) : Type 0 where
+    pub measured : (order : Order) → number order 1 at (text_row at) p (drop p bytes) ≡ Done (length w) (p + 1) (drop (p + 1) bytes)
+    pub ended : EndedText kind (length w) (p + 1) bytes
+    pub text_is : w ≡ take (length w) (drop (p + 1) bytes)
+    pub after : q ≡ p + 1 + length w + 1
+
+  -- the place is in a value of type t at p, and in it in the value of type u at q, to which the step leads
+  abbrev pub Enters : TypeTree → (p : ℕ) → Step → (u : TypeTree) → (q : ℕ) → Type 0
+  Enters (ArrayType t) p (Number n) u q = (u ≡ t) × Pass t n (first_element t p) q × IsIn t q
+  Enters (StructType ts) p (Number n) u q = IsAmong ts (p + gap_to 8 p) n u q
+  Enters (EntryType k v) p Key u q = IsAmong (MoreTypes k (MoreTypes v NoTypes)) (p + gap_to 8 p) 0 u q
+  Enters (EntryType k v) p Value u q = IsAmong (MoreTypes k (MoreTypes v NoTypes)) (p + gap_to 8 p) 1 u q
+  Enters VariantType p Variant u q = IsTyped Single p (sig u) q
+  Enters t p step u q = ⊥
+
+  -- the steps from a value to the one in it that the place is in
+  abbrev pub IsPath : TypeTree → (p : ℕ) → List Step → Type 0
+  IsPath t p [] = Unit {0}
+  IsPath t p (step ∷ steps) = (u : TypeTree) × (q : ℕ) × Enters t p step u q × IsPath u q steps
+
+  -- the place is in a header field of this code, which is its first byte, after the padding
+  pub record IsInField (code : ℕ) : Type 0 where
+    pub n : ℕ
+    pub p : ℕ
+    pub before : Pass field_type n 16 p
+    pub is_in : IsIn field_type p
+    pub read : p + gap_to 8 p < length bytes
+    pub code_is : code ≡ slice_index bytes (p + gap_to 8 p)
+
+  -- a header field at p is a SIGNATURE field, by its code, 8, and its value, a variant of a signature, is the text w
+  pub record IsSignatureField (p : ℕ) (w : List ℕ) : Type 0 where
+    pub code_is : slice_index bytes (p + gap_to 8 p) ≡ 8
+    pub variant : List ℕ
+    pub q : ℕ
+    pub typed : IsTyped Signature (p + gap_to 8 p + 1) variant q
+    pub r : ℕ
+    pub value : IsTyped Signature q w r
+
+  -- a header field says that the values of the body have these types
+  pub record AreBodyTypes (ts : TypeTrees) : Type 0 where
+    pub n : ℕ
+    pub p : ℕ
+    pub before : Pass field_type n 16 p
+    pub signature : IsSignatureField p (sigs ts)

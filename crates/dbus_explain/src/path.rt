@@ -1,0 +1,41 @@
+//! The path to a value in a message.
+#![tactic(auto)]
+
+ghost use Rattle.dbus_explain.specs.Names.{step_text};
+ghost use Rattle.dbus_explain.specs.declared.path.Step.TheVariants.{Number};
+
+use dbus_show::{Draft, write_integer};
+
+/// A step of a path, from a value to one in it.
+#[derive(Clone, Copy)]
+pub(crate) enum Step {
+    /// To the element of an array or the value of a struct that has this number, from 0.
+    Number(usize),
+    /// To the key of a dict entry.
+    Key,
+    /// To its value.
+    Value,
+    /// To the value of a variant.
+    Variant,
+}
+
+/// Appends a step.
+pub(crate) fn write_step<D: Draft>(draft: &mut D, step: Step)
+    ensures { D.gains draft.old (step_text step) draft.new }
+{
+    match step {
+        Step::Number(number) => write_number(draft, number),
+        Step::Key => draft.push_str(".key"),
+        Step::Value => draft.push_str(".value"),
+        Step::Variant => draft.push_str(".variant"),
+    }
+}
+
+// Appends a number between brackets.
+fn write_number<D: Draft>(draft: &mut D, number: usize)
+    ensures { D.gains draft.old (step_text (Number number)) draft.new }
+{
+    draft.push_code(b'[');
+    write_integer(draft, number);
+    draft.push_code(b']');
+}
