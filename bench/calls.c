@@ -53,7 +53,7 @@ static int parts(void) {
 static int flatten(void) {
     static struct dbus_wire_flat_item items[ROOM];
     uint64_t count;
-    return dbus_wire_flatten(bytes, length, NULL, items, ROOM, &count) == DBUS_WIRE_WHOLE;
+    return dbus_wire_flatten(bytes, length, NULL, 0, items, ROOM, &count) == DBUS_WIRE_WHOLE;
 }
 
 static int build(void) {

@@ -39,13 +39,12 @@ class Header(unittest.TestCase):
 
     def test_structs(self):
         declared = re.findall(r"(\d+) bytes\. \*/\nstruct dbus_wire_(\w+) \{(.*?)\n\};", self.text, re.DOTALL)
-        self.assertEqual(len(declared), 20)
+        self.assertEqual(len(declared), 17)
         for size, name, fields in declared:
-            if name not in ("argument", "cursor", "item"):
-                lines = re.findall(r"^    (struct \w+|\w+_t|void \*) ?([\w, ]+);", fields, re.MULTILINE)
-                right = [(field, self.type_of(kind)) for kind, names in lines for field in names.split(", ")]
-                struct = self.type_of(f"struct dbus_wire_{name}")
-                self.assertEqual((list(struct._fields_), ctypes.sizeof(struct)), (right, int(size)), name)
+            lines = re.findall(r"^    (struct \w+|\w+_t|void \*) ?([\w, ]+);", fields, re.MULTILINE)
+            right = [(field, self.type_of(kind)) for kind, names in lines for field in names.split(", ")]
+            struct = self.type_of(f"struct dbus_wire_{name}")
+            self.assertEqual((list(struct._fields_), ctypes.sizeof(struct)), (right, int(size)), name)
 
     def test_calls(self):
         declared = re.findall(r"^(?:DBUS_WIRE_\w+ ?(?:\(\(.*\)\) )?)*(void|\w+_t) dbus_wire_(\w+)\(([^;{]*)\);", self.text, re.MULTILINE)

@@ -23,22 +23,25 @@ static void sizes(void) {
     expect(sizeof(struct dbus_wire_checker) == 8 && sizeof(struct dbus_wire_taken) == 24, "checker 8, taken 24 bytes");
     expect(sizeof(struct dbus_wire_rules) == 8 && sizeof(struct dbus_wire_rule_id) == 24 && sizeof(struct dbus_wire_rule_refused) == 16,
            "rules 8, rule_id 24, rule_refused 16 bytes");
-    expect(sizeof(struct dbus_wire_argument) == 24 && sizeof(struct dbus_wire_text_checked) == 16, "argument 24, text_checked 16 bytes");
+    expect(sizeof(struct dbus_wire_flat_item) == 32, "flat_item 32 bytes");
+    expect(sizeof(struct dbus_wire_text_checked) == 16, "text_checked 16 bytes");
 }
 
 static void nulls(void) {
     struct dbus_wire_limits limits;
     struct dbus_wire_checked told, same;
     struct dbus_wire_parts parts;
-    struct dbus_wire_argument argument;
     struct dbus_wire_text_checked text;
+    uint64_t count;
 
     expect(dbus_wire_check(NULL, 0, NULL, &told) == DBUS_WIRE_PARTIAL, "no bytes are partial");
     expect(dbus_wire_parts_of(NULL, 0, NULL, &parts) == DBUS_WIRE_PARTIAL, "no bytes are partial, by parts");
-    expect(dbus_wire_argument_of(NULL, 0, NULL, 0, &argument) == DBUS_WIRE_PARTIAL, "no bytes are partial, by argument");
+    expect(dbus_wire_flatten(NULL, 0, NULL, 0, NULL, 0, &count) == DBUS_WIRE_PARTIAL, "and by flatten");
     expect(dbus_wire_wanted(NULL, 0, NULL) == 0, "no bytes state no length");
     expect(dbus_wire_swap(NULL, 0, NULL, 'l', NULL, 0, &told) == DBUS_WIRE_PARTIAL, "no bytes are partial, by swap");
     expect(dbus_wire_swap(SIGNAL, SIGNAL_LENGTH, NULL, 'B', NULL, 0, &told) == DBUS_WIRE_NO_ROOM, "no room");
+    expect(dbus_wire_flatten(SIGNAL, SIGNAL_LENGTH, NULL, 0, NULL, 0, &count) == DBUS_WIRE_NO_ROOM, "nor for an item");
+    expect(count == 1, "of which there is one");
     expect(dbus_wire_text_check(DBUS_WIRE_TEXT_STRING, NULL, 0, &text) == DBUS_WIRE_OK, "the empty text is a STRING");
     expect(dbus_wire_reason_name(DBUS_WIRE_REASON_KIND, NULL, 0) == 4, "a name's length without room");
 
@@ -64,26 +67,28 @@ static int is_fresh(const void *thing, size_t size) {
 static void answers(void) {
     uint8_t bad[SIGNAL_LENGTH];
     struct dbus_wire_parts parts;
-    struct dbus_wire_argument argument;
+    struct dbus_wire_flat_item item;
+    uint64_t count;
     size_t length;
 
-    FRESH(parts), FRESH(argument);
+    FRESH(parts), FRESH(item), FRESH(count);
     for (length = 0; length < SIGNAL_LENGTH; length++) {
         expect(dbus_wire_parts_of(SIGNAL, length, NULL, &parts) == DBUS_WIRE_PARTIAL, "a front is partial, by parts");
-        expect(dbus_wire_argument_of(SIGNAL, length, NULL, 0, &argument) == DBUS_WIRE_PARTIAL, "a front is partial, by argument");
+        expect(dbus_wire_flatten(SIGNAL, length, NULL, 0, &item, 1, &count) == DBUS_WIRE_PARTIAL, "and by flatten");
     }
     memcpy(bad, SIGNAL, SIGNAL_LENGTH);
     bad[SIGNAL_LENGTH - 1] = 1;
     expect(dbus_wire_parts_of(bad, SIGNAL_LENGTH, NULL, &parts) == DBUS_WIRE_REFUSED, "a bad signal is refused, by parts");
-    expect(dbus_wire_argument_of(bad, SIGNAL_LENGTH, NULL, 0, &argument) == DBUS_WIRE_REFUSED, "and by argument");
-    expect(dbus_wire_argument_of(SIGNAL, SIGNAL_LENGTH, NULL, 1, &argument) == DBUS_WIRE_NO_VALUE, "there is no second value");
-    expect(is_fresh(&parts, sizeof parts) && is_fresh(&argument, sizeof argument), "then nothing is written");
+    expect(dbus_wire_flatten(bad, SIGNAL_LENGTH, NULL, 0, &item, 1, &count) == DBUS_WIRE_REFUSED, "and by flatten");
+    expect(is_fresh(&parts, sizeof parts) && is_fresh(&count, sizeof count), "then nothing is written");
+    expect(dbus_wire_flatten(SIGNAL, SIGNAL_LENGTH, NULL, 1, &item, 1, &count) == DBUS_WIRE_WHOLE, "there is no second value");
+    expect(count == 1 && is_fresh(&item, sizeof item), "and none is written");
 
     expect(dbus_wire_parts_of(SIGNAL, SIGNAL_LENGTH, NULL, &parts) == DBUS_WIRE_WHOLE, "a signal has parts");
     expect(parts.length == SIGNAL_LENGTH && parts.kind == DBUS_WIRE_TYPE_SIGNAL && parts.flags == 0, "it is a signal");
     expect(parts.member.is_there && SIGNAL[parts.member.offset] == 'c', "its member is c");
-    expect(dbus_wire_argument_of(SIGNAL, SIGNAL_LENGTH, NULL, 0, &argument) == DBUS_WIRE_WHOLE, "it has a first value");
-    expect(argument.code == 's' && memcmp(SIGNAL + argument.offset, "hi", argument.length) == 0, "which is hi");
+    expect(dbus_wire_flatten(SIGNAL, SIGNAL_LENGTH, NULL, 0, &item, 1, &count) == DBUS_WIRE_WHOLE, "it has a first value");
+    expect(item.code == 's' && item.length == 2 && memcmp(SIGNAL + item.offset, "hi", 2) == 0, "which is hi");
 }
 
 /* The reasons whose constants begin so, by the calls of their names and of their sentences. */

@@ -31,93 +31,121 @@ static void print_quoted(const uint8_t *text, uint64_t length) {
     putchar('"');
 }
 
-static void print_number(const struct dbus_wire_item *item) {
-    switch (item->code) {
-    case 'b': printf("%s", item->number ? "true" : "false"); break;
-    case 'n': printf("%d", (int)(int16_t)item->number); break;
-    case 'i': printf("%ld", (long)(int32_t)item->number); break;
-    case 'x': printf("%lld", (long long)item->number); break;
-    case 'd': printf("%016llx", (unsigned long long)item->number); break;
-    default: printf("%llu", (unsigned long long)item->number);
+static void print_number(uint32_t code, uint64_t number) {
+    printf("%c:", (char)code);
+    switch (code) {
+    case 'b': printf("%s", number ? "true" : "false"); break;
+    case 'n': printf("%d", (int)(int16_t)number); break;
+    case 'i': printf("%ld", (long)(int32_t)number); break;
+    case 'x': printf("%lld", (long long)number); break;
+    case 'd': printf("%016llx", (unsigned long long)number); break;
+    default: printf("%llu", (unsigned long long)number);
     }
 }
 
-static void print_values(const uint8_t *bytes, size_t count, struct dbus_wire_cursor at, const char *between);
+/* How many bytes a number of the type has, or 0 if it is no type of numbers. */
+static unsigned width_of(uint32_t code) {
+    return code == 'y' ? 1 : strchr("nq", (int)code) ? 2 : strchr("biuh", (int)code) ? 4 : strchr("xtd", (int)code) ? 8 : 0;
+}
 
-static void print_array(const uint8_t *bytes, size_t count, const struct dbus_wire_item *item) {
+/* The elements of an array of numbers, which are read from the message's bytes, in its order. */
+static void print_numbers(const uint8_t *bytes, const struct dbus_wire_flat_item *array, unsigned width) {
+    uint64_t at, number;
+    unsigned n;
+    for (at = array->offset; at < array->offset + array->length; at += width) {
+        for (number = 0, n = 0; n < width; n++) number = number << 8 | bytes[bytes[0] == 'l' ? at + width - 1 - n : at + n];
+        if (at > array->offset) printf(", ");
+        print_number(array->element, number);
+    }
+}
+
+/* The first type of a signature ends there. */
+static const char *after_type(const char *types) {
+    int open = 0;
+    do {
+        while (*types == 'a') types++;
+        open += (*types == '(' || *types == '{') - (*types == ')' || *types == '}');
+        types++;
+    } while (open > 0);
+    return types;
+}
+
+/* How many of the items after it are within this one. */
+static uint64_t within(const struct dbus_wire_flat_item *item) { return strchr("a({v", (int)item->code) ? item->number : 0; }
+
+static void print_value(const uint8_t *bytes, const struct dbus_wire_flat_item *item, const char *types);
+
+/* What is within a container: values of these types, or of the first of them each. */
+static void print_parts(const uint8_t *bytes, const struct dbus_wire_flat_item *item, const char *types, int are_elements) {
+    const struct dbus_wire_flat_item *part = item + 1, *end = part + within(item);
+    while (part < end) {
+        print_value(bytes, part, types);
+        part += 1 + within(part);
+        if (!are_elements) types = after_type(types);
+        if (part < end) printf(", ");
+    }
+}
+
+static void print_array(const uint8_t *bytes, const struct dbus_wire_flat_item *item, const char *types) {
+    unsigned width = width_of(item->element);
     uint64_t at;
-    printf("%.*s:", (int)item->parts.types_length, (const char *)bytes + item->parts.types);
-    if (bytes[item->parts.types + 1] == 'y') {
+    printf("%.*s:", (int)(after_type(types) - types), types);
+    if (item->element == 'y') {
         for (at = 0; at < item->length; at++) printf("%02x", bytes[item->offset + at]);
         return;
     }
     printf("[");
-    print_values(bytes, count, item->parts, ", ");
+    if (width > 0)
+        print_numbers(bytes, item, width);
+    else
+        print_parts(bytes, item, types + 1, 1);
     printf("]");
 }
 
-static void print_value(const uint8_t *bytes, size_t count, const struct dbus_wire_item *item) {
+/* A value, whose type is the first of these. */
+static void print_value(const uint8_t *bytes, const struct dbus_wire_flat_item *item, const char *types) {
     static const char opening[] = "({v", *const around[] = {"()", "{}", "<>"};
     const char *container = strchr(opening, (int)item->code);
     if (container != NULL) {
         putchar(around[container - opening][0]);
-        print_values(bytes, count, item->parts, ", ");
+        print_parts(bytes, item, item->code == 'v' ? (const char *)bytes + item->offset : types + 1, 0);
         putchar(around[container - opening][1]);
     } else if (item->code == 'a') {
-        print_array(bytes, count, item);
-    } else {
+        print_array(bytes, item, types);
+    } else if (strchr("sog", (int)item->code) != NULL) {
         printf("%c:", (char)item->code);
-        if (strchr("sog", (int)item->code) != NULL)
-            print_quoted(bytes + item->offset, item->length);
-        else
-            print_number(item);
+        print_quoted(bytes + item->offset, item->length);
+    } else {
+        print_number(item->code, item->number);
     }
 }
 
-/* The values at a cursor. A cursor is copied, so each level of containers has its own. */
-static void print_values(const uint8_t *bytes, size_t count, struct dbus_wire_cursor at, const char *between) {
-    struct dbus_wire_item item;
-    const char *before = "";
-    while (dbus_wire_next(bytes, count, &at, &item) == DBUS_WIRE_WHOLE) {
-        printf("%s", before);
-        print_value(bytes, count, &item);
-        before = between;
-    }
-}
+/* The items of a part of a message. */
+static struct dbus_wire_flat_item items[1 << 16];
+enum { ROOM = sizeof items / sizeof *items };
 
-static void print_body(const uint8_t *bytes, size_t count) {
-    struct dbus_wire_cursor at;
-    struct dbus_wire_item item;
-    if (dbus_wire_body_cursor(bytes, count, NULL, &at) != DBUS_WIRE_WHOLE) return;
-    while (dbus_wire_next(bytes, count, &at, &item) == DBUS_WIRE_WHOLE) {
+static void print_body(const uint8_t *bytes, size_t count, const struct dbus_wire_parts *parts) {
+    const char *types = (const char *)bytes + parts->signature.offset;
+    uint64_t at, all;
+    if (dbus_wire_flatten(bytes, count, NULL, 0, items, ROOM, &all) != DBUS_WIRE_WHOLE) exit(1);
+    for (at = 0; at < all; at += 1 + within(&items[at])) {
         printf("  ");
-        print_value(bytes, count, &item);
+        print_value(bytes, &items[at], types);
         printf("\n");
+        types = after_type(types);
     }
-}
-
-/* The offset after the last value within a container: a text has a 0 after it, and any other that is last ends with its bytes. */
-static uint64_t end_of(const struct dbus_wire_flat_item *last) {
-    return last->offset + last->length + (strchr("sog", (int)last->code) != NULL);
-}
-
-/* A cursor at the value that a field's VARIANT holds, which comes after its signature and a 0. Of 64 containers three are open there. */
-static struct dbus_wire_cursor held_by(const uint8_t *bytes, const struct dbus_wire_flat_item *variant) {
-    uint64_t start = variant->offset + variant->length + 1, end = end_of(variant + variant->number);
-    struct dbus_wire_cursor at = {start, end, variant->offset, variant->length, bytes[0], 0, 64 - 3, 0};
-    return at;
 }
 
 /* A field: a struct, its code, a VARIANT, and its value. A known field's value, a text or a number, stands alone; any other is shown
  * as any value is. */
-static void print_field(const uint8_t *bytes, size_t count, const struct dbus_wire_flat_item *field) {
+static void print_field(const uint8_t *bytes, const struct dbus_wire_flat_item *field) {
     static const char *const names[] = {"path", "interface", "member", "error_name", "reply_serial", "destination", "sender", "signature",
                                         "unix_fds"};
     const struct dbus_wire_flat_item *value = &field[3];
     unsigned code = (unsigned)field[1].number;
     if (code > DBUS_WIRE_FIELD_UNIX_FDS) {
         printf(" field%u=", code);
-        print_values(bytes, count, held_by(bytes, &field[2]), "");
+        print_value(bytes, value, (const char *)bytes + field[2].offset);
     } else if (value->code == 'u') {
         printf(" %s=%u", names[code - 1], (unsigned)value->number);
     } else {
@@ -126,14 +154,14 @@ static void print_field(const uint8_t *bytes, size_t count, const struct dbus_wi
 }
 
 static void print_message(unsigned long number, const uint8_t *bytes, size_t count, const struct dbus_wire_parts *parts) {
-    static struct dbus_wire_flat_item items[1 << 16];
-    uint64_t at, count_of_items;
+    uint64_t at, all;
     printf("#%lu %c ", number, (char)parts->order);
     print_type(parts->kind);
     printf(" serial=%u flags=%02x", (unsigned)parts->serial, (unsigned)parts->flags);
-    if (dbus_wire_flatten_fields(bytes, count, NULL, items, sizeof items / sizeof *items, &count_of_items) != DBUS_WIRE_WHOLE) exit(1);
-    for (at = 1; at < count_of_items; at += items[at].number + 1) print_field(bytes, count, &items[at]);
+    if (dbus_wire_flatten_fields(bytes, count, NULL, 0, items, ROOM, &all) != DBUS_WIRE_WHOLE) exit(1);
+    for (at = 1; at < all; at += 1 + items[at].number) print_field(bytes, &items[at]);
     printf("\n");
+    print_body(bytes, count, parts);
 }
 
 int main(void) {
@@ -144,7 +172,6 @@ int main(void) {
 
     while (dbus_wire_parts_of(bytes + at, count - at, NULL, &parts) == DBUS_WIRE_WHOLE) {
         print_message(++number, bytes + at, count - at, &parts);
-        print_body(bytes + at, count - at);
         at += parts.length;
     }
     return at < count;

@@ -1,6 +1,7 @@
-/* Swaps each D-Bus message on standard input into fewer bytes than it has, into as many and into more: DBUS_WIRE_NO_ROOM leaves the
- * bytes as they were, and else those after the message stay as they were. Flattens each into as many items as it has, into one fewer and
- * into one more, and compares them with what cursors give. Prints how many messages there are. */
+/* Swaps each D-Bus message on standard input into fewer bytes than it has, into as many and into more:
+ * DBUS_WIRE_NO_ROOM leaves the bytes as they were, and else those after the message stay as they were.
+ * Flattens each from every place of its row on, with less room than the items have, as much and more,
+ * and compares each piece with the whole row. Prints how many messages there are. */
 #include <dbus_wire.h>
 
 #include <stdio.h>
@@ -28,40 +29,33 @@ static int is_right(const uint8_t *bytes, const struct dbus_wire_checked *messag
     return (written > 0) == (room >= message->length) && told.length == message->length && told.order == message->order;
 }
 
-/* Whether the items are those of the values at the cursor, and of what is within them; *count becomes how many these are. */
-static int are_items(const uint8_t *bytes, size_t length, struct dbus_wire_cursor at, const struct dbus_wire_flat_item *items,
-                     uint64_t *count) {
-    struct dbus_wire_item item;
-    *count = 0;
-    while (dbus_wire_next(bytes, length, &at, &item) == DBUS_WIRE_WHOLE) {
-        const struct dbus_wire_flat_item *flat = &items[(*count)++];
-        int is_array = item.code == 'a', is_variant = item.code == 'v';
-        uint64_t within = 0, offset = is_variant ? item.parts.types : item.offset;
-        uint64_t size = is_variant ? item.parts.types_length : strchr("({", (int)item.code) != NULL ? 0 : item.length;
-        if (is_array && flat->element != bytes[item.parts.types + 1]) return 0;
-        if (strchr("a({v", (int)item.code) != NULL) {
-            if (!(is_array && strchr("ybnqiuxtdh", (int)flat->element) != NULL) &&
-                !are_items(bytes, length, item.parts, flat + 1, &within))
-                return 0;
-            item.number = within;
-        }
-        if (flat->code != item.code || flat->number != item.number || flat->offset != offset || flat->length != size) return 0;
-        *count += within;
-    }
-    return 1;
+/* The whole row of a message's items, and a piece of it. */
+enum { MOST = 1 << 16 };
+static struct dbus_wire_flat_item row[MOST], piece[MOST];
+
+/* Whether the items from a place of the row on are written as they should be, if there is room for
+ * `room` of them. */
+static int is_piece(const uint8_t *bytes, size_t length, uint64_t count, uint64_t first, uint64_t room) {
+    uint64_t told, left = first < count ? count - first : 0, written = left < room ? left : room;
+    uint32_t answer = left <= room ? DBUS_WIRE_WHOLE : DBUS_WIRE_NO_ROOM;
+    size_t at;
+    if (room >= MOST) return 0;
+    memset(piece, BEFORE, (room + 1) * sizeof *piece);
+    if (dbus_wire_flatten(bytes, length, NULL, first, piece, room, &told) != answer || told != count) return 0;
+    for (at = written * sizeof *piece; at < (room + 1) * sizeof *piece; at++)
+        if (((const uint8_t *)piece)[at] != BEFORE) return 0;
+    return written == 0 || memcmp(piece, row + first, written * sizeof *piece) == 0;
 }
 
-/* Whether the message is flattened as it should be, where there is room and where there is not. */
+/* Whether the message is flattened as it should be. */
 static int is_flat(const uint8_t *bytes, size_t length) {
-    static struct dbus_wire_flat_item items[1 << 16];
-    struct dbus_wire_cursor at;
-    uint64_t count, told, most = sizeof items / sizeof *items;
-    if (dbus_wire_flatten(bytes, length, NULL, items, most, &count) != DBUS_WIRE_WHOLE || count >= most) return 0;
-    if (dbus_wire_body_cursor(bytes, length, NULL, &at) != DBUS_WIRE_WHOLE) return 0;
-    memset(items, BEFORE, sizeof items);
-    if (count > 0 && (dbus_wire_flatten(bytes, length, NULL, items, count - 1, &told) != DBUS_WIRE_NO_ROOM || told != count)) return 0;
-    if (dbus_wire_flatten(bytes, length, NULL, items, count + 1, &told) != DBUS_WIRE_WHOLE || told != count) return 0;
-    return items[count].code == items[count + 1].code && are_items(bytes, length, at, items, &told) && told == count;
+    uint64_t first, room, count;
+    if (dbus_wire_flatten(bytes, length, NULL, 0, row, MOST, &count) != DBUS_WIRE_WHOLE || count >= MOST) return 0;
+    for (first = 0; first <= count + 1; first++)
+        for (room = 0; room <= 4; room++)
+            if (!is_piece(bytes, length, count, first, room)) return 0;
+    return is_piece(bytes, length, count, 0, count) && is_piece(bytes, length, count, 0, count + 1) &&
+           is_piece(bytes, length, count, SIZE_MAX, 1);
 }
 
 int main(void) {

@@ -12,10 +12,8 @@
 
 /* Longer inputs are not tried. */
 enum { MOST = 1 << 20 };
-/* How many levels of values are open at once, as dbus_wire_next says. */
-enum { LEVELS = 129 };
-/* How many items of header fields are looked at. */
-enum { ROOM = 1 << 16 };
+/* How many items are read at once. */
+enum { ROOM = 1 << 12 };
 
 static void expect(int holds, const char *what) {
     if (holds) return;
@@ -76,56 +74,32 @@ static void add_value(struct seen *seen, uint32_t code, uint64_t number, const u
         for (at = 0; at < length; at++) add(seen, bytes[at]);
 }
 
-/* Goes over all values at a cursor, and what is in them. Each has a place among the bytes, and the cursor moves on. */
-static void walk(const uint8_t *bytes, size_t length, struct dbus_wire_cursor at, int level, struct seen *seen) {
-    struct dbus_wire_item item;
-    uint64_t before = at.at;
-    expect(level <= LEVELS, "no more levels are open");
-    while (dbus_wire_next(bytes, length, &at, &item) == DBUS_WIRE_WHOLE) {
-        count(item.code, (uint32_t)level);
-        expect(before < at.at && at.at <= length, "a cursor moves on, within the bytes");
-        expect(before <= item.offset && item.offset <= at.at && item.length <= at.at - item.offset, "a value is where it was passed");
-        add_value(seen, item.code, item.number, bytes + item.offset, item.length);
-        walk(bytes, length, item.parts, level + 1, seen);
-        before = at.at;
-    }
-}
+typedef uint32_t flatten_call(const uint8_t *, size_t, const struct dbus_wire_limits *, size_t, struct dbus_wire_flat_item *, size_t,
+                              uint64_t *);
 
-/* Goes over all header fields, and what is in them. Each item has a place among the bytes, and what is within it comes after it. */
-static void walk_fields(const uint8_t *bytes, size_t length, struct seen *seen) {
+/* Goes over all items of a part of a message. Each has a place among the bytes, and what is within it comes after it. */
+static void walk(flatten_call *flatten, const uint8_t *bytes, size_t length, struct seen *seen) {
     static struct dbus_wire_flat_item items[ROOM];
-    uint64_t at, count;
-    uint32_t answer = dbus_wire_flatten_fields(bytes, length, NULL, items, ROOM, &count);
-    expect(answer == DBUS_WIRE_WHOLE || answer == DBUS_WIRE_NO_ROOM, "a message has header fields");
-    if (answer == DBUS_WIRE_NO_ROOM) return;
-    for (at = 0; at < count; at++) {
-        const struct dbus_wire_flat_item *item = &items[at];
-        expect(item->offset <= length && item->length <= length - item->offset, "an item is among the bytes");
-        expect(strchr("a({v", (int)item->code) == NULL || item->number < count - at, "what is within it comes after it");
-        add_value(seen, item->code, item->number, bytes + item->offset, item->length);
+    uint64_t first, at, all;
+    uint32_t answer = DBUS_WIRE_NO_ROOM;
+    for (first = 0; answer == DBUS_WIRE_NO_ROOM; first += ROOM) {
+        answer = flatten(bytes, length, NULL, first, items, ROOM, &all);
+        expect(answer == (all > first + ROOM ? DBUS_WIRE_NO_ROOM : DBUS_WIRE_WHOLE), "a message has items");
+        for (at = first; at < all && at < first + ROOM; at++) {
+            const struct dbus_wire_flat_item *item = &items[at - first];
+            count(item->code, item->element);
+            expect(item->offset <= length && item->length <= length - item->offset, "an item is among the bytes");
+            expect(strchr("a({v", (int)item->code) == NULL || item->number < all - at, "what is within it comes after it");
+            add_value(seen, item->code, item->number, bytes + item->offset, item->length);
+        }
     }
-}
-
-/* What the bytes of the input, taken as the numbers of a cursor, let the call see: anything, but it ends. */
-static void walk_wild(const uint8_t *bytes, size_t length) {
-    struct dbus_wire_cursor at;
-    struct seen seen = {0, 0};
-    if (length < sizeof at) return;
-    memcpy(&at, bytes + length - sizeof at, sizeof at);
-    if (at.reserved % 2 == 0) {
-        at.at %= length, at.end = at.at + at.end % (length - at.at + 1);
-        at.types %= length, at.types_length %= 8, at.elements %= 3, at.depth_left %= 66;
-    }
-    walk(bytes, length, at, 1, &seen);
 }
 
 /* What a message has: its header fields and the values of its body. */
 static struct seen walk_message(const uint8_t *bytes, size_t length) {
-    struct dbus_wire_cursor at;
     struct seen seen = {0, 0};
-    walk_fields(bytes, length, &seen);
-    expect(dbus_wire_body_cursor(bytes, length, NULL, &at) == DBUS_WIRE_WHOLE, "a message has a body");
-    walk(bytes, length, at, 1, &seen);
+    walk(dbus_wire_flatten_fields, bytes, length, &seen);
+    walk(dbus_wire_flatten, bytes, length, &seen);
     return seen;
 }
 
@@ -178,6 +152,5 @@ int LLVMFuzzerTestOneInput(const uint8_t *given, size_t length) {
     if (their_check != NULL) compare(bytes, length, answer, &told);
     try_pieces(bytes, length, answer, &told);
     if (answer == DBUS_WIRE_WHOLE) try_message(bytes, length, &told);
-    walk_wild(bytes, length);
     return 0;
 }

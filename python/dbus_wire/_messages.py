@@ -137,7 +137,7 @@ class Message:
         """The values of the part that the call flattens."""
         data, limits, count = self.data, byref(limits_struct(None)), ctypes.c_uint64()
         items = (_library.FlatItem * 64)()
-        while flatten(data, len(data), limits, items, len(items), byref(count)) == NO_ROOM:
+        while flatten(data, len(data), limits, 0, items, len(items), byref(count)) == NO_ROOM:
             items = (_library.FlatItem * count.value)()
         return values_of(data, self.order, memoryview(items).cast("B")[: count.value * ctypes.sizeof(_library.FlatItem)])
 

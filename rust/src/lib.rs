@@ -20,8 +20,9 @@
 //!
 //! * [`check`] says whether bytes begin with a message; [`Checker`] says it of bytes that come in pieces; [`wanted`] says how long
 //!   a message is by its first 16 bytes.
-//! * [`Message`] has the parts of a message, and [`Values`] goes over the values of its body. They borrow the bytes, and allocate
-//!   nothing; [`Message::flatten`] gives all values at once, and [`Fields`] the header fields.
+//! * [`Message`] has the parts of a message, and allocates nothing. [`Values`] goes over the values
+//!   of its body, and [`Fields`] over its header fields; [`Message::flatten`] gives all values as one
+//!   row. They borrow the bytes, so no text is copied.
 //! * [`build`] makes a message of its [`Parts`], whose [`Body`] is spelled value by value.
 //! * [`byteswap`] writes a message in the other byte order, and [`check_text`] checks names, signatures and other texts.
 //! * A match [`Rule`], or a [`RuleSet`] of many, says which messages a program wants; [`Owners`] says who owns the names that they

@@ -3,7 +3,7 @@
 use std::fmt;
 use std::num::NonZeroU32;
 
-use crate::value::{flat_items, text_at};
+use crate::value::{body_items, text_at};
 use crate::{byteswap, check, sys, Answer, Fields, FlatItem, Limits, Order, ParseError, Parts, Values};
 
 /// The type of a message.
@@ -178,9 +178,10 @@ impl<'a> Message<'a> {
         &self.bytes[self.parts.body as usize..]
     }
 
-    /// The values of the body. The call looks over the message once more, and each value is looked over as it comes.
+    /// The values of the body. The call looks over the message once more, and takes memory for what
+    /// they hold.
     pub fn body(&self) -> Values<'a> {
-        Values::of_message(self.bytes)
+        Values::of_message(self.bytes, self.signature().unwrap_or_default())
     }
 
     /// The header fields, each as its code and its value, in their order in the message: also those whose codes the specification
@@ -212,7 +213,7 @@ impl<'a> Message<'a> {
     /// All values of the body, and all that is within them, in one row: each container comes before its parts, and an array of numbers
     /// is one item. `include/dbus_wire.h` says what each member is.
     pub fn flatten(&self) -> Vec<FlatItem> {
-        flat_items(sys::dbus_wire_flatten, self.bytes)
+        body_items(self.bytes)
     }
 
     /// A copy of the message in the byte order.

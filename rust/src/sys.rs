@@ -162,39 +162,6 @@ pub struct dbus_wire_parts {
 
 #[repr(C)]
 #[derive(Clone, Copy, Debug, Default)]
-pub struct dbus_wire_argument {
-    pub offset: u64,
-    pub length: u64,
-    pub code: u32,
-    pub reserved: u32,
-}
-
-#[repr(C)]
-#[derive(Clone, Copy, Debug, Default)]
-pub struct dbus_wire_cursor {
-    pub at: u64,
-    pub end: u64,
-    pub types: u64,
-    pub types_length: u64,
-    pub order: u32,
-    pub elements: u32,
-    pub depth_left: u32,
-    pub reserved: u32,
-}
-
-#[repr(C)]
-#[derive(Clone, Copy, Debug, Default)]
-pub struct dbus_wire_item {
-    pub number: u64,
-    pub offset: u64,
-    pub length: u64,
-    pub code: u32,
-    pub reserved: u32,
-    pub parts: dbus_wire_cursor,
-}
-
-#[repr(C)]
-#[derive(Clone, Copy, Debug, Default)]
 pub struct dbus_wire_flat_item {
     pub number: u64,
     pub offset: u64,
@@ -300,9 +267,6 @@ const _: () = assert!(size_of::<dbus_wire_limits>() == 16);
 const _: () = assert!(size_of::<dbus_wire_checked>() == 32);
 const _: () = assert!(size_of::<dbus_wire_text>() == 24);
 const _: () = assert!(size_of::<dbus_wire_parts>() == 208);
-const _: () = assert!(size_of::<dbus_wire_argument>() == 24);
-const _: () = assert!(size_of::<dbus_wire_cursor>() == 48);
-const _: () = assert!(size_of::<dbus_wire_item>() == 80);
 const _: () = assert!(size_of::<dbus_wire_flat_item>() == 32);
 const _: () = assert!(size_of::<dbus_wire_writer>() == 16);
 const _: () = assert!(size_of::<dbus_wire_array>() == 16);
@@ -323,24 +287,11 @@ extern "C" {
     pub fn dbus_wire_check(bytes: *const u8, length: usize, limits: *const dbus_wire_limits, out: *mut dbus_wire_checked) -> u32;
     pub fn dbus_wire_parts_of(bytes: *const u8, length: usize, limits: *const dbus_wire_limits, out: *mut dbus_wire_parts)
         -> u32;
-    pub fn dbus_wire_argument_of(
-        bytes: *const u8,
-        length: usize,
-        limits: *const dbus_wire_limits,
-        number: usize,
-        out: *mut dbus_wire_argument,
-    ) -> u32;
-    pub fn dbus_wire_body_cursor(
-        bytes: *const u8,
-        length: usize,
-        limits: *const dbus_wire_limits,
-        out: *mut dbus_wire_cursor,
-    ) -> u32;
-    pub fn dbus_wire_next(bytes: *const u8, length: usize, cursor: *mut dbus_wire_cursor, out: *mut dbus_wire_item) -> u32;
     pub fn dbus_wire_flatten(
         bytes: *const u8,
         length: usize,
         limits: *const dbus_wire_limits,
+        first: usize,
         items: *mut dbus_wire_flat_item,
         room: usize,
         count: *mut u64,
@@ -349,6 +300,7 @@ extern "C" {
         bytes: *const u8,
         length: usize,
         limits: *const dbus_wire_limits,
+        first: usize,
         items: *mut dbus_wire_flat_item,
         room: usize,
         count: *mut u64,

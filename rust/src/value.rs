@@ -2,8 +2,10 @@
 
 use std::fmt;
 use std::iter::FusedIterator;
+use std::ops::Range;
+use std::sync::Arc;
 
-use crate::{sys, FlatItem, Limits};
+use crate::{sys, FlatItem, Limits, Order};
 
 /// The text of a message at a place among its bytes.
 ///
@@ -22,24 +24,67 @@ fn bytes_at(bytes: &[u8], offset: u64, length: u64) -> &[u8] {
 }
 
 // A call that writes the items of a part of a message.
-type Flatten = unsafe extern "C" fn(*const u8, usize, *const sys::dbus_wire_limits, *mut FlatItem, usize, *mut u64) -> u32;
+type Flatten = unsafe extern "C" fn(*const u8, usize, *const sys::dbus_wire_limits, usize, *mut FlatItem, usize, *mut u64) -> u32;
 
-const IS_MESSAGE: &str = "a message within limits is one within the specification's";
-
-/// The items that such a call writes for these bytes, which are a message.
-pub(crate) fn flat_items(flatten: Flatten, bytes: &[u8]) -> Vec<FlatItem> {
+// The items that such a call writes for these bytes, which are a message.
+fn flat_items(flatten: Flatten, bytes: &[u8]) -> Vec<FlatItem> {
     // Most parts have no more items, and then one call is enough.
-    let (limits, mut items, mut count) = (Limits::default().raw(), vec![FlatItem::default(); 64], 0);
+    let (mut items, mut count) = (vec![FlatItem::default(); 64], 0);
     loop {
+        let (bytes, length) = (bytes.as_ptr(), bytes.len());
+        let (to, room, limits) = (items.as_mut_ptr(), items.len(), Limits::default().raw());
         // SAFETY: a slice, a vector's items and references, as `sys` says.
-        let answer = unsafe { flatten(bytes.as_ptr(), bytes.len(), &limits, items.as_mut_ptr(), items.len(), &mut count) };
+        let answer = unsafe { flatten(bytes, length, &limits, 0, to, room, &mut count) };
         if answer != sys::DBUS_WIRE_NO_ROOM {
-            assert_eq!(answer, sys::DBUS_WIRE_WHOLE, "{IS_MESSAGE}");
+            assert_eq!(answer, sys::DBUS_WIRE_WHOLE, "it is a message of the specification's too");
             items.truncate(count as usize);
             return items;
         }
         items.resize(count as usize, FlatItem::default());
     }
+}
+
+/// The items of the body of these bytes, which are a message.
+pub(crate) fn body_items(bytes: &[u8]) -> Vec<FlatItem> {
+    flat_items(sys::dbus_wire_flatten, bytes)
+}
+
+// How many of the items after it are within this one.
+fn within(item: &FlatItem) -> usize {
+    if matches!(item.code as u8, b'a' | b'(' | b'{' | b'v') {
+        item.number as usize
+    } else {
+        0
+    }
+}
+
+// How many bytes a number of this type has; none if it is no type of numbers.
+fn width(code: u8) -> Option<usize> {
+    match code {
+        b'y' => Some(1),
+        b'n' | b'q' => Some(2),
+        b'b' | b'i' | b'u' | b'h' => Some(4),
+        b'x' | b't' | b'd' => Some(8),
+        _ => None,
+    }
+}
+
+// The first type of a signature, and those after it.
+fn split_type(types: &str) -> (&str, &str) {
+    let (mut open, mut end) = (0, 0);
+    for code in types.bytes() {
+        end += 1;
+        match code {
+            b'a' => continue,
+            b'(' | b'{' => open += 1,
+            b')' | b'}' => open -= 1,
+            _ => {}
+        }
+        if open == 0 {
+            break;
+        }
+    }
+    types.split_at(end)
 }
 
 /// A value. Numbers come in the order of the processor, whatever that of the message.
@@ -90,15 +135,9 @@ impl<'a> Value<'a> {
         }
     }
 
-    // # Safety
-    //
-    // The item is as `dbus_wire_next` wrote it for these bytes.
-    unsafe fn of(bytes: &'a [u8], item: &sys::dbus_wire_item) -> Self {
-        let number = item.number;
-        // SAFETY: it is called of a STRING, an OBJECT_PATH and a SIGNATURE alone, whose texts `dbus_wire_next` validates as UTF-8.
-        let text = || unsafe { text_at(bytes, item.offset, item.length) };
-        let parts = Values { bytes, cursor: item.parts };
-        match item.code as u8 {
+    // The number of an item, or of so many bytes of an array.
+    fn number(code: u8, number: u64) -> Self {
+        match code {
             b'y' => Value::Byte(number as u8),
             b'b' => Value::Boolean(number != 0),
             b'n' => Value::Int16(number as i16),
@@ -109,20 +148,77 @@ impl<'a> Value<'a> {
             b't' => Value::Uint64(number),
             b'd' => Value::Double(f64::from_bits(number)),
             b'h' => Value::UnixFd(number as u32),
-            b's' => Value::String(text()),
-            b'o' => Value::ObjectPath(text()),
-            b'g' => Value::Signature(text()),
-            b'a' => Value::Array(Array { elements: parts, contents: bytes_at(bytes, item.offset, item.length) }),
-            b'(' => Value::Struct(parts),
-            b'{' => Value::Entry(Entry(parts)),
-            b'v' => Value::Variant(Variant(parts)),
-            code => unreachable!("no type begins with the code {code}"),
+            code => unreachable!("no type of numbers has the code {code}"),
         }
     }
 }
 
-/// An iterator over values of a message, one after another: those of its body, the elements of an array, or the fields of a struct.
-/// It allocates nothing; each value is looked over as it comes.
+// The items of a part of a message.
+#[derive(Clone)]
+struct Row<'a> {
+    // Those of the message.
+    bytes: &'a [u8],
+    // As a call wrote them for these bytes.
+    items: Arc<[FlatItem]>,
+}
+
+impl<'a> Row<'a> {
+    // The text of an item of a text, or the signature of a variant.
+    fn text(&self, item: &FlatItem) -> &'a str {
+        // SAFETY: the call writes the places of texts of the message, which are UTF-8.
+        unsafe { text_at(self.bytes, item.offset, item.length) }
+    }
+
+    // The places of the items that are within the one at a place.
+    fn places(&self, at: usize) -> Range<usize> {
+        at + 1..at + 1 + within(&self.items[at])
+    }
+
+    // The values that are within the item at a place, and have these types.
+    fn parts(&self, at: usize, types: &'a str) -> Values<'a> {
+        Values { row: self.clone(), left: Left::Items(self.places(at)), types }
+    }
+
+    // The value of the item at a place, which has this type.
+    fn value(&self, at: usize, of: &'a str) -> Value<'a> {
+        let item = &self.items[at];
+        match item.code as u8 {
+            b's' => Value::String(self.text(item)),
+            b'o' => Value::ObjectPath(self.text(item)),
+            b'g' => Value::Signature(self.text(item)),
+            b'a' => Value::Array(self.array(at, &of[1..])),
+            b'(' => Value::Struct(self.parts(at, &of[1..of.len() - 1])),
+            b'{' => Value::Entry(Entry(self.parts(at, &of[1..of.len() - 1]))),
+            b'v' => Value::Variant(Variant(self.parts(at, self.text(item)))),
+            code => Value::number(code, item.number),
+        }
+    }
+
+    // The array at a place, whose elements have this type.
+    fn array(&self, at: usize, of: &'a str) -> Array<'a> {
+        let item = &self.items[at];
+        let contents = bytes_at(self.bytes, item.offset, item.length);
+        let left = match width(item.element as u8) {
+            Some(width) => Left::Numbers(contents, width),
+            None => Left::Elements(self.places(at)),
+        };
+        Array { elements: Values { row: self.clone(), left, types: of }, contents }
+    }
+}
+
+// Which values are left.
+#[derive(Clone)]
+enum Left<'a> {
+    // Those of the items at these places, each of a type of its own.
+    Items(Range<usize>),
+    // The same of the elements of an array, which are all of one type.
+    Elements(Range<usize>),
+    // Numbers of so many bytes, which are the elements of an array.
+    Numbers(&'a [u8], usize),
+}
+
+/// An iterator over values of a message, one after another: those of its body, the elements of an
+/// array, or the fields of a struct. A copy, and what it gives, share the memory that it takes.
 ///
 /// A function that calls itself for what is in a value is called at most 129 deep.
 ///
@@ -141,44 +237,24 @@ impl<'a> Value<'a> {
 /// ```
 #[derive(Clone)]
 pub struct Values<'a> {
-    // Those of the message that the cursor was made for.
-    bytes: &'a [u8],
-    cursor: sys::dbus_wire_cursor,
+    row: Row<'a>,
+    left: Left<'a>,
+    // The types of those that are left, or of each element.
+    types: &'a str,
 }
 
 impl<'a> Values<'a> {
-    /// The values of the body of these bytes, which are a message.
-    pub(crate) fn of_message(bytes: &'a [u8]) -> Self {
-        let (limits, mut cursor) = (Limits::default().raw(), sys::dbus_wire_cursor::default());
-        // SAFETY: a slice and references, as `sys` says.
-        let answer = unsafe { sys::dbus_wire_body_cursor(bytes.as_ptr(), bytes.len(), &limits, &mut cursor) };
-        assert_eq!(answer, sys::DBUS_WIRE_WHOLE, "{IS_MESSAGE}");
-        Self { bytes, cursor }
+    /// The values of the body of these bytes, which are a message that has these types.
+    pub(crate) fn of_message(bytes: &'a [u8], types: &'a str) -> Self {
+        let row = Row { bytes, items: body_items(bytes).into() };
+        let left = Left::Items(0..row.items.len());
+        Self { row, left, types }
     }
 
-    // The value that a variant holds, whose last part is the other item.
-    fn held_by(bytes: &'a [u8], variant: &FlatItem, last: &FlatItem) -> Self {
-        // A 0 comes after a text, and so after the signature.
-        let ends_in_0 = matches!(last.code as u8, b's' | b'o' | b'g');
-        let cursor = sys::dbus_wire_cursor {
-            at: variant.offset + variant.length + 1,
-            end: last.offset + last.length + u64::from(ends_in_0),
-            types: variant.offset,
-            types_length: variant.length,
-            order: u32::from(bytes[0]),
-            // The array of the fields, a struct and the variant are open.
-            depth_left: Limits::default().raw().depth - 3,
-            ..Default::default()
-        };
-        Self { bytes, cursor }
-    }
-
-    /// The types of the values that are left, as a signature: `su` for a STRING and a UINT32. Of the elements of an array it is
-    /// the type of each.
+    /// The types of the values that are left, as a signature: `su` for a STRING and a UINT32. Of the
+    /// elements of an array it is the type of each.
     pub fn types(&self) -> &'a str {
-        // SAFETY: the cursor's types are in a signature of these bytes, as calls found it, which is ASCII.
-        let types = unsafe { text_at(self.bytes, self.cursor.types, self.cursor.types_length) };
-        &types[usize::from(self.cursor.elements != 0)..]
+        self.types
     }
 }
 
@@ -186,33 +262,50 @@ impl<'a> Iterator for Values<'a> {
     type Item = Value<'a>;
 
     fn next(&mut self) -> Option<Value<'a>> {
-        let mut item = sys::dbus_wire_item::default();
-        // SAFETY: a slice and references, as `sys` says. Any numbers in a cursor are safe.
-        let answer = unsafe { sys::dbus_wire_next(self.bytes.as_ptr(), self.bytes.len(), &mut self.cursor, &mut item) };
-        // SAFETY: the call wrote the item for these bytes.
-        (answer == sys::DBUS_WIRE_WHOLE).then(|| unsafe { Value::of(self.bytes, &item) })
+        let (left, of) = match &mut self.left {
+            Left::Numbers(bytes, width) => {
+                let first = bytes.split_off(..*width)?;
+                let number = number_of(Order::of(self.row.bytes[0].into()), first);
+                return Some(Value::number(self.types.as_bytes()[0], number));
+            }
+            Left::Elements(left) => (left, self.types),
+            Left::Items(left) => {
+                let (of, others) = split_type(self.types);
+                self.types = others;
+                (left, of)
+            }
+        };
+        let at = left.next()?;
+        left.start += within(&self.row.items[at]);
+        Some(self.row.value(at, of))
+    }
+}
+
+// The number that the bytes spell in an order.
+fn number_of(order: Order, bytes: &[u8]) -> u64 {
+    let add = |number: u64, byte: &u8| number << 8 | u64::from(*byte);
+    match order {
+        Order::Little => bytes.iter().rev().fold(0, add),
+        Order::Big => bytes.iter().fold(0, add),
     }
 }
 
 impl FusedIterator for Values<'_> {}
 
-/// A message's header fields, each as its code and its value, in their order in the message. [`Message::fields`](crate::Message::fields)
-/// returns it.
+/// A message's header fields, each as its code and its value, in their order in the message.
+/// [`Message::fields`](crate::Message::fields) returns it.
 #[derive(Clone)]
 pub struct Fields<'a> {
-    // Those of the message that the items are of.
-    bytes: &'a [u8],
-    // Of each field a struct, its code, a variant, and the value that this holds with its parts.
-    items: std::vec::IntoIter<FlatItem>,
+    // Structs of a code and a variant.
+    fields: Values<'a>,
 }
 
 impl<'a> Fields<'a> {
     /// The header fields of these bytes, which are a message.
     pub(crate) fn of_message(bytes: &'a [u8]) -> Self {
-        let mut items = flat_items(sys::dbus_wire_flatten_fields, bytes).into_iter();
-        // The first is that of their array.
-        items.next();
-        Self { bytes, items }
+        let row = Row { bytes, items: flat_items(sys::dbus_wire_flatten_fields, bytes).into() };
+        // The first item is that of their array.
+        Self { fields: row.array(0, "(yv)").elements }
     }
 }
 
@@ -220,13 +313,11 @@ impl<'a> Iterator for Fields<'a> {
     type Item = (u8, Value<'a>);
 
     fn next(&mut self) -> Option<(u8, Value<'a>)> {
-        let count = self.items.next()?.number as usize;
-        let [code, variant, .., last] = &self.items.as_slice()[..count] else {
-            unreachable!("a field has a code and a variant, which holds a value");
-        };
-        let field = (code.number as u8, known(Values::held_by(self.bytes, variant, last).next()));
-        self.items.nth(count - 1);
-        Some(field)
+        let Value::Struct(mut parts) = self.fields.next()? else { unreachable!("a field is a struct") };
+        match (parts.next(), parts.next()) {
+            (Some(Value::Byte(code)), Some(Value::Variant(held))) => Some((code, held.value())),
+            _ => unreachable!("a field has a code and a variant"),
+        }
     }
 }
 
@@ -317,7 +408,7 @@ impl<'a> Entry<'a> {
         known(self.parts().next())
     }
 
-    /// Its value. The key before it is looked over too.
+    /// Its value.
     pub fn value(&self) -> Value<'a> {
         known(self.parts().nth(1))
     }

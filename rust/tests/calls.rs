@@ -130,6 +130,28 @@ fn containers_are_iterators() {
 }
 
 #[test]
+fn numbers_of_arrays_come_as_they_are() {
+    // an [-2, 3], aad [[-0.5], []], ab [true], a(y) of 101 structs.
+    let mut body = b"\x04\0\0\0\xfe\xff\x03\0\x14\0\0\0\x08\0\0\0".to_vec();
+    body.extend((-0.5f64).to_le_bytes());
+    body.extend(b"\0\0\0\0\0\0\0\0\x04\0\0\0\x01\0\0\0\x21\x03\0\0\0\0\0\0");
+    (0..100).for_each(|number| body.extend([number, 0, 0, 0, 0, 0, 0, 0]));
+    body.push(100);
+    let bytes = signal("anaadaba(y)", &body);
+    let big = Message::parse(&bytes).unwrap().in_order(Order::Big);
+    for bytes in [bytes, big] {
+        let message = Message::parse(&bytes).unwrap();
+        let shown = format!("{:?}", message.body().take(3).collect::<Vec<_>>());
+        let numbers = "[Array([Int16(-2), Int16(3)]), Array([Array([Double(-0.5)]), Array([])]), Array([Boolean(true)])]";
+        assert_eq!(shown, numbers);
+        let Some(Value::Array(structs)) = message.body().nth(3) else { panic!() };
+        assert_eq!((structs.elements().types(), structs.elements().count()), ("(y)", 101));
+        let Some(Value::Struct(mut last)) = structs.elements().last() else { panic!() };
+        assert_eq!((last.next(), last.next()), (Some(Value::Byte(100)), None));
+    }
+}
+
+#[test]
 fn the_deepest_message_is_walked() {
     fn depth(values: Values<'_>) -> usize {
         let inner = values.map(|value| match value {

@@ -5,8 +5,7 @@ use Rattle.dbus_value_model.specs.declared.fault.Reason.{Reason}
 use Rattle.dbus_value_model.specs.declared.fault.Reason.TheVariants.{ByteOrder, Overrun}
 use Rattle.dbus_value_model.specs.declared.limits.Limits.{Limits}
 use Rattle.dbus_value_model.specs.declared.order.Order.{Order}
-use Rattle.dbus_value_model.specs.declared.order.Order.TheVariants.{Little, Big}
-use Rattle.dbus_message_model.specs.Messages.{IsMessage, order_byte}
+use Rattle.dbus_message_model.specs.Messages.{IsMessage}
 use Rattle.dbus_c_build.specs.Placed.{HasParts}
 use Rattle.dbus_c_build.specs.Building.{IsBuilt, IsRefusal, MakeNone}
 use Rattle.dbus_c_build.specs.declared.placed.Place.{Place}

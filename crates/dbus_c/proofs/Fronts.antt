@@ -10,7 +10,7 @@ use Rattle.dbus_validate.specs.declared.validating.Validated.{Validated}
 use Rattle.dbus_validate.specs.Validating.{IsValidated, IsValidatedFirst}
 use Rattle.dbus_validate.proofs.Firsts.{followed}
 use Rattle.dbus_view.specs.Views.{ViewState, IsViewOf}
-use Rattle.dbus_c.specs.Arguments.{IsFirstView}
+use Rattle.dbus_c.specs.Outcomes.{IsFirstView}
 
 -- a view of the message that is validated is of the one that all of them begin with
 pub front_viewed : (limits : Limits) (b : List ℕ) (j : Validated) (v : ViewState) → IsValidatedFirst limits b j → IsViewOf limits (take j.length b) v → IsFirstView limits b v

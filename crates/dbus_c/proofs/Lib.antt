@@ -3,7 +3,6 @@ pub mod FirstBytes
 pub mod Telling
 pub mod Swapped
 pub mod Fronts
-pub mod Bodies
 pub mod Outcomes
 pub mod OwnerLines
 pub mod RuleTelling

@@ -1,16 +1,14 @@
 -- Each outcome of bytes rules out the others.
-use Rattle.std.proofs.Common.{◌≡◌, ℕ, ◌<◌, ◌≤◌, List, Some, None, sym, ap, ◌∙◌, arith, inl, inr}
-use Rattle.dbus_value_model.specs.Values.{ValueTree}
+use Rattle.std.proofs.Common.{◌≡◌, ℕ, ◌<◌, ◌≤◌, List, sym, ◌∙◌, arith, inl, inr}
 use Rattle.dbus_value_model.specs.declared.limits.Limits.{Limits}
 use Rattle.dbus_value_model.specs.declared.order.Order.{Order}
-use Rattle.dbus_message_model.specs.Lookups.{body_value}
 use Rattle.dbus_message_model.specs.Messages.{MessageTree}
 use Rattle.dbus_header.specs.MessageOutcomes.{IsWhole}
-use Rattle.dbus_header.proofs.OutcomeLaws.{one_outcome, one_whole}
+use Rattle.dbus_header.proofs.OutcomeLaws.{one_outcome}
 use Rattle.dbus_header.specs.NoMessage.{BeginsWithNone}
 use Rattle.dbus_c.specs.Checking.{Tells, whole, partial, refused}
 use Rattle.dbus_c.specs.FlatParts.{IsTold}
-use Rattle.dbus_c.specs.Outcomes.{BeginsWithValue, BeginsWithoutValue, TellsApart}
+use Rattle.dbus_c.specs.Outcomes.{TellsApart}
 use Rattle.dbus_c.specs.declared.checking.Checked.{Checked}
 
 -- what is said of bytes that begin with no message
@@ -43,14 +41,3 @@ module _ (limits : Limits) (b : List ℕ) where
     none_told (whole order m n w is told_is) = absurd (none order m n w)
     none_told (partial p is told_is) = (omega (arith, is), omega (arith, is))
     none_told (refused f r is told_is) = (omega (arith, is), omega (arith, is))
-
-  -- a body has a value of the number, or none
-  module _ (number : ℕ) (order : Order) (m : MessageTree) (n : ℕ) (w : IsWhole limits b order m n) where
-    same_value : (other : Order) (u : MessageTree) (k : ℕ) → IsWhole limits b other u k → body_value number u.body ≡ body_value number m.body
-    same_value other u k v = ap (λ (t : MessageTree). body_value number t.body) (one_whole limits b other order u m k n v w).1
-
-    pub not_without : (x : ValueTree) → body_value number m.body ≡ Some x → BeginsWithoutValue limits b number → ⊥
-    not_without x there h = let other : None ≡ Some x = sym h.4 ∙ same_value h.0 h.1 h.2 h.3 ∙ there in absurd cc
-
-    pub not_with : body_value number m.body ≡ None → BeginsWithValue limits b number → ⊥
-    not_with none h = let other : Some h.4.0 ≡ None = sym h.4.1 ∙ same_value h.0 h.1 h.2 h.3 ∙ none in absurd cc

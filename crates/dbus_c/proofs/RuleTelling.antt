@@ -11,8 +11,7 @@ use Rattle.dbus_match.specs.Matching.{Ownership}
 use Rattle.dbus_match.specs.declared.rule.Rule.{Rule}
 use Rattle.dbus_rule_set.specs.Held.{Collects, EntryMatches}
 use Rattle.dbus_rule_set.specs.declared.handle.RuleHandle.{RuleHandle}
-use Rattle.dbus_c.specs.Arguments.{IsFirstView}
-use Rattle.dbus_c.specs.Outcomes.{TellsApart}
+use Rattle.dbus_c.specs.Outcomes.{IsFirstView, TellsApart}
 use Rattle.dbus_c.specs.Owners.{AreOwnersIn, of_lines, none}
 use Rattle.dbus_c.specs.Rules.{HasFound, TellsAll, TellsFound, TellsMatching, written, no_room}
 use Rattle.dbus_c.proofs.Outcomes.{whole_answered}

@@ -5,8 +5,6 @@ pub mod Checking
 pub mod Wanting
 pub mod Parting
 pub mod Swapping
-pub mod Arguments
-pub mod MessageCursors
 pub mod FlatParts
 pub mod Outcomes
 pub mod TextKinds

@@ -1,28 +1,18 @@
 -- The answers of the calls that take a message apart: what each says of the bytes, and which bytes have it.
 -- D-Bus Specification, "Message Protocol".
-use Rattle.std.specs.Prelude.{◌≡◌, ◌↔◌, ℕ, List, Some, None, Result, Ok, Err}
-use Rattle.dbus_value_model.specs.Values.{ValueTree}
+use Rattle.std.specs.Prelude.{◌≡◌, ◌↔◌, ℕ, List, length, take, Result, Ok, Err}
 use Rattle.dbus_value_model.specs.declared.limits.Limits.{Limits}
 use Rattle.dbus_value_model.specs.declared.order.Order.{Order}
 use Rattle.dbus_value_model.specs.declared.fault.Fault.{Fault}
-use Rattle.dbus_message_model.specs.Lookups.{body_value}
 use Rattle.dbus_message_model.specs.Messages.{MessageTree}
 use Rattle.dbus_header.specs.MessageOutcomes.{IsWhole, IsRefused, IsPartial}
 use Rattle.dbus_validate.specs.declared.validating.Validated.{Validated}
+use Rattle.dbus_view.specs.Views.{ViewState, Views}
 use Rattle.dbus_c.specs.declared.answers.TheConstants.{WHOLE, PARTIAL, REFUSED}
 
 -- the bytes begin with a message within the limits
 abbrev pub BeginsWithMessage : Limits → List ℕ → Type 0
 BeginsWithMessage limits b = (order : Order) × (m : MessageTree) × (n : ℕ) × IsWhole limits b order m n
-
--- with one whose body has a value of the number
-abbrev pub BeginsWithValue : Limits → List ℕ → (number : ℕ) → Type 0
-BeginsWithValue limits b number =
-    (order : Order) × (m : MessageTree) × (n : ℕ) × IsWhole limits b order m n × ((x : ValueTree) × (body_value number m.body ≡ Some x))
-
--- with one whose body has none
-abbrev pub BeginsWithoutValue : Limits → List ℕ → (number : ℕ) → Type 0
-BeginsWithoutValue limits b number = (order : Order) × (m : MessageTree) × (n : ℕ) × IsWhole limits b order m n × (body_value number m.body ≡ None)
 
 -- no message begins so
 abbrev pub AreRefused : Limits → List ℕ → Type 0
@@ -37,3 +27,11 @@ pub record TellsApart (limits : Limits) (b : List ℕ) (answer : ℕ) : Type 0 w
 abbrev pub answer_of : Result Validated ℕ → ℕ
 answer_of (Ok validated) = WHOLE
 answer_of (Err answer) = answer
+
+-- a view of the message that the bytes begin with, which is taken by itself
+pub record IsFirstView (limits : Limits) (b : List ℕ) (v : ViewState) : Type 0 where
+  pub order : Order
+  pub message : MessageTree
+  pub views : Views v order message
+  pub whole : IsWhole limits b order message (length v.bytes)
+  pub front : v.bytes ≡ take (length v.bytes) b

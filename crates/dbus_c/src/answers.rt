@@ -16,7 +16,7 @@ pub const NO_MEMORY: u32 = 3;
 /// The caller has too few bytes for what is to be written.
 pub const NO_ROOM: u32 = 4;
 
-/// The body of the message has no value of the number that is asked for, or no value is left at a cursor.
+/// What is asked for is not there.
 pub const NO_VALUE: u32 = 5;
 
 /// No kind of text has the number that is asked for.

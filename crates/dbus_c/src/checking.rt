@@ -1,14 +1,14 @@
 //! Whether bytes begin with a message, in numbers.
 #![tactic(auto)]
 
-ghost use Rattle.std.specs.Prelude.{◌≡◌, ◌↔◌, ◌<◌, ◌≤◌, length, IfOk, IfErr};
+ghost use Rattle.std.specs.Prelude.{◌≡◌, ◌↔◌, ◌<◌, ◌≤◌, length, None, IfOk, IfErr, IfSome};
 ghost use Rattle.dbus_header.specs.MessageOutcomes.{IsWhole};
 ghost use Rattle.dbus_message_model.specs.Messages.{MessageTree};
 ghost use Rattle.dbus_value_model.specs.declared.limits.Limits.{Limits};
 ghost use Rattle.dbus_value_model.specs.declared.order.Order.{Order};
 ghost use Rattle.dbus_c.specs.Checking.{IsExact, Tells, fault_told, nothing_told, whole_told};
 ghost use Rattle.dbus_c.specs.GivenLimits.{limits_of};
-ghost use Rattle.dbus_c.specs.Outcomes.{BeginsWithMessage, TellsApart, answer_of};
+ghost use Rattle.dbus_c.specs.Outcomes.{BeginsWithMessage, IsFirstView, TellsApart, answer_of};
 ghost use Rattle.dbus_validate.specs.Validating.{IsValidatedFirst};
 ghost use Rattle.dbus_header.specs.NoMessage.{BeginsWithNone};
 
@@ -18,6 +18,7 @@ use crate::reasons::{field_named, reason_number};
 use dbus_check::{Check, Checker};
 use dbus_validate::{Validated, validate, validate_first};
 use dbus_value_model::{Fault, Limits};
+use dbus_view::MessageView;
 
 /// The result of checking bytes. Fields that do not apply are 0.
 #[repr(C)]
@@ -147,4 +148,14 @@ pub(crate) fn first_validated(bytes: &[u8], limits: &WireLimits) -> Result<Valid
         Some(validated) => Ok(validated),
         None => Err(answer_to_none(bytes, within)),
     }
+}
+
+// A view of the message within the limits that the bytes begin with, which is validated by itself.
+pub(crate) fn first_view(bytes: &[u8], limits: Limits) -> Option<MessageView<'_>>
+    ensures viewed { IfSome result (λ v. IsFirstView limits bytes.now v) }
+    ensures none { result ≡ None → BeginsWithNone limits bytes.now }
+{
+    let validated = validate_first(bytes, limits)?;
+    let message = &bytes[..validated.length];
+    Some(MessageView::of_validated(message, limits, validated))
 }

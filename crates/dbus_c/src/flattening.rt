@@ -1,7 +1,7 @@
 //! All values of a message's body, and its header fields, as one row of items.
 #![tactic(auto)]
 
-ghost use Rattle.std.specs.Prelude.{◌≡◌, ◌↔◌, ◌≤◌, length};
+ghost use Rattle.std.specs.Prelude.{◌≡◌, ◌↔◌, ◌≤◌, ◌+◌, length};
 ghost use Rattle.dbus_c.specs.FlatParts.{IsPartFlat, IsTold};
 ghost use Rattle.dbus_c.specs.GivenLimits.{limits_of};
 ghost use Rattle.dbus_c.specs.Outcomes.{BeginsWithMessage, TellsApart};
@@ -11,7 +11,7 @@ ghost use Rattle.dbus_validate.specs.Validating.{IsValidatedFirst};
 use crate::answers::{NO_ROOM, WHOLE};
 use crate::checking::first_validated;
 use crate::given_limits::{WireLimits, given_limits};
-use dbus_cursor::{FlatItem, flatten};
+use dbus_flatten::{FlatItem, flatten};
 use dbus_validate::Validated;
 use dbus_value_model::Limits;
 use dbus_walk::{Source, Spot, lengths_of};
@@ -31,26 +31,31 @@ pub(crate) enum Part {
     Body,
 }
 
-/// Writes an item of each value of the body of the message within the limits that the bytes begin with, and of all parts of these, to
-/// the start of `items`, each container before its parts, and how many items there are to `count`.
+/// Writes items of the body of the message within the limits that the bytes begin with: a row of
+/// one for each value and all its parts, each container before its parts. Those from place `first`
+/// of the row on, which begins at 0, go to the start of `items`, as many as it has room for; what
+/// stands after them stays. Writes to `count` how many the whole row has.
 ///
-/// [`WHOLE`] if `items` has room for them; what stands after them stays. [`NO_ROOM`] if it has not; what it holds then is not said. If
-/// the bytes begin with no message, [`crate::PARTIAL`] or [`crate::REFUSED`], as [`crate::dbus_wire_check`], which reports why; then
-/// `items` and `count` stay as they are. It validates once, and allocates nothing. D-Bus Specification, "Message Format".
+/// [`WHOLE`] if there is room for all from `first` on, else [`NO_ROOM`]: the same call at a place
+/// after those written goes on. If the bytes begin with no message, [`crate::PARTIAL`] or
+/// [`crate::REFUSED`], as [`crate::dbus_wire_check`], which reports why; then `items` and `count`
+/// stay as they are. Each call validates once, and allocates nothing. D-Bus Specification, "Message
+/// Format".
 #[unsafe(no_mangle)]
 pub extern "C" fn dbus_wire_flatten(
     bytes: &[u8],
     limits: &WireLimits,
+    first: usize,
     items: &mut [FlatItem],
     count: &mut u64,
 ) -> u32
     ensures whole { BeginsWithMessage (limits_of limits.now) bytes.now ↔ IsTold result }
     ensures apart { TellsApart (limits_of limits.now) bytes.now result }
-    ensures flat { IsTold result → IsPartFlat Body (limits_of limits.now) bytes.now items.old items.new count.new }
-    ensures room { IsTold result → (result ≡ WHOLE) ↔ (count.new ≤ length items.old) }
+    ensures flat { IsTold result → IsPartFlat Body (limits_of limits.now) bytes.now first items.old items.new count.new }
+    ensures room { IsTold result → (result ≡ WHOLE) ↔ (count.new ≤ first + length items.old) }
     ensures unchanged { (IsTold result → ⊥) → (items.new ≡ items.old) × (count.new ≡ count.old) }
 {
-    flatten_part(Part::Body, bytes, limits, items, count)
+    flatten_part(Part::Body, bytes, limits, first, items, count)
 }
 
 /// Writes the items of the array of the header fields of the message within the limits that the bytes begin with, as
@@ -60,52 +65,60 @@ pub extern "C" fn dbus_wire_flatten(
 pub extern "C" fn dbus_wire_flatten_fields(
     bytes: &[u8],
     limits: &WireLimits,
+    first: usize,
     items: &mut [FlatItem],
     count: &mut u64,
 ) -> u32
     ensures whole { BeginsWithMessage (limits_of limits.now) bytes.now ↔ IsTold result }
     ensures apart { TellsApart (limits_of limits.now) bytes.now result }
-    ensures flat { IsTold result → IsPartFlat Fields (limits_of limits.now) bytes.now items.old items.new count.new }
-    ensures room { IsTold result → (result ≡ WHOLE) ↔ (count.new ≤ length items.old) }
+    ensures flat { IsTold result → IsPartFlat Fields (limits_of limits.now) bytes.now first items.old items.new count.new }
+    ensures room { IsTold result → (result ≡ WHOLE) ↔ (count.new ≤ first + length items.old) }
     ensures unchanged { (IsTold result → ⊥) → (items.new ≡ items.old) × (count.new ≡ count.old) }
 {
-    flatten_part(Part::Fields, bytes, limits, items, count)
+    flatten_part(Part::Fields, bytes, limits, first, items, count)
 }
 
-// The items of a part of the message that the bytes begin with, and the answer.
+// The items of a part of the message that the bytes begin with, from a place on, and the answer.
 fn flatten_part(
     part: Part,
     bytes: &[u8],
     limits: &WireLimits,
+    first: usize,
     items: &mut [FlatItem],
     count: &mut u64,
 ) -> u32
     ensures whole { BeginsWithMessage (limits_of limits.now) bytes.now ↔ IsTold result }
     ensures apart { TellsApart (limits_of limits.now) bytes.now result }
-    ensures flat { IsTold result → IsPartFlat part (limits_of limits.now) bytes.now items.old items.new count.new }
-    ensures room { IsTold result → (result ≡ WHOLE) ↔ (count.new ≤ length items.old) }
+    ensures flat { IsTold result → IsPartFlat part (limits_of limits.now) bytes.now first items.old items.new count.new }
+    ensures room { IsTold result → (result ≡ WHOLE) ↔ (count.new ≤ first + length items.old) }
     ensures unchanged { (IsTold result → ⊥) → (items.new ≡ items.old) × (count.new ≡ count.old) }
 {
     match first_validated(bytes, limits) {
         Ok(validated) => {
-            let told = flat_part(part, bytes, &validated, given_limits(limits), items);
+            let told = flat_part(part, bytes, &validated, given_limits(limits), first, items);
             *count = told as u64;
-            if told > items.len() { NO_ROOM } else { WHOLE }
+            if told.saturating_sub(first) > items.len() {
+                NO_ROOM
+            } else {
+                WHOLE
+            }
         }
         Err(answer) => answer,
     }
 }
 
-// The items of a part of the message that was validated, which the bytes begin with: how many there are.
+// The items of a part of the message that was validated, which the bytes begin with, from a place
+// on: how many the whole row has.
 fn flat_part(
     part: Part,
     bytes: &[u8],
     validated: &Validated,
     limits: Limits,
+    first: usize,
     items: &mut [FlatItem],
 ) -> usize
     requires validated { IsValidatedFirst limits bytes.now validated.now }
-    ensures { IsPartFlat part limits bytes.now items.old items.new result }
+    ensures { IsPartFlat part limits bytes.now first items.old items.new result }
 {
     let source = Source {
         bytes: &bytes[..validated.length],
@@ -122,5 +135,5 @@ fn flat_part(
         lengths: lengths_of(types, &mut table),
         depth_left: limits.depth,
     };
-    flatten(&source, &spot, items)
+    flatten(&source, &spot, first, items)
 }

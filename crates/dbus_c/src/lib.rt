@@ -1,23 +1,23 @@
 //! The wire format for C: calls that a static library exports, over numbers and the caller's bytes. D-Bus Specification, "Message
 //! Protocol", "Match Rules" and "Authentication Protocol".
 //!
-//! [`dbus_wire_check`] checks bytes, [`dbus_wire_wanted`] says how many to read, [`dbus_wire_parts_of`] and
-//! [`dbus_wire_argument_of`] give a message's parts, and [`dbus_wire_swap`] byteswaps. [`dbus_wire_body_cursor`] and
-//! [`dbus_wire_next`] give the values of its body one by one, and [`dbus_wire_flatten`] all of them at once, as
-//! [`dbus_wire_flatten_fields`] does its header fields. [`dbus_wire_checker_new`] makes a checker that is
-//! handed one piece after another, and [`dbus_wire_rules_add`] keeps match rules; [`dbus_wire_server_new`] and
-//! [`dbus_wire_client_new`] make an end of a handshake; [`dbus_wire_client_line`] and [`dbus_wire_server_line`] give the lines of one
-//! between others, and [`dbus_wire_build`] builds a message of its parts, whose body
-//! [`dbus_wire_put_number`] and its like spell. Of the other calls those on rules and [`dbus_wire_handshake_take`] take memory too.
+//! [`dbus_wire_check`] checks bytes, [`dbus_wire_wanted`] says how many to read,
+//! [`dbus_wire_parts_of`] gives a message's parts, and [`dbus_wire_swap`] byteswaps.
+//! [`dbus_wire_flatten`] gives all values of its body as one row of items, and
+//! [`dbus_wire_flatten_fields`] those of its header fields. [`dbus_wire_checker_new`] makes a
+//! checker that is handed one piece after another, and [`dbus_wire_rules_add`] keeps match rules;
+//! [`dbus_wire_server_new`] and [`dbus_wire_client_new`] make an end of a handshake;
+//! [`dbus_wire_client_line`] and [`dbus_wire_server_line`] give the lines of one between others,
+//! and [`dbus_wire_build`] builds a message of its parts, whose body [`dbus_wire_put_number`] and
+//! its like spell. Of the other calls those on rules and [`dbus_wire_handshake_take`] take memory
+//! too.
 //! `include/dbus_wire.h` declares them and says what a caller owes; `examples/c` has callers.
 #![tactic(auto)]
 
 mod answers;
-mod arguments;
 mod building;
 mod checkers;
 mod checking;
-mod cursors;
 mod flattening;
 mod given_limits;
 mod handshake_lines;
@@ -39,14 +39,12 @@ pub use answers::{
     NO_CHECKER, NO_HANDSHAKE, NO_KIND, NO_MEMORY, NO_ROOM, NO_RULE, NO_VALUE, PARTIAL, REFUSED,
     SHARED, WHOLE,
 };
-pub use arguments::{Argument, dbus_wire_argument_of};
 pub use building::dbus_wire_build;
 pub use checkers::{
     Taken, dbus_wire_checker_free, dbus_wire_checker_new, dbus_wire_checker_restart,
     dbus_wire_checker_take,
 };
 pub use checking::{Checked, dbus_wire_check};
-pub use cursors::{dbus_wire_body_cursor, dbus_wire_next};
 pub use flattening::{dbus_wire_flatten, dbus_wire_flatten_fields};
 pub use given_limits::{ANY_INDEX, INDEX_BELOW_COUNT, WireLimits, dbus_wire_specification_limits};
 pub use handshake_lines::{HandshakeLine, dbus_wire_client_line, dbus_wire_server_line};

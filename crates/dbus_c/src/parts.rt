@@ -113,7 +113,7 @@ pub(crate) fn order_byte(order: Order) -> u32
 }
 
 // Where the text of the field of a known code is.
-pub(crate) fn place_of(seen: &Seen, code: u8) -> TextPlace
+fn place_of(seen: &Seen, code: u8) -> TextPlace
     ensures { (bytes : List ℕ) (fs : List FieldTree) → AreNoted fs bytes seen.now →
         is_known code ≡ true → IsPlaceOf (field_value code fs) bytes result }
 {

@@ -8,8 +8,7 @@ ghost use Rattle.dbus_c_handle.specs.Rules.{given_of, is_shared, rules_of};
 ghost use Rattle.dbus_rule_set.specs.Held.{rule_at, without};
 
 use crate::answers::{NO_MEMORY, NO_ROOM, NO_RULE, REFUSED, SHARED, WHOLE};
-use crate::arguments::first_view;
-use crate::checking::answer_to_none;
+use crate::checking::{answer_to_none, first_view};
 use crate::given_limits::{WireLimits, given_limits};
 use crate::names::put_text;
 use crate::owners::owners_in;

@@ -43,6 +43,6 @@ returns c =
     let is = first.validated.validated in
     let flat = part_flat c.args.limits c.args.bytes.now c.args.validated.now first in
     elim c.match-part.branch [
-      | in-Fields w ↦ rw w.in-Fields.is (flat Fields _ _ _ _ _ (ap (λ p. p.1.now) w.at-is) (ap (λ p. p.0) w.at-is) c.flatten.ensures.flat)
-      | in-Body w ↦ rw w.in-Body.is (flat Body _ _ _ _ _ (ap (λ p. p.1.now) w.at-is ∙ w.signature.ensures is.message.fields is.fields) (ap (λ p. p.0) w.at-is ∙ sym is.body.0) c.flatten.ensures.flat)
+      | in-Fields w ↦ rw w.in-Fields.is (flat Fields _ _ _ _ _ _ (ap (λ p. p.1.now) w.at-is) (ap (λ p. p.0) w.at-is) c.flatten.ensures.flat)
+      | in-Body w ↦ rw w.in-Body.is (flat Body _ _ _ _ _ _ (ap (λ p. p.1.now) w.at-is ∙ w.signature.ensures is.message.fields is.fields) (ap (λ p. p.0) w.at-is ∙ sym is.body.0) c.flatten.ensures.flat)
     ]

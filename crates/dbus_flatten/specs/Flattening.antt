@@ -1,0 +1,55 @@
+-- Values as a row of items: each container comes before its parts.
+-- D-Bus Specification, "Type System" and "Marshaling (Wire Format)".
+use Rattle.std.specs.Prelude.{◌≡◌, ℕ, ◌+◌, ◌-◌, ◌<◌, ◌^◌, List, [], ◌∷◌, ◌++◌, length, take, drop, nat_lt, if◌then◌else◌}
+use Rattle.dbus_texts.specs.Types.{sig, number_code, text_code}
+use Rattle.dbus_types.specs.Alignments.{width, length_width}
+use Rattle.dbus_types.specs.SignatureCodes.{first_code}
+use Rattle.dbus_value_model.specs.Bytes.{gap_to}
+use Rattle.dbus_value_model.specs.declared.order.Order.{Order}
+use Rattle.dbus_value_model.specs.Spelling.{spelling, spellings, contents_start, ended_text}
+use Rattle.dbus_value_model.specs.Values.{ValueTree, ValueTrees, NumberValue, TextValue, VariantValue, ArrayValue, StructValue, EntryValue, NoValues, MoreValues, type_of}
+use Rattle.dbus_walk.specs.Widths.{number_width}
+use Rattle.dbus_flatten.specs.declared.flat_item.FlatItem.{FlatItem}
+
+-- the item of a value at an offset that has so many items within it: its number, its bytes, its first code, and its elements' first code
+abbrev pub item : Order → (at : ℕ) → ValueTree → (within : ℕ) → FlatItem
+item order at (NumberValue k n) within = record { number = n; offset = at + gap_to (width k) at; length = width k; code = number_code k; element = 0 }
+item order at (TextValue k t) within = record { number = 0; offset = at + gap_to (length_width k) at + length_width k; length = length t; code = text_code k; element = 0 }
+item order at (VariantValue x) within = record { number = within; offset = at + 1; length = length (sig (type_of x)); code = 118; element = 0 }
+item order at (ArrayValue t xs) within = record { number = within; offset = contents_start t at; length = length (spellings order (contents_start t at) xs); code = 97; element = first_code t }
+item order at (StructValue xs) within = record { number = within; offset = at + gap_to 8 at; length = 0; code = 40; element = 0 }
+item order at (EntryValue x y) within = record { number = within; offset = at + gap_to 8 at; length = 0; code = 123; element = 0 }
+
+-- the items of a value at an offset, of which these are within it
+abbrev pub with_item : Order → (at : ℕ) → ValueTree → (within : List FlatItem) → List FlatItem
+with_item order at v within = item order at v (length within) ∷ within
+
+-- the items of a value at an offset: its own, and then those of its parts; an array of numbers has its own alone
+unfoldable mutual
+  pub flat : Order → (at : ℕ) → ValueTree → List FlatItem
+  flat order at (NumberValue k n) = with_item order at (NumberValue k n) []
+  flat order at (TextValue k t) = with_item order at (TextValue k t) []
+  flat order at (VariantValue x) = with_item order at (VariantValue x) (flat order (at + length (ended_text order 1 (sig (type_of x)))) x)
+  flat order at (ArrayValue t xs) = with_item order at (ArrayValue t xs) (if nat_lt 0 (number_width t) then [] else flats order (contents_start t at) xs)
+  flat order at (StructValue xs) = with_item order at (StructValue xs) (flats order (at + gap_to 8 at) xs)
+  flat order at (EntryValue x y) =
+      let key = at + gap_to 8 at in
+      with_item order at (EntryValue x y) (flat order key x ++ flat order (key + length (spelling order key x)) y)
+
+  -- of values one after another
+  pub flats : Order → (at : ℕ) → ValueTrees → List FlatItem
+  flats order at NoValues = []
+  flats order at (MoreValues x xs) = flat order at x ++ flats order (at + length (spelling order at x)) xs
+
+-- a number as a word of 64 bits has it: no greater one than the greatest
+abbrev pub in_word : ℕ → ℕ
+in_word n = if nat_lt n (2 ^ 64 - 1) then n else 2 ^ 64 - 1
+
+-- items over those before, from the start on, as many as there is room for; what stood after them stays
+abbrev pub over : List FlatItem → (before : List FlatItem) → List FlatItem
+over items before = take (length before) items ++ drop (length items) before
+
+-- so many items there are of these values, and those from a number on stand over those before
+pub record AreFlat (order : Order) (at : ℕ) (vs : ValueTrees) (first : ℕ) (before out : List FlatItem) (count : ℕ) : Type 0 where
+  pub counted : count ≡ in_word (length (flats order at vs))
+  pub written : count < 2 ^ 64 - 1 → out ≡ over (drop first (flats order at vs)) before

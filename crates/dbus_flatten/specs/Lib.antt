@@ -1,0 +1,3 @@
+pub mod Flattening
+pub mod Flattener
+pub mod FlattenerLaws
