@@ -66,9 +66,9 @@ stands_once w p q s t = stands_for w p s ∙ ap (λ (o : Order). stood_for o w) 
 module _ (limits : Limits) (b : List ℕ) (w : Parts) where
   no_parts_none : (reason : Reason) → AreNoParts w reason → StandForNone limits b w
   no_parts_none ByteOrder none = λ p m stand has valid. none p.order stand.order
-  no_parts_none Overrun (inl kind) = λ p m stand has valid. absurd (omega (arith, kind, stand.numbers.0, has.numbers.0, valid.kind_fits))
-  no_parts_none Overrun (inr (inl flags)) = λ p m stand has valid. absurd (omega (arith, flags, stand.numbers.1, has.numbers.1, valid.flags))
-  no_parts_none Overrun (inr (inr ends)) = λ p m stand has valid. absurd (omega (arith, ends, stand.body.0))
+  no_parts_none Overrun (named, inl kind) = λ p m stand has valid. absurd (omega (arith, kind, stand.numbers.0, has.numbers.0, valid.kind_fits))
+  no_parts_none Overrun (named, inr (inl flags)) = λ p m stand has valid. absurd (omega (arith, flags, stand.numbers.1, has.numbers.1, valid.flags))
+  no_parts_none Overrun (named, inr (inr ends)) = λ p m stand has valid. absurd (omega (arith, ends, stand.body.0))
   no_parts_none _ none = absurd none
 
   makes_none : (p : PlacedParts) (why : Refusal) → (why ≡ refusals.Memory → ⊥) → IsRefusal limits b p why → MakeNone limits b p
@@ -87,7 +87,7 @@ module _ (limits : Limits) (b : List ℕ) (w : Parts) where
     no_parts_refused reason none two told_is same = builds.refused (no_parts_none reason none) two (builds.no_parts reason none told_is) same
 
     pub parts_refused : (p : PlacedParts) (why : Refusal) → StandFor w p → (why ≡ refusals.Memory → ⊥) → IsRefusal limits b p why → answer ≡ 2 → told ≡ refusal_told why → new ≡ old → Builds limits b w answer told old new
-    parts_refused p why stand other is two told_is same = builds.refused (stands_for_none p stand (makes_none p why other is)) two (builds.why p why stand is told_is) same
+    parts_refused p why stand other is two told_is same = builds.refused (stands_for_none p stand (makes_none p why other is)) two (builds.why p why stand other is told_is) same
 
     built_if : (p : PlacedParts) (out : List ℕ) → StandFor w p → IsBuilt limits b p out → told ≡ whole_told p.order (length out)
         → (length out ≤ length old → (answer ≡ 0) × (new ≡ out ++ drop (length out) old)) → (length old < length out → (answer ≡ 4) × (new ≡ old))

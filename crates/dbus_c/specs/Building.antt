@@ -51,16 +51,16 @@ refusal_told (refusals.Outside code) = field_told Overrun code
 refusal_told (refusals.TooLong code) = field_told (if nat_eq code 8 then Signature else MessageTooLong) code
 refusal_told (refusals.Format f) = fault_told f
 
--- why numbers stand for no parts: they name no byte order, or one does not fit
+-- why numbers stand for no parts: they name no byte order, or they name one, and a number does not fit
 abbrev pub AreNoParts : Parts → Reason → Type 0
 AreNoParts w ByteOrder = (order : Order) → w.order ≡ order_byte order → ⊥
-AreNoParts w Overrun = (255 < w.kind) ⊎ ((255 < w.flags) ⊎ (w.length < w.body))
+AreNoParts w Overrun = ((order : Order) × (w.order ≡ order_byte order)) × ((255 < w.kind) ⊎ ((255 < w.flags) ⊎ (w.length < w.body)))
 AreNoParts w _ = ⊥
 
--- why the parts are refused, and what is told of it
+-- Why the parts are refused, and what is told of it: nothing else may be told. Want of memory is no such reason.
 pub data IsWhy (limits : Limits) (b : List ℕ) (w : Parts) (told : Checked) : Type 0 where
   no_parts : (reason : Reason) → AreNoParts w reason → told ≡ field_told reason 0 → IsWhy limits b w told
-  why : (p : PlacedParts) (reason : Refusal) → StandFor w p → IsRefusal limits b p reason → told ≡ refusal_told reason → IsWhy limits b w told
+  why : (p : PlacedParts) (reason : Refusal) → StandFor w p → (reason ≡ refusals.Memory → ⊥) → IsRefusal limits b p reason → told ≡ refusal_told reason → IsWhy limits b w told
 
 -- An answer, what is told beside it and the new bytes hold of the parts under the limits. A message is built exactly if one within
 -- the limits has these parts, and then it is written if there is room; but memory may run out.

@@ -20,13 +20,14 @@ use std::alloc::Global;
 
 /// Writes the message that has exactly these parts to the start of `out`, in the byte order that they name: the header fields that
 /// are there, in the order of their codes, and the body from `parts.body` up to `parts.length`, which is spelled as in a message.
-/// The places are among `bytes`. It is the inverse of [`crate::dbus_wire_parts_of`] for messages that have no header fields beside
-/// the known ones.
+/// The places are among `bytes`. It is not the inverse of [`crate::dbus_wire_parts_of`]: a message comes back from its parts
+/// exactly if it has no header fields beside the known ones, these in the order of their codes, and no UNIX_FDS of 0.
 ///
 /// [`WHOLE`] if it is written; `told` has its length and order. [`NO_ROOM`] if `out` has fewer bytes than the message, with the same
 /// told. [`REFUSED`] if no message within the limits has these parts. Then `told` has the reason and the field: what
 /// [`crate::dbus_wire_check`] finds in the bytes that the parts spell; or `Overrun` if a place is outside `bytes`, or a number over
 /// 255 stands for a byte; `MessageTooLong` or `Signature` if a text is too long for any message; `ByteOrder` if no order is named.
+/// Of several the first is told: the order, the numbers, the body, each field in the order of the codes, all fields, the bytes.
 /// [`NO_MEMORY`] if memory runs out, of which it takes one block for a header of up to 512 bytes. In these three cases `out` stays as
 /// it was. D-Bus Specification, "Message Format" and "Header Fields".
 #[unsafe(no_mangle)]

@@ -1,6 +1,6 @@
 -- Parts that have no bytes, or whose bytes begin with no message, make none; and bytes that are validated are the message built.
 use Rattle.std.proofs.Common.{◌≡◌, ◌⊎◌, ℕ, ◌+◌, ◌^◌, ◌<◌, ◌≤◌, List, [], ◌∷◌, ◌++◌, length, replicate, drop, map, Bool, true, false, if◌then◌else◌, nat_eq, Option, Some, None, inl, inr, refl, sym, ap, subst, ◌∙◌, arith}
-use Rattle.std.proofs.lemmas.Bool.{eqb-true}
+use Rattle.std.proofs.lemmas.Bool.{cases_lt, eqb-true}
 use Rattle.std.proofs.lemmas.List.{length-append, length-take, length-drop, length-replicate, append-nil}
 use Rattle.dbus_texts.specs.Types.{TextCode, sig}
 use Rattle.dbus_types.specs.Alignments.{length_width}
@@ -20,7 +20,7 @@ use Rattle.dbus_header.specs.NoMessage.{BeginsWithNone}
 use Rattle.dbus_validate.specs.declared.validating.Validated.{Validated}
 use Rattle.dbus_c_build.specs.Placed.{HasParts, IsInside, place_of, text_at, text_code, text_field, number_value}
 use Rattle.dbus_c_build.specs.Spelled.{spelled}
-use Rattle.dbus_c_build.specs.Building.{HaveBytes, HaveNoBytes, IsBuilt, IsShort, IsRefusal, MakeNone, most_of, fields_length, AreTextsInside, AreTextsShort}
+use Rattle.dbus_c_build.specs.Building.{HaveBytes, HaveNoBytes, IsBuilt, IsGood, AreGoodBelow, IsShort, IsRefusal, MakeNone, most_of, fields_length, AreTextsInside, AreTextsShort}
 use Rattle.dbus_c_build.specs.declared.placed.Place.{Place}
 use Rattle.dbus_c_build.specs.declared.placed.PlacedParts.{PlacedParts}
 use Rattle.dbus_c_build.specs.declared.refusal.Refusal.{Refusal}
@@ -44,6 +44,21 @@ by_code p P none body h code =
 
 pub all_inside : (b : List ℕ) (p : PlacedParts) → IsInside b (Some p.body) → AreTextsInside b p → (code : ℕ) → IsInside b (place_of code p)
 all_inside b p body texts = by_code p (λ code. IsInside b) (λ code. tt) body texts
+
+-- every place is good
+pub all_good : (b : List ℕ) (p : PlacedParts) → IsGood b p 0 → AreTextsInside b p → AreTextsShort p → (code : ℕ) → IsGood b p code
+all_good b p body inside short code = (all_inside b p body.0 inside code, by_code p IsShort (λ code. tt) body.1 short code)
+
+-- the body's place is good
+pub good_first : (b : List ℕ) (p : PlacedParts) → IsGood b p 0 → AreGoodBelow b p 1
+good_first b p good c lt = let same : 0 ≡ c = omega (arith, lt) in subst (IsGood b p) same good
+
+-- one more place is good
+pub good_more : (b : List ℕ) (p : PlacedParts) (code : ℕ) → AreGoodBelow b p code → IsGood b p code → AreGoodBelow b p (code + 1)
+good_more b p code below good c lt = elim (cases_lt c code) [
+  | inl less ↦ below c less
+  | inr more ↦ let same : code ≡ c = omega (arith, lt, more) in subst (IsGood b p) same good
+]
 
 -- ---- texts in a message are short
 
@@ -136,8 +151,9 @@ module _ (limits : Limits) (b : List ℕ) (p : PlacedParts) where
 
   pub refused_so : (why : Refusal) → HaveNoBytes b p why → IsRefusal limits b p why
   refused_so refusals.Memory h = tt
-  refused_so (refusals.Outside code) h = (outside_none code h, h)
-  refused_so (refusals.TooLong code) h = (long_none code h, h)
+  refused_so (refusals.Outside code) h = (outside_none code h.1, h)
+  refused_so (refusals.TooLong code) (inl h) = (long_none code (inl h.2), inl h)
+  refused_so (refusals.TooLong code) (inr h) = (long_none code (inr (h.0, h.2)), inr h)
   refused_so (refusals.Format f) h = absurd h
 
   pub none_so : (out : List ℕ) → out ≡ spelled b p → BeginsWithNone limits out → MakeNone limits b p

@@ -33,6 +33,13 @@ abbrev pub IsShort : ℕ → Option Place → Type 0
 IsShort code None = Unit {0}
 IsShort code (Some q) = q.length ≤ most_of code
 
+-- the text of the field of a code, or under 0 the body, is within the bytes and not too long
+abbrev pub IsGood : List ℕ → PlacedParts → (code : ℕ) → Type 0
+IsGood b p code = IsInside b (place_of code p) × IsShort code (place_of code p)
+
+abbrev pub AreGoodBelow : List ℕ → PlacedParts → (code : ℕ) → Type 0
+AreGoodBelow b p code = (c : ℕ) → c < code → IsGood b p c
+
 -- the text of each field is within the bytes
 abbrev pub AreTextsInside : List ℕ → PlacedParts → Type 0
 AreTextsInside b p =
@@ -47,18 +54,15 @@ AreTextsShort p =
 abbrev pub fields_length : List ℕ → PlacedParts → ℕ
 fields_length b p = length (spellings p.order 16 (value_trees (map field_struct (fields_of b p))))
 
--- why parts have no bytes that could be a message: a place is outside, a text or the body is too long, or all fields are
+-- Why parts have no bytes that could be a message: the first place that is outside, or whose text is too long, the body's before those
+-- of the fields in the order of their codes; or each is good, and all fields together are too long.
 abbrev pub HaveNoBytes : List ℕ → PlacedParts → Refusal → Type 0
 HaveNoBytes b p refusals.Memory = Unit {0}
-HaveNoBytes b p (refusals.Outside code) = IsInside b (place_of code p) → ⊥
-HaveNoBytes b p (refusals.TooLong code) = (IsShort code (place_of code p) → ⊥) ⊎ ((code ≡ 0) × (ARRAY_LIMIT < fields_length b p))
+HaveNoBytes b p (refusals.Outside code) = AreGoodBelow b p code × (IsInside b (place_of code p) → ⊥)
+HaveNoBytes b p (refusals.TooLong code) =
+    (AreGoodBelow b p code × IsInside b (place_of code p) × (IsShort code (place_of code p) → ⊥))
+    ⊎ ((code ≡ 0) × ((c : ℕ) → IsGood b p c) × (ARRAY_LIMIT < fields_length b p))
 HaveNoBytes b p (refusals.Format f) = ⊥
-
--- why nothing is built: memory ran out; else no message has these parts, and this shows it
-abbrev pub IsRefusal : Limits → List ℕ → PlacedParts → Refusal → Type 0
-IsRefusal limits b p refusals.Memory = Unit {0}
-IsRefusal limits b p (refusals.Format f) = MakeNone limits b p × IsFaultAtEnd limits (spelled b p) f
-IsRefusal limits b p why = MakeNone limits b p × HaveNoBytes b p why
 
 -- the parts have bytes: each place is inside, and each length and number fits where it stands
 pub record HaveBytes (b : List ℕ) (p : PlacedParts) : Type 0 where
@@ -68,3 +72,9 @@ pub record HaveBytes (b : List ℕ) (p : PlacedParts) : Type 0 where
   pub body_short : IsShort 0 (Some p.body)
   pub fields : fields_length b p ≤ ARRAY_LIMIT
   pub numbers : (p.kind < 256) × (p.flags < 256) × (p.serial < 2 ^ 32) × (p.reply_serial < 2 ^ 32) × (p.unix_fds < 2 ^ 32)
+
+-- why nothing is built: memory ran out; else no message has these parts, and this shows it
+abbrev pub IsRefusal : Limits → List ℕ → PlacedParts → Refusal → Type 0
+IsRefusal limits b p refusals.Memory = Unit {0}
+IsRefusal limits b p (refusals.Format f) = MakeNone limits b p × HaveBytes b p × IsFaultAtEnd limits (spelled b p) f
+IsRefusal limits b p why = MakeNone limits b p × HaveNoBytes b p why

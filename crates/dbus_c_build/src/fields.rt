@@ -8,7 +8,7 @@ ghost use Rattle.dbus_value_model.specs.Values.{TextValue};
 ghost use Rattle.dbus_message_model.specs.Messages.{field_struct};
 ghost use Rattle.dbus_c_build.specs.Placed.{IsInside, place_of, text_at, text_code, text_field, number_field, fields_of};
 ghost use Rattle.dbus_c_build.specs.Spelled.{with_fields};
-ghost use Rattle.dbus_c_build.specs.Building.{AreTextsInside, AreTextsShort, HaveNoBytes, IsShort, most_of};
+ghost use Rattle.dbus_c_build.specs.Building.{AreGoodBelow, AreTextsInside, AreTextsShort, HaveNoBytes, IsGood, IsShort, most_of};
 ghost use Rattle.dbus_c_build.specs.declared.placed.PlacedParts.{PlacedParts};
 
 use crate::placed::{Place, PlacedParts};
@@ -48,7 +48,7 @@ pub(crate) fn text_at<'a>(bytes: &'a [u8], place: Place, code: u8) -> Result<&'a
     ensures inside { IfOk result (λ t. IsInside bytes.now (Some place)) }
     ensures short { IfOk result (λ t. IsShort code (Some place)) }
     ensures refused { IfErr result (λ why. (p : PlacedParts) →
-        place_of code p ≡ Some place → HaveNoBytes bytes.now p why) }
+        place_of code p ≡ Some place → AreGoodBelow bytes.now p code → HaveNoBytes bytes.now p why) }
 {
     if place.start > bytes.len() || bytes.len() - place.start < place.length {
         return Err(Refusal::Outside(code));
@@ -103,7 +103,7 @@ fn put_field<A: Allocator>(
     ensures inside { OnOk result (IsInside bytes.now place) }
     ensures short { OnOk result (IsShort code place) }
     ensures refused { IfErr result (λ why. (p : PlacedParts) →
-        place_of code p ≡ place → HaveNoBytes bytes.now p why) }
+        place_of code p ≡ place → AreGoodBelow bytes.now p code → HaveNoBytes bytes.now p why) }
 {
     match place {
         None => Ok(()),
@@ -142,7 +142,7 @@ pub(crate) fn put_fields<A: Allocator>(
         with_fields parts.now.order (fields_of bytes.now parts.now) out.old.items) }
     ensures inside { OnOk result (AreTextsInside bytes.now parts.now) }
     ensures short { OnOk result (AreTextsShort parts.now) }
-    ensures refused { IfErr result (λ why. HaveNoBytes bytes.now parts.now why) }
+    ensures refused { IfErr result (λ why. IsGood bytes.now parts.now 0 → HaveNoBytes bytes.now parts.now why) }
 {
     let order = parts.order;
     put_field(out, order, bytes, parts.path, PATH)?;

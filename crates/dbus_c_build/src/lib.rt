@@ -1,7 +1,8 @@
 //! Messages built in bytes, for C: of a header in numbers and places, and of a body that is spelled already. D-Bus Specification,
 //! "Message Format".
 //!
-//! [`build`] is the inverse of taking a message apart by places. What it spells it validates, so that it builds exactly the messages.
+//! [`build`] makes a message of parts, with its header fields in the order of their codes and none of unknown codes: so it is the inverse
+//! of taking a message apart only for those that are so. What it spells it validates, so that it builds exactly the messages.
 #![tactic(auto)]
 
 mod building;

@@ -5,7 +5,8 @@ use dbus_value_model::Fault;
 use std::alloc::AllocError;
 
 /// Why nothing is built of parts. All but `Memory` say that no message has them. A code is that of a header field; 0 stands for the
-/// body.
+/// body. Of several faults it is the first: a place, or its length, the body's before those of the fields in the order of their codes;
+/// then the length of all fields; then the fault of the bytes.
 #[derive(Clone, Copy, PartialEq, Eq, Debug, Drop)]
 pub enum Refusal {
     /// An allocation failed.

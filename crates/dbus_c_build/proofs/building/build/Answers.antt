@@ -23,4 +23,4 @@ returns-in-None-clause-refused g c =
     let out = c.in_ok-out.out.items in
     let none = subst (λ (l : List ℕ). BeginsWithNone c.args.limits l) c.as_slice.ensures.value (c.in-None.ensures.none refl) in
     let fault = subst (λ (l : List ℕ). IsFaultAtEnd c.args.limits l c.fault_at_end.result) (c.as_slice-in-None.ensures.value ∙ c.in_ok-out.ensures.spelled) c.fault_at_end.ensures in
-    (none_so c.args.limits b p out c.in_ok-out.ensures.spelled none, fault)
+    (none_so c.args.limits b p out c.in_ok-out.ensures.spelled none, c.in_ok-out.ensures.bounded, fault)

@@ -2,6 +2,7 @@ use Rattle.std.proofs.Common.{◌-◌, ◌++◌, ℕ, List, length, inr, refl, a
 use Rattle.dbus_c_build.specs.Placed.{fields_of}
 use Rattle.dbus_c_build.specs.Spelled.{fixed_items, with_fields}
 use Rattle.dbus_c_build.proofs.Spelling.{all_spelled, fields_count}
+use Rattle.dbus_c_build.proofs.Refusing.{all_good}
 use Rattle.dbus_c_build.proofs.building.spell.Goals as goal
 
 pub overflow_sub-length : goal.overflow_sub-length
@@ -16,7 +17,8 @@ returns-then-length-clause-refused g c =
     let p = c.args.parts.now in
     let fixed = c.in_ok-put_fixed.ensures ∙ ap (λ (t : List ℕ). fixed_items p.order p.kind p.flags p.serial (length t)) c.in_ok-body.ensures.text in
     let fields = c.in_ok-put_fields.ensures.put ∙ ap (with_fields p.order (fields_of c.args.bytes.now p)) fixed in
-    inr (refl, omega (arith, c.len-length.ensures, c.if-length.true, fields_count c.args.bytes.now p c.put_fields.new.out.items fields))
+    let good = all_good c.args.bytes.now p (c.in_ok-body.ensures.inside, c.in_ok-body.ensures.short) c.in_ok-put_fields.ensures.inside c.in_ok-put_fields.ensures.short in
+    inr (refl, good, omega (arith, c.len-length.ensures, c.if-length.true, fields_count c.args.bytes.now p c.put_fields.new.out.items fields))
 
 pub set_length-requires : goal.set_length-requires
 set_length-requires g c =
