@@ -205,6 +205,9 @@ def build(
 ) -> Message:
     """The message within the limits that has exactly these parts. What is None or 0 is no header field.
 
+    The fields are in the order of their codes: of the parts of another message this makes one with its fields in that order, and
+    without those of other codes.
+
     The body's bytes are spelled in the byte order, 'l' or 'B', as `spell_body` spells values, and as those of `body_bytes` are. Raises Refused if no message has these
     parts; its place counts from the first byte that they spell. Raises ValueError of a number that no field has room for.
     """

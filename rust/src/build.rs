@@ -83,6 +83,8 @@ impl Error for BuildError {}
 
 /// The bytes of the message within the limits that has exactly these parts, its header fields in the order of their codes.
 ///
+/// So of the parts of a message at hand it makes that message only if its fields are in this order, and none is of another code.
+///
 /// ```
 /// use dbus_wire::{build, BuildError, Kind, Limits, Message, Parts};
 ///
