@@ -19,9 +19,10 @@ use Rattle.dbus_walk.specs.Standing.{Stands, AllStand, StandsAt}
 use Rattle.dbus_walk.proofs.Parts.{number_is}
 use Rattle.dbus_walk.proofs.Seams.{ends_within}
 use Rattle.dbus_walk.proofs.ReadThere.{formed_utf8}
-use Rattle.dbus_values.specs.Seen.{IsSeen}
+use Rattle.dbus_values.specs.Seen.{AreSeenInside, IsSeen}
 use Rattle.dbus_values.proofs.NumberRuns.{one_byte, bytes_there}
 use Rattle.dbus_values.specs.declared.view.ValueView.{ValueView}
+use Rattle.dbus_values.specs.declared.view.ValueView.TheVariants as views
 
 path_left : (k : TextCode) → length_width k ≡ 4 → (text_code k ≡ 115 → ⊥) → k ≡ OBJECT_PATH
 path_left OBJECT_PATH wide not = refl
@@ -45,6 +46,14 @@ one_left {order} {depth_left} {types} {at} {bytes} {v} {rest} s shaped = record 
   spelled = s.spelled ∙ ap (λ (l : List ℕ). l ++ rest) (sym (append-nil (spelling order at v)));
   inside = omega (arith, ends_within s);
 }
+
+-- a number has no parts
+pub number_apart : (order : Order) (bytes : List ℕ) (at : ℕ) (v : ValueTree) (view : ValueView) (k : NumberCode) (n : ℕ) → v ≡ NumberValue k n → IsSeen view v → AreSeenInside order bytes at v view
+number_apart order bytes at v (views.Array e) k n is seen = let other = seen.3 in absurd cc
+number_apart order bytes at v (views.Struct e) k n is seen = let other = seen.2 in absurd cc
+number_apart order bytes at v (views.Entry e) k n is seen = let other = seen.3 in absurd cc
+number_apart order bytes at v (views.Variant e) k n is seen = let other = seen.2 in absurd cc
+number_apart order bytes at v view k n is seen = tt
 
 module _ (source : Source) (spot : Spot) (v : ValueTree) (rest : List ℕ) (s : StandsAt source spot v rest) where
   coded : first_code (type_of v) ≡ get_or spot.types.now 0 0

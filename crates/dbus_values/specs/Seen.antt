@@ -1,12 +1,15 @@
 -- How a value is seen where it stands, and which values are left after it.
 -- D-Bus Specification, "Type System".
-use Rattle.std.specs.Prelude.{◌≡◌, ℕ, ◌<◌, List, if◌then◌else◌, Option, IfSome, MatchOption}
+use Rattle.std.specs.Prelude.{◌≡◌, ℕ, ◌+◌, ◌<◌, List, length, if◌then◌else◌, Option, None, IfSome, MatchOption}
 use Rattle.std.specs.Int.{cast_unsigned, w16, w32, w64}
 use Rattle.dbus_texts.specs.Types.{BYTE, BOOLEAN, INT16, UINT16, INT32, UINT32, INT64, UINT64, DOUBLE, UNIX_FD, STRING, OBJECT_PATH, SIGNATURE, TypeTree, NumberType, sig}
 use Rattle.dbus_types.specs.SignatureCodes.{first_code}
+use Rattle.dbus_value_model.specs.declared.order.Order.{Order}
+use Rattle.dbus_value_model.specs.Spelling.{spelling}
 use Rattle.dbus_value_model.specs.Values.{ValueTree, ValueTrees, NumberValue, TextValue, VariantValue, ArrayValue, StructValue, EntryValue, NoValues, MoreValues, type_of}
 use Rattle.dbus_value_model.specs.ValueViews.{byte_values}
-use Rattle.dbus_values.specs.States.{ValuesState, AreLeft, AreFewer, IsAfter, ElementsState, ElementsAreLeft, AreFewerElements, weight}
+use Rattle.dbus_walk.specs.Containers.{inside}
+use Rattle.dbus_values.specs.States.{ValuesState, AreLeft, AreFewer, IsAfter, ElementsState, ElementsAreLeft, AreFewerElements, IsAfterElement, weight}
 use Rattle.dbus_values.specs.declared.view.ValueView.{ValueView}
 use Rattle.dbus_values.specs.declared.view.ValueView.TheVariants as view
 
@@ -32,6 +35,18 @@ IsSeen (view.Struct s) v = (xs : ValueTrees) × (rest : List ℕ) × (v ≡ Stru
 IsSeen (view.Entry s) v = (x : ValueTree) × (y : ValueTree) × (rest : List ℕ) × (v ≡ EntryValue x y) × AreLeft s (MoreValues x (MoreValues y NoValues)) rest
 IsSeen (view.Variant s) v = (x : ValueTree) × (rest : List ℕ) × (v ≡ VariantValue x) × AreLeft s (MoreValues x NoValues) rest
 
+-- the parts of a value that stands at an offset are seen where the value has them, in the same bytes
+abbrev pub AreInside : Order → List ℕ → (at : ℕ) → ValueTree → ValuesState → Type 0
+AreInside order bytes at v s = (s.order ≡ order) × (s.bytes ≡ bytes) × (s.at ≡ inside order at v)
+
+-- the same of the elements of an array, which end where the array does; what has no parts is seen by itself
+abbrev pub AreSeenInside : Order → List ℕ → (at : ℕ) → ValueTree → ValueView → Type 0
+AreSeenInside order bytes at v (view.Array e) = (e.order ≡ order) × (e.bytes ≡ bytes) × (e.at ≡ inside order at v) × (e.end ≡ at + length (spelling order at v))
+AreSeenInside order bytes at v (view.Struct s) = AreInside order bytes at v s
+AreSeenInside order bytes at v (view.Entry s) = AreInside order bytes at v s
+AreSeenInside order bytes at v (view.Variant s) = AreInside order bytes at v s
+AreSeenInside order bytes at v _ = Unit {0}
+
 -- the first of some trees is seen so, and the others are left
 abbrev pub IsFirst : ValuesState → ValueTrees → (rest : List ℕ) → ValueView → Type 0
 IsFirst left xs rest seen = (x : ValueTree) × (us : ValueTrees) × (xs ≡ MoreValues x us) × IsSeen seen x × AreLeft left us rest
@@ -51,13 +66,19 @@ weight_in (view.Entry s) = weight s.depth_left s.types
 weight_in (view.Variant s) = weight s.depth_left s.types
 weight_in _ = 0
 
--- A call of `next`: what is left before it, what it answers, and what is left after it. The first of the trees is seen, and the
--- others are left; or there are none. The others begin where the first ends, and both are less than what was left.
+-- A call of `next`: what is left before it, what it answers, and what is left after it. The first of the trees is seen, its parts
+-- where it has them, and the others are left; or there are none, and nothing moves. The others begin where the first ends, and
+-- both are less than what was left.
 pub record PassesValue (before : ValuesState) (result : Option ValueView) (left : ValuesState) : Type 0 where
   pub first : (xs : ValueTrees) (rest : List ℕ) → AreLeft before xs rest → MatchOption result ((xs ≡ NoValues) × AreLeft left xs rest) (λ seen. IsFirst left xs rest seen)
+  pub parts : (x : ValueTree) (us : ValueTrees) (rest : List ℕ) → AreLeft before (MoreValues x us) rest → IfSome result (λ seen. AreSeenInside before.order before.bytes before.at x seen)
   pub after : (x : ValueTree) (us : ValueTrees) (rest : List ℕ) → AreLeft before (MoreValues x us) rest → IsAfter before x left
+  pub stays : result ≡ None → left ≡ before
   pub fewer : IfSome result (λ seen. (weight_in seen < weight before.depth_left before.types) × AreFewer left before)
 
 pub record PassesElement (before : ElementsState) (result : Option ValueView) (left : ElementsState) : Type 0 where
   pub first : (xs : ValueTrees) (rest : List ℕ) → ElementsAreLeft before xs rest → MatchOption result ((xs ≡ NoValues) × ElementsAreLeft left xs rest) (λ seen. IsFirstElement left xs rest seen)
+  pub parts : (x : ValueTree) (us : ValueTrees) (rest : List ℕ) → ElementsAreLeft before (MoreValues x us) rest → IfSome result (λ seen. AreSeenInside before.order before.bytes before.at x seen)
+  pub after : (x : ValueTree) (us : ValueTrees) (rest : List ℕ) → ElementsAreLeft before (MoreValues x us) rest → IsAfterElement before x left
+  pub stays : result ≡ None → left ≡ before
   pub fewer : IfSome result (λ seen. (weight_in seen < weight before.depth_left before.type) × AreFewerElements left before)

@@ -52,6 +52,10 @@ ElementsAreLeft s xs rest = ElementsStand s.order s.depth_left s.type s.at s.end
 abbrev pub SomeElementsAreLeft : ElementsState → Type 0
 SomeElementsAreLeft s = (length s.type ≤ 255) × (xs : ValueTrees) × (rest : List ℕ) × ElementsAreLeft s xs rest
 
+-- the elements after one are left, in the same bytes up to the same end: they begin where its spelling ends
+abbrev pub IsAfterElement : ElementsState → ValueTree → ElementsState → Type 0
+IsAfterElement before x left = (left.order ≡ before.order) × (left.bytes ≡ before.bytes) × (left.end ≡ before.end) × (left.at ≡ before.at + length (spelling before.order before.at x))
+
 -- the type is none of numbers
 abbrev pub IsOfNoNumbers : (type : List ℕ) → Type 0
 IsOfNoNumbers type = (k : NumberCode) → type ≡ number_code k ∷ [] → ⊥

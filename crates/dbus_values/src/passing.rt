@@ -4,7 +4,7 @@
 ghost use Rattle.std.specs.Prelude.{◌≡◌, ◌<◌, ◌≤◌, ℕ, List, length};
 ghost use Rattle.dbus_value_model.specs.Values.{ValueTree};
 ghost use Rattle.dbus_walk.specs.Standing.{StandsAt, StandsThere, end_of};
-ghost use Rattle.dbus_values.specs.Seen.{IsSeen, weight_in};
+ghost use Rattle.dbus_values.specs.Seen.{AreSeenInside, IsSeen, weight_in};
 ghost use Rattle.dbus_values.specs.States.{weight};
 
 use crate::seeing::{array_view, number_view};
@@ -19,6 +19,8 @@ pub(crate) fn pass<'a>(source: &Source<'a>, spot: &Spot<'a>) -> (ValueView<'a>, 
     requires few { length spot.now.types.now ≤ 255 }
     ensures seen { (v : ValueTree) (rest : List ℕ) → StandsAt source.now spot.now v rest →
         IsSeen result.0 v × (result.1 ≡ end_of source.now spot.now v) }
+    ensures parts { (v : ValueTree) (rest : List ℕ) → StandsAt source.now spot.now v rest →
+        AreSeenInside source.now.order source.now.bytes.now spot.now.at v result.0 }
     ensures less { weight_in result.0 < weight spot.now.depth_left spot.now.types.now }
 {
     match layout(source, spot) {

@@ -8,7 +8,7 @@ ghost use Rattle.dbus_value_model.specs.Reading.{number_of};
 ghost use Rattle.dbus_value_model.specs.Values.{ValueTree, NumberValue, IsNumber};
 ghost use Rattle.dbus_walk.specs.Layouts.{IsArrayAt};
 ghost use Rattle.dbus_walk.specs.Standing.{StandsAt, StandsThere};
-ghost use Rattle.dbus_values.specs.Seen.{IsSeen, weight_in};
+ghost use Rattle.dbus_values.specs.Seen.{AreSeenInside, IsSeen, weight_in};
 ghost use Rattle.dbus_values.specs.States.{weight};
 
 use crate::elements::Elements;
@@ -22,6 +22,8 @@ pub(crate) fn array_view<'a>(source: &Source<'a>, spot: &Spot<'a>, run: Run) -> 
     requires laid { (v : ValueTree) (rest : List ℕ) → StandsAt source.now spot.now v rest →
         IsArrayAt source.now spot.now v rest run }
     ensures seen { (v : ValueTree) (rest : List ℕ) → StandsAt source.now spot.now v rest → IsSeen result v }
+    ensures parts { (v : ValueTree) (rest : List ℕ) → StandsAt source.now spot.now v rest →
+        AreSeenInside source.now.order source.now.bytes.now spot.now.at v result }
     ensures less { weight_in result < weight spot.now.depth_left spot.now.types.now }
 {
     // Of all numbers only a BYTE has one byte.

@@ -5,7 +5,7 @@ use Rattle.dbus_types.proofs.TypeLengths.{one_length}
 use Rattle.dbus_value_model.specs.Values.{ValueTree, NoValues, MoreValues, type_of}
 use Rattle.dbus_walk.proofs.Laid.{laid_as}
 use Rattle.dbus_values.specs.States.{ValuesState, AreLeft}
-use Rattle.dbus_values.proofs.Views.{number_coded, number_inside, number_seen, text_utf8, string_seen, path_seen, signature_seen, variant_left}
+use Rattle.dbus_values.proofs.Views.{number_coded, number_inside, number_seen, number_apart, text_utf8, string_seen, path_seen, signature_seen, variant_left}
 use Rattle.dbus_values.proofs.passing.pass.Goals as goal
 
 pub number_view-requires-clause-inside : goal.number_view-requires-clause-inside
@@ -22,6 +22,10 @@ overflow_add-result c = let s = c.requires.stands in let p = laid_as c.args.sour
 pub returns-in-Number-clause-seen : goal.returns-in-Number-clause-seen
 returns-in-Number-clause-seen c = λ v rest s. let p = laid_as c.args.source.now c.args.spot.now c.in-Number.is c.layout.ensures v rest s in
     (number_seen c.args.source.now c.args.spot.now v rest s c.in-Number.start _ p c.number_view.result c.number_view.ensures.seen, omega (arith, p.ends, c.from.ensures))
+
+pub returns-in-Number-clause-parts : goal.returns-in-Number-clause-parts
+returns-in-Number-clause-parts c = λ v rest s. let p = laid_as c.args.source.now c.args.spot.now c.in-Number.is c.layout.ensures v rest s in
+    number_apart c.args.source.now.order c.args.source.now.bytes.now c.args.spot.now.at v c.number_view.result p.code p.n p.is (number_seen c.args.source.now c.args.spot.now v rest s c.in-Number.start _ p c.number_view.result c.number_view.ensures.seen)
 
 pub overflow_add-start : goal.overflow_add-start
 overflow_add-start c = let s = c.requires.stands in let p = laid_as c.args.source.now c.args.spot.now c.in-LongText.is c.layout.ensures s.0 s.1 s.2 in omega (arith, p.inside)
@@ -88,6 +92,10 @@ pub returns-in-Variant-clause-seen : goal.returns-in-Variant-clause-seen
 returns-in-Variant-clause-seen c = λ v rest s. let p = laid_as c.args.source.now c.args.spot.now c.in-Variant.is c.layout.ensures v rest s in
     ((p.x, rest, p.is, subst (λ (l : ValuesState). AreLeft l (MoreValues p.x NoValues) rest) (sym c.new-held.ensures) (variant_left c.args.source.now c.args.spot.now v rest s c.in-Variant.types.now c.in-Variant.at p)), c.skip_value.ensures v rest s)
 
+pub returns-in-Variant-clause-parts : goal.returns-in-Variant-clause-parts
+returns-in-Variant-clause-parts c = λ v rest s. let p = laid_as c.args.source.now c.args.spot.now c.in-Variant.is c.layout.ensures v rest s in
+    (ap (λ (l : ValuesState). l.order) c.new-held.ensures, ap (λ (l : ValuesState). l.bytes) c.new-held.ensures, ap (λ (l : ValuesState). l.at) c.new-held.ensures ∙ p.begins)
+
 pub returns-in-Variant-clause-less : goal.returns-in-Variant-clause-less
 returns-in-Variant-clause-less c = let s = c.requires.stands in let p = laid_as c.args.source.now c.args.spot.now c.in-Variant.is c.layout.ensures s.0 s.1 s.2 in
     omega (arith, p.some, p.few, ap (λ (l : ValuesState). l.depth_left) c.new-held.ensures, ap (λ (l : ValuesState). length l.types) c.new-held.ensures)
@@ -95,6 +103,9 @@ returns-in-Variant-clause-less c = let s = c.requires.stands in let p = laid_as 
 pub returns-in-Array-clause-seen : goal.returns-in-Array-clause-seen
 returns-in-Array-clause-seen c = λ v rest s. let p = laid_as c.args.source.now c.args.spot.now c.in-Array.is c.layout.ensures v rest s in
     (c.array_view.ensures.seen v rest s, p.ends)
+
+pub returns-in-Array-clause-parts : goal.returns-in-Array-clause-parts
+returns-in-Array-clause-parts c = λ v rest s. c.array_view.ensures.parts v rest s
 
 pub slice_bounds-fields-count : goal.slice_bounds-fields-count
 slice_bounds-fields-count c = let s = c.requires.stands in let p = laid_as c.args.source.now c.args.spot.now c.in-Struct.is c.layout.ensures s.0 s.1 s.2 in omega (arith, p.long)
@@ -113,6 +124,10 @@ pub returns-in-Struct-clause-seen : goal.returns-in-Struct-clause-seen
 returns-in-Struct-clause-seen c = λ v rest s. let p = laid_as c.args.source.now c.args.spot.now c.in-Struct.is c.layout.ensures v rest s in
     ((p.xs, rest, p.is, subst (λ (l : ValuesState). AreLeft l p.xs rest) (sym c.new-parts.ensures) p.held), c.after_parts.ensures v rest s)
 
+pub returns-in-Struct-clause-parts : goal.returns-in-Struct-clause-parts
+returns-in-Struct-clause-parts c = λ v rest s. let p = laid_as c.args.source.now c.args.spot.now c.in-Struct.is c.layout.ensures v rest s in
+    (ap (λ (l : ValuesState). l.order) c.new-parts.ensures, ap (λ (l : ValuesState). l.bytes) c.new-parts.ensures, ap (λ (l : ValuesState). l.at) c.new-parts.ensures ∙ p.begins)
+
 pub slice_bounds-both-count : goal.slice_bounds-both-count
 slice_bounds-both-count c = let s = c.requires.stands in let p = laid_as c.args.source.now c.args.spot.now c.in-Entry.is c.layout.ensures s.0 s.1 s.2 in omega (arith, p.long)
 
@@ -126,3 +141,7 @@ new-parts-requires-in-Entry c = let s = c.requires.stands in let p = laid_as c.a
 pub returns-in-Entry-clause-seen : goal.returns-in-Entry-clause-seen
 returns-in-Entry-clause-seen c = λ v rest s. let p = laid_as c.args.source.now c.args.spot.now c.in-Entry.is c.layout.ensures v rest s in
     ((p.x, p.y, rest, p.is, subst (λ (l : ValuesState). AreLeft l (MoreValues p.x (MoreValues p.y NoValues)) rest) (sym c.new-parts-in-Entry.ensures) p.held), c.after_parts-in-Entry.ensures v rest s)
+
+pub returns-in-Entry-clause-parts : goal.returns-in-Entry-clause-parts
+returns-in-Entry-clause-parts c = λ v rest s. let p = laid_as c.args.source.now c.args.spot.now c.in-Entry.is c.layout.ensures v rest s in
+    (ap (λ (l : ValuesState). l.order) c.new-parts-in-Entry.ensures, ap (λ (l : ValuesState). l.bytes) c.new-parts-in-Entry.ensures, ap (λ (l : ValuesState). l.at) c.new-parts-in-Entry.ensures ∙ p.begins)

@@ -33,3 +33,9 @@ returns-clause-seen c = λ v rest s.
     let p = c.requires.laid v rest s in
     let other = λ (byte : p.type ≡ NumberType BYTE). c.if-run-eq1.false (sym p.wide ∙ ap number_width byte) in
     (p.type, p.xs, rest, p.is, other, array_type c.args.source.now c.args.spot.now v rest s p.type p.xs p.is ∙ ap (λ (l : ElementsState). l.type) (sym c.new.ensures), subst (λ (l : ElementsState). ElementsAreLeft l p.xs rest) (sym c.new.ensures) p.held)
+
+pub returns-clause-parts : goal.returns-clause-parts
+returns-clause-parts c = λ v rest s.
+    let p = c.requires.laid v rest s in
+    let is = c.new.ensures in
+    (ap (λ (l : ElementsState). l.order) is, ap (λ (l : ElementsState). l.bytes) is, ap (λ (l : ElementsState). l.at) is ∙ p.begins, ap (λ (l : ElementsState). l.end) is ∙ p.ends)

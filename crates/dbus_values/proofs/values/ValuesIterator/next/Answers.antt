@@ -4,7 +4,7 @@ use Rattle.std.proofs.lemmas.List.{length-take, length-drop}
 use Rattle.dbus_walk.specs.Standing.{AllStand}
 use Rattle.dbus_value_model.specs.Spelling.{spelling}
 use Rattle.dbus_value_model.specs.Values.{ValueTree, MoreValues}
-use Rattle.dbus_values.specs.Seen.{PassesValue}
+use Rattle.dbus_values.specs.Seen.{AreSeenInside, PassesValue}
 use Rattle.dbus_values.specs.States.{ValuesState}
 use Rattle.dbus_values.proofs.Firsts.{no_values, value_of}
 use Rattle.dbus_values.proofs.values.ValuesIterator.next.Goals as goal
@@ -15,7 +15,9 @@ returns-then-is_empty-clause-steps c =
     let ended = ap (λ (s : ValuesState). length s.types) (sym c.self.view_is) ∙ none in
     record {
       first = λ xs rest l. (no_values c.args.self.now xs rest l ended, l);
+      parts = λ x us rest l. tt;
       after = λ x us rest l. let e = no_values c.args.self.now (MoreValues x us) rest l ended in absurd cc;
+      stays = λ none. refl;
       fewer = tt;
     }
 
@@ -51,12 +53,18 @@ returns-clause-steps c =
           let f = value_of s xs rest end l some c.type_end-end.ensures.value in
           let w = c.pass-seen.ensures.seen f.x _ f.stands in
           (f.x, f.us, f.begins, w.0, subst (λ (k : ℕ). AllStand s.order s.depth_left left.types k s.bytes f.us rest) (sym w.1) f.others);
+      parts = λ x us rest l.
+          let f = value_of s (MoreValues x us) rest end l some c.type_end-end.ensures.value in
+          let begins : MoreValues x us ≡ MoreValues f.x f.us = f.begins in
+          let same : f.x ≡ x = cc in
+          subst (λ (u : ValueTree). AreSeenInside s.order s.bytes s.at u c.pass-seen.result.0) same (c.pass-seen.ensures.parts f.x _ f.stands);
       after = λ x us rest l.
           let f = value_of s (MoreValues x us) rest end l some c.type_end-end.ensures.value in
           let w = c.pass-seen.ensures.seen f.x _ f.stands in
           let begins : MoreValues x us ≡ MoreValues f.x f.us = f.begins in
           let same : f.x ≡ x = cc in
           (refl, refl, w.1 ∙ ap (λ (u : ValueTree). s.at + length (spelling s.order s.at u)) same);
+      stays = λ none. absurd cc;
       fewer =
           let less = c.pass-seen.ensures.less in
           (omega (arith, less, length-take end s.types), (refl, omega (arith, length-take (length s.types - end) (drop end s.types), length-drop end s.types)));
