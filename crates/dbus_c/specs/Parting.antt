@@ -7,6 +7,7 @@ use Rattle.dbus_value_model.specs.Values.{ValueTree}
 use Rattle.dbus_message_model.specs.Lookups.{field_value}
 use Rattle.dbus_message_model.specs.Messages.{FieldTree, MessageTree, order_byte, body_start, body_bytes, text_in, number_in}
 use Rattle.dbus_header.specs.MessageOutcomes.{IsWhole}
+use Rattle.dbus_validate.specs.Seen.{field_text_start}
 use Rattle.dbus_c.specs.declared.parts.Parts.{Parts}
 use Rattle.dbus_c.specs.declared.parts.TextPlace.{TextPlace}
 
@@ -15,21 +16,28 @@ abbrev pub IsPlaceOf : Option ValueTree → List ℕ → TextPlace → Type 0
 IsPlaceOf None b p = p ≡ record { offset = 0; length = 0; is_there = 0 }
 IsPlaceOf (Some v) b p = (p.is_there ≡ 1) × (text_in v ≡ take p.length (drop p.offset b)) × (p.offset + p.length ≤ length b)
 
+-- the text of the first field of a code, if there is one, stands where that field has it
+abbrev pub IsOwnPlace : Order → (c : ℕ) → List FieldTree → TextPlace → Type 0
+IsOwnPlace order c fs p = (v : ValueTree) → field_value c fs ≡ Some v → p.offset ≡ field_text_start order c fs v
+
+abbrev pub IsFieldPlace : Order → (c : ℕ) → List FieldTree → List ℕ → TextPlace → Type 0
+IsFieldPlace order c fs b p = IsPlaceOf (field_value c fs) b p × IsOwnPlace order c fs p
+
 -- the number of a field's value; of no value 0
 abbrev pub number_of : Option ValueTree → ℕ
 number_of None = 0
 number_of (Some v) = number_in v
 
--- the texts of the known fields stand there, and their numbers are these
-pub record HasFields (fs : List FieldTree) (b : List ℕ) (p : Parts) : Type 0 where
-  pub path : IsPlaceOf (field_value 1 fs) b p.path
-  pub interface : IsPlaceOf (field_value 2 fs) b p.interface
-  pub member : IsPlaceOf (field_value 3 fs) b p.member
-  pub error_name : IsPlaceOf (field_value 4 fs) b p.error_name
+-- the texts of the known fields stand there, each where its own field has it, and their numbers are these
+pub record HasFields (order : Order) (fs : List FieldTree) (b : List ℕ) (p : Parts) : Type 0 where
+  pub path : IsFieldPlace order 1 fs b p.path
+  pub interface : IsFieldPlace order 2 fs b p.interface
+  pub member : IsFieldPlace order 3 fs b p.member
+  pub error_name : IsFieldPlace order 4 fs b p.error_name
   pub reply_serial : p.reply_serial ≡ number_of (field_value 5 fs)
-  pub destination : IsPlaceOf (field_value 6 fs) b p.destination
-  pub sender : IsPlaceOf (field_value 7 fs) b p.sender
-  pub signature : IsPlaceOf (field_value 8 fs) b p.signature
+  pub destination : IsFieldPlace order 6 fs b p.destination
+  pub sender : IsFieldPlace order 7 fs b p.sender
+  pub signature : IsFieldPlace order 8 fs b p.signature
   pub unix_fds : p.unix_fds ≡ number_of (field_value 9 fs)
 
 -- the bytes begin with a message within the limits that has these parts: its fields stand among its own bytes, and its body begins
@@ -40,7 +48,7 @@ pub record HasParts (limits : Limits) (b : List ℕ) (p : Parts) : Type 0 where
   pub whole : IsWhole limits b order message p.length
   pub order_is : p.order ≡ order_byte order
   pub numbers : (p.kind ≡ message.kind) × (p.flags ≡ message.flags) × (p.serial ≡ message.serial)
-  pub fields : HasFields message.fields (take p.length b) p
+  pub fields : HasFields order message.fields (take p.length b) p
   pub body : p.body ≡ body_start order message.fields
   pub body_length : p.length ≡ p.body + length (body_bytes order message)
   pub body_bytes : drop p.body (take p.length b) ≡ body_bytes order message

@@ -4,8 +4,9 @@
 ghost use Rattle.std.specs.Prelude.{◌≡◌, ◌≢◌, ◌↔◌, List, ℕ, true};
 ghost use Rattle.dbus_c.specs.GivenLimits.{limits_of};
 ghost use Rattle.dbus_c.specs.Outcomes.{BeginsWithMessage, TellsApart};
-ghost use Rattle.dbus_c.specs.Parting.{HasFields, HasParts, IsPlaceOf, number_of};
-ghost use Rattle.dbus_validate.specs.Seen.{AreNoted};
+ghost use Rattle.dbus_c.specs.Parting.{HasFields, HasParts, IsOwnPlace, IsPlaceOf, number_of};
+ghost use Rattle.dbus_validate.specs.Seen.{AreNoted, ArePlaced};
+ghost use Rattle.dbus_value_model.specs.declared.order.Order.{Order};
 ghost use Rattle.dbus_message_model.specs.Lookups.{field_value};
 ghost use Rattle.dbus_message_model.specs.Messages.{FieldTree, is_known, order_byte};
 
@@ -114,8 +115,11 @@ pub(crate) fn order_byte(order: Order) -> u32
 
 // Where the text of the field of a known code is.
 fn place_of(seen: &Seen, code: u8) -> TextPlace
-    ensures { (bytes : List ℕ) (fs : List FieldTree) → AreNoted fs bytes seen.now →
+    ensures there { (bytes : List ℕ) (fs : List FieldTree) → AreNoted fs bytes seen.now →
         is_known code ≡ true → IsPlaceOf (field_value code fs) bytes result }
+    ensures own { (order : Order) (bytes : List ℕ) (fs : List FieldTree) →
+        AreNoted fs bytes seen.now → ArePlaced order fs seen.now → is_known code ≡ true →
+        IsOwnPlace order code fs result }
 {
     match seen.get(code) {
         Some(place) => TextPlace {

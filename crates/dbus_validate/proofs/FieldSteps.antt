@@ -1,7 +1,8 @@
 -- Header fields: what is said of them where their parts are read, or are not.
-use Rattle.std.proofs.Common.{◌≡◌, ℕ, zero, suc, ◌+◌, ◌-◌, ◌<◌, ◌≤◌, List, length, drop, get_or, true, false, ◌&&◌, eqb, None, refl, sym, ◌∙◌, arith}
+use Rattle.std.proofs.Common.{◌≡◌, ℕ, zero, suc, ◌+◌, ◌-◌, ◌<◌, ◌≤◌, List, length, drop, get_or, true, false, ◌&&◌, eqb, None, refl, sym, ap, ◌∙◌, arith}
 use Rattle.std.proofs.lemmas.Bool.{ne_eqb}
 use Rattle.dbus_value_model.specs.declared.fault.Reason.TheVariants as reasons
+use Rattle.dbus_value_model.specs.Bytes.{gap_to}
 use Rattle.dbus_value_model.specs.declared.limits.Limits.{Limits}
 use Rattle.dbus_value_model.specs.declared.order.Order.{Order}
 use Rattle.dbus_value_model.specs.Items.{fault, no_row}
@@ -15,6 +16,7 @@ use Rattle.dbus_value_validator.specs.Endings.{IsNotRead}
 use Rattle.dbus_value_validator.proofs.ReadParts.{not_faulty, not_first, not_then, number_read, row_against}
 use Rattle.dbus_validate.specs.declared.field_values.Held.{Held}
 use Rattle.dbus_validate.specs.Held.{IsHeld, IsHeldField}
+use Rattle.dbus_validate.specs.Seen.{known_start, text_start}
 
 closed : (depth_left o : ℕ) (s : List ℕ) → depth_left ≡ 0 → IsNotRead (opening depth_left o s)
 closed depth_left o s none = rw none (not_faulty _ (fault o reasons.TooDeep) refl)
@@ -68,9 +70,10 @@ module _ (limits : Limits) (order : Order) (end : ℕ) (before : List FieldTree)
           let is : c ≡ code = r.is ∙ sym (one_byte order bytes start (omega arith)) in
           rw (r.ends, r.left, is, open_on (limits.depth - 2) (start + 1) (drop (start + 1) bytes) (omega arith)) (not_first (wanted_value limits order end (want code) (start + 1) (drop (start + 1) bytes)) _ unread)))
 
-      pub field_held : (h : Held) → 0 < code → is_known code && has_code code before ≡ false → IsHeld limits order end (want code) (start + 1) bytes h → IsHeldField limits order end before at bytes code h
+      pub field_held : (h : Held) → start ≡ at + gap_to 8 at → 0 < code → is_known code && has_code code before ≡ false → IsHeld limits order end (want code) (start + 1) bytes h → IsHeldField limits order end before at bytes code h
       unfolding field_read
-      field_held h some alone held =
+      field_held h begins some alone held =
+          let after : start + 1 + 3 ≡ known_start at = omega (arith, begins) in
           let none : eqb code 0 ≡ false = ne_eqb code 0 (omega arith) in
           let read = number_done order 1 end (code_row before) start bytes (omega arith) code (omega arith) (one_byte order bytes start (omega arith)) (rw (none, alone) refl) in
-          (held.0, rw (padded, open_on (limits.depth - 1) start (drop start bytes) (omega arith), read, open_on (limits.depth - 2) (start + 1) (drop (start + 1) bytes) (omega arith), held.1) refl, held.2)
+          (held.0, rw (padded, open_on (limits.depth - 1) start (drop start bytes) (omega arith), read, open_on (limits.depth - 2) (start + 1) (drop (start + 1) bytes) (omega arith), held.1) refl, held.2, λ known. held.3 known ∙ ap (λ (k : ℕ). text_start k held.0) after)

@@ -1,11 +1,18 @@
 -- The loop over a header's fields, each of which sees those before it.
-use Rattle.std.proofs.Common.{◌≡◌, ℕ, suc, ◌+◌, ◌-◌, ◌<◌, List, [], ◌∷◌, ◌++◌, drop, reverse, false, ◌&&◌, Bool, refl, sym, ap, ◌∙◌}
+use Rattle.std.proofs.Common.{◌≡◌, ℕ, suc, ◌+◌, ◌-◌, ◌<◌, ◌≤◌, List, [], ◌∷◌, ◌++◌, length, map, drop, get_or, reverse, false, true, ◌&&◌, Bool, refl, sym, ap, ◌∙◌, arith, append-nil}
 use Rattle.std.proofs.lemmas.Bool.{lt-ltb, ne_eqb}
+use Rattle.std.proofs.lemmas.List.{length-append}
+use Rattle.dbus_value_model.specs.Bounds.{bounds_of}
+use Rattle.dbus_value_model.specs.Spelling.{spelling, spellings}
+use Rattle.dbus_value_laws.proofs.Agreement.{read_passes}
+use Rattle.dbus_value_laws.proofs.ReadSteps.{bytes_at}
+use Rattle.dbus_header.specs.MessageItems.{field}
+use Rattle.dbus_header.proofs.Fields.{Agrees-field}
 use Rattle.dbus_value_model.specs.declared.limits.Limits.{Limits}
 use Rattle.dbus_value_model.specs.declared.order.Order.{Order}
-use Rattle.dbus_value_model.specs.Values.{ValueTree}
+use Rattle.dbus_value_model.specs.Values.{ValueTree, ValueTrees, value_trees}
 use Rattle.dbus_value_model.specs.Reading.{Done, up_to}
-use Rattle.dbus_message_model.specs.Messages.{FieldTree, want, is_known, has_code}
+use Rattle.dbus_message_model.specs.Messages.{FieldTree, field_struct, want, is_known, has_code}
 use Rattle.dbus_message_model.proofs.FieldCodes.{has_reversed}
 use Rattle.dbus_header.specs.HeaderReading.{field_read, fields_read}
 use Rattle.dbus_header.proofs.FieldLoop.{with_front, goes_on, is_done, starts}
@@ -14,41 +21,80 @@ use Rattle.dbus_value_validator.proofs.ReadParts.{not_partial, not_same, not_fir
 use Rattle.dbus_validate.specs.declared.field_values.Held.{Held}
 use Rattle.dbus_validate.specs.declared.seen.Seen.{Seen}
 use Rattle.dbus_validate.specs.Held.{IsNoted, IsHeldField}
-use Rattle.dbus_validate.specs.Seen.{AreNoted}
+use Rattle.dbus_validate.specs.Seen.{AreNoted, ArePlaced, field_start, known_start, text_start}
+
+-- ---- where the fields begin
+
+abbrev structs : List FieldTree → ValueTrees
+structs fs = value_trees (map field_struct fs)
+
+longer : (order : Order) (o : ℕ) (fs : List FieldTree) (f : FieldTree) → length (spellings order o (structs (fs ++ f ∷ []))) ≡ length (spellings order o (structs fs)) + length (spelling order (o + length (spellings order o (structs fs))) (field_struct f))
+unfolding spelling
+longer order o [] f =
+    let own = spelling order o (field_struct f) in
+    let here : length own ≡ length (spelling order (o + 0) (field_struct f)) = let e : o ≡ o + 0 = omega arith in ap (λ (k : ℕ). length (spelling order k (field_struct f))) e in
+    omega (arith, ap length (append-nil own), here)
+longer order o (g ∷ fs) f =
+    let one = spelling order o (field_struct g) in
+    let after = o + length one in
+    let rest = spellings order after (structs fs) in
+    let more = length-append one rest in
+    let place : after + length rest ≡ o + length (one ++ rest) = omega (arith, more) in
+    let moved = ap (λ (k : ℕ). length (spelling order k (field_struct f))) place in
+    omega (arith, longer order after fs f, more, moved, length-append one (spellings order after (structs (fs ++ f ∷ []))))
+
+-- the next field begins where this one ends
+next_start : (order : Order) (fs : List FieldTree) (f : FieldTree) (place after : ℕ) → place ≡ field_start order fs → after ≡ place + length (spelling order place (field_struct f)) → after ≡ field_start order (fs ++ f ∷ [])
+next_start order fs f place after here ends = ends ∙ ap (λ (k : ℕ). k + length (spelling order k (field_struct f))) here ∙ (let whole = longer order 16 fs f in omega (arith, whole))
 
 module _ (limits : Limits) (order : Order) (bytes : List ℕ) (at n : ℕ) where
   -- these fields were read up to a place and noted, and what is read from there on, in so many turns, comes after them
   pub record Left (turns place : ℕ) (seen : Seen) : Type 0 where
     pub front : List FieldTree
     pub noted : AreNoted front bytes seen
+    pub placed : ArePlaced order front seen
+    pub here : place ≡ field_start order front
     pub leads : fields_read limits order n at (drop at bytes) ≡ with_front front (up_to turns (at + n) (field_read limits order (at + n)) (reverse front) place (drop place bytes))
 
-  pub none_left : (seen : Seen) → AreNoted [] bytes seen → Left (n - 0) at seen
-  unfolding fields_read
-  none_left seen noted = record { front = []; noted = noted; leads = sym (starts (field_read limits order) n at (drop at bytes)) }
+  pub none_left : (seen : Seen) → at ≡ 16 → AreNoted [] bytes seen → Left (n - 0) at seen
+  unfolding fields_read spelling
+  none_left seen begins noted = record { front = []; noted = noted; placed = λ c v p known is slot. absurd cc; here = begins; leads = sym (starts (field_read limits order) n at (drop at bytes)) }
 
   pub same_before : (code : ℕ) (fs : List FieldTree) → is_known code && has_code code (reverse fs) ≡ (is_known code && has_code code fs)
   same_before code fs = ap (λ (b : Bool). is_known code && b) (has_reversed code fs)
 
-  pub one_left : (turns rest place code : ℕ) (held : Held) (seen new : Seen) (left : Left turns place seen) → turns ≡ suc rest → place < at + n → is_known code && has_code code left.front ≡ false
-      → ((before : List FieldTree) → is_known code && has_code code before ≡ false → IsHeldField limits order (at + n) before place bytes code held)
-      → ((v : ValueTree) → IsNoted (want code) v bytes held → AreNoted (left.front ++ (record { code = code; value = v }) ∷ []) bytes new)
-      → Left rest held.after new
-  one_left turns rest place code held seen new left more lt alone field noted =
-      let one = field (reverse left.front) (same_before code left.front ∙ alone) in
-      let f : FieldTree = record { code = code; value = one.0 } in
-      record {
-        front = left.front ++ f ∷ [];
-        noted = noted one.0 one.2;
-        leads = left.leads ∙ goes_on (field_read limits order (at + n)) (at + n) left.front turns rest place (drop place bytes) f held.after (drop held.after bytes) more lt one.1;
-      }
+  -- a field that is read ends where its spelling does
+  field_ends : (before : List FieldTree) (place : ℕ) (f : FieldTree) (q : ℕ) (r : List ℕ) → 3 ≤ limits.depth → ((i : ℕ) → get_or bytes i 0 < 256) → field_read limits order (at + n) before place (drop place bytes) ≡ Done f q r
+      → q ≡ place + length (spelling order place (field_struct f))
+  field_ends before place f q r deep are read =
+      let inner = limits.depth - 1 in
+      let opened : limits.depth ≡ suc inner = omega arith in
+      (read_passes (field (bounds_of limits) order inner (at + n) before) (field_read limits order (at + n) before) (Agrees-field limits order inner (at + n) opened before) place (drop place bytes) (bytes_at bytes place are) f q r read).0.place
+
+  module _ (deep : 3 ≤ limits.depth) (are : (i : ℕ) → get_or bytes i 0 < 256) where
+    pub one_left : (turns rest place code : ℕ) (held : Held) (seen new : Seen) (left : Left turns place seen) → turns ≡ suc rest → place < at + n → is_known code && has_code code left.front ≡ false
+        → ((before : List FieldTree) → is_known code && has_code code before ≡ false → IsHeldField limits order (at + n) before place bytes code held)
+        → ((v : ValueTree) → IsNoted (want code) v bytes held → AreNoted (left.front ++ (record { code = code; value = v }) ∷ []) bytes new)
+        → ((v : ValueTree) → (is_known code ≡ true → held.start ≡ text_start (known_start (field_start order left.front)) v) → ArePlaced order (left.front ++ (record { code = code; value = v }) ∷ []) new)
+        → Left rest held.after new
+    one_left turns rest place code held seen new left more lt alone field noted placed =
+        let one = field (reverse left.front) (same_before code left.front ∙ alone) in
+        let f : FieldTree = record { code = code; value = one.0 } in
+        record {
+          front = left.front ++ f ∷ [];
+          noted = noted one.0 one.2;
+          placed = placed one.0 (λ known. one.3 known ∙ ap (λ (k : ℕ). text_start (known_start k) one.0) left.here);
+          here = next_start order left.front f place held.after left.here (field_ends (reverse left.front) place f held.after (drop held.after bytes) deep are one.1);
+          leads = left.leads ∙ goes_on (field_read limits order (at + n)) (at + n) left.front turns rest place (drop place bytes) f held.after (drop held.after bytes) more lt one.1;
+        }
 
   pub left_ends : (turns place : ℕ) (seen : Seen) → Left turns place seen → place ≡ at + n
-      → (fs : List FieldTree) × (fields_read limits order n at (drop at bytes) ≡ Done fs (at + n) (drop (at + n) bytes)) × AreNoted fs bytes seen
+      → (fs : List FieldTree) × (fields_read limits order n at (drop at bytes) ≡ Done fs (at + n) (drop (at + n) bytes)) × AreNoted fs bytes seen × ArePlaced order fs seen
   left_ends turns place seen left here = (
     left.front,
     left.leads ∙ is_done (field_read limits order (at + n)) (at + n) left.front turns place (drop place bytes) here ∙ ap (λ (q : ℕ). Done left.front q (drop q bytes)) here,
     left.noted,
+    left.placed,
   )
 
   module _ (turns place : ℕ) (seen : Seen) (left : Left turns place seen) where

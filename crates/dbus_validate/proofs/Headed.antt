@@ -44,7 +44,7 @@ module _ (limits : Limits) (bytes : List ℕ) (are : (i : ℕ) → get_or bytes 
   validated_with : (vs : ValueTrees) → IsWhole limits bytes h.order (with_body vs) (x.start + h.body) → IsValidated limits bytes (validated_of x seen)
   validated_with vs w =
       subst (λ (n : ℕ). IsValidated limits bytes (record { length = n; order = h.order; kind = h.kind; flags = h.flags; serial = h.serial; fields = seen; body = x.start })) (sym p.ends)
-      (is_validated limits bytes are h p.opened fs p.fielded p.headed p.lacks_none x.start p.padded vs w seen p.noted p.begins)
+      (is_validated limits bytes are h p.opened fs p.fielded p.headed p.lacks_none x.start p.padded vs w seen p.noted p.placed p.begins)
 
   abbrev body : (end : ℕ) → Outcome ValueTrees
   body end = body_read limits (body_fds limits fs) h.order (types_spelled (body_signature fs)) end x.start (drop x.start bytes)

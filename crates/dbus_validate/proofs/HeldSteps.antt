@@ -9,6 +9,7 @@ use Rattle.dbus_value_model.specs.declared.fault.Reason.TheVariants as reasons
 use Rattle.dbus_value_model.specs.declared.limits.Limits.{Limits}
 use Rattle.dbus_value_model.specs.declared.order.Order.{Order}
 use Rattle.dbus_value_model.specs.Bounds.{bounds_of}
+use Rattle.dbus_value_model.specs.Bytes.{gap_to}
 use Rattle.dbus_value_model.specs.ValueItems.{text_row, number_row}
 use Rattle.dbus_value_model.specs.WantedTexts.{Of, Only}
 use Rattle.dbus_value_model.specs.Reading.{Done, pure, number, text, nul, value}
@@ -107,3 +108,8 @@ module _ (limits : Limits) (order : Order) (end at : ℕ) (bytes : List ℕ) whe
       let t = type_spelled given in
       let single = single_text given ended.is_kind in
       (t, single.1 ∙ ap (λ (m : ℕ). take m (drop (at + 1) bytes)) (sym long), single_shaped t single.0, any_value limits order end at bytes (at + 1 + n + 1) t (single_read order end at bytes n measured ended))
+
+-- ---- where a text begins after a signature of three bytes
+
+pub text_begins : (at signed place w : ℕ) → signed ≡ at + 3 → place ≡ signed + gap_to w signed → place + w ≡ at + 3 + gap_to w (at + 3) + w
+text_begins at signed place w is there = ap (λ (k : ℕ). k + w) (there ∙ ap (λ (s : ℕ). s + gap_to w s) is)

@@ -5,6 +5,7 @@ use Rattle.std.proofs.lemmas.Bool.{cases_lt, eqb-true, eqb-false, ne_eqb, or_par
 use Rattle.std.proofs.lemmas.Bool.Decides.{nat_tests}
 use Rattle.std.proofs.lemmas.List.{drop_more, get_or-set_same, get_or-set_other}
 use Rattle.dbus_value_model.specs.declared.fault.Reason.TheVariants as reasons
+use Rattle.dbus_value_model.specs.declared.order.Order.{Order}
 use Rattle.dbus_value_model.specs.Values.{ValueTree}
 use Rattle.dbus_message_model.specs.Messages.{FieldTree, Want, Anything, OfType, Name, Serial, want, is_particular, is_known, has_code, lacks, required, text_in, number_in, body_signature, fd_count}
 use Rattle.dbus_message_model.specs.Lookups.{field_value}
@@ -12,7 +13,7 @@ use Rattle.dbus_validate.specs.declared.field_values.Held.{Held}
 use Rattle.dbus_validate.specs.declared.seen.Place.{Place}
 use Rattle.dbus_validate.specs.declared.seen.Seen.{Seen}
 use Rattle.dbus_validate.specs.Held.{IsNoted}
-use Rattle.dbus_validate.specs.Seen.{StandsAt, IsNotedOf, AreNoted}
+use Rattle.dbus_validate.specs.Seen.{StandsAt, IsNotedOf, AreNoted, ArePlaced, fields_before, field_start, known_start, text_start, field_text_start}
 
 -- ---- codes among fields
 
@@ -88,6 +89,60 @@ module _ (fs : List FieldTree) (bytes : List ℕ) (seen : Seen) (noted : AreNote
     noted_past le same = λ c known.
         let below = known_below c known in
         other_kept c known (ne_eqb code c (omega arith)) (ap (λ (l : List (Option Place)). get_or l c None) same)
+
+-- ---- where the texts begin
+
+before_last : (c : ℕ) (fs : List FieldTree) (f : FieldTree) → has_code c fs ≡ false → eqb f.code c ≡ true → fields_before c (fs ++ f ∷ []) ≡ fs
+before_last c [] f none is = rw is refl
+before_last c (g ∷ fs) f none is =
+    let parts = or_parts (eqb g.code c) (has_code c fs) none in
+    ap (λ (b : Bool). cond b [] (g ∷ fields_before c (fs ++ f ∷ []))) parts.0 ∙ ap (λ (l : List FieldTree). g ∷ l) (before_last c fs f parts.1 is)
+
+before_other : (c : ℕ) (fs : List FieldTree) (f : FieldTree) (v : ValueTree) → field_value c fs ≡ Some v → fields_before c (fs ++ f ∷ []) ≡ fields_before c fs
+before_other c [] f v is = absurd cc
+before_other c (g ∷ fs) f v is = go (eqb g.code c) is (λ e. before_other c fs f v e)
+  where
+    go : (b : Bool) → cond b (Some g.value) (field_value c fs) ≡ Some v → (field_value c fs ≡ Some v → fields_before c (fs ++ f ∷ []) ≡ fields_before c fs) → cond b [] (g ∷ fields_before c (fs ++ f ∷ [])) ≡ cond b [] (g ∷ fields_before c fs)
+    go true e others = refl
+    go false e others = ap (λ (l : List FieldTree). g ∷ l) (others e)
+
+-- a field after others: its own text is placed after them, and the others stay
+module _ (order : Order) (fs : List FieldTree) (seen new : Seen) (placed : ArePlaced order fs seen) (f : FieldTree) (alone : is_known f.code && has_code f.code fs ≡ false) where
+  others_placed : (c : ℕ) (v : ValueTree) (p : Place) → is_known c ≡ true → eqb f.code c ≡ false → get_or new.places c None ≡ get_or seen.places c None
+      → field_value c (fs ++ f ∷ []) ≡ Some v → get_or new.places c None ≡ Some p → p.start ≡ field_text_start order c (fs ++ f ∷ []) v
+  others_placed c v p known other kept is noted =
+      let was = sym (value_other c fs f other) ∙ is in
+      placed c v p known was (sym kept ∙ noted) ∙ ap (λ (l : List FieldTree). text_start (known_start (field_start order l)) v) (sym (before_other c fs f v was))
+
+  module _ (h : Held) (begins : is_known f.code ≡ true → h.start ≡ text_start (known_start (field_start order fs)) f.value) where
+    last_placed : (c : ℕ) (v : ValueTree) (p : Place) → is_known c ≡ true → eqb f.code c ≡ true → get_or new.places f.code None ≡ Some (place_of h)
+        → field_value c (fs ++ f ∷ []) ≡ Some v → get_or new.places c None ≡ Some p → p.start ≡ field_text_start order c (fs ++ f ∷ []) v
+    last_placed c v p known same put is noted =
+        let there : f.code ≡ c = eqb-true f.code c same in
+        let is_one : is_known f.code ≡ true = subst (λ (k : ℕ). is_known k ≡ true) (sym there) known in
+        let none : has_code c fs ≡ false = subst (λ (k : ℕ). has_code k fs ≡ false) there (ap (λ (b : Bool). b && has_code f.code fs) (sym is_one) ∙ alone) in
+        let value : Some f.value ≡ Some v = sym (value_last c fs f none same) ∙ is in
+        let one : f.value ≡ v = cc in
+        let slot : Some (place_of h) ≡ Some p = sym (subst (λ (k : ℕ). get_or new.places k None ≡ Some (place_of h)) there put) ∙ noted in
+        let at : place_of h ≡ p = cc in
+        ap (λ (q : Place). q.start) (sym at) ∙ begins is_one ∙ ap (λ (w : ValueTree). text_start (known_start (field_start order fs)) w) one
+        ∙ ap (λ (l : List FieldTree). text_start (known_start (field_start order l)) v) (sym (before_last c fs f none same))
+
+    pub placed_more : length seen.places ≡ 10 → f.code < 10 → new.places ≡ set seen.places f.code (Some (place_of h)) → ArePlaced order (fs ++ f ∷ []) new
+    placed_more ten lt put = λ c v p known is noted. go c v p known is noted (eqb f.code c) refl
+      where
+        go : (c : ℕ) (v : ValueTree) (p : Place) → is_known c ≡ true → field_value c (fs ++ f ∷ []) ≡ Some v → get_or new.places c None ≡ Some p → (same : Bool) → eqb f.code c ≡ same → p.start ≡ field_text_start order c (fs ++ f ∷ []) v
+        go c v p known is noted true e =
+            last_placed c v p known e (ap (λ (l : List (Option Place)). get_or l f.code None) put ∙ get_or-set_same seen.places f.code (Some (place_of h)) None (omega arith)) is noted
+        go c v p known is noted false e =
+            let ne = eqb-false f.code c e in
+            others_placed c v p known e (ap (λ (l : List (Option Place)). get_or l c None) put ∙ get_or-set_other seen.places f.code c (Some (place_of h)) None (λ same. ne (sym same))) is noted
+
+  -- a field that is not known
+  pub placed_past : 10 ≤ f.code → new.places ≡ seen.places → ArePlaced order (fs ++ f ∷ []) new
+  placed_past le same = λ c v p known is noted.
+      let below = known_below c known in
+      others_placed c v p known (ne_eqb f.code c (omega arith)) (ap (λ (l : List (Option Place)). get_or l c None) same) is noted
 
 -- ---- the fields that are required
 

@@ -16,7 +16,6 @@ use Rattle.dbus_value_laws.proofs.ReadSteps.{padding_is}
 use Rattle.dbus_message_model.specs.Messages.{FieldTree, lacks, required, body_signature, body_fds}
 use Rattle.dbus_header.specs.declared.fixed_header.FixedHeader.{FixedHeader}
 use Rattle.dbus_header.specs.HeaderReading.{fixed_header, fields_read, body_read, message_read}
-use Rattle.dbus_header.specs.MessageOutcomes.{IsWhole}
 use Rattle.dbus_header.proofs.OutcomeLaws.{whole_reads}
 use Rattle.dbus_header.proofs.OutcomeLaws.{whole_for_good}
 use Rattle.dbus_header.proofs.StatedLengths.{header_states, stated_holds}

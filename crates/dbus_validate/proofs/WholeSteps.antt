@@ -22,7 +22,7 @@ use Rattle.dbus_header.proofs.Decoded.{whole_read}
 use Rattle.dbus_header.proofs.MessageParts.{Agrees-fields, field_signature}
 use Rattle.dbus_validate.specs.declared.seen.Seen.{Seen}
 use Rattle.dbus_validate.specs.Validating.{IsValidated}
-use Rattle.dbus_validate.specs.Seen.{AreNoted}
+use Rattle.dbus_validate.specs.Seen.{AreNoted, ArePlaced}
 use Rattle.dbus_validate.proofs.BodyPlaces.{body_begins, body_there}
 
 -- ---- the padding after the fields
@@ -58,14 +58,15 @@ module _ (limits : Limits) (bytes : List ℕ) (are : (i : ℕ) → get_or bytes 
       unfolding message_read
       whole read = whole_read limits bytes (bytes_from bytes are) h.order made (start + h.body) (drop (start + h.body) bytes) (rw (headed, fielded, none, padded, read) refl)
 
-      pub is_validated : IsWhole limits bytes h.order made (start + h.body) → (seen : Seen) → AreNoted fs bytes seen → start ≡ 16 + h.fields + gap_to 8 (16 + h.fields)
+      pub is_validated : IsWhole limits bytes h.order made (start + h.body) → (seen : Seen) → AreNoted fs bytes seen → ArePlaced h.order fs seen → start ≡ 16 + h.fields + gap_to 8 (16 + h.fields)
           → IsValidated limits bytes (record { length = start + h.body; order = h.order; kind = h.kind; flags = h.flags; serial = h.serial; fields = seen; body = start })
-      is_validated is seen noted suffix =
+      is_validated is seen noted placed suffix =
           let begins = body_begins (bounds_of limits) h.order (limits.depth - 1) h.fields start fs (drop 16 bytes) (drop (16 + h.fields) bytes) sequence suffix in
           record {
             message = made;
             whole = is;
             parts = (refl, refl, refl);
             fields = noted;
+            places = placed;
             body = (begins, body_there h.order made limits bytes (start + h.body) start is begins);
           }

@@ -9,7 +9,7 @@ use Rattle.dbus_header.specs.HeaderReading.{fixed_header, fields_read}
 use Rattle.dbus_validate.specs.declared.validating.Head.{Head}
 use Rattle.dbus_validate.specs.declared.validating.Validated.{Validated}
 use Rattle.dbus_validate.specs.declared.seen.Seen.{Seen}
-use Rattle.dbus_validate.specs.Seen.{AreNoted}
+use Rattle.dbus_validate.specs.Seen.{AreNoted, ArePlaced}
 
 -- the bytes begin with what stands before a message's body, and as many bytes follow as the body has: of its values nothing is said
 pub record IsHeaded (limits : Limits) (bytes : List ℕ) (x : Head) (seen : Seen) : Type 0 where
@@ -23,6 +23,7 @@ pub record IsHeaded (limits : Limits) (bytes : List ℕ) (x : Head) (seen : Seen
   pub ends : x.end ≡ x.start + x.header.body
   pub inside : x.end ≤ length bytes
   pub noted : AreNoted fields bytes seen
+  pub placed : ArePlaced x.header.order fields seen
 
 -- what is validated of the message, with where the values of its known fields stand
 abbrev pub validated_of : Head → Seen → Validated

@@ -4,10 +4,11 @@
 ghost use Rattle.std.specs.Prelude.{◌≡◌, ◌+◌, ◌≤◌, ◌<◌, ◌^◌, List, [], length, drop, IfSome, false, true};
 ghost use Rattle.dbus_value_model.specs.Reading.{Done};
 ghost use Rattle.dbus_header.specs.HeaderReading.{fields_read};
+ghost use Rattle.dbus_header.specs.declared.field_limits.TheConstants.{FIELD_DEPTH};
 ghost use Rattle.dbus_message_model.specs.Messages.{FieldTree};
 ghost use Rattle.dbus_value_validator.specs.Endings.{IsNotRead};
 ghost use Rattle.dbus_validate.specs.Held.{HoldsField};
-ghost use Rattle.dbus_validate.specs.Seen.{AreNoted};
+ghost use Rattle.dbus_validate.specs.Seen.{AreNoted, ArePlaced};
 
 use crate::field_values::{Held, validate_field_value};
 use crate::seen::Seen;
@@ -33,6 +34,7 @@ pub(crate) fn validate_field(
     requires inside { end ≤ length bytes.now }
     ensures field { (before : List FieldTree) →
         HoldsField limits order end before at bytes.now result }
+    ensures deep { IfSome result (λ f. FIELD_DEPTH ≤ limits.depth) }
     ensures moves { IfSome result (λ f. (at < f.1.after) × (f.1.after ≤ end)) }
     ensures within { IfSome result (λ f. f.1.start + f.1.length ≤ f.1.after) }
 {
@@ -67,11 +69,12 @@ pub(crate) fn validate_fields(
 ) -> bool
     requires inside { at + n ≤ length bytes.now }
     requires few { at + n < 2 ^ 32 }
+    requires begins { at ≡ 16 }
     requires unseen { AreNoted [] bytes.now seen.old }
     ensures accepts { result ≡ true → (fs : List FieldTree) ×
         (fields_read limits order n at (drop at bytes.now) ≡
         Done fs (at + n) (drop (at + n) bytes.now)) ×
-        AreNoted fs bytes.now seen.new }
+        AreNoted fs bytes.now seen.new × ArePlaced order fs seen.new }
     ensures refuses { result ≡ false → IsNotRead (fields_read limits order n at (drop at bytes.now)) }
 {
     let end = at + n;

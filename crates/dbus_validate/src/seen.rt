@@ -2,6 +2,7 @@
 #![tactic(auto)]
 
 ghost use Rattle.std.specs.Prelude.{◌≡◌, ◌+◌, ◌≤◌, ◌<◌, ◌^◌, ◌++◌, ◌∷◌, [], ◌&&◌, ℕ, List, length, take, drop, true, false, None, slice_index_or};
+ghost use Rattle.dbus_value_model.specs.declared.order.Order.{Order};
 ghost use Rattle.dbus_value_model.specs.Values.{ValueTree};
 ghost use Rattle.dbus_message_model.specs.Messages.{FieldTree, want, is_known, has_code, lacks, required, body_signature, fd_count};
 ghost use Rattle.dbus_validate.specs.Held.{IsNoted};
@@ -45,7 +46,7 @@ pub struct Seen {
 }
 
 impl Seen {
-    ghost use Rattle.dbus_validate.specs.Seen.{AreNoted};
+    ghost use Rattle.dbus_validate.specs.Seen.{AreNoted, ArePlaced, field_start, known_start, text_start};
 
     /// None.
     pub(crate) fn none() -> Seen
@@ -78,11 +79,15 @@ impl Seen {
     pub(crate) fn note(&mut self, code: u8, held: Held)
         requires start { held.start < 2 ^ 32 }
         requires length { held.length < 2 ^ 32 }
-        ensures { (bytes : List ℕ) (fs : List FieldTree) (v : ValueTree) →
+        ensures noted { (bytes : List ℕ) (fs : List FieldTree) (v : ValueTree) →
             AreNoted fs bytes self.old →
             is_known code && has_code code fs ≡ false → IsNoted (want code) v bytes held →
             held.start + held.length ≤ length bytes →
             AreNoted (fs ++ (record { code = code; value = v }) ∷ []) bytes self.new }
+        ensures placed { (order : Order) (fs : List FieldTree) (v : ValueTree) →
+            ArePlaced order fs self.old → is_known code && has_code code fs ≡ false →
+            (is_known code ≡ true → held.start ≡ text_start (known_start (field_start order fs)) v) →
+            ArePlaced order (fs ++ (record { code = code; value = v }) ∷ []) self.new }
     {
         let at = usize::from(code);
         if at < self.places.len() {

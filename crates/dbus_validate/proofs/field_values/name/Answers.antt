@@ -4,7 +4,7 @@ use Rattle.dbus_value_model.specs.WantedTexts.{Of}
 use Rattle.dbus_message_model.specs.Messages.{Name}
 use Rattle.dbus_header.specs.MessageItems.{name_row}
 use Rattle.dbus_header.proofs.FieldSteps.{long_name, name_overruns, name_fits}
-use Rattle.dbus_validate.proofs.HeldSteps.{unsigned, is_name}
+use Rattle.dbus_validate.proofs.HeldSteps.{unsigned, is_name, text_begins}
 use Rattle.dbus_value_model.specs.Values.{TextValue}
 use Rattle.dbus_value_validator.proofs.ItemSteps.{text_unpadded, text_unmeasured, text_against, text_not_ended, text_done}
 use Rattle.dbus_validate.proofs.field_values.name.Goals as goal
@@ -18,6 +18,7 @@ returns-clause-held c = λ limits.
       text_done c.args.order c.args.end 4 (name_row c.args.end) c.args.kind STRING c.in_ok-signed.signed c.args.bytes.now _ run place c.in_ok-place.ensures.gives c.in_ok-n.n c.in_ok-n.ensures.gives
           (name_fits c.args.end (c.in_ok-place.place + 4) c.in_ok-n.n c.if-n-gt-NAME_LIMIT.false (omega (arith, c.in_ok-n.ensures.fits)) c.if-end-start.false) ended,
       (refl, refl),
+      λ known. text_begins c.args.at c.in_ok-signed.signed c.in_ok-place.place 4 c.in_ok-signed.ensures.moves.0 c.in_ok-place.ensures.moves.0,
     )
 
 pub returns-in_err-signed-clause-held : goal.returns-in_err-signed-clause-held

@@ -10,7 +10,7 @@ use Rattle.dbus_validate.proofs.field_values.number.Goals as goal
 pub returns-clause-held : goal.returns-clause-held
 returns-clause-held c = λ limits.
     let run = is_count limits c.args.order c.args.end c.args.at c.args.bytes.now c.in_ok-signed.signed (c.in_ok-signed.ensures.gives c.args.order) in
-    (NumberValue UINT32 c.in_ok-number.number, number_ends c.args.order c.args.end 4 (number_row None UINT32) UINT32 c.in_ok-signed.signed c.args.bytes.now _ run c.in_ok-place.place c.in_ok-place.ensures.gives c.in_ok-number.number c.in_ok-number.ensures.gives refl, (refl, refl))
+    (NumberValue UINT32 c.in_ok-number.number, number_ends c.args.order c.args.end 4 (number_row None UINT32) UINT32 c.in_ok-signed.signed c.args.bytes.now _ run c.in_ok-place.place c.in_ok-place.ensures.gives c.in_ok-number.number c.in_ok-number.ensures.gives refl, (refl, refl), λ known. refl)
 
 pub returns-in_err-signed-clause-held : goal.returns-in_err-signed-clause-held
 returns-in_err-signed-clause-held c = λ limits. rw c.from_residual.ensures (unsigned limits c.args.order c.args.end c.args.at c.args.bytes.now (OfType (NumberType UINT32)) (c.letter.ensures.none c.in_err-signed.was c.args.order))

@@ -4,7 +4,7 @@ use Rattle.dbus_texts.specs.declared.text_kind.TextKind.TheVariants.{Path}
 use Rattle.dbus_value_model.specs.ValueItems.{text_row}
 use Rattle.dbus_value_laws.proofs.ReadSteps.{text_fits}
 use Rattle.dbus_message_model.specs.Messages.{OfType}
-use Rattle.dbus_validate.proofs.HeldSteps.{unsigned, is_path}
+use Rattle.dbus_validate.proofs.HeldSteps.{unsigned, is_path, text_begins}
 use Rattle.dbus_value_model.specs.Values.{TextValue}
 use Rattle.dbus_value_validator.proofs.ItemSteps.{no_text_fits, text_unpadded, text_unmeasured, text_against, text_not_ended, text_done}
 use Rattle.dbus_validate.proofs.field_values.path.Goals as goal
@@ -18,6 +18,7 @@ returns-clause-held c = λ limits.
       text_done c.args.order c.args.end 4 (text_row c.args.end) Path OBJECT_PATH c.in_ok-signed.signed c.args.bytes.now _ run place c.in_ok-place.ensures.gives c.in_ok-n.n c.in_ok-n.ensures.gives
           (text_fits c.args.end (c.in_ok-place.place + 4) c.in_ok-n.n (omega (arith, c.in_ok-n.ensures.fits))) ended,
       (refl, refl),
+      λ known. text_begins c.args.at c.in_ok-signed.signed c.in_ok-place.place 4 c.in_ok-signed.ensures.moves.0 c.in_ok-place.ensures.moves.0,
     )
 
 pub returns-in_err-signed-clause-held : goal.returns-in_err-signed-clause-held

@@ -12,7 +12,7 @@ use Rattle.dbus_validate.proofs.field_values.serial.Goals as goal
 pub returns-clause-held : goal.returns-clause-held
 returns-clause-held c = λ limits.
     let run = is_serial limits c.args.order c.args.end c.args.at c.args.bytes.now c.in_ok-signed.signed (c.in_ok-signed.ensures.gives c.args.order) in
-    (NumberValue UINT32 c.in_ok-number.number, number_ends c.args.order c.args.end 4 (not_zero_row reasons.ZeroSerial) UINT32 c.in_ok-signed.signed c.args.bytes.now _ run c.in_ok-place.place c.in_ok-place.ensures.gives c.in_ok-number.number c.in_ok-number.ensures.gives (fits_not_zero reasons.ZeroSerial (c.in_ok-place.place + 4) c.in_ok-number.number (omega arith)), (refl, refl))
+    (NumberValue UINT32 c.in_ok-number.number, number_ends c.args.order c.args.end 4 (not_zero_row reasons.ZeroSerial) UINT32 c.in_ok-signed.signed c.args.bytes.now _ run c.in_ok-place.place c.in_ok-place.ensures.gives c.in_ok-number.number c.in_ok-number.ensures.gives (fits_not_zero reasons.ZeroSerial (c.in_ok-place.place + 4) c.in_ok-number.number (omega arith)), (refl, refl), λ known. refl)
 
 pub returns-in_err-signed-clause-held : goal.returns-in_err-signed-clause-held
 returns-in_err-signed-clause-held c = λ limits. rw c.from_residual.ensures (unsigned limits c.args.order c.args.end c.args.at c.args.bytes.now Serial (c.letter.ensures.none c.in_err-signed.was c.args.order))

@@ -1,10 +1,11 @@
-use Rattle.std.proofs.Common.{◌+◌, take, drop, refl, ◌∙◌}
+use Rattle.std.proofs.Common.{◌+◌, take, drop, refl, ◌∙◌, arith}
 use Rattle.dbus_texts.specs.Types.{SIGNATURE, TextType}
 use Rattle.dbus_value_model.specs.Values.{TextValue}
+use Rattle.dbus_value_model.proofs.Gaps.{no_gap}
 use Rattle.dbus_message_model.specs.Messages.{OfType}
 use Rattle.dbus_value_validator.proofs.ItemSteps.{signature_done, signature_unread}
 use Rattle.dbus_value_validator.proofs.ReadParts.{not_same}
-use Rattle.dbus_validate.proofs.HeldSteps.{unsigned, is_text_value}
+use Rattle.dbus_validate.proofs.HeldSteps.{unsigned, is_text_value, text_begins}
 use Rattle.dbus_validate.proofs.field_values.signature.Goals as goal
 
 pub returns-clause-held : goal.returns-clause-held
@@ -13,6 +14,7 @@ returns-clause-held c = λ limits. (
   is_text_value limits c.args.order c.args.end c.args.at c.args.bytes.now c.in_ok-signed.signed SIGNATURE (c.in_ok-signed.ensures.gives c.args.order)
       ∙ signature_done c.args.order c.args.end c.in_ok-signed.signed c.args.bytes.now c.in_ok-signed.ensures.moves.1 c.in_ok-length.length (c.in_ok-length.ensures.measures c.args.order) c.in_ok-length.ensures.text,
   (refl, refl),
+  λ known. let none = no_gap c.in_ok-signed.signed in text_begins c.args.at c.in_ok-signed.signed c.in_ok-signed.signed 1 c.in_ok-signed.ensures.moves.0 (omega (arith, none)),
 )
 
 pub returns-in_err-signed-clause-held : goal.returns-in_err-signed-clause-held

@@ -4,7 +4,7 @@ use Rattle.dbus_validate.proofs.fields.validate_field.Goals as goal
 
 pub returns-clause-field : goal.returns-clause-field
 returns-clause-field c = λ before. (
-  λ alone. field_held c.args.limits c.args.order c.args.end before c.args.at c.args.bytes.now c.if-limits-lt-FIELD_DEPTH.false c.in_ok-start.start c.in_ok-start.ensures.gives (omega (arith, c.in_ok-start.ensures.moves)) c.requires.inside c.in_ok-held.held (omega arith) alone c.in_ok-held.ensures.held,
+  λ alone. field_held c.args.limits c.args.order c.args.end before c.args.at c.args.bytes.now c.if-limits-lt-FIELD_DEPTH.false c.in_ok-start.start c.in_ok-start.ensures.gives (omega (arith, c.in_ok-start.ensures.moves)) c.requires.inside c.in_ok-held.held c.in_ok-start.ensures.moves.0 (omega arith) alone c.in_ok-held.ensures.held,
   λ again. field_again c.args.limits c.args.order c.args.end before c.args.at c.args.bytes.now c.if-limits-lt-FIELD_DEPTH.false c.in_ok-start.start c.in_ok-start.ensures.gives (omega (arith, c.in_ok-start.ensures.moves)) c.requires.inside (omega arith) again,
 )
 

@@ -7,7 +7,7 @@ use Rattle.dbus_validate.proofs.fields.validate_fields.Goals as goal
 pub loop-turn-init : goal.loop-turn-init
 loop-turn-init c = record {
   at_most = omega arith;
-  left = none_left c.args.limits c.args.order c.args.bytes.now c.args.at c.args.n c.args.seen.now c.requires.unseen;
+  left = none_left c.args.limits c.args.order c.args.bytes.now c.args.at c.args.n c.args.seen.now c.requires.begins c.requires.unseen;
 }
 
 pub loop-turn-preserved : goal.loop-turn-preserved
@@ -18,8 +18,9 @@ loop-turn-preserved c =
     let fits : c.in-Some.held.start + c.in-Some.held.length ≤ length c.args.bytes.now = omega (arith, c.in-Some.ensures.within, c.in-Some.ensures.moves, c.requires.inside) in
     record {
       at_most = c.in-Some.ensures.moves.1;
-      left = one_left c.args.limits c.args.order c.args.bytes.now c.args.at c.args.n (c.args.n - c.loop-turn._turn) (c.args.n - (c.loop-turn._turn + 1)) c.loop-turn.place c.in-Some.code c.in-Some.held c.loop-turn.seen c.note.new.self left
-          more (omega (arith, c.if-place-end.false)) alone (λ before. (c.in-Some.ensures.field before).0) (λ v is. c.note.ensures c.args.bytes.now left.front v left.noted alone is fits);
+      left = one_left c.args.limits c.args.order c.args.bytes.now c.args.at c.args.n c.in-Some.ensures.deep (λ i. omega (arith, c.type_inv.bytes i)) (c.args.n - c.loop-turn._turn) (c.args.n - (c.loop-turn._turn + 1)) c.loop-turn.place c.in-Some.code c.in-Some.held c.loop-turn.seen c.note.new.self left
+          more (omega (arith, c.if-place-end.false)) alone (λ before. (c.in-Some.ensures.field before).0) (λ v is. c.note.ensures.noted c.args.bytes.now left.front v left.noted alone is fits)
+          (λ v begins. c.note.ensures.placed c.args.order left.front v left.placed alone begins);
     }
 
 pub returns-then-place-end-clause-accepts : goal.returns-then-place-end-clause-accepts

@@ -22,6 +22,7 @@ returns-clause-headed c =
       ends = refl;
       inside = omega (arith, c.if-bytes-start.false, c.in_ok-start.ensures.moves);
       noted = seen.2;
+      placed = seen.3;
     }
 
 pub returns-in-Err-clause-none : goal.returns-in-Err-clause-none
