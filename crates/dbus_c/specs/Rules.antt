@@ -15,37 +15,40 @@ use Rattle.dbus_match.specs.declared.fault.RuleReason.{RuleReason}
 use Rattle.dbus_match.specs.declared.rule.Rule.{Rule}
 use Rattle.dbus_rule_set.specs.Held.{Collects, EntryMatches}
 use Rattle.dbus_rule_set.specs.declared.handle.RuleHandle.{RuleHandle}
-use Rattle.dbus_c_handle.specs.Rules.{Adds, KeepsRules, SharesRules}
+use Rattle.dbus_c_handle.specs.Rules.{Adds, KeepsAll, SharesNone, SharesRules}
 use Rattle.dbus_c_handle.specs.declared.kept.Kept.{Kept}
+use Rattle.dbus_c_handle.specs.declared.share_fault.ShareFault.TheVariants.{Memory, TooMany}
 use Rattle.dbus_c.specs.Outcomes.{BeginsWithMessage, TellsApart}
 use Rattle.dbus_c.specs.Owners.{AreOwnersIn}
 use Rattle.dbus_c.specs.RuleReasons.{rule_reason_number}
-use Rattle.dbus_c.specs.declared.answers.TheConstants.{WHOLE, REFUSED, NO_MEMORY, NO_ROOM, NO_RULE}
+use Rattle.dbus_c.specs.declared.answers.TheConstants.{WHOLE, REFUSED, NO_MEMORY, NO_ROOM, NO_RULE, SHARED}
 use Rattle.dbus_c.specs.declared.rule_reasons.TheConstants.{NOT_UTF8}
 use Rattle.dbus_c.specs.declared.rules.RuleRefused.{RuleRefused}
 
 abbrev pub rule_fault_told : ℕ → ℕ → RuleRefused
 rule_fault_told at reason = record { offset = at; reason = reason; reserved = 0 }
 
--- the rule that the text spells is added, and what stands for it is told; or the rules stay, and the text's fault is told, or that it is
--- not UTF-8, or that memory ran out
+-- the rule that the text spells is added, and what stands for it is told; or all that is kept stays, and the text's fault is told, or that
+-- it is not UTF-8, or that memory ran out
 pub data TellsRule (w : List ℕ) (answer : ℕ) (before after : Option Kept) (id_old id_new : RuleHandle) (old new : RuleRefused) : Type 0 where
   added : IsUtf8 w → Adds w before after id_new → answer ≡ WHOLE → new ≡ old → TellsRule w answer before after id_old id_new old new
-  faulty : (reason : RuleReason) (at : ℕ) → IsFault w reason at → IsUtf8 w → KeepsRules before after → answer ≡ REFUSED → id_new ≡ id_old
+  faulty : (reason : RuleReason) (at : ℕ) → IsFault w reason at → IsUtf8 w → KeepsAll before after → answer ≡ REFUSED → id_new ≡ id_old
       → new ≡ rule_fault_told at (rule_reason_number reason) → TellsRule w answer before after id_old id_new old new
-  no_text : (IsUtf8 w → ⊥) → KeepsRules before after → answer ≡ REFUSED → id_new ≡ id_old → new ≡ rule_fault_told (utf8_valid_len w) NOT_UTF8
+  no_text : (IsUtf8 w → ⊥) → KeepsAll before after → answer ≡ REFUSED → id_new ≡ id_old → new ≡ rule_fault_told (utf8_valid_len w) NOT_UTF8
       → TellsRule w answer before after id_old id_new old new
-  no_memory : KeepsRules before after → answer ≡ NO_MEMORY → id_new ≡ id_old → new ≡ old → TellsRule w answer before after id_old id_new old new
+  no_memory : KeepsAll before after → answer ≡ NO_MEMORY → id_new ≡ id_old → new ≡ old → TellsRule w answer before after id_old id_new old new
 
 -- there was a rule to remove, or none
 abbrev pub removal_told : Option (Rule Global) → ℕ
 removal_told None = NO_RULE
 removal_told (Some rule) = WHOLE
 
--- the rules are shared with another handle; or memory ran out, and the rules of both stay
+-- the rules are shared with another handle; or memory ran out, and all that both keep stays, so rules that were not shared are not; or so
+-- many handles share the rules that no further one can, and the rules of both stay
 pub data TellsSharing (before after other_before other_after : Option Kept) (answer : ℕ) : Type 0 where
   shared : SharesRules before after other_after → answer ≡ WHOLE → TellsSharing before after other_before other_after answer
-  no_memory : KeepsRules before after → other_after ≡ other_before → answer ≡ NO_MEMORY → TellsSharing before after other_before other_after answer
+  no_memory : SharesNone Memory before after other_before other_after → answer ≡ NO_MEMORY → TellsSharing before after other_before other_after answer
+  too_many : SharesNone TooMany before after other_before other_after → answer ≡ SHARED → TellsSharing before after other_before other_after answer
 
 -- all handles are told, at the start of a room that has room for them; or it has not
 pub data TellsAll (handles : List RuleHandle) (answer : ℕ) (old new : List RuleHandle) : Type 0 where

@@ -13,7 +13,7 @@ use crate::given_limits::{WireLimits, given_limits};
 use crate::names::put_text;
 use crate::owners::owners_in;
 use crate::rule_reasons::{NOT_UTF8, rule_reason_number};
-use dbus_c_handle::WireHandle;
+use dbus_c_handle::{ShareFault, WireHandle};
 use dbus_match::RuleFault;
 use dbus_rule_set::RuleHandle;
 use std::alloc::Global;
@@ -31,7 +31,7 @@ pub struct RuleRefused {
 }
 
 /// Adds the match rule that the text spells to the rules, and writes to `id` what stands for it, which stands for none before:
-/// [`WHOLE`]. Else the rules stay as they are: [`REFUSED`] with the text's one fault, as [`dbus_match::parse_rule`] finds it, or that it
+/// [`WHOLE`]. Else what is kept stays: [`REFUSED`] with the text's one fault, as [`dbus_match::parse_rule`] finds it, or that it
 /// is not UTF-8, which comes first; [`NO_MEMORY`] if memory runs out. `id` changes in the first case alone, and `out` in the second.
 /// To rules that are shared it adds none, whatever the text is: [`SHARED`], and nothing changes. D-Bus Specification, "Match Rules".
 #[unsafe(no_mangle)]
@@ -94,8 +94,8 @@ pub extern "C" fn dbus_wire_rules_remove(
 
 /// Shares the rules with `other`, another handle, which from then on keeps the same rules, and frees what it kept before: [`WHOLE`].
 /// From then on no call changes the rules of either, and each may be used by a thread of its own at the same time; what they share is
-/// freed with the last of them. [`NO_MEMORY`] if memory runs out: then both keep the rules that they kept.
-/// D-Bus Specification, "Match Rules".
+/// freed with the last of them. [`NO_MEMORY`] if memory runs out: then both keep what they kept, and rules that were not shared are not
+/// shared. [`SHARED`] if 2^63 handles share the rules: then `other` keeps what it kept. D-Bus Specification, "Match Rules".
 #[unsafe(no_mangle)]
 pub extern "C" fn dbus_wire_rules_share(
     alloc: Global,
@@ -106,7 +106,8 @@ pub extern "C" fn dbus_wire_rules_share(
 {
     match rules.share_rules(alloc, other) {
         Ok(()) => WHOLE,
-        Err(_) => NO_MEMORY,
+        Err(ShareFault::Memory) => NO_MEMORY,
+        Err(ShareFault::TooMany) => SHARED,
     }
 }
 

@@ -9,19 +9,26 @@ use Rattle.dbus_match.specs.declared.fault.RuleFault.TheVariants.{Memory}
 use Rattle.dbus_match.specs.declared.rule.Rule.{Rule}
 use Rattle.dbus_rule_set.specs.Held.{rule_at, with_rule}
 use Rattle.dbus_rule_set.specs.declared.handle.RuleHandle.{RuleHandle}
-use Rattle.dbus_c_handle.specs.Rules.{Adds, AddsRule, KeepsRules}
+use Rattle.dbus_c_handle.specs.Rules.{Adds, AddsRule, KeepsAll}
 use Rattle.dbus_c_handle.specs.declared.kept.Kept.{Kept}
 
-pub added_to : (w : List ℕ) (rule : Rule Global) (old mid new : Option Kept) → SpellsRule w (rule_pairs rule) → KeepsRules old mid → (r : Result RuleHandle RuleFault)
-    → MatchResult r (AddsRule rule mid new) (λ fault. (fault ≡ Memory) × KeepsRules mid new) → MatchResult r (Adds w old new) (λ fault. IsRuleFault w fault × KeepsRules old new)
+pub all_kept : (old mid new : Option Kept) → KeepsAll old mid → KeepsAll mid new → KeepsAll old new
+all_kept old mid new a b = record {
+  stay = record { rules = b.stay.rules ∙ a.stay.rules; given = b.stay.given ∙ a.stay.given };
+  shared = b.shared ∙ a.shared;
+  other = b.other ∙ a.other;
+}
+
+pub added_to : (w : List ℕ) (rule : Rule Global) (old mid new : Option Kept) → SpellsRule w (rule_pairs rule) → KeepsAll old mid → (r : Result RuleHandle RuleFault)
+    → MatchResult r (AddsRule rule mid new) (λ fault. (fault ≡ Memory) × KeepsAll mid new) → MatchResult r (Adds w old new) (λ fault. IsRuleFault w fault × KeepsAll old new)
 added_to w rule old mid new spelled same (Ok h) a = (
   rule,
   spelled,
   record {
-    added = a.added ∙ ap (with_rule h rule) same.rules;
-    unheld = ap (rule_at h) (sym same.rules) ∙ a.unheld;
-    number = a.number ∙ same.given;
-    given = a.given ∙ ap (λ n. n + 1) same.given;
+    added = a.added ∙ ap (with_rule h rule) same.stay.rules;
+    unheld = ap (rule_at h) (sym same.stay.rules) ∙ a.unheld;
+    number = a.number ∙ same.stay.given;
+    given = a.given ∙ ap (λ n. n + 1) same.stay.given;
   },
 )
-added_to w rule old mid new spelled same (Err fault) (is, kept) = (subst (λ (f : RuleFault). IsRuleFault w f) (sym is) tt, record { rules = kept.rules ∙ same.rules; given = kept.given ∙ same.given })
+added_to w rule old mid new spelled same (Err fault) (is, kept) = (subst (λ (f : RuleFault). IsRuleFault w f) (sym is) tt, all_kept old mid new same kept)

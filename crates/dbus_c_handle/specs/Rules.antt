@@ -10,6 +10,8 @@ use Rattle.dbus_rule_set.specs.Held.{held, given, rule_at, with_rule}
 use Rattle.dbus_rule_set.specs.declared.handle.RuleHandle.{RuleHandle}
 use Rattle.dbus_c_handle.specs.declared.kept.Kept.{Kept}
 use Rattle.dbus_c_handle.specs.declared.kept.Kept.TheVariants as kept
+use Rattle.dbus_c_handle.specs.declared.share_fault.ShareFault.{ShareFault}
+use Rattle.dbus_c_handle.specs.declared.share_fault.ShareFault.TheVariants.{Memory, TooMany}
 
 -- the rules that are kept
 abbrev pub rules_of : Option Kept → List (RuleHandle × Rule Global)
@@ -44,6 +46,18 @@ pub record KeepsRules (old new : Option Kept) : Type 0 where
   pub rules : rules_of new ≡ rules_of old
   pub given : given_of new ≡ given_of old
 
+-- what is kept that is no rules: a checker, or an end of a handshake
+abbrev pub other_of : Option Kept → Option Kept
+other_of (Some (kept.Checker b)) = Some (kept.Checker b)
+other_of (Some (kept.Handshake h)) = Some (kept.Handshake h)
+other_of _ = None
+
+-- all that is kept stays, and rules that are not shared are still not shared
+pub record KeepsAll (old new : Option Kept) : Type 0 where
+  pub stay : KeepsRules old new
+  pub shared : is_shared new ≡ is_shared old
+  pub other : other_of new ≡ other_of old
+
 -- the rules stay, another handle keeps the same, and both are shared
 pub record SharesRules (old new other : Option Kept) : Type 0 where
   pub stay : KeepsRules old new
@@ -57,3 +71,9 @@ IsWritten None answer = answer ≡ None
 IsWritten (Some rule) None = ⊥
 IsWritten (Some rule) (Some (Ok text)) = string_bytes text ≡ canonical (rule_pairs rule)
 IsWritten (Some rule) (Some (Err e)) = Unit {0}
+
+-- why rules are not shared with another handle, which stays: for want of memory, and then all stays; or so many handles share them that no
+-- further one can, and then the rules stay, and are shared
+abbrev pub SharesNone : ShareFault → (old new other_old other_new : Option Kept) → Type 0
+SharesNone Memory old new other_old other_new = KeepsAll old new × (other_new ≡ other_old)
+SharesNone TooMany old new other_old other_new = KeepsRules old new × (is_shared new ≡ true) × (other_new ≡ other_old)

@@ -10,7 +10,9 @@ mod handle;
 mod handshakes;
 mod kept;
 mod rules;
+mod share_fault;
 mod sharing;
 
 pub use handle::WireHandle;
 pub use kept::Kept;
+pub use share_fault::ShareFault;

@@ -3,7 +3,7 @@
 
 ghost use Rattle.std.specs.Prelude.{◌≡◌, Some, MatchResult, false};
 ghost use Rattle.dbus_match.specs.declared.fault.RuleFault.TheVariants.{Memory};
-ghost use Rattle.dbus_c_handle.specs.Rules.{AddsRule, KeepsRules, is_shared};
+ghost use Rattle.dbus_c_handle.specs.Rules.{AddsRule, KeepsAll, is_shared};
 
 use crate::handle::WireHandle;
 use crate::kept::Kept;
@@ -20,15 +20,15 @@ impl WireHandle {
     ghost use Rattle.dbus_match.specs.RuleReadings.{IsRuleFault};
     ghost use Rattle.dbus_rule_set.specs.Held.{Collects, EntryMatches, rule_at, without};
     ghost use Rattle.dbus_view.specs.Views.{Views};
-    ghost use Rattle.dbus_c_handle.specs.Rules.{Adds, IsWritten, KeepsRules, given_of, is_shared, rules_of};
+    ghost use Rattle.dbus_c_handle.specs.Rules.{Adds, IsWritten, KeepsAll, given_of, is_shared, rules_of};
 
     /// Keeps the rule that the text spells, as [`parse_rule`] reads it, beside the rules that it keeps, and returns what stands for the
-    /// rule. Its fault if there is one, or that memory runs out: then it keeps the rules that it kept. A handle that keeps something
+    /// rule. Its fault if there is one, or that memory runs out: then it keeps all that it kept. Else a handle that keeps something
     /// else frees that. The rules must not be shared: [`WireHandle::are_shared`] says whether they are.
     pub fn add_rule(&mut self, alloc: Global, text: &str) -> Result<RuleHandle, RuleFault>
         requires { is_shared self.old.state ≡ false }
         ensures added { MatchResult result (Adds text.now self.old.state self.new.state)
-            (λ fault. IsRuleFault text.now fault × KeepsRules self.old.state self.new.state) }
+            (λ fault. IsRuleFault text.now fault × KeepsAll self.old.state self.new.state) }
         ensures own { is_shared self.new.state ≡ false }
     {
         let rule = parse_rule(alloc, text)?;
@@ -40,8 +40,7 @@ impl WireHandle {
 
     // The box of what the handle kept, or of rules of which there are none yet. From then on it keeps nothing.
     pub(crate) fn take_or_make(&mut self, alloc: Global) -> Result<Box<Kept>, AllocError>
-        ensures rules { MatchResult result (λ kept. KeepsRules self.old.state (Some kept.value)) (λ _. KeepsRules self.old.state self.new.state) }
-        ensures own { MatchResult result (λ kept. is_shared (Some kept.value) ≡ is_shared self.old.state) (λ _. is_shared self.new.state ≡ is_shared self.old.state) }
+        ensures { MatchResult result (λ kept. KeepsAll self.old.state (Some kept.value)) (λ _. KeepsAll self.old.state self.new.state) }
     {
         match self.take_box(alloc) {
             Some(kept) => Ok(kept),
@@ -133,11 +132,11 @@ impl Kept {
     }
 }
 
-// Adds the rule to those that are kept, which are not shared. What is kept otherwise is dropped.
+// Adds the rule to those that are kept, which are not shared, in place of what is kept otherwise; or all stays.
 fn add_to(alloc: Global, kept: &mut Kept, rule: Rule) -> Result<RuleHandle, RuleFault>
     requires { is_shared (Some kept.old) ≡ false }
     ensures added { MatchResult result (AddsRule rule (Some kept.old) (Some kept.new))
-        (λ fault. (fault ≡ Memory) × KeepsRules (Some kept.old) (Some kept.new)) }
+        (λ fault. (fault ≡ Memory) × KeepsAll (Some kept.old) (Some kept.new)) }
     ensures own { is_shared (Some kept.new) ≡ false }
 {
     let added = match kept {
@@ -145,7 +144,9 @@ fn add_to(alloc: Global, kept: &mut Kept, rule: Rule) -> Result<RuleHandle, Rule
         _ => {
             let mut rules = RuleSet::new(alloc);
             let added = rules.add(rule);
-            *kept = Kept::Rules(rules);
+            if added.is_ok() {
+                *kept = Kept::Rules(rules);
+            }
             added
         }
     };

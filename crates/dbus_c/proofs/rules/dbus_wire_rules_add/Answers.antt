@@ -4,7 +4,7 @@ use Rattle.dbus_match.specs.RuleReadings.{IsRuleFault}
 use Rattle.dbus_match.specs.declared.fault.RuleFault.{RuleFault}
 use Rattle.dbus_match.specs.declared.fault.RuleFault.TheVariants.{Bad}
 use Rattle.dbus_c.specs.Rules.{added, faulty, rule_fault_told}
-use Rattle.dbus_c_handle.specs.Rules.{Adds, KeepsRules}
+use Rattle.dbus_c_handle.specs.Rules.{Adds, KeepsAll}
 use Rattle.dbus_c_handle.specs.declared.kept.Kept.{Kept}
 use Rattle.dbus_c.proofs.rules.dbus_wire_rules_add.Goals as goal
 
@@ -22,5 +22,5 @@ returns-in-Err-Bad-clause-told c own =
     let read = rw bad.is at c.add_rule-added.ensures.added in
     let is : bad.field-0 ≡ Bad bad.at bad.reason = search rules in
     let fault = subst (λ (f : RuleFault). IsRuleFault c.in-Ok.text.now f) is read.0 in
-    let kept = subst (λ (o : Option Kept). KeepsRules o c.add_rule-added.new.self.state) c.are_shared.ensures.same read.1 in
+    let kept = subst (λ (o : Option Kept). KeepsAll o c.add_rule-added.new.self.state) c.are_shared.ensures.same read.1 in
     faulty bad.reason bad.at (subst (λ (w : List ℕ). IsFault w bad.reason bad.at) text.0 fault) text.1 kept refl refl (c.fault_at-in-Err-Bad.ensures ∙ ap (rule_fault_told bad.at) c.rule_reason_number.ensures)
