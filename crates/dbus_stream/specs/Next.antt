@@ -34,7 +34,7 @@ module _ {R T B G : Type 0} {b : Ghosts B} (k : Taking T G) where
     pub bytes : List ℕ
     pub count : ℕ
     pub consumed : Consumes (left (source_of old)) (left (source_of new)) bytes
-    -- each read but the last gave at least a byte
+    -- the reads are at most one more than the bytes that they gave
     pub few : count ≤ length bytes + 1
     -- the last read gave these, at most a buffer's: one call of the device as it stood after the reads before
     pub last : List ℕ

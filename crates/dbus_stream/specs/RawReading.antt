@@ -27,7 +27,7 @@ module _ {R A : Type 0} where
   abbrev pub source_of : RawReader R A → R
   source_of r = r.reader.source
 
-  -- how many bytes all the messages have that were given
+  -- how many bytes all the messages have that were given or passed over
   abbrev pub done_of : RawReader R A → ℕ
   done_of r = r.reader.done
 

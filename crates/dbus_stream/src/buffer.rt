@@ -11,7 +11,7 @@ pub trait Buffer: Drop {
     // How many bytes it has room for, at most 262,144, and which bytes are there.
     ghost room: { Room Self };
 
-    /// Reads once, into all of the room.
+    /// Reads once, into the room from its start on, of which a byte at least is offered.
     ///
     /// `DeviceFault`: the read failed.
     fn read_from<R: Source>(&mut self, source: &mut R) -> Result<usize, DeviceFault>

@@ -83,7 +83,7 @@ impl<R: Source, A: Allocator + Copy> RawReader<R, A> {
         self.reader.into_source()
     }
 
-    /// The number of bytes of all the messages that it returned.
+    /// The number of bytes of all the messages that it returned, and of those that [`RawReader::pass_over`] dropped.
     pub fn done(&self) -> u64
         ensures { result ≡ done_of self.now }
     {
