@@ -1,11 +1,16 @@
 -- What is taken from a source that reads ahead.
-use Rattle.std.proofs.Common.{◌≡◌, ◌≤◌, ◌+◌, ◌-◌, ℕ, List, [], ◌++◌, length, take, drop, Option, None, Some, Result, sym, ap, ◌∙◌, subst, arith, append_assoc, append-nil, take-append-drop}
-use Rattle.std.specs.Io.KnownBytes.{Consumes, ReadConsumes, prepend_known}
-use Rattle.std.proofs.KnownBytes.{Consumes-nil, Consumes-trans}
+use Rattle.std.proofs.Common.{◌≡◌, ◌<◌, ◌≤◌, ◌+◌, ◌-◌, ◌^◌, ◌%◌, ℕ, Bool, true, false, List, [], ◌∷◌, ◌++◌, length, zero, suc, take, drop, Option, None, Some, Result, Ok, Err, sym, ap, ◌∙◌, subst, arith, append_assoc, append-nil, length-append, take-append-drop}
+use Rattle.std.specs.Io.KnownBytes.{Consumes, Keeps, ReadConsumes, prepend_known}
+use Rattle.std.proofs.KnownBytes.{Consumes-nil, Consumes-kept, Consumes-trans}
 use Rattle.std.specs.List.{slice_range}
+use Rattle.std.specs.Result.{IsErr}
 use Rattle.std.proofs.lemmas.List.{drop-take, drop-drop, length-take, length-take-le, take_at}
+use Rattle.std.proofs.lemmas.Result.{IfOk-from_err}
 use Rattle.std.proofs.Math.Nat.{min-le_left}
-use Rattle.dbus_handshake_input.specs.Ahead.{source_of, kept_of, Took}
+use Rattle.std.proofs.Math.Seq.{take-nil}
+use Rattle.dbus_device.specs.Device.{one_more}
+use Rattle.dbus_device.specs.declared.device_fault.DeviceFault.{DeviceFault}
+use Rattle.dbus_handshake_input.specs.Ahead.{source_of, kept_of, answered_of, idle_unless, Rests, Took}
 use Rattle.dbus_handshake_input.specs.declared.read_ahead.ReadAhead.{ReadAhead}
 
 -- a part that ends where it begins
@@ -48,21 +53,110 @@ read_through kept a b r buffer none = subst (λ (k : List ℕ). ReadConsumes a b
     same (Some x) None h = h
     same (Some x) (Some y) h = h
 
-module _ {R : Type 0} (left : R → Option (List ℕ)) where
-  pub took_nothing : (s : ReadAhead R) → Took left s s []
-  took_nothing s = record { read = []; consumed = Consumes-nil (left (source_of s)); joined = append-nil (kept_of s) }
+-- what a read into no room does, whatever is kept
+pub read_nothing : {E : Type 0} (kept : List ℕ) (a b : Option (List ℕ)) (r : Result ℕ E) (buffer : List ℕ) → length buffer ≡ 0 → ReadConsumes a b r buffer
+    → ReadConsumes (prepend_known kept a) (prepend_known kept b) r buffer
+read_nothing kept a b (Ok n) [] none h = (consumed a b h.0, λ e some. absurd (omega (arith, some)))
+  where
+    consumed : (a b : Option (List ℕ)) → Consumes a b (take n []) → Consumes (prepend_known kept a) (prepend_known kept b) (take n [])
+    consumed None b c = tt
+    consumed (Some xs) None c = c
+    consumed (Some xs) (Some ys) c =
+        let empty : take {A = ℕ} n [] ≡ [] = take-nil n in
+        ap (λ l. kept ++ l) (subst (λ (l : List ℕ). xs ≡ l ++ ys) empty c) ∙ ap (λ l. l ++ (kept ++ ys)) (sym empty)
+read_nothing kept a b (Ok n) (x ∷ xs) none h = absurd (omega (arith, none))
+read_nothing kept a b (Err e) buffer none h = keeps a b h
+  where
+    keeps : (a b : Option (List ℕ)) → Keeps a b → Keeps (prepend_known kept a) (prepend_known kept b)
+    keeps None b c = tt
+    keeps (Some xs) None c = c
+    keeps (Some xs) (Some ys) c = ap (λ l. kept ++ l) c
 
-  pub took_kept : (old new : ReadAhead R) (front : List ℕ) → source_of new ≡ source_of old → kept_of old ≡ front ++ kept_of new → Took left old new front
-  took_kept old new front same joined = record {
+-- the calls for bytes that were kept or taken, of which each gave a byte but the last
+few_calls : (k0 k1 x y m n r : ℕ) → 0 < m + n → m ≤ r + 0 → (0 < m → m + k0 ≤ x + 1) → (0 < n → n + k1 ≤ y + 1) → k0 + r ≡ x + k1 → m + n + k0 ≤ (x + y) + 1
+few_calls k0 k1 x y m zero r some gave before after joined = let b = before (omega (arith, some)) in omega (arith, b)
+few_calls k0 k1 x y m (suc n) r some gave before after joined = let a = after (omega arith) in omega (arith, a, gave, joined)
+
+module _ {R : Type 0} (left : R → Option (List ℕ)) (calls : R → ℕ) where
+  pub took_nothing : (s : ReadAhead R) → Took left calls 0 s s []
+  took_nothing s = record {
     read = [];
-    consumed = subst (λ (s : R). Consumes (left (source_of old)) (left s) []) (sym same) (Consumes-nil (left (source_of old)));
-    joined = append-nil (kept_of old) ∙ joined;
+    consumed = Consumes-nil (left (source_of s));
+    joined = append-nil (kept_of s);
+    count = 0;
+    called = ap (λ n. n % 2 ^ 64) (omega arith);
+    gave = omega arith;
+    few = λ some. absurd (omega (arith, some));
+    answered = omega arith;
   }
 
-  pub took_more : (old mid new : ReadAhead R) (xs ys : List ℕ) → Took left old mid xs → Took left mid new ys → Took left old new (xs ++ ys)
-  took_more old mid new xs ys a b = record {
+  pub took_kept : (old new : ReadAhead R) (front : List ℕ) → Rests old new → kept_of old ≡ front ++ kept_of new → Took left calls 0 old new front
+  took_kept old new front rests joined = record {
+    read = [];
+    consumed = subst (λ (s : R). Consumes (left (source_of old)) (left s) []) (sym rests.source) (Consumes-nil (left (source_of old)));
+    joined = append-nil (kept_of old) ∙ joined;
+    count = 0;
+    called = let same = ap calls rests.source in omega (arith, same);
+    gave = omega arith;
+    few = λ some. absurd (omega (arith, some));
+    answered = let same = rests.answered in omega (arith, same);
+  }
+
+  -- nothing was kept, and a call of the device failed
+  pub took_failed : (result : Result Bool DeviceFault) (old new : ReadAhead R) → IsErr result → kept_of old ≡ [] → kept_of new ≡ []
+      → Keeps (left (source_of old)) (left (source_of new)) → calls (source_of new) ≡ one_more (calls (source_of old)) → answered_of new ≡ 0
+      → Took left calls (idle_unless true result) old new []
+  took_failed (Ok more) old new failed none empty same called answered = absurd (IfOk-from_err {E = DeviceFault} (Ok more) (λ _. ⊥) failed)
+  took_failed (Err e) old new failed none empty same called answered = record {
+    read = [];
+    consumed = Consumes-kept _ _ _ _ (Consumes-nil (left (source_of old))) same;
+    joined = append-nil (kept_of old) ∙ none ∙ sym empty;
+    count = 1;
+    called = omega (arith, called);
+    gave = omega arith;
+    few = λ some. let size = ap length none in omega (arith, size);
+    answered = omega (arith, answered);
+  }
+
+  -- a last call of the device may have given nothing
+  pub took_at_last : (old new : ReadAhead R) (bytes : List ℕ) → Took left calls 0 old new bytes → Took left calls 1 old new bytes
+  took_at_last old new bytes t = record {
+    read = t.read;
+    consumed = t.consumed;
+    joined = t.joined;
+    count = t.count;
+    called = t.called;
+    gave = let gave = t.gave in omega (arith, gave);
+    few = t.few;
+    answered = t.answered;
+  }
+
+  -- it went on, so that each call gave a byte
+  pub went_on : (on said : Bool) (old new : ReadAhead R) → said ≡ on → Took left calls (idle_unless on (Ok said)) old new [] → Took left calls 0 old new []
+  went_on true said old new is t = subst (λ (b : Bool). Took left calls (idle_unless true (Ok b)) old new []) is t
+  went_on false said old new is t = subst (λ (b : Bool). Took left calls (idle_unless false (Ok b)) old new []) is t
+
+  -- it went on or not
+  pub went : (on : Bool) (result : Result Bool DeviceFault) (old new : ReadAhead R) → Took left calls (idle_unless on result) old new [] → Took left calls 1 old new []
+  went true (Ok true) old new t = took_at_last old new [] t
+  went true (Ok false) old new t = t
+  went false (Ok true) old new t = t
+  went false (Ok false) old new t = took_at_last old new [] t
+  went true (Err e) old new t = t
+  went false (Err e) old new t = t
+
+  pub took_more : {idle : ℕ} (old mid new : ReadAhead R) (xs ys : List ℕ) → Took left calls 0 old mid xs → Took left calls idle mid new ys
+      → Took left calls idle old new (xs ++ ys)
+  took_more {idle = idle} old mid new xs ys a b = record {
     read = a.read ++ b.read;
     consumed = Consumes-trans (left (source_of old)) (left (source_of mid)) (left (source_of new)) a.read b.read a.consumed b.consumed;
     joined = sym (append_assoc (kept_of old) a.read b.read) ∙ ap (λ l. l ++ b.read) a.joined ∙ append_assoc xs (kept_of mid) b.read
         ∙ ap (λ l. xs ++ l) b.joined ∙ sym (append_assoc xs ys (kept_of new));
+    count = a.count + b.count;
+    called = let x = a.called in let y = b.called in omega (arith, x, y);
+    gave = let x = a.gave in let y = b.gave in omega (arith, x, y, length-append a.read b.read);
+    few = λ some. subst (λ n. a.count + b.count + length (kept_of old) ≤ n + 1) (sym (length-append xs ys))
+        (few_calls (length (kept_of old)) (length (kept_of mid)) (length xs) (length ys) a.count b.count (length a.read) some a.gave a.few b.few
+        (sym (length-append (kept_of old) a.read) ∙ ap length a.joined ∙ length-append xs (kept_of mid)));
+    answered = let x = a.answered in let y = b.answered in omega (arith, x, y);
   }

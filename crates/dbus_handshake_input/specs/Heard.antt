@@ -53,10 +53,10 @@ module _ {V : Type 0} (hears : V → List HeardLine → V → Type 0) (side : Si
 
   -- a handshake of the side was taken, what is kept then follows it, and each of its lines was heard; or what was read begins with none,
   -- and each line before the place of that was heard
-  abbrev pub Reads : {R : Type 0} → (R → Option (List ℕ)) → ReadAhead R → ReadAhead R → V → V → Result HandshakeSize HandshakeFault → Type 0
-  Reads left old new before after (Ok size) = (lines : List (List ℕ)) × Took left old new (sent side lines)
+  abbrev pub Reads : {R : Type 0} → (R → Option (List ℕ)) → (R → ℕ) → ReadAhead R → ReadAhead R → V → V → Result HandshakeSize HandshakeFault → Type 0
+  Reads left calls old new before after (Ok size) = (lines : List (List ℕ)) × Took left calls 1 old new (sent side lines)
       × AreAllLines side lines (kept_of new) (IsAtEnd (left (source_of new))) × hears before (heard side lines) after × IsSize side lines size
-  Reads left old new before after (Err Memory) = (bytes : List ℕ) × Took left old new bytes × HearsSome bytes before after
-  Reads left old new before after (Err Device) = (bytes : List ℕ) × Took left old new bytes × HearsSome bytes before after
-  Reads left old new before after (Err (Refused at why)) = (bytes : List ℕ) × Took left old new bytes
+  Reads left calls old new before after (Err Memory) = (bytes : List ℕ) × Took left calls 1 old new bytes × HearsSome bytes before after
+  Reads left calls old new before after (Err Device) = (bytes : List ℕ) × Took left calls 1 old new bytes × HearsSome bytes before after
+  Reads left calls old new before after (Err (Refused at why)) = (bytes : List ℕ) × Took left calls 1 old new bytes
       × ((lines : List (List ℕ)) × BreaksAfter side lines (bytes ++ kept_of new) (IsAtEnd (left (source_of new))) at why × hears before (heard side lines) after)

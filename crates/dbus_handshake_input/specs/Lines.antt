@@ -20,11 +20,11 @@ use Rattle.dbus_handshake_input.specs.declared.fault.HandshakeFault.{HandshakeFa
 use Rattle.dbus_handshake_input.specs.declared.fault.HandshakeFault.TheVariants.{Memory, Device, Refused}
 
 -- a line was taken with its CR LF, or what was read begins with none
-abbrev pub ReadsLine : {R Z : Type 0} → (R → Option (List ℕ)) → (side : Side) → ReadAhead R → ReadAhead R → Result (Vec ℕ Z) HandshakeFault → Type 0
-ReadsLine left side old new (Ok line) = IsLine line.items × Took left old new (ended line.items)
-ReadsLine left side old new (Err Memory) = (bytes : List ℕ) × Took left old new bytes
-ReadsLine left side old new (Err Device) = (bytes : List ℕ) × Took left old new bytes
-ReadsLine left side old new (Err (Refused at why)) = (bytes : List ℕ) × Took left old new bytes
+abbrev pub ReadsLine : {R Z : Type 0} → (R → Option (List ℕ)) → (R → ℕ) → (side : Side) → ReadAhead R → ReadAhead R → Result (Vec ℕ Z) HandshakeFault → Type 0
+ReadsLine left calls side old new (Ok line) = IsLine line.items × Took left calls 0 old new (ended line.items)
+ReadsLine left calls side old new (Err Memory) = (bytes : List ℕ) × Took left calls 1 old new bytes
+ReadsLine left calls side old new (Err Device) = (bytes : List ℕ) × Took left calls 1 old new bytes
+ReadsLine left calls side old new (Err (Refused at why)) = (bytes : List ℕ) × Took left calls 1 old new bytes
     × IsNoLine side (bytes ++ kept_of new) (IsAtEnd (left (source_of new))) at why
 
 -- what a line says

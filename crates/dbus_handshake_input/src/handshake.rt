@@ -1,6 +1,6 @@
 //! The handshake of a side.
-ghost use Rattle.std.specs.Prelude.{◌≡◌, ◌≤◌, []};
-ghost use Rattle.dbus_handshake_input.specs.Ahead.{Took, source_of};
+ghost use Rattle.std.specs.Prelude.{◌≡◌, ◌≤◌, [], false};
+ghost use Rattle.dbus_handshake_input.specs.Ahead.{Took, idle_unless, source_of};
 ghost use Rattle.dbus_device.specs.Device.{ReadCounts};
 ghost use Rattle.dbus_handshake_input.specs.Heard.{Reads};
 ghost use Rattle.dbus_handshake_input.specs.Passing.{Counts, Greets, IsShort, Passes, SeesMessages, placed};
@@ -53,7 +53,7 @@ pub fn pass_handshake<A: Allocator + Copy, R: Source>(
     side: Side,
     input: &mut ReadAhead<R>,
 ) -> Result<(), HandshakeFault>
-    ensures passes { Passes R.left side input.old input.new result }
+    ensures passes { Passes R.left R.calls side input.old input.new result }
     ensures failed { Counts (R.failures (source_of input.old)) (R.failures (source_of input.new))
         result }
     ensures same_reference { R.reference (source_of input.new) ≡
@@ -76,7 +76,7 @@ pub fn read_handshake<A: Allocator + Copy, R: Source, V: LineVisitor>(
     input: &mut ReadAhead<R>,
     visitor: &mut V,
 ) -> Result<HandshakeSize, HandshakeFault>
-    ensures reads { Reads V.hears side R.left input.old input.new visitor.old visitor.new result }
+    ensures reads { Reads V.hears side R.left R.calls input.old input.new visitor.old visitor.new result }
     ensures failed { Counts (R.failures (source_of input.old)) (R.failures (source_of input.new))
         result }
     ensures same_reference { R.reference (source_of input.new) ≡
@@ -121,7 +121,7 @@ pub fn read_handshake<A: Allocator + Copy, R: Source, V: LineVisitor>(
 
 // Takes what comes before the lines of a side, and returns how many bytes that is.
 fn greeted<R: Source>(side: Side, input: &mut ReadAhead<R>) -> Result<usize, HandshakeFault>
-    ensures greets { Greets R.left side input.old input.new result }
+    ensures greets { Greets R.left R.calls side input.old input.new result }
     ensures failed { Counts (R.failures (source_of input.old)) (R.failures (source_of input.new))
         result }
     ensures same_reference { R.reference (source_of input.new) ≡
@@ -148,7 +148,7 @@ fn greeted<R: Source>(side: Side, input: &mut ReadAhead<R>) -> Result<usize, Han
 // line.
 fn sees_messages<R: Source>(accepted: bool, input: &mut ReadAhead<R>) -> Result<bool, DeviceFault>
     ensures sees { SeesMessages R.left accepted input.new result }
-    ensures took { Took R.left input.old input.new [] }
+    ensures took { Took R.left R.calls (idle_unless false result) input.old input.new [] }
     ensures failed { ReadCounts (R.failures (source_of input.old))
         (R.failures (source_of input.new)) result }
     ensures same_reference { R.reference (source_of input.new) ≡

@@ -8,35 +8,38 @@ use dbus_device::{DeviceFault, Source};
 // How many bytes are read ahead at most.
 const ROOM: usize = 512;
 
-/// A source that keeps bytes which it read ahead: at most 512, the first ones that it gives. Each call of `read` is one call, and one
-/// of the source below it only if no bytes are kept.
+/// A source that keeps bytes which it read ahead: at most 512, the first ones that it gives. Each call of `read` is one call of the
+/// source below it, or bytes that are kept answer it; its count of calls is that of the source below, and those that were answered.
 #[derive(Drop)]
 pub struct ReadAhead<R> {
     source: R,
     bytes: [u8; ROOM],
     start: usize,
     end: usize,
-    calls: u64,
+    // How many calls bytes that are kept answered, since they were read. Each gave a byte.
+    answered: usize,
     ghost in_order: { start ≤ end },
     ghost in_room: { end ≤ 512 },
+    ghost gave: { answered ≤ start },
 }
 
 impl<R: Source> ReadAhead<R> {
-    ghost use Rattle.std.specs.Prelude.{◌+◌, ◌++◌, ◌≢◌, ℕ, List, length, take, drop};
-    ghost use Rattle.dbus_handshake_input.specs.Ahead.{source_of, kept_of, HasMore, Took};
+    ghost use Rattle.std.specs.Prelude.{◌+◌, ◌++◌, ◌≢◌, ℕ, List, length, take, drop, true};
+    ghost use Rattle.dbus_handshake_input.specs.Ahead.{source_of, kept_of, answered_of, idle_unless, HasMore, Rests, Took};
     ghost use Rattle.dbus_device.specs.Device.{ReadCounts};
 
     /// The source that gives what this one gives. It has read nothing yet.
     pub fn new(source: R) -> Self
         ensures source { source_of result ≡ source }
         ensures kept { kept_of result ≡ [] }
+        ensures answered { answered_of result ≡ 0 }
     {
         ReadAhead {
             source,
             bytes: [0; ROOM],
             start: 0,
             end: 0,
-            calls: 0,
+            answered: 0,
         }
     }
 
@@ -51,7 +54,7 @@ impl<R: Source> ReadAhead<R> {
     // Reads once if nothing is kept. It is false at the end of the input.
     pub(crate) fn has_more(&mut self) -> Result<bool, DeviceFault>
         ensures more { HasMore R.left self.new result }
-        ensures took { Took R.left self.old self.new [] }
+        ensures took { Took R.left R.calls (idle_unless true result) self.old self.new [] }
         ensures failed { ReadCounts (R.failures (source_of self.old))
             (R.failures (source_of self.new)) result }
         ensures same_reference { R.reference (source_of self.new) ≡
@@ -60,6 +63,7 @@ impl<R: Source> ReadAhead<R> {
         if self.start < self.end {
             return Ok(true);
         }
+        self.answered = 0;
         self.start = 0;
         self.end = 0;
         let count = self.source.read(&mut self.bytes)?;
@@ -71,7 +75,7 @@ impl<R: Source> ReadAhead<R> {
     pub(crate) fn pass(&mut self, count: usize)
         requires { count ≤ length (kept_of self.old) }
         ensures rest { kept_of self.new ≡ drop count (kept_of self.old) }
-        ensures same_source { source_of self.new ≡ source_of self.old }
+        ensures rests { Rests self.old self.new }
     {
         self.start += count;
     }
@@ -81,8 +85,8 @@ impl<R: Source> ReadAhead<R> {
         ensures bound { result ≤ length buffer.new }
         ensures bytes { kept_of self.old ≡ take result buffer.new ++ kept_of self.new }
         ensures some { result ≡ 0 → kept_of self.old ≢ [] → length buffer.new ≡ 0 }
-        ensures same_source { source_of self.new ≡ source_of self.old }
-        ensures same_calls { self.new.calls ≡ self.old.calls }
+        ensures rests { Rests self.old self.new }
+        ensures moves { self.new.start ≡ self.old.start + result }
     {
         let kept = self.kept();
         let count = kept.len().min(buffer.len());
@@ -93,18 +97,34 @@ impl<R: Source> ReadAhead<R> {
 }
 
 impl<R: Source> Source for ReadAhead<R> {
+    ghost use Rattle.std.specs.Prelude.{◌+◌, ◌^◌, ◌%◌, ◌⊎◌, length, IfOk};
+    ghost use Rattle.std.specs.Io.KnownBytes.{ReadConsumes};
+    ghost use Rattle.dbus_device.specs.Device.{one_more, ReadCounts};
+    ghost use Rattle.dbus_handshake_input.specs.Ahead.{source_of, kept_of, calls_of, IsAnswered, IsPassedOn};
+
     ghost left = { λ s. prepend_known (slice_range s.bytes s.start s.end) (R.left s.source) };
 
     ghost failures = { λ s. R.failures s.source };
 
-    ghost calls = { λ s. s.calls };
+    ghost calls = { λ s. (R.calls s.source + s.answered) % 2 ^ 64 };
 
     ghost reference = { λ s. None };
 
-    fn read(&mut self, buffer: &mut [u8]) -> Result<usize, DeviceFault> {
-        self.calls = self.calls.wrapping_add(1);
-        if self.start < self.end {
-            return Ok(self.give(buffer));
+    fn read(&mut self, buffer: &mut [u8]) -> Result<usize, DeviceFault>
+        ensures bound { IfOk result (λ n. n ≤ length buffer.new) }
+        ensures bytes { ReadConsumes (prepend_known (kept_of self.old) (R.left (source_of self.old)))
+            (prepend_known (kept_of self.new) (R.left (source_of self.new))) result buffer.new }
+        ensures failed { ReadCounts (R.failures (source_of self.old))
+            (R.failures (source_of self.new)) result }
+        ensures called { calls_of R.calls self.new ≡ one_more (calls_of R.calls self.old) }
+        // The source below is called once, or not at all if bytes are given that were kept.
+        ensures reaches { IsAnswered self.old self.new (length buffer.new) ⊎
+            IsPassedOn R.calls self.old self.new (length buffer.new) }
+    {
+        if self.start < self.end && !buffer.is_empty() {
+            let count = self.give(buffer);
+            self.answered += 1;
+            return Ok(count);
         }
         self.source.read(buffer)
     }

@@ -3,7 +3,7 @@
 use Rattle.std.specs.Prelude.{◌≡◌, ◌⊎◌, ℕ, List, ◌++◌, Option, Result, codes, decimal}
 use Rattle.std.specs.Io.KnownBytes.{prepend_known}
 use Rattle.dbus_device.specs.Write.{Wrote, Stopped}
-use Rattle.dbus_handshake_input.specs.Ahead.{kept_of, source_of}
+use Rattle.dbus_handshake_input.specs.Ahead.{calls_of, kept_of, source_of}
 use Rattle.dbus_handshake_input.specs.Passing.{Counts, Passes}
 use Rattle.dbus_handshake_input.specs.declared.fault.HandshakeFault.{HandshakeFault}
 use Rattle.dbus_handshake_input.specs.FaultTexts.{handshake_reason_text}
@@ -18,14 +18,15 @@ use Rattle.dbus_report.specs.declared.ending.ExitStatus.TheVariants as status
 use Rattle.dbus_report.specs.declared.ending.Cause.{Cause}
 use Rattle.dbus_report.specs.declared.ending.Cause.TheVariants as cause
 
-module _ {R : Type 0} (left : R → Option (List ℕ)) (failures : R → ℕ) where
-  -- a source before and after: what is left in it is what it keeps, and then what the source below has
+module _ {R : Type 0} (left : R → Option (List ℕ)) (calls failures : R → ℕ) where
+  -- a source before and after: what is left in it is what it keeps, and then what the source below has; its calls are those of the source
+  -- below, and those that the bytes it kept answered
   abbrev pub ahead : ReadAhead R → ReadAhead R → Reading (ReadAhead R)
-  ahead old new = reading (λ s. prepend_known (kept_of s) (left (source_of s))) (λ s. s.calls) (λ s. failures (source_of s)) old new
+  ahead old new = reading (λ s. prepend_known (kept_of s) (left (source_of s))) (calls_of calls) (λ s. failures (source_of s)) old new
 
   -- the handshake of the side was taken, or what was read begins with none; the reads that failed count
   abbrev pub ReadsHandshake : Side → ReadAhead R → ReadAhead R → Result (Unit {0}) HandshakeFault → Type 0
-  ReadsHandshake side old new result = Passes left side old new result × Counts (failures (source_of old)) (failures (source_of new)) result
+  ReadsHandshake side old new result = Passes left calls side old new result × Counts (failures (source_of old)) (failures (source_of new)) result
 
 -- the offset of the fault of a handshake and its reason
 abbrev pub handshake_line : ℕ → HandshakeReason → List ℕ

@@ -63,32 +63,32 @@ DoesBy r w e settings (CountAll form) end = CountsByName r w e settings (table_f
 abbrev pub owner_note : List ℕ
 owner_note = codes "note: no owner is known for a rule's sender; --owner NAME=UNIQUE gives one, and --learn-owners takes them from the bus's signals\n"
 
-module _ {R W E : Type 0} (left : R → Option (List ℕ)) (failures : R → ℕ) (old new : ReadAhead R) (w : Writing W) (e : Writing E) where
+module _ {R W E : Type 0} (left : R → Option (List ℕ)) (calls failures : R → ℕ) (old new : ReadAhead R) (w : Writing W) (e : Writing E) where
   -- the handshake of the side was read, and this was done with what follows; or none was read, which was told
   abbrev pub FollowsHandshake : Side → (Reading (ReadAhead R) → Type 0) → ExitStatus → Type 0
   FollowsHandshake side Done end =
-      ((begun : ReadAhead R) × ReadsHandshake left failures side old begun (Ok tt) × Done (ahead left failures begun new))
-      ⊎ ((why : HandshakeFault) × ReadsHandshake left failures side old new (Err why) × (w.new ≡ w.old) × TellsHandshake e.held e.failures e.old e.new why end)
+      ((begun : ReadAhead R) × ReadsHandshake left calls failures side old begun (Ok tt) × Done (ahead left calls failures begun new))
+      ⊎ ((why : HandshakeFault) × ReadsHandshake left calls failures side old new (Err why) × (w.new ≡ w.old) × TellsHandshake e.held e.failures e.old e.new why end)
 
   -- the task is done with all that the reader gives, or with what follows the handshake of a side
   abbrev pub DoesFrom : Option Side → Settings → Task → ExitStatus → Type 0
-  DoesFrom None settings task end = DoesBy (ahead left failures old new) w e settings task end
+  DoesFrom None settings task end = DoesBy (ahead left calls failures old new) w e settings task end
   DoesFrom (Some side) settings task end = FollowsHandshake side (λ r. DoesBy r w e settings task end) end
 
-module _ {R W E : Type 0} (left : R → Option (List ℕ)) (failures : R → ℕ) (old new : ReadAhead R) (w : Writing W) (e : Writing E) where
+module _ {R W E : Type 0} (left : R → Option (List ℕ)) (calls failures : R → ℕ) (old new : ReadAhead R) (w : Writing W) (e : Writing E) where
   -- a note was written before that, if one is due; or a write of it failed
   abbrev pub RunsNoted : (is_due : Bool) → Settings → Command → ExitStatus → Type 0
-  RunsNoted false settings command end = DoesFrom left failures old new w e settings.handshake settings (Run command) end
+  RunsNoted false settings command end = DoesFrom left calls failures old new w e settings.handshake settings (Run command) end
   RunsNoted true settings command end =
       ((begun : E) × Wrote e.held e.failures e.old owner_note begun
-      × DoesFrom left failures old new w (writing e.held e.failures begun e.new) settings.handshake settings (Run command) end)
+      × DoesFrom left calls failures old new w (writing e.held e.failures begun e.new) settings.handshake settings (Run command) end)
       ⊎ ((new ≡ old) × (w.new ≡ w.old) × (end ≡ status.Failed) × (n : ℕ) × Stopped e.held e.failures e.old owner_note n e.new)
 
   -- what is done for a command by its settings, for `count`, for the side whose handshake is listed, or for words that name nothing
   abbrev pub Does : Result Asked UsageFault → ExitStatus → Type 0
   Does (Ok (Messages command settings)) end = RunsNoted (settings.explains && lacks_owner command) settings command end
-  Does (Ok (Count settings form)) end = DoesFrom left failures old new w e settings.handshake settings (CountAll form) end
-  Does (Ok (Handshake side)) end = Lists left failures old new w e side end
+  Does (Ok (Count settings form)) end = DoesFrom left calls failures old new w e settings.handshake settings (CountAll form) end
+  Does (Ok (Handshake side)) end = Lists left calls failures old new w e side end
   Does (Err Memory) end = (new ≡ old) × (w.new ≡ w.old) × StopsBy e.held e.failures e.old e.new cause.Memory end
   Does (Err (Help text)) end = (new ≡ old) × ShowsText w e (string_bytes text) end
   Does (Err (Version text)) end = (new ≡ old) × ShowsText w e (string_bytes text) end

@@ -20,7 +20,7 @@ pub(crate) fn write_lines<R: Source, W: Sink>(
     reader: &mut ReadAhead<R>,
     first: &mut W,
 ) -> (Result<HandshakeSize, HandshakeFault>, Result<(), Unwritten>)
-    ensures lines { WritesLines R.left reader.old reader.new (writing W.held W.failures first.old first.new) side result.0
+    ensures lines { WritesLines R.left R.calls reader.old reader.new (writing W.held W.failures first.old first.new) side result.0
         result.1 }
     ensures failed { Counts (R.failures (source_of reader.old)) (R.failures (source_of reader.new))
         result.0 }
@@ -41,7 +41,7 @@ fn gather_lines<R: Source, W: Sink>(
     gathered: &mut Gathered,
     first: &mut W,
 ) -> (Result<HandshakeSize, HandshakeFault>, Result<(), Unwritten>)
-    ensures lines { GathersLines R.left reader.old reader.new (writing W.held W.failures first.old first.new) side
+    ensures lines { GathersLines R.left R.calls reader.old reader.new (writing W.held W.failures first.old first.new) side
         (gathered_bytes gathered.old) (gathered_bytes gathered.new) result.0 result.1 }
     ensures failed { Counts (R.failures (source_of reader.old)) (R.failures (source_of reader.new))
         result.0 }
@@ -67,7 +67,7 @@ fn put_lines<R: Source, W: Sink>(
     reader: &mut ReadAhead<R>,
     shown: &mut ShownLines<Page<'_, W>>,
 ) -> Result<HandshakeSize, HandshakeFault>
-    ensures lines { PutsLines R.left reader.old reader.new W.held W.failures shown.old.0 shown.new.0 side result }
+    ensures lines { PutsLines R.left R.calls reader.old reader.new W.held W.failures shown.old.0 shown.new.0 side result }
     ensures failed { Counts (R.failures (source_of reader.old)) (R.failures (source_of reader.new))
         result }
 {

@@ -32,7 +32,8 @@ const OWNER_NOTE: &str =
 /// `dbus_command::Command::lacks_owner` says, a line on the second writer says so first, and how to give owners.
 ///
 /// If they name the side of a handshake, that is taken first, as `dbus_handshake_input::pass_handshake` does, by reads which are none
-/// of the 2^32; the run has what follows, and counts its offsets from there. If the input begins with no handshake of that side,
+/// of the 2^32; the run has what follows, and counts its offsets from there. Its reads are calls of the device below `reader`, or are
+/// answered by bytes that were read ahead. If the input begins with no handshake of that side,
 /// `handshake refused at P: NAME` and LF go to the second writer, with the place from the start of the input and the name of the reason.
 ///
 /// If they name `count`, all messages are read, up to the end of the input or a fault, and then the first writer gets the tables of how many
@@ -52,7 +53,7 @@ pub fn run_words<R: Source, W: Sink, E: Sink>(
     first: &mut W,
     second: &mut E,
 ) -> ExitStatus
-    ensures { RunsWords R.left R.failures reader.old reader.new
+    ensures { RunsWords R.left R.calls R.failures reader.old reader.new
         (writing W.held W.failures first.old first.new)
         (writing E.held E.failures second.old second.new)
         (map string_bytes words.now) result }
@@ -83,7 +84,7 @@ fn run_noted<R: Source, W: Sink, E: Sink>(
     first: &mut W,
     second: &mut E,
 ) -> ExitStatus
-    ensures { RunsNoted R.left R.failures reader.old reader.new
+    ensures { RunsNoted R.left R.calls R.failures reader.old reader.new
         (writing W.held W.failures first.old first.new)
         (writing E.held E.failures second.old second.new)
         (settings.explains && lacks_owner command) settings command result }
@@ -122,7 +123,7 @@ fn begin<R: Source, W: Sink, E: Sink>(
     first: &mut W,
     second: &mut E,
 ) -> ExitStatus
-    ensures { DoesFrom R.left R.failures reader.old reader.new
+    ensures { DoesFrom R.left R.calls R.failures reader.old reader.new
         (writing W.held W.failures first.old first.new)
         (writing E.held E.failures second.old second.new)
         settings.handshake settings task result }
@@ -199,7 +200,7 @@ fn list_handshake<R: Source, W: Sink, E: Sink>(
     first: &mut W,
     second: &mut E,
 ) -> ExitStatus
-    ensures { Lists R.left R.failures reader.old reader.new
+    ensures { Lists R.left R.calls R.failures reader.old reader.new
         (writing W.held W.failures first.old first.new)
         (writing E.held E.failures second.old second.new) side result }
 {
