@@ -33,4 +33,6 @@ mod running;
 #[cfg(test)]
 mod spelling;
 #[cfg(test)]
+mod std_devices;
+#[cfg(test)]
 mod writers;
