@@ -1,8 +1,11 @@
 #!/usr/bin/env python3
 """gate.py [--all]: the gate. Runs `rt ci` over a copy of the repository, and in it tries
 
-* the wrong bodies of must-fail/, those of the crates that are due, and at most five of a crate, which the commit's hash draws;
+* the wrong bodies of must-fail/, those of the crates that are due, as far as they are 40 together, and at most five of a crate, which the commit's
+  hash draws;
 * with --all, all of them.
+
+A crate that is due and is not tried stays due, and is named: `bench/wrong_bodies.py --due` tries all of them. So what a landing costs has a bound.
 
 So the libraries are proved once for all of them. Beyond what `rt ci` says, each wrong body has to be refused at the goal that it names. The last
 line says how many crates and wrong bodies passed, and how many failed; the exit status is 1 if one did.
@@ -10,18 +13,28 @@ line says how many crates and wrong bodies passed, and how many failed; the exit
 
 import sys
 
-from edits import all_edits, find_faults
-from trying import copy_with, drawn_edits, due_edits, hold, is_count, note_tried, refusals_in, run_in, tell
+from edits import all_edits, edits_in, find_faults
+from trying import copy_with, drawn_edits, due_crates, hold, is_count, note_tried, refusals_in, run_in, tell
 
 DRAWN = 5
+DUE = 40
+
+
+def edits_that_are_due():
+    """Those of the first crates that are due, and the crates that are left."""
+    edits, left = [], due_crates()
+    while left and len(edits) + len(edits_in(left[0], "wrong")) <= max(DUE, len(edits_in(left[0], "wrong"))):
+        edits += edits_in(left.pop(0), "wrong")
+    return edits, left
 
 
 def chosen_edits(words):
-    """Those that are tried, each once."""
+    """Those that are tried, each once, and the crates that stay due."""
     if words == ("--all",):
-        return all_edits()
+        return all_edits(), []
     always = [it for it in all_edits() if it.path.parent.name == "must-fail"]
-    return list({it.name: it for it in (*always, *due_edits(), *drawn_edits(DRAWN))}.values())
+    due, left = edits_that_are_due()
+    return list({it.name: it for it in (*always, *due, *drawn_edits(DRAWN))}.values()), left
 
 
 def main(*words):
@@ -31,12 +44,14 @@ def main(*words):
     if broken := find_faults(all_edits()):
         print(*broken, f"0 passed, {len(broken)} failed", sep="\n")
         return 1
-    edits = chosen_edits(words)
+    edits, left = chosen_edits(words)
     with copy_with(edits) as copy:
         status, lines = run_in(copy, "rt", "ci")
     faults = hold(edits, refusals_in(lines))
     note_tried(edits, faults)
     tell(edits, faults)
+    if left:
+        print(f"wrong bodies that stay due: {sum(len(edits_in(it, 'wrong')) for it in left)} of {' '.join(left)}")
     counted = is_count(lines[-1]) if lines else None
     passed, failed = (int(it) for it in counted.groups()) if counted else (0, 1)
     # Those that were not refused at all `rt ci` counts itself, if it tried them.

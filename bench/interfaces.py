@@ -1,4 +1,5 @@
-"""What the wrong bodies of a crate rest on, as a checksum: the crate's own files, and what it sees of the libraries below it.
+"""What the wrong bodies of a crate rest on, as two checksums: of the crate's own files, and of what it sees of the libraries below it. Comments count
+in neither.
 
 Of a library it sees the public functions that its sources name: methods of types that it sees, others if it names the library. It sees the types,
 traits and constants that its sources, those functions and such types name, and the files of specs/ that all these and its contracts import, with
@@ -19,6 +20,7 @@ CLAUSE = re.compile(r"\s+(ensures|requires|decreases)\b")
 SILENT = re.compile(r"\s*(//|use |$)")
 IMPORT = re.compile(r"\bRattle\.(\w+)\.specs\.(\w+)")
 WORD = re.compile(r"\w+")
+COMMENT = re.compile(r"^\s*(//|--).*\n", re.M)
 DECLARES = re.compile(r"(pub (?:struct|enum|trait|type|const|static)|(?:unsafe )?impl)\b")
 
 # Of a source file: its library and those that it names; what stands outside of functions, with the methods of traits; the words by which that is
@@ -108,14 +110,14 @@ def definitions_in(library, name):
 
 
 def definitions_behind(imports):
-    """The texts of these files of specs/, and of those that they import in turn."""
+    """The texts of these files of specs/, and of those that they import in turn, without comments."""
     found, left = {}, list(imports)
     while left:
         one = left.pop()
         if one not in found:
             found[one], more = definitions_in(*one)
             left += more
-    return sorted(it for it in found.items() if it[1])
+    return sorted((name, COMMENT.sub("", text)) for name, text in found.items() if text)
 
 
 def seen_by(crate, words):
@@ -141,11 +143,16 @@ def seen_by(crate, words):
     return [[sources[n].items for n in sorted(seen)], [functions[n] for n in sorted(functions)]], imports
 
 
-def checksum(crate):
+def checksum_of(made_of):
+    return hashlib.sha256(repr(made_of).encode()).hexdigest()[:16]
+
+
+def checksums(crate):
+    """That of its own files, and that of what it sees."""
     folder = folder_of(crate)
     files = sorted(path for pattern in OWN for path in folder.glob(pattern))
-    made_of = [(str(path.relative_to(folder)), path.read_text()) for path in files]
-    words = {word for name, text in made_of if not name.startswith(("specs", "proofs")) for word in WORD.findall(text)}
+    own = [(str(path.relative_to(folder)), COMMENT.sub("", path.read_text())) for path in files]
+    words = {word for name, text in own if not name.startswith(("specs", "proofs")) for word in WORD.findall(text)}
     seen, imports = seen_by(crate, words)
-    imports += [it for name, text in made_of if name.startswith(("src", "specs")) for it in IMPORT.findall(text)]
-    return hashlib.sha256(repr((made_of, seen, definitions_behind(imports))).encode()).hexdigest()[:16]
+    imports += [it for name, text in own if name.startswith(("src", "specs")) for it in IMPORT.findall(text)]
+    return [checksum_of(own), checksum_of((seen, definitions_behind(imports)))]

@@ -13,7 +13,7 @@ import tempfile
 
 from crate_list import ROOT, folder_of, read_crates
 from edits import all_edits, edited, edits_in, function_at
-from interfaces import checksum
+from interfaces import checksums
 
 NOT_COPIED = shutil.ignore_patterns(".git", "out", "target", "__pycache__")
 
@@ -28,14 +28,20 @@ def tried_file(crate):
     return folder_of(crate) / "wrong" / "TRIED"
 
 
-def is_due(crate):
-    """Whether the crate, or what it sees of those below it, differs from what its wrong bodies were last tried on."""
-    file = tried_file(crate)
-    return not file.exists() or file.read_text().split()[:1] != [checksum(crate)]
+def due_crates():
+    """The crates that differ from what their wrong bodies were last tried on: first those that changed themselves, then those of which only what
+    they see of the libraries below has, each lowest first."""
+    found = ([], [])
+    for crate in (it for it in read_crates() if edits_in(it, "wrong")):
+        own, seen = checksums(crate)
+        tried = tried_file(crate).read_text().split() if tried_file(crate).exists() else ["", ""]
+        if tried[:2] != [own, seen]:
+            found[tried[0] == own].append(crate)
+    return found[0] + found[1]
 
 
 def due_edits():
-    return [edit for crate in read_crates() if is_due(crate) for edit in edits_in(crate, "wrong")]
+    return [edit for crate in due_crates() for edit in edits_in(crate, "wrong")]
 
 
 def drawn_edits(number):
@@ -125,7 +131,7 @@ def note_tried(edits, faults):
     for crate, names in refused.items():
         wanted = {it.name for it in edits_in(crate, "wrong")}
         if wanted and wanted <= names:
-            tried_file(crate).write_text(f"{checksum(crate)} {len(wanted)}\n")
+            tried_file(crate).write_text(f"{' '.join(checksums(crate))} {len(wanted)}\n")
 
 
 def tell(edits, faults):
