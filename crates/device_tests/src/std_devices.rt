@@ -1,5 +1,7 @@
 //! Readers and writers of std's as devices: a call of the device is one call of what is below, and a failure is told at once.
 
+ghost use Rattle.std.specs.Prelude.{◌≤◌, IfOk};
+
 use dbus_stream::{DeviceFault, FromRead, FromWrite, Sink, Source};
 use std::io::{self, Read, Write};
 
@@ -24,7 +26,9 @@ impl Counted {
     }
 
     // What the call of this number, over so many bytes, answers.
-    fn answer(&self, call: u64, size: usize) -> io::Result<usize> {
+    fn answer(&self, call: u64, size: usize) -> io::Result<usize>
+        ensures { IfOk result (λ n. n ≤ size) }
+    {
         if call == self.fails_at {
             return Err(io::Error::from(io::ErrorKind::Interrupted));
         }
