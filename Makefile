@@ -3,6 +3,7 @@
 # make quick-test  the tests, the programs that compare every case and the examples of doc comments, without proofs: some minutes
 #                  It also holds the manual page and the completions against the texts of help
 # make api         prints docs/API.md, the calls of the libraries, out of the sources; make quick-test checks that it is current
+# make graph       writes which crate stands on which into docs/ARCHITECTURE.md; make definitions-check, and quick-test, check it
 # make definitions writes the tables of docs/DEFINITIONS.md and docs/WORKED-EXAMPLES.md out of the definitions and their examples; make definitions-check, and quick-test,
 # check them
 # make doc-examples builds and runs the examples of doc comments, without proofs: a minute. make quick-test does it too
@@ -58,7 +59,7 @@ INSTALLED = $(BINDIR)/dbus-wire $(MANDIR)/man1/dbus-wire.1 $(addprefix $(DATADIR
 ARGS = check
 FILE = samples/session.dbus
 
-.PHONY: kit run quick-test build library test test-c test-python test-memory gate-times wrong-bodies api definitions definitions-check \
+.PHONY: kit run quick-test build library test test-c test-python test-memory gate-times wrong-bodies api graph definitions definitions-check \
 	doc-examples readme-test peers instructions bench bench-c install install-program install-c install-shared install-dev install-python install-notices uninstall deb tarball
 
 run: kit
@@ -109,11 +110,15 @@ api:
 doc-examples: kit
 	bench/doc_examples.py
 
+graph:
+	bench/graph.py
+
 definitions:
 	bench/definitions.py
 	bench/worked_examples.py
 
 definitions-check:
+	bench/graph.py --check
 	bench/definitions.py --check
 	bench/worked_examples.py --check
 

@@ -1,8 +1,8 @@
 #!/usr/bin/env python3
 """gate.py [--all]: the gate. Runs `rt ci` over a copy of the repository, and in it tries
 
-* the wrong bodies of must-fail/, those of the crates that are due, as far as they are 40 together, and at most five of a crate, which the commit's
-  hash draws;
+* the wrong bodies of must-fail/, those of the crates that are due, as far as they are 40 together, and at most five of a crate, which the
+  commit's hash draws;
 * with --all, all of them.
 
 A crate that is due and is not tried stays due, and is named: `bench/wrong_bodies.py --due` tries all of them. So what a landing costs has a bound.

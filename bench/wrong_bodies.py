@@ -2,8 +2,9 @@
 """wrong_bodies.py [--due | --all | --draw N] [NAME..]: prints or tries the wrong bodies that the prover has to refuse (bench/edits.py).
 
 Without an option it prints them, crate by crate, with what refuses each. With --due it tries those of each crate that has changed since they were
-tried, or of which what it sees of the crates below has; with --all all of them, and with --draw N at most so many of a crate, which the commit's hash draws. With
-names, only of these crates. They are tried in a copy, by `rt must-fail`. A crate's file wrong/TRIED then has on what all of them were refused.
+tried, or of which what it sees of the crates below has; with --all all of them, and with --draw N at most N of one crate, which the commit's hash
+draws. With names, only of these crates. They are tried in a copy, by `rt must-fail`. A crate's file wrong/TRIED then has on what all of them were
+refused.
 
 The exit status is 1 if the file of one lacks a line, names a call that is not there or cannot be applied, or if one that was tried was not refused
 at the goal that it names.

@@ -1,0 +1,58 @@
+#!/usr/bin/env python3
+"""graph.py [--check]: writes into docs/ARCHITECTURE.md which crate of the product stands on which, by the headings of crates.txt.
+
+A library that another one on the line stands on is left out: what is written says all the rest. With --check nothing is written, and the exit
+status is 1 if the page is not current.
+"""
+
+import re
+import sys
+
+from crate_list import ROOT, libraries_below, read_crates
+
+PAGE = ROOT / "docs" / "ARCHITECTURE.md"
+PICTURE = re.compile(r"(## Which crate stands on which\n(?:.*\n)*?```text\n)(?:.*\n)*?(```\n)")
+# What comes after this heading is no part of the product.
+TESTS = "Tests"
+WIDTH = 22
+
+
+def read_layers():
+    """The crates under each heading of crates.txt."""
+    layers = {}
+    for line in (ROOT / "crates.txt").read_text().splitlines():
+        if line.startswith("# ---- "):
+            heading = line.removeprefix("# ---- ")
+            layers[heading] = []
+        elif re.match(r"\w", line):
+            layers[heading].append(re.match(r"\w+", line)[0])
+    return {heading: crates for heading, crates in layers.items() if not heading.startswith(TESTS)}
+
+
+def direct(crate, uses):
+    """The libraries that the crate uses and that none of its others stands on."""
+    reached = {below for it in uses[crate] for below in libraries_below(it, uses)}
+    return [it for it in dict.fromkeys(uses[crate]) if it not in reached]
+
+
+def picture():
+    uses, lines = read_crates(), []
+    for heading, crates in read_layers().items():
+        lines += ["", heading]
+        lines += [f"  {crate:<{WIDTH}}{' '.join(it.removeprefix('dbus_') for it in direct(crate, uses))}".rstrip() for crate in crates]
+    return "\n".join(lines[1:]) + "\n"
+
+
+def main(*words):
+    old = PAGE.read_text()
+    new = PICTURE.sub(lambda it: it[1] + picture() + it[2], old)
+    if words != ("--check",):
+        PAGE.write_text(new)
+    elif new != old:
+        print("docs/ARCHITECTURE.md is not current: make graph writes which crate stands on which", file=sys.stderr)
+        return 1
+    return 0
+
+
+if __name__ == "__main__":
+    sys.exit(main(*sys.argv[1:]))
