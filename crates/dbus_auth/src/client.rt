@@ -162,6 +162,7 @@ impl<A: Allocator + Copy> Client<A> {
         Ok(act)
     }
 
+    /// Goes to a stage, with this number of mechanisms tried.
     pub(crate) fn go_to(&mut self, stage: ClientStage, tried: usize)
         ensures machine { client_machine self.new ≡
             record {
@@ -221,6 +222,7 @@ impl<A: Allocator + Copy> Client<A> {
         }
     }
 
+    /// What the client does on a line while it waits for DATA.
     fn on_data(&self, alloc: A, line: &ServerLine<A>) -> Result<ClientTurn<A>, AllocError>
         ensures { IfOk result (λ turn.
             shown_turn turn self.now.mechanisms.items ≡
@@ -246,6 +248,7 @@ impl<A: Allocator + Copy> Client<A> {
         }
     }
 
+    /// The same while it waits for OK.
     fn on_ok(&self, alloc: A, line: &ServerLine<A>) -> Result<ClientTurn<A>, AllocError>
         ensures { IfOk result (λ turn.
             shown_turn turn self.now.mechanisms.items ≡
@@ -267,6 +270,7 @@ impl<A: Allocator + Copy> Client<A> {
         }
     }
 
+    /// The same while it waits for REJECTED, after CANCEL.
     fn on_reject(&self, alloc: A, line: &ServerLine<A>) -> Result<ClientTurn<A>, AllocError>
         ensures { IfOk result (λ turn.
             shown_turn turn self.now.mechanisms.items ≡
@@ -338,6 +342,7 @@ fn is_trace_short<A: Allocator>(mechanism: &Mechanism<A>) -> bool
     }
 }
 
+/// Whether a trace of ANONYMOUS has at most 255 bytes.
 fn is_short_text(trace: &[u8]) -> bool
     ensures short { result ≡ nat_le (length trace.now) 255 }
     ensures bytes { IsBytes trace.now }
@@ -345,6 +350,7 @@ fn is_short_text(trace: &[u8]) -> bool
     trace.len() <= 255
 }
 
+/// Whether the traces of all mechanisms are so short.
 fn all_short<A: Allocator>(mechanisms: &[Mechanism<A>]) -> bool
     ensures short { result ≡ list_all is_short mechanisms.now }
     ensures fits { result ≡ true →

@@ -82,6 +82,7 @@ fn greeting_of<A: Allocator + Copy>(
     })
 }
 
+/// How far the handshake is after an act.
 fn status_of<A: Allocator>(act: &ClientAct<A>) -> Status
     ensures { result ≡ client_status (client_action act.now) }
 {
@@ -208,6 +209,7 @@ impl<A: Allocator + Copy> ClientEnd<A> {
         self.client.guid()
     }
 
+    /// The step that takes and sends nothing.
     fn nothing(&self) -> EndStep<A>
         ensures taken { result.taken ≡ 0 }
         ensures send { result.send.items ≡ [] }

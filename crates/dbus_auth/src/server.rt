@@ -129,12 +129,14 @@ impl Server {
         }
     }
 
+    /// Goes to a state.
     pub(crate) fn go_to(&mut self, state: ServerState)
         ensures { server_machine self.new ≡ record (server_machine self.old) { state = state } }
     {
         self.state = state;
     }
 
+    /// What the server does on a line while it waits for AUTH, and the state after it.
     fn on_auth<A: Allocator + Copy>(
         &self,
         alloc: A,
@@ -155,6 +157,7 @@ impl Server {
         }
     }
 
+    /// The same while it waits for DATA.
     fn on_data<A: Allocator + Copy>(
         &self,
         alloc: A,
@@ -181,6 +184,7 @@ impl Server {
         }
     }
 
+    /// The same while it waits for BEGIN.
     fn on_begin<A: Allocator + Copy>(
         &self,
         alloc: A,
@@ -201,6 +205,7 @@ impl Server {
         }
     }
 
+    /// The same on AUTH with a mechanism and a response, which is empty if the line has none.
     fn by_mechanism<A: Allocator + Copy>(
         &self,
         alloc: A,
@@ -224,6 +229,7 @@ impl Server {
         }
     }
 
+    /// Whether the mechanism is EXTERNAL, it is offered, and its response has still to come.
     fn wants_data(&self, mech: &[u8], response: &[u8]) -> bool
         ensures { result ≡
             (bytes_eq mech.now (codes "EXTERNAL") && offers_external self.now.user &&
@@ -232,6 +238,7 @@ impl Server {
         mech == b"EXTERNAL".as_slice() && self.user.is_some() && response.is_empty()
     }
 
+    /// Whether the mechanism is EXTERNAL, and the response names the user in decimal.
     fn knows_user<A: Allocator + Copy>(
         &self,
         alloc: A,
@@ -248,12 +255,14 @@ impl Server {
         }
     }
 
+    /// Whether the mechanism is ANONYMOUS, and it is offered.
     fn lets_in(&self, mech: &[u8]) -> bool
         ensures { result ≡ (bytes_eq mech.now (codes "ANONYMOUS") && self.now.anonymous) }
     {
         mech == b"ANONYMOUS".as_slice() && self.anonymous
     }
 
+    /// The client is let in: OK.
     fn accept<A: Allocator>(&self) -> (ServerAct<A>, ServerState)
         ensures { shown_step result.0 result.1 ≡ accepts (server_machine self.now) }
     {
@@ -263,6 +272,7 @@ impl Server {
         )
     }
 
+    /// The client is not let in: REJECTED, with the mechanisms that are offered.
     fn reject<A: Allocator + Copy>(
         &self,
         alloc: A,
@@ -277,6 +287,7 @@ impl Server {
     }
 }
 
+/// The line makes no sense in this state: ERROR, and the state stays.
 fn complaint<A: Allocator>(alloc: A, state: ServerState) -> (ServerAct<A>, ServerState)
     ensures { shown_step result.0 result.1 ≡ complains state }
 {

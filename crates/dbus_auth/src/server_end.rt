@@ -36,6 +36,7 @@ pub struct ServerReply<A: Allocator> {
     status: Status,
 }
 
+/// What a server does on the line that ends in this piece: the first `size` bytes of `kept` and the piece, with CR LF.
 fn reply_of<A: Allocator + Copy>(
     alloc: A,
     server: &Server,
@@ -141,6 +142,7 @@ impl<A: Allocator + Copy> ServerEnd<A> {
         }
     }
 
+    /// The step that takes and sends nothing.
     fn nothing(&self) -> EndStep<A>
         ensures taken { result.taken ≡ 0 }
         ensures send { result.send.items ≡ [] }

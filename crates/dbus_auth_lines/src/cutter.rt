@@ -40,6 +40,7 @@ impl From<AllocError> for LineFault {
     }
 }
 
+/// The fault of a line as callers see it.
 fn line_fault_of(fault: BadLine) -> LineFault
     ensures { result ≡ line_fault (fault_of fault) }
 {

@@ -169,6 +169,7 @@ pub enum ServerName {
     Unknown,
 }
 
+/// The command of a client that has this name.
 fn client_name_of(name: &[u8]) -> ClientName
     ensures { result ≡ client_name name.now }
 {
@@ -189,6 +190,7 @@ fn client_name_of(name: &[u8]) -> ClientName
     }
 }
 
+/// The command of a server that has this name.
 fn server_name_of(name: &[u8]) -> ServerName
     ensures { result ≡ server_name name.now }
 {
@@ -281,12 +283,14 @@ fn is_hex(text: &[u8]) -> bool
     text.len() % 2 == 0 && are_digits(text)
 }
 
+/// Whether all bytes are hexadecimal digits.
 fn are_digits(text: &[u8]) -> bool
     ensures { result ≡ list_all is_hex_digit text.now }
 {
     text.iter().all(|b| is_digit(*b))
 }
 
+/// Whether the byte is a hexadecimal digit, of either case.
 fn is_digit(b: u8) -> bool
     ensures { result ≡ is_hex_digit b }
 {

@@ -134,6 +134,7 @@ fn all_words<A: Allocator + Copy>(alloc: A, text: &[u8]) -> Result<Vec<Vec<u8, A
     Ok(found)
 }
 
+/// The line OK with a word of 32 bytes: a GUID, if these are hexadecimal digits.
 fn read_guid<A: Allocator>(word: &[u8]) -> ServerLine<A>
     requires { length word.now ≡ 32 }
     ensures { server_command result ≡ by_hex server.Accepted server.Other (decode_of word.now) }

@@ -179,6 +179,7 @@ fn within<A: Allocator>(text: Vec<u8, A>) -> Result<Vec<u8, A>, TextFault>
     Ok(text)
 }
 
+/// Whether bytes spell the client's line: its words and its text fit a line.
 fn is_client_line_spelled<A: Allocator>(line: &ClientLine<A>) -> bool
     ensures { result ≡ is_client_spelled (client_command line.now) }
 {
@@ -194,6 +195,7 @@ fn is_client_line_spelled<A: Allocator>(line: &ClientLine<A>) -> bool
     }
 }
 
+/// The same of a server's line.
 fn is_server_line_spelled<A: Allocator>(line: &ServerLine<A>) -> bool
     ensures { result ≡ is_server_spelled (server_command line.now) }
 {
@@ -224,6 +226,7 @@ fn is_word_text(bytes: &[u8]) -> bool
     !bytes.is_empty() && are_printed(bytes)
 }
 
+/// Whether all bytes are printable ASCII but the space.
 fn are_printed(bytes: &[u8]) -> bool
     ensures { result ≡ list_all is_printed bytes.now }
 {

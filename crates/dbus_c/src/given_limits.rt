@@ -56,12 +56,14 @@ pub(crate) fn given_limits(given: &WireLimits) -> Limits
     }
 }
 
+/// The number, or `most` if it is above that.
 fn at_most(number: u32, most: u32) -> u32
     ensures { result ≡ min number most }
 {
     if number < most { number } else { most }
 }
 
+/// The rule on UNIX_FD indexes that C names by this number.
 fn rule_numbered(number: u32) -> FdRule
     ensures { result ≡ rule_of number }
 {

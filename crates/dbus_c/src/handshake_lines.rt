@@ -99,6 +99,7 @@ fn server_told(length: usize, words: ServerWords) -> HandshakeLine
     }
 }
 
+// A line of a handshake as C is told it.
 fn line_told(length: usize, command: u32, mechanism: Place, text: Place) -> HandshakeLine
     ensures { result ≡ line_told length command mechanism text }
 {
