@@ -51,8 +51,8 @@ HEAD = """\
 comment, its error type with the cases of that, what is proved of it, and the crate that a program names in `crates.txt` to call it. The doc comment, in
 the file of the row, says the rest: what is promised, when each error comes, and what stands after it.
 
-What is proved are the clauses of the call's contract, each by its name, or by the definition that it states if it is the only one. A method of a trait
-has the trait's clauses, if it has none of its own. docs/DEFINITIONS.md says where definitions are, docs/PROVED.md what clauses do not say, and
+What is proved are the clauses of the call's contract, each by its name, or by the definition that it states if it is the only one; then, after "needs",
+what its caller has to know. A method of a trait has the trait's clauses, if it has none of its own. docs/DEFINITIONS.md says where definitions are, docs/PROVED.md what clauses do not say, and
 docs/LIBRARY.md how a program uses a library.
 """
 
@@ -125,18 +125,34 @@ def row(caller, name, item):
     return f"| `{signature}` | {first_sentence(item.doc)} | {told} | {proved_of(item)} | `{caller}` | `{item.crate}/src/{item.file}` |"
 
 
+def conclusion(clause):
+    """What a clause states, after its last arrow that stands in no brackets."""
+    depth, at = 0, 0
+    for n, letter in enumerate(clause):
+        depth += (letter in "([{") - (letter in ")]}")
+        if letter == "→" and not depth:
+            at = n + 1
+    return clause[at:].strip()
+
+
 def stated_in(clause):
     """The definition that a clause without a name states, if it is one: else what it says."""
-    left = re.sub(r"\(\w+( \w+)* : [^)]*\)|\b(Is|If|On)(True|Some|None|Ok|Err)\b|\b(Some|None|Ok|Err)\b|\.[A-Z]\w+", "", clause)
-    found = re.search(r"\b[A-Z]\w+", left)
-    return found[0] if found else " ".join(clause.split()).replace("|", "\\|")
+    said = conclusion(clause)
+    words = r"\(\w+( \w+)* : [^)]*\)|\b(Is|If|On)(True|Some|None|Ok|Err)\b|\bMatch(Option|Result)\b|\b(Some|None|Ok|Err)\b|\.[A-Z]\w+"
+    found = re.search(r"\b[A-Z]\w+", re.sub(words, "", said))
+    return found[0] if found else " ".join(said.split()).replace("|", "\\|")
 
 
 def proved_of(item):
     """The clauses of a call, by their names, or what an only clause states."""
     if not item.clauses:
         return "its trait's" if " for " in item.owner or item.owner.startswith("trait") else "that it returns"
-    return ", ".join(f"`{name or stated_in(text)}`" for name, text in item.clauses)
+    needed = f"; needs {listed_in(item.premises)}" if item.premises else ""
+    return listed_in(item.clauses) + needed
+
+
+def listed_in(clauses):
+    return ", ".join(f"`{name or stated_in(text)}`" for name, text in clauses)
 
 
 def laws():

@@ -7,11 +7,11 @@ import re
 from crate_list import folder_of, read_crates
 
 # `kind` is the word that declares it, `doc` the lines of its comment, `line` its line in the file, from 1. `owner` is the head of the impl or the trait
-# that it stands in. `clauses` are what a function ensures, each as its name, if it has one, and its text.
-Item = collections.namedtuple("Item", "kind name crate file line signature doc owner clauses")
+# that it stands in. `clauses` are what a function ensures, and `premises` what it requires, each as its name, if it has one, and its text.
+Item = collections.namedtuple("Item", "kind name crate file line signature doc owner clauses premises")
 
 DECLARES = re.compile(r"( *)(pub )?(?:const |unsafe |extern \"C\" )*(fn|struct|enum|trait|type|impl)\b")
-CLAUSE = re.compile(r"\n\s+(ghost|requires|ensures)\*?(?: (\w+):?)? \{")
+CLAUSE = re.compile(r"(?:\n\s*//.*)*\n\s+(ghost|requires|ensures)\*?(?: (\w+):?)? \{")
 HEAD_ENDS = re.compile(r"\n\s+(?:ghost|requires|ensures)\*?(?: \w+:?)? \{|[{;}]$", re.M)
 ENDS = re.compile(r"^\s*(ensures|requires|ghost|\{|//)|\{$|;$")
 NAME = re.compile(r"\w+")
@@ -32,17 +32,16 @@ def declaration(lines):
 
 
 def clauses(lines):
-    """What a function that begins on the first line ensures."""
-    text, found = "\n".join(lines), []
+    """What a function that begins on the first line ensures, and what it requires."""
+    text, found = "\n".join(lines), {"ensures": [], "requires": [], "ghost": []}
     at = HEAD_ENDS.search(text).start()
     while clause := CLAUSE.match(text, at):
         depth, at = 1, clause.end()
         while depth:
             depth += {"{": 1, "}": -1}.get(text[at], 0)
             at += 1
-        if clause[1] == "ensures":
-            found.append((clause[2] or "", text[clause.end() : at - 1].strip()))
-    return tuple(found)
+        found[clause[1]].append((clause[2] or "", text[clause.end() : at - 1].strip()))
+    return tuple(found["ensures"]), tuple(found["requires"])
 
 
 @functools.cache
@@ -63,8 +62,8 @@ def read_file(crate, file):
             # A method of a trait is as public as the trait.
             called = kind == "fn" and len(indent) == 4 and owner and (public or " for " in owner or owner.startswith("trait"))
             if called or (public and not indent):
-                said = clauses(lines[at:]) if kind == "fn" else ()
-                items.append(Item(kind, name, crate, file, at + 1, text, tuple(doc), owner if indent else "", said))
+                said = clauses(lines[at:]) if kind == "fn" else ((), ())
+                items.append(Item(kind, name, crate, file, at + 1, text, tuple(doc), owner if indent else "", *said))
         if not stripped.startswith(("///", "#[")):
             doc = []
     return items
