@@ -40,7 +40,7 @@ class Checker:
         """Takes the bytes that follow those that it has taken. Returns after how many of them the message ends, or None if it
         goes on after all of them.
 
-        Raises Refused if no message begins so, whatever follows; its place counts from the message's first byte. After a message's
+        Raises Refused if the bytes show a fault; its place counts from the message's first byte. After a message's
         end, which may be 0 bytes away, and after a fault it stays as it is until it is restarted.
         """
         data, taken = as_bytes(piece), _library.Taken()

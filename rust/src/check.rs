@@ -39,9 +39,9 @@ pub enum Answer {
         /// Its byte order.
         order: Order,
     },
-    /// A message may begin so: more bytes are needed.
+    /// No message yet, and no fault: more bytes are needed.
     Partial,
-    /// No message begins so, whatever follows.
+    /// The bytes show a fault, so no message begins so, whatever follows.
     Refused(Fault),
 }
 

@@ -143,9 +143,9 @@ impl Error for Fault {}
 /// Why bytes begin with no message.
 #[derive(Clone, Copy, Debug, PartialEq, Eq, Hash)]
 pub enum ParseError {
-    /// A message may begin so: more bytes are needed.
+    /// No message yet, and no fault: more bytes are needed.
     Partial,
-    /// No message begins so, whatever follows.
+    /// The bytes show a fault, so no message begins so, whatever follows.
     Refused(Fault),
 }
 

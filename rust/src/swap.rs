@@ -8,9 +8,9 @@ use crate::{sys, Fault, Limits, Order};
 /// Why [`byteswap`] wrote nothing.
 #[derive(Clone, Copy, Debug, PartialEq, Eq)]
 pub enum SwapError {
-    /// A message may begin so: more bytes are needed.
+    /// No message yet, and no fault: more bytes are needed.
     Partial,
-    /// No message begins so, whatever follows.
+    /// The bytes show a fault, so no message begins so, whatever follows.
     Refused(Fault),
     /// The message is longer than the room for it.
     NoRoom {

@@ -40,7 +40,7 @@ pub fn handshake_law()
 
 /// Whoever its peer is and whatever it sends, a server's end that has begun sent OK as its last line other than
 /// ERROR. And the lines that it sends and its last status do not depend on how the bytes are cut, if what a
-/// call leaves is handed in again.
+/// call leaves is handed in again; some way to cut them comes to an end.
 pub fn any_peer_law()
     ensures last_ok { (s : ServerMachine) (bytes ns : List ℕ) →
         (run_server (server_at_first s) bytes ns).after.status ≡ status.Begun →

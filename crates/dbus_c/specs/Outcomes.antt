@@ -14,11 +14,11 @@ use Rattle.dbus_c.specs.declared.answers.TheConstants.{WHOLE, PARTIAL, REFUSED}
 abbrev pub BeginsWithMessage : Limits → List ℕ → Type 0
 BeginsWithMessage limits b = (order : Order) × (m : MessageTree) × (n : ℕ) × IsWhole limits b order m n
 
--- no message begins so
+-- the bytes show a fault
 abbrev pub AreRefused : Limits → List ℕ → Type 0
 AreRefused limits b = (f : Fault) × IsRefused limits b f
 
--- the answer says that more bytes are needed exactly if they are, and that no message begins so exactly if none does
+-- the answer says that more bytes are needed exactly if they are, and that the bytes are refused exactly if they show a fault
 pub record TellsApart (limits : Limits) (b : List ℕ) (answer : ℕ) : Type 0 where
   pub partial : IsPartial limits b ↔ (answer ≡ PARTIAL)
   pub refused : AreRefused limits b ↔ (answer ≡ REFUSED)

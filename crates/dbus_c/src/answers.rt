@@ -7,7 +7,7 @@ pub const WHOLE: u32 = 0;
 /// More bytes are needed.
 pub const PARTIAL: u32 = 1;
 
-/// The bytes are at fault.
+/// The bytes are at fault, or what is asked for cannot be made of what is given.
 pub const REFUSED: u32 = 2;
 
 /// Memory ran out.
@@ -19,7 +19,7 @@ pub const NO_ROOM: u32 = 4;
 /// What is asked for is not there.
 pub const NO_VALUE: u32 = 5;
 
-/// No kind of text has the number that is asked for.
+/// No kind of text has the number that is asked for, no number the width, or no type the alignment.
 pub const NO_KIND: u32 = 6;
 
 /// There is no checker: none was made, or it was freed.

@@ -82,8 +82,8 @@ pub(crate) fn fault_told(fault: Fault) -> Checked
     }
 }
 
-/// Whether the bytes begin with a message within the limits: [`WHOLE`] with its length and byte order, [`PARTIAL`] if a
-/// message may begin so and more bytes are needed, [`REFUSED`] with the fault. Bytes after the message are not looked at.
+/// Whether the bytes begin with a message within the limits: [`WHOLE`] with its length and byte order, [`REFUSED`] with
+/// the fault that they show, [`PARTIAL`] if they do neither, so that more bytes are needed. Bytes after the message are not looked at.
 ///
 /// It allocates nothing, and takes some 43,000 bytes of the stack. D-Bus Specification, "Message Protocol".
 #[unsafe(no_mangle)]

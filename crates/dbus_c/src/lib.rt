@@ -9,9 +9,9 @@
 //! [`dbus_wire_server_new`] and [`dbus_wire_client_new`] make an end of a handshake;
 //! [`dbus_wire_client_line`] and [`dbus_wire_server_line`] give the lines of one between others,
 //! and [`dbus_wire_build`] builds a message of its parts, whose body [`dbus_wire_put_number`] and
-//! its like spell. Of the other calls those on rules and [`dbus_wire_handshake_take`] take memory
-//! too.
-//! `include/dbus_wire.h` declares them and says what a caller owes; `examples/c` has callers.
+//! its like spell.
+//!
+//! `include/dbus_wire.h` declares them, and says which allocate and what a caller owes; `examples/c` has callers.
 #![tactic(auto)]
 
 mod answers;

@@ -32,8 +32,9 @@ pub struct RuleRefused {
 
 /// Adds the match rule that the text spells to the rules, and writes to `id` what stands for it, which stands for none before:
 /// [`WHOLE`]. Else what is kept stays: [`REFUSED`] with the text's one fault, as [`dbus_match::parse_rule`] finds it, or that it
-/// is not UTF-8, which comes first; [`NO_MEMORY`] if memory runs out. `id` changes in the first case alone, and `out` in the second.
-/// To rules that are shared it adds none, whatever the text is: [`SHARED`], and nothing changes. D-Bus Specification, "Match Rules".
+/// is not UTF-8, which comes first; [`NO_MEMORY`] if memory runs out, or 2^64 - 1 rules were added. `id` changes in
+/// the first case alone, and `out` in the second. To rules that are shared it adds none, whatever the text is: [`SHARED`], and
+/// nothing changes. D-Bus Specification, "Match Rules".
 #[unsafe(no_mangle)]
 pub extern "C" fn dbus_wire_rules_add(
     alloc: Global,

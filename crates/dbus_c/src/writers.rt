@@ -69,7 +69,8 @@ fn width_named(number: u32) -> Option<u8>
 /// number or a DOUBLE as those of an unsigned one, and 0 or 1 stand for a BOOLEAN; what has no place in the width is left out.
 ///
 /// [`WHOLE`] if it is put. [`NO_ROOM`] if `out` has fewer bytes than what would be spelled, and [`NO_KIND`] if no number has this
-/// width; in these two cases all stays. It allocates nothing. D-Bus Specification, "Marshaling (Wire Format)".
+/// width; in these two cases all stays. The bytes of `out` after what is put may change.
+/// It allocates nothing. D-Bus Specification, "Marshaling (Wire Format)".
 #[unsafe(no_mangle)]
 pub extern "C" fn dbus_wire_put_number(
     out: &mut [u8],
@@ -96,7 +97,8 @@ pub extern "C" fn dbus_wire_put_number(
 /// Whether the text is one is not looked at.
 ///
 /// [`WHOLE`] if it is put. [`NO_ROOM`] if `out` has fewer bytes than what would be spelled, and [`REFUSED`] if the text has
-/// 4,294,967,296 bytes or more; in these two cases all stays. It allocates nothing. D-Bus Specification, "Marshaling (Wire Format)".
+/// 4,294,967,296 bytes or more; in these two cases all stays. The bytes of `out` after what is put may change.
+/// It allocates nothing. D-Bus Specification, "Marshaling (Wire Format)".
 #[unsafe(no_mangle)]
 pub extern "C" fn dbus_wire_put_text(out: &mut [u8], writer: &mut Writer, text: &[u8]) -> u32
     ensures put { length text.now < 2 ^ 32 →
@@ -117,7 +119,8 @@ pub extern "C" fn dbus_wire_put_text(out: &mut [u8], writer: &mut Writer, text: 
 /// and a zero byte. Whether the text is a signature is not looked at.
 ///
 /// [`WHOLE`] if it is put. [`NO_ROOM`] if `out` has fewer bytes than what would be spelled, and [`REFUSED`] if the text has more than
-/// 255 bytes; in these two cases all stays. It allocates nothing. D-Bus Specification, "Marshaling (Wire Format)".
+/// 255 bytes; in these two cases all stays. The bytes of `out` after what is put may change.
+/// It allocates nothing. D-Bus Specification, "Marshaling (Wire Format)".
 #[unsafe(no_mangle)]
 pub extern "C" fn dbus_wire_put_signature(out: &mut [u8], writer: &mut Writer, text: &[u8]) -> u32
     ensures put { length text.now < 256 → (order : Order) →
@@ -135,8 +138,8 @@ pub extern "C" fn dbus_wire_put_signature(out: &mut [u8], writer: &mut Writer, t
 
 /// Puts the padding before a struct or a dict entry after what is spelled. The fields come next.
 ///
-/// [`WHOLE`] if it is put. [`NO_ROOM`] if `out` has fewer bytes than what would be spelled; then all stays. It allocates nothing.
-/// D-Bus Specification, "Marshaling (Wire Format)".
+/// [`WHOLE`] if it is put. [`NO_ROOM`] if `out` has fewer bytes than what would be spelled; then all stays. The bytes of
+/// `out` after what is put may change. It allocates nothing. D-Bus Specification, "Marshaling (Wire Format)".
 #[unsafe(no_mangle)]
 pub extern "C" fn dbus_wire_begin_struct(out: &mut [u8], writer: &mut Writer) -> u32
     ensures { Appends (with_padding 8) writer.old out.old result writer.new out.new }
@@ -149,7 +152,8 @@ pub extern "C" fn dbus_wire_begin_struct(out: &mut [u8], writer: &mut Writer) ->
 /// and the padding before an element of this alignment, 1, 2, 4 or 8, also if there is none.
 ///
 /// [`WHOLE`] if it is put. [`NO_ROOM`] if `out` has fewer bytes than what would be spelled, and [`NO_KIND`] if no type has this
-/// alignment; in these two cases all stays. It allocates nothing. D-Bus Specification, "Marshaling (Wire Format)".
+/// alignment; in these two cases all stays. The bytes of `out` after what is put may change.
+/// It allocates nothing. D-Bus Specification, "Marshaling (Wire Format)".
 #[unsafe(no_mangle)]
 pub extern "C" fn dbus_wire_open_array(
     out: &mut [u8],

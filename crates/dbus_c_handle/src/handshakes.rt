@@ -13,7 +13,8 @@ impl WireHandle {
     ghost use Rattle.dbus_c_handle.specs.Handshakes.{Goes, TellsGuid, handshake_of, kept_as};
 
     /// Keeps the end of a new server, of the GUID that the text spells, which offers these mechanisms. Whether the text spells one;
-    /// if not, the handle keeps nothing. An error if memory runs out: then it keeps nothing either. What it kept before is not freed.
+    /// if not, the handle keeps nothing. An error if memory runs out: then it keeps nothing either. What it kept before is not freed,
+    /// since C may hand in a handle that was never set.
     pub fn make_server(
         &mut self,
         alloc: Global,

@@ -23,8 +23,8 @@ impl WireHandle {
     ghost use Rattle.dbus_c_handle.specs.Rules.{Adds, IsWritten, KeepsAll, given_of, is_shared, rules_of};
 
     /// Keeps the rule that the text spells, as [`parse_rule`] reads it, beside the rules that it keeps, and returns what stands for the
-    /// rule. Its fault if there is one, or that memory runs out: then it keeps all that it kept. Else a handle that keeps something
-    /// else frees that. The rules must not be shared: [`WireHandle::are_shared`] says whether they are.
+    /// rule. Its fault if there is one, or `Memory` if memory runs out or 2^64 - 1 rules were added: then it keeps all that it
+    /// kept. Else a handle that keeps something else frees that. The rules must not be shared: [`WireHandle::are_shared`] says whether they are.
     pub fn add_rule(&mut self, alloc: Global, text: &str) -> Result<RuleHandle, RuleFault>
         requires { is_shared self.old.state ≡ false }
         ensures added { MatchResult result (Adds text.now self.old.state self.new.state)

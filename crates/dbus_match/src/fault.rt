@@ -29,7 +29,7 @@ pub enum RuleReason {
     Nul,
     /// A pair without `=`: at the comma, or the text's end, that comes before one.
     NoEquals,
-    /// What comes before `=` is no key: at its first byte that is no space.
+    /// What comes before `=` is no key: at its first byte that is no space, or at the `=` if there is none.
     KeyName,
     /// The key is in an earlier pair: at its first byte.
     KeyTwice,

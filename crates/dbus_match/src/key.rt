@@ -5,6 +5,9 @@ use crate::value_kinds::{
     is_bool_name, is_bus_name, is_interface, is_member, is_path, is_type_name,
 };
 
+/// The number of the arguments that keys name: `arg0` to `arg63`.
+const ARGUMENTS: u16 = 64;
+
 /// A key of a match rule, in canonical order. D-Bus Specification, "Match Rules".
 #[derive(Clone, Copy, PartialEq, Eq, Debug)]
 pub(crate) enum Key {
@@ -56,9 +59,9 @@ impl Key {
             Key::PathNamespace => 5,
             Key::Destination => 6,
             Key::Arg(n) => 7 + u16::from(n),
-            Key::ArgPath(n) => 71 + u16::from(n),
-            Key::Arg0Namespace => 135,
-            Key::Eavesdrop => 136,
+            Key::ArgPath(n) => 7 + ARGUMENTS + u16::from(n),
+            Key::Arg0Namespace => 7 + 2 * ARGUMENTS,
+            Key::Eavesdrop => 8 + 2 * ARGUMENTS,
         }
     }
 

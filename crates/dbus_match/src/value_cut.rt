@@ -28,6 +28,7 @@ pub(crate) enum Cut<A: Allocator> {
     Open(usize),
 }
 
+/// Whether the byte at the place is an apostrophe.
 fn is_quote_at(text: &[u8], place: usize) -> bool
     ensures { result ≡ quote_first (drop place text.now) }
 {

@@ -15,9 +15,9 @@ pub trait Taker: Drop {
 
     /// Takes the bytes of the piece up to the end of the message under way, and writes into `given` what it makes of that
     /// message; or the whole piece, if its end is not there yet, and then writes None there. It returns the number of bytes of the
-    /// piece were taken.
+    /// piece that were taken.
     ///
-    /// `Format`: the bytes that it holds and the piece are no message within its limits. `Memory`: an allocation failed.
+    /// `Format`: the bytes that it holds and the piece begin with no message within its limits. `Memory`: an allocation failed.
     /// Then nothing was taken. `held` is the number of bytes that it holds of the message under way.
     fn take_piece(
         &mut self,

@@ -44,8 +44,8 @@ const OWNER_NOTE: &str =
 /// above. All goes out before the status is given, and no more than 16,384 bytes are gathered. No byte after the handshake is looked at.
 ///
 /// `Done`, `Refused`, `Failed`: as [`run_within`] says. `Done` also where help was written, and `Refused` where a handshake was refused.
-/// `Usage`: the words name no command, and that was reported. `Failed` also if such a text was not written, of help with
-/// `write failed` on the second writer; and if an allocation failed, with `out of memory` there.
+/// `Usage`: the words name no command, or a rule is refused, and that was reported. `Failed` also if such a text was not written,
+/// of help with `write failed` on the second writer; and if an allocation failed, with `out of memory` there.
 pub fn run_words<R: Source, W: Sink, E: Sink>(
     alloc: Global,
     words: &[String],

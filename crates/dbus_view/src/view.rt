@@ -77,7 +77,7 @@ impl<'a> MessageView<'a> {
     /// A view of the message that the bytes are, all of them, if it keeps the limits. D-Bus Specification, "Message Format".
     ///
     /// Else why they are not one: the fault of the message that begins so, as decoding finds it; `Truncated` at the end of the bytes,
-    /// if a message may begin so and more bytes are wanted; `Trailing` at the end of the message that they begin with, if
+    /// if these show no fault and are no whole message; `Trailing` at the end of the message that they begin with, if
     /// others follow it.
     pub fn of_within(bytes: &'a [u8], limits: Limits) -> Result<MessageView<'a>, Fault>
         ensures viewed { IfOk result (λ v. IsViewOf limits bytes.now v) }
