@@ -1,4 +1,5 @@
 -- Texts of lines that follow one another.
+-- The proof of the law that a `LineVisitor` owes, of the one that shows lines.
 use Rattle.std.proofs.Common.{ℕ, List, ◌++◌, subst, sym}
 use Rattle.std.specs.List.{flat_map}
 use Rattle.std.proofs.lemmas.List.Concat.{flat_map-append}

@@ -1,5 +1,6 @@
 -- Values that are byteswapped one after another, and the parts of a container.
 -- D-Bus Specification, "Marshaling (Wire Format)".
+-- The proofs of the laws that a `Visitor` owes, of the one that byteswaps.
 use Rattle.std.proofs.Common.{◌≡◌, ℕ, ◌+◌, ◌≤◌, List, [], ◌∷◌, ◌++◌, length, take, drop, refl, sym, ap, subst, ◌∙◌, arith, append_assoc}
 use Rattle.std.proofs.lemmas.List.{length-append, length-take, take-append-drop}
 use Rattle.dbus_value_model.specs.declared.order.Order.{Order}

@@ -1,5 +1,6 @@
 -- What is gathered of values one after another, and of a container by its parts.
 -- D-Bus Specification, "Type System".
+-- The proofs of the laws that a `Visitor` owes, of the one that builds values.
 use Rattle.std.proofs.Common.{◌≡◌, ℕ, zero, suc, List, [], ◌∷◌, ◌++◌, sym, ap, subst, ◌∙◌, append-nil, append_assoc}
 use Rattle.dbus_value_model.specs.Values.{ValueTree, NumberValue, TextValue, VariantValue, ArrayValue, StructValue, EntryValue, IsWellFormed, AreWellFormed, value_trees}
 use Rattle.dbus_walk.specs.Containers.{parts}
