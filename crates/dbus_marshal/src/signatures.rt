@@ -29,6 +29,7 @@ pub fn type_length<A: Allocator>(ty: &SigType<A>) -> usize
     }
 }
 
+/// The number of bytes of the types' signature.
 #[cycle(type_length)]
 #[tactic(auto, using(dbus_value_model::proofs::TypeRows::type_lengths))]
 fn types_length<A: Allocator>(types: &[SigType<A>]) -> usize
@@ -58,6 +59,7 @@ pub fn signature_length<A: Allocator>(value: &Value<A>) -> usize
     }
 }
 
+/// The number of bytes of the signature of the values.
 #[cycle(signature_length)]
 #[tactic(auto, using(dbus_value_model::proofs::TypeRows::value_lengths))]
 fn signatures_length<A: Allocator>(values: &[Value<A>]) -> usize
@@ -99,6 +101,7 @@ pub fn write_type<A: Allocator>(out: &mut [u8], at: usize, ty: &SigType<A>) -> u
     }
 }
 
+/// Writes the types' signature at `at`, and returns the offset after it.
 #[cycle(write_type)]
 #[tactic(auto, using(dbus_value_model::proofs::TypeRows::type_lengths))]
 fn write_types<A: Allocator>(out: &mut [u8], at: usize, types: &[SigType<A>]) -> usize
@@ -145,6 +148,7 @@ pub fn write_type_of<A: Allocator>(out: &mut [u8], at: usize, value: &Value<A>) 
     }
 }
 
+/// Writes the signature of the values at `at`, and returns the offset after it.
 #[cycle(write_type_of)]
 #[tactic(auto, using(dbus_value_model::proofs::TypeRows::value_lengths))]
 fn write_types_of<A: Allocator>(out: &mut [u8], at: usize, values: &[Value<A>]) -> usize

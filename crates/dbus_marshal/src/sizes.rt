@@ -163,6 +163,7 @@ fn narrowed(limits: Limits, bound: Option<u64>, offset: u64) -> Option<u64>
     }
 }
 
+/// The offset after the value that begins at `offset`, or the first limit that it is over.
 #[cycle(size)]
 fn size_value<A: Allocator>(
     value: &Value<A>,
@@ -210,6 +211,7 @@ fn size_value<A: Allocator>(
     }
 }
 
+/// The offset after the values that begin at `offset`, or the first limit that one is over.
 #[cycle(size)]
 fn size_values<A: Allocator>(
     values: &[Value<A>],

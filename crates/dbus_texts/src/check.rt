@@ -21,7 +21,7 @@ pub enum NameFault {
     /// It has more than 255 bytes. This comes before `Bad`.
     #[error("the name has more than 255 bytes")]
     TooLong,
-    /// It breaks at `at`, which is the length of its longest prefix with which some such name begins.
+    /// It breaks at `at`, which is the length of its longest prefix with which some such name begins, limits on length lifted.
     #[error("no such name: it breaks at offset {at}")]
     Bad { at: usize },
 }
@@ -35,7 +35,7 @@ pub enum SigFault {
     /// It has more than 255 bytes. This comes before `Bad`.
     #[error("the signature has more than 255 bytes")]
     TooLong,
-    /// It breaks at `at`, which is the length of its longest prefix with which some signature begins.
+    /// It breaks at `at`, which is the length of its longest prefix with which some signature begins, limits on length lifted.
     #[error("no signature: it breaks at offset {at}")]
     Bad { at: usize },
 }
@@ -124,6 +124,7 @@ pub fn text_break(kind: TextKind, text: &[u8]) -> Option<usize>
     }
 }
 
+/// Whether the text is a name of the kind, or why not.
 fn check_name(kind: TextKind, text: &[u8]) -> Result<(), NameFault>
     ensures { IsVerdict kind text.now result }
 {
@@ -136,6 +137,7 @@ fn check_name(kind: TextKind, text: &[u8]) -> Result<(), NameFault>
     }
 }
 
+/// Whether the text spells types of the kind, or why not.
 fn check_types(kind: TextKind, text: &[u8]) -> Result<(), SigFault>
     ensures { IsSigVerdict kind text.now result }
 {

@@ -39,6 +39,7 @@ pub fn is_byte<A: Allocator>(ty: &SigType<A>) -> bool
     matches!(ty, SigType::Byte)
 }
 
+/// Whether it is a basic type: none of the four containers.
 fn is_basic_type<A: Allocator>(ty: &SigType<A>) -> bool
     ensures { IsTrue result ↔ IsBasic (type_tree ty.now) }
 {
@@ -86,6 +87,7 @@ pub fn text_left<A: Allocator>(
     }
 }
 
+/// The same of several types, one after another.
 #[cycle(text_left)]
 fn texts_left<A: Allocator>(
     types: &[SigType<A>],

@@ -12,6 +12,7 @@ use crate::type_codes::type_code;
 use dbus_texts::{SigFault, check_signature};
 use std::alloc::{AllocError, Allocator};
 
+/// Appends a code, which is ASCII.
 fn push_code<A: Allocator + Copy>(out: &mut String<A>, code: u8) -> Result<(), AllocError>
     requires { code < 128 }
     ensures written { OnOk result (string_bytes out.new ≡ string_bytes out.old ++ code ∷ []) }

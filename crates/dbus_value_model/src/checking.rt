@@ -131,6 +131,7 @@ fn check_parts<A: Allocator>(value: &Value<A>, depth_left: u8) -> Verdict
     }
 }
 
+/// The earliest of what is found of the values.
 #[cycle(check)]
 fn check_all<A: Allocator>(values: &[Value<A>], depth_left: u8) -> Verdict
     ensures { ArePartsVerdict depth_left values.now result }

@@ -49,6 +49,7 @@ pub fn copy<A: Allocator + Copy>(alloc: A, value: &Value<A>) -> Result<Value<A>,
     }
 }
 
+/// A copy of each.
 #[cycle(copy)]
 fn copy_all<A: Allocator + Copy>(
     alloc: A,

@@ -16,7 +16,7 @@ pub enum Reason {
     ZeroSerial,
     /// An array's length is over the limit on arrays: 67,108,864 bytes, or fewer if such a limit is handed in.
     ArrayTooLong,
-    /// The header, its padding and the body have more than 134,217,728 bytes.
+    /// The header, its padding and the body have more than 134,217,728 bytes, or fewer if such a limit is handed in.
     MessageTooLong,
     /// A padding byte is not 0.
     Padding,

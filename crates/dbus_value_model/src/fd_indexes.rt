@@ -43,6 +43,7 @@ fn is_below<A: Allocator>(value: &Value<A>, limit: u32) -> bool
     }
 }
 
+/// Whether all indexes of descriptors in the values are below the limit.
 #[cycle(below)]
 fn are_below<A: Allocator>(values: &[Value<A>], limit: u32) -> bool
     ensures { IsTrue result ↔ AreAllBelow (Some limit) (value_trees_of values.now) }

@@ -38,6 +38,7 @@ fn same_type<A: Allocator>(ty: &SigType<A>, other: &SigType<A>) -> bool
     }
 }
 
+/// Whether they are the same types in the same order.
 #[cycle(same_type)]
 fn same_types<A: Allocator>(types: &[SigType<A>], others: &[SigType<A>]) -> bool
     ensures { IsTrue result ↔ (type_trees_of types.now ≡ type_trees_of others.now) }
@@ -82,6 +83,7 @@ pub fn has_type<A: Allocator>(value: &Value<A>, ty: &SigType<A>) -> bool
     }
 }
 
+/// Whether these are the values' types, in the same order.
 #[cycle(has_type)]
 fn have_types<A: Allocator>(values: &[Value<A>], types: &[SigType<A>]) -> bool
     ensures { IsTrue result ↔ (types_of (value_trees_of values.now) ≡ type_trees_of types.now) }

@@ -45,6 +45,7 @@ fn type_left<A: Allocator>(value: &Value<A>, structs: u8, left: u8) -> Option<u8
     }
 }
 
+/// The same of the types of several values.
 #[cycle(type_left)]
 fn types_left<A: Allocator>(values: &[Value<A>], structs: u8, mut left: u8) -> Option<u8>
     ensures { LeavesOfTypes (types_of (value_trees_of values.now)) 0 structs left result }

@@ -65,6 +65,7 @@ pub fn type_of<A: Allocator + Copy>(alloc: A, value: &Value<A>) -> Result<SigTyp
     }
 }
 
+/// The type of each.
 #[cycle(type_of)]
 fn types_of<A: Allocator + Copy>(
     alloc: A,
