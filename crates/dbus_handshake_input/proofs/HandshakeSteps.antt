@@ -128,14 +128,13 @@ module _ {R : Type 0} (left : R → Option (List ℕ)) (calls : R → ℕ) (side
       has_not (by_line e ok) f = absurd (cc)
       has_not (as_before e not) f = not_in side lines line (h.without_ok (sym e ∙ f)) not
 
-  -- a line came after these
-  no_messages : {idle : ℕ} (old mid new : ReadAhead R) (lines : List (List ℕ)) (count start : ℕ) (is_accepted : Bool) (bytes : List ℕ) (AtEnd : Type 0)
+  -- no messages follow these, whatever is read after the bytes that are kept
+  no_messages : (old mid : ReadAhead R) (lines : List (List ℕ)) (count start : ℕ) (is_accepted : Bool) (later : List ℕ) (AtEnd : Type 0)
       (h : HasLines left calls side old mid lines count start is_accepted)
-      → SeesMessages left is_accepted mid (Ok false) → Took left calls idle mid new bytes → HasOk side lines → MessagesFollow (bytes ++ kept_of new) AtEnd → ⊥
-  no_messages old mid new lines count start is_accepted bytes AtEnd h (inl e) t ok follow = h.without_ok e ok
-  no_messages old mid new lines count start is_accepted bytes AtEnd h (inr next) t ok follow =
-      let shown : bytes ++ kept_of new ≡ next.next ∷ (next.more ++ t.read) = sym t.joined ∙ ap (λ l. l ++ t.read) next.kept_is in
-      neither (subst (λ (l : List ℕ). MessagesFollow l AtEnd) shown follow)
+      → SeesMessages left is_accepted mid (Ok false) → HasOk side lines → MessagesFollow (kept_of mid ++ later) AtEnd → ⊥
+  no_messages old mid lines count start is_accepted later AtEnd h (inl e) ok follow = h.without_ok e ok
+  no_messages old mid lines count start is_accepted later AtEnd h (inr next) ok follow =
+      neither (subst (λ (l : List ℕ). MessagesFollow l AtEnd) (ap (λ l. l ++ later) next.kept_is) follow)
     where
       neither : (next.next ≡ 108) ⊎ (next.next ≡ 66) → ⊥
       neither (inl e) = next.not_little e
@@ -194,7 +193,7 @@ module _ {R V : Type 0} (left : R → Option (List ℕ)) (calls : R → ℕ) (he
     reads_begun old mid new u v w count start is_accepted line size h few t is_line last one lines_are bytes_are = (
       h.lines ++ line ∷ [],
       took_at_last left calls old new (sent side (h.lines ++ line ∷ [])) (took_line left calls side old mid new h.lines count start is_accepted line h.taken t),
-      begun h.lines line h.taken.each (let n = h.taken.count_is in omega (arith, n, few)) is_line last refl,
+      begun h.lines line h.taken.each is_line last refl (let n = h.taken.count_is in let all = length-append h.lines (line ∷ []) in omega (arith, n, few, all)),
       one_more h.lines line u v w start h.taken.start_is h.heard_are one,
       (
         lines_are ∙ sym (length-append h.lines (line ∷ []) ∙ ap (λ n. n + 1) h.taken.count_is),
@@ -203,12 +202,12 @@ module _ {R V : Type 0} (left : R → Option (List ℕ)) (calls : R → ℕ) (he
     )
 
   pub reads_accepted : (old mid new : ReadAhead R) (v w : V) (count start : ℕ) (is_accepted : Bool) (size : HandshakeSize)
-      → HeardLines left calls hears side old mid v w count start is_accepted → count < 1024 → Took left calls 1 mid new [] → SeesMessages left is_accepted new (Ok true)
+      → HeardLines left calls hears side old mid v w count start is_accepted → count ≤ 1024 → Took left calls 1 mid new [] → SeesMessages left is_accepted new (Ok true)
       → size.lines ≡ count → size.bytes ≡ start → Reads hears side left calls old new v w (Ok size)
   reads_accepted old mid new v w count start is_accepted size h few t sees lines_are bytes_are = (
     h.lines,
     took_same left calls old mid new (sent side h.lines) h.taken.took t,
-    accepted h.taken.each (let n = h.taken.count_is in omega (arith, n, few)) (h.taken.with_ok sees.0) sees.1,
+    accepted h.taken.each (h.taken.with_ok sees.0) sees.1 (let n = h.taken.count_is in omega (arith, n, few)),
     h.heard_are,
     (lines_are ∙ sym h.taken.count_is, bytes_are ∙ h.taken.start_is),
   )
@@ -222,7 +221,8 @@ module _ {R V : Type 0} (left : R → Option (List ℕ)) (calls : R → ℕ) (he
     (
       h.lines,
       no_line (bytes ++ kept_of new) at h.taken.each (let n = h.taken.count_is in omega (arith, n, few))
-          (no_messages left calls side old mid new h.lines count start is_accepted bytes (IsAtEnd (left (source_of new))) h.taken sees t)
+          (λ ok follow. no_messages left calls side old mid h.lines count start is_accepted t.read (IsAtEnd (left (source_of new))) h.taken sees ok
+          (subst (λ (l : List ℕ). MessagesFollow l (IsAtEnd (left (source_of new)))) (sym t.joined) follow))
           (append_assoc (sent side h.lines) bytes (kept_of new)) none (is ∙ ap (λ n. n + at) h.taken.start_is),
       h.heard_are,
     ),
@@ -251,11 +251,18 @@ module _ {R V : Type 0} (left : R → Option (List ℕ)) (calls : R → ℕ) (he
       refuses_line old mid new v w count start is_accepted (ended line) 0 start reason.NoCommand h few sees (took_at_last left calls mid new (ended line) t) (line, kept_of new, refl, is_line, none, refl) (omega arith)
 
   pub refuses_many : (old new : ReadAhead R) (v w : V) (start : ℕ) (is_accepted : Bool) → HeardLines left calls hears side old new v w 1024 start is_accepted
-      → Reads hears side left calls old new v w (Err (Refused start reason.TooManyLines))
-  refuses_many old new v w start is_accepted h = (
+      → SeesMessages left is_accepted new (Ok false) → Reads hears side left calls old new v w (Err (Refused start reason.TooManyLines))
+  refuses_many old new v w start is_accepted h sees = (
     sent side h.lines,
     took_at_last left calls old new (sent side h.lines) h.taken.took,
-    (h.lines, too_many (kept_of new) h.taken.each h.taken.count_is refl h.taken.start_is refl, h.heard_are),
+    (
+      h.lines,
+      too_many (kept_of new) h.taken.each h.taken.count_is
+          (λ ok follow. no_messages left calls side old new h.lines 1024 start is_accepted [] (IsAtEnd (left (source_of new))) h.taken sees ok
+          (subst (λ (l : List ℕ). MessagesFollow l (IsAtEnd (left (source_of new)))) (sym (append-nil (kept_of new))) follow))
+          refl h.taken.start_is refl,
+      h.heard_are,
+    ),
   )
 
   pub greets_no : (nothing : (a : V) → hears a [] a) (old new : ReadAhead R) (v : V) (fault : HandshakeFault) → Greets left calls side old new (Err fault)

@@ -1,6 +1,6 @@
 -- The handshake of one side of a connection, up to its messages, and why bytes begin with none. AtEnd says that no byte follows.
 -- D-Bus Specification, "Authentication Protocol".
-use Rattle.std.specs.Prelude.{ℕ, ◌≡◌, ◌≢◌, ◌<◌, ◌+◌, ◌⊎◌, List, [], ◌∷◌, ◌++◌, length}
+use Rattle.std.specs.Prelude.{ℕ, ◌≡◌, ◌≢◌, ◌<◌, ◌≤◌, ◌+◌, ◌⊎◌, List, [], ◌∷◌, ◌++◌, length}
 use Rattle.std.specs.List.{AllByRecursion, flat_map}
 use Rattle.dbus_auth_lines.specs.ClientCommands.{ClientCommand}
 use Rattle.dbus_auth_lines.specs.ClientCommands as client
@@ -56,9 +56,9 @@ MessagesFollow (b ∷ more) AtEnd = (b ≡ 108) ⊎ (b ≡ 66)
 
 -- the lines are all that a side sends before its messages, and these bytes follow
 pub data AreAllLines (side : Side) (lines : List (List ℕ)) (next : List ℕ) (AtEnd : Type 0) : Type 0 where
-  begun : (before : List (List ℕ)) (last : List ℕ) → AllByRecursion (GoesOn side) before → length before < 1024 → IsLine last → IsBegin side last
-      → lines ≡ before ++ last ∷ [] → AreAllLines side lines next AtEnd
-  accepted : AllByRecursion (GoesOn side) lines → length lines < 1024 → HasOk side lines → MessagesFollow next AtEnd → AreAllLines side lines next AtEnd
+  begun : (before : List (List ℕ)) (last : List ℕ) → AllByRecursion (GoesOn side) before → IsLine last → IsBegin side last
+      → lines ≡ before ++ last ∷ [] → length lines ≤ 1024 → AreAllLines side lines next AtEnd
+  accepted : AllByRecursion (GoesOn side) lines → HasOk side lines → MessagesFollow next AtEnd → length lines ≤ 1024 → AreAllLines side lines next AtEnd
 
 -- the bytes are all that a side sends before its messages, and these bytes follow
 abbrev pub IsHandshake : Side → (bytes next : List ℕ) → (AtEnd : Type 0) → Type 0
@@ -81,7 +81,8 @@ pub data BreaksAfter (side : Side) (lines : List (List ℕ)) (bytes : List ℕ) 
   no_line : (rest : List ℕ) (place : ℕ) → AllByRecursion (GoesOn side) lines → length lines < 1024
       → (HasOk side lines → MessagesFollow rest AtEnd → ⊥) → bytes ≡ sent side lines ++ rest → IsNoLine side rest AtEnd place why
       → at ≡ length (sent side lines) + place → BreaksAfter side lines bytes AtEnd at why
-  too_many : (rest : List ℕ) → AllByRecursion (GoesOn side) lines → length lines ≡ 1024 → bytes ≡ sent side lines ++ rest
+  too_many : (rest : List ℕ) → AllByRecursion (GoesOn side) lines → length lines ≡ 1024
+      → (HasOk side lines → MessagesFollow rest AtEnd → ⊥) → bytes ≡ sent side lines ++ rest
       → at ≡ length (sent side lines) → why ≡ reason.TooManyLines → BreaksAfter side lines bytes AtEnd at why
 
 -- the bytes begin with no handshake of the side, for this reason, at this place

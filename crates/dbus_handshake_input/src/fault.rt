@@ -36,7 +36,6 @@ pub enum HandshakeReason {
     NoCommand,
     /// The input ended within the handshake: at its end.
     Truncated,
-    /// The handshake does not end within 1,024 lines of a client, or 1,023 of a server: at the end of
-    /// 1,024 lines.
+    /// The handshake does not end within 1,024 lines: at the end of these.
     TooManyLines,
 }

@@ -23,7 +23,7 @@ const MOST_LINES: usize = 1024;
 ///
 /// A client's handshake is the byte 0 and then its lines up to `BEGIN`. A server's is its lines, of which one is `OK`, up to the first
 /// byte after such a line that is `l` or `B`, or up to the end of the input. Each line is a command of its side, of at most 16,384
-/// bytes with its CR LF. There are at most 1,024 of a client, and 1,023 of a server.
+/// bytes with its CR LF. There are at most 1,024.
 ///
 /// `Refused`: the bytes begin with no handshake of the side; the place counts from the first byte that was taken. `Device`: a read
 /// failed. `Memory`: an allocation failed. After each of them the bytes before the place that was reached are taken, and the call is
@@ -88,16 +88,6 @@ pub fn read_handshake<A: Allocator + Copy, R: Source, V: LineVisitor>(
     };
     let mut accepted = false;
     'lines: for count in 0..MOST_LINES {
-        match sees_messages(accepted, input) {
-            Ok(true) => {
-                return Ok(HandshakeSize {
-                    lines: count,
-                    bytes,
-                });
-            }
-            Ok(false) => {}
-            Err(DeviceFault) => return Err(HandshakeFault::Device),
-        }
         let line = match next_line(alloc, side, input) {
             Ok(line) => line,
             Err(fault) => return Err(placed(bytes, fault)),
@@ -114,6 +104,16 @@ pub fn read_handshake<A: Allocator + Copy, R: Source, V: LineVisitor>(
             }
             Ok(Said::Nothing) => return Err(refused(start, HandshakeReason::NoCommand)),
             Err(_) => return Err(HandshakeFault::Memory),
+        }
+        match sees_messages(accepted, input) {
+            Ok(true) => {
+                return Ok(HandshakeSize {
+                    lines: count + 1,
+                    bytes,
+                });
+            }
+            Ok(false) => {}
+            Err(DeviceFault) => return Err(HandshakeFault::Device),
         }
     }
     Err(refused(bytes, HandshakeReason::TooManyLines))
