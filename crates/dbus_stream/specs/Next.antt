@@ -34,12 +34,12 @@ module _ {R T B G : Type 0} {b : Ghosts B} (k : Taking T G) where
     pub bytes : List ℕ
     pub count : ℕ
     pub consumed : Consumes (left (source_of old)) (left (source_of new)) bytes
-    -- the reads are at most one more than the bytes that they gave
-    pub few : count ≤ length bytes + 1
     -- the last read gave these, at most a buffer's: one call of the device as it stood after the reads before
     pub last : List ℕ
     pub before : List ℕ
     pub joined : bytes ≡ before ++ last
+    -- each of the reads before gave a byte, at least
+    pub few : count ≤ length before + 1
     pub last_fits : length last ≤ b.room.size
     pub between : R
     pub came : Consumes (left (source_of old)) (left between) before
