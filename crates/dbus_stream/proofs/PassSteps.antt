@@ -1,5 +1,6 @@
 -- The steps of passing over bytes.
 use Rattle.std.proofs.Common.{◌≡◌, ℕ, ◌+◌, ◌-◌, ◌<◌, ◌≤◌, List, [], ◌++◌, Bool, true, false, not, None, Some, Option, Result, Ok, Err, length, take, drop, refl, sym, ap, ◌∙◌, subst, arith, append_assoc, append-nil, length-append, take-append-drop, inl, inr}
+use Rattle.std.specs.Prelude.{IfSome}
 use Rattle.std.specs.Io.KnownBytes.{Consumes, IsAtEnd}
 use Rattle.std.proofs.KnownBytes.{Consumes-nil, Consumes-kept}
 use Rattle.std.specs.List.{slice_range}
@@ -21,7 +22,7 @@ use Rattle.dbus_stream.specs.declared.read_fault.ReadFault.TheVariants.{Memory, 
 use Rattle.dbus_stream.specs.Gathering.{GathererState, gathering, fresh, under_way}
 use Rattle.dbus_stream.specs.Lasting.{is_truncated, is_refusal}
 use Rattle.dbus_stream.specs.Next.{ReadsNothing}
-use Rattle.dbus_stream.specs.Passing.{part_of, ReadsToSkip, Skips, SkipsAll, SkipAnswers, ReadsUpTo, FallsShort, IsRefusal, PassAnswers, Passing, StatesAll}
+use Rattle.dbus_stream.specs.Passing.{part_of, ReadsToSkip, Skips, SkipsAll, SkipAnswers, ReadsUpTo, FallsShort, IsRefusal, PassAnswers, Passing, Owes, IsDue, IsNoneDue, StatesAll}
 use Rattle.dbus_stream.specs.RawReading.{limits_of, kept, lent_of, whole_or}
 use Rattle.dbus_stream.specs.Reading.{source_of, done_of, reads_of, most_reads_of, is_ended, stopped_of}
 use Rattle.dbus_stream.specs.Steps.{Buffers, FillsBy, FillsNone}
@@ -244,9 +245,13 @@ module _ {R A : Type 0} where
         (λ before short. (part_after n (under_way old.reader.taker.whole old.reader.taker.held) (part_of old.reader) before old.reader.held old.held_counted fits).0
         (subst (λ (l : List ℕ). length (l ++ before) < n - old.reader.held) g.part (subst (λ (k : ℕ). length (part_of mid ++ before) < n - k) g.held short))) r
 
-    falls_short : (bytes : List ℕ) (new : RawReader R A) → new.reader.taker ≡ mid.taker → SkipsAll (n - old.reader.held) (part_of old.reader ++ bytes) mid new.reader
+    -- what is left of them
+    abbrev pub IsLeft : RawReader R A → Type 0
+    IsLeft new = new.owed ≡ n - (done_of new.reader - done_of old.reader)
+
+    falls_short : (bytes : List ℕ) (new : RawReader R A) → new.reader.taker ≡ mid.taker → IsLeft new → SkipsAll (n - old.reader.held) (part_of old.reader ++ bytes) mid new.reader
         → FallsShort n (kept old ++ bytes) old new
-    falls_short bytes new taker s =
+    falls_short bytes new taker left_over s =
         let there = part_after n (under_way old.reader.taker.whole old.reader.taker.held) (part_of old.reader) bytes old.reader.held old.held_counted fits in
         let all = append_assoc (under_way old.reader.taker.whole old.reader.taker.held) (part_of old.reader) bytes in
         let long = ap length all in
@@ -257,11 +262,12 @@ module _ {R A : Type 0} where
           done = (let done = s.done in let size = old.held_counted in let own = g.done in let held = g.held in omega (arith, done, size, long, both, own, held));
           lent = (stands (limits_of old) new (taker ∙ g.taker)).1;
           stopped = s.stopped ∙ g.stopped;
+          owed = (let done = s.done in let short = there.0 s.short in let size = old.held_counted in let own = g.done in let held = g.held in omega (arith, left_over, done, short, size, long, both, own, held));
         }
 
-    passed : (bytes : List ℕ) (new : RawReader R A) (res : Result Bool ReadFault) → new.reader.taker ≡ mid.taker
+    passed : (bytes : List ℕ) (new : RawReader R A) (res : Result Bool ReadFault) → new.reader.taker ≡ mid.taker → IsLeft new
         → SkipAnswers (n - old.reader.held) (part_of old.reader ++ bytes) mid new.reader res → PassAnswers n (kept old ++ bytes) old new res
-    passed bytes new (Ok true) taker s =
+    passed bytes new (Ok true) taker left_over s =
         let there = part_after n (under_way old.reader.taker.whole old.reader.taker.held) (part_of old.reader) bytes old.reader.held old.held_counted fits in
         record {
           there = there.1 s.there;
@@ -270,28 +276,49 @@ module _ {R A : Type 0} where
           lent = (stands (limits_of old) new (taker ∙ g.taker)).1;
           stopped = s.stopped;
         }
-    passed bytes new (Ok false) taker s = (falls_short bytes new taker s.0, s.1)
-    passed bytes new (Err Memory) taker s = absurd s
-    passed bytes new (Err (Format fault)) taker s = absurd s
-    passed bytes new (Err Device) taker s = falls_short bytes new taker s
-    passed bytes new (Err TooManyReads) taker s = (falls_short bytes new taker s.0, s.1, s.2)
+    passed bytes new (Ok false) taker left_over s = (falls_short bytes new taker left_over s.0, s.1)
+    passed bytes new (Err Memory) taker left_over s = absurd s
+    passed bytes new (Err (Format fault)) taker left_over s = absurd s
+    passed bytes new (Err Device) taker left_over s = falls_short bytes new taker left_over s
+    passed bytes new (Err TooManyReads) taker left_over s = (falls_short bytes new taker left_over s.0, s.1, s.2)
 
     -- what the reader below answers
     abbrev pub Skipping : (R → Option (List ℕ)) → (R → ℕ) → Reader R GathererState Large ghosts → Result Bool ReadFault → Type 0
     Skipping left calls new res = (r : ReadsToSkip gathering (n - mid.held) left calls mid new) × SkipAnswers (n - mid.held) (part_of mid ++ r.bytes) mid new res
 
-    pub passing : (left : R → Option (List ℕ)) (calls : R → ℕ) → is_refusal (stopped_of old.reader) ≡ true → StatesLength (limits_of old) (kept old) n → (new : RawReader R A)
-        → new.reader.taker ≡ mid.taker → (res : Result Bool ReadFault) → Skipping left calls new.reader res → Passing left calls old new res
-    passing left calls met states new taker res r =
+    pub passing : (left : R → Option (List ℕ)) (calls : R → ℕ) → is_refusal (stopped_of old.reader) ≡ true → IsDue old n → (new : RawReader R A)
+        → new.reader.taker ≡ mid.taker → IsLeft new → (res : Result Bool ReadFault) → Skipping left calls new.reader res → Passing left calls old new res
+    passing left calls met due new taker left_over res r =
         let refusal = refusal_of (stopped_of old.reader) met in
         let bytes = r.0.bytes in
         let answers = subst (λ (k : ℕ). SkipAnswers (n - k) (part_of old.reader ++ bytes) mid new.reader res) g.held
         (subst (λ (l : List ℕ). SkipAnswers (n - mid.held) (l ++ bytes) mid new.reader res) g.part r.1) in
-        inl (refusal.0, n, refusal.1, states, reads_up_to new left calls r.0, passed bytes new res taker answers)
+        inl (refusal.0, n, refusal.1, due, reads_up_to new left calls r.0, passed bytes new res taker left_over answers)
 
-  -- no message was refused
-  pub passes_none : (left : R → Option (List ℕ)) (calls : R → ℕ) (old : RawReader R A) → is_refusal (stopped_of old.reader) ≡ false → Passing left calls old old (Ok false)
-  passes_none left calls old none = inr (λ fault n refusal all. no_refusal (stopped_of old.reader) fault refusal none, refl, refl)
+  -- ---- what is to be passed over
+
+  pub owes_none : (old : RawReader R A) → stopped_of old.reader ≡ None → 0 < old.owed → ⊥
+  owes_none old none some = false≢true (sym (ap is_refusal none) ∙ old.owed_refused some)
+
+  pub none_refused : (old : RawReader R A) → is_refusal (stopped_of old.reader) ≡ false → IsNoneDue old
+  none_refused old none fault n refusal due = no_refusal (stopped_of old.reader) fault refusal none
+
+  pub none_stated : (old : RawReader R A) → old.owed ≡ 0 → ((n : ℕ) → StatesAll (limits_of old) (kept old) n → ⊥) → IsNoneDue old
+  none_stated old zero none fault n refusal (inl s) = none n s
+  none_stated old zero none fault n refusal (inr o) = absurd (let e = o.owed in let some = o.some in omega (arith, zero, e, some))
+
+  pub due_stated : (old : RawReader R A) (res : Option ℕ) → is_refusal (stopped_of old.reader) ≡ true
+      → IfSome res (λ n. StatesLength (limits_of old) (kept old) n × (old.reader.held < n)) → IfSome res (λ n. (is_refusal (stopped_of old.reader) ≡ true) × IsDue old n × (old.reader.held < n))
+  due_stated old None refusal s = tt
+  due_stated old (Some n) refusal s = (refusal, inl s.0, s.1)
+
+  pub due_owed : (old : RawReader R A) → 0 < old.owed → IsDue old old.owed × (old.reader.held < old.owed)
+  due_owed old some =
+      let none = old.owed_alone some in
+      let size = ap length none in
+      let both = length-append (under_way old.reader.taker.whole old.reader.taker.held) (part_of old.reader) in
+      let held = old.held_counted in
+      (inr (record { kept = none; owed = refl; some = some }), omega (arith, size, both, held, some))
 
 -- ---- what the first sixteen bytes state
 

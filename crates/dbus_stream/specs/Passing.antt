@@ -69,13 +69,14 @@ module _ {R A : Type 0} where
     pub lent : raw.lent_of new ≡ []
     pub stopped : raw.stopped_of new ≡ None
 
-  -- there are fewer, and all are passed over. The fault stays
+  -- there are fewer, and all are passed over. The fault stays, and the others are still to be dropped
   pub record FallsShort (n : ℕ) (w : List ℕ) (old new : RawReader R A) : Type 0 where
     pub short : length w < n
     pub kept : raw.kept new ≡ []
     pub done : raw.done_of new ≡ raw.done_of old + length w
     pub lent : raw.lent_of new ≡ []
     pub stopped : raw.stopped_of new ≡ raw.stopped_of old
+    pub owed : length w + raw.owed_of new ≡ n
 
   abbrev pub PassAnswers : ℕ → List ℕ → RawReader R A → RawReader R A → Result Bool ReadFault → Type 0
   PassAnswers n w old new (Ok true) = PassesOver n w old new
@@ -85,11 +86,23 @@ module _ {R A : Type 0} where
   PassAnswers n w old new (Err Device) = FallsShort n w old new
   PassAnswers n w old new (Err TooManyReads) = FallsShort n w old new × (raw.reads_of new ≡ raw.most_reads_of new) × (raw.is_ended new ≡ false)
 
-  -- A call that passes over the message that was refused, whose first sixteen bytes state n bytes; or none was, or they state no length,
-  -- and nothing is done.
+  -- an earlier call dropped all that was there, and so many bytes are left to drop
+  pub record Owes (r : RawReader R A) (n : ℕ) : Type 0 where
+    pub kept : raw.kept r ≡ []
+    pub owed : raw.owed_of r ≡ n
+    pub some : 0 < n
+
+  -- so many bytes are to be passed over: those of the refused message, or those that are left of it
+  abbrev pub IsDue : RawReader R A → ℕ → Type 0
+  IsDue r n = StatesLength (raw.limits_of r) (raw.kept r) n ⊎ Owes r n
+
+  -- none are
+  abbrev pub IsNoneDue : RawReader R A → Type 0
+  IsNoneDue r = (fault : Fault) (n : ℕ) → IsRefusal (raw.stopped_of r) fault → StatesAll (raw.limits_of r) (raw.kept r) n ⊎ Owes r n → ⊥
+
+  -- A call that passes over the message that was refused: the n bytes that its first sixteen state, or those that are left of them; or none
+  -- was, or they state no length, and nothing is done.
   abbrev pub Passing : (R → Option (List ℕ)) → (R → ℕ) → RawReader R A → RawReader R A → Result Bool ReadFault → Type 0
   Passing left calls old new result =
-      ((fault : Fault) × (n : ℕ) × IsRefusal (raw.stopped_of old) fault × StatesLength (raw.limits_of old) (raw.kept old) n
-      × (r : ReadsUpTo n left calls old new) × PassAnswers n (raw.kept old ++ r.bytes) old new result)
-      ⊎ (((fault : Fault) (n : ℕ) → IsRefusal (raw.stopped_of old) fault → StatesAll (raw.limits_of old) (raw.kept old) n → ⊥)
-      × (result ≡ Ok false) × (new ≡ old))
+      ((fault : Fault) × (n : ℕ) × IsRefusal (raw.stopped_of old) fault × IsDue old n × (r : ReadsUpTo n left calls old new) × PassAnswers n (raw.kept old ++ r.bytes) old new result)
+      ⊎ (IsNoneDue old × (result ≡ Ok false) × (new ≡ old))

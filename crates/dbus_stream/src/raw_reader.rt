@@ -1,5 +1,5 @@
 //! Raw messages from a source.
-ghost use Rattle.std.specs.Prelude.{◌≡◌, ◌≤◌, ◌<◌, ◌+◌, ◌-◌, ◌^◌, ◌++◌, [], length, take, ℕ};
+ghost use Rattle.std.specs.Prelude.{◌≡◌, ◌≤◌, ◌<◌, ◌+◌, ◌-◌, ◌^◌, ◌++◌, [], length, slice_range, take, true, ℕ};
 ghost use Rattle.dbus_stream.specs.Gathering.{under_way};
 ghost use Rattle.dbus_stream.specs.Lasting.{is_refusal, is_truncated};
 
@@ -25,16 +25,21 @@ pub struct RawReader<R, A: Allocator = Global> {
     alloc: A,
     // Its taker holds the bytes of the message under way that came by earlier reads, or those of the one that is lent.
     reader: Reader<R, Gatherer<A>, Large>,
+    // How many bytes of a refused message are still to be dropped, after a call that could not drop all of them.
+    owed: u64,
     ghost lent_before: { reader.taker.lent ≤ reader.start },
     ghost lent_counted: { reader.taker.lent ≤ reader.done },
     ghost lent_alone: { 0 < reader.taker.lent → reader.taker.held ≡ [] },
     ghost held_counted: { reader.held ≡ length (under_way reader.taker.whole reader.taker.held) },
+    ghost owed_refused: { 0 < owed → is_refusal reader.stopped ≡ true },
+    ghost owed_alone: { 0 < owed → under_way reader.taker.whole reader.taker.held ++
+        slice_range reader.buffer.bytes reader.start reader.end ≡ [] },
 }
 
 impl<R: Source, A: Allocator + Copy> RawReader<R, A> {
     ghost use Rattle.std.specs.Prelude.{None, Some, IfSome};
     ghost use Rattle.dbus_header.specs.StatedLengths.{StatesLength};
-    ghost use Rattle.dbus_stream.specs.Passing.{Passing, StatesAll};
+    ghost use Rattle.dbus_stream.specs.Passing.{IsDue, IsNoneDue, Passing, StatesAll};
     ghost use Rattle.dbus_value_model.specs.Specification.{specification};
     ghost use Rattle.dbus_stream.specs.declared.read_fault.ReadFault.{ReadFault};
     ghost use Rattle.dbus_stream.specs.Next.{DeviceCounts};
@@ -73,6 +78,7 @@ impl<R: Source, A: Allocator + Copy> RawReader<R, A> {
                 },
                 reads,
             ),
+            owed: 0,
         }
     }
 
@@ -211,7 +217,8 @@ impl<R: Source, A: Allocator + Copy> RawReader<R, A> {
     /// within the limits. False also if the input ends before so many bytes.
     ///
     /// `TooManyReads`: as many reads were made as it may make. `Device`: a read failed. Then, and if the input ended,
-    /// the fault stays, and all that was kept and read is dropped.
+    /// all that was kept and read is dropped, and the fault stays: [`RawReader::advance`] and `next` return it and change nothing.
+    /// The same call made again drops the bytes that are left of the message, and no others.
     ///
     /// ```rust
     /// use dbus_stream::{FromRead, RawReader, ReadFault};
@@ -232,7 +239,7 @@ impl<R: Source, A: Allocator + Copy> RawReader<R, A> {
     /// }
     /// ```
     pub fn pass_over(&mut self) -> Result<bool, ReadFault>
-        // Of what was kept and then read it drops so many bytes as the refused message states.
+        // Of what was kept and then read it drops so many bytes as the refused message states, or as are left of it.
         ensures passes { Passing R.left R.calls self.old self.new result }
         ensures failed { DeviceCounts (R.failures (source_of self.old))
             (R.failures (source_of self.new)) result }
@@ -240,17 +247,29 @@ impl<R: Source, A: Allocator + Copy> RawReader<R, A> {
             R.reference (source_of self.old) }
         ensures few { done_of self.new ≤ 2 ^ 50 }
     {
-        if is_refusal(self.reader.stopped) {
-            match self.stated() {
-                Some(length) => {
-                    self.reader.taker.let_go();
-                    self.reader.pass_over(length)
-                }
-                None => Ok(false),
-            }
-        } else {
-            Ok(false)
+        let Some(count) = self.due() else {
+            return Ok(false);
+        };
+        let before = self.reader.done;
+        self.reader.taker.let_go();
+        let passed = self.reader.pass_over(count);
+        self.owed = count - (self.reader.done - before);
+        passed
+    }
+
+    // How many bytes are to be passed over, if any are. More are than the taker holds.
+    fn due(&self) -> Option<u64>
+        ensures some { IfSome result (λ n. (is_refusal (stopped_of self.now) ≡ true) ×
+            IsDue self.now n × (self.now.reader.held < n)) }
+        ensures none { result ≡ None → IsNoneDue self.now }
+    {
+        if !is_refusal(self.reader.stopped) {
+            return None;
         }
+        if self.owed > 0 {
+            return Some(self.owed);
+        }
+        self.stated()
     }
 
     // The length that the first 16 of the bytes that are kept state, if they do. The bytes of a message under way are fewer.
@@ -277,6 +296,7 @@ impl<R: Source, A: Allocator + Copy> RawReader<R, A> {
 
     // The bytes of the message that is lent. If the memory is not there, the message is kept again.
     fn give(&mut self) -> Result<Option<Vec<u8, A>>, ReadFault>
+        requires { stopped_of self.old ≡ None }
         ensures gives { GivesLent self.old self.new result }
         ensures unread { ReadsNothing self.old self.new }
     {

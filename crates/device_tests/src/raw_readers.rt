@@ -155,17 +155,23 @@ const ENDS: Script = &[
     (PassOver, Passes(false)),
 ];
 
+// After a read that failed, the bytes that are left are dropped, and no others.
 const FAILS: Script = &[
     (Advance, NO_REPLY_SERIAL),
     (PassOver, FAILED),
-    (PassOver, Passes(false)),
     (Next, NO_REPLY_SERIAL),
+    (AdvanceKept, NO_REPLY_SERIAL),
+    (PassOver, Passes(true)),
+    (PassOver, Passes(false)),
+    (Advance, Gives(RETURN)),
+    (Next, NOTHING),
 ];
 
 const FAILS_LATE: Script = &[
     (Next, NO_REPLY_SERIAL),
     (PassOver, TOO_MANY),
     (Advance, NO_REPLY_SERIAL),
+    (PassOver, TOO_MANY),
 ];
 
 const WRONG_AT_3: Given = Fails(ReadFault::Format(Fault {
@@ -207,7 +213,8 @@ const READ: &[(&[&[u8]], usize, u64, u32, Script, [u64; 3])] = &[
     (&[BARE_WITH_BODY, RETURN], 17, 0, 100, GOES_ON, [48, 4, 0]),
     // The input ends within it, a read fails there, and no more may be made.
     (&[BARE_WITH_BODY_FRONT], 4, 0, 100, ENDS, [20, 6, 0]),
-    (&[BARE_WITH_BODY, RETURN], 4, 5, 100, FAILS, [16, 5, 1]),
+    (&[BARE_WITH_BODY, RETURN], 4, 5, 100, FAILS, [48, 14, 1]),
+    (&[BARE_WITH_BODY, RETURN], 1, 20, 100, FAILS, [48, 50, 1]),
     (&[BARE_WITH_BODY, RETURN], 4, 0, 5, FAILS_LATE, [20, 5, 0]),
     // The first 16 bytes are at fault, or are not there.
     (&[WRONG_VERSION], 1, 0, 100, STATES_NONE, [0, 4, 0]),

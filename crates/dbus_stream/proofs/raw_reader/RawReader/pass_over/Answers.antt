@@ -1,17 +1,14 @@
-use Rattle.std.proofs.Common.{◌≡◌, refl, sym, ap, ◌∙◌, inr}
+use Rattle.std.proofs.Common.{◌≡◌, refl, ap, inr}
 use Rattle.dbus_stream.specs.Gathering.{GathererState}
-use Rattle.dbus_stream.proofs.PassSteps.{passing, passes_none}
+use Rattle.dbus_stream.proofs.PassSteps.{passing}
 use Rattle.dbus_stream.proofs.raw_reader.RawReader.pass_over.Goals as goal
 
-pub returns-else-is_refusal-clause-passes : goal.returns-else-is_refusal-clause-passes
-returns-else-is_refusal-clause-passes g c =
-    passes_none g.R.Source.left g.R.Source.calls c.args.self.now (sym c.is_refusal.ensures ∙ c.if-is_refusal.false)
+pub returns-in_default-clause-passes : goal.returns-in_default-clause-passes
+returns-in_default-clause-passes g c = inr (c.due.ensures.none c.in_default.is, refl, refl)
 
-pub returns-in-None-clause-passes : goal.returns-in-None-clause-passes
-returns-in-None-clause-passes g c = inr (λ fault n refusal all. c.in-None.ensures.none refl n all, refl, refl)
-
-pub returns-in-Some-clause-passes : goal.returns-in-Some-clause-passes
-returns-in-Some-clause-passes g c =
-    passing c.in-Some.length c.args.self.now _
+pub returns-clause-passes : goal.returns-clause-passes
+returns-clause-passes g c =
+    let due = c.in-Some.ensures.some in
+    passing c.in-Some.count c.args.self.now _
     (record { nothing = record { source = refl; reads = refl; most_reads = refl; limits = ap (λ (t : GathererState). t.limits) c.let_go.ensures; ended = refl }; part = refl; held = refl; done = refl; stopped = refl; taker = c.let_go.ensures })
-    c.in-Some.ensures.some.1 g.R.Source.left g.R.Source.calls (sym c.is_refusal.ensures ∙ c.if-is_refusal.true) c.in-Some.ensures.some.0 _ c.pass_over.ensures.nothing.0 c.pass_over.result c.pass_over.ensures.passes
+    due.2 g.R.Source.left g.R.Source.calls due.0 due.1 _ c.pass_over-passed.ensures.nothing.0 refl c.pass_over-passed.result c.pass_over-passed.ensures.passes
