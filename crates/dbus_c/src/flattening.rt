@@ -39,8 +39,8 @@ pub(crate) enum Part {
 /// [`WHOLE`] if there is room for all from `first` on, else [`NO_ROOM`]: the same call at a place
 /// after those written goes on. If the bytes begin with no message, [`crate::PARTIAL`] or
 /// [`crate::REFUSED`], as [`crate::dbus_wire_check`], which reports why; then `items` and `count`
-/// stay as they are. Each call validates once, and allocates nothing. D-Bus Specification, "Message
-/// Format".
+/// stay as they are. Each call goes over all of the message twice, to validate it and for the items,
+/// whatever room there is, and allocates nothing. D-Bus Specification, "Message Format".
 #[unsafe(no_mangle)]
 pub extern "C" fn dbus_wire_flatten(
     bytes: &[u8],
