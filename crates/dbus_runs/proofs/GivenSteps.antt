@@ -1,10 +1,11 @@
 -- The next message, where nothing was read before it.
-use Rattle.std.proofs.Common.{◌≡◌, ◌⊎◌, true, ℕ, ◌+◌, List, [], ◌++◌, Some, None, Ok, Err, Option, Result, refl, sym, ap, ◌∙◌, subst, append-nil, inl}
+use Rattle.std.proofs.Common.{◌≡◌, ◌⊎◌, true, ℕ, ◌+◌, List, ◌++◌, Some, None, Ok, Err, Option, Result, sym, ap, ◌∙◌, subst, append-nil, inl}
 use Rattle.std.specs.Io.KnownBytes.{Consumes}
 use Rattle.dbus_header.specs.MessageOutcomes.{IsWhole, IsRefused, IsPartial}
 use Rattle.dbus_validate.specs.declared.validating.Validated.{Validated}
 use Rattle.dbus_validate.specs.Validating.{IsValidatedWhole}
 use Rattle.dbus_device.specs.Device.{RisesBy}
+use Rattle.dbus_stream.specs.Cut.{CutMessage}
 use Rattle.dbus_stream.specs.Next.{IsCutShort, DeviceCounts}
 use Rattle.dbus_stream.specs.declared.read_fault.ReadFault.{ReadFault}
 use Rattle.dbus_stream.specs.declared.read_fault.ReadFault.TheVariants as read
@@ -12,19 +13,11 @@ use Rattle.dbus_stream.specs.RawNext.{Reads, ReadsNothing, KeepsAll, Lends, Adva
 use Rattle.dbus_stream.specs.RawReading.{limits_of, kept, lent_of, source_of, is_ended}
 use Rattle.dbus_stream.specs.declared.raw_reader.RawReader.{RawReader}
 use Rattle.dbus_stream.proofs.RawSteps.{starts, unread}
-use Rattle.dbus_report.specs.Devices.{writing}
-use Rattle.dbus_report.specs.Gathering.{Breaks}
-use Rattle.dbus_runs.specs.Handing.{GivesNext, IsWrittenOut}
+use Rattle.dbus_report.specs.declared.ending.Cause.{Cause}
+use Rattle.dbus_runs.specs.Handing.{GivesNext}
+use Rattle.dbus_runs.specs.Visiting.{AddsUp, HasKept, HasLetGo}
 use Rattle.dbus_runs.specs.declared.counted.NoMessage.{NoMessage}
 use Rattle.dbus_runs.specs.declared.counted.NoMessage.TheVariants.{Reader, Writer}
-use Rattle.dbus_report.specs.PageLaws.{passes_none}
-
--- all that was gathered was written
-pub written_out : (fault : ReadFault) (g : List ℕ) → g ≡ [] → IsWrittenOut fault g
-written_out read.Memory g e = tt
-written_out (read.Format fault) g e = tt
-written_out read.Device g e = e
-written_out read.TooManyReads g e = e
 
 module _ {R A : Type 0} (left : R → Option (List ℕ)) (calls failures : R → ℕ) where
   -- what is read after a step that reads nothing and keeps all
@@ -96,46 +89,41 @@ module _ {R A : Type 0} (left : R → Option (List ℕ)) (calls failures : R →
   kept_fault old new read.Device k = absurd k
   kept_fault old new read.TooManyReads k = absurd k
 
-  -- where no read was tried, what is gathered need not be written
-  kept_unwritten : (old new : RawReader R A) (fault : ReadFault) (g : List ℕ) → KeptAnswers old new (Err fault) → IsWrittenOut fault g
-  kept_unwritten old new read.Memory g k = tt
-  kept_unwritten old new (read.Format fault) g k = tt
-  kept_unwritten old new read.Device g k = absurd k
-  kept_unwritten old new read.TooManyReads g k = absurd k
-
-  module _ {W : Type 0} (held : W → Option (List ℕ)) (write_failures : W → ℕ) where
-    pub gives_after : (old mid new : RawReader R A) (g0 g1 : List ℕ) (w0 w1 : W) (res : Result (Option Validated) NoMessage) → ReadsNothing old mid
-        → KeepsAll (kept old) old mid → GivesNext left calls failures mid new (writing held write_failures w0 w1) g0 g1 res → GivesNext left calls failures old new (writing held write_failures w0 w1) g0 g1 res
-    gives_after old mid new g0 g1 w0 w1 (Ok lent) n k g =
+  module _ {S : Type 0} {takes : S → (n offset : ℕ) → List CutMessage → S → Type 0} {leaves : S → (n offset : ℕ) → List CutMessage → Cause → S → Type 0} {settled : S → Type 0}
+      (laws : AddsUp takes leaves settled) where
+    pub gives_after : (old mid new : RawReader R A) (s0 s1 : S) (res : Result (Option Validated) NoMessage) → ReadsNothing old mid
+        → KeepsAll (kept old) old mid → GivesNext left calls failures takes leaves settled mid new s0 s1 res → GivesNext left calls failures takes leaves settled old new s0 s1 res
+    gives_after old mid new s0 s1 (Ok lent) n k g =
         let both = both_after old mid new (Ok lent) n k g.0 g.1 in
-        (both.0, both.1, g.2 ∙ ap failures n.source, g.3)
-    gives_after old mid new g0 g1 w0 w1 (Err (Reader fault)) n k g =
+        (both.0, both.1, g.2 ∙ ap failures n.source, g.3, g.4)
+    gives_after old mid new s0 s1 (Err (Reader fault)) n k g =
         let both = both_after old mid new (Err fault) n k g.0 g.1 in
         (both.0, both.1, subst (λ (x : ℕ). DeviceCounts {T = Option Validated} x (failures (source_of new)) (Err fault)) (ap failures n.source) g.2, g.3, g.4)
-    gives_after old mid new g0 g1 w0 w1 (Err Writer) n k g = (reads_after old mid new n k g.0, g.1, g.2 ∙ ap failures n.source)
+    gives_after old mid new s0 s1 (Err Writer) n k g = (reads_after old mid new n k g.0, g.1, g.2 ∙ ap failures n.source)
 
     -- a message that is kept
-    pub gives_kept : (j : Validated) (old new : RawReader R A) (g : List ℕ) (w : W) → Lends (kept old) j old new → ReadsNothing old new
-        → GivesNext left calls failures old new (writing held write_failures w w) g g (Ok (Some j))
-    gives_kept j old new g w l n = (
+    pub gives_kept : (j : Validated) (old new : RawReader R A) (s : S) → Lends (kept old) j old new → ReadsNothing old new
+        → GivesNext left calls failures takes leaves settled old new s s (Ok (Some j))
+    gives_kept j old new s l n = (
       unread left calls old old new (starts left calls old) n,
       subst (λ (v : List ℕ). Lends v j old new) (sym (append-nil (kept old))) l,
       ap failures n.source,
-      passes_none held write_failures g w,
+      laws.nothing s,
+      λ none. absurd cc,
     )
 
-    pub gives_kept_fault : (old new : RawReader R A) (fault : ReadFault) (g : List ℕ) (w : W) → KeptAnswers old new (Err fault) → ReadsNothing old new
-        → DeviceCounts {T = Option Validated} (failures (source_of old)) (failures (source_of new)) (Err fault)
-        → GivesNext left calls failures old new (writing held write_failures w w) g g (Err (Reader fault))
-    gives_kept_fault old new fault g w k n counts = (
+    -- a fault of what is kept
+    pub gives_kept_fault : (old new : RawReader R A) (fault : ReadFault) (s0 s1 : S) → KeptAnswers old new (Err fault) → ReadsNothing old new
+        → DeviceCounts {T = Option Validated} (failures (source_of old)) (failures (source_of new)) (Err fault) → HasLetGo takes leaves s0 s1 → settled s1
+        → GivesNext left calls failures takes leaves settled old new s0 s1 (Err (Reader fault))
+    gives_kept_fault old new fault s0 s1 k n counts go rests = (
       unread left calls old old new (starts left calls old) n,
       subst (λ (v : List ℕ). Advances v old new (Err fault)) (sym (append-nil (kept old))) (kept_fault old new fault k),
       counts,
-      passes_none held write_failures g w,
-      kept_unwritten old new fault g k,
+      go,
+      rests,
     )
 
-    -- what is gathered was not written, and nothing was read
-    pub gives_unwritten : (old : RawReader R A) (g0 g1 : List ℕ) (w0 w1 : W) → Breaks held write_failures [] g0 w0 w1
-        → GivesNext left calls failures old old (writing held write_failures w0 w1) g0 g1 (Err Writer)
-    gives_unwritten old g0 g1 w0 w1 b = (starts left calls old, b, refl)
+    -- the visitor could not let go what it held back, and nothing was read
+    pub gives_unwritten : (old new : RawReader R A) (s0 s1 : S) → ReadsNothing old new → HasKept takes leaves s0 s1 → GivesNext left calls failures takes leaves settled old new s0 s1 (Err Writer)
+    gives_unwritten old new s0 s1 n back = (unread left calls old old new (starts left calls old) n, back, ap failures n.source)

@@ -31,7 +31,7 @@ use Rattle.dbus_runs.specs.declared.going.Stop.TheVariants.{Cause as ByCause, Se
 use Rattle.dbus_runs.specs.declared.place.Carried.{Carried}
 use Rattle.dbus_runs.specs.declared.tally.Tally.{Tally}
 use Rattle.dbus_runs.proofs.PartLaws.{parts_more, sizes-both, passed-both, passed_sizes-both, past_all_both}
-use Rattle.dbus_runs.proofs.WindowLaws.{written_none}
+use Rattle.dbus_runs.specs.WindowLaws.{written_none}
 use Rattle.dbus_runs.proofs.ReadSteps.{read_none, read_on}
 use Rattle.dbus_runs.proofs.WriteSteps.{HasTold, TellsMore, tells_more}
 use Rattle.dbus_runs.proofs.GoSteps.{Begun, HasCovered, HasGone, HasReached, refused_is, none_is, known_first, covers_read, covers, Took, Within, Torn, Through, Handed, Stopped, AllRead, stops_plain, all_called}

@@ -19,10 +19,12 @@ use Rattle.dbus_command.specs.declared.settings.Settings.{Settings}
 use Rattle.dbus_command.specs.declared.command.Command.{Command}
 use Rattle.dbus_match.specs.Matching.{Ownership}
 use Rattle.dbus_report.specs.Devices.{reading, taken, Taken}
-use Rattle.dbus_report.specs.Gathering.{Passes, Breaks}
+use Rattle.dbus_report.specs.Gathering.{Passes, Breaks, gathered_bytes}
 use Rattle.dbus_runs.specs.Going.{first_of, second_of, Covers, IsThrough, HandsParts, StopsWithin, IsStopOf, IsAllRead, PartsOf, GotFirst}
-use Rattle.dbus_runs.specs.Onward.{HasRead, HandsRawOn, HandsSomeOn, IsTrueEnd, owners_after_all, stop_of}
-use Rattle.dbus_runs.specs.Output.{IsOutputOfAll, owners_known}
+use Rattle.dbus_runs.specs.Commands.{command_of}
+use Rattle.dbus_runs.specs.Onward.{HasRead, HandsRawOn, HandsSomeOn, IsTrueEnd, stop_of}
+use Rattle.dbus_runs.specs.Output.{IsOutputOfAll, owners_after_all, owners_known}
+use Rattle.dbus_runs.specs.OutputWriting.{LeavesWritten, WritesAll}
 use Rattle.dbus_runs.specs.Parts.{Part, sizes_of, BeginWithParts, AreMade, AreTold, passed_count, passed_sizes, tally_of}
 use Rattle.dbus_runs.specs.Windows.{after, written}
 use Rattle.dbus_report.specs.declared.ending.Cause.{Cause}
@@ -30,11 +32,12 @@ use Rattle.dbus_report.specs.declared.ending.Cause.TheVariants.{Memory, ReadFail
 use Rattle.dbus_runs.specs.declared.counted.Counted.{Counted}
 use Rattle.dbus_runs.specs.declared.going.Stop.{Stop}
 use Rattle.dbus_runs.specs.declared.going.Stop.TheVariants.{Cause as ByCause}
+use Rattle.dbus_runs.specs.declared.output_writer.OutputWriter.{OutputWriter}
 use Rattle.dbus_runs.specs.declared.place.Carried.{Carried}
 use Rattle.dbus_runs.specs.declared.tally.Tally.{Tally}
 use Rattle.dbus_report.proofs.GatherSteps.{passes_whole}
 use Rattle.dbus_runs.proofs.PartLaws.{wholes, parts_more, parts_both, parts_of, few_parts, few_passed, few_passed_sizes, stated_bytes, sizes-both, passed-both, passed_sizes-both, length-wholes, sizes-wholes, passed-wholes, passed_sizes-wholes, made_both, told_both, made_of, owners_past_all, past_all_both, past_all_wholes, told_of, first_nothing, second_nothing, first_more}
-use Rattle.dbus_runs.proofs.WindowLaws.{after_more, after_none, written_more, written_none}
+use Rattle.dbus_runs.specs.WindowLaws.{after_more, after_none, written_more, written_none}
 use Rattle.dbus_runs.proofs.WriteSteps.{HasTold, wrote_nothing, wrote_both, wrote_breaks}
 
 -- a new reader of a source is one of its own
@@ -177,8 +180,9 @@ module _ {R A W E : Type 0} (run : Begun R A W E) where
     pub failed : run.failures (source_of new) ≡ run.failures (source_of run.old)
     pub wrote : HasTold run.held run.write_failures run.second_held run.second_failures run.command out told run.w0 w run.e0 e
 
-  pub gone_none : IsNewReader (source_of run.old) (most_reads_of run.old) run.settings.limits run.old → HasGone run.old (record { count = 0; size = 0; passed = 0; passed_size = 0 }) (record { window = run.settings.window; owners = None }) run.w0 run.e0
-  gone_none new_reader = record {
+  pub gone_none : (carried : Carried) → carried ≡ record { window = run.settings.window; owners = None } → IsNewReader (source_of run.old) (most_reads_of run.old) run.settings.limits run.old
+      → HasGone run.old (record { count = 0; size = 0; passed = 0; passed_size = 0 }) carried run.w0 run.e0
+  gone_none carried fresh new_reader = record {
     parts = [];
     out = [];
     told = [];
@@ -196,8 +200,8 @@ module _ {R A W E : Type 0} (run : Begun R A W E) where
       tells = refl;
     };
     tally_is = refl;
-    window_is = sym (after_none run.settings.window);
-    owners_are = refl;
+    window_is = ap (λ (c : Carried). c.window) fresh ∙ sym (after_none run.settings.window);
+    owners_are = ap (λ (c : Carried). owners_known run.command c.owners) fresh;
     done = new_reader.done;
     failed = refl;
     wrote = record {
@@ -313,57 +317,81 @@ module _ {R A W E : Type 0} {run : Begun R A W E} {mid : RawReader R A} {tally :
         → first_of run.command h.out h.told ++ written carried.window o ≡ first_of run.command (h.out ++ written carried.window o) h.told
     out_next items o output = first_more run.command (owners_past_all run.command (known_first run.command) h.parts) carried.window (1 + length h.parts) (0 + sizes_of h.parts) (wholes items) h.out h.told o (made_next items o output)
 
-    wrote_next : (items : List CutMessage) (o : List (List ℕ)) → IsOutputOfAll run.command (owners_known run.command carried.owners) (tally.count + 1) (done_of mid) items o → Passes run.held run.write_failures (written carried.window o) [] [] w1 w2
-        → Wrote run.held run.write_failures run.w0 (first_of run.command (h.out ++ written carried.window o) h.told) w2
-    wrote_next items o output p =
+    wrote_next : (items : List CutMessage) (o : List (List ℕ)) {g0 g1 : List ℕ} → IsOutputOfAll run.command (owners_known run.command carried.owners) (tally.count + 1) (done_of mid) items o
+        → g0 ≡ [] → g1 ≡ [] → Passes run.held run.write_failures (written carried.window o) g0 g1 w1 w2 → Wrote run.held run.write_failures run.w0 (first_of run.command (h.out ++ written carried.window o) h.told) w2
+    wrote_next items o {g0} {g1} output none0 none1 p =
         subst (λ l. Wrote run.held run.write_failures run.w0 l w2) (out_next items o output)
-        (wrote_both run.held run.write_failures (first_of run.command h.out h.told) (written carried.window o) run.w0 w1 w2 h.wrote.first (passes_whole run.held run.write_failures (written carried.window o) [] [] w1 w2 refl refl p))
+        (wrote_both run.held run.write_failures (first_of run.command h.out h.told) (written carried.window o) run.w0 w1 w2 h.wrote.first (passes_whole run.held run.write_failures (written carried.window o) g0 g1 w1 w2 none0 none1 p))
 
-    -- up to a fault, or up to the end
-    pub reach : (counted : Counted) (now : Carried) (up : Tally) → up ≡ record tally { count = counted.count; size = counted.size }
-        → HandsRawOn run.left run.calls run.failures run.held run.write_failures run.settings.limits run.command (record { count = tally.count; carried = carried }) counted now mid new [] [] w1 w2 → HasReached run new counted up now w2 e1
-    reach counted now up is a =
-        let size : counted.size ≡ sizes_of h.parts + sizes a.all.items = omega (arith, a.all.size_is, h.done) in
-        record {
-          gone = record {
-            parts = h.parts ++ wholes a.all.items;
-            out = h.out ++ written carried.window a.all.texts;
-            told = h.told;
-            covered = covered_next a.all.items a.all.rest (kept new) a.all.texts (sym a.kept) a.all.read a.all.output;
-            tally_is = is ∙ wholes_tally h.parts a.all.items counted.count counted.size tally h.tally_is a.all.count_is size;
-            window_is = a.all.window_is ∙ after_more run.settings.window carried.window h.covered.texts a.all.texts h.window_is;
-            owners_are = a.all.owners_are ∙ owners_next a.all.items;
-            done = omega (arith, a.all.done, size, sizes-both h.parts (wholes a.all.items), sizes-wholes a.all.items);
-            failed = a.all.failed ∙ h.failed;
-            wrote = record { first = wrote_next a.all.items a.all.texts a.all.output a.all.passes; second = h.wrote.second };
-          };
-          count_is = ap (λ (t : Tally). t.count) is;
-          size_is = ap (λ (t : Tally). t.size) is;
-          outcome = a.all.outcome;
-          outcome_is = subst (λ (l : List ℕ). IsOutcome run.settings.limits l a.all.outcome) (sym a.kept) a.all.outcome_is;
-          fault_is = a.all.fault_is ∙ ap (λ (l : List ℕ). fault_at_end l a.all.outcome) (sym a.kept);
-          stopped = a.stopped;
-          ended = a.all.ended;
-        }
+-- a writer of an output took them, which held nothing back before
+module _ {R A W E : Type 0} {run : Begun R A W E} {mid : RawReader R A} {tally : Tally} (s1 : OutputWriter A W) {e1 : E} (h : HasGone run mid tally s1.carried s1.first.now e1)
+    (own : command_of s1.output ≡ run.command) (empty : gathered_bytes s1.gathered ≡ []) (new : RawReader R A) (s2 : OutputWriter A W) where
+  -- what it made is what the run's command makes
+  made_is : (items : List CutMessage) (texts : List (List ℕ)) → IsOutputOfAll (command_of s1.output) (owners_known (command_of s1.output) s1.carried.owners) (tally.count + 1) (done_of mid) items texts
+      → IsOutputOfAll run.command (owners_known run.command s1.carried.owners) (tally.count + 1) (done_of mid) items texts
+  made_is items texts = subst (λ (c : Command). IsOutputOfAll c (owners_known c s1.carried.owners) (tally.count + 1) (done_of mid) items texts) own
 
-    -- not all
-    abbrev Handing : Cause → Type 0
-    Handing cause = HandsSomeOn gathering run.left run.calls run.settings.limits (kept mid) run.failures run.held run.write_failures run.command (record { count = tally.count; carried = carried }) cause mid.reader new.reader [] [] w1 w2
+  -- up to a fault, or up to the end
+  pub reach : (counted : Counted) (up : Tally) → up ≡ record tally { count = counted.count; size = counted.size } → gathered_bytes s2.gathered ≡ []
+      → HandsRawOn run.left run.calls run.failures (WritesAll run.held run.write_failures) (LeavesWritten run.held run.write_failures) run.settings.limits tally.count counted mid new s1 s2
+      → HasReached run new counted up s2.carried s2.first.now e1
+  reach counted up is settled a =
+      let t = a.all.taken in
+      let items = a.all.items in
+      let made = made_is items t.texts t.made in
+      let size : counted.size ≡ sizes_of h.parts + sizes items = omega (arith, a.all.size_is, h.done) in
+      let owners = subst (λ (c : Command). owners_known c s2.carried.owners ≡ owners_after_all c (owners_known c s1.carried.owners) items) own t.owners in
+      record {
+        gone = record {
+          parts = h.parts ++ wholes items;
+          out = h.out ++ written s1.carried.window t.texts;
+          told = h.told;
+          covered = covered_next h new s2.first.now items a.all.rest (kept new) t.texts (sym a.kept) a.all.read made;
+          tally_is = is ∙ wholes_tally h.parts items counted.count counted.size tally h.tally_is a.all.count_is size;
+          window_is = t.window ∙ after_more run.settings.window s1.carried.window h.covered.texts t.texts h.window_is;
+          owners_are = owners ∙ owners_next h new s2.first.now items;
+          done = omega (arith, a.all.done, size, sizes-both h.parts (wholes items), sizes-wholes items);
+          failed = a.all.failed ∙ h.failed;
+          wrote = record { first = wrote_next h new s2.first.now items t.texts made empty settled t.passes; second = h.wrote.second };
+        };
+        count_is = ap (λ (t : Tally). t.count) is;
+        size_is = ap (λ (t : Tally). t.size) is;
+        outcome = a.all.outcome;
+        outcome_is = subst (λ (l : List ℕ). IsOutcome run.settings.limits l a.all.outcome) (sym a.kept) a.all.outcome_is;
+        fault_is = a.all.fault_is ∙ ap (λ (l : List ℕ). fault_at_end l a.all.outcome) (sym a.kept);
+        stopped = a.stopped;
+        ended = a.all.ended;
+      }
 
-    stops_some : (cause : Cause) (s : Handing cause) → AllRead run new (ByCause cause) (h.parts ++ wholes s.items) s.rest [] → Stopped run new (ByCause cause)
-        → GotFirst run.held run.write_failures (ByCause cause) (first_of run.command (h.out ++ written carried.window s.texts) h.told) run.w0 w2 → Torn run new (ByCause cause) w2 e1
-    stops_some cause s all caused first =
-        stops_plain run cause new (h.parts ++ wholes s.items) s.rest (h.out ++ written carried.window s.texts) h.told w2 e1 (covered_next s.items s.rest s.rest s.texts refl s.read s.output) all caused
-        (subst (λ (l : List ℕ). GotFirst run.held run.write_failures (ByCause cause) (first_of run.command (h.out ++ written carried.window s.texts) l) run.w0 w2) (sym (append-nil h.told)) first)
-        (subst (λ (l : List ℕ). Wrote run.second_held run.second_failures run.e0 (second_of run.command l) e1) (sym (append-nil h.told)) h.wrote.second)
+  -- not all
+  abbrev Handing : Cause → Type 0
+  Handing cause = HandsSomeOn gathering run.left run.calls run.settings.limits (kept mid) run.failures (WritesAll run.held run.write_failures) (LeavesWritten run.held run.write_failures) tally.count cause
+      mid.reader new.reader s1 s2
 
-    pub stop_hand : (cause : Cause) → Handing cause → Torn run new (ByCause cause) w2 e1
-    stop_hand Memory s = stops_some Memory s (inl refl) (s.caused ∙ h.failed) (wrote_next s.items s.texts s.output s.leaves)
-    stop_hand ReadFailed s = stops_some ReadFailed s (inl (s.all, refl)) (s.caused ∙ ap one_more h.failed) (wrote_next s.items s.texts s.output s.leaves)
-    stop_hand WriteFailed s =
-        stops_some WriteFailed s (inl refl) (s.caused ∙ h.failed) (subst (λ l. Breaks run.held run.write_failures l [] run.w0 w2) (out_next s.items s.texts s.output)
-        (wrote_breaks run.held run.write_failures (first_of run.command h.out h.told) (written carried.window s.texts) run.w0 w1 w2 h.wrote.first s.leaves))
-    stop_hand TooManyReads s =
-        let covered = covered_next s.items s.rest s.rest s.texts refl s.read s.output in
-        stops_some TooManyReads s (inl (s.all, refl))
-        (s.caused.0 ∙ h.failed, all_called run new (h.parts ++ wholes s.items) s.rest (h.out ++ written carried.window s.texts) h.told covered s.caused.1) (wrote_next s.items s.texts s.output s.leaves)
+  stops_some : (cause : Cause) (s : Handing cause) → AllRead run new (ByCause cause) (h.parts ++ wholes s.items) s.rest [] → Stopped run new (ByCause cause)
+      → GotFirst run.held run.write_failures (ByCause cause) (first_of run.command (h.out ++ written s1.carried.window s.given_up.texts) h.told) run.w0 s2.first.now → Torn run new (ByCause cause) s2.first.now e1
+  stops_some cause s all caused first =
+      let out = h.out ++ written s1.carried.window s.given_up.texts in
+      stops_plain run cause new (h.parts ++ wholes s.items) s.rest out h.told s2.first.now e1
+      (covered_next h new s2.first.now s.items s.rest s.rest s.given_up.texts refl s.read (made_is s.items s.given_up.texts s.given_up.made)) all caused
+      (subst (λ (l : List ℕ). GotFirst run.held run.write_failures (ByCause cause) (first_of run.command out l) run.w0 s2.first.now) (sym (append-nil h.told)) first)
+      (subst (λ (l : List ℕ). Wrote run.second_held run.second_failures run.e0 (second_of run.command l) e1) (sym (append-nil h.told)) h.wrote.second)
+
+  -- all that it made was written
+  wrote_some : {cause : Cause} (s : Handing cause) → Passes run.held run.write_failures (written s1.carried.window s.given_up.texts) (gathered_bytes s1.gathered) [] s1.first.now s2.first.now
+      → Wrote run.held run.write_failures run.w0 (first_of run.command (h.out ++ written s1.carried.window s.given_up.texts) h.told) s2.first.now
+  wrote_some s p = wrote_next h new s2.first.now s.items s.given_up.texts (made_is s.items s.given_up.texts s.given_up.made) empty refl p
+
+  pub stop_hand : (cause : Cause) → Handing cause → Torn run new (ByCause cause) s2.first.now e1
+  stop_hand Memory s = stops_some Memory s (inl refl) (s.caused ∙ h.failed) (wrote_some s s.given_up.leaves)
+  stop_hand ReadFailed s = stops_some ReadFailed s (inl (s.all, refl)) (s.caused ∙ ap one_more h.failed) (wrote_some s s.given_up.leaves)
+  stop_hand WriteFailed s =
+      let texts = s.given_up.texts in
+      let broken = subst (λ (g : List ℕ). Breaks run.held run.write_failures (written s1.carried.window texts) g s1.first.now s2.first.now) empty s.given_up.leaves in
+      stops_some WriteFailed s (inl refl) (s.caused ∙ h.failed) (subst (λ l. Breaks run.held run.write_failures l [] run.w0 s2.first.now) (out_next h new s2.first.now s.items texts (made_is s.items texts s.given_up.made))
+      (wrote_breaks run.held run.write_failures (first_of run.command h.out h.told) (written s1.carried.window texts) run.w0 s1.first.now s2.first.now h.wrote.first broken))
+  stop_hand TooManyReads s =
+      let texts = s.given_up.texts in
+      let covered = covered_next h new s2.first.now s.items s.rest s.rest texts refl s.read (made_is s.items texts s.given_up.made) in
+      stops_some TooManyReads s (inl (s.all, refl))
+      (s.caused.0 ∙ h.failed, all_called run new (h.parts ++ wholes s.items) s.rest (h.out ++ written s1.carried.window texts) h.told covered s.caused.1) (wrote_some s s.given_up.leaves)

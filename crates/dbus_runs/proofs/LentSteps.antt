@@ -1,11 +1,11 @@
 -- Bytes that are one message: those that a reader lends, and those that are turned.
-use Rattle.std.proofs.Common.{◌≡◌, ℕ, List, [], length, take, sym, ◌∙◌, subst, append-nil, arith}
-use Rattle.std.proofs.lemmas.List.{take_all}
+use Rattle.std.proofs.Common.{◌≡◌, ℕ, List, [], length, take, sym, ap, ◌∙◌, subst, append-nil, arith}
+use Rattle.std.proofs.lemmas.List.{length-take-le, take_all}
 use Rattle.dbus_value_model.specs.declared.limits.Limits.{Limits}
 use Rattle.dbus_value_model.specs.declared.order.Order.{Order}
 use Rattle.dbus_message_model.specs.Messages.{MessageTree, message_bytes}
 use Rattle.dbus_header.specs.MessageOutcomes.{IsWhole}
-use Rattle.dbus_header.proofs.OutcomeLaws.{one_whole, whole_bytes, whole_valid, valid_whole}
+use Rattle.dbus_header.proofs.OutcomeLaws.{one_whole, whole_bytes, whole_inside, whole_valid, valid_whole}
 use Rattle.dbus_validate.specs.declared.validating.Validated.{Validated}
 use Rattle.dbus_validate.specs.Validating.{IsValidatedWhole}
 use Rattle.dbus_stream.specs.RawNext.{Lends}
@@ -28,6 +28,12 @@ module _ (limits : Limits) where
   lent_whole w bytes j old new e same l =
       let here : IsWhole limits w l.gives.order l.gives.message l.size = subst (λ v. IsWhole v w l.gives.order l.gives.message l.size) same l.gives.whole in
       subst (λ (b : List ℕ). IsWhole limits b l.gives.order l.gives.message (length b)) (sym (e ∙ l.lent)) (front_whole w l.gives.order l.gives.message l.size here)
+
+  -- and they are as many as it has
+  pub lent_size : {R A : Type 0} (w bytes : List ℕ) (j : Validated) (old new : RawReader R A) → bytes ≡ lent_of new → (l : Lends w j old new) → length bytes ≡ l.size
+  lent_size w bytes j old new e l =
+      let inside = (whole_inside (limits_of old) w l.gives.order l.gives.message l.size l.gives.whole).1 in
+      ap length (e ∙ l.lent) ∙ length-take-le l.size w inside
 
   -- they were validated
   pub lent_validated : {R A : Type 0} (w bytes : List ℕ) (j : Validated) (old new : RawReader R A) → bytes ≡ lent_of new → limits_of old ≡ limits → Lends w j old new

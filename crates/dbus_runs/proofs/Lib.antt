@@ -1,4 +1,4 @@
-pub mod WindowLaws
+pub mod WindowSteps
 pub mod OutputSteps
 pub mod Outputs
 pub mod LentSteps

@@ -14,10 +14,9 @@ use Rattle.dbus_command.proofs.Selections.{selected}
 use Rattle.dbus_command.specs.declared.command.Command.{Command}
 use Rattle.dbus_command.specs.declared.command.Command.TheVariants.{Show, Json, Check, Swap, Filter}
 use Rattle.dbus_runs.specs.Laws.{OneFront, OneOutput, SomeOutput}
-use Rattle.dbus_runs.specs.Output.{IsExact, IsFront, IsOutputOf, IsOutputOfAll, IsTextOf, Picks, last_line, owners_after, owners_known}
+use Rattle.dbus_runs.specs.Output.{IsExact, IsFront, IsOutputOf, IsOutputOfAll, IsTextOf, Picks, last_line, owners_after, owners_known, owners_after_all}
 use Rattle.dbus_report.specs.Gathering.{IsPrefixTo}
-use Rattle.dbus_runs.specs.Onward.{owners_after_all}
-use Rattle.dbus_runs.proofs.OutputSteps.{output_both}
+use Rattle.dbus_runs.specs.OutputLaws.{output_both}
 
 -- ---- there is one
 

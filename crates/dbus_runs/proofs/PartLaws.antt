@@ -14,10 +14,9 @@ use Rattle.dbus_match.specs.Matching.{Ownership}
 use Rattle.dbus_command.specs.declared.command.Command.{Command}
 use Rattle.dbus_command.specs.declared.command.Command.TheVariants.{Show, Json, Check, Swap, Filter}
 use Rattle.dbus_runs.specs.Going.{first_of, second_of}
-use Rattle.dbus_runs.specs.Output.{IsOutputOf, IsOutputOfAll, owners_after}
-use Rattle.dbus_runs.specs.Onward.{owners_after_all}
+use Rattle.dbus_runs.specs.Output.{IsOutputOf, IsOutputOfAll, owners_after, owners_after_all}
 use Rattle.dbus_runs.specs.Windows.{written}
-use Rattle.dbus_runs.proofs.WindowLaws.{written_none}
+use Rattle.dbus_runs.specs.WindowLaws.{written_none}
 use Rattle.dbus_runs.specs.Parts.{Part, Whole, PassedOver, size_of, sizes_of, IsPart, BeginWithParts, AreMade, AreTold, owners_past, passed_count, passed_sizes}
 
 -- ---- the input

@@ -33,7 +33,7 @@ use Rattle.dbus_runs.specs.declared.going.Handed.{Handed}
 use Rattle.dbus_runs.specs.declared.going.Stop.{Stop}
 use Rattle.dbus_runs.specs.declared.going.Stop.TheVariants.{Cause as ByCause, Second}
 use Rattle.dbus_runs.proofs.Outputs.{front_of_first}
-use Rattle.dbus_runs.proofs.WindowLaws.{written_all}
+use Rattle.dbus_runs.proofs.WindowSteps.{written_all}
 use Rattle.dbus_runs.proofs.WriteSteps.{wrote_both, wrote_stopped}
 
 abbrev pub plain : Limits → Settings

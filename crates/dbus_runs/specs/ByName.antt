@@ -5,9 +5,11 @@ use Rattle.dbus_value_model.specs.declared.limits.Limits.{Limits}
 use Rattle.dbus_device.specs.Write.{Wrote, Stopped}
 use Rattle.dbus_stream.specs.Cut.{CutMessage}
 use Rattle.dbus_count.specs.Counting.{Counting, with_names}
+use Rattle.dbus_count.specs.Kept.{counting_of}
 use Rattle.dbus_count.specs.Names.{names_of}
 use Rattle.dbus_count.specs.Tables.{AreTables, words}
 use Rattle.dbus_count.specs.declared.count.Count.{Count}
+use Rattle.dbus_count.specs.declared.counts.Counts.{Counts}
 use Rattle.dbus_count.specs.declared.form.Form.{Form}
 use Rattle.dbus_command.specs.declared.settings.Settings.{Settings}
 use Rattle.dbus_runs.specs.Counting.{CountsAll, CountsSome}
@@ -26,6 +28,17 @@ use Rattle.dbus_report.specs.declared.ending.ExitStatus.TheVariants as status
 abbrev pub after_messages : List CutMessage → (name : List ℕ) → Option Count → Option Count
 after_messages [] name c = c
 after_messages (item ∷ items) name c = after_messages items name (with_names (names_of item.message) item.size name c)
+
+-- messages were counted by their names
+abbrev pub CountsMessages : Counts → (n offset : ℕ) → List CutMessage → Counts → Type 0
+CountsMessages old n offset items new = (name : List ℕ) → counting_of new name ≡ after_messages items name (counting_of old name)
+
+-- no write failed
+abbrev pub IsUnwritten : Cause → Type 0
+IsUnwritten Memory = Unit {0}
+IsUnwritten ReadFailed = Unit {0}
+IsUnwritten WriteFailed = ⊥
+IsUnwritten TooManyReads = Unit {0}
 
 -- the count of each name that one of the messages has
 abbrev pub counting : List CutMessage → Counting

@@ -1,26 +1,23 @@
--- What was read and written where messages are handed to a command. g0 and g1 are what is gathered before and after.
-use Rattle.std.specs.Prelude.{◌≡◌, ◌↔◌, ℕ, Bool, IsTrue, Vec, List, [], ◌++◌, length, Option, Result, Ok, Err, IfOk}
+-- What is written of one message, and what is read of the next one. g0 and g1 are what is gathered before and after.
+use Rattle.std.specs.Prelude.{◌≡◌, ◌↔◌, ℕ, Bool, IsTrue, Vec, List, ◌++◌, length, Option, None, Result, Ok, Err, IfOk}
 use Rattle.std.specs.declared.alloc.Global.{Global}
-use Rattle.dbus_value_model.specs.declared.limits.Limits.{Limits}
 use Rattle.dbus_value_model.specs.declared.order.Order.{Order}
 use Rattle.dbus_message_model.specs.Messages.{MessageTree}
-use Rattle.dbus_header.specs.MessageOutcomes.{IsPartial}
 use Rattle.dbus_validate.specs.declared.validating.Validated.{Validated}
+use Rattle.dbus_stream.specs.Cut.{CutMessage}
 use Rattle.dbus_stream.specs.Next.{DeviceCounts}
 use Rattle.dbus_stream.specs.RawNext.{Reads, Advances}
 use Rattle.dbus_stream.specs.RawReading.{kept, source_of}
 use Rattle.dbus_stream.specs.declared.raw_reader.RawReader.{RawReader}
-use Rattle.dbus_stream.specs.declared.read_fault.ReadFault.{ReadFault}
-use Rattle.dbus_stream.specs.declared.read_fault.ReadFault.TheVariants as read
 use Rattle.dbus_json.specs.JsonMessages.{IsJsonLine}
 use Rattle.dbus_match.specs.declared.owner.Owner.{Owner}
 use Rattle.dbus_command.specs.declared.command.Command.{Command}
 use Rattle.dbus_report.specs.Devices.{Writing}
 use Rattle.dbus_runs.specs.Windows.{after, written}
 use Rattle.dbus_runs.specs.Output.{IsOutputOf, IsTextOf, Picks, owners_after, owners_known}
-use Rattle.dbus_report.specs.Gathering.{Passes, Breaks, GathersOrNot}
+use Rattle.dbus_report.specs.Gathering.{GathersOrNot}
 use Rattle.dbus_report.specs.declared.ending.Cause.{Cause}
-use Rattle.dbus_report.specs.declared.ending.Cause.TheVariants.{Memory, ReadFailed, WriteFailed, TooManyReads}
+use Rattle.dbus_runs.specs.Visiting.{HasKept, HasLetGo}
 use Rattle.dbus_runs.specs.declared.counted.NoMessage.{NoMessage}
 use Rattle.dbus_runs.specs.declared.counted.NoMessage.TheVariants.{Reader, Writer}
 use Rattle.dbus_runs.specs.declared.place.Carried.{Carried}
@@ -51,25 +48,12 @@ abbrev pub HandsOne : {W : Type 0} → Writing W → Command → (old new : Carr
 HandsOne w command old new order message place g0 g1 result = (texts : List (List ℕ)) × IsOutputOf command (owners_known command old.owners) order message place.number place.offset texts
     × IfOk result (λ _. GoesOnAfter command message texts old new) × GathersOrNot w.held w.failures (written old.window texts) g0 g1 w.old w.new result
 
--- where reading was given up, what is left is no message and no fault, as far as it goes
-abbrev pub AreAll : Limits → Cause → List ℕ → Type 0
-AreAll limits Memory rest = Unit {0}
-AreAll limits ReadFailed rest = IsPartial limits rest
-AreAll limits WriteFailed rest = Unit {0}
-AreAll limits TooManyReads rest = IsPartial limits rest
-
--- all that was gathered was written, where a read was tried
-abbrev pub IsWrittenOut : ReadFault → List ℕ → Type 0
-IsWrittenOut read.Memory g = Unit {0}
-IsWrittenOut (read.Format fault) g = Unit {0}
-IsWrittenOut read.Device g = g ≡ []
-IsWrittenOut read.TooManyReads g = g ≡ []
-
-module _ {R W : Type 0} (left : R → Option (List ℕ)) (calls read_failures : R → ℕ) where
-  -- what a reader validates of its next message, which it lends, where what is gathered may have been written before
-  abbrev pub GivesNext : {A : Type 0} → RawReader R A → RawReader R A → Writing W → List ℕ → List ℕ → Result (Option Validated) NoMessage → Type 0
-  GivesNext old new w g0 g1 (Ok validated) = (r : Reads left calls old new) × Advances (kept old ++ r.bytes) old new (Ok validated)
-      × (read_failures (source_of new) ≡ read_failures (source_of old)) × Passes w.held w.failures [] g0 g1 w.old w.new
-  GivesNext old new w g0 g1 (Err (Reader fault)) = (r : Reads left calls old new) × Advances (kept old ++ r.bytes) old new (Err fault)
-      × DeviceCounts {T = Option Validated} (read_failures (source_of old)) (read_failures (source_of new)) (Err fault) × Passes w.held w.failures [] g0 g1 w.old w.new × IsWrittenOut fault g1
-  GivesNext old new w g0 g1 (Err Writer) = Reads left calls old new × Breaks w.held w.failures [] g0 w.old w.new × (read_failures (source_of new) ≡ read_failures (source_of old))
+module _ {R S : Type 0} (left : R → Option (List ℕ)) (calls read_failures : R → ℕ) (takes : S → (n offset : ℕ) → List CutMessage → S → Type 0)
+    (leaves : S → (n offset : ℕ) → List CutMessage → Cause → S → Type 0) (settled : S → Type 0) where
+  -- what a reader validates of its next message, which it lends; before a read, and if there is none, a visitor let go what it held back
+  abbrev pub GivesNext : {A : Type 0} → RawReader R A → RawReader R A → S → S → Result (Option Validated) NoMessage → Type 0
+  GivesNext old new s0 s1 (Ok validated) = (r : Reads left calls old new) × Advances (kept old ++ r.bytes) old new (Ok validated)
+      × (read_failures (source_of new) ≡ read_failures (source_of old)) × HasLetGo takes leaves s0 s1 × (validated ≡ None → settled s1)
+  GivesNext old new s0 s1 (Err (Reader fault)) = (r : Reads left calls old new) × Advances (kept old ++ r.bytes) old new (Err fault)
+      × DeviceCounts {T = Option Validated} (read_failures (source_of old)) (read_failures (source_of new)) (Err fault) × HasLetGo takes leaves s0 s1 × settled s1
+  GivesNext old new s0 s1 (Err Writer) = Reads left calls old new × HasKept takes leaves s0 s1 × (read_failures (source_of new) ≡ read_failures (source_of old))

@@ -37,6 +37,11 @@ owners_after Check os message = os
 owners_after (Swap order) os message = os
 owners_after (Filter selection) os message = known_after selection os message
 
+-- the owners that a command knows after messages, if it knew these before
+abbrev pub owners_after_all : Command → List Ownership → List CutMessage → List Ownership
+owners_after_all command os [] = os
+owners_after_all command os (item ∷ items) = owners_after_all command (owners_after command os item.message) items
+
 -- a command makes a text of the message, if it knows these owners
 abbrev pub Picks : Command → List Ownership → MessageTree → Type 0
 Picks Show os message = Unit {0}

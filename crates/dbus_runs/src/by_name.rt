@@ -1,25 +1,20 @@
 //! The messages of a source, counted by their names.
-ghost use Rattle.std.specs.Prelude.{◌≡◌, ◌≤◌, ◌^◌, ℕ, List, IfOk, OnOk, length, string_bytes};
-ghost use Rattle.dbus_value_model.specs.declared.order.Order.{Order};
-ghost use Rattle.dbus_message_model.specs.Messages.{MessageTree};
-ghost use Rattle.dbus_header.specs.MessageOutcomes.{IsWhole};
-ghost use Rattle.dbus_validate.specs.Validating.{IsValidatedWhole};
+ghost use Rattle.std.specs.Prelude.{◌≡◌, ◌≤◌, ◌^◌, IfOk, string_bytes};
 ghost use Rattle.dbus_stream.specs.RawReading.{IsNewReader, kept, most_reads_of, source_of};
-ghost use Rattle.dbus_count.specs.Counting.{with_names};
 ghost use Rattle.dbus_count.specs.Kept.{counting_of};
-ghost use Rattle.dbus_count.specs.Names.{names_of};
-ghost use Rattle.dbus_runs.specs.ByName.{CountsByName, CountsNames, IsFaultTold, ReadsNames, WritesCounts, WritesTables};
+ghost use Rattle.dbus_runs.specs.ByName.{CountsByName, CountsMessages, IsFaultTold, IsUnwritten, ReadsNames, WritesCounts, WritesTables};
+ghost use Rattle.dbus_runs.specs.CountLaws as laws;
 ghost use Rattle.dbus_report.specs.Devices.{reading, taken, writing};
 
 use crate::closing::status_of;
 use crate::counted::Counted;
-use crate::handing::ended_by;
+use crate::handing::hand_all;
+use crate::place::Lent;
+use crate::visitor::MessageVisitor;
 use dbus_command::Settings;
 use dbus_count::{Counts, Form};
-use dbus_report::{Cause, ExitStatus, Refusal, give_up, refusal_text};
+use dbus_report::{Cause, ExitStatus, Refusal, Unwritten, give_up, refusal_text};
 use dbus_stream::{MOST_READS, RawReader, Sink, Source, WrittenOnly, write_all};
-use dbus_validate::Validated;
-use dbus_value_model::Limits;
 use dbus_view::MessageView;
 use std::alloc::{AllocError, Global};
 
@@ -102,7 +97,7 @@ fn read_all<R: Source>(
     ensures same_reference { R.reference (source_of messages.new) ≡
         R.reference (source_of messages.old) }
 {
-    match count_all(settings.limits, messages, counts) {
+    match hand_all(settings.limits, 0, messages, counts) {
         Ok(counted) => match fault_text(alloc, settings, counted, messages) {
             Ok(told) => Ok(Read { counted, told }),
             Err(_) => Err(Cause::Memory),
@@ -135,57 +130,26 @@ fn fault_text<R: Source>(
     }
 }
 
-// Counts the messages of the reader by their names, up to the end of the input or a fault.
-fn count_all<R: Source>(
-    limits: Limits,
-    messages: &mut RawReader<R>,
-    counts: &mut Counts,
-) -> Result<Counted, Cause>
-    requires { IsNewReader (source_of messages.old) (most_reads_of messages.old) limits messages.old }
-    ensures counts { CountsNames
-        (taken (reading R.left R.calls R.failures (source_of messages.old) (source_of messages.new)))
-        limits (most_reads_of messages.old) (counting_of counts.old) (counting_of counts.new) (kept messages.new)
-        result }
-    ensures few { IfOk result (λ counted. counted.count ≤ 2 ^ 50) }
-    ensures same_reference { R.reference (source_of messages.new) ≡
-        R.reference (source_of messages.old) }
-{
-    let mut count = 0u64;
-    'messages: loop {
-        match messages.advance() {
-            Ok(Some(validated)) => {
-                count += 1;
-                match count_one(limits, messages.message(), &validated, counts) {
-                    Ok(()) => {}
-                    Err(_) => return Err(Cause::Memory),
-                }
-            }
-            Ok(None) => {
-                return Ok(Counted {
-                    count,
-                    size: messages.done(),
-                    fault: None,
-                });
-            }
-            Err(fault) => return ended_by(count, messages.done(), fault),
+impl MessageVisitor for Counts {
+    ghost takes = { CountsMessages };
+
+    ghost leaves = { λ _ _ _ _ cause _. IsUnwritten cause };
+
+    ghost settled = { λ _. Unit {0} };
+
+    fn settle(&mut self) -> Result<(), Unwritten> {
+        Ok(())
+    }
+
+    fn take(&mut self, lent: &Lent<'_>) -> Result<(), Cause> {
+        let view = MessageView::of_validated(lent.bytes, lent.limits, lent.validated);
+        match self.add(&view) {
+            Ok(()) => Ok(()),
+            Err(_) => Err(Cause::Memory),
         }
     }
-}
 
-// Counts a message by its names.
-fn count_one(
-    limits: Limits,
-    bytes: &[u8],
-    validated: &Validated,
-    counts: &mut Counts,
-) -> Result<(), AllocError>
-    requires { IsValidatedWhole limits bytes.now validated.now }
-    ensures { (order : Order) (m : MessageTree) → IsWhole limits bytes.now order m (length bytes.now) →
-        OnOk result ((name : List ℕ) → counting_of counts.new name ≡
-        with_names (names_of m) (length bytes.now) name (counting_of counts.old name)) }
-{
-    let view = MessageView::of_validated(bytes, limits, *validated);
-    counts.add(&view)
+    ghost adds_up = { laws.adds_up };
 }
 
 // Writes the tables on the first writer, and then what is told of the fault on the second.

@@ -1,14 +1,15 @@
 //! A command by its settings: refused messages may be explained, and passed over.
-ghost use Rattle.std.specs.Prelude.{◌≡◌, ◌≤◌, ◌^◌, [], IfErr, IfOk, string_bytes};
+ghost use Rattle.std.specs.Prelude.{◌≡◌, ◌≤◌, ◌^◌, IfErr, IfOk, string_bytes};
 ghost use Rattle.dbus_stream.specs.RawReading.{IsNewReader, kept, most_reads_of, source_of};
 ghost use Rattle.dbus_runs.specs.Commands.{command_of};
 ghost use Rattle.dbus_report.specs.Devices.{reading, taken, writing};
-ghost use Rattle.dbus_report.specs.Gathering.{gathered_bytes};
 ghost use Rattle.dbus_runs.specs.Going.{IsUntold, PartsOf, RunsWith, TellsBy, TellsStop, WritesBy, cause_of, is_check};
+ghost use Rattle.dbus_runs.specs.OutputWriting.{IsFresh};
 
-use crate::handing::hand_and_write;
+use crate::handing::hand_all;
 use crate::output::{Output, Plan, output_of};
-use crate::place::{Before, Carried};
+use crate::output_writer::OutputWriter;
+use crate::place::Carried;
 use crate::tally::{Tally, closing_line, tells_first};
 use dbus_command::{Command, Settings};
 use dbus_report::{Cause, ExitStatus, Gathered, Refusal, give_up, refusal_text};
@@ -176,18 +177,18 @@ fn hand_parts<R: Source, A: Allocator + Copy, W: Sink, E: Sink>(
     alloc: A,
     plan: Plan,
     messages: &mut RawReader<R, A>,
-    gathered: &mut Gathered,
-    first: &mut W,
+    writer: &mut OutputWriter<'_, A, W>,
     second: &mut E,
 ) -> Result<Handed, Stop>
     requires new { IsNewReader (source_of messages.old) (most_reads_of messages.old) plan.settings.limits
         messages.old }
-    requires empty { gathered_bytes gathered.old ≡ [] }
+    requires fresh { IsFresh plan writer.old }
     ensures parts { PartsOf (taken (reading R.left R.calls R.failures (source_of messages.old) (source_of messages.new)))
         W.held W.failures E.held E.failures plan.entry.settings plan.entry.settings.limits (most_reads_of messages.old) (command_of plan.entry.output) result
-        first.old first.new second.old second.new }
+        writer.old.first.now writer.new.first.now second.old second.new }
     ensures same_reference { R.reference (source_of messages.new) ≡
         R.reference (source_of messages.old) }
+    ensures same_first { writer.new.first.ghost_name ≡ writer.old.first.ghost_name }
 {
     let mut tally = Tally {
         count: 0,
@@ -195,16 +196,8 @@ fn hand_parts<R: Source, A: Allocator + Copy, W: Sink, E: Sink>(
         passed: 0,
         passed_size: 0,
     };
-    let mut before = Before {
-        count: 0,
-        carried: Carried {
-            window: plan.settings.window,
-            owners: None,
-        },
-    };
     'parts: loop {
-        before.count = tally.count;
-        let counted = match hand_and_write(alloc, plan, &mut before, messages, gathered, first) {
+        let counted = match hand_all(plan.settings.limits, tally.count, messages, writer) {
             Ok(counted) => counted,
             Err(cause) => return Err(Stop::Cause(cause)),
         };
@@ -218,7 +211,7 @@ fn hand_parts<R: Source, A: Allocator + Copy, W: Sink, E: Sink>(
             offset: counted.size,
             fault,
         };
-        match tell(alloc, plan, refusal, messages, first, second) {
+        match tell(alloc, plan, refusal, messages, writer.first, second) {
             Ok(()) => {}
             Err(stop) => return Err(stop),
         }
@@ -253,8 +246,18 @@ fn hand_through<R: Source + Drop, A: Allocator + Copy, W: Sink, E: Sink>(
     ensures same_reference { R.reference result.1 ≡ R.reference source }
 {
     let mut messages = RawReader::within(alloc, source, reads, plan.settings.limits);
-    let mut gathered = Gathered::new();
-    let handed = hand_parts(alloc, plan, &mut messages, &mut gathered, first, second);
+    let mut writer = OutputWriter {
+        output: plan.output,
+        carried: Carried {
+            window: plan.settings.window,
+            owners: None,
+        },
+        spare: Vec::new(alloc),
+        gathered: Gathered::new(),
+        first,
+    };
+    let handed = hand_parts(alloc, plan, &mut messages, &mut writer, second);
+    let _first = writer.into_first();
     (handed, messages.into_source())
 }
 

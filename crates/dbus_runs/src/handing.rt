@@ -1,59 +1,56 @@
-//! Something is written of each message of a reader.
-ghost use Rattle.std.specs.Prelude.{◌≡◌, ◌≤◌, ◌^◌, ℕ, List, [], None, Err, IfOk};
+//! The messages of a reader are handed to a visitor.
+ghost use Rattle.std.specs.Prelude.{◌≡◌, ◌≤◌, ◌^◌, ℕ, None, IfOk};
 ghost use Rattle.dbus_stream.specs.RawReading.{source_of, done_of, limits_of, stopped_of};
 ghost use Rattle.dbus_runs.specs.Counting.{ended_by, stopped_by};
-ghost use Rattle.dbus_report.specs.Devices.{writing};
-ghost use Rattle.dbus_report.specs.Gathering.{GathersOrNot, gathered_bytes};
 ghost use Rattle.dbus_runs.specs.Handing.{GivesNext};
 ghost use Rattle.dbus_runs.specs.Onward.{RawHandsOn};
-ghost use Rattle.dbus_runs.specs.Commands.{command_of};
 
 use crate::counted::{Counted, NoMessage};
-use crate::output::{Plan, hand_one};
-use crate::place::{Before, Lent, Place};
-use dbus_report::{Cause, Gathered, Unwritten, write_out};
-use dbus_stream::{RawReader, ReadFault, Sink, Source};
+use crate::place::{Lent, Place};
+use crate::visitor::MessageVisitor;
+use dbus_report::{Cause, Unwritten};
+use dbus_stream::{RawReader, ReadFault, Source};
 use dbus_validate::Validated;
+use dbus_value_model::Limits;
 use std::alloc::Allocator;
 
-// What is validated of the next message, which the reader lends then, if there is one. If it keeps none, what is gathered is
-// written, and then more is read.
-fn next_message<R: Source, A: Allocator + Copy, W: Sink>(
+// What is validated of the next message, which the reader lends then, if there is one. If it keeps none, the visitor lets go what
+// it holds back, and then more is read, unless what it keeps has a fault.
+fn next_message<R: Source, A: Allocator + Copy, V: MessageVisitor>(
     messages: &mut RawReader<R, A>,
-    gathered: &mut Gathered,
-    first: &mut W,
+    visitor: &mut V,
 ) -> Result<Option<Validated>, NoMessage>
     requires { stopped_of messages.old ≡ None }
-    ensures gives { GivesNext R.left R.calls R.failures messages.old messages.new
-        (writing W.held W.failures first.old first.new) (gathered_bytes gathered.old) (gathered_bytes gathered.new)
-        result }
+    ensures gives { GivesNext R.left R.calls R.failures V.takes V.leaves V.settled messages.old messages.new
+        visitor.old visitor.new result }
     ensures few { IfOk result (λ _. done_of messages.new ≤ 2 ^ 50) }
     ensures same_reference { R.reference (source_of messages.new) ≡
         R.reference (source_of messages.old) }
 {
     match messages.advance_kept() {
         Ok(Some(validated)) => Ok(Some(validated)),
-        Ok(None) => read_message(messages, gathered, first),
-        Err(fault) => Err(NoMessage::Reader(fault)),
+        Ok(None) => read_message(messages, visitor),
+        Err(fault) => match visitor.settle() {
+            Ok(()) => Err(NoMessage::Reader(fault)),
+            Err(Unwritten) => Err(NoMessage::Writer),
+        },
     }
 }
 
-// What is validated of the next message, which the reader lends then, if there is one. Before it reads, what is gathered is
-// written.
-fn read_message<R: Source, A: Allocator + Copy, W: Sink>(
+// What is validated of the next message, which the reader lends then, if there is one. Before it reads, the visitor lets go what it
+// holds back.
+fn read_message<R: Source, A: Allocator + Copy, V: MessageVisitor>(
     messages: &mut RawReader<R, A>,
-    gathered: &mut Gathered,
-    first: &mut W,
+    visitor: &mut V,
 ) -> Result<Option<Validated>, NoMessage>
     requires { stopped_of messages.old ≡ None }
-    ensures gives { GivesNext R.left R.calls R.failures messages.old messages.new
-        (writing W.held W.failures first.old first.new) (gathered_bytes gathered.old) (gathered_bytes gathered.new)
-        result }
+    ensures gives { GivesNext R.left R.calls R.failures V.takes V.leaves V.settled messages.old messages.new
+        visitor.old visitor.new result }
     ensures few { IfOk result (λ _. done_of messages.new ≤ 2 ^ 50) }
     ensures same_reference { R.reference (source_of messages.new) ≡
         R.reference (source_of messages.old) }
 {
-    match write_out(gathered, first) {
+    match visitor.settle() {
         Ok(()) => match messages.advance() {
             Ok(validated) => Ok(validated),
             Err(fault) => Err(NoMessage::Reader(fault)),
@@ -62,31 +59,29 @@ fn read_message<R: Source, A: Allocator + Copy, W: Sink>(
     }
 }
 
-// Writes what is wanted of each message of the reader, up to the end of the input or a fault. `before` is then what is carried on to
-// those that follow.
-fn hand_all<R: Source, A: Allocator + Copy, W: Sink>(
-    alloc: A,
-    plan: Plan,
-    before: &mut Before,
+/// Hands each message of the reader to the visitor, up to the end of the input or a fault, after which the visitor holds nothing
+/// back. So many messages came before.
+///
+/// `Memory`, `ReadFailed`, `WriteFailed`, `TooManyReads`: why reading was given up.
+pub(crate) fn hand_all<R: Source, A: Allocator + Copy, V: MessageVisitor>(
+    limits: Limits,
+    before: u64,
     messages: &mut RawReader<R, A>,
-    gathered: &mut Gathered,
-    first: &mut W,
+    visitor: &mut V,
 ) -> Result<Counted, Cause>
     requires unstopped { stopped_of messages.old ≡ None }
-    requires within { limits_of messages.old ≡ plan.settings.limits }
-    requires few { before.old.count ≤ done_of messages.old }
-    ensures hands { RawHandsOn R.left R.calls R.failures W.held W.failures plan.entry.settings.limits (command_of plan.entry.output) before.old
-        before.new.carried messages.old messages.new (gathered_bytes gathered.old) (gathered_bytes gathered.new) first.old first.new result }
+    requires within { limits_of messages.old ≡ limits }
+    requires few { before ≤ done_of messages.old }
+    ensures hands { RawHandsOn R.left R.calls R.failures V.takes V.leaves limits before messages.old messages.new
+        visitor.old visitor.new result }
+    ensures settled { IfOk result (λ _. V.settled visitor.new) }
     ensures same_reference { R.reference (source_of messages.new) ≡
         R.reference (source_of messages.old) }
 {
-    let output = plan.output;
-    let limits = plan.settings.limits;
-    let mut count = before.count;
-    let mut spare = Vec::new(alloc);
+    let mut count = before;
     'messages: loop {
         let offset = messages.done();
-        match next_message(messages, gathered, first) {
+        match next_message(messages, visitor) {
             Ok(Some(validated)) => {
                 count += 1;
                 let lent = Lent {
@@ -98,14 +93,7 @@ fn hand_all<R: Source, A: Allocator + Copy, W: Sink>(
                         offset,
                     },
                 };
-                match hand_one(
-                    output,
-                    &lent,
-                    &mut before.carried,
-                    &mut spare,
-                    gathered,
-                    first,
-                ) {
+                match visitor.take(&lent) {
                     Ok(()) => {}
                     Err(cause) => return Err(cause),
                 }
@@ -145,47 +133,5 @@ pub(crate) fn ended_by(count: u64, size: u64, fault: ReadFault) -> Result<Counte
         ReadFault::Memory => Err(Cause::Memory),
         ReadFault::Device => Err(Cause::ReadFailed),
         ReadFault::TooManyReads => Err(Cause::TooManyReads),
-    }
-}
-
-/// Writes what is wanted of each message of the reader, up to the end of the input or a fault, and then what is gathered. `before` is
-/// then what is carried on to those that follow.
-pub(crate) fn hand_and_write<R: Source, A: Allocator + Copy, W: Sink>(
-    alloc: A,
-    plan: Plan,
-    before: &mut Before,
-    messages: &mut RawReader<R, A>,
-    gathered: &mut Gathered,
-    first: &mut W,
-) -> Result<Counted, Cause>
-    requires unstopped { stopped_of messages.old ≡ None }
-    requires within { limits_of messages.old ≡ plan.settings.limits }
-    requires few { before.old.count ≤ done_of messages.old }
-    requires empty { gathered_bytes gathered.old ≡ [] }
-    ensures hands { RawHandsOn R.left R.calls R.failures W.held W.failures plan.entry.settings.limits (command_of plan.entry.output) before.old
-        before.new.carried messages.old messages.new [] [] first.old first.new result }
-    ensures emptied { IfOk result (λ _. gathered_bytes gathered.new ≡ []) }
-    ensures same_reference { R.reference (source_of messages.new) ≡
-        R.reference (source_of messages.old) }
-{
-    match hand_all(alloc, plan, before, messages, gathered, first) {
-        Ok(handed) => match write_out(gathered, first) {
-            Ok(()) => Ok(handed),
-            Err(Unwritten) => Err(Cause::WriteFailed),
-        },
-        Err(Cause::Memory) => Err(out_of_memory(gathered, first)),
-        Err(cause) => Err(cause),
-    }
-}
-
-// Writes what is gathered if memory ran out, and returns why the run fails.
-fn out_of_memory<W: Sink>(gathered: &mut Gathered, first: &mut W) -> Cause
-    ensures gathers { GathersOrNot W.held W.failures [] (gathered_bytes gathered.old) (gathered_bytes gathered.new)
-        first.old first.new (Err result) }
-    ensures emptied { (gathered_bytes gathered.new) ≡ [] }
-{
-    match write_out(gathered, first) {
-        Ok(()) => Cause::Memory,
-        Err(Unwritten) => Cause::WriteFailed,
     }
 }

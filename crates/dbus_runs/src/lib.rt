@@ -16,11 +16,13 @@ mod handing;
 mod json_lines;
 pub mod laws;
 mod output;
+mod output_writer;
 mod place;
 mod running;
 mod showing;
 mod swapping;
 mod tally;
+mod visitor;
 mod window;
 
 pub use by_name::count_by_name;

@@ -22,14 +22,6 @@ pub(crate) struct Carried {
     pub(crate) owners: Option<Vec<Owner>>,
 }
 
-/// Where a run stands between messages.
-#[derive(Drop)]
-pub(crate) struct Before {
-    /// How many messages came before.
-    pub(crate) count: u64,
-    pub(crate) carried: Carried,
-}
-
 /// A message of an input.
 #[derive(Clone, Copy)]
 pub(crate) struct Lent<'a> {

@@ -1,19 +1,14 @@
-use Rattle.std.proofs.Common.{◌≡◌, ◌≤◌, ◌<◌, ◌^◌, ◌++◌, [], inr, drop, Ok, arith, refl, sym, ap, ◌∙◌, subst}
+use Rattle.std.proofs.Common.{◌≡◌, ◌≤◌, ◌<◌, ◌^◌, ◌++◌, [], drop, Ok, arith, refl, sym, ap, ◌∙◌, subst}
 use Rattle.dbus_header.proofs.OutcomeLaws.{whole_inside}
 use Rattle.dbus_stream.specs.CheckReading.{GivesLength, limits_of, Reads}
 use Rattle.dbus_stream.specs.Cut.{CutMessage, Ended}
 use Rattle.dbus_stream.specs.Lengths.{lengths}
 use Rattle.dbus_stream.specs.Reading.{done_of, most_reads_of, source_of}
-use Rattle.dbus_command.specs.declared.command.Command.TheVariants.{Check}
 use Rattle.dbus_runs.specs.Counting.{Tallies, ended_by}
 use Rattle.dbus_report.specs.Devices.{reading, taken}
-use Rattle.dbus_report.specs.Gathering.{Passes}
-use Rattle.dbus_report.specs.PageLaws.{passes_none}
-use Rattle.dbus_runs.proofs.GivenSteps.{written_out}
 use Rattle.dbus_runs.proofs.ReadSteps.{length-sizes}
 use Rattle.dbus_runs.proofs.HandSteps.{hands_none, hands_more, hands_all, hands_faulted}
-use Rattle.dbus_runs.proofs.CountSteps.{check_faults, from_start, tallied, unwritten}
-use Rattle.dbus_runs.proofs.WindowLaws.{written_none}
+use Rattle.dbus_runs.proofs.CountSteps.{adds_up, check_faults, counts, gives_up, tallied}
 use Rattle.dbus_runs.proofs.counting.count_all.Goals as goal
 use Rattle.dbus_runs.proofs.counting.count_all.Goals.{In-Ok-Some}
 
@@ -22,7 +17,7 @@ messages-init g c =
     let new = c.requires in (
       [],
       new.kept,
-      hands_none lengths g.R.Source.left g.R.Source.calls g.R.Source.failures unwritten.held unwritten.failures (limits_of c.args.messages.now) Check [] from_start c.args.messages.now [] tt refl new.stopped,
+      hands_none lengths g.R.Source.left g.R.Source.calls g.R.Source.failures counts (limits_of c.args.messages.now) [] 0 adds_up.nothing c.args.messages.now tt refl new.stopped,
       refl,
     )
 
@@ -49,8 +44,7 @@ messages-preserved g c =
     let item : CutMessage = record { order = gives.order; message = gives.message; size = c.in-Ok-Some.field-0-0 } in (
       drop item.size (c.messages.invariant.0 ++ given.0.bytes),
       gives.kept,
-      hands_more c.messages.invariant.2 given.0 item [] from_start.carried gives.whole gives.done gives.unstopped c.in-Ok-Some.ensures.failed (inr (λ never. never, refl)) (record { window = refl; owners = refl })
-          (subst (λ l. Passes unwritten.held unwritten.failures l [] [] tt tt) (sym (written_none from_start.carried.window)) (passes_none unwritten.held unwritten.failures [] tt)),
+      hands_more adds_up c.messages.invariant.2 given.0 {s2 = tt} (λ _ _. tt) item gives.whole c.in-Ok-Some.ensures.failed gives.done gives.unstopped tt,
       c.next.ensures.same_reference ∙ c.messages.invariant.3,
     )
 
@@ -68,8 +62,8 @@ returns-in-Ok-None-clause-counts g c =
     let h = c.messages.invariant.2 in
     let read = rw c.in-Ok-None.field-0-is at (c.in-Ok-None.ensures.read rest c.messages.invariant.1) in
     let answer = read.1 h.unstopped in
-    tallied lengths g.R.Source.left g.R.Source.calls g.R.Source.failures (limits_of c.args.messages.now) (most_reads_of c.args.messages.now) [] refl c.args.messages.now c.requires.reads c.requires.most_reads c.requires.done c.requires.ended c.next.new.self (Ok _)
-    (hands_all h read.0 [] tt Ended _ refl c.done.ensures answer.2.done refl answer.0 (λ _. answer.1) c.in-Ok-None.ensures.failed (passes_none unwritten.held unwritten.failures [] tt))
+    tallied lengths g.R.Source.left g.R.Source.calls g.R.Source.failures (limits_of c.args.messages.now) (most_reads_of c.args.messages.now) [] refl c.args.messages.now c.requires.reads c.requires.most_reads c.requires.done c.requires.ended c.next.new.self counts gives_up {s0 = tt} {s1 = tt} (λ _ _ _ never. never) (Ok _)
+    (hands_all adds_up h read.0 {s2 = tt} (λ _ _. tt) Ended _ refl c.done.ensures answer.2.done refl answer.0 (λ _. answer.1) c.in-Ok-None.ensures.failed)
 
 pub returns-in-Err-clause-counts : goal.returns-in-Err-clause-counts
 returns-in-Err-clause-counts g c =
@@ -79,5 +73,5 @@ returns-in-Err-clause-counts g c =
     let read = c.in-Err.ensures.read rest c.messages.invariant.1 in
     let answer : c.ended_by.result ≡ ended_by c.messages.count (done_of c.next.new.self) fault = c.ended_by.ensures ∙ ap (λ n. ended_by c.messages.count n fault) c.done-in-Err.ensures in
     subst (λ x. Tallies (taken (reading g.R.Source.left g.R.Source.calls g.R.Source.failures (source_of c.args.messages.now) (source_of c.next.new.self))) (limits_of c.args.messages.now) (most_reads_of c.args.messages.now) x) (sym answer)
-    (tallied lengths g.R.Source.left g.R.Source.calls g.R.Source.failures (limits_of c.args.messages.now) (most_reads_of c.args.messages.now) [] refl c.args.messages.now c.requires.reads c.requires.most_reads c.requires.done c.requires.ended c.next.new.self (ended_by c.messages.count (done_of c.next.new.self) fault)
-    (hands_faulted h read.0 [] tt (passes_none unwritten.held unwritten.failures [] tt) fault (check_faults g.R.Source.left g.R.Source.calls g.R.Source.failures (limits_of c.args.messages.now) (rest ++ read.0.bytes) c.messages.messages c.next.new.self fault (read.1 h.unstopped)) c.in-Err.ensures.failed (written_out fault [] refl)))
+    (tallied lengths g.R.Source.left g.R.Source.calls g.R.Source.failures (limits_of c.args.messages.now) (most_reads_of c.args.messages.now) [] refl c.args.messages.now c.requires.reads c.requires.most_reads c.requires.done c.requires.ended c.next.new.self counts gives_up {s0 = tt} {s1 = tt} (λ _ _ _ never. never) (ended_by c.messages.count (done_of c.next.new.self) fault)
+    (hands_faulted adds_up h read.0 {s2 = tt} (λ _ _. tt) fault (check_faults (rest ++ read.0.bytes) c.messages.messages c.next.new.self fault (read.1 h.unstopped)) c.in-Err.ensures.failed tt))

@@ -18,10 +18,10 @@ invariant-parts g l =
       settings = l.plan.settings;
       command = command_of l.plan.output;
       old = l.fn.messages;
-      w0 = l.fn.first;
+      w0 = l.fn.writer.first.now;
       e0 = l.fn.second;
-    }) l.messages l.tally l.before.carried l.first l.second
-    × (stopped_of l.messages ≡ None) × (gathered_bytes l.gathered ≡ []) × (g.R.Source.reference (source_of l.messages) ≡ g.R.Source.reference (source_of l.fn.messages))
+    }) l.messages l.tally l.writer.carried l.writer.first.now l.second
+    × (stopped_of l.messages ≡ None) × (gathered_bytes l.writer.gathered ≡ []) × (l.writer.output ≡ l.plan.output) × (l.writer.first.ghost_name ≡ l.fn.writer.first.ghost_name) × (g.R.Source.reference (source_of l.messages) ≡ g.R.Source.reference (source_of l.fn.messages))
 
 abbrev pub decreases-parts : goal.decreases-parts
 decreases-parts g l = 2 ^ 50 - done_of l.messages

@@ -1,5 +1,5 @@
-use Rattle.std.proofs.Common.{subst, sym}
-use Rattle.dbus_stream.specs.RawReading.{source_of}
+use Rattle.std.proofs.Common.{◌≡◌, rules, subst, sym}
+use Rattle.dbus_stream.specs.RawReading.{most_reads_of, source_of}
 use Rattle.dbus_runs.specs.Commands.{command_of}
 use Rattle.dbus_report.specs.Devices.{reading, taken}
 use Rattle.dbus_runs.specs.Going.{PartsOf}
@@ -13,9 +13,13 @@ pub returns-clause-parts : goal.returns-clause-parts
 returns-clause-parts g c =
     let is = c.within-messages.ensures in
     let new = c.hand_parts-handed.new.messages in
+    let same = c.hand_parts-handed.ensures.same_first in
+    let back : c.hand_parts-handed.new.writer.first.now ≡ c.first-1.given.0 = search rules in
     subst (λ s. PartsOf (taken (reading g.R.Source.left g.R.Source.calls g.R.Source.failures c.args.source s)) g.W.Sink.held g.W.Sink.failures g.E.Sink.held g.E.Sink.failures c.args.plan.settings c.args.plan.settings.limits c.args.reads
-    (command_of c.args.plan.output) c.hand_parts-handed.result c.args.first.now c.hand_parts-handed.new.first c.args.second.now c.hand_parts-handed.new.second) (sym c.into_source.ensures)
+    (command_of c.args.plan.output) c.hand_parts-handed.result c.args.first.now c.first-1.given.0 c.args.second.now c.hand_parts-handed.new.second) (sym c.into_source.ensures)
     (subst (λ s. PartsOf (taken (reading g.R.Source.left g.R.Source.calls g.R.Source.failures s (source_of new))) g.W.Sink.held g.W.Sink.failures g.E.Sink.held g.E.Sink.failures c.args.plan.settings c.args.plan.settings.limits c.args.reads
-    (command_of c.args.plan.output) c.hand_parts-handed.result c.args.first.now c.hand_parts-handed.new.first c.args.second.now c.hand_parts-handed.new.second) is.source
+    (command_of c.args.plan.output) c.hand_parts-handed.result c.args.first.now c.first-1.given.0 c.args.second.now c.hand_parts-handed.new.second) is.source
     (subst (λ n. PartsOf (taken (reading g.R.Source.left g.R.Source.calls g.R.Source.failures (source_of c.within-messages.result) (source_of new))) g.W.Sink.held g.W.Sink.failures g.E.Sink.held g.E.Sink.failures c.args.plan.settings c.args.plan.settings.limits n
-    (command_of c.args.plan.output) c.hand_parts-handed.result c.args.first.now c.hand_parts-handed.new.first c.args.second.now c.hand_parts-handed.new.second) is.most_reads c.hand_parts-handed.ensures.parts))
+    (command_of c.args.plan.output) c.hand_parts-handed.result c.args.first.now c.first-1.given.0 c.args.second.now c.hand_parts-handed.new.second) is.most_reads
+    (subst (λ (w : g.row.W.Denot). PartsOf (taken (reading g.R.Source.left g.R.Source.calls g.R.Source.failures (source_of c.within-messages.result) (source_of new))) g.W.Sink.held g.W.Sink.failures g.E.Sink.held g.E.Sink.failures c.args.plan.settings c.args.plan.settings.limits
+    (most_reads_of c.within-messages.result) (command_of c.args.plan.output) c.hand_parts-handed.result c.args.first.now w c.args.second.now c.hand_parts-handed.new.second) back c.hand_parts-handed.ensures.parts)))

@@ -6,7 +6,7 @@ use Rattle.dbus_runs.specs.Output.{owners_known}
 use Rattle.dbus_report.specs.PageLaws.{passes_none}
 use Rattle.dbus_runs.specs.Windows.{text_if, written}
 use Rattle.dbus_runs.proofs.Outputs.{some_of_one, some_text}
-use Rattle.dbus_runs.proofs.WindowLaws.{after_none, written_none}
+use Rattle.dbus_runs.specs.WindowLaws.{after_none, written_none}
 use Rattle.dbus_runs.proofs.output.hand_one.Goals as goal
 
 if_ok : {A E : Type 0} {P : Type 0} (result : Result A E) → P → IfOk result (λ _. P)

@@ -1,5 +1,5 @@
--- What a window lets through of texts that follow others.
-use Rattle.std.proofs.Common.{◌≡◌, ℕ, zero, suc, ◌+◌, ◌-◌, ◌<◌, List, [], ◌∷◌, ◌++◌, Option, None, Some, option_map, length, take, drop, refl, sym, ap, ◌∙◌, arith, append-nil, length-append, length-drop}
+-- What a window lets through of texts that follow others. These laws stand here, and not in proofs/, because the laws of a writer of an output name them.
+use Rattle.std.proofs.Common.{◌≡◌, ℕ, zero, suc, ◌+◌, ◌-◌, List, [], ◌∷◌, ◌++◌, Option, None, Some, option_map, length, take, drop, refl, sym, ap, ◌∙◌, arith, length-append, length-drop}
 use Rattle.std.specs.List.{concat}
 use Rattle.std.proofs.lemmas.List.Folds.{concat-append}
 use Rattle.dbus_command.specs.declared.window.Window.{Window}
@@ -46,11 +46,11 @@ same_limit (Some l) skip = let same : l - (0 - skip) ≡ l = omega arith in ap S
 pub after_none : (window : Window) → after window 0 ≡ window
 after_none window = let skip : window.skip - 0 ≡ window.skip = omega arith in λ i. record { skip = skip i; limit = same_limit window.limit window.skip i }
 
-drop_none : {A : Type 0} (n : ℕ) → ◌≡◌ {A = List A} (drop n []) []
+pub drop_none : {A : Type 0} (n : ℕ) → ◌≡◌ {A = List A} (drop n []) []
 drop_none zero = refl
 drop_none (suc n) = refl
 
-at_most_none : {A : Type 0} (limit : Option ℕ) → ◌≡◌ {A = List A} (at_most limit []) []
+pub at_most_none : {A : Type 0} (limit : Option ℕ) → ◌≡◌ {A = List A} (at_most limit []) []
 at_most_none None = refl
 at_most_none (Some zero) = refl
 at_most_none (Some (suc n)) = refl
@@ -59,38 +59,9 @@ pub written_none : (window : Window) → written window [] ≡ []
 unfolding written
 written_none window = ap (λ l. concat (at_most window.limit l)) (drop_none window.skip) ∙ ap concat (at_most_none window.limit)
 
--- a window that leaves nothing out
-pub written_all : (texts : List (List ℕ)) → written (record { skip = 0; limit = None }) texts ≡ concat texts
-unfolding written
-written_all texts = refl
-
 -- where a window stands after texts, it goes on with more
 pub written_more : (window now : Window) (a b : List (List ℕ)) → now ≡ after window (length a) → written window a ++ written now b ≡ written window (a ++ b)
 written_more window now a b e = ap (λ w. written window a ++ written w b) e ∙ sym (written_both window a b)
 
 pub after_more : (window now : Window) (a b : List (List ℕ)) → now ≡ after window (length a) → after now (length b) ≡ after window (length (a ++ b))
 after_more window now a b e = ap (λ w. after w (length b)) e ∙ (after_both window (length a) (length b) ∙ ap (λ n. after window n) (sym (length-append a b)))
-
--- ---- one text
-
--- of numbers: the first is skipped
-skips_one : (skip : ℕ) (limit : Option ℕ) (text : List ℕ) → 0 < skip → concat (at_most limit (drop skip (text ∷ []))) ≡ []
-skips_one zero limit text some = absurd (omega (arith, some))
-skips_one (suc n) limit text some = ap (λ l. concat (at_most limit l)) (drop_none n) ∙ ap concat (at_most_none limit)
-
-passes_one : (limit : Option ℕ) (text : List ℕ) → (limit ≡ Some 0 → ⊥) → concat (at_most limit (text ∷ [])) ≡ text
-passes_one None text some = append-nil text
-passes_one (Some zero) text some = absurd (some refl)
-passes_one (Some (suc n)) text some = ap (λ l. text ++ concat l) (at_most_none (Some n)) ∙ append-nil text
-
-pub skipped : (window : Window) (text : List ℕ) → 0 < window.skip → written window (text ∷ []) ≡ []
-unfolding written
-skipped window text some = skips_one window.skip window.limit text some
-
-pub let_in : (window : Window) (text : List ℕ) → window.skip ≡ 0 → (window.limit ≡ Some 0 → ⊥) → written window (text ∷ []) ≡ text
-unfolding written
-let_in window text none some = ap (λ n. concat (at_most window.limit (drop n (text ∷ [])))) none ∙ passes_one window.limit text some
-
-pub kept_out : (window : Window) (text : List ℕ) → window.skip ≡ 0 → window.limit ≡ Some 0 → written window (text ∷ []) ≡ []
-unfolding written
-kept_out window text none limit = ap (λ n. concat (at_most window.limit (drop n (text ∷ [])))) none ∙ ap (λ l. concat (at_most l (text ∷ []))) limit
