@@ -5,8 +5,9 @@ use Rattle.std.proofs.KnownBytes.{Consumes-trans}
 use Rattle.std.proofs.lemmas.Bool.{false≢true}
 use Rattle.dbus_value_model.specs.declared.fault.Fault.{Fault}
 use Rattle.dbus_value_model.specs.declared.limits.Limits.{Limits}
-use Rattle.dbus_header.specs.MessageOutcomes.{IsRefused}
+use Rattle.dbus_header.specs.MessageOutcomes.{IsRefused, IsPartial}
 use Rattle.dbus_header.specs.StatedLengths.{StatesLength}
+use Rattle.dbus_header.proofs.OutcomeLaws.{one_outcome, nothing_partial}
 use Rattle.dbus_device.specs.Device.{one_more}
 use Rattle.dbus_device.specs.Write.{Wrote}
 use Rattle.dbus_stream.specs.Cut.{CutOutcome, Ended, Unfinished, Refused, IsOutcome}
@@ -14,7 +15,7 @@ use Rattle.dbus_stream.specs.CutEnds.{fault_at_end}
 use Rattle.dbus_stream.specs.Gathering.{gathering}
 use Rattle.dbus_stream.specs.Lasting.{is_truncated}
 use Rattle.dbus_stream.specs.Next.{DeviceCounts}
-use Rattle.dbus_stream.specs.Passing.{Passing, ReadsUpTo, IsRefusal, StatesAll, FallsShort, PassesOver}
+use Rattle.dbus_stream.specs.Passing.{Passing, ReadsUpTo, IsDue, IsRefusal, StatesAll, FallsShort, PassesOver}
 use Rattle.dbus_stream.specs.RawReading.{done_of, is_ended, kept, limits_of, most_reads_of, source_of, stopped_of}
 use Rattle.dbus_stream.specs.declared.raw_reader.RawReader.{RawReader}
 use Rattle.dbus_stream.specs.declared.read_fault.ReadFault.{ReadFault}
@@ -195,6 +196,11 @@ module _ {R A W E : Type 0} {run : Begun R A W E} {mid : RawReader R A} {counted
       states : (n : ℕ) → StatesLength (limits_of mid) (kept mid) n → StatesLength run.settings.limits (kept mid) n
       states n s = subst (λ (l : Limits). StatesLength l (kept mid) n) h.gone.covered.limits_are s
 
+      -- no byte of it was dropped before
+      stated : (other : Fault) (n : ℕ) → IsRefusal (stopped_of mid) other → IsDue mid n → StatesLength (limits_of mid) (kept mid) n
+      stated other n refusal (inl s) = s
+      stated other n refusal (inr o) = absurd ((one_outcome run.settings.limits (kept mid)).2 fault (met other refusal) (subst (λ l. IsPartial run.settings.limits l) (sym o.kept) (nothing_partial run.settings.limits)))
+
       -- what was read to pass over it
       abbrev passing : (n : ℕ) (r : ReadsUpTo n run.left run.calls mid new) → HasRead gathering run.left run.calls run.settings.limits (kept mid) mid.reader new.reader [] (kept mid ++ r.bytes)
       passing n r =
@@ -231,8 +237,8 @@ module _ {R A W E : Type 0} {run : Begun R A W E} {mid : RawReader R A} {counted
 
       pub stays : run.settings.keeps_going ≡ true → Passing run.left run.calls mid new (Ok false) → run.failures (source_of new) ≡ run.failures (source_of mid) → Handed run new tally (Some fault) w2 e2
       stays goes passing same = elim passing [
-        | inl p ↦ ends_short goes p.1 p.4 p.0 p.2 p.3 p.5.0 p.5.1 same
-        | inr none ↦ subst (λ (x : RawReader R A). Handed run x tally (Some fault) w2 e2) (sym none.2) (handed mid text w2 e2 wrote (through_there text told (λ goes. none.0)))
+        | inl p ↦ ends_short goes p.1 p.4 p.0 p.2 (stated p.0 p.1 p.2 p.3) p.5.0 p.5.1 same
+        | inr none ↦ subst (λ (x : RawReader R A). Handed run x tally (Some fault) w2 e2) (sym none.2) (handed mid text w2 e2 wrote (through_there text told (λ goes other n refusal all. none.0 other n refusal (inl all))))
       ]
 
       -- it was not passed over, since reading was given up
@@ -261,11 +267,11 @@ module _ {R A W E : Type 0} {run : Begun R A W E} {mid : RawReader R A} {counted
       breaks goes read.Memory passing counts = elim passing [ inl p ↦ absurd p.5 | inr none ↦ absurd (let e = none.1 in cc) ]
       breaks goes (read.Format f) passing counts = elim passing [ inl p ↦ absurd p.5 | inr none ↦ absurd (let e = none.1 in cc) ]
       breaks goes read.Device passing counts = elim passing [
-        | inl p ↦ torn goes (ByCause ReadFailed) p.1 p.4 p.0 p.2 p.3 p.5 (λ all. all) (counts.0 ∙ ap one_more h.gone.failed) wrote.first wrote.second
+        | inl p ↦ torn goes (ByCause ReadFailed) p.1 p.4 p.0 p.2 (stated p.0 p.1 p.2 p.3) p.5 (λ all. all) (counts.0 ∙ ap one_more h.gone.failed) wrote.first wrote.second
         | inr none ↦ absurd (let e = none.1 in cc)
       ]
       breaks goes read.TooManyReads passing counts = elim passing [
-        | inl p ↦ torn goes (ByCause TooManyReads) p.1 p.4 p.0 p.2 p.3 p.5.0 (λ all. all)
+        | inl p ↦ torn goes (ByCause TooManyReads) p.1 p.4 p.0 p.2 (stated p.0 p.1 p.2 p.3) p.5.0 (λ all. all)
             (counts ∙ h.gone.failed, all_called run new h.gone.parts (kept mid ++ p.4.bytes) h.gone.out h.gone.told (short_covered p.1 p.4) p.5.1) wrote.first wrote.second
         | inr none ↦ absurd (let e = none.1 in cc)
       ]
@@ -274,7 +280,7 @@ module _ {R A W E : Type 0} {run : Begun R A W E} {mid : RawReader R A} {counted
       pub goes_on : (past : Tally) (end : ℕ) → end ≡ done_of new → past ≡ record { count = tally.count + 1; size = end; passed = tally.passed + 1; passed_size = tally.passed_size + (end - tally.size) }
           → run.settings.keeps_going ≡ true → Passing run.left run.calls mid new (Ok true) → run.failures (source_of new) ≡ run.failures (source_of mid) → HasGone run new past carried w2 e2
       goes_on past end there past_is goes answer same = elim answer [
-        | inl p ↦ over past end there past_is goes p.1 p.4 p.0 p.2 p.3 p.5 same
+        | inl p ↦ over past end there past_is goes p.1 p.4 p.0 p.2 (stated p.0 p.1 p.2 p.3) p.5 same
         | inr none ↦ absurd (let e = none.1 in cc)
       ]
         where

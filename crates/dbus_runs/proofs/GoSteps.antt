@@ -12,7 +12,7 @@ use Rattle.dbus_stream.specs.Cut.{CutMessage, CutOutcome, Ended, Unfinished, Ref
 use Rattle.dbus_stream.specs.CutEnds.{fault_at_end, truncated, sizes}
 use Rattle.dbus_stream.specs.Gathering.{gathering}
 use Rattle.dbus_stream.specs.Lasting.{is_truncated}
-use Rattle.dbus_stream.specs.Passing.{Passing}
+use Rattle.dbus_stream.specs.Passing.{IsDue, Passing}
 use Rattle.dbus_stream.specs.RawReading.{IsNewReader, done_of, is_ended, kept, limits_of, most_reads_of, reads_of, source_of, stopped_of}
 use Rattle.dbus_stream.specs.declared.raw_reader.RawReader.{RawReader}
 use Rattle.dbus_command.specs.declared.settings.Settings.{Settings}
@@ -68,10 +68,14 @@ none_is w Ended e = refl
 none_is w Unfinished e = absurd cc
 none_is w (Refused fault) e = absurd cc
 
+due_bytes : {R A : Type 0} (mid : RawReader R A) (n : ℕ) → IsDue mid n → 0 < n
+due_bytes mid n (inl s) = stated_bytes (limits_of mid) (kept mid) n s
+due_bytes mid n (inr o) = o.some
+
 -- a message that is passed over has bytes
 pub grows : {R A : Type 0} (left : R → Option (List ℕ)) (calls : R → ℕ) (mid new : RawReader R A) → Passing left calls mid new (Ok true) → (stopped_of new ≡ None) × (done_of mid < done_of new)
 grows left calls mid new passing = elim passing [
-  | inl p ↦ (p.5.stopped, omega (arith, p.5.done, stated_bytes (limits_of mid) (kept mid) p.1 p.3))
+  | inl p ↦ (p.5.stopped, omega (arith, p.5.done, due_bytes mid p.1 p.3))
   | inr none ↦ absurd (let e = none.1 in cc)
 ]
 
