@@ -1,18 +1,33 @@
 -- The texts of header fields in their order: one field more.
 use Rattle.std.proofs.Common.{◌≡◌, ℕ, List, [], ◌∷◌, ◌++◌, Bool, true, false, cond, codes, decimal, append_assoc, refl, sym, ap, subst, ◌∙◌}
 use Rattle.std.specs.Bool.{beq}
+use Rattle.std.specs.List.{flat_map}
 use Rattle.std.proofs.lemmas.List.{append-nil}
+use Rattle.std.proofs.lemmas.List.Concat.{flat_map-append}
 use Rattle.std.proofs.lemmas.List.Elements.{filter-append}
 use Rattle.dbus_texts.specs.Types.{sig}
 use Rattle.dbus_value_model.specs.Values.{ValueTree, type_of}
 use Rattle.dbus_message_model.specs.Messages.{FieldTree, is_known}
 use Rattle.dbus_show.proofs.Gaining.{then}
-use Rattle.dbus_show_view.specs.Gaining.{Joins}
+use Rattle.dbus_value_text.specs.Gaining.{Joins}
 use Rattle.dbus_show.specs.ShownMessages.{field_name}
-use Rattle.dbus_json.specs.JsonValues.{plain, member, object, IsJson}
+use Rattle.dbus_json.specs.JsonValues.{plain, listed, member, object, IsJson}
 use Rattle.dbus_json.specs.JsonMessages.{IsField, AreFields, fields_of}
 use Rattle.dbus_json.specs.Writing.{led, next_lead}
-use Rattle.dbus_json.specs.VisitLaws.{led_push}
+
+-- ---- lists of texts
+
+pub led_push : (lead : List ℕ) (texts : List (List ℕ)) (text : List ℕ) → led lead (texts ++ text ∷ []) ≡ led lead texts ++ (next_lead lead texts ++ text)
+led_push lead [] text = ap (λ (s : List ℕ). lead ++ s) (append-nil text)
+led_push lead (t ∷ texts) text =
+    let more = λ (y : List ℕ). codes "," ++ y in
+    let rest = flat_map more texts in
+    ap (λ (s : List ℕ). lead ++ (t ++ s)) (flat_map-append more texts (text ∷ []) ∙ ap (λ (s : List ℕ). rest ++ s) (append-nil (more text)))
+    ∙ ap (λ (s : List ℕ). lead ++ s) (sym (append_assoc t rest (more text))) ∙ sym (append_assoc lead (t ++ rest) (more text))
+
+pub listed_led : (texts : List (List ℕ)) → listed texts ≡ led [] texts
+listed_led [] = refl
+listed_led (t ∷ texts) = refl
 
 -- ---- a field
 

@@ -1,6 +1,5 @@
 mod Floats
 mod FloatTexts
-mod Written
 mod FieldLists
 mod Lines
 mod OneLines

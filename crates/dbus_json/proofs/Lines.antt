@@ -8,7 +8,7 @@ use Rattle.dbus_validate.specs.declared.validating.Validated.{Validated}
 use Rattle.dbus_json.specs.JsonMessages.{type_text, first_members}
 use Rattle.dbus_json.specs.JsonValues.{plain, listed, array, member, object}
 use Rattle.dbus_json.specs.Writing.{led, start_text}
-use Rattle.dbus_json.specs.VisitLaws.{listed_led}
+use Rattle.dbus_json.proofs.FieldLists.{listed_led}
 
 abbrev more : List (List ℕ) → List ℕ
 more texts = flat_map (λ (y : List ℕ). codes "," ++ y) texts

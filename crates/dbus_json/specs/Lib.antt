@@ -1,6 +1,6 @@
 pub mod JsonValues
 pub mod JsonMessages
 pub mod Writing
-pub mod Visits
-pub mod VisitLaws
+pub mod Form
+pub mod FormLaws
 pub mod Laws

@@ -2,10 +2,9 @@
 -- D-Bus Specification, "Marshaling (Wire Format)" and "Header Fields".
 use Rattle.std.specs.Prelude.{ℕ, List, [], ◌∷◌, ◌++◌, codes}
 use Rattle.std.specs.List.{flat_map}
-use Rattle.dbus_value_model.specs.Values.{ValueTrees}
 use Rattle.dbus_message_model.specs.Messages.{FieldTree}
 use Rattle.dbus_validate.specs.declared.validating.Validated.{Validated}
-use Rattle.dbus_json.specs.JsonValues.{listed, AreJson}
+use Rattle.dbus_json.specs.JsonValues.{listed}
 use Rattle.dbus_json.specs.JsonMessages.{first_members, AreFields}
 
 -- texts, the first of them after a lead, and each other after a comma
@@ -23,14 +22,6 @@ abbrev pub start_text : Validated → ℕ → ℕ → List ℕ
 start_text j number offset = codes "{" ++ listed (first_members j.order j.length j.kind j.flags j.serial number offset)
 
 module _ {D : Type 0} (gains : D → List ℕ → D → Type 0) (before : D) where
-  -- it gains a text of which this holds
-  abbrev pub GainsSome : (List ℕ → Type 0) → D → Type 0
-  GainsSome Is now = (text : List ℕ) × Is text × gains before text now
-
-  -- the texts of values, with commas between them
-  abbrev pub GainsValues : ValueTrees → D → Type 0
-  GainsValues vs now = (texts : List (List ℕ)) × AreJson vs texts × gains before (listed texts) now
-
   -- the texts of fields, after a lead
   abbrev pub GainsFields : (lead : List ℕ) → List FieldTree → D → Type 0
   GainsFields lead fs now = (texts : List (List ℕ)) × AreFields fs texts × gains before (led lead texts) now

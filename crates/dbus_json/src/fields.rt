@@ -8,12 +8,13 @@ ghost use Rattle.dbus_message_model.specs.Messages.{FieldTree};
 ghost use Rattle.dbus_walk.specs.Fields.{FieldsStand};
 ghost use Rattle.dbus_walk.specs.Standing.{StandsAt, StandsThere, end_of};
 ghost use Rattle.dbus_json.specs.JsonMessages.{IsField, fields_of};
-ghost use Rattle.dbus_json.specs.Writing.{GainsSome, GainsFields};
+ghost use Rattle.dbus_json.specs.Writing.{GainsFields};
+ghost use Rattle.dbus_value_text.specs.Gaining.{GainsSome};
 
-use crate::values::write_value_at;
+use crate::json::Json;
 use dbus_message_model::field_table::is_known;
 use dbus_show::{Draft, write_field_name, write_integer};
-use dbus_show_view::write_types;
+use dbus_value_text::{write_types, write_value};
 use dbus_walk::{FIELDS_START, Source, Spot, field_at, fields_end, lengths_of, skip_value};
 
 /// Appends the field that has this code, and whose value is at a spot: the offset after the value.
@@ -27,14 +28,14 @@ fn write_field<D: Draft>(draft: &mut D, source: &Source<'_>, code: u8, spot: &Sp
         draft.push_code(b'"');
         write_field_name(draft, code);
         draft.push_str("\":");
-        return write_value_at(draft, source, spot);
+        return write_value::<Json, D>(draft, source, spot);
     }
     draft.push_str("{\"code\":");
     write_integer(draft, code);
     draft.push_str(",\"type\":\"");
     write_types(draft, spot.types);
     draft.push_str("\",\"value\":");
-    let after = write_value_at(draft, source, spot);
+    let after = write_value::<Json, D>(draft, source, spot);
     draft.push_code(b'}');
     after
 }

@@ -4,14 +4,12 @@
 //! taken but that of the text.
 #![tactic(auto)]
 
+mod doubles;
 mod fields;
-mod json_writer;
+mod json;
 pub mod laws;
 mod line;
-mod numbers;
 mod texts;
-mod values;
-mod visiting;
 
 pub use line::write_json;
 pub use texts::write_string;

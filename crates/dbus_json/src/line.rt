@@ -9,11 +9,12 @@ ghost use Rattle.dbus_json.specs.JsonMessages.{IsJsonLine, type_text};
 ghost use Rattle.dbus_json.specs.Writing.{start_text};
 
 use crate::fields::write_fields;
-use crate::values::write_values_at;
+use crate::json::Json;
 use dbus_message_model::order_byte;
 use dbus_show::{Draft, write_integer, write_kind};
 use dbus_validate::Validated;
 use dbus_value_model::Limits;
+use dbus_value_text::write_values;
 use dbus_walk::{Source, Spot, lengths_of};
 
 /// Appends the name of a message type, or its number if it has none.
@@ -86,7 +87,7 @@ pub fn write_json<D: Draft>(
     draft.push_str("],\"body\":[");
     let types = validated.fields.signature(bytes);
     let mut table = [0; 255];
-    write_values_at(
+    write_values::<Json, D>(
         draft,
         &source,
         &Spot {

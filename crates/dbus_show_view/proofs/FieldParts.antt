@@ -22,9 +22,9 @@ use Rattle.dbus_walk.proofs.ReadThere.{number_read}
 use Rattle.dbus_show.specs.ShownValues.{value_text}
 use Rattle.dbus_show.specs.ShownMessages.{bare, field_name, field_text}
 use Rattle.dbus_show.proofs.Gaining.{then as both}
-use Rattle.dbus_show_view.specs.Gaining.{Joins}
+use Rattle.dbus_value_text.specs.Gaining.{Joins}
 use Rattle.dbus_show_view.specs.Showing.{IsWritten}
-use Rattle.dbus_show_view.proofs.Shown.{number_coded}
+use Rattle.dbus_value_text.proofs.Read.{number_coded}
 
 -- ---- values alone
 

@@ -8,9 +8,10 @@ ghost use Rattle.dbus_walk.specs.Standing.{StandsAt, StandsThere};
 ghost use Rattle.dbus_show.specs.ShownValues.{value_text};
 ghost use Rattle.dbus_show_view.specs.Showing.{IsWritten, TypedStands};
 
-use crate::shower::Shower;
+use crate::plain::Plain;
 use dbus_show::Draft;
-use dbus_walk::{Source, Spot, lengths_of, walk_value};
+use dbus_value_text::write_value;
+use dbus_walk::{Source, Spot, lengths_of};
 
 /// Appends the text of the value at a spot: the offset after the value.
 pub(crate) fn write_value_at<D: Draft>(draft: &mut D, source: &Source<'_>, spot: &Spot<'_>) -> usize
@@ -19,11 +20,7 @@ pub(crate) fn write_value_at<D: Draft>(draft: &mut D, source: &Source<'_>, spot:
     ensures shown { (v : ValueTree) (rest : List ℕ) → StandsAt source.now spot.now v rest →
         IsWritten D.gains source.now.order spot.now.at v (value_text v) draft.old draft.new result }
 {
-    let mut shower = Shower { draft };
-    match walk_value(&mut shower, &mut (), source, spot) {
-        Ok(after) => after,
-        Err(never) => match never {},
-    }
+    write_value::<Plain, D>(draft, source, spot)
 }
 
 /// Appends the text of the value at `at`, whose type these bytes spell: the offset after the value. How long the types in it are is

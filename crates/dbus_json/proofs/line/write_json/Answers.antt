@@ -8,6 +8,7 @@ use Rattle.dbus_walk.proofs.MessageParts.{fields_stand, body_few, body_stands}
 use Rattle.dbus_show.proofs.Gaining.{then}
 use Rattle.dbus_json.specs.JsonValues.{array, member, object}
 use Rattle.dbus_json.specs.JsonMessages.{IsJsonLine, first_members}
+use Rattle.dbus_json.specs.FormLaws.{are_json}
 use Rattle.dbus_json.proofs.Lines.{later_members, line_is, start_is}
 use Rattle.dbus_json.proofs.line.write_json.Goals as goal
 
@@ -37,8 +38,8 @@ lengths_of-requires g c =
     let few = body_few c.args.limits c.args.validated.now.order j.message b is valid (omega (arith, c.args.limits.array_in)) c.signature-types.result.now (c.signature-types.ensures j.message.fields j.fields) in
     record { few = few }
 
-pub write_values_at-requires : goal.write_values_at-requires
-write_values_at-requires g c =
+pub write_values-requires : goal.write_values-requires
+write_values-requires g c =
     let j = c.requires.validated in
     let b = take c.args.validated.now.length c.args.bytes.now in
     let is = (whole_bytes c.args.limits c.args.bytes.now c.args.validated.now.order j.message c.args.validated.now.length j.whole).0 in
@@ -60,11 +61,11 @@ returns g c = record {
       let after = pad 8 (fields_end order m.fields) ++ spellings order (body_start order m.fields) m.body in
       let known = c.write_fields.ensures.written m.fields after stand in
       let others = c.write_fields-2.ensures.written m.fields after stand in
-      let values = c.write_values_at.ensures.written m.body [] (body_stands c.args.limits order m b spelled.0 valid (omega (arith, c.args.limits.array_in)) c.signature-types.result.now c.args.validated.now.body typed here) in
+      let values = c.write_values.ensures.written m.body [] (body_stands c.args.limits order m b spelled.0 valid (omega (arith, c.args.limits.array_in)) c.signature-types.result.now c.args.validated.now.body typed here) in
       let first = first_members order (length (message_bytes order m)) m.kind m.flags m.serial c.args.number c.args.offset in
       let text = object (first ++ (known.0 ++ (member (codes "fields") (array others.0) ∷ member (codes "body") (array values.0) ∷ []))) ++ codes "\n" in
       let start = subst (λ (s : List ℕ). g.D.Draft.gains c.args.draft.now s c.write_start.new.draft) (start_is c.args.validated.now m c.args.number c.args.offset spelled.1 parts) c.write_start.ensures in
-      let is : IsJsonLine order m c.args.number c.args.offset text = record { known = known.0; knows = known.1; others = others.0; other = others.1; values = values.0; body = values.1; is = refl } in (
+      let is : IsJsonLine order m c.args.number c.args.offset text = record { known = known.0; knows = known.1; others = others.0; other = others.1; values = values.0; body = are_json m.body values.0 values.1; is = refl } in (
         text,
         is,
         subst (λ (s : List ℕ). g.D.Draft.gains c.args.draft.now s c.push_str-3.new.self) (line_is (member (codes "number") (decimal c.args.number)) (later_members order (length (message_bytes order m)) m.kind m.flags m.serial c.args.offset) known.0 others.0 values.0)

@@ -1,0 +1,28 @@
+use Rattle.std.proofs.Common.{◌≡◌, ℕ, take, drop, sym, subst, ◌∙◌}
+use Rattle.dbus_texts.specs.Types.{NumberCode, DOUBLE}
+use Rattle.dbus_types.specs.Alignments.{width}
+use Rattle.dbus_value_model.specs.Reading.{number_of}
+use Rattle.dbus_show.specs.ShownValues.{number_text}
+use Rattle.dbus_value_text.proofs.Codes.{double_code}
+use Rattle.dbus_json.specs.JsonValues.{IsDouble, IsNumber}
+use Rattle.dbus_json.proofs.Floats.{shown_number}
+use Rattle.dbus_json.proofs.json.JsonValueForm.number.Goals as goal
+
+pub u64_at-requires : goal.u64_at-requires
+u64_at-requires g c = c.requires.inside DOUBLE (sym c.if-code-eq100.true)
+
+pub returns-then-code-eq100 : goal.returns-then-code-eq100
+returns-then-code-eq100 g c = record {
+  written = λ k e.
+      let is : k ≡ DOUBLE = double_code k (e ∙ c.if-code-eq100.true) in
+      let w = c.write_double.ensures in
+      let bits = subst (λ (n : ℕ). IsDouble n w.0) c.u64_at.ensures.spelled w.1 in
+      (w.0, subst (λ (j : NumberCode). IsNumber j (number_of c.args.order (take (width j) (drop c.args.at c.args.bytes.now))) w.0) (sym is) bits, w.2);
+}
+
+pub returns-else-code-eq100 : goal.returns-else-code-eq100
+returns-else-code-eq100 g c = record {
+  written = λ k e.
+      let n = number_of c.args.order (take (width k) (drop c.args.at c.args.bytes.now)) in
+      (number_text k n, shown_number k n (λ is. c.if-code-eq100.false (sym e ∙ is)), c.write_number_at.ensures k e);
+}

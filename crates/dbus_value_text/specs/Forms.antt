@@ -1,0 +1,36 @@
+-- The texts of values in a form.
+-- D-Bus Specification, "Marshaling (Wire Format)".
+use Rattle.std.specs.Prelude.{◌≡◌, ℕ, List, [], ◌∷◌, Bool, true, false}
+use Rattle.std.specs.List.{join_by}
+use Rattle.dbus_texts.specs.Types.{ArrayType, sig, sigs}
+use Rattle.dbus_texts.specs.PlainTypes.{is_byte}
+use Rattle.dbus_value_model.specs.Values.{ValueTree, ValueTrees, NumberValue, TextValue, ArrayValue, NoValues, MoreValues, types_of}
+use Rattle.dbus_walk.specs.Containers.{parts}
+
+-- values, and a text of each
+abbrev pub AreTexts : (ValueTree → List ℕ → Type 0) → ValueTrees → List (List ℕ) → Type 0
+AreTexts Is NoValues [] = Unit {0}
+AreTexts Is (MoreValues x xs) (text ∷ texts) = Is x text × AreTexts Is xs texts
+AreTexts Is NoValues (text ∷ texts) = ⊥
+AreTexts Is (MoreValues x xs) [] = ⊥
+
+-- texts in a row
+abbrev pub joined : (separator : List ℕ) → List (List ℕ) → List ℕ
+joined separator texts = join_by (λ text. text) separator texts
+
+-- what stands before the first part, and before a later one
+abbrev pub part_text : (separator : List ℕ) → Bool → List ℕ
+part_text separator true = []
+part_text separator false = separator
+
+-- it is a container whose parts are written one by one: no array of BYTE, which is written at one stroke
+abbrev pub IsListed : ValueTree → Type 0
+IsListed (NumberValue k n) = ⊥
+IsListed (TextValue k t) = ⊥
+IsListed (ArrayValue t xs) = is_byte t ≡ false
+IsListed _ = Unit {0}
+
+-- the types that are told as it opens: an array's own, and of another container those of its parts
+abbrev pub told_types : ValueTree → List ℕ
+told_types (ArrayValue t xs) = sig (ArrayType t)
+told_types v = sigs (types_of (parts v))

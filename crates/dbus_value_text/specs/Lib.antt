@@ -1,0 +1,4 @@
+pub mod Gaining
+pub mod Forms
+pub mod Writing
+pub mod WritingLaws
