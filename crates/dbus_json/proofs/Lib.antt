@@ -1,6 +1,6 @@
 mod Floats
 mod FloatTexts
-mod FieldLists
+mod FieldTexts
 mod Lines
 mod OneLines
 pub mod SomeLines

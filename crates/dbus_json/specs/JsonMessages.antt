@@ -1,12 +1,13 @@
 -- A message as a line of JSON: an object, and a line feed after it.
 -- RFC 8259, of the messages of the D-Bus Specification, "Message Format" and "Header Fields".
-use Rattle.std.specs.Prelude.{◌≡◌, ℕ, List, [], ◌∷◌, ◌++◌, Bool, true, false, ◌&&◌, nat_lt, length, filter, codes, decimal, if◌then◌else◌}
+use Rattle.std.specs.Prelude.{◌≡◌, ℕ, List, [], ◌∷◌, ◌++◌, Bool, true, false, ◌&&◌, nat_lt, length, codes, decimal, if◌then◌else◌}
 use Rattle.std.specs.Bool.{beq}
 use Rattle.dbus_texts.specs.Types.{sig}
 use Rattle.dbus_value_model.specs.declared.order.Order.{Order}
 use Rattle.dbus_value_model.specs.Values.{ValueTree, type_of}
 use Rattle.dbus_message_model.specs.Messages.{FieldTree, MessageTree, order_byte, message_bytes, is_known}
 use Rattle.dbus_show.specs.ShownMessages.{kind_text, field_name}
+use Rattle.dbus_value_text.specs.Fields.{AreFieldTexts, taken_fields}
 use Rattle.dbus_json.specs.JsonValues.{plain, array, member, object, IsJson, AreJson}
 
 -- a message type's name, or its number if it has none
@@ -23,14 +24,11 @@ pub record IsField (code : ℕ) (v : ValueTree) (text : List ℕ) : Type 0 where
 
 -- fields, and the text of each
 abbrev pub AreFields : List FieldTree → List (List ℕ) → Type 0
-AreFields [] [] = Unit {0}
-AreFields (f ∷ fs) (text ∷ texts) = IsField f.code f.value text × AreFields fs texts
-AreFields [] (text ∷ texts) = ⊥
-AreFields (f ∷ fs) [] = ⊥
+AreFields fs texts = AreFieldTexts IsField fs texts
 
 -- the fields that are known, or those that are not, in their order
 abbrev pub fields_of : (known : Bool) → List FieldTree → List FieldTree
-fields_of known fs = filter (λ f. beq (is_known f.code) known) fs
+fields_of known fs = taken_fields (λ code. beq (is_known code) known) fs
 
 -- what stands before the header fields, of a message of so many bytes
 abbrev pub first_members : Order → (size kind flags serial number offset : ℕ) → List (List ℕ)

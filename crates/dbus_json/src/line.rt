@@ -8,13 +8,13 @@ ghost use Rattle.dbus_validate.specs.Validating.{IsValidated};
 ghost use Rattle.dbus_json.specs.JsonMessages.{IsJsonLine, type_text};
 ghost use Rattle.dbus_json.specs.Writing.{start_text};
 
-use crate::fields::write_fields;
+use crate::fields::{KnownFields, OtherFields};
 use crate::json::Json;
 use dbus_message_model::order_byte;
 use dbus_show::{Draft, write_integer, write_kind};
 use dbus_validate::Validated;
 use dbus_value_model::Limits;
-use dbus_value_text::write_values;
+use dbus_value_text::{write_fields, write_values};
 use dbus_walk::{Source, Spot, lengths_of};
 
 /// Appends the name of a message type, or its number if it has none.
@@ -81,9 +81,9 @@ pub fn write_json<D: Draft>(
         order: validated.order,
     };
     write_start(draft, validated, number, offset);
-    write_fields(draft, &source, limits.depth, true, ",");
+    write_fields::<KnownFields, D>(draft, &source, limits.depth, ",", ",");
     draft.push_str(",\"fields\":[");
-    write_fields(draft, &source, limits.depth, false, "");
+    write_fields::<OtherFields, D>(draft, &source, limits.depth, "", ",");
     draft.push_str("],\"body\":[");
     let types = validated.fields.signature(bytes);
     let mut table = [0; 255];

@@ -1,8 +1,11 @@
--- What is written of a container before its parts and after them.
--- D-Bus Specification, "Marshaling (Wire Format)".
-use Rattle.std.specs.Prelude.{ℕ, List, [], ◌++◌, codes}
+-- What is written of a container before its parts and after them, and of a header field.
+-- D-Bus Specification, "Marshaling (Wire Format)" and "Header Fields".
+use Rattle.std.specs.Prelude.{ℕ, List, [], ◌++◌, codes, if◌then◌else◌}
 use Rattle.dbus_texts.specs.Types.{ArrayType, sig}
 use Rattle.dbus_value_model.specs.Values.{ValueTree, NumberValue, TextValue, VariantValue, ArrayValue, StructValue, EntryValue}
+use Rattle.dbus_message_model.specs.Messages.{is_known}
+use Rattle.dbus_show.specs.ShownValues.{value_text}
+use Rattle.dbus_show.specs.ShownMessages.{bare, field_name}
 
 abbrev pub open_text : ValueTree → List ℕ
 open_text (NumberValue k n) = []
@@ -19,3 +22,7 @@ close_text (VariantValue x) = codes ">"
 close_text (ArrayValue t xs) = codes "]"
 close_text (StructValue xs) = codes ")"
 close_text (EntryValue x y) = codes "}"
+
+-- a header field with this code and value
+abbrev pub named : ℕ → ValueTree → List ℕ
+named code v = field_name code ++ (codes "=" ++ (if is_known code then bare v else value_text v))

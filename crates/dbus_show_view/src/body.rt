@@ -9,8 +9,9 @@ ghost use Rattle.dbus_walk.specs.Standing.{AllStandAt, AllStandThere};
 ghost use Rattle.dbus_show.specs.ShownValues.{value_texts};
 ghost use Rattle.dbus_show.specs.ShownMessages.{body_line};
 
-use crate::values::write_value_at;
+use crate::plain::Plain;
 use dbus_show::Draft;
+use dbus_value_text::write_value;
 use dbus_walk::{Source, Spot};
 
 /// Appends a line for each of the values that follow one another at a spot.
@@ -31,7 +32,7 @@ pub(crate) fn write_body<D: Draft>(draft: &mut D, source: &Source<'_>, spot: &Sp
             depth_left: spot.depth_left,
         };
         draft.push_str("  ");
-        place = write_value_at(draft, source, &next);
+        place = write_value::<Plain, D>(draft, source, &next);
         draft.push_code(b'\n');
         pos = end;
     }

@@ -1,9 +1,11 @@
-//! Values as text, from a message's bytes.
+//! Values and header fields as text, from a message's bytes.
 //!
 //! One walk along the signatures of the values writes them in a form, as lines for a reader or JSON. What a form is to say is its
-//! [`ValueForm`]. No value is built: only the text is allocated.
+//! [`ValueForm`], and of header fields its [`FieldForm`]. No value is built: only the text is allocated.
 #![tactic(auto)]
 
+mod field_form;
+mod fields;
 mod numbers;
 mod texts;
 mod value_form;
@@ -11,6 +13,8 @@ mod values;
 mod visiting;
 mod writer;
 
+pub use field_form::FieldForm;
+pub use fields::write_fields;
 pub use numbers::write_number_at;
 pub use texts::write_types;
 pub use value_form::ValueForm;

@@ -35,8 +35,8 @@ loop-pos-smaller g c =
     let n = next_value types pos (c.loop-pos.invariant.left there.0 there.1 there.2) end c.loop-pos-test.true is in
     omega (arith, n.some, n.inside)
 
-pub write_value_at-place-requires : goal.write_value_at-place-requires
-write_value_at-place-requires g c =
+pub write_value-place-requires : goal.write_value-place-requires
+write_value-place-requires g c =
     let there = c.requires.stand in
     let order = c.args.source.now.order in
     let types = c.args.spot.now.types.now in
@@ -66,9 +66,9 @@ loop-pos-preserved g c =
       left = λ vs rest e.
           let l = c.loop-pos.invariant.left vs rest e in
           let n = next_value types pos l end c.loop-pos-test.true is in
-          let w = c.write_value_at-place.ensures.shown n.v (spellings order (place + length (spelling order place n.v)) n.us ++ rest) n.stands in
-          value_left types pos l (AreLines g.D.Draft.gains c.args.draft.now c.push_code.new.self) end n c.write_value_at-place.result w.ends
-          (more_lines g.D.Draft.gains g.met.D.Draft.joins c.args.draft.now c.loop-pos.draft c.push_str.new.self c.write_value_at-place.new.draft c.push_code.new.self l.done n.v l.walked c.push_str.ensures w.gained c.push_code.ensures);
+          let w = c.write_value-place.ensures.written n.v (spellings order (place + length (spelling order place n.v)) n.us ++ rest) n.stands in
+          value_left types pos l (AreLines g.D.Draft.gains c.args.draft.now c.push_code.new.self) end n c.write_value-place.result w.1
+          (more_lines g.D.Draft.gains g.met.D.Draft.joins c.args.draft.now c.loop-pos.draft c.push_str.new.self c.write_value-place.new.draft c.push_code.new.self l.done n.v l.walked c.push_str.ensures w.0 c.push_code.ensures);
     }
 
 pub returns : goal.returns

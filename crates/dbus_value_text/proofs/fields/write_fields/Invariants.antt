@@ -2,15 +2,15 @@ use Rattle.std.proofs.Common.{◌-◌, ℕ, List}
 use Rattle.dbus_message_model.specs.Messages.{FieldTree}
 use Rattle.dbus_walk.specs.Fields.{FieldsStand}
 use Rattle.dbus_walk.proofs.FieldParts.{Walked}
-use Rattle.dbus_json.proofs.FieldLists.{Led}
-use Rattle.dbus_json.proofs.fields.write_fields.Given as goal
+use Rattle.dbus_value_text.proofs.FieldLists.{Led}
+use Rattle.dbus_value_text.proofs.fields.write_fields.Given as goal
 use denote.Shadow.{shadow}
 use denote.Text.{Utf8}
 
 abbrev pub invariant-loop-place : goal.invariant-loop-place
 invariant-loop-place g l = record {
-  left : (fs : List FieldTree) (rest : List ℕ) → FieldsStand l.source l.depth_left fs rest → Walked l.source l.depth_left l.end fs rest (Led g.D.Draft.gains l.known l.lead l.initial.draft l.draft l.separator) l.place;
-  utf8 : shadow (Utf8 l.separator);
+  left : (fs : List FieldTree) (rest : List ℕ) → FieldsStand l.source l.depth_left fs rest → Walked l.source l.depth_left l.end fs rest (Led g.D.Draft.gains g.F.FieldForm.is_taken g.F.FieldForm.is_text l.lead l.separator l.initial.draft l.draft l.before) l.place;
+  utf8 : shadow (Utf8 l.before);
 }
 
 abbrev pub decreases-loop-place : goal.decreases-loop-place

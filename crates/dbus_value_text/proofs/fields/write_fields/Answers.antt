@@ -1,15 +1,13 @@
-use Rattle.std.proofs.Common.{ℕ, Bool, [], ◌∷◌, sym, ap, subst, ◌∙◌, rules, arith}
-use Rattle.std.specs.Bool.{beq}
-use Rattle.dbus_message_model.specs.Messages.{is_known}
-use Rattle.dbus_json.specs.JsonMessages.{IsField}
+use Rattle.std.proofs.Common.{ℕ, sym, ap, subst, ◌∙◌, rules, arith}
 use Rattle.dbus_walk.proofs.FieldParts.{none_walked, next_field, field_walked, all_walked}
-use Rattle.dbus_json.proofs.FieldLists.{Led, none_led, field_led, field_passed}
-use Rattle.dbus_json.proofs.fields.write_fields.Goals as goal
+use Rattle.dbus_value_text.proofs.FieldLists.{Led, none_led, field_led, field_passed}
+use Rattle.dbus_value_text.proofs.fields.write_fields.Goals as goal
 
 pub loop-place-init : goal.loop-place-init
 loop-place-init g c = record {
-  left = λ fs rest s. none_walked c.args.source.now c.args.depth_left 16 c.fields_end-end.result fs rest (Led g.D.Draft.gains c.args.known c.args.lead.now c.args.draft.now c.args.draft.now c.args.lead.now) (c.fields_end-end.ensures c.args.depth_left fs rest s)
-      (none_led g.D.Draft.gains c.args.known c.args.lead.now c.args.draft.now (g.met.D.Draft.nothing c.args.draft.now));
+  left = λ fs rest s. none_walked c.args.source.now c.args.depth_left 16 c.fields_end-end.result fs rest
+      (Led g.D.Draft.gains g.F.FieldForm.is_taken g.F.FieldForm.is_text c.args.lead.now c.args.separator.now c.args.draft.now c.args.draft.now c.args.lead.now) (c.fields_end-end.ensures c.args.depth_left fs rest s)
+      (none_led g.D.Draft.gains g.F.FieldForm.is_taken g.F.FieldForm.is_text c.args.lead.now c.args.separator.now c.args.draft.now (g.met.D.Draft.nothing c.args.draft.now));
   utf8 = search rules;
 }
 
@@ -25,8 +23,8 @@ lengths_of-requires g c =
     let n = next_field (c.loop-place.invariant.left there.0 there.1 there.2) c.loop-place-test.true in
     record { few = (c.field_at-field.ensures n.f n.after n.stands).few }
 
-pub write_field-place-requires-clause-stands : goal.write_field-place-requires-clause-stands
-write_field-place-requires-clause-stands g c =
+pub field-place-requires-clause-stands : goal.field-place-requires-clause-stands
+field-place-requires-clause-stands g c =
     let there = c.requires.stand in
     let n = next_field (c.loop-place.invariant.left there.0 there.1 there.2) c.loop-place-test.true in
     (n.f.value, n.after, (c.field_at-field.ensures n.f n.after n.stands).value)
@@ -37,12 +35,12 @@ skip_value-place-requires-clause-stands g c =
     let n = next_field (c.loop-place.invariant.left there.0 there.1 there.2) c.loop-place-test.true in
     (n.f.value, n.after, (c.field_at-field.ensures n.f n.after n.stands).value)
 
-pub loop-place-smaller-then-is_known-known : goal.loop-place-smaller-then-is_known-known
-loop-place-smaller-then-is_known-known g c =
+pub loop-place-smaller-then-takes : goal.loop-place-smaller-then-takes
+loop-place-smaller-then-takes g c =
     let there = c.requires.stand in
     let n = next_field (c.loop-place.invariant.left there.0 there.1 there.2) c.loop-place-test.true in
     let p = c.field_at-field.ensures n.f n.after n.stands in
-    let w = c.write_field-place.ensures.written n.f.value n.after p.value in
+    let w = c.field-place.ensures.written n.f.value n.after p.value in
     omega (arith, w.1 ∙ p.ends, n.some, c.loop-place-test.true)
 
 pub loop-place-smaller : goal.loop-place-smaller
@@ -52,18 +50,18 @@ loop-place-smaller g c =
     let p = c.field_at-field.ensures n.f n.after n.stands in
     omega (arith, c.skip_value-place.ensures n.f.value n.after p.value ∙ p.ends, n.some, c.loop-place-test.true)
 
-pub loop-place-preserved-then-is_known-known : goal.loop-place-preserved-then-is_known-known
-loop-place-preserved-then-is_known-known g c = record {
+pub loop-place-preserved-then-takes : goal.loop-place-preserved-then-takes
+loop-place-preserved-then-takes g c = record {
   left = λ fs rest s.
       let l = c.loop-place.invariant.left fs rest s in
       let n = next_field l c.loop-place-test.true in
       let p = c.field_at-field.ensures n.f n.after n.stands in
-      let w = c.write_field-place.ensures.written n.f.value n.after p.value in
-      let coded = λ (k : ℕ). IsField k n.f.value w.0.0 in
-      let chosen = ap (λ (k : ℕ). beq (is_known k) c.args.known) p.code ∙ ap (λ (a : Bool). beq a c.args.known) (sym c.is_known.ensures) ∙ c.if-is_known-known.true in
-      field_walked l (Led g.D.Draft.gains c.args.known c.args.lead.now c.args.draft.now c.write_field-place.new.draft (44 ∷ [])) n c.write_field-place.result (w.1 ∙ p.ends)
-      (field_led g.D.Draft.gains c.args.known c.args.lead.now c.args.draft.now g.met.D.Draft.joins c.loop-place.draft c.push_str.new.self c.write_field-place.new.draft c.loop-place.separator.now l.done n.f w.0.0 l.walked chosen
-      c.push_str.ensures (subst coded (sym p.code) w.0.1) w.0.2);
+      let w = c.field-place.ensures.written n.f.value n.after p.value in
+      let is_text = g.F.FieldForm.is_text in
+      let taken = ap g.F.FieldForm.is_taken p.code ∙ sym c.takes.ensures ∙ c.if-takes.true in
+      field_walked l (Led g.D.Draft.gains g.F.FieldForm.is_taken is_text c.args.lead.now c.args.separator.now c.args.draft.now c.field-place.new.draft c.args.separator.now) n c.field-place.result (w.1 ∙ p.ends)
+      (field_led g.D.Draft.gains g.F.FieldForm.is_taken is_text c.args.lead.now c.args.separator.now c.args.draft.now g.met.D.Draft.joins c.loop-place.draft c.push_str.new.self c.field-place.new.draft c.loop-place.before.now l.done n.f w.0.0 l.walked taken
+      c.push_str.ensures (subst (λ (k : ℕ). is_text k n.f.value w.0.0) (sym p.code) w.0.1) w.0.2);
   utf8 = search rules;
 }
 
@@ -73,9 +71,10 @@ loop-place-preserved g c = record {
       let l = c.loop-place.invariant.left fs rest s in
       let n = next_field l c.loop-place-test.true in
       let p = c.field_at-field.ensures n.f n.after n.stands in
-      let passed = ap (λ (k : ℕ). beq (is_known k) c.args.known) p.code ∙ ap (λ (a : Bool). beq a c.args.known) (sym c.is_known.ensures) ∙ c.if-is_known-known.false in
-      field_walked l (Led g.D.Draft.gains c.args.known c.args.lead.now c.args.draft.now c.loop-place.draft c.loop-place.separator.now) n c.skip_value-place.result (c.skip_value-place.ensures n.f.value n.after p.value ∙ p.ends)
-      (field_passed g.D.Draft.gains c.args.known c.args.lead.now c.args.draft.now c.loop-place.draft c.loop-place.separator.now l.done n.f l.walked passed);
+      let passed = ap g.F.FieldForm.is_taken p.code ∙ sym c.takes.ensures ∙ c.if-takes.false in
+      field_walked l (Led g.D.Draft.gains g.F.FieldForm.is_taken g.F.FieldForm.is_text c.args.lead.now c.args.separator.now c.args.draft.now c.loop-place.draft c.loop-place.before.now) n
+      c.skip_value-place.result (c.skip_value-place.ensures n.f.value n.after p.value ∙ p.ends)
+      (field_passed g.D.Draft.gains g.F.FieldForm.is_taken g.F.FieldForm.is_text c.args.lead.now c.args.separator.now c.args.draft.now c.loop-place.draft c.loop-place.before.now l.done n.f l.walked passed);
   utf8 = search rules;
 }
 

@@ -1,0 +1,48 @@
+-- The text of a header field, by its parts.
+use Rattle.std.proofs.Common.{◌≡◌, ℕ, List, [], ◌∷◌, ◌++◌, Bool, true, false, codes, decimal, append_assoc, refl, sym, ap, ◌∙◌}
+use Rattle.std.specs.Bool.{beq}
+use Rattle.std.proofs.lemmas.List.{append-nil}
+use Rattle.dbus_texts.specs.Types.{sig}
+use Rattle.dbus_value_model.specs.Values.{ValueTree, type_of}
+use Rattle.dbus_message_model.specs.Messages.{is_known}
+use Rattle.dbus_show.specs.ShownMessages.{field_name}
+use Rattle.dbus_json.specs.JsonValues.{plain, member, object, IsJson}
+use Rattle.dbus_json.specs.JsonMessages.{IsField}
+
+-- ---- a field
+
+pub is_true : (known : Bool) → beq known true ≡ true → known ≡ true
+is_true true e = refl
+is_true false e = e
+
+pub is_false : (known : Bool) → beq known false ≡ true → known ≡ false
+is_false true e = sym e
+is_false false e = refl
+
+pub known_field : (code : ℕ) (v : ValueTree) (value : List ℕ) → is_known code ≡ true → IsJson v value → IsField code v (member (field_name code) value)
+known_field code v value known json = record { value = value; json = json; is = rw known refl }
+
+pub known_text : (code : ℕ) (value : List ℕ) → codes "\"" ++ (field_name code ++ (codes "\":" ++ value)) ≡ member (field_name code) value
+known_text code value = ap (λ (s : List ℕ). codes "\"" ++ s) (sym (append_assoc (field_name code) (codes "\"") (codes ":" ++ value)))
+
+abbrev other : ℕ → ValueTree → List ℕ → List ℕ
+other code v value = object (member (codes "code") (decimal code) ∷ member (codes "type") (plain (sig (type_of v))) ∷ member (codes "value") value ∷ [])
+
+pub other_field : (code : ℕ) (v : ValueTree) (value : List ℕ) → is_known code ≡ false → IsJson v value → IsField code v (other code v value)
+other_field code v value unknown json = record { value = value; json = json; is = rw unknown refl }
+
+other_parts : (code type value : List ℕ)
+    → codes "{\"code\":" ++ (code ++ (codes ",\"type\":\"" ++ (type ++ (codes "\",\"value\":" ++ (value ++ codes "}")))))
+    ≡ codes "{\"code\":" ++ ((code ++ ((codes ",\"type\":\"" ++ (type ++ codes "\"")) ++ ((codes ",\"value\":" ++ value) ++ []))) ++ codes "}")
+other_parts code type value =
+    let x = codes ",\"type\":\"" ++ (type ++ codes "\"") in
+    let y = codes ",\"value\":" ++ value in
+    let e = codes "}" in
+    sym
+    (ap (λ (s : List ℕ). codes "{\"code\":" ++ ((code ++ (x ++ s)) ++ e)) (append-nil y)
+    ∙ ap (λ (s : List ℕ). codes "{\"code\":" ++ s) (append_assoc code (x ++ y) e ∙ ap (λ (s : List ℕ). code ++ s) (append_assoc x y e ∙ ap (λ (s : List ℕ). codes ",\"type\":\"" ++ s) (append_assoc type (codes "\"") (y ++ e)))))
+
+pub other_text : (code : ℕ) (v : ValueTree) (value types : List ℕ) → sig (type_of v) ≡ types
+    → codes "{\"code\":" ++ (decimal code ++ (codes ",\"type\":\"" ++ (types ++ (codes "\",\"value\":" ++ (value ++ codes "}"))))) ≡ other code v value
+other_text code v value types is =
+    ap (λ (t : List ℕ). codes "{\"code\":" ++ (decimal code ++ (codes ",\"type\":\"" ++ (t ++ (codes "\",\"value\":" ++ (value ++ codes "}")))))) (sym is) ∙ other_parts (decimal code) (sig (type_of v)) value
