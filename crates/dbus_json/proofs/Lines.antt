@@ -7,7 +7,7 @@ use Rattle.dbus_message_model.specs.Messages.{MessageTree, order_byte, message_b
 use Rattle.dbus_validate.specs.declared.validating.Validated.{Validated}
 use Rattle.dbus_json.specs.JsonMessages.{type_text, first_members}
 use Rattle.dbus_json.specs.JsonValues.{plain, listed, array, member, object}
-use Rattle.dbus_value_text.specs.Fields.{led}
+use Rattle.dbus_value_text.specs.Forms.{led}
 use Rattle.dbus_json.specs.Writing.{start_text}
 
 abbrev more : List (List ℕ) → List ℕ
@@ -27,7 +27,7 @@ parts_joined : (first known others values : List ℕ)
 parts_joined first known others values = simp append_assoc
 
 pub line_is : (t : List ℕ) (ts known others values : List (List ℕ))
-    → (codes "{" ++ listed (t ∷ ts)) ++ (led (codes ",") (codes ",") known ++ (codes ",\"fields\":[" ++ (led [] (codes ",") others ++ (codes "],\"body\":[" ++ (listed values ++ codes "]}\n")))))
+    → (codes "{" ++ listed (t ∷ ts)) ++ (led (codes ",") (codes ",") known ++ (codes ",\"fields\":[" ++ (led [] (codes ",") others ++ (codes "],\"body\":[" ++ (led [] (codes ",") values ++ codes "]}\n")))))
     ≡ object ((t ∷ ts) ++ (known ++ (member (codes "fields") (array others) ∷ member (codes "body") (array values) ∷ []))) ++ codes "\n"
 line_is t ts known others values =
     let y = λ (x : List ℕ). codes "," ++ x in
@@ -36,8 +36,9 @@ line_is t ts known others values =
     let all : listed ((t ∷ ts) ++ (known ++ two)) ≡ listed (t ∷ ts) ++ (more known ++ (codes ",\"fields\":[" ++ ((listed others ++ codes "]") ++ (codes ",\"body\":[" ++ (listed values ++ codes "]"))))) =
     ap (λ (s : List ℕ). t ++ s) (flat_map-append y ts (known ++ two) ∙ ap (λ (s : List ℕ). more ts ++ s) (flat_map-append y known two ∙ ap (λ (s : List ℕ). more known ++ s) last))
     ∙ sym (append_assoc t (more ts) (more known ++ (codes ",\"fields\":[" ++ ((listed others ++ codes "]") ++ (codes ",\"body\":[" ++ (listed values ++ codes "]")))))) in
-    ap (λ (s : List ℕ). (codes "{" ++ listed (t ∷ ts)) ++ (s ++ (codes ",\"fields\":[" ++ (led [] (codes ",") others ++ (codes "],\"body\":[" ++ (listed values ++ codes "]}\n")))))) (led_more known)
-    ∙ ap (λ (s : List ℕ). (codes "{" ++ listed (t ∷ ts)) ++ (more known ++ (codes ",\"fields\":[" ++ (s ++ (codes "],\"body\":[" ++ (listed values ++ codes "]}\n")))))) (sym (listed_led others))
+    ap (λ (s : List ℕ). (codes "{" ++ listed (t ∷ ts)) ++ (s ++ (codes ",\"fields\":[" ++ (led [] (codes ",") others ++ (codes "],\"body\":[" ++ (led [] (codes ",") values ++ codes "]}\n")))))) (led_more known)
+    ∙ ap (λ (s : List ℕ). (codes "{" ++ listed (t ∷ ts)) ++ (more known ++ (codes ",\"fields\":[" ++ (s ++ (codes "],\"body\":[" ++ (led [] (codes ",") values ++ codes "]}\n")))))) (sym (listed_led others))
+    ∙ ap (λ (s : List ℕ). (codes "{" ++ listed (t ∷ ts)) ++ (more known ++ (codes ",\"fields\":[" ++ (listed others ++ (codes "],\"body\":[" ++ (s ++ codes "]}\n")))))) (sym (listed_led values))
     ∙ parts_joined (listed (t ∷ ts)) (more known) (listed others) (listed values)
     ∙ ap (λ (s : List ℕ). (codes "{" ++ (s ++ codes "}")) ++ codes "\n") (sym all)
 

@@ -14,8 +14,7 @@ use dbus_message_model::order_byte;
 use dbus_show::{Draft, write_integer, write_kind};
 use dbus_validate::Validated;
 use dbus_value_model::Limits;
-use dbus_value_text::{write_fields, write_values};
-use dbus_walk::{Source, Spot, lengths_of};
+use dbus_value_text::{Whole, write_body, write_fields};
 
 /// Appends the name of a message type, or its number if it has none.
 fn write_type<D: Draft>(draft: &mut D, kind: u8)
@@ -76,26 +75,16 @@ pub fn write_json<D: Draft>(
         (text : List ℕ) × IsJsonLine validated.now.order m number offset text ×
         D.gains draft.old text draft.new }
 {
-    let source = Source {
-        bytes: &bytes[..validated.length],
-        order: validated.order,
+    let whole = Whole {
+        bytes,
+        limits,
+        validated,
     };
     write_start(draft, validated, number, offset);
-    write_fields::<KnownFields, D>(draft, &source, limits.depth, ",", ",");
+    write_fields::<KnownFields, D>(draft, &whole, ",", ",");
     draft.push_str(",\"fields\":[");
-    write_fields::<OtherFields, D>(draft, &source, limits.depth, "", ",");
+    write_fields::<OtherFields, D>(draft, &whole, "", ",");
     draft.push_str("],\"body\":[");
-    let types = validated.fields.signature(bytes);
-    let mut table = [0; 255];
-    write_values::<Json, D>(
-        draft,
-        &source,
-        &Spot {
-            at: validated.body,
-            types,
-            lengths: lengths_of(types, &mut table),
-            depth_left: limits.depth,
-        },
-    );
+    write_body::<Json, D>(draft, &whole, "", ",");
     draft.push_str("]}\n");
 }

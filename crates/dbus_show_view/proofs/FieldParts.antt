@@ -1,13 +1,11 @@
 -- Header fields that stand in the bytes, shown.
-use Rattle.std.proofs.Common.{◌≡◌, ℕ, ◌+◌, List, [], ◌∷◌, ◌++◌, get_or, take, drop, decimal, codes, true, refl, sym, ap, subst, ◌∙◌, arith, IsUtf8}
-use Rattle.std.specs.List.{flat_map}
+use Rattle.std.proofs.Common.{◌≡◌, ℕ, ◌+◌, List, get_or, take, drop, decimal, refl, sym, ap, subst, ◌∙◌, arith, IsUtf8}
 use Rattle.dbus_texts.specs.Types.{NumberCode, UINT32, number_code}
 use Rattle.dbus_types.specs.Alignments.{width}
 use Rattle.dbus_types.specs.SignatureCodes.{first_code}
 use Rattle.dbus_types.proofs.TypeCodes.{code_is}
 use Rattle.dbus_value_model.specs.Reading.{number_of}
 use Rattle.dbus_value_model.specs.Values.{ValueTree, NumberValue, type_of, IsWellFormed}
-use Rattle.dbus_message_model.specs.Messages.{FieldTree}
 use Rattle.dbus_walk.specs.Layouts.{IsNumberAt, IsTextAt, IsLaidOut}
 use Rattle.dbus_walk.specs.Standing.{StandsAt}
 use Rattle.dbus_walk.specs.declared.spot.Layout.{Layout}
@@ -16,9 +14,7 @@ use Rattle.dbus_walk.specs.declared.spot.Source.{Source}
 use Rattle.dbus_walk.specs.declared.spot.Spot.{Spot}
 use Rattle.dbus_walk.proofs.ReadThere.{formed_utf8}
 use Rattle.dbus_show.specs.ShownValues.{value_text}
-use Rattle.dbus_show.specs.ShownMessages.{bare, field_text}
-use Rattle.dbus_value_text.specs.Fields.{AreFieldTexts, led, taken_fields}
-use Rattle.dbus_show_view.specs.Plain.{named}
+use Rattle.dbus_show.specs.ShownMessages.{bare}
 
 -- ---- values alone
 
@@ -66,21 +62,3 @@ module _ {source : Source} {spot : Spot} {v : ValueTree} {rest : List ℕ} (s : 
     number_bare =
         ap (λ (k : ℕ). decimal (number_of source.order (take k (drop start source.bytes.now)))) (sym number_wide) ∙ ap decimal p.read
         ∙ sym (ap bare p.is ∙ ap (λ (k : NumberCode). bare (NumberValue k p.n)) number_is)
-
--- ---- fields in their order
-
-spaced : (fs : List FieldTree) (texts : List (List ℕ)) → AreFieldTexts (λ code v text. text ≡ named code v) (taken_fields (λ _. true) fs) texts
-    → flat_map (λ (text : List ℕ). codes " " ++ text) texts ≡ flat_map field_text fs
-spaced [] [] h = refl
-spaced [] (t ∷ texts) h = absurd h
-spaced (f ∷ fs) [] h = absurd h
-spaced (f ∷ fs) (t ∷ texts) h =
-    ap (λ (s : List ℕ). (codes " " ++ s) ++ flat_map (λ (text : List ℕ). codes " " ++ text) texts) h.0 ∙ ap (λ (s : List ℕ). field_text f ++ s) (spaced fs texts h.1)
-
-led_spaced : (texts : List (List ℕ)) → led (codes " ") (codes " ") texts ≡ flat_map (λ (text : List ℕ). codes " " ++ text) texts
-led_spaced [] = refl
-led_spaced (t ∷ texts) = refl
-
-pub fields_shown : (fs : List FieldTree) (texts : List (List ℕ)) → AreFieldTexts (λ code v text. text ≡ named code v) (taken_fields (λ _. true) fs) texts
-    → led (codes " ") (codes " ") texts ≡ flat_map field_text fs
-fields_shown fs texts h = led_spaced texts ∙ spaced fs texts h

@@ -1,3 +1,4 @@
 pub mod Codes
 pub mod Read
-mod FieldLists
+mod Rows
+pub mod WholeParts

@@ -1,9 +1,8 @@
 -- The texts of header fields in a form.
 -- D-Bus Specification, "Header Fields".
-use Rattle.std.specs.Prelude.{ℕ, List, [], ◌∷◌, ◌++◌, Bool, filter}
+use Rattle.std.specs.Prelude.{ℕ, List, [], ◌∷◌, Bool, filter}
 use Rattle.dbus_value_model.specs.Values.{ValueTree}
 use Rattle.dbus_message_model.specs.Messages.{FieldTree}
-use Rattle.dbus_value_text.specs.Forms.{joined}
 
 -- the fields with the codes that are taken, in their order
 abbrev pub taken_fields : (is_taken : ℕ → Bool) → List FieldTree → List FieldTree
@@ -15,8 +14,3 @@ AreFieldTexts Is [] [] = Unit {0}
 AreFieldTexts Is (f ∷ fs) (text ∷ texts) = Is f.code f.value text × AreFieldTexts Is fs texts
 AreFieldTexts Is [] (text ∷ texts) = ⊥
 AreFieldTexts Is (f ∷ fs) [] = ⊥
-
--- texts, the first of them after a lead, and each other after a separator
-abbrev pub led : (lead separator : List ℕ) → List (List ℕ) → List ℕ
-led lead separator [] = []
-led lead separator (text ∷ texts) = lead ++ joined separator (text ∷ texts)

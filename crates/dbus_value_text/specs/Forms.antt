@@ -1,6 +1,6 @@
 -- The texts of values in a form.
 -- D-Bus Specification, "Marshaling (Wire Format)".
-use Rattle.std.specs.Prelude.{◌≡◌, ℕ, List, [], ◌∷◌, Bool, true, false}
+use Rattle.std.specs.Prelude.{◌≡◌, ℕ, List, [], ◌∷◌, ◌++◌, Bool, true, false}
 use Rattle.std.specs.List.{join_by}
 use Rattle.dbus_texts.specs.Types.{ArrayType, sig, sigs}
 use Rattle.dbus_texts.specs.PlainTypes.{is_byte}
@@ -17,6 +17,11 @@ AreTexts Is (MoreValues x xs) [] = ⊥
 -- texts in a row
 abbrev pub joined : (separator : List ℕ) → List (List ℕ) → List ℕ
 joined separator texts = join_by (λ text. text) separator texts
+
+-- texts, the first of them after a lead, and each other after a separator
+abbrev pub led : (lead separator : List ℕ) → List (List ℕ) → List ℕ
+led lead separator [] = []
+led lead separator (text ∷ texts) = lead ++ joined separator (text ∷ texts)
 
 -- what stands before the first part, and before a later one
 abbrev pub part_text : (separator : List ℕ) → Bool → List ℕ

@@ -1,5 +1,6 @@
 pub mod Gaining
 pub mod Forms
 pub mod Fields
+pub mod Wholes
 pub mod Writing
 pub mod WritingLaws

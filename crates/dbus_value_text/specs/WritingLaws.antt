@@ -11,7 +11,7 @@ use Rattle.dbus_value_text.specs.Writing.{Writes, WritesSome, WritesAll, Opens}
 use Rattle.dbus_value_text.specs.declared.writer.Writer.{Writer}
 
 module _ (Is : ValueTree → List ℕ → Type 0) where
-  texts_push : (xs : List ValueTree) (v : ValueTree) (texts : List (List ℕ)) (text : List ℕ) → AreTexts Is (value_trees xs) texts → Is v text → AreTexts Is (value_trees (xs ++ v ∷ [])) (texts ++ text ∷ [])
+  pub texts_push : (xs : List ValueTree) (v : ValueTree) (texts : List (List ℕ)) (text : List ℕ) → AreTexts Is (value_trees xs) texts → Is v text → AreTexts Is (value_trees (xs ++ v ∷ [])) (texts ++ text ∷ [])
   texts_push [] v [] text h is = (is, tt)
   texts_push [] v (t ∷ texts) text h is = absurd h
   texts_push (x ∷ xs) v [] text h is = absurd h

@@ -2,33 +2,39 @@
 #![tactic(auto)]
 
 ghost use Rattle.std.specs.Prelude.{ℕ, List};
-ghost use Rattle.dbus_message_model.specs.Messages.{FieldTree};
-ghost use Rattle.dbus_walk.specs.Fields.{FieldsStand};
-ghost use Rattle.dbus_value_text.specs.Fields.{AreFieldTexts, led, taken_fields};
+ghost use Rattle.dbus_message_model.specs.Messages.{MessageTree};
+ghost use Rattle.dbus_value_text.specs.Forms.{led};
+ghost use Rattle.dbus_value_text.specs.Fields.{AreFieldTexts, taken_fields};
+ghost use Rattle.dbus_value_text.specs.Wholes.{WasValidated, IsWholeOf};
 
 use crate::field_form::FieldForm;
+use crate::whole::Whole;
 use dbus_show::Draft;
 use dbus_walk::{FIELDS_START, Source, Spot, field_at, fields_end, lengths_of, skip_value};
 
-/// Appends the fields of a message that a form takes, in their order: the first after a lead, and each other after a separator.
+/// Appends the header fields of a message that a form takes, in their order: the first after a lead, and each other after a
+/// separator. D-Bus Specification, "Header Fields".
 pub fn write_fields<F: FieldForm, D: Draft>(
     draft: &mut D,
-    source: &Source<'_>,
-    depth_left: u8,
+    whole: &Whole<'_>,
     lead: &str,
     separator: &str,
 )
-    requires stand { (fs : List FieldTree) × (rest : List ℕ) × FieldsStand source.now depth_left fs rest }
-    ensures written { (fs : List FieldTree) (rest : List ℕ) → FieldsStand source.now depth_left fs rest →
-        (texts : List (List ℕ)) × AreFieldTexts F.is_text (taken_fields F.is_taken fs) texts ×
+    requires validated { WasValidated whole.now }
+    ensures written { (m : MessageTree) → IsWholeOf whole.now m →
+        (texts : List (List ℕ)) × AreFieldTexts F.is_text (taken_fields F.is_taken m.fields) texts ×
         D.gains draft.old (led lead.now separator.now texts) draft.new }
 {
-    let end = fields_end(source);
+    let source = Source {
+        bytes: &whole.bytes[..whole.validated.length],
+        order: whole.validated.order,
+    };
+    let end = fields_end(&source);
     let mut table = [0; 255];
     let mut place = FIELDS_START;
     let mut before = lead;
     while place < end {
-        let field = field_at(source, place, depth_left);
+        let field = field_at(&source, place, whole.limits.depth);
         let spot = Spot {
             at: field.at,
             types: field.types,
@@ -38,9 +44,9 @@ pub fn write_fields<F: FieldForm, D: Draft>(
         if F::takes(field.code) {
             draft.push_str(before);
             before = separator;
-            place = F::field(draft, source, field.code, &spot);
+            place = F::field(draft, &source, field.code, &spot);
         } else {
-            place = skip_value(source, &spot);
+            place = skip_value(&source, &spot);
         }
     }
 }

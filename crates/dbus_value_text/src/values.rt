@@ -3,15 +3,14 @@
 
 ghost use Rattle.std.specs.Prelude.{◌≡◌, ℕ, List};
 ghost use Rattle.dbus_types.specs.TypeLengths.{AreLengths};
-ghost use Rattle.dbus_value_model.specs.Values.{ValueTree, ValueTrees};
-ghost use Rattle.dbus_walk.specs.Standing.{StandsAt, StandsThere, AllStandAt, AllStandThere, end_of};
+ghost use Rattle.dbus_value_model.specs.Values.{ValueTree};
+ghost use Rattle.dbus_walk.specs.Standing.{StandsAt, StandsThere, end_of};
 ghost use Rattle.dbus_value_text.specs.Gaining.{GainsSome};
-ghost use Rattle.dbus_value_text.specs.Forms.{AreTexts, joined};
 
 use crate::value_form::ValueForm;
 use crate::writer::Writer;
 use dbus_show::Draft;
-use dbus_walk::{Source, Spot, walk_value, walk_values};
+use dbus_walk::{Source, Spot, walk_value};
 use std::marker::PhantomData;
 
 /// Appends the text of the value at a spot, in a form: the offset after the value.
@@ -31,24 +30,6 @@ pub fn write_value<F: ValueForm, D: Draft>(
     };
     match walk_value(&mut writer, &mut (), source, spot) {
         Ok(after) => after,
-        Err(never) => match never {},
-    }
-}
-
-/// Appends the texts of the values that follow one another at a spot, in a form, with its separator between them.
-pub fn write_values<F: ValueForm, D: Draft>(draft: &mut D, source: &Source<'_>, spot: &Spot<'_>)
-    requires stand { AllStandThere source.now spot.now }
-    requires noted { AreLengths spot.now.types.now spot.now.lengths.now }
-    ensures written { (vs : ValueTrees) (rest : List ℕ) → AllStandAt source.now spot.now vs rest →
-        (texts : List (List ℕ)) × AreTexts F.is_text vs texts ×
-        D.gains draft.old (joined F.separator_text texts) draft.new }
-{
-    let mut writer: Writer<'_, D, F> = Writer {
-        draft,
-        form: PhantomData,
-    };
-    match walk_values(&mut writer, &mut (), source, spot) {
-        Ok(_) => {}
         Err(never) => match never {},
     }
 }

@@ -1,43 +1,56 @@
 use Rattle.std.proofs.Common.{ℕ, sym, ap, subst, ◌∙◌, rules, arith}
+use Rattle.std.proofs.lemmas.List.{length-take}
+use Rattle.dbus_header.proofs.OutcomeLaws.{whole_inside}
 use Rattle.dbus_walk.proofs.FieldParts.{none_walked, next_field, field_walked, all_walked}
-use Rattle.dbus_value_text.proofs.FieldLists.{Led, none_led, field_led, field_passed}
+use Rattle.dbus_value_text.proofs.WholeParts.{after_fields, fields_there, some_fields}
+use Rattle.dbus_value_text.proofs.Rows.{FieldsLed, no_fields_led, field_led, field_passed}
 use Rattle.dbus_value_text.proofs.fields.write_fields.Goals as goal
+
+pub slice_bounds-source-end : goal.slice_bounds-source-end
+slice_bounds-source-end g c =
+    let j = c.requires.validated in
+    omega (arith, (whole_inside c.args.whole.now.limits c.args.whole.now.bytes.now c.args.whole.now.validated.now.order j.message c.args.whole.now.validated.now.length j.whole).1, length-take c.args.whole.now.validated.now.length c.args.whole.now.bytes.now)
+
+pub fields_end-end-requires : goal.fields_end-end-requires
+fields_end-end-requires g c =
+    let there = some_fields c.args.whole.now.limits c.args.whole.now.bytes.now c.args.whole.now.validated.now c.requires.validated in
+    record { stand = (c.args.whole.now.limits.depth, there.0, there.1, there.2) }
 
 pub loop-place-init : goal.loop-place-init
 loop-place-init g c = record {
-  left = λ fs rest s. none_walked c.args.source.now c.args.depth_left 16 c.fields_end-end.result fs rest
-      (Led g.D.Draft.gains g.F.FieldForm.is_taken g.F.FieldForm.is_text c.args.lead.now c.args.separator.now c.args.draft.now c.args.draft.now c.args.lead.now) (c.fields_end-end.ensures c.args.depth_left fs rest s)
-      (none_led g.D.Draft.gains g.F.FieldForm.is_taken g.F.FieldForm.is_text c.args.lead.now c.args.separator.now c.args.draft.now (g.met.D.Draft.nothing c.args.draft.now));
+  left = λ fs rest s. none_walked _ c.args.whole.now.limits.depth 16 c.fields_end-end.result fs rest
+      (FieldsLed g.D.Draft.gains c.args.lead.now c.args.separator.now c.args.draft.now g.F.FieldForm.is_taken g.F.FieldForm.is_text c.args.draft.now c.args.lead.now) (c.fields_end-end.ensures c.args.whole.now.limits.depth fs rest s)
+      (no_fields_led g.D.Draft.gains c.args.lead.now c.args.separator.now c.args.draft.now g.F.FieldForm.is_taken g.F.FieldForm.is_text (g.met.D.Draft.nothing c.args.draft.now));
   utf8 = search rules;
 }
 
 pub field_at-field-requires : goal.field_at-field-requires
 field_at-field-requires g c =
-    let there = c.requires.stand in
+    let there = some_fields c.args.whole.now.limits c.args.whole.now.bytes.now c.args.whole.now.validated.now c.requires.validated in
     let n = next_field (c.loop-place.invariant.left there.0 there.1 there.2) c.loop-place-test.true in
     record { stands = (n.f, n.after, n.stands) }
 
 pub lengths_of-requires : goal.lengths_of-requires
 lengths_of-requires g c =
-    let there = c.requires.stand in
+    let there = some_fields c.args.whole.now.limits c.args.whole.now.bytes.now c.args.whole.now.validated.now c.requires.validated in
     let n = next_field (c.loop-place.invariant.left there.0 there.1 there.2) c.loop-place-test.true in
     record { few = (c.field_at-field.ensures n.f n.after n.stands).few }
 
 pub field-place-requires-clause-stands : goal.field-place-requires-clause-stands
 field-place-requires-clause-stands g c =
-    let there = c.requires.stand in
+    let there = some_fields c.args.whole.now.limits c.args.whole.now.bytes.now c.args.whole.now.validated.now c.requires.validated in
     let n = next_field (c.loop-place.invariant.left there.0 there.1 there.2) c.loop-place-test.true in
     (n.f.value, n.after, (c.field_at-field.ensures n.f n.after n.stands).value)
 
 pub skip_value-place-requires-clause-stands : goal.skip_value-place-requires-clause-stands
 skip_value-place-requires-clause-stands g c =
-    let there = c.requires.stand in
+    let there = some_fields c.args.whole.now.limits c.args.whole.now.bytes.now c.args.whole.now.validated.now c.requires.validated in
     let n = next_field (c.loop-place.invariant.left there.0 there.1 there.2) c.loop-place-test.true in
     (n.f.value, n.after, (c.field_at-field.ensures n.f n.after n.stands).value)
 
 pub loop-place-smaller-then-takes : goal.loop-place-smaller-then-takes
 loop-place-smaller-then-takes g c =
-    let there = c.requires.stand in
+    let there = some_fields c.args.whole.now.limits c.args.whole.now.bytes.now c.args.whole.now.validated.now c.requires.validated in
     let n = next_field (c.loop-place.invariant.left there.0 there.1 there.2) c.loop-place-test.true in
     let p = c.field_at-field.ensures n.f n.after n.stands in
     let w = c.field-place.ensures.written n.f.value n.after p.value in
@@ -45,7 +58,7 @@ loop-place-smaller-then-takes g c =
 
 pub loop-place-smaller : goal.loop-place-smaller
 loop-place-smaller g c =
-    let there = c.requires.stand in
+    let there = some_fields c.args.whole.now.limits c.args.whole.now.bytes.now c.args.whole.now.validated.now c.requires.validated in
     let n = next_field (c.loop-place.invariant.left there.0 there.1 there.2) c.loop-place-test.true in
     let p = c.field_at-field.ensures n.f n.after n.stands in
     omega (arith, c.skip_value-place.ensures n.f.value n.after p.value ∙ p.ends, n.some, c.loop-place-test.true)
@@ -59,8 +72,8 @@ loop-place-preserved-then-takes g c = record {
       let w = c.field-place.ensures.written n.f.value n.after p.value in
       let is_text = g.F.FieldForm.is_text in
       let taken = ap g.F.FieldForm.is_taken p.code ∙ sym c.takes.ensures ∙ c.if-takes.true in
-      field_walked l (Led g.D.Draft.gains g.F.FieldForm.is_taken is_text c.args.lead.now c.args.separator.now c.args.draft.now c.field-place.new.draft c.args.separator.now) n c.field-place.result (w.1 ∙ p.ends)
-      (field_led g.D.Draft.gains g.F.FieldForm.is_taken is_text c.args.lead.now c.args.separator.now c.args.draft.now g.met.D.Draft.joins c.loop-place.draft c.push_str.new.self c.field-place.new.draft c.loop-place.before.now l.done n.f w.0.0 l.walked taken
+      field_walked l (FieldsLed g.D.Draft.gains c.args.lead.now c.args.separator.now c.args.draft.now g.F.FieldForm.is_taken is_text c.field-place.new.draft c.args.separator.now) n c.field-place.result (w.1 ∙ p.ends)
+      (field_led g.D.Draft.gains c.args.lead.now c.args.separator.now c.args.draft.now g.F.FieldForm.is_taken is_text g.met.D.Draft.joins c.loop-place.draft c.push_str.new.self c.field-place.new.draft c.loop-place.before.now l.done n.f w.0.0 l.walked taken
       c.push_str.ensures (subst (λ (k : ℕ). is_text k n.f.value w.0.0) (sym p.code) w.0.1) w.0.2);
   utf8 = search rules;
 }
@@ -72,15 +85,16 @@ loop-place-preserved g c = record {
       let n = next_field l c.loop-place-test.true in
       let p = c.field_at-field.ensures n.f n.after n.stands in
       let passed = ap g.F.FieldForm.is_taken p.code ∙ sym c.takes.ensures ∙ c.if-takes.false in
-      field_walked l (Led g.D.Draft.gains g.F.FieldForm.is_taken g.F.FieldForm.is_text c.args.lead.now c.args.separator.now c.args.draft.now c.loop-place.draft c.loop-place.before.now) n
+      field_walked l (FieldsLed g.D.Draft.gains c.args.lead.now c.args.separator.now c.args.draft.now g.F.FieldForm.is_taken g.F.FieldForm.is_text c.loop-place.draft c.loop-place.before.now) n
       c.skip_value-place.result (c.skip_value-place.ensures n.f.value n.after p.value ∙ p.ends)
-      (field_passed g.D.Draft.gains g.F.FieldForm.is_taken g.F.FieldForm.is_text c.args.lead.now c.args.separator.now c.args.draft.now c.loop-place.draft c.loop-place.before.now l.done n.f l.walked passed);
+      (field_passed g.D.Draft.gains c.args.lead.now c.args.separator.now c.args.draft.now g.F.FieldForm.is_taken g.F.FieldForm.is_text c.loop-place.draft c.loop-place.before.now l.done n.f l.walked passed);
   utf8 = search rules;
 }
 
 pub returns : goal.returns
 returns g c = record {
-  written = λ fs rest s.
-      let all = all_walked (c.loop-place.invariant.left fs rest s) c.loop-place-test.false in
-      (all.texts, all.are, all.gained);
+  written = λ m whole.
+      let j = c.requires.validated in
+      let all = all_walked (c.loop-place.invariant.left m.fields (after_fields c.args.whole.now.limits c.args.whole.now.bytes.now c.args.whole.now.validated.now j m whole) (fields_there c.args.whole.now.limits c.args.whole.now.bytes.now c.args.whole.now.validated.now j m whole)) c.loop-place-test.false in
+      (all.0, all.1, all.2.gained);
 }

@@ -1,0 +1,89 @@
+-- Texts in a row, the first after a lead and each other after a separator: one text more.
+use Rattle.std.proofs.Common.{◌≡◌, ℕ, List, [], ◌∷◌, ◌++◌, Bool, true, false, cond, append_assoc, refl, sym, ap, subst, ◌∙◌}
+use Rattle.std.specs.List.{flat_map}
+use Rattle.std.proofs.lemmas.List.{append-nil}
+use Rattle.std.proofs.lemmas.List.Concat.{flat_map-append}
+use Rattle.std.proofs.lemmas.List.Elements.{filter-append}
+use Rattle.dbus_value_model.specs.Values.{ValueTree, value_trees}
+use Rattle.dbus_message_model.specs.Messages.{FieldTree}
+use Rattle.dbus_show.proofs.Gaining.{then}
+use Rattle.dbus_value_text.specs.Gaining.{Joins}
+use Rattle.dbus_value_text.specs.Forms.{AreTexts, led}
+use Rattle.dbus_value_text.specs.Fields.{AreFieldTexts, taken_fields}
+use Rattle.dbus_value_text.specs.WritingLaws.{texts_push}
+
+-- what stands before a text after these
+abbrev pub next_lead : (lead separator : List ℕ) → List (List ℕ) → List ℕ
+next_lead lead separator [] = lead
+next_lead lead separator (text ∷ texts) = separator
+
+led_push : (lead separator : List ℕ) (texts : List (List ℕ)) (text : List ℕ) → led lead separator (texts ++ text ∷ []) ≡ led lead separator texts ++ (next_lead lead separator texts ++ text)
+led_push lead separator [] text = ap (λ (s : List ℕ). lead ++ s) (append-nil text)
+led_push lead separator (t ∷ texts) text =
+    let more = λ (y : List ℕ). separator ++ y in
+    let rest = flat_map more texts in
+    ap (λ (s : List ℕ). lead ++ (t ++ s)) (flat_map-append more texts (text ∷ []) ∙ ap (λ (s : List ℕ). rest ++ s) (append-nil (more text)))
+    ∙ ap (λ (s : List ℕ). lead ++ s) (sym (append_assoc t rest (more text))) ∙ sym (append_assoc lead (t ++ rest) (more text))
+
+next_push : (lead separator : List ℕ) (texts : List (List ℕ)) (text : List ℕ) → separator ≡ next_lead lead separator (texts ++ text ∷ [])
+next_push lead separator [] text = refl
+next_push lead separator (t ∷ texts) text = refl
+
+are_push : (Is : ℕ → ValueTree → List ℕ → Type 0) (fs : List FieldTree) (f : FieldTree) (texts : List (List ℕ)) (text : List ℕ)
+    → AreFieldTexts Is fs texts → Is f.code f.value text → AreFieldTexts Is (fs ++ f ∷ []) (texts ++ text ∷ [])
+are_push Is [] f [] text h is = (is, tt)
+are_push Is [] f (t ∷ texts) text h is = absurd h
+are_push Is (e ∷ fs) f [] text h is = absurd h
+are_push Is (e ∷ fs) f (t ∷ texts) text h is = (h.0, are_push Is fs f texts text h.1 is)
+
+taken_push : (is_taken : ℕ → Bool) (fs : List FieldTree) (f : FieldTree) (answer : Bool) → is_taken f.code ≡ answer → taken_fields is_taken (fs ++ f ∷ []) ≡ taken_fields is_taken fs ++ cond answer (f ∷ []) []
+taken_push is_taken fs f answer is =
+    filter-append (λ (f : FieldTree). is_taken f.code) fs (f ∷ []) ∙ ap (λ (a : Bool). taken_fields is_taken fs ++ cond a (f ∷ []) []) is
+
+module _ {D : Type 0} (gains : D → List ℕ → D → Type 0) (lead separator : List ℕ) (before : D) where
+  -- the draft has gained these texts, and this stands before the next one
+  pub record Led (now : D) (next : List ℕ) (texts : List (List ℕ)) : Type 0 where
+    pub gained : gains before (led lead separator texts) now
+    pub leads : next ≡ next_lead lead separator texts
+
+  none_led : gains before [] before → Led before lead []
+  none_led nothing = record { gained = nothing; leads = refl }
+
+  one_led : Joins gains → (now pushed after : D) (next : List ℕ) (texts : List (List ℕ)) (text : List ℕ) → Led now next texts → gains now next pushed → gains pushed text after → Led after separator (texts ++ text ∷ [])
+  one_led joins now pushed after next texts text h apart gained = record {
+    gained = subst (λ (t : List ℕ). gains before t after) (sym (led_push lead separator texts text)) (then gains joins h.gained (then gains joins (subst (λ (t : List ℕ). gains now t pushed) h.leads apart) gained));
+    leads = next_push lead separator texts text;
+  }
+
+  -- ---- values
+
+  module _ (Is : ValueTree → List ℕ → Type 0) where
+    abbrev pub ValuesLed : (now : D) → (next : List ℕ) → List ValueTree → Type 0
+    ValuesLed now next xs = (texts : List (List ℕ)) × AreTexts Is (value_trees xs) texts × Led now next texts
+
+    pub no_values_led : gains before [] before → ValuesLed before lead []
+    no_values_led nothing = ([], tt, none_led nothing)
+
+    pub value_led : Joins gains → (now pushed after : D) (next : List ℕ) (xs : List ValueTree) (v : ValueTree) (text : List ℕ) → ValuesLed now next xs
+        → gains now next pushed → Is v text → gains pushed text after → ValuesLed after separator (xs ++ v ∷ [])
+    value_led joins now pushed after next xs v text h apart is gained =
+        (h.0 ++ text ∷ [], texts_push Is xs v h.0 text h.1 is, one_led joins now pushed after next h.0 text h.2 apart gained)
+
+  -- ---- fields
+
+  module _ (is_taken : ℕ → Bool) (Is : ℕ → ValueTree → List ℕ → Type 0) where
+    abbrev pub FieldsLed : (now : D) → (next : List ℕ) → List FieldTree → Type 0
+    FieldsLed now next fs = (texts : List (List ℕ)) × AreFieldTexts Is (taken_fields is_taken fs) texts × Led now next texts
+
+    pub no_fields_led : gains before [] before → FieldsLed before lead []
+    no_fields_led nothing = ([], tt, none_led nothing)
+
+    pub field_led : Joins gains → (now pushed after : D) (next : List ℕ) (fs : List FieldTree) (f : FieldTree) (text : List ℕ) → FieldsLed now next fs → is_taken f.code ≡ true
+        → gains now next pushed → Is f.code f.value text → gains pushed text after → FieldsLed after separator (fs ++ f ∷ [])
+    field_led joins now pushed after next fs f text h taken apart is gained =
+        let are = subst (λ (es : List FieldTree). AreFieldTexts Is es (h.0 ++ text ∷ [])) (sym (taken_push is_taken fs f true taken)) (are_push Is (taken_fields is_taken fs) f h.0 text h.1 is) in
+        (h.0 ++ text ∷ [], are, one_led joins now pushed after next h.0 text h.2 apart gained)
+
+    pub field_passed : (now : D) (next : List ℕ) (fs : List FieldTree) (f : FieldTree) → FieldsLed now next fs → is_taken f.code ≡ false → FieldsLed now next (fs ++ f ∷ [])
+    field_passed now next fs f h passed =
+        (h.0, subst (λ (es : List FieldTree). AreFieldTexts Is es h.0) (sym (taken_push is_taken fs f false passed ∙ append-nil (taken_fields is_taken fs))) h.1, h.2)

@@ -1,0 +1,14 @@
+-- A message that was validated in the bytes that begin with it.
+-- D-Bus Specification, "Message Format".
+use Rattle.dbus_message_model.specs.Messages.{MessageTree}
+use Rattle.dbus_header.specs.MessageOutcomes.{IsWhole}
+use Rattle.dbus_validate.specs.Validating.{IsValidated}
+use Rattle.dbus_value_text.specs.declared.whole.Whole.{Whole}
+
+-- what is said of it holds of these bytes
+abbrev pub WasValidated : Whole → Type 0
+WasValidated whole = IsValidated whole.limits whole.bytes.now whole.validated.now
+
+-- the bytes begin with this message
+abbrev pub IsWholeOf : Whole → MessageTree → Type 0
+IsWholeOf whole m = IsWhole whole.limits whole.bytes.now whole.validated.now.order m whole.validated.now.length
