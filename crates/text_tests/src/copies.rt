@@ -2,49 +2,58 @@
 
 use dbus_auth::{EndStep, Mechanism, Status};
 use dbus_auth_lines::{ClientLine, ServerLine};
-use dbus_match::parse_rule;
+use dbus_match::{RuleFault, parse_rule};
+use std::alloc::{AllocError, Global};
 use std::test::Fail;
 
-#[test]
-fn copied_client_lines(rt: HostRuntime) -> Result<(), Fail> {
-    let line = ClientLine::DataOf(Vec::from_slice(rt.alloc(), b"x")?);
-    assert!(rt; line.clone()? == line);
-    assert!(rt; line != ClientLine::Cancel);
-    Ok(())
+// Whether a copy of the value says the same, and another value does not.
+fn is_copied<T: Clone + PartialEq + Drop>(value: &T, other: &T) -> Result<bool, AllocError> {
+    let copy = value.clone()?;
+    Ok(copy == *value && *value != *other)
 }
 
-#[test]
-fn copied_server_lines(rt: HostRuntime) -> Result<(), Fail> {
-    let line = ServerLine::DataOf(Vec::from_slice(rt.alloc(), b"x")?);
-    assert!(rt; line.clone()? == line);
-    assert!(rt; line != ServerLine::Agree);
-    Ok(())
+fn client_lines(alloc: Global) -> Result<bool, AllocError> {
+    let line = ClientLine::DataOf(Vec::from_slice(alloc, b"x")?);
+    is_copied(&line, &ClientLine::Cancel)
 }
 
-#[test]
-fn copied_steps(rt: HostRuntime) -> Result<(), Fail> {
+fn server_lines(alloc: Global) -> Result<bool, AllocError> {
+    let line = ServerLine::DataOf(Vec::from_slice(alloc, b"x")?);
+    is_copied(&line, &ServerLine::Agree)
+}
+
+fn mechanisms(alloc: Global) -> Result<bool, AllocError> {
+    let mechanism = Mechanism::Anonymous(Vec::from_slice(alloc, b"trace")?);
+    is_copied(&mechanism, &Mechanism::External(Some(1000)))
+}
+
+fn steps(alloc: Global) -> Result<bool, AllocError> {
     let step = EndStep {
         taken: 3,
-        send: Vec::from_slice(rt.alloc(), b"BEGIN\r\n")?,
+        send: Vec::from_slice(alloc, b"BEGIN\r\n")?,
         status: Status::Begun,
     };
-    assert!(rt; step.clone()? == step);
-    Ok(())
+    let other = EndStep {
+        taken: 3,
+        send: Vec::new(alloc),
+        status: Status::Begun,
+    };
+    is_copied(&step, &other)
+}
+
+fn rules(alloc: Global) -> Result<bool, RuleFault> {
+    let rule = parse_rule(alloc, "type='signal',member='X'")?;
+    let other = parse_rule(alloc, "type='signal'")?;
+    Ok(is_copied(&rule, &other)?)
 }
 
 #[test]
-fn copied_mechanisms(rt: HostRuntime) -> Result<(), Fail> {
-    let mechanism = Mechanism::Anonymous(Vec::from_slice(rt.alloc(), b"trace")?);
-    assert!(rt; mechanism.clone()? == mechanism);
-    assert!(rt; mechanism != Mechanism::External(Some(1000)));
-    Ok(())
-}
-
-#[test]
-fn copied_rules(rt: HostRuntime) -> Result<(), Fail> {
-    let rule = parse_rule(rt.alloc(), "type='signal',member='X'")?;
-    assert!(rt; rule.clone()? == rule);
-    let other = parse_rule(rt.alloc(), "type='signal'")?;
-    assert!(rt; rule != other);
+fn copied(rt: HostRuntime) -> Result<(), Fail> {
+    let alloc = rt.alloc();
+    assert!(rt; client_lines(alloc)?);
+    assert!(rt; server_lines(alloc)?);
+    assert!(rt; mechanisms(alloc)?);
+    assert!(rt; steps(alloc)?);
+    assert!(rt; rules(alloc)?);
     Ok(())
 }

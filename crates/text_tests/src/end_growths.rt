@@ -1,90 +1,94 @@
 //! The ends of a connection, with a failing allocation: the end is unchanged, and takes the same piece as if nothing had been.
 
-ghost use Rattle.std.specs.Prelude.{◌≡◌, true};
+ghost use Rattle.std.specs.Prelude.{◌≡◌, true, false};
 ghost use Rattle.dbus_auth.specs.ClientEndViews.{client_end_state};
 
-use crate::samples::{Done, client_end, did, server_end};
-use dbus_auth::{ClientEnd, EndStep};
-use refusing_alloc::Refusing;
-use std::alloc::AllocError;
-use std::process::Abort;
-use std::test::Fail;
+use crate::answer::Answer;
+use crate::samples::{GUID, client_end};
+use dbus_auth::{ClientEnd, EndStep, Server, ServerEnd, Status};
+use std::alloc::{AllocError, Allocator};
+
+/// What a take does: how many bytes it takes, what it sends, and where the end stands then.
+pub type Done = (usize, &'static [u8], Status);
 
 /// A piece, and what a take of it does.
 pub type EndTurn = (&'static [u8], Done);
 
-/// Whether the end of a server as user 1000 that takes these pieces in turn was refused its `n`th allocation.
-pub fn server_takes(
-    rt: &impl Abort,
-    heap: &Refusing,
-    n: u64,
-    turns: &[EndTurn],
-) -> Result<bool, Fail> {
-    let mut end = server_end(heap, false);
-    assert_eq!(rt; heap.growths(), 0);
-    let mut refused = false;
-    heap.refuse_nth(n);
-    for (at, (piece, want)) in turns.iter().enumerate() {
-        let step = match end.take(piece) {
-            Ok(step) => step,
-            Err(AllocError) => {
-                refused = true;
-                end.take(piece)?
-            }
-        };
-        did(rt, at, step, *want);
+// How a take did this.
+fn did<A: Allocator>(step: Result<EndStep<A>, AllocError>, want: Done) -> Answer {
+    let (taken, send, status) = want;
+    match step {
+        Ok(step) => Answer::of(
+            step.taken == taken && step.send.as_slice() == send && step.status == status,
+        ),
+        Err(AllocError) => Answer::Memory,
     }
-    Ok(refused)
+}
+
+/// How the end of a server as user 1000 takes these pieces in turn.
+pub fn server_takes<A: Allocator + Copy>(alloc: A, turns: &[EndTurn]) -> Answer {
+    let mut end = ServerEnd::new(alloc, Server::new(GUID, Some(1000), false));
+    let mut answer = Answer::Right;
+    for (piece, want) in turns {
+        answer = answer.and(match did(end.take(piece), *want) {
+            Answer::Memory => did(end.take(piece), *want).again(),
+            answer => answer,
+        });
+    }
+    answer
 }
 
 // A client's end that has started.
 #[derive(Drop)]
-struct Started<'a> {
-    end: ClientEnd<&'a Refusing>,
+struct Started<A: Allocator + Copy> {
+    end: ClientEnd<A>,
     ghost started: { (client_end_state end).started ≡ true },
 }
 
-impl<'a> Started<'a> {
-    // The end of a client as user 1000 and then, with a trace, by ANONYMOUS, and whether its start was refused the `n`th allocation.
-    fn new(
-        rt: &impl Abort,
-        heap: &'a Refusing,
-        n: u64,
-        trace: Option<&[u8]>,
-    ) -> Result<(Started<'a>, bool), Fail> {
-        let mut end = client_end(heap, Some(1000), trace)?;
-        heap.refuse_nth(n);
-        let (sent, refused) = match end.start() {
-            Ok(sent) => (sent, false),
-            Err(AllocError) => (end.start()?, true),
-        };
-        assert_eq!(rt; sent.as_slice(), b"\0AUTH EXTERNAL 31303030\r\n".as_slice());
-        Ok((Started { end }, refused))
-    }
-
-    fn take(&mut self, piece: &[u8]) -> Result<EndStep<&'a Refusing>, AllocError> {
-        self.end.take(piece)
+impl<A: Allocator + Copy> Started<A> {
+    // How it takes a piece.
+    fn take(&mut self, piece: &[u8], want: Done) -> Answer {
+        match did(self.end.take(piece), want) {
+            Answer::Memory => did(self.end.take(piece), want).again(),
+            answer => answer,
+        }
     }
 }
 
-/// Whether the end of such a client that starts and takes these pieces in turn was refused its `n`th allocation.
-pub fn client_takes(
-    rt: &impl Abort,
-    heap: &Refusing,
-    n: u64,
+// The end once it has started, if it could, and how it greeted.
+fn start<A: Allocator + Copy>(mut end: ClientEnd<A>) -> (Option<Started<A>>, Answer)
+    requires { (client_end_state end).started ≡ false }
+{
+    match end.start() {
+        Ok(sent) => (Some(Started { end }), greeted(&sent)),
+        Err(AllocError) => match end.start() {
+            Ok(sent) => (Some(Started { end }), greeted(&sent).again()),
+            Err(AllocError) => (None, Answer::Wrong),
+        },
+    }
+}
+
+fn greeted(sent: &[u8]) -> Answer {
+    Answer::of(sent == b"\0AUTH EXTERNAL 31303030\r\n".as_slice())
+}
+
+/// How the end of a client as user 1000 and then, with a trace, by ANONYMOUS starts and takes these pieces in turn. What it is made of
+/// takes its memory from `spare`.
+pub fn client_takes<A: Allocator + Copy>(
+    alloc: A,
+    spare: A,
     trace: Option<&[u8]>,
     turns: &[EndTurn],
-) -> Result<bool, Fail> {
-    let (mut client, mut refused) = Started::new(rt, heap, n, trace)?;
-    for (at, (piece, want)) in turns.iter().enumerate() {
-        let step = match client.take(piece) {
-            Ok(step) => step,
-            Err(AllocError) => {
-                refused = true;
-                client.take(piece)?
-            }
-        };
-        did(rt, at, step, *want);
+) -> Answer {
+    let Some(end) = client_end(alloc, spare, trace) else {
+        return Answer::Wrong;
+    };
+    let (client, mut answer) = start(end);
+    let Some(mut client) = client else {
+        return Answer::Wrong;
+    };
+    for (piece, want) in turns {
+        answer = answer.and(client.take(piece, *want));
     }
-    Ok(refused)
+    answer
 }

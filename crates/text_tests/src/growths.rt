@@ -1,20 +1,18 @@
 //! Each allocation failing in turn: the call reports out of memory, no block leaks, and what is changed by calls answers the
 //! same call made again as if nothing had been.
 
+use crate::answer::Answer;
 use crate::end_growths::{EndTurn, client_takes, server_takes};
 use crate::line_growths::{CutTurn, client_line, cuts, server_line};
 use crate::machine_growths::{ClientTurn, ServerTurn, client_hears, server_hears};
 use crate::rule_sets::rules_found;
 use crate::samples::OK_LINE;
-use crate::signal::{SIGNAL, SIGNAL_TEXT, message_of};
+use crate::texts::{rule_read, rule_written, shown, shown_again};
 use dbus_auth::{ClientState, ServerState, Status};
 use dbus_auth_lines::LineFault;
-use dbus_match::{RuleFault, RuleReason, parse_rule, rule_text};
-use dbus_message::Message;
-use dbus_show::{show_into, show_message};
-use dbus_value::Order;
+use dbus_match::{RuleFault, RuleReason};
 use refusing_alloc::Refusing;
-use std::alloc::AllocError;
+use std::alloc::Global;
 use std::process::Abort;
 use std::test::Fail;
 
@@ -379,6 +377,12 @@ const TEXTS: &[(Call, u64)] = &[
     (Call::ShowInto, 1),
 ];
 
+/// The text of a rule.
+const RULE: &str = "type='signal',arg0='it'\\''s',arg63path='/a',";
+
+/// The text that it is written as.
+const RULE_TEXT: &str = "type='signal',arg0='it'\\''s',arg63path='/a'";
+
 #[test]
 fn each_growth_refused(rt: HostRuntime) -> Result<(), Fail> {
     for calls in [LINES, SERVERS, CLIENTS, TEXTS] {
@@ -390,148 +394,61 @@ fn each_growth_refused(rt: HostRuntime) -> Result<(), Fail> {
 /// Calls, and how many allocations each asks for at least.
 fn all_refused(rt: &(impl Abort + AllocGlobal), calls: &[(Call, u64)]) -> Result<(), Fail> {
     for (row, (call, least)) in calls.iter().enumerate() {
-        let growths = growths_of(rt, row, *call)?;
-        assert!(rt; growths >= *least, "row {row}: {growths}");
+        let growths = growths_of(rt.alloc(), *call).unwrap_or(0);
+        assert!(rt; growths > *least, "row {row}: {growths}");
     }
     Ok(())
 }
 
-/// How many allocations the call asks for: it is made with its first allocation failing, with its second and so on, up to the
-/// run in which none is.
-fn growths_of(rt: &(impl Abort + AllocGlobal), row: usize, call: Call) -> Result<u64, Fail> {
+/// How many allocations the call asks for and one more: it is made with its first allocation failing, with its second and so on, up to
+/// the run in which none is. Nothing if one of the runs goes wrong.
+fn growths_of(alloc: Global, call: Call) -> Option<u64> {
     for n in 1..100 {
-        let heap = Refusing::none(rt.alloc());
-        let refused = is_refused(rt, &heap, n, call)?;
-        assert_eq!(rt;
-            (heap.refusals() == 1, heap.blocks()),
-            (refused, 0),
-            "at {n} of row {row}"
-        );
-        if !refused {
-            return Ok(n - 1);
+        match is_refused(alloc, n, call) {
+            Some(true) => {}
+            Some(false) => return Some(n),
+            None => return None,
         }
     }
-    Err(Fail::new("the call asks for too many growths"))
+    None
 }
 
-/// Whether the call reported out of memory, with its `n`th allocation failing. It is then made again, and answers as if nothing
-/// had been; if none is refused, so does the first.
-fn is_refused(
-    rt: &(impl Abort + AllocGlobal),
-    heap: &Refusing,
-    n: u64,
-    call: Call,
-) -> Result<bool, Fail> {
+/// Whether the `n`th allocation of the call failed. Nothing if it does not tell that, or if the same call made again does not answer as if
+/// nothing had been, or if a block is left.
+fn is_refused(alloc: Global, n: u64, call: Call) -> Option<bool> {
+    let heap = Refusing::nth(alloc, n);
+    let spare = Refusing::none(alloc);
+    let answer = match answer_of(&heap, &spare, alloc, call) {
+        Answer::Memory => answer_of(&heap, &spare, alloc, call).again(),
+        answer => answer,
+    };
+    let refused = heap.refusals() == 1;
+    let wanted = if refused {
+        Answer::Again
+    } else {
+        Answer::Right
+    };
+    if answer == wanted && heap.blocks() == 0 && spare.blocks() == 0 {
+        Some(refused)
+    } else {
+        None
+    }
+}
+
+/// How the call goes. What it is made of takes its memory from `spare` or `alloc`.
+fn answer_of<'a>(heap: &'a Refusing, spare: &'a Refusing, alloc: Global, call: Call) -> Answer {
     match call {
-        Call::ClientLine(line, want) => client_line(rt, heap, n, line, want),
-        Call::ServerLine(line, want) => server_line(rt, heap, n, line, want),
-        Call::Cuts(turns) => cuts(rt, heap, n, turns),
-        Call::ServerHears(anonymous, turns) => server_hears(rt, heap, n, anonymous, turns),
-        Call::ClientHears(trace, turns) => client_hears(rt, heap, n, trace, turns),
-        Call::ServerTakes(turns) => server_takes(rt, heap, n, turns),
-        Call::ClientTakes(trace, turns) => client_takes(rt, heap, n, trace, turns),
-        Call::RuleRead(text, want) => Ok(rule_read(rt, heap, n, text, want)),
-        Call::RuleText(text, want) => rule_written(rt, heap, n, text, want),
-        Call::RulesFound => rules_found(rt, heap, n),
-        Call::Show => show(rt, heap, n),
-        Call::ShowInto => show_kept(rt, heap, n),
+        Call::ClientLine(line, want) => client_line(heap, line, want),
+        Call::ServerLine(line, want) => server_line(heap, line, want),
+        Call::Cuts(turns) => cuts(heap, alloc, turns),
+        Call::ServerHears(anonymous, turns) => server_hears(heap, spare, anonymous, turns),
+        Call::ClientHears(trace, turns) => client_hears(heap, spare, trace, turns),
+        Call::ServerTakes(turns) => server_takes(heap, turns),
+        Call::ClientTakes(trace, turns) => client_takes(heap, spare, trace, turns),
+        Call::RuleRead(text, want) => rule_read(heap, text, want),
+        Call::RuleText(text, want) => rule_written(heap, spare, text, want),
+        Call::RulesFound => rules_found(heap, spare),
+        Call::Show => shown(heap, spare),
+        Call::ShowInto => shown_again(heap, spare),
     }
-}
-
-/// The text of a rule.
-const RULE: &str = "type='signal',arg0='it'\\''s',arg63path='/a',";
-
-/// The text that it is written as.
-const RULE_TEXT: &str = "type='signal',arg0='it'\\''s',arg63path='/a'";
-
-fn rule_read(
-    rt: &impl Abort,
-    heap: &Refusing,
-    n: u64,
-    text: &str,
-    want: Option<RuleFault>,
-) -> bool {
-    heap.refuse_nth(n);
-    let first = parse_rule(heap, text).err();
-    let refused = first == Some(RuleFault::Memory);
-    let last = if refused {
-        parse_rule(heap, text).err()
-    } else {
-        first
-    };
-    assert_eq!(rt; last, want);
-    refused
-}
-
-fn rule_written(
-    rt: &impl Abort,
-    heap: &Refusing,
-    n: u64,
-    text: &str,
-    want: &str,
-) -> Result<bool, Fail> {
-    let rule = parse_rule(heap, text)?;
-    heap.refuse_nth(n);
-    let first = rule_text(heap, &rule);
-    let refused = first.is_err();
-    let last = if refused {
-        rule_text(heap, &rule)
-    } else {
-        first
-    };
-    assert_eq!(rt; last?.as_str(), want);
-    Ok(refused)
-}
-
-fn show(rt: &impl Abort, heap: &Refusing, n: u64) -> Result<bool, Fail> {
-    let (order, message) = message_of(heap, SIGNAL)?;
-    heap.refuse_nth(n);
-    match show_message(heap, order, &message, 1) {
-        Ok(text) => {
-            assert_eq!(rt; text.as_str(), SIGNAL_TEXT);
-            Ok(false)
-        }
-        Err(AllocError) => {
-            assert_eq!(rt;
-                show_message(heap, order, &message, 1)?.as_str(),
-                SIGNAL_TEXT
-            );
-            Ok(true)
-        }
-    }
-}
-
-fn show_kept(rt: &impl Abort, heap: &Refusing, n: u64) -> Result<bool, Fail> {
-    let (order, message) = message_of(heap, SIGNAL)?;
-    let mut kept = String::from_str(heap, "kept")?;
-    heap.refuse_nth(n);
-    Ok(show_again(rt, heap, &mut kept, order, &message)?)
-}
-
-// A refused string is empty. Then it holds the text in place of what it held, and the text again takes no memory.
-fn show_again<'a>(
-    rt: &impl Abort,
-    heap: &'a Refusing,
-    kept: &mut String<&'a Refusing>,
-    order: Order,
-    message: &Message<&'a Refusing>,
-) -> Result<bool, AllocError> {
-    let refused = show_into(kept, order, message, 1).is_err();
-    assert_eq!(rt; kept.as_str(), if refused { "" } else { SIGNAL_TEXT });
-    shows(rt, kept, order, message)?;
-    let growths = heap.growths();
-    shows(rt, kept, order, message)?;
-    assert_eq!(rt; heap.growths(), growths);
-    Ok(refused)
-}
-
-fn shows<'a>(
-    rt: &impl Abort,
-    kept: &mut String<&'a Refusing>,
-    order: Order,
-    message: &Message<&'a Refusing>,
-) -> Result<(), AllocError> {
-    show_into(kept, order, message, 1)?;
-    assert_eq!(rt; kept.as_str(), SIGNAL_TEXT);
-    Ok(())
 }

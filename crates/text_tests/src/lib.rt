@@ -1,6 +1,8 @@
-//! Tests of the handshake's lines and ends; of rules and printed texts with allocations that fail; of copies, of the texts of faults, and of explanations.
+//! Tests of the handshake's lines and ends; of rules and printed texts with allocations that fail; of copies, and of the texts of faults.
 #![tactic(auto)]
 
+#[cfg(test)]
+mod answer;
 #[cfg(test)]
 mod copies;
 #[cfg(test)]
@@ -23,3 +25,5 @@ mod rule_sets;
 mod samples;
 #[cfg(test)]
 mod signal;
+#[cfg(test)]
+mod texts;

@@ -1,162 +1,164 @@
 //! The state machines, with a failing allocation: the machine is unchanged, and answers an equal line as if nothing had been.
 
-use crate::samples::{GUID, mechanisms};
+use crate::answer::Answer;
+use crate::samples::{GUID, client_of};
 use dbus_auth::{Client, ClientAct, ClientState, Server, ServerAct, ServerState};
 use dbus_auth_lines::{client_text, read_client, read_server, server_text};
-use refusing_alloc::Refusing;
-use std::process::Abort;
-use std::test::Fail;
+use std::alloc::Allocator;
 
 /// A line, what a server sends on it, which is nothing where it begins or is closed, and where it stands then.
 pub type ServerTurn = (&'static [u8], &'static [u8], ServerState);
 
-/// Whether a server as user 1000 that receives these lines in turn was refused its `n`th allocation.
-pub fn server_hears(
-    rt: &(impl Abort + AllocGlobal),
-    heap: &Refusing,
-    n: u64,
+/// How a server as user 1000 receives these lines in turn. They and their texts take their memory from `spare`.
+pub fn server_hears<A: Allocator + Copy>(
+    alloc: A,
+    spare: A,
     anonymous: bool,
     turns: &[ServerTurn],
-) -> Result<bool, Fail> {
-    let lines = Refusing::none(rt.alloc());
+) -> Answer {
     let mut server = Server::new(GUID, Some(1000), anonymous);
-    let mut refused = false;
-    heap.refuse_nth(n);
-    for turn in turns {
-        if server_turn(rt, &mut server, heap, &lines, *turn)? {
-            refused = true;
+    let mut answer = Answer::Right;
+    for (line, sent, state) in turns {
+        let first = server_turn(&mut server, alloc, spare, line, sent);
+        answer = answer.and(match first {
+            Answer::Memory => server_turn(&mut server, alloc, spare, line, sent).again(),
+            first => first,
+        });
+        if server.state() != *state {
+            return Answer::Wrong;
         }
     }
-    Ok(refused)
+    answer
 }
 
-// Whether the server was refused memory in this turn. The lines take theirs from the second heap.
-fn server_turn<'a>(
-    rt: &impl Abort,
+// How it sends this on a line.
+fn server_turn<A: Allocator + Copy>(
     server: &mut Server,
-    heap: &'a Refusing,
-    lines: &'a Refusing,
-    turn: ServerTurn,
-) -> Result<bool, Fail> {
-    let (line, sent, state) = turn;
-    let (act, refused) = match server_act(server, heap, lines, line)? {
-        Some(act) => (Some(act), false),
-        None => (server_act(server, heap, lines, line)?, true),
-    };
-    server_sends(rt, lines, act, sent)?;
-    assert_eq!(rt; server.state(), state);
-    Ok(refused)
-}
-
-// What a server answers to a line, or none where it is refused memory.
-fn server_act<'a>(
-    server: &mut Server,
-    heap: &'a Refusing,
-    lines: &'a Refusing,
+    alloc: A,
+    spare: A,
     line: &[u8],
-) -> Result<Option<ServerAct<&'a Refusing>>, Fail> {
-    let line = read_client(lines, line)?;
+    sent: &[u8],
+) -> Answer {
+    match server_act(server, alloc, spare, line) {
+        Some(act) => Answer::of(server_sends(spare, act, sent)),
+        None => Answer::Memory,
+    }
+}
+
+// What a server answers to a line, or none if it is refused memory or does not wait.
+fn server_act<A: Allocator + Copy>(
+    server: &mut Server,
+    alloc: A,
+    spare: A,
+    line: &[u8],
+) -> Option<ServerAct<A>> {
+    let Ok(line) = read_client(spare, line) else {
+        return None;
+    };
     match server.state() {
         ServerState::WaitingForAuth | ServerState::WaitingForData | ServerState::WaitingForBegin =>
-            Ok(server.receive(heap, line).ok()),
-        ServerState::Begun | ServerState::Closed => Err(Fail::new("the server does not wait")),
+            { server.receive(alloc, line).ok() }
+        ServerState::Begun | ServerState::Closed => None,
     }
 }
 
-// The server sends this.
-fn server_sends<'a>(
-    rt: &impl Abort,
-    lines: &'a Refusing,
-    act: Option<ServerAct<&'a Refusing>>,
-    want: &[u8],
-) -> Result<(), Fail> {
+fn server_sends<A: Allocator + Copy>(spare: A, act: ServerAct<A>, sent: &[u8]) -> bool {
     match act {
-        Some(ServerAct::Send(line)) => {
-            assert_eq!(rt; server_text(lines, &line)?.as_slice(), want);
-        }
-        Some(ServerAct::Begin | ServerAct::Disconnect) => assert!(rt; want.is_empty()),
-        None => return Err(Fail::new("the server is refused memory twice")),
+        ServerAct::Send(line) => match server_text(spare, &line) {
+            Ok(text) => text.as_slice() == sent,
+            Err(_) => false,
+        },
+        ServerAct::Begin | ServerAct::Disconnect => sent.is_empty(),
     }
-    Ok(())
 }
 
 /// A line, or none where the client starts, what it sends, which is nothing where it begins or is closed, and where it stands then.
 pub type ClientTurn = (Option<&'static [u8]>, &'static [u8], ClientState);
 
-/// Whether a client as user 1000 and then, with a trace, by ANONYMOUS that receives these lines in turn was refused its `n`th
-/// allocation.
-pub fn client_hears(
-    rt: &(impl Abort + AllocGlobal),
-    heap: &Refusing,
-    n: u64,
+/// How a client as user 1000 and then, with a trace, by ANONYMOUS receives these lines in turn. They, their texts and what it is made of
+/// take their memory from `spare`.
+pub fn client_hears<A: Allocator + Copy>(
+    alloc: A,
+    spare: A,
     trace: Option<&[u8]>,
     turns: &[ClientTurn],
-) -> Result<bool, Fail> {
-    let lines = Refusing::none(rt.alloc());
-    let Ok(mut client) = Client::new(mechanisms(heap, Some(1000), trace)?) else {
-        return Err(Fail::new("a trace is too long"));
-    };
-    let mut refused = false;
-    heap.refuse_nth(n);
+) -> Answer {
+    match client_of(spare, trace) {
+        Some(mut client) => client_turns(&mut client, alloc, spare, turns),
+        None => Answer::Wrong,
+    }
+}
+
+fn client_turns<A: Allocator + Copy>(
+    client: &mut Client<A>,
+    alloc: A,
+    spare: A,
+    turns: &[ClientTurn],
+) -> Answer {
+    let mut answer = Answer::Right;
     for (line, sent, state) in turns {
-        let first = client_act(&mut client, heap, &lines, *line)?;
-        let act = match first {
-            Some(act) => Some(act),
-            None => {
-                refused = true;
-                client_act(&mut client, heap, &lines, *line)?
-            }
-        };
-        client_sends(rt, &lines, act, sent)?;
-        assert_eq!(rt; client.state(), *state);
+        let first = client_turn(client, alloc, spare, *line, sent);
+        answer = answer.and(match first {
+            Answer::Memory => client_turn(client, alloc, spare, *line, sent).again(),
+            first => first,
+        });
+        if client.state() != *state {
+            return Answer::Wrong;
+        }
     }
-    Ok(refused)
+    answer
 }
 
-// What a client answers to a line, which takes its memory from the second heap, or does where it starts; or none where it is
-// refused memory.
-fn client_act<'a>(
-    client: &mut Client<&'a Refusing>,
-    heap: &'a Refusing,
-    lines: &'a Refusing,
+// How it sends this on a line, or as it starts.
+fn client_turn<A: Allocator + Copy>(
+    client: &mut Client<A>,
+    alloc: A,
+    spare: A,
     line: Option<&[u8]>,
-) -> Result<Option<ClientAct<&'a Refusing>>, Fail> {
-    let Some(line) = line else {
-        return start_act(client, heap);
+    sent: &[u8],
+) -> Answer {
+    let act = match line {
+        Some(line) => client_act(client, alloc, spare, line),
+        None => start_act(client, alloc),
     };
-    let line = read_server(lines, line)?;
-    match client.state() {
-        ClientState::WaitingForData | ClientState::WaitingForOk | ClientState::WaitingForReject =>
-            Ok(client.receive(heap, line).ok()),
-        ClientState::Fresh | ClientState::Begun | ClientState::Closed => {
-            Err(Fail::new("the client does not wait"))
-        }
-    }
-}
-
-fn start_act<'a>(
-    client: &mut Client<&'a Refusing>,
-    heap: &'a Refusing,
-) -> Result<Option<ClientAct<&'a Refusing>>, Fail> {
-    match client.state() {
-        ClientState::Fresh => Ok(client.start(heap).ok()),
-        _ => Err(Fail::new("the client has started")),
-    }
-}
-
-// The client sends this.
-fn client_sends<'a>(
-    rt: &impl Abort,
-    lines: &'a Refusing,
-    act: Option<ClientAct<&'a Refusing>>,
-    want: &[u8],
-) -> Result<(), Fail> {
     match act {
-        Some(ClientAct::Send(line)) => {
-            assert_eq!(rt; client_text(lines, &line)?.as_slice(), want);
-        }
-        Some(ClientAct::Begin | ClientAct::Disconnect) => assert!(rt; want.is_empty()),
-        None => return Err(Fail::new("the client is refused memory twice")),
+        Some(act) => Answer::of(client_sends(spare, act, sent)),
+        None => Answer::Memory,
     }
-    Ok(())
+}
+
+// What a client answers to a line, or none if it is refused memory or does not wait.
+fn client_act<A: Allocator + Copy>(
+    client: &mut Client<A>,
+    alloc: A,
+    spare: A,
+    line: &[u8],
+) -> Option<ClientAct<A>> {
+    let Ok(line) = read_server(spare, line) else {
+        return None;
+    };
+    match client.state() {
+        ClientState::WaitingForData | ClientState::WaitingForOk | ClientState::WaitingForReject => {
+            client.receive(alloc, line).ok()
+        }
+        ClientState::Fresh | ClientState::Begun | ClientState::Closed => None,
+    }
+}
+
+// What it does as it starts, or none if it is refused memory or has started.
+fn start_act<A: Allocator + Copy>(client: &mut Client<A>, alloc: A) -> Option<ClientAct<A>> {
+    match client.state() {
+        ClientState::Fresh => client.start(alloc).ok(),
+        _ => None,
+    }
+}
+
+fn client_sends<A: Allocator + Copy>(spare: A, act: ClientAct<A>, sent: &[u8]) -> bool {
+    match act {
+        ClientAct::Send(line) => match client_text(spare, &line) {
+            Ok(text) => text.as_slice() == sent,
+            Err(_) => false,
+        },
+        ClientAct::Begin | ClientAct::Disconnect => sent.is_empty(),
+    }
 }

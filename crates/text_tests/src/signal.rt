@@ -3,7 +3,6 @@
 use dbus_message::{Answer, Message, decode};
 use dbus_value::Order;
 use std::alloc::Allocator;
-use std::test::Fail;
 
 /// A signal whose body is the text `hi` and, in a variant, an array of two numbers.
 pub const SIGNAL: &[u8] =
@@ -14,12 +13,9 @@ pub const SIGNAL_TEXT: &str =
     "#1 l signal serial=2 flags=00 path=/a interface=a.b member=C signature=sv\n  s:\"hi\"\n  <au:[u:1, u:2]>\n";
 
 /// The message of these bytes, and its byte order.
-pub fn message_of<A: Allocator + Copy>(
-    alloc: A,
-    bytes: &[u8],
-) -> Result<(Order, Message<A>), Fail> {
+pub fn message_of<A: Allocator + Copy>(alloc: A, bytes: &[u8]) -> Option<(Order, Message<A>)> {
     match decode(alloc, bytes) {
-        Ok(Answer::Whole { order, message, .. }) => Ok((order, message)),
-        _ => Err(Fail::new("no message")),
+        Ok(Answer::Whole { order, message, .. }) => Some((order, message)),
+        _ => None,
     }
 }

@@ -1,9 +1,10 @@
 //! `tool_cases`: holds the program, over the words of its command line, against the cases of files.
 //!
-//! `words.txt` has words that ask for help or the version, and wrong ones; each other file has runs
-//! of the command that it is named after. A case has the words, the input, the exit status, and
-//! what is written on standard output and on standard error. A line is printed for each run that
-//! ends otherwise, and then one for each file. It reads no input.
+//! `words.txt` has words that ask for help or the version, and wrong ones; `explained.txt` has runs
+//! that explain a fault; each other file has runs of the command that it is named after. A case has
+//! the words, the input, the exit status, and what is written on standard output and on standard
+//! error. A line is printed for each run that ends otherwise, and then one for each file. It reads no
+//! input.
 #![tactic(auto)]
 
 mod columns;
@@ -17,7 +18,7 @@ use case_files::{Case, Tally, cases};
 use runs::try_run;
 use std::fs;
 
-const FILES: [&str; 8] = [
+const FILES: [&str; 9] = [
     "words.txt",
     "show.txt",
     "json.txt",
@@ -26,6 +27,7 @@ const FILES: [&str; 8] = [
     "swap.txt",
     "filter.txt",
     "handshake.txt",
+    "explained.txt",
 ];
 
 // Holds the program against each case of a file.

@@ -85,7 +85,7 @@ pub(crate) fn try_run(
     parts: &[Case],
     case: &Case,
 ) -> Result<()> {
-    let words = words_of(rt.alloc(), case)?;
+    let words = words_of(rt, parts, case)?;
     let input = input_of(rt, parts, case)?;
     let wanted = end_of(rt, parts, case, input.is_read)?;
     for (size, name) in SIZES.iter().take(input.sizes) {
