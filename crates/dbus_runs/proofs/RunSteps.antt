@@ -16,12 +16,12 @@ use Rattle.dbus_command.specs.declared.command.Command.{Command}
 use Rattle.dbus_command.specs.declared.command.Command.TheVariants.{Show, Json, Check, Swap, Filter}
 use Rattle.dbus_runs.specs.Checking.{TellsLine, WritesMessages, WritesBefore, Answers, Fails, IsCause}
 use Rattle.dbus_report.specs.Devices.{Taken, reading, taken, writing}
-use Rattle.dbus_runs.specs.Going.{first_of, second_of, is_check, IsThrough, StopsWithin, IsAllOf, PartsOf, TellsStop}
+use Rattle.dbus_runs.specs.Going.{first_of, second_of, is_check, GoesThrough, IsThrough, RunsWith, StopsAtFault, StopsWithin, IsAllOf, TellsStop}
 use Rattle.dbus_report.specs.Gathering.{Breaks, IsPrefixTo}
 use Rattle.dbus_report.specs.Lines.{cause_line}
 use Rattle.dbus_runs.specs.Output.{IsFront, IsOutputOfAll, fault_line, last_line, owners_known, second_output, status_of}
-use Rattle.dbus_runs.specs.Parts.{Part, Whole, PassedOver, sizes_of, BeginWithParts, IsLast, AreMade, AreTold, IsToldLast, owners_past}
-use Rattle.dbus_runs.specs.Running.{Runs}
+use Rattle.dbus_runs.specs.Parts.{closing_line, status_at, Part, Whole, PassedOver, sizes_of, BeginWithParts, IsLast, AreMade, AreTold, IsToldLast, owners_past}
+use Rattle.dbus_runs.specs.Running.{Runs, plain}
 use Rattle.dbus_report.specs.Failing.{Told}
 use Rattle.dbus_runs.specs.Windows.{written}
 use Rattle.dbus_report.specs.declared.ending.ExitStatus.{ExitStatus}
@@ -29,15 +29,12 @@ use Rattle.dbus_report.specs.declared.ending.ExitStatus.TheVariants as status
 use Rattle.dbus_report.specs.declared.ending.Cause.{Cause}
 use Rattle.dbus_report.specs.declared.ending.Cause.TheVariants.{Memory, ReadFailed, WriteFailed, TooManyReads}
 use Rattle.dbus_runs.specs.declared.tally.Tally.{Tally}
-use Rattle.dbus_runs.specs.declared.going.Handed.{Handed}
 use Rattle.dbus_runs.specs.declared.going.Stop.{Stop}
 use Rattle.dbus_runs.specs.declared.going.Stop.TheVariants.{Cause as ByCause, Second}
+use Rattle.dbus_runs.proofs.GoClosing.{closing_none, none_passed}
 use Rattle.dbus_runs.proofs.Outputs.{front_of_first}
 use Rattle.dbus_runs.proofs.WindowSteps.{written_all}
-use Rattle.dbus_runs.proofs.WriteSteps.{wrote_both, wrote_stopped}
-
-abbrev pub plain : Limits → Settings
-plain limits = record { limits = limits; explains = false; keeps_going = false; handshake = None; window = record { skip = 0; limit = None } }
+use Rattle.dbus_runs.proofs.WriteSteps.{divides, wrote_both, wrote_stopped}
 
 pub no_check : (command : Command) → command ≢ Check → is_check command ≡ false
 no_check Show n = refl
@@ -45,20 +42,6 @@ no_check Json n = refl
 no_check Check n = absurd (n refl)
 no_check (Swap order) n = refl
 no_check (Filter selection) n = refl
-
--- who gets what
-record Divides (command : Command) : Type 0 where
-  first : (out told : List ℕ) → first_of command out told ≡ out
-  second : (told : List ℕ) → second_of command told ≡ told
-  last : (count size : ℕ) (fault : Option Fault) → last_line command count size fault ≡ []
-  line : (size : ℕ) (fault : Option Fault) → second_output command size fault ≡ fault_line size fault
-
-divides : (command : Command) → is_check command ≡ false → Divides command
-divides Show e = record { first = λ _ _. refl; second = λ _. refl; last = λ _ _ _. refl; line = λ _ _. refl }
-divides Json e = record { first = λ _ _. refl; second = λ _. refl; last = λ _ _ _. refl; line = λ _ _. refl }
-divides Check e = absurd cc
-divides (Swap order) e = record { first = λ _ _. refl; second = λ _. refl; last = λ _ _ _. refl; line = λ _ _. refl }
-divides (Filter selection) e = record { first = λ _ _. refl; second = λ _. refl; last = λ _ _ _. refl; line = λ _ _. refl }
 
 -- nothing was passed over, so the parts are messages
 record AreMessages (limits : Limits) (command : Command) (os : List Ownership) (n offset : ℕ) (bytes : List ℕ) (parts : List Part) (rest : List ℕ) (texts : List (List ℕ)) (told : List ℕ) : Type 0 where
@@ -205,15 +188,26 @@ module _ {R W E : Type 0} (left : R → Option (List ℕ)) (calls read_failures 
     abbrev Ends : E → ExitStatus → Type 0
     Ends e2 end = Runs (reading left calls read_failures r0 r1) (writing held write_failures w0 w1) (writing second_held second_failures e0 e2) limits most command end
 
-    abbrev Parts : Result Handed Stop → Type 0
-    Parts res = PartsOf Took held write_failures second_held second_failures (plain limits) limits most command res w0 w1 e0 e1
-
-    pub ran : (handed : Handed) (end : ExitStatus) → Parts (Ok handed) → end ≡ status_of handed.fault → Ends e1 end
-    ran handed end h is = inl (answers handed.tally handed.fault h.out h.told h.text e1 end h.through h.first (inl (h.second, is)))
-
-    pub stopped : (stop : Stop) (e2 : E) (end : ExitStatus) → Parts (Err stop) → end ≡ status.Failed → TellsStop second_held second_failures stop e1 e2 → Ends e2 end
-    stopped (ByCause cause) e2 end s failed tells = inr (record { failed = failed; cause = cause; fails = fails cause s.0; told = told_alone cause s.0 e2 (s.1 refl other) tells })
-    stopped Second e2 end s failed same =
-        let h = s.1 refl other in
+    stopped : (stop : Stop) (e2 : E) (end : ExitStatus) (s : StopsWithin Took held write_failures second_held second_failures (plain limits) limits most command stop w0 w1 e0 e1)
+        → StopsAtFault Took held write_failures second_held second_failures (plain limits) limits most command stop s.more w0 w1 e0 e1 → end ≡ status.Failed → TellsStop second_held second_failures stop e1 e2 → Ends e2 end
+    stopped (ByCause cause) e2 end s none failed tells = inr (record { failed = failed; cause = cause; fails = fails cause s; told = told_alone cause s e2 none tells })
+    stopped Second e2 end s h failed same =
         inl (answers h.tally h.fault h.out h.told h.text e2 end h.through h.first
         (inr (h.n, subst (λ (e : E). Stopped second_held second_failures e0 (second_of command (h.told ++ h.text)) h.n e) (sym same) h.second, failed)))
+
+    ran : (end : ExitStatus) → GoesThrough Took held write_failures second_held second_failures (plain limits) limits most command w0 w1 e0 e1 end → Ends e1 end
+    ran end g =
+        let passed : g.tally.passed ≡ 0 = none_passed g.through refl in
+        let all : (g.told ++ g.text) ++ closing_line command g.tally g.tally.passed g.fault ≡ g.told ++ g.text
+        = ap (λ l. (g.told ++ g.text) ++ l) (closing_none command g.tally g.tally.passed g.fault passed other) ∙ append-nil (g.told ++ g.text) in
+        inl (answers g.tally g.fault g.out g.told g.text e1 end g.through (subst (λ (l : List ℕ). Wrote held write_failures w0 (first_of command g.out l) w1) all g.first)
+        (inl (subst (λ (l : List ℕ). Wrote second_held second_failures e0 (second_of command l) e1) all g.second, g.end_is ∙ ap (λ n. status_at n g.fault) passed)))
+
+  -- by settings that ask for no more it does what it does under the limits alone
+  pub plainly : (e1 : E) (end : ExitStatus)
+      → RunsWith (reading left calls read_failures r0 r1) (writing held write_failures w0 w1) (writing second_held second_failures e0 e1) (plain limits) most command end
+      → Runs (reading left calls read_failures r0 r1) (writing held write_failures w0 w1) (writing second_held second_failures e0 e1) limits most command end
+  plainly e1 end runs = elim runs [
+    | inl g ↦ ran e1 end g
+    | inr g ↦ stopped g.e g.stop e1 end g.within (g.alone refl other) g.failed g.tells
+  ]

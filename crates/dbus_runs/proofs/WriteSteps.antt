@@ -9,6 +9,8 @@ use Rattle.dbus_command.specs.declared.command.Command.{Command}
 use Rattle.dbus_command.specs.declared.command.Command.TheVariants.{Show, Json, Check, Swap, Filter}
 use Rattle.dbus_report.specs.Devices.{Writing, writing}
 use Rattle.dbus_report.specs.Gathering.{Breaks}
+use Rattle.dbus_value_model.specs.declared.fault.Fault.{Fault}
+use Rattle.dbus_runs.specs.Output.{fault_line, last_line, second_output}
 use Rattle.dbus_runs.specs.Going.{first_of, second_of, is_check, GotFirst, GotSecond, IsUntold, Says, WritesBy}
 use Rattle.dbus_report.specs.declared.ending.Cause.TheVariants.{Memory, ReadFailed, WriteFailed, TooManyReads}
 use Rattle.dbus_runs.specs.declared.going.Stop.{Stop}
@@ -38,6 +40,20 @@ module _ {W : Type 0} (held : W → Option (List ℕ)) (failures : W → ℕ) wh
     appended = subst (λ l. Appends (held w0) (held w2) l) (sym (take-append-add a b n)) (Appends-trans _ _ _ _ _ p.appended q.appended);
     failed = q.failed ∙ ap one_more p.failed;
   }
+
+-- who gets what
+pub record Divides (command : Command) : Type 0 where
+  pub first : (out told : List ℕ) → first_of command out told ≡ out
+  pub second : (told : List ℕ) → second_of command told ≡ told
+  pub last : (count size : ℕ) (fault : Option Fault) → last_line command count size fault ≡ []
+  pub line : (size : ℕ) (fault : Option Fault) → second_output command size fault ≡ fault_line size fault
+
+pub divides : (command : Command) → is_check command ≡ false → Divides command
+divides Show e = record { first = λ _ _. refl; second = λ _. refl; last = λ _ _ _. refl; line = λ _ _. refl }
+divides Json e = record { first = λ _ _. refl; second = λ _. refl; last = λ _ _ _. refl; line = λ _ _. refl }
+divides Check e = absurd cc
+divides (Swap order) e = record { first = λ _ _. refl; second = λ _. refl; last = λ _ _ _. refl; line = λ _ _. refl }
+divides (Filter selection) e = record { first = λ _ _. refl; second = λ _. refl; last = λ _ _ _. refl; line = λ _ _. refl }
 
 -- who is told more
 told_first : (command : Command) (out told line : List ℕ) → is_check command ≡ true

@@ -195,6 +195,7 @@ module _ {W E : Type 0} (t : Taken) (held : W → Option (List ℕ)) (write_fail
     pub e : E
     pub within : StopsWithin stop w0 w1 e0 e
     pub tells : TellsStop second_held second_failures stop e e1
+    pub alone : settings.keeps_going ≡ false → is_check command ≡ false → StopsAtFault stop within.more w0 w1 e0 e
 
 -- a text was written on the first writer, or on the second, or a write failed after its first bytes
 abbrev pub WritesBy : {W E : Type 0} → (first : Bool) → Writing W → Writing E → List ℕ → Result (Unit {0}) Stop → Type 0

@@ -3,7 +3,6 @@ pub mod WindowLaws
 pub mod CountLines
 pub mod Output
 pub mod Commands
-pub mod Laws
 pub mod Counting
 pub mod Visiting
 pub mod OutputWriting
@@ -17,3 +16,4 @@ pub mod Running
 pub mod Closing
 pub mod Parts
 pub mod Going
+pub mod Laws

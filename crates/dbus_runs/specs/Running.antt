@@ -1,8 +1,9 @@
 -- What a command does with what it reads. limits are those that each message keeps, and most is how many reads may be
 -- made.
-use Rattle.std.specs.Prelude.{◌≡◌, ◌⊎◌, ℕ, List, Option}
+use Rattle.std.specs.Prelude.{◌≡◌, ◌⊎◌, ℕ, false, List, None, Option}
 use Rattle.dbus_value_model.specs.declared.limits.Limits.{Limits}
 use Rattle.dbus_command.specs.declared.command.Command.{Command}
+use Rattle.dbus_command.specs.declared.settings.Settings.{Settings}
 use Rattle.dbus_runs.specs.Checking.{Answers, Fails}
 use Rattle.dbus_report.specs.Failing.{Told}
 use Rattle.dbus_report.specs.Devices.{Reading, Writing}
@@ -24,3 +25,7 @@ abbrev pub Runs : {R W E : Type 0} → Reading R → Writing W → Writing E →
 Runs r w e limits most command end =
     Answers r.left r.calls r.failures w.held w.failures limits most command e.held e.failures r.old r.new w.old w.new e.old e.new end
     ⊎ GaveUp r.left r.calls r.failures w.held w.failures e.held e.failures limits most command r.old r.new w.old w.new e.old e.new end
+
+-- settings that ask for no more than the limits
+abbrev pub plain : Limits → Settings
+plain limits = record { limits = limits; explains = false; keeps_going = false; handshake = None; window = record { skip = 0; limit = None } }

@@ -91,8 +91,8 @@ fn go_on<A: Allocator + Copy, R: Source, W: Sink, E: Sink>(
     }
 }
 
-/// Writes the cause on the second writer, unless a write to it failed.
-pub(crate) fn tell_stop<E: Sink>(stop: Stop, second: &mut E) -> ExitStatus
+// Writes the cause on the second writer, unless a write to it failed.
+fn tell_stop<E: Sink>(stop: Stop, second: &mut E) -> ExitStatus
     ensures failed { result ≡ ExitStatus.Failed }
     ensures tells { TellsStop E.held E.failures stop second.old second.new }
 {
@@ -261,9 +261,9 @@ fn hand_through<R: Source + Drop, A: Allocator + Copy, W: Sink, E: Sink>(
     (handed, messages.into_source())
 }
 
-/// Hands on the messages of a source that it borrows, as [`run_with`] does, up to its end, a message that is not passed over, or this
-/// number of reads.
-pub(crate) fn hand_over<R: Source, A: Allocator + Copy, W: Sink, E: Sink>(
+// Hands on the messages of a source that it borrows, as [`run_with`] does, up to its end, a message that is not passed over, or this
+// number of reads.
+fn hand_over<R: Source, A: Allocator + Copy, W: Sink, E: Sink>(
     alloc: A,
     plan: Plan,
     reads: u64,

@@ -2,7 +2,9 @@
 //! when it runs.
 #![tactic(auto)]
 
-ghost use Rattle.dbus_runs.specs.Laws.{OneFront, OneOutput, SomeOutput};
+ghost use Rattle.dbus_runs.specs.Laws.{OneFront, OneOutput, PlainRuns, SomeOutput};
+
+use dbus_stream::{Sink, Source};
 
 /// Of each list of messages, and a fault after them or none, a command has an output.
 pub fn some_output()
@@ -17,4 +19,9 @@ pub fn one_output()
 /// What is a prefix of one of its outputs is then a prefix of each.
 pub fn one_front()
     ensures { OneFront }
+{}
+
+/// By settings that ask for no more, a command but `check` does what it does under their limits alone.
+pub fn plain_run<R: Source, W: Sink, E: Sink>()
+    ensures { PlainRuns R.left R.calls R.failures W.held W.failures E.held E.failures }
 {}

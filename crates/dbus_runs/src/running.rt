@@ -6,8 +6,7 @@ ghost use Rattle.dbus_runs.specs.Running.{Runs};
 
 use crate::closing::{status_of, write_count};
 use crate::counting::count_over;
-use crate::going::{hand_over, tell_stop};
-use crate::output::{Plan, output_of};
+use crate::going::run_with;
 use dbus_command::{Command, Settings, Window};
 use dbus_report::{ExitStatus, give_up};
 use dbus_stream::{MOST_READS, Sink, Source};
@@ -95,23 +94,17 @@ pub fn run_within<A: Allocator + Copy, R: Source, W: Sink, E: Sink>(
     match command {
         Command::Check => check(alloc, limits, reads, reader, first, second),
         _ => {
-            let plan = Plan {
-                output: output_of(&command),
-                settings: Settings {
-                    limits,
-                    explains: false,
-                    keeps_going: false,
-                    handshake: None,
-                    window: Window {
-                        skip: 0,
-                        limit: None,
-                    },
+            let settings = Settings {
+                limits,
+                explains: false,
+                keeps_going: false,
+                handshake: None,
+                window: Window {
+                    skip: 0,
+                    limit: None,
                 },
             };
-            match hand_over(alloc, plan, reads, reader, first, second) {
-                Ok(handed) => status_of(handed.fault),
-                Err(stop) => tell_stop(stop, second),
-            }
+            run_with(alloc, command, settings, reads, reader, first, second)
         }
     }
 }

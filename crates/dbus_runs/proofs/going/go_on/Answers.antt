@@ -1,5 +1,5 @@
 use Rattle.std.proofs.Common.{inl, inr}
-use Rattle.dbus_runs.proofs.GoClosing.{few, closes, not_closed}
+use Rattle.dbus_runs.proofs.GoClosing.{alone, few, closes, not_closed}
 use Rattle.dbus_runs.proofs.WriteSteps.{said}
 use Rattle.dbus_runs.proofs.going.go_on.Goals as goal
 
@@ -10,7 +10,7 @@ closing_line-line-requires g c =
 
 pub returns-in-Ok-say : goal.returns-in-Ok-say
 returns-in-Ok-say g c = inl (closes c.in-Ok.ensures c.say.new.first c.say.new.second c.status.result c.status.ensures
-    (said _ _ _ _ _ _ c.closing_line-line.result c.closing_line-line.ensures c.in-Ok-say.ensures.writes c.in-Ok-say.ensures.untold))
+    (said _ _ _ _ _ _ c.closing_line-line.result c.closing_line-line.ensures.line c.in-Ok-say.ensures.writes c.in-Ok-say.ensures.untold))
 
 pub returns-in-Err-say : goal.returns-in-Err-say
 returns-in-Err-say g c = inr (record {
@@ -18,8 +18,9 @@ returns-in-Err-say g c = inr (record {
   stop = c.in-Err-say.stop;
   e = c.say.new.second;
   within = not_closed c.in-Ok.ensures c.say.new.first c.say.new.second c.in-Err-say.stop
-      (said _ _ _ _ _ _ c.closing_line-line.result c.closing_line-line.ensures c.in-Err-say.ensures.writes c.in-Err-say.ensures.untold);
+      (said _ _ _ _ _ _ c.closing_line-line.result c.closing_line-line.ensures.line c.in-Err-say.ensures.writes c.in-Err-say.ensures.untold);
   tells = c.tell_stop.ensures.tells;
+  alone = alone c.in-Ok.ensures c.say.new.first c.say.new.second _ c.closing_line-line.result c.in-Err-say.stop _ c.closing_line-line.ensures.line c.closing_line-line.ensures.due c.in-Err-say.ensures.writes;
 })
 
 pub returns-in-Err : goal.returns-in-Err
@@ -29,4 +30,5 @@ returns-in-Err g c = inr (record {
   e = c.hand_over.new.second;
   within = c.in-Err.ensures.0;
   tells = c.tell_stop-in-Err.ensures.tells;
+  alone = c.in-Err.ensures.1;
 })
