@@ -39,13 +39,13 @@ closing_none command tally passed None none other = ap (λ n. closing_line comma
 closing_none command tally passed (Some fault) none other = ap (λ n. closing_line command tally n (Some fault)) none
 
 pub none_passed : {W E : Type 0} {t : Taken} {held : W → Option (List ℕ)} {write_failures : W → ℕ} {second_held : E → Option (List ℕ)} {second_failures : E → ℕ}
-    {settings : Settings} {limits : Limits} {most : ℕ} {command : Command} {tally : Tally} {fault : Option Fault} {out told text : List ℕ}
-    → (h : IsThrough t held write_failures second_held second_failures settings limits most command tally fault out told text) → settings.keeps_going ≡ false → tally.passed ≡ 0
+    {settings : Settings} {most : ℕ} {command : Command} {tally : Tally} {fault : Option Fault} {out told text : List ℕ}
+    → (h : IsThrough t held write_failures second_held second_failures settings most command tally fault out told text) → settings.keeps_going ≡ false → tally.passed ≡ 0
 none_passed {settings = settings} {told = told} h halt = ap (λ (x : Tally). x.passed) h.tally_is ∙ none_told settings 1 0 h.parts told halt h.covers.tells
 
 module _ {W E : Type 0} {t : Taken} {held : W → Option (List ℕ)} {write_failures : W → ℕ} {second_held : E → Option (List ℕ)} {second_failures : E → ℕ}
-    {settings : Settings} {limits : Limits} {most : ℕ} {command : Command} {tally : Tally} {fault : Option Fault} {w0 w1 : W} {e0 e1 : E}
-    (h : HandsParts t held write_failures second_held second_failures settings limits most command tally fault w0 w1 e0 e1) where
+    {settings : Settings} {most : ℕ} {command : Command} {tally : Tally} {fault : Option Fault} {w0 w1 : W} {e0 e1 : E}
+    (h : HandsParts t held write_failures second_held second_failures settings most command tally fault w0 w1 e0 e1) where
   -- no more are passed over than there are
   pub few : (tally.passed ≤ tally.count) × (tally.passed_size ≤ tally.size)
   few =
@@ -66,7 +66,7 @@ module _ {W E : Type 0} {t : Taken} {held : W → Option (List ℕ)} {write_fail
     more_told res w =
         tells_more held write_failures second_held second_failures command h.out (h.told ++ h.text) IsClosing w0 w1 w2 e0 e1 e2 (record { first = h.first; second = h.second }) res w
 
-    pub closes : (end : ExitStatus) → end ≡ status_at tally.passed fault → Closes (Ok tt) → GoesThrough t held write_failures second_held second_failures settings limits most command w0 w2 e0 e2 end
+    pub closes : (end : ExitStatus) → end ≡ status_at tally.passed fault → Closes (Ok tt) → GoesThrough t held write_failures second_held second_failures settings most command w0 w2 e0 e2 end
     closes end end_is w =
         let all = more_told (Ok tt) w in
         record {
@@ -82,11 +82,11 @@ module _ {W E : Type 0} {t : Taken} {held : W → Option (List ℕ)} {write_fail
         }
 
     stops : (stop : Stop) (more : List ℕ) → IsPrefixTo more (closing_line command tally tally.passed fault)
-        → (IsMore t held write_failures second_held second_failures settings limits most command h.through.parts h.through.rest (h.text ++ more)
-        → IsAllRead t held write_failures second_held second_failures settings limits most command stop h.through.parts h.through.rest (h.text ++ more))
-        → IsStopOf t held write_failures second_held second_failures settings limits most command stop
+        → (IsMore t held write_failures second_held second_failures settings most command h.through.parts h.through.rest (h.text ++ more)
+        → IsAllRead t held write_failures second_held second_failures settings most command stop h.through.parts h.through.rest (h.text ++ more))
+        → IsStopOf t held write_failures second_held second_failures settings most command stop
         → GotFirst held write_failures stop (first_of command h.out ((h.told ++ h.text) ++ more)) w0 w2 → GotSecond second_held second_failures stop (second_of command ((h.told ++ h.text) ++ more)) e0 e2
-        → StopsWithin t held write_failures second_held second_failures settings limits most command stop w0 w2 e0 e2
+        → StopsWithin t held write_failures second_held second_failures settings most command stop w0 w2 e0 e2
     stops stop more prefix all caused first second =
         let line_is = ap (λ (x : Tally). closing_line command x x.passed fault) h.through.tally_is in
         let front = subst (λ (l : List ℕ). IsPrefixTo more l) line_is prefix in
@@ -101,7 +101,7 @@ module _ {W E : Type 0} {t : Taken} {held : W → Option (List ℕ)} {write_fail
             h.through.kept,
             fault,
             h.text,
-            last_front settings.keeps_going limits h.through.kept h.through.rest h.through.tells.outcome _ h.through.last,
+            last_front settings.keeps_going settings.limits h.through.kept h.through.rest h.through.tells.outcome _ h.through.last,
             h.through.tells,
             (front.0, ap (λ l. h.text ++ l) front.1 ∙ sym (append_assoc h.text more front.0)),
           ));
@@ -110,14 +110,14 @@ module _ {W E : Type 0} {t : Taken} {held : W → Option (List ℕ)} {write_fail
           second = subst (λ (l : List ℕ). GotSecond second_held second_failures stop (second_of command l) e0 e2) (append_assoc h.told h.text more) second;
         }
 
-    stops_line : (stop : Stop) (line : List ℕ) → IsClosing line → ((more : List ℕ) → IsMore t held write_failures second_held second_failures settings limits most command h.through.parts h.through.rest more
-        → IsAllRead t held write_failures second_held second_failures settings limits most command stop h.through.parts h.through.rest more)
-        → IsStopOf t held write_failures second_held second_failures settings limits most command stop
+    stops_line : (stop : Stop) (line : List ℕ) → IsClosing line → ((more : List ℕ) → IsMore t held write_failures second_held second_failures settings most command h.through.parts h.through.rest more
+        → IsAllRead t held write_failures second_held second_failures settings most command stop h.through.parts h.through.rest more)
+        → IsStopOf t held write_failures second_held second_failures settings most command stop
         → GotFirst held write_failures stop (first_of command h.out ((h.told ++ h.text) ++ line)) w0 w2 → GotSecond second_held second_failures stop (second_of command ((h.told ++ h.text) ++ line)) e0 e2
-        → StopsWithin t held write_failures second_held second_failures settings limits most command stop w0 w2 e0 e2
+        → StopsWithin t held write_failures second_held second_failures settings most command stop w0 w2 e0 e2
     stops_line stop line is all caused first second = stops stop line ([], sym is ∙ sym (append-nil line)) (all (h.text ++ line)) caused first second
 
-    pub not_closed : (stop : Stop) → Closes (Err stop) → StopsWithin t held write_failures second_held second_failures settings limits most command stop w0 w2 e0 e2
+    pub not_closed : (stop : Stop) → Closes (Err stop) → StopsWithin t held write_failures second_held second_failures settings most command stop w0 w2 e0 e2
     not_closed (ByCause Memory) w = let more = more_told (Err (ByCause Memory)) w in stops (ByCause Memory) [] (closing_line command tally tally.passed fault, refl) (λ m. m) h.through.read_failed more.0 more.1
     not_closed (ByCause ReadFailed) w = absurd (more_told (Err (ByCause ReadFailed)) w)
     not_closed (ByCause WriteFailed) w = let more = more_told (Err (ByCause WriteFailed)) w in stops_line (ByCause WriteFailed) more.0 more.1 (λ _ m. m) h.through.read_failed more.2.0 more.2.1
@@ -127,14 +127,14 @@ module _ {W E : Type 0} {t : Taken} {held : W → Option (List ℕ)} {write_fail
     -- a run that is not to go on ends before its fault is told, or within that
     pub alone : {S F : Type 0} (bytes : S → List ℕ) (line : Result S F) (stop : Stop) (more : List ℕ) → IfOk line (λ l. IsClosing (bytes l)) → IfErr line (λ _. tally.passed ≡ 0 → is_check command ≡ true)
         → IfOk line (λ l. WritesBy (is_check command) (writing held write_failures w1 w2) (writing second_held second_failures e1 e2) (bytes l) (Err stop)) → settings.keeps_going ≡ false → is_check command ≡ false
-        → StopsAtFault t held write_failures second_held second_failures settings limits most command stop more w0 w2 e0 e2
+        → StopsAtFault t held write_failures second_held second_failures settings most command stop more w0 w2 e0 e2
     alone bytes (Err x) stop more is due writes halt other = absurd (false≢true (sym other ∙ due (none_passed h.through halt)))
     alone bytes (Ok l) stop more is due writes halt other =
         let w = subst (λ (b : Bool). WritesBy b (writing held write_failures w1 w2) (writing second_held second_failures e1 e2) (bytes l) (Err stop)) other writes in
         let told = h.told ++ h.text in
         let none : bytes l ≡ [] = is ∙ closing_none command tally tally.passed fault (none_passed h.through halt) other in
         let all : second_of command told ++ bytes l ≡ second_of command told = ap (λ b. second_of command told ++ b) none ∙ append-nil (second_of command told) in
-        subst (λ s. StopsAtFault t held write_failures second_held second_failures settings limits most command s more w0 w2 e0 e2) (sym w.0) (record {
+        subst (λ s. StopsAtFault t held write_failures second_held second_failures settings most command s more w0 w2 e0 e2) (sym w.0) (record {
           tally = tally;
           fault = fault;
           out = h.out;

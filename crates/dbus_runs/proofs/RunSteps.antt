@@ -90,7 +90,7 @@ module _ {R W E : Type 0} (left : R → Option (List ℕ)) (calls read_failures 
 
   -- all messages were handed on, and the second writer got the line of the fault as far as it took it
   answers : (tally : Tally) (fault : Option Fault) (out told text : List ℕ) (e1 : E) (end : ExitStatus)
-      → IsThrough Took held write_failures second_held second_failures (plain limits) limits most command tally fault out told text → Wrote held write_failures w0 (first_of command out (told ++ text)) w1
+      → IsThrough Took held write_failures second_held second_failures (plain limits) most command tally fault out told text → Wrote held write_failures w0 (first_of command out (told ++ text)) w1
       → TellsLine second_held second_failures (second_of command (told ++ text)) fault e0 e1 end
       → Answers left calls read_failures held write_failures limits most command second_held second_failures r0 r1 w0 w1 e0 e1 end
   answers tally fault out told text e1 end h first second =
@@ -125,7 +125,7 @@ module _ {R W E : Type 0} (left : R → Option (List ℕ)) (calls read_failures 
 
   module _ (e1 : E) where
     abbrev Within : Cause → Type 0
-    Within cause = StopsWithin Took held write_failures second_held second_failures (plain limits) limits most command (ByCause cause) w0 w1 e0 e1
+    Within cause = StopsWithin Took held write_failures second_held second_failures (plain limits) most command (ByCause cause) w0 w1 e0 e1
 
     messages_of : (cause : Cause) (s : Within cause) → AreMessages limits command (owners_known command None) 1 0 s.covers.bytes s.parts s.rest s.covers.texts s.told
     messages_of cause s = are_messages limits command (owners_known command None) 1 0 s.covers.bytes s.parts s.rest s.covers.texts s.told s.covers.begin s.covers.made s.covers.tells
@@ -151,7 +151,7 @@ module _ {R W E : Type 0} (left : R → Option (List ℕ)) (calls read_failures 
       caused = caused;
     }
 
-    all_messages : (cause : Cause) (s : Within cause) → IsAllOf Took held write_failures second_held second_failures (plain limits) limits most command s.parts s.rest s.more
+    all_messages : (cause : Cause) (s : Within cause) → IsAllOf Took held write_failures second_held second_failures (plain limits) most command s.parts s.rest s.more
         → WritesMessages limits command s.covers.bytes s.out
     all_messages cause s all =
         let m = messages_of cause s in
@@ -188,14 +188,14 @@ module _ {R W E : Type 0} (left : R → Option (List ℕ)) (calls read_failures 
     abbrev Ends : E → ExitStatus → Type 0
     Ends e2 end = Runs (reading left calls read_failures r0 r1) (writing held write_failures w0 w1) (writing second_held second_failures e0 e2) limits most command end
 
-    stopped : (stop : Stop) (e2 : E) (end : ExitStatus) (s : StopsWithin Took held write_failures second_held second_failures (plain limits) limits most command stop w0 w1 e0 e1)
-        → StopsAtFault Took held write_failures second_held second_failures (plain limits) limits most command stop s.more w0 w1 e0 e1 → end ≡ status.Failed → TellsStop second_held second_failures stop e1 e2 → Ends e2 end
+    stopped : (stop : Stop) (e2 : E) (end : ExitStatus) (s : StopsWithin Took held write_failures second_held second_failures (plain limits) most command stop w0 w1 e0 e1)
+        → StopsAtFault Took held write_failures second_held second_failures (plain limits) most command stop s.more w0 w1 e0 e1 → end ≡ status.Failed → TellsStop second_held second_failures stop e1 e2 → Ends e2 end
     stopped (ByCause cause) e2 end s none failed tells = inr (record { failed = failed; cause = cause; fails = fails cause s; told = told_alone cause s e2 none tells })
     stopped Second e2 end s h failed same =
         inl (answers h.tally h.fault h.out h.told h.text e2 end h.through h.first
         (inr (h.n, subst (λ (e : E). Stopped second_held second_failures e0 (second_of command (h.told ++ h.text)) h.n e) (sym same) h.second, failed)))
 
-    ran : (end : ExitStatus) → GoesThrough Took held write_failures second_held second_failures (plain limits) limits most command w0 w1 e0 e1 end → Ends e1 end
+    ran : (end : ExitStatus) → GoesThrough Took held write_failures second_held second_failures (plain limits) most command w0 w1 e0 e1 end → Ends e1 end
     ran end g =
         let passed : g.tally.passed ≡ 0 = none_passed g.through refl in
         let all : (g.told ++ g.text) ++ closing_line command g.tally g.tally.passed g.fault ≡ g.told ++ g.text

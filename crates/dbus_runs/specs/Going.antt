@@ -1,9 +1,8 @@
--- What a command writes of an input by its settings: whether refused messages are explained, and whether they are passed over. limits are those
--- of the settings, and most is how many reads may be made.
+-- What a command writes of an input by its settings: whether refused messages are explained, and whether they are passed over. most is how many
+-- reads may be made.
 use Rattle.std.specs.Prelude.{◌≡◌, ◌⊎◌, ℕ, ◌+◌, Bool, true, false, List, [], ◌++◌, length, Option, None, Some, Result, Ok, Err}
 use Rattle.std.specs.Io.KnownBytes.{Consumes, IsAtEnd}
 use Rattle.dbus_value_model.specs.declared.fault.Fault.{Fault}
-use Rattle.dbus_value_model.specs.declared.limits.Limits.{Limits}
 use Rattle.dbus_header.specs.MessageOutcomes.{IsRefused, IsPartial}
 use Rattle.dbus_device.specs.Device.{one_more, RisesBy}
 use Rattle.dbus_device.specs.Write.{Wrote, Stopped}
@@ -77,13 +76,13 @@ TellsStop held failures (ByCause cause) e0 e1 = Told held failures e0 e1 cause
 TellsStop held failures Second e0 e1 = e1 ≡ e0
 
 module _ {W E : Type 0} (t : Taken) (held : W → Option (List ℕ)) (write_failures : W → ℕ) (second_held : E → Option (List ℕ)) (second_failures : E → ℕ)
-    (settings : Settings) (limits : Limits) (most : ℕ) (command : Command) where
+    (settings : Settings) (most : ℕ) (command : Command) where
   -- what was read is these parts and then the rest, and this is written of the texts that are made of the parts, and told of the parts
   pub record Covers (parts : List Part) (rest out told : List ℕ) : Type 0 where
     pub bytes : List ℕ
     pub consumed : Consumes t.left0 t.left1 bytes
     pub called : RisesAtMost most t.calls0 t.calls1
-    pub begin : BeginWithParts limits bytes parts rest
+    pub begin : BeginWithParts settings.limits bytes parts rest
     pub texts : List (List ℕ)
     pub made : AreMade command (owners_known command None) 1 0 parts texts
     pub out_is : out ≡ written settings.window texts
@@ -92,7 +91,7 @@ module _ {W E : Type 0} (t : Taken) (held : W → Option (List ℕ)) (write_fail
   -- this is told of the fault of the rest, if it has one
   pub record TellsRest (parts : List Part) (kept : List ℕ) (fault : Option Fault) (text : List ℕ) : Type 0 where
     pub outcome : CutOutcome
-    pub outcome_is : IsOutcome limits kept outcome
+    pub outcome_is : IsOutcome settings.limits kept outcome
     pub fault_is : fault ≡ fault_at_end kept outcome
     pub told : IsToldLast settings (length parts + 1) (sizes_of parts) kept fault text
 
@@ -104,7 +103,7 @@ module _ {W E : Type 0} (t : Taken) (held : W → Option (List ℕ)) (write_fail
     pub tally_is : tally ≡ tally_of parts
     pub kept : List ℕ
     pub tells : TellsRest parts kept fault text
-    pub last : IsLast settings.keeps_going limits kept rest tells.outcome (IsAtEnd t.left1)
+    pub last : IsLast settings.keeps_going settings.limits kept rest tells.outcome (IsAtEnd t.left1)
     pub read_failed : t.failures1 ≡ t.failures0
 
   -- that was made and told
@@ -131,7 +130,7 @@ module _ {W E : Type 0} (t : Taken) (held : W → Option (List ℕ)) (write_fail
 
   -- all that was read was made and told: the rest is neither a message nor refused, or a refused message was told of which not all bytes came
   abbrev pub IsAllOf : List Part → (rest more : List ℕ) → Type 0
-  IsAllOf parts rest more = (IsPartial limits rest × (more ≡ [])) ⊎ ((kept : List ℕ) × (fault : Fault) × IsRefused limits kept fault × IsCutOff limits kept rest
+  IsAllOf parts rest more = (IsPartial settings.limits rest × (more ≡ [])) ⊎ ((kept : List ℕ) × (fault : Fault) × IsRefused settings.limits kept fault × IsCutOff settings.limits kept rest
       × (settings.keeps_going ≡ true) × IsToldLast settings (length parts + 1) (sizes_of parts) kept (Some fault) more)
 
   abbrev pub IsAllRead : Stop → List Part → (rest more : List ℕ) → Type 0
@@ -219,5 +218,5 @@ TellsBy w e command settings refusal kept result = Says (is_check command) w e (
 -- what a command does with what r reads, by the writers w and e, under these settings
 abbrev pub RunsWith : {R W E : Type 0} → Reading R → Writing W → Writing E → Settings → ℕ → Command → ExitStatus → Type 0
 RunsWith r w e settings most command end =
-    GoesThrough (taken r) w.held w.failures e.held e.failures settings settings.limits most command w.old w.new e.old e.new end
-    ⊎ GivesUp (taken r) w.held w.failures e.held e.failures settings settings.limits most command w.old w.new e.old e.new end
+    GoesThrough (taken r) w.held w.failures e.held e.failures settings most command w.old w.new e.old e.new end
+    ⊎ GivesUp (taken r) w.held w.failures e.held e.failures settings most command w.old w.new e.old e.new end

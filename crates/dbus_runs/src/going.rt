@@ -184,7 +184,7 @@ fn hand_parts<R: Source, A: Allocator + Copy, W: Sink, E: Sink>(
         messages.old }
     requires fresh { IsFresh plan writer.old }
     ensures parts { PartsOf (taken (reading R.left R.calls R.failures (source_of messages.old) (source_of messages.new)))
-        W.held W.failures E.held E.failures plan.entry.settings plan.entry.settings.limits (most_reads_of messages.old) (command_of plan.entry.output) result
+        W.held W.failures E.held E.failures plan.entry.settings (most_reads_of messages.old) (command_of plan.entry.output) result
         writer.old.first.now writer.new.first.now second.old second.new }
     ensures same_reference { R.reference (source_of messages.new) ≡
         R.reference (source_of messages.old) }
@@ -241,7 +241,7 @@ fn hand_through<R: Source + Drop, A: Allocator + Copy, W: Sink, E: Sink>(
 ) -> (Result<Handed, Stop>, R)
     requires { reads ≤ 2 ^ 32 }
     ensures parts { PartsOf (taken (reading R.left R.calls R.failures source result.1))
-        W.held W.failures E.held E.failures plan.entry.settings plan.entry.settings.limits reads (command_of plan.entry.output) result.0
+        W.held W.failures E.held E.failures plan.entry.settings reads (command_of plan.entry.output) result.0
         first.old first.new second.old second.new }
     ensures same_reference { R.reference result.1 ≡ R.reference source }
 {
@@ -273,7 +273,7 @@ fn hand_over<R: Source, A: Allocator + Copy, W: Sink, E: Sink>(
 ) -> Result<Handed, Stop>
     requires { reads ≤ 2 ^ 32 }
     ensures { PartsOf (taken (reading R.left R.calls R.failures source.old source.new))
-        W.held W.failures E.held E.failures plan.entry.settings plan.entry.settings.limits reads (command_of plan.entry.output) result
+        W.held W.failures E.held E.failures plan.entry.settings reads (command_of plan.entry.output) result
         first.old first.new second.old second.new }
 {
     let (handed, _source) = hand_through(alloc, plan, reads, source, first, second);

@@ -15,11 +15,11 @@ returns-clause-parts g c =
     let new = c.hand_parts-handed.new.messages in
     let same = c.hand_parts-handed.ensures.same_first in
     let back : c.hand_parts-handed.new.writer.first.now ≡ c.first-1.given.0 = search rules in
-    subst (λ s. PartsOf (taken (reading g.R.Source.left g.R.Source.calls g.R.Source.failures c.args.source s)) g.W.Sink.held g.W.Sink.failures g.E.Sink.held g.E.Sink.failures c.args.plan.settings c.args.plan.settings.limits c.args.reads
+    subst (λ s. PartsOf (taken (reading g.R.Source.left g.R.Source.calls g.R.Source.failures c.args.source s)) g.W.Sink.held g.W.Sink.failures g.E.Sink.held g.E.Sink.failures c.args.plan.settings c.args.reads
     (command_of c.args.plan.output) c.hand_parts-handed.result c.args.first.now c.first-1.given.0 c.args.second.now c.hand_parts-handed.new.second) (sym c.into_source.ensures)
-    (subst (λ s. PartsOf (taken (reading g.R.Source.left g.R.Source.calls g.R.Source.failures s (source_of new))) g.W.Sink.held g.W.Sink.failures g.E.Sink.held g.E.Sink.failures c.args.plan.settings c.args.plan.settings.limits c.args.reads
+    (subst (λ s. PartsOf (taken (reading g.R.Source.left g.R.Source.calls g.R.Source.failures s (source_of new))) g.W.Sink.held g.W.Sink.failures g.E.Sink.held g.E.Sink.failures c.args.plan.settings c.args.reads
     (command_of c.args.plan.output) c.hand_parts-handed.result c.args.first.now c.first-1.given.0 c.args.second.now c.hand_parts-handed.new.second) is.source
-    (subst (λ n. PartsOf (taken (reading g.R.Source.left g.R.Source.calls g.R.Source.failures (source_of c.within-messages.result) (source_of new))) g.W.Sink.held g.W.Sink.failures g.E.Sink.held g.E.Sink.failures c.args.plan.settings c.args.plan.settings.limits n
+    (subst (λ n. PartsOf (taken (reading g.R.Source.left g.R.Source.calls g.R.Source.failures (source_of c.within-messages.result) (source_of new))) g.W.Sink.held g.W.Sink.failures g.E.Sink.held g.E.Sink.failures c.args.plan.settings n
     (command_of c.args.plan.output) c.hand_parts-handed.result c.args.first.now c.first-1.given.0 c.args.second.now c.hand_parts-handed.new.second) is.most_reads
-    (subst (λ (w : g.row.W.Denot). PartsOf (taken (reading g.R.Source.left g.R.Source.calls g.R.Source.failures (source_of c.within-messages.result) (source_of new))) g.W.Sink.held g.W.Sink.failures g.E.Sink.held g.E.Sink.failures c.args.plan.settings c.args.plan.settings.limits
+    (subst (λ (w : g.row.W.Denot). PartsOf (taken (reading g.R.Source.left g.R.Source.calls g.R.Source.failures (source_of c.within-messages.result) (source_of new))) g.W.Sink.held g.W.Sink.failures g.E.Sink.held g.E.Sink.failures c.args.plan.settings
     (most_reads_of c.within-messages.result) (command_of c.args.plan.output) c.hand_parts-handed.result c.args.first.now w c.args.second.now c.hand_parts-handed.new.second) back c.hand_parts-handed.ensures.parts)))
