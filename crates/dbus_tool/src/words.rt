@@ -1,11 +1,10 @@
 //! The program over the words of its command line.
 ghost use Rattle.std.specs.Prelude.{◌≡◌, ◌≤◌, ◌^◌, ◌&&◌, map, string_bytes};
 ghost use Rattle.dbus_command.specs.Unowned.{lacks_owner};
-ghost use Rattle.dbus_command.specs.Windows.{ask_more};
 ghost use Rattle.dbus_report.specs.Devices.{reading, writing};
 ghost use Rattle.dbus_tool.specs.Handshaking.{Shows, TellsHandshake};
 ghost use Rattle.dbus_tool.specs.Listing.{Lists};
-ghost use Rattle.dbus_tool.specs.Words.{DoesBy, DoesFrom, RefusesRule, RunsBy, RunsNoted, RunsWords, ShowsText, table_form};
+ghost use Rattle.dbus_tool.specs.Words.{DoesBy, DoesFrom, RefusesRule, RunsNoted, RunsWords, ShowsText, table_form};
 
 use crate::lines::handshake_line;
 use crate::listing::write_lines;
@@ -152,7 +151,14 @@ fn do_by<R: Source, W: Sink, E: Sink>(
         settings task result }
 {
     match task {
-        Task::Run(command) => run_by(alloc, command, settings, reader, first, second),
+        Task::Run(command) => {
+            if settings.ask_more() {
+                run_with(alloc, command, settings, MOST_READS, reader, first, second)
+            } else {
+                let limits = settings.limits;
+                run_within(alloc, command, limits, MOST_READS, reader, first, second)
+            }
+        }
         Task::CountAll(form) => {
             count_by_name(alloc, settings, table_form(form), reader, first, second)
         }
@@ -166,29 +172,6 @@ fn table_form(form: Form) -> dbus_count::Form
     match form {
         Form::Text => dbus_count::Form::Text,
         Form::Json => dbus_count::Form::Json,
-    }
-}
-
-// Runs a command by its settings.
-fn run_by<R: Source, W: Sink, E: Sink>(
-    alloc: Global,
-    command: Command,
-    settings: Settings,
-    reader: &mut R,
-    first: &mut W,
-    second: &mut E,
-) -> ExitStatus
-    ensures { RunsBy (ask_more settings)
-        (reading R.left R.calls R.failures reader.old reader.new)
-        (writing W.held W.failures first.old first.new)
-        (writing E.held E.failures second.old second.new)
-        settings command result }
-{
-    if settings.ask_more() {
-        run_with(alloc, command, settings, MOST_READS, reader, first, second)
-    } else {
-        let limits = settings.limits;
-        run_within(alloc, command, limits, MOST_READS, reader, first, second)
     }
 }
 
