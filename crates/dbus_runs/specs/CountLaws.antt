@@ -1,4 +1,5 @@
--- The laws of what counts messages by their names. They stand here, and not in proofs/, because the trait's law names them.
+-- The laws of what counts messages by their names. They are here, and not in proofs/, because the
+-- trait's law names them.
 use Rattle.std.proofs.Common.{◌≡◌, ℕ, List, [], ◌∷◌, ◌++◌, Option, refl, sym, ap, ◌∙◌}
 use Rattle.dbus_stream.specs.Cut.{CutMessage}
 use Rattle.dbus_count.specs.Counting.{with_names}

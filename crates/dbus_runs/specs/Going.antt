@@ -1,5 +1,5 @@
--- What a command writes of an input by its settings: whether refused messages are explained, and whether they are passed over. most is how many
--- reads may be made.
+-- What a command writes of an input by its settings: whether refused messages are explained, and
+-- whether they are passed over. most is how many reads may be made.
 use Rattle.std.specs.Prelude.{◌≡◌, ◌⊎◌, ℕ, ◌+◌, Bool, true, false, List, [], ◌++◌, length, Option, None, Some, Result, Ok, Err}
 use Rattle.std.specs.Io.KnownBytes.{Consumes, IsAtEnd}
 use Rattle.dbus_value_model.specs.declared.fault.Fault.{Fault}

@@ -50,7 +50,8 @@ HandsOne w command old new order message place g0 g1 result = (texts : List (Lis
 
 module _ {R S : Type 0} (left : R → Option (List ℕ)) (calls read_failures : R → ℕ) (takes : S → (n offset : ℕ) → List CutMessage → S → Type 0)
     (leaves : S → (n offset : ℕ) → List CutMessage → Cause → S → Type 0) (settled : S → Type 0) where
-  -- what a reader validates of its next message, which it lends; before a read, and if there is none, a visitor let go what it held back
+  -- what a reader validates of its next message, which it lends. A visitor let go of what it held back
+  -- before a read, and if there is no next message
   abbrev pub GivesNext : {A : Type 0} → RawReader R A → RawReader R A → S → S → Result (Option Validated) NoMessage → Type 0
   GivesNext old new s0 s1 (Ok validated) = (r : Reads left calls old new) × Advances (kept old ++ r.bytes) old new (Ok validated)
       × (read_failures (source_of new) ≡ read_failures (source_of old)) × HasLetGo takes leaves s0 s1 × (validated ≡ None → settled s1)

@@ -1,5 +1,6 @@
--- What is read where messages are handed to a visitor from where a reader stands, and what becomes of the visitor. kept is what the reader keeps there,
--- and before is how many messages came before. k is what is known of its taker, and limits are those that each message keeps.
+-- What is read if messages are handed to a visitor from where a reader stands, and what becomes of the
+-- visitor. kept is what the reader keeps there, and before is how many messages came before. k is what
+-- is known of its taker, and limits are those that each message keeps.
 use Rattle.std.specs.Prelude.{◌≡◌, ℕ, ◌+◌, List, ◌++◌, true, length, Option, None, Some, Result, Ok, Err}
 use Rattle.std.specs.Io.KnownBytes.{Consumes, IsAtEnd}
 use Rattle.dbus_value_model.specs.declared.fault.Fault.{Fault}

@@ -1,5 +1,5 @@
--- The laws of a writer of an output, and of what a command makes of messages after others. They stand here, and not in proofs/, because the trait's law
--- names them.
+-- The laws of a writer of an output, and of what a command makes of messages after others. They are
+-- here, and not in proofs/, because the trait's law names them.
 use Rattle.std.proofs.Common.{◌≡◌, ℕ, suc, ◌+◌, List, [], ◌∷◌, ◌++◌, length, Option, refl, sym, ap, ◌∙◌, subst, arith, append_assoc}
 use Rattle.dbus_match.specs.Matching.{Ownership}
 use Rattle.dbus_stream.specs.Cut.{CutMessage}

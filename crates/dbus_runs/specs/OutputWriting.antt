@@ -1,4 +1,5 @@
--- What becomes of a writer of an output by messages. n is the number of the first of them in their input, and offset is where it begins there.
+-- What becomes of a writer of an output by messages. n is the number of the first of them in their
+-- input, and offset is where it begins there.
 use Rattle.std.specs.Prelude.{◌≡◌, ℕ, List, [], length, None, Option, Err}
 use Rattle.dbus_stream.specs.Cut.{CutMessage}
 use Rattle.dbus_report.specs.Gathering.{GathersOrNot, Leaves, Passes, gathered_bytes}

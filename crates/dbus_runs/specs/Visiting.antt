@@ -1,6 +1,7 @@
--- What is known of a visitor, which takes the messages of an input. n is the number of the first of them in the input, and offset is where it begins
--- there. takes says what the visitor was before messages that it took and after them, leaves the same if it, or the reader, gave up for a cause,
--- and settled that it holds nothing back.
+-- What is known of a visitor, which takes the messages of an input. n is the number of the first of
+-- them in the input, and offset is where it begins there. takes says what the visitor was before
+-- messages that it took and after them. leaves says the same if it, or the reader, gave up after them
+-- for a cause. settled says that it holds nothing back.
 use Rattle.std.specs.Prelude.{ℕ, ◌+◌, List, [], ◌∷◌, ◌++◌, length, Result, Ok, Err}
 use Rattle.dbus_stream.specs.Cut.{CutMessage}
 use Rattle.dbus_stream.specs.CutEnds.{sizes}
@@ -17,7 +18,7 @@ module _ {S : Type 0} (takes : S → (n offset : ℕ) → List CutMessage → S 
   TakesOne a n offset item b (Err WriteFailed) = leaves a n offset (item ∷ []) WriteFailed b
   TakesOne a n offset item b (Err TooManyReads) = ⊥
 
-  -- what was held back was let go, or a write of it failed
+  -- it let go of what it held back, or a write of that failed
   abbrev pub HasLetGo : S → S → Type 0
   HasLetGo a b = (n offset : ℕ) → takes a n offset [] b
 

@@ -1,4 +1,5 @@
--- What a window lets through of texts that follow others. These laws stand here, and not in proofs/, because the laws of a writer of an output name them.
+-- What a window lets through of texts that follow others. These laws are here, and not in proofs/,
+-- because the laws of a writer of an output name them.
 use Rattle.std.proofs.Common.{◌≡◌, ℕ, zero, suc, ◌+◌, ◌-◌, List, [], ◌∷◌, ◌++◌, Option, None, Some, option_map, length, take, drop, refl, sym, ap, ◌∙◌, arith, length-append, length-drop}
 use Rattle.std.specs.List.{concat}
 use Rattle.std.proofs.lemmas.List.Folds.{concat-append}

@@ -171,8 +171,8 @@ fn cause_of(fault: ReadFault) -> Cause
     }
 }
 
-// Hands on the messages of a reader, tells each that is refused, and passes over it, up to the end of the input or a message that is not
-// passed over.
+// Hands the messages of a reader to a writer of an output, tells each that is refused, and passes
+// over it, up to the end of the input or a message that is not passed over.
 fn hand_parts<R: Source, A: Allocator + Copy, W: Sink, E: Sink>(
     alloc: A,
     plan: Plan,
@@ -261,8 +261,8 @@ fn hand_through<R: Source + Drop, A: Allocator + Copy, W: Sink, E: Sink>(
     (handed, messages.into_source())
 }
 
-// Hands on the messages of a source that it borrows, as [`run_with`] does, up to its end, a message that is not passed over, or this
-// number of reads.
+// Hands on the messages of a source that it borrows, as [`run_with`] does, up to its end, a message
+// that is not passed over, or this number of reads.
 fn hand_over<R: Source, A: Allocator + Copy, W: Sink, E: Sink>(
     alloc: A,
     plan: Plan,

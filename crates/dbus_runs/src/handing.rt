@@ -14,8 +14,9 @@ use dbus_validate::Validated;
 use dbus_value_model::Limits;
 use std::alloc::Allocator;
 
-// What is validated of the next message, which the reader lends then, if there is one. If it keeps none, the visitor lets go what
-// it holds back, and then more is read, unless what it keeps has a fault.
+// What is validated of the next message, which the reader lends then, if there is one. If the reader
+// keeps none, the visitor lets go of what it holds back, and then more is read, unless what is kept
+// has a fault.
 fn next_message<R: Source, A: Allocator + Copy, V: MessageVisitor>(
     messages: &mut RawReader<R, A>,
     visitor: &mut V,
@@ -37,8 +38,8 @@ fn next_message<R: Source, A: Allocator + Copy, V: MessageVisitor>(
     }
 }
 
-// What is validated of the next message, which the reader lends then, if there is one. Before it reads, the visitor lets go what it
-// holds back.
+// What is validated of the next message, which the reader lends then, if there is one. The visitor
+// lets go of what it holds back before more is read.
 fn read_message<R: Source, A: Allocator + Copy, V: MessageVisitor>(
     messages: &mut RawReader<R, A>,
     visitor: &mut V,
@@ -59,8 +60,8 @@ fn read_message<R: Source, A: Allocator + Copy, V: MessageVisitor>(
     }
 }
 
-/// Hands each message of the reader to the visitor, up to the end of the input or a fault, after which the visitor holds nothing
-/// back. So many messages came before.
+/// Hands each message of the reader to the visitor, up to the end of the input or a fault. The
+/// visitor holds nothing back then. `before` is how many messages came before.
 ///
 /// `Memory`, `ReadFailed`, `WriteFailed`, `TooManyReads`: why reading was given up.
 pub(crate) fn hand_all<R: Source, A: Allocator + Copy, V: MessageVisitor>(

@@ -65,7 +65,8 @@ impl<A: Allocator + Copy, W: Sink> MessageVisitor for OutputWriter<'_, A, W> {
     ghost adds_up = { laws.adds_up W.held W.failures };
 }
 
-// Why a run fails that fails by this cause. If memory ran out, what is gathered is written before.
+// Why a run fails that fails by this cause. If memory ran out, what is gathered is written first,
+// and if that write fails, the run fails by it.
 fn fail_by<W: Sink>(cause: Cause, gathered: &mut Gathered, first: &mut W) -> Cause
     ensures { FailsBy W.held W.failures cause (gathered_bytes gathered.old) (gathered_bytes gathered.new)
         first.old first.new result }

@@ -13,19 +13,19 @@ use dbus_report::{Cause, Unwritten};
 
 /// What takes the messages of an input, one after the other.
 ///
-/// Its relations say what becomes of it by messages, of which the first has a number and an offset in the input, and its law says
-/// that this adds up.
+/// Its relations say what becomes of it by messages, of which the first has a number and an offset in
+/// the input. Its law says that this adds up.
 pub(crate) trait MessageVisitor {
     // It took these messages: what it was before them, and after them.
     ghost takes: { Self → ℕ → ℕ → List CutMessage → Self → Type 0 };
 
-    // It took these messages, and no more for this cause. Unless a write failed, it holds nothing back.
+    // It took these messages, and no more for this cause. It holds nothing back, unless a write failed.
     ghost leaves: { Self → ℕ → ℕ → List CutMessage → Cause → Self → Type 0 };
 
     // It holds nothing back.
     ghost settled: { Self → Type 0 };
 
-    /// Lets go what it holds back of the messages that it took.
+    /// Lets go of what it holds back of the messages that it took.
     ///
     /// `Unwritten`: a write failed, or took none of its bytes.
     fn settle(&mut self) -> Result<(), Unwritten>
@@ -34,7 +34,8 @@ pub(crate) trait MessageVisitor {
 
     /// Takes a message.
     ///
-    /// `Memory`: there was not enough memory, and it let go what it held back. `WriteFailed`: a write failed, or took none of its bytes.
+    /// `Memory`: there was not enough memory, and it let go of what it held back. `WriteFailed`: a
+    /// write failed, or took none of its bytes.
     fn take(&mut self, lent: &Lent<'_>) -> Result<(), Cause>
         requires { IsValidatedWhole lent.now.limits lent.now.bytes.now lent.now.validated }
         ensures { (order : Order) (m : MessageTree) →
