@@ -38,9 +38,8 @@ pub closing_none : (command : Command) (tally : Tally) (passed : ℕ) (fault : O
 closing_none command tally passed None none other = ap (λ n. closing_line command tally n None) none ∙ (divides command other).last tally.count tally.size None
 closing_none command tally passed (Some fault) none other = ap (λ n. closing_line command tally n (Some fault)) none
 
-pub none_passed : {W E : Type 0} {t : Taken} {held : W → Option (List ℕ)} {write_failures : W → ℕ} {second_held : E → Option (List ℕ)} {second_failures : E → ℕ}
-    {settings : Settings} {most : ℕ} {command : Command} {tally : Tally} {fault : Option Fault} {out told text : List ℕ}
-    → (h : IsThrough t held write_failures second_held second_failures settings most command tally fault out told text) → settings.keeps_going ≡ false → tally.passed ≡ 0
+pub none_passed : {t : Taken} {settings : Settings} {most : ℕ} {command : Command} {tally : Tally} {fault : Option Fault} {out told text : List ℕ}
+    → (h : IsThrough t settings most command tally fault out told text) → settings.keeps_going ≡ false → tally.passed ≡ 0
 none_passed {settings = settings} {told = told} h halt = ap (λ (x : Tally). x.passed) h.tally_is ∙ none_told settings 1 0 h.parts told halt h.covers.tells
 
 module _ {W E : Type 0} {t : Taken} {held : W → Option (List ℕ)} {write_failures : W → ℕ} {second_held : E → Option (List ℕ)} {second_failures : E → ℕ}
@@ -82,9 +81,9 @@ module _ {W E : Type 0} {t : Taken} {held : W → Option (List ℕ)} {write_fail
         }
 
     stops : (stop : Stop) (more : List ℕ) → IsPrefixTo more (closing_line command tally tally.passed fault)
-        → (IsMore t held write_failures second_held second_failures settings most command h.through.parts h.through.rest (h.text ++ more)
-        → IsAllRead t held write_failures second_held second_failures settings most command stop h.through.parts h.through.rest (h.text ++ more))
-        → IsStopOf t held write_failures second_held second_failures settings most command stop
+        → (IsMore t settings most command h.through.parts h.through.rest (h.text ++ more)
+        → IsAllRead t settings most command stop h.through.parts h.through.rest (h.text ++ more))
+        → IsStopOf t settings most command stop
         → GotFirst held write_failures stop (first_of command h.out ((h.told ++ h.text) ++ more)) w0 w2 → GotSecond second_held second_failures stop (second_of command ((h.told ++ h.text) ++ more)) e0 e2
         → StopsWithin t held write_failures second_held second_failures settings most command stop w0 w2 e0 e2
     stops stop more prefix all caused first second =
@@ -110,9 +109,9 @@ module _ {W E : Type 0} {t : Taken} {held : W → Option (List ℕ)} {write_fail
           second = subst (λ (l : List ℕ). GotSecond second_held second_failures stop (second_of command l) e0 e2) (append_assoc h.told h.text more) second;
         }
 
-    stops_line : (stop : Stop) (line : List ℕ) → IsClosing line → ((more : List ℕ) → IsMore t held write_failures second_held second_failures settings most command h.through.parts h.through.rest more
-        → IsAllRead t held write_failures second_held second_failures settings most command stop h.through.parts h.through.rest more)
-        → IsStopOf t held write_failures second_held second_failures settings most command stop
+    stops_line : (stop : Stop) (line : List ℕ) → IsClosing line → ((more : List ℕ) → IsMore t settings most command h.through.parts h.through.rest more
+        → IsAllRead t settings most command stop h.through.parts h.through.rest more)
+        → IsStopOf t settings most command stop
         → GotFirst held write_failures stop (first_of command h.out ((h.told ++ h.text) ++ line)) w0 w2 → GotSecond second_held second_failures stop (second_of command ((h.told ++ h.text) ++ line)) e0 e2
         → StopsWithin t held write_failures second_held second_failures settings most command stop w0 w2 e0 e2
     stops_line stop line is all caused first second = stops stop line ([], sym is ∙ sym (append-nil line)) (all (h.text ++ line)) caused first second

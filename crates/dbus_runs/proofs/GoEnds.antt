@@ -129,7 +129,7 @@ module _ {R A W E : Type 0} {run : Begun R A W E} {mid : RawReader R A} {counted
         through mid text (kept mid) h.outcome told h.outcome_is fault_last h.gone.covered (last_is h.outcome fault_last (λ not. h.gone.covered.at_end (h.ended not)) none) refl
 
     stops_told : (stop : Stop) (text : List ℕ) (w2 : W) (e2 : E) → Tells text
-        → (IsMore (Took run mid) run.held run.write_failures run.second_held run.second_failures run.settings (most_reads_of run.old) run.command h.gone.parts (kept mid) text → AllRead run mid stop h.gone.parts (kept mid) text) → Stopped run mid stop
+        → (IsMore (Took run mid) run.settings (most_reads_of run.old) run.command h.gone.parts (kept mid) text → AllRead run mid stop h.gone.parts (kept mid) text) → Stopped run mid stop
         → GotFirst run.held run.write_failures stop (first_of run.command h.gone.out (h.gone.told ++ text)) run.w0 w2 → GotSecond run.second_held run.second_failures stop (second_of run.command (h.gone.told ++ text)) run.e0 e2 → Within run mid stop w2 e2
     stops_told stop text w2 e2 told all caused first second = record {
       parts = h.gone.parts;
@@ -243,7 +243,7 @@ module _ {R A W E : Type 0} {run : Begun R A W E} {mid : RawReader R A} {counted
 
       -- it was not passed over, since reading was given up
       torn : (goes : run.settings.keeps_going ≡ true) (stop : Stop) (n : ℕ) (r : ReadsUpTo n run.left run.calls mid new) (other : Fault) → IsRefusal (stopped_of mid) other → StatesLength (limits_of mid) (kept mid) n → FallsShort n (kept mid ++ r.bytes) mid new
-          → (IsAllOf (Took run new) run.held run.write_failures run.second_held run.second_failures run.settings (most_reads_of run.old) run.command h.gone.parts (kept mid ++ r.bytes) text → AllRead run new stop h.gone.parts (kept mid ++ r.bytes) text)
+          → (IsAllOf (Took run new) run.settings (most_reads_of run.old) run.command h.gone.parts (kept mid ++ r.bytes) text → AllRead run new stop h.gone.parts (kept mid ++ r.bytes) text)
           → Stopped run new stop → GotFirst run.held run.write_failures stop (first_of run.command h.gone.out (h.gone.told ++ text)) run.w0 w2
           → GotSecond run.second_held run.second_failures stop (second_of run.command (h.gone.told ++ text)) run.e0 e2 → Torn run new stop w2 e2
       torn goes stop n r other refusal s short all caused first second = (

@@ -159,7 +159,7 @@ module _ {R A W E : Type 0} (run : Begun R A W E) where
 
   -- as a clause says it
   pub covers : (new : RawReader R A) (parts : List Part) (rest out told : List ℕ) → HasCovered new parts rest out told
-      → Covers (taken (reading run.left run.calls run.failures (source_of run.old) (source_of new))) run.held run.write_failures run.second_held run.second_failures run.settings (most_reads_of run.old) run.command parts rest out told
+      → Covers (taken (reading run.left run.calls run.failures (source_of run.old) (source_of new))) run.settings (most_reads_of run.old) run.command parts rest out told
   covers new parts rest out told h = record {
     bytes = h.bytes;
     consumed = h.consumed;
@@ -238,16 +238,16 @@ module _ {R A W E : Type 0} (run : Begun R A W E) where
   Torn new stop w e = PartsOf (Took new) run.held run.write_failures run.second_held run.second_failures run.settings (most_reads_of run.old) run.command (Err stop) run.w0 w run.e0 e
 
   abbrev pub Through : RawReader R A → Tally → Option Fault → (out told text : List ℕ) → Type 0
-  Through new tally fault out told text = IsThrough (Took new) run.held run.write_failures run.second_held run.second_failures run.settings (most_reads_of run.old) run.command tally fault out told text
+  Through new tally fault out told text = IsThrough (Took new) run.settings (most_reads_of run.old) run.command tally fault out told text
 
   abbrev pub Handed : RawReader R A → Tally → Option Fault → W → E → Type 0
   Handed new tally fault w e = HandsParts (Took new) run.held run.write_failures run.second_held run.second_failures run.settings (most_reads_of run.old) run.command tally fault run.w0 w run.e0 e
 
   abbrev pub Stopped : RawReader R A → Stop → Type 0
-  Stopped new stop = IsStopOf (Took new) run.held run.write_failures run.second_held run.second_failures run.settings (most_reads_of run.old) run.command stop
+  Stopped new stop = IsStopOf (Took new) run.settings (most_reads_of run.old) run.command stop
 
   abbrev pub AllRead : RawReader R A → Stop → List Part → List ℕ → List ℕ → Type 0
-  AllRead new stop parts rest more = IsAllRead (Took new) run.held run.write_failures run.second_held run.second_failures run.settings (most_reads_of run.old) run.command stop parts rest more
+  AllRead new stop parts rest more = IsAllRead (Took new) run.settings (most_reads_of run.old) run.command stop parts rest more
 
   -- ---- the messages are not all handed on
 

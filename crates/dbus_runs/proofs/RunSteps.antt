@@ -90,7 +90,7 @@ module _ {R W E : Type 0} (left : R → Option (List ℕ)) (calls read_failures 
 
   -- all messages were handed on, and the second writer got the line of the fault as far as it took it
   answers : (tally : Tally) (fault : Option Fault) (out told text : List ℕ) (e1 : E) (end : ExitStatus)
-      → IsThrough Took held write_failures second_held second_failures (plain limits) most command tally fault out told text → Wrote held write_failures w0 (first_of command out (told ++ text)) w1
+      → IsThrough Took (plain limits) most command tally fault out told text → Wrote held write_failures w0 (first_of command out (told ++ text)) w1
       → TellsLine second_held second_failures (second_of command (told ++ text)) fault e0 e1 end
       → Answers left calls read_failures held write_failures limits most command second_held second_failures r0 r1 w0 w1 e0 e1 end
   answers tally fault out told text e1 end h first second =
@@ -151,7 +151,7 @@ module _ {R W E : Type 0} (left : R → Option (List ℕ)) (calls read_failures 
       caused = caused;
     }
 
-    all_messages : (cause : Cause) (s : Within cause) → IsAllOf Took held write_failures second_held second_failures (plain limits) most command s.parts s.rest s.more
+    all_messages : (cause : Cause) (s : Within cause) → IsAllOf Took (plain limits) most command s.parts s.rest s.more
         → WritesMessages limits command s.covers.bytes s.out
     all_messages cause s all =
         let m = messages_of cause s in

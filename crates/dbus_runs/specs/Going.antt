@@ -75,8 +75,7 @@ abbrev pub TellsStop : {E : Type 0} → (E → Option (List ℕ)) → (E → ℕ
 TellsStop held failures (ByCause cause) e0 e1 = Told held failures e0 e1 cause
 TellsStop held failures Second e0 e1 = e1 ≡ e0
 
-module _ {W E : Type 0} (t : Taken) (held : W → Option (List ℕ)) (write_failures : W → ℕ) (second_held : E → Option (List ℕ)) (second_failures : E → ℕ)
-    (settings : Settings) (most : ℕ) (command : Command) where
+module _ (t : Taken) (settings : Settings) (most : ℕ) (command : Command) where
   -- what was read is these parts and then the rest, and this is written of the texts that are made of the parts, and told of the parts
   pub record Covers (parts : List Part) (rest out told : List ℕ) : Type 0 where
     pub bytes : List ℕ
@@ -106,15 +105,6 @@ module _ {W E : Type 0} (t : Taken) (held : W → Option (List ℕ)) (write_fail
     pub last : IsLast settings.keeps_going settings.limits kept rest tells.outcome (IsAtEnd t.left1)
     pub read_failed : t.failures1 ≡ t.failures0
 
-  -- that was made and told
-  pub record HandsParts (tally : Tally) (fault : Option Fault) (w0 w1 : W) (e0 e1 : E) : Type 0 where
-    pub out : List ℕ
-    pub told : List ℕ
-    pub text : List ℕ
-    pub through : IsThrough tally fault out told text
-    pub first : Wrote held write_failures w0 (first_of command out (told ++ text)) w1
-    pub second : Wrote second_held second_failures e0 (second_of command (told ++ text)) e1
-
   -- the source shows why it stopped
   abbrev pub IsStopOf : Stop → Type 0
   IsStopOf (ByCause Memory) = t.failures1 ≡ t.failures0
@@ -140,16 +130,27 @@ module _ {W E : Type 0} (t : Taken) (held : W → Option (List ℕ)) (write_fail
   IsAllRead (ByCause TooManyReads) parts rest more = IsAllOf parts rest more
   IsAllRead Second parts rest more = IsMore parts rest more
 
+module _ {W E : Type 0} (t : Taken) (held : W → Option (List ℕ)) (write_failures : W → ℕ) (second_held : E → Option (List ℕ)) (second_failures : E → ℕ)
+    (settings : Settings) (most : ℕ) (command : Command) where
+  -- that was made and told
+  pub record HandsParts (tally : Tally) (fault : Option Fault) (w0 w1 : W) (e0 e1 : E) : Type 0 where
+    pub out : List ℕ
+    pub told : List ℕ
+    pub text : List ℕ
+    pub through : IsThrough t settings most command tally fault out told text
+    pub first : Wrote held write_failures w0 (first_of command out (told ++ text)) w1
+    pub second : Wrote second_held second_failures e0 (second_of command (told ++ text)) e1
+
   -- some of the first parts were handed to the command
   pub record StopsWithin (stop : Stop) (w0 w1 : W) (e0 e1 : E) : Type 0 where
     pub parts : List Part
     pub rest : List ℕ
     pub out : List ℕ
     pub told : List ℕ
-    pub covers : Covers parts rest out told
+    pub covers : Covers t settings most command parts rest out told
     pub more : List ℕ
-    pub all : IsAllRead stop parts rest more
-    pub caused : IsStopOf stop
+    pub all : IsAllRead t settings most command stop parts rest more
+    pub caused : IsStopOf t settings most command stop
     pub first : GotFirst held write_failures stop (first_of command out (told ++ more)) w0 w1
     pub second : GotSecond second_held second_failures stop (second_of command (told ++ more)) e0 e1
 
@@ -160,7 +161,7 @@ module _ {W E : Type 0} (t : Taken) (held : W → Option (List ℕ)) (write_fail
     pub out : List ℕ
     pub told : List ℕ
     pub text : List ℕ
-    pub through : IsThrough tally fault out told text
+    pub through : IsThrough t settings most command tally fault out told text
     pub first : Wrote held write_failures w0 (first_of command out (told ++ text)) w1
     pub n : ℕ
     pub second : Stopped second_held second_failures e0 (second_of command (told ++ text)) n e1
@@ -182,7 +183,7 @@ module _ {W E : Type 0} (t : Taken) (held : W → Option (List ℕ)) (write_fail
     pub out : List ℕ
     pub told : List ℕ
     pub text : List ℕ
-    pub through : IsThrough tally fault out told text
+    pub through : IsThrough t settings most command tally fault out told text
     pub first : Wrote held write_failures w0 (first_of command out (told ++ text ++ closing_line command tally tally.passed fault)) w1
     pub second : Wrote second_held second_failures e0 (second_of command (told ++ text ++ closing_line command tally tally.passed fault)) e1
     pub end_is : end ≡ status_at tally.passed fault
