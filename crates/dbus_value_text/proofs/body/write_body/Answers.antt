@@ -4,23 +4,18 @@ use Rattle.dbus_types.specs.SignatureCodes.{IsTypeEnd}
 use Rattle.dbus_types.proofs.TypeLengths.{ends_by, lengths_within}
 use Rattle.dbus_value_model.specs.Values.{ValueTrees}
 use Rattle.dbus_value_model.specs.Spelling.{spelling, spellings}
-use Rattle.dbus_header.proofs.OutcomeLaws.{whole_inside}
 use Rattle.dbus_walk.specs.Standing.{AllStand}
 use Rattle.dbus_walk.proofs.Walks.{all_left, next_value, value_left, no_value}
 use Rattle.dbus_value_text.specs.Forms.{AreTexts}
-use Rattle.dbus_value_text.proofs.WholeParts.{types_few, body_there, some_body}
+use Rattle.dbus_value_text.proofs.WholeParts.{inside, types_few, body_there, some_body}
 use Rattle.dbus_value_text.proofs.Rows.{ValuesLed, no_values_led, value_led}
 use Rattle.dbus_value_text.proofs.body.write_body.Goals as goal
 
 pub slice_bounds-source-end : goal.slice_bounds-source-end
-slice_bounds-source-end g c =
-    let j = c.requires.validated in
-    omega (arith, (whole_inside c.args.whole.now.limits c.args.whole.now.bytes.now c.args.whole.now.validated.now.order j.message c.args.whole.now.validated.now.length j.whole).1, length-take c.args.whole.now.validated.now.length c.args.whole.now.bytes.now)
+slice_bounds-source-end g c = let within = inside c.args.whole.now c.requires.validated in omega (arith, within, length-take c.args.whole.now.validated.now.length c.args.whole.now.bytes.now)
 
 pub lengths_of-lengths-requires : goal.lengths_of-lengths-requires
-lengths_of-lengths-requires g c =
-    let j = c.requires.validated in
-    record { few = types_few c.args.whole.now.limits c.args.whole.now.bytes.now c.args.whole.now.validated.now j j.message j.whole c.signature-types.result.now (c.signature-types.ensures j.message.fields j.fields) }
+lengths_of-lengths-requires g c = record { few = types_few c.args.whole.now c.requires.validated c.signature-types.result.now c.signature-types.ensures }
 
 pub loop-pos-init : goal.loop-pos-init
 loop-pos-init g c = record {
@@ -33,8 +28,8 @@ loop-pos-init g c = record {
 
 pub slice_bounds-spot-end : goal.slice_bounds-spot-end
 slice_bounds-spot-end g c =
-    let there = some_body c.args.whole.now.limits c.args.whole.now.bytes.now c.args.whole.now.validated.now c.requires.validated c.signature-types.result.now (c.signature-types.ensures c.requires.validated.message.fields c.requires.validated.fields) in
     let types = c.signature-types.result.now in
+    let there = some_body c.args.whole.now c.requires.validated types c.signature-types.ensures in
     let pos = c.loop-pos.pos in
     let end = pos + c.from.result in
     let is : IsTypeEnd types pos end = λ t more e. ap (λ (k : ℕ). pos + k) c.from.ensures ∙ ends_by types c.lengths_of-lengths.result.now c.lengths_of-lengths.ensures pos t more e in
@@ -43,8 +38,8 @@ slice_bounds-spot-end g c =
 
 pub loop-pos-smaller : goal.loop-pos-smaller
 loop-pos-smaller g c =
-    let there = some_body c.args.whole.now.limits c.args.whole.now.bytes.now c.args.whole.now.validated.now c.requires.validated c.signature-types.result.now (c.signature-types.ensures c.requires.validated.message.fields c.requires.validated.fields) in
     let types = c.signature-types.result.now in
+    let there = some_body c.args.whole.now c.requires.validated types c.signature-types.ensures in
     let pos = c.loop-pos.pos in
     let end = pos + c.from.result in
     let is : IsTypeEnd types pos end = λ t more e. ap (λ (k : ℕ). pos + k) c.from.ensures ∙ ends_by types c.lengths_of-lengths.result.now c.lengths_of-lengths.ensures pos t more e in
@@ -53,9 +48,9 @@ loop-pos-smaller g c =
 
 pub write_value-place-requires : goal.write_value-place-requires
 write_value-place-requires g c =
-    let there = some_body c.args.whole.now.limits c.args.whole.now.bytes.now c.args.whole.now.validated.now c.requires.validated c.signature-types.result.now (c.signature-types.ensures c.requires.validated.message.fields c.requires.validated.fields) in
     let order = c.args.whole.now.validated.now.order in
     let types = c.signature-types.result.now in
+    let there = some_body c.args.whole.now c.requires.validated types c.signature-types.ensures in
     let lengths = c.lengths_of-lengths.result.now in
     let pos = c.loop-pos.pos in
     let place = c.loop-pos.place in
@@ -69,9 +64,9 @@ write_value-place-requires g c =
 
 pub loop-pos-preserved : goal.loop-pos-preserved
 loop-pos-preserved g c =
-    let there = some_body c.args.whole.now.limits c.args.whole.now.bytes.now c.args.whole.now.validated.now c.requires.validated c.signature-types.result.now (c.signature-types.ensures c.requires.validated.message.fields c.requires.validated.fields) in
     let order = c.args.whole.now.validated.now.order in
     let types = c.signature-types.result.now in
+    let there = some_body c.args.whole.now c.requires.validated types c.signature-types.ensures in
     let pos = c.loop-pos.pos in
     let place = c.loop-pos.place in
     let end = pos + c.from.result in
@@ -93,7 +88,7 @@ returns g c = record {
   written = λ m whole.
       let j = c.requires.validated in
       let types = c.signature-types.result.now in
-      let there = body_there c.args.whole.now.limits c.args.whole.now.bytes.now c.args.whole.now.validated.now j m whole types (c.signature-types.ensures j.message.fields j.fields) in
+      let there = body_there c.args.whole.now j m whole types c.signature-types.ensures in
       let l = c.loop-pos.invariant.left m.body [] there in
       let ended = no_value types c.loop-pos.pos l c.loop-pos-test.false in
       let led = l.walked in
