@@ -8,43 +8,76 @@
 //! read or a write failed, too many reads were made, or memory ran out.
 #![tactic(auto)]
 
-use dbus_stream::{FromRead, FromWrite, Sink, write_all};
+ghost use Rattle.std.specs.Prelude.{◌≡◌, map, string_bytes, IfErr, IfOk};
+ghost use Rattle.std.specs.IoError.{error_kind};
+ghost use Rattle.dbus_report.specs.Devices.{writing};
+ghost use Rattle.dbus_tool.specs.Handshaking.{Shows};
+ghost use Rattle.dbus_tool.specs.Words.{RunsWords};
+ghost use Rattle.dbus_wire.specs.NoWords.{TellsNoWords};
+
+use dbus_stream::{FromRead, FromWrite, Sink, Source, WrittenOnly, write_all};
 use dbus_tool::{ExitStatus, ReadAhead, run_words};
+use std::alloc::Global;
 use std::io::ErrorKind;
 use std::process::ExitCode;
 use std::{env, io};
+
+fn main(rt: HostRuntime) -> ExitCode {
+    let mut reader = ReadAhead::new(FromRead::new(rt.stdin()));
+    let mut first = FromWrite::new(rt.stdout());
+    let mut second = FromWrite::new(rt.stderr());
+    let words = words_of(&rt);
+    let status = run(rt.alloc(), words, &mut reader, &mut first, &mut second);
+    ExitCode::from(status.code())
+}
 
 // The words of the command line, of which the first is the program's name.
 fn words_of(rt: &HostRuntime) -> io::Result<Vec<String>> {
     Ok(env::args(rt)?.collect(rt.alloc())?)
 }
 
-// Says why the words of the command line are not there.
-fn tell_no_words<E: Sink>(error: &io::Error, second: &mut E) -> ExitStatus {
-    let (line, status) = if error.kind() == ErrorKind::OutOfMemory {
-        ("out of memory\n", ExitStatus::Failed)
-    } else {
-        ("error: an argument is not UTF-8\n", ExitStatus::Usage)
-    };
-    match write_all(second, line.as_bytes()) {
-        Ok(()) => status,
-        Err(_) => ExitStatus::Failed,
+// Does what the words say, or says why they are not there.
+fn run<R: Source, W: Sink, E: Sink>(
+    alloc: Global,
+    words: io::Result<Vec<String>>,
+    reader: &mut ReadAhead<R>,
+    first: &mut W,
+    second: &mut E,
+) -> ExitStatus
+    ensures runs { IfOk words (λ said. RunsWords R.left R.calls R.failures reader.old reader.new
+        (writing W.held W.failures first.old first.new)
+        (writing E.held E.failures second.old second.new)
+        (map string_bytes said.items) result) }
+    ensures tells { IfErr words (λ error. (reader.new ≡ reader.old) × (first.new ≡ first.old) ×
+        TellsNoWords E.held E.failures second.old second.new (error_kind error) result) }
+{
+    match words {
+        Ok(words) => run_words(alloc, words.as_slice(), reader, first, second),
+        Err(error) => tell_no_words(error.kind(), second),
     }
 }
 
-fn main(rt: HostRuntime) -> ExitCode {
-    let mut reader = ReadAhead::new(FromRead::new(rt.stdin()));
-    let mut first = FromWrite::new(rt.stdout());
-    let mut second = FromWrite::new(rt.stderr());
-    let status = match words_of(&rt) {
-        Ok(words) => run_words(
-            rt.alloc(),
-            words.as_slice(),
-            &mut reader,
-            &mut first,
-            &mut second,
-        ),
-        Err(error) => tell_no_words(&error, &mut second),
-    };
-    ExitCode::from(status.code())
+// Says why the words of the command line are not there.
+fn tell_no_words<E: Sink>(kind: ErrorKind, second: &mut E) -> ExitStatus
+    ensures { TellsNoWords E.held E.failures second.old second.new kind result }
+{
+    if kind == ErrorKind::OutOfMemory {
+        tell("out of memory\n", ExitStatus::Failed, second)
+    } else {
+        tell(
+            "error: an argument is not UTF-8\n",
+            ExitStatus::Usage,
+            second,
+        )
+    }
+}
+
+// Writes a line, and returns the status, or that it failed.
+fn tell<E: Sink>(line: &str, status: ExitStatus, second: &mut E) -> ExitStatus
+    ensures { Shows E.held E.failures second.old second.new status line.now result }
+{
+    match write_all(second, line.as_bytes()) {
+        Ok(()) => status,
+        Err(WrittenOnly(_)) => ExitStatus::Failed,
+    }
 }
