@@ -28,36 +28,24 @@ fn is_validated<A: Allocator + Copy>(
     depth <= 64 && check_value(alloc, value, depth) == wanted
 }
 
-// Whether a copy of a value is validated so.
-fn is_copy_validated<A: Allocator + Copy>(
+// Whether a value is validated so, and a copy of it too.
+fn are_validated<A: Allocator + Copy>(
     alloc: A,
     value: &Value<A>,
     depth: u8,
     wanted: Result<(), ValueFault>,
 ) -> Result<bool, AllocError> {
     let copied = copy(alloc, value)?;
-    Ok(is_validated(alloc, &copied, depth, wanted))
-}
-
-// Whether a value is validated so, and a copy of it too.
-fn are_validated<A: Allocator + Copy>(
-    alloc: A,
-    what: Made,
-    depth: u8,
-    wanted: Result<(), ValueFault>,
-) -> Result<(bool, bool), AllocError> {
-    let value = make(alloc, what)?;
-    let copied = is_copy_validated(alloc, &value, depth, wanted)?;
-    Ok((is_validated(alloc, &value, depth, wanted), copied))
+    Ok(is_validated(alloc, value, depth, wanted) && is_validated(alloc, &copied, depth, wanted))
 }
 
 #[test]
 fn values_validated(rt: HostRuntime) -> Result<(), Fail> {
-    for (what, depth, wanted) in VALIDATED {
-        let right = are_validated(rt.alloc(), *what, *depth, *wanted)?;
+    for (n, (what, depth, wanted)) in VALIDATED.iter().enumerate() {
+        let value = make(rt.alloc(), *what)?;
         assert!(rt;
-            right == (true, true),
-            "{what:?}: {wanted:?} at depth {depth}"
+            are_validated(rt.alloc(), &value, *depth, *wanted)?,
+            "at {n}"
         );
     }
     Ok(())

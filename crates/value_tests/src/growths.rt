@@ -14,7 +14,7 @@ use std::alloc::{AllocError, Allocator, Global};
 use std::test::*;
 
 // A call, and what it is made of.
-#[derive(Clone, Copy, Debug)]
+#[derive(Clone, Copy)]
 enum Call {
     ParseSignature(&'static [u8]),
     ParseSingle(&'static [u8]),
@@ -30,7 +30,7 @@ enum Call {
     TypeOf(Made),
 }
 
-#[derive(Clone, Copy, PartialEq, Eq, Debug)]
+#[derive(Clone, Copy, PartialEq, Eq)]
 enum Answer {
     Done,
     // More bytes are wanted.
@@ -266,115 +266,74 @@ fn check_within<A: Allocator + Copy>(alloc: A, value: &Value<A>, limits: (u32, u
     }
 }
 
-// What a call answers of a value, or of types. What it made is given back.
-fn answer_of<A: Allocator + Copy>(
-    alloc: A,
-    call: Call,
-    value: &Value<A>,
-    types: &[SigType<A>],
-) -> Answer {
+// What a call answers of a value.
+fn answer_of_value<A: Allocator + Copy>(alloc: A, call: Call, value: &Value<A>) -> Answer {
+    match call {
+        Call::CheckValue(_, depth) if depth <= 64 => of_check(check_value(alloc, value, depth)),
+        Call::CheckValueWithin(_, limits) => check_within(alloc, value, limits),
+        Call::Copy(_) => of_growth(copy(alloc, value)),
+        Call::TypeOf(_) => of_growth(type_of(alloc, value)),
+        _ => Answer::Other,
+    }
+}
+
+// What a call answers. Values and types that it is made of take their memory from `spare`, and what it made is given back.
+fn answer_of<A: Allocator + Copy>(alloc: A, spare: A, call: Call) -> Answer {
     match call {
         Call::ParseSignature(text) => of_signature(parse_signature(alloc, text)),
         Call::ParseSingle(text) => of_signature(parse_single(alloc, text)),
-        Call::SignatureText(_) => of_signature(signature_text(alloc, types)),
+        Call::SignatureText(what) => match types::make(spare, what) {
+            Ok(types) => of_signature(signature_text(alloc, &types)),
+            Err(AllocError) => Answer::Other,
+        },
         Call::Text(text) => of_string(Value::text(alloc, text)),
         Call::Get(signature, bytes, end, limits) => {
             of_bytes(read(alloc, signature, bytes, end, limits))
         }
-        Call::CheckValue(_, depth) if depth <= 64 => of_check(check_value(alloc, value, depth)),
-        Call::CheckValue(_, _) => Answer::Other,
-        Call::CheckValueWithin(_, limits) => check_within(alloc, value, limits),
-        Call::Copy(_) => of_growth(copy(alloc, value)),
-        Call::TypeOf(_) => of_growth(type_of(alloc, value)),
+        Call::CheckValue(what, _)
+        | Call::CheckValueWithin(what, _)
+        | Call::Copy(what)
+        | Call::TypeOf(what) => match make(spare, what) {
+            Ok(value) => answer_of_value(alloc, call, &value),
+            Err(AllocError) => Answer::Other,
+        },
     }
 }
 
-// The value that a call is made of, or another.
-fn value_for(call: Call) -> Made {
-    match call {
-        Call::CheckValue(value, _)
-        | Call::CheckValueWithin(value, _)
-        | Call::Copy(value)
-        | Call::TypeOf(value) => value,
-        _ => VARIANT,
-    }
-}
-
-// The types that a call is made of, or none.
-fn types_for(call: Call) -> types::Made {
-    match call {
-        Call::SignatureText(types) => types,
-        _ => types::Made::Nothing,
-    }
-}
-
-// What a call answers with its allocation `n` failing, and again; and what the allocator counted.
-#[derive(Clone, Copy)]
-struct Run {
-    answer: Answer,
-    growths: u64,
-    refusals: u64,
-    // What the same call answers after it.
-    again: Answer,
-    // The blocks that were out before the calls, and those after them.
-    blocks: (u64, u64),
-}
-
-fn run_of<'a, A: Allocator>(
-    heap: &'a Refusing<A>,
-    call: Call,
-    n: u64,
-    value: &Value<&'a Refusing<A>>,
-    types: &[SigType<&'a Refusing<A>>],
-) -> Run {
-    let before = heap.blocks();
-    heap.refuse_nth(n);
-    let answer = answer_of(heap, call, value, types);
-    let (growths, refusals) = (heap.growths(), heap.refusals());
+// Whether allocation `n` of a call failed: then it is out of memory, and never else. Nothing if it answers otherwise, if the same call
+// after it does, or if a block is left.
+fn is_refused(alloc: Global, call: Call, n: u64, right: Answer) -> Option<bool> {
+    let heap = Refusing::nth(alloc, n);
+    let spare = Refusing::none(alloc);
+    let answer = answer_of(&heap, &spare, call);
+    let refused = heap.refusals() == 1;
+    let wanted = if refused { Answer::Memory } else { right };
     heap.refuse_none();
-    let again = answer_of(heap, call, value, types);
-    Run {
-        answer,
-        growths,
-        refusals,
-        again,
-        blocks: (before, heap.blocks()),
+    let again = answer_of(&heap, &spare, call);
+    if answer == wanted && again == right && heap.blocks() == 0 && spare.blocks() == 0 {
+        Some(refused)
+    } else {
+        None
     }
 }
 
-fn run_call(heap: &Refusing<Global>, call: Call, n: u64) -> Result<Run, AllocError> {
-    let types = types::make(heap, types_for(call))?;
-    let value = make(heap, value_for(call))?;
-    Ok(run_of(heap, call, n, &value, &types))
+// How many allocations a call asks for, with each of them failing in turn. Nothing if one of the runs goes wrong.
+fn growths_of(alloc: Global, call: Call, right: Answer) -> Option<u64> {
+    for n in 1..100 {
+        match is_refused(alloc, call, n, right) {
+            Some(true) => {}
+            Some(false) => return Some(n - 1),
+            None => return None,
+        }
+    }
+    None
 }
 
 // A fault never becomes out of memory if nothing was refused.
 #[test]
-fn each_growth_refused(rt: HostRuntime) -> Result<(), Fail> {
-    for (call, least, right) in CALLS {
-        let mut met = None;
-        for n in 1..100 {
-            let heap = Refusing::none(rt.alloc());
-            let run = run_call(&heap, *call, n)?;
-            let wanted = if run.refusals == 1 {
-                Answer::Memory
-            } else {
-                *right
-            };
-            assert!(rt;
-                run.answer == wanted && run.again == *right,
-                "{call:?} at {n}"
-            );
-            assert!(rt;
-                run.refusals < 2 && run.blocks.0 == run.blocks.1,
-                "{call:?} at {n}"
-            );
-            if run.refusals == 0 {
-                met = Some(run.growths);
-                break;
-            }
-        }
-        assert!(rt; met >= Some(*least), "{call:?}: {met:?}");
+fn each_growth_refused(rt: HostRuntime) {
+    for (row, (call, least, right)) in CALLS.iter().enumerate() {
+        let met = growths_of(rt.alloc(), *call, *right);
+        assert!(rt; met >= Some(*least), "row {row}: {met:?}");
     }
-    Ok(())
 }

@@ -2,7 +2,7 @@
 
 use crate::made::value_of;
 use dbus_value_model::{FdRule, Limits, Value, first_past};
-use std::alloc::{AllocError, Allocator};
+use std::alloc::{AllocError, Global};
 use std::test::*;
 
 // A type and a value's bytes in little order. Its indexes are below 2, and not all below 1.
@@ -35,28 +35,23 @@ const NO_LIMITS: &[(u32, u32, u8)] = &[
     (134_217_728, 67_108_864, 65),
 ];
 
-// The first of three values that has an index not below a number: a value without indexes, the one that is read, and an index
-// of 7.
-fn first_of_three<A: Allocator + Copy>(
-    alloc: A,
-    signature: &str,
-    bytes: &[u8],
-    fds: Option<u32>,
-) -> Result<Option<usize>, AllocError> {
-    let mut values = Vec::new(alloc);
-    values.push(Value::U32(9))?;
-    values.push(value_of(alloc, signature, bytes)?)?;
-    values.push(Value::Fd(7))?;
-    Ok(first_past(&values, fds))
+// Whether the first of three values that has an index not below a number is found: a value without indexes, the one that is read, and
+// an index of 7.
+fn are_found(alloc: Global, signature: &str, bytes: &[u8]) -> Result<bool, AllocError> {
+    let value = value_of(alloc, signature, bytes)?;
+    let values = [Value::U32(9), value, Value::Fd(7)];
+    for (fds, wanted) in FIRST_PAST {
+        if first_past(&values, *fds) != *wanted {
+            return Ok(false);
+        }
+    }
+    Ok(true)
 }
 
 #[test]
 fn first_values_past_a_number(rt: HostRuntime) -> Result<(), Fail> {
     for (signature, bytes) in INDEXED {
-        for (fds, wanted) in FIRST_PAST {
-            let first = first_of_three(rt.alloc(), signature, bytes, *fds)?;
-            assert!(rt; first == *wanted, "{signature}, {fds:?}");
-        }
+        assert!(rt; are_found(rt.alloc(), signature, bytes)?, "{signature}");
     }
     Ok(())
 }

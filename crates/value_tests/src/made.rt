@@ -10,7 +10,7 @@ use dbus_value_model::{DictEntry, Got, Order, Value, check_value};
 use std::alloc::{AllocError, Allocator};
 
 /// A value by what it is made of.
-#[derive(Clone, Copy, Debug)]
+#[derive(Clone, Copy)]
 pub enum Made {
     /// A value of a type that is well formed where it stands alone, by its bytes in little order.
     Read(&'static str, &'static [u8]),

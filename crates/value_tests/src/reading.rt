@@ -7,7 +7,7 @@ use refusing_alloc::Refusing;
 use std::alloc::{Allocator, Global};
 
 /// What is answered.
-#[derive(Clone, Copy, PartialEq, Eq, Debug)]
+#[derive(Clone, Copy, PartialEq, Eq)]
 pub enum Answer {
     /// A value, and the place after it.
     Done(usize),
@@ -62,18 +62,27 @@ pub fn read<A: Allocator + Copy>(
     }
 }
 
-/// The allocations that reading a value takes, its type being read already; nothing if the bytes are refused.
-pub fn growths_of_reading(
-    alloc: Global,
+// Whether bytes are read, or more of them are wanted. Their type takes its memory from `spare`.
+fn is_read<A: Allocator + Copy>(
+    alloc: A,
+    spare: A,
     signature: &str,
     bytes: &[u8],
     end: usize,
-) -> Result<Option<u64>, SigFault> {
+) -> bool {
+    match parse_single(spare, signature.as_bytes()) {
+        Ok(wanted) => get(alloc, bytes, 0, end, Order::Little, &wanted, 0).is_ok(),
+        Err(_) => false,
+    }
+}
+
+/// The allocations that reading a value takes, its type being read already; nothing if the bytes are refused.
+pub fn growths_of_reading(alloc: Global, signature: &str, bytes: &[u8], end: usize) -> Option<u64> {
     let heap = Refusing::none(alloc);
-    let wanted = parse_single(&heap, signature.as_bytes())?;
-    heap.refuse_none();
-    match get(&heap, bytes, 0, end, Order::Little, &wanted, 0) {
-        Ok(_) => Ok(Some(heap.growths())),
-        Err(_) => Ok(None),
+    let spare = Refusing::none(alloc);
+    if is_read(&heap, &spare, signature, bytes, end) {
+        Some(heap.growths())
+    } else {
+        None
     }
 }

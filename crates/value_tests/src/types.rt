@@ -6,7 +6,7 @@ use std::sync::Arc;
 use std::test::*;
 
 /// Types by what they are made of, for those too that no text is read as.
-#[derive(Clone, Copy, Debug)]
+#[derive(Clone, Copy)]
 pub enum Made {
     /// No type.
     Nothing,
@@ -113,9 +113,9 @@ fn spelled<A: Allocator + Copy>(
 
 #[test]
 fn types_spelled(rt: HostRuntime) -> Result<(), Fail> {
-    for (what, wanted, single) in SPELLED {
+    for (n, (what, wanted, single)) in SPELLED.iter().enumerate() {
         let right = spelled(rt.alloc(), *what, *wanted)?;
-        assert!(rt; right == (true, true, *single), "{what:?}");
+        assert!(rt; right == (true, true, *single), "at {n}");
     }
     Ok(())
 }
