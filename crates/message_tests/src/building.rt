@@ -1,12 +1,11 @@
 //! Messages made of parts, and the first case of fault of others.
 #![tactic(auto)]
 
-use crate::answers::{bytes_of, is_encoded};
+use crate::answers::{comes_back, is_encoded};
 use dbus_message::{Build, BuildFault, HeaderField, Message, Parts, Within};
 use dbus_types::SigType;
 use dbus_value::{FdRule, Limits, Order, Value};
 use std::alloc::{AllocError, Global};
-use std::process::Abort;
 use std::test::Fail;
 
 // A value to be made.
@@ -236,44 +235,33 @@ fn parts_of(alloc: Global, row: &Row) -> Result<Parts, Fail> {
     })
 }
 
-// Why a row's parts are no message, and how many fields and values come back.
-fn refused(rt: &impl Abort, alloc: Global, n: usize, parts: Parts) -> (BuildFault, usize, usize) {
+// Why parts are no message, and how many fields and values come back.
+fn refused(alloc: Global, parts: Parts) -> Option<(BuildFault, usize, usize)> {
     match Message::new(alloc, parts) {
-        Err((back, fault)) => (fault, back.fields.len(), back.body.len()),
-        Ok(_) => panic!(rt; "not refused at {n}"),
+        Err((back, fault)) => Some((fault, back.fields.len(), back.body.len())),
+        Ok(_) => None,
     }
 }
 
-fn message_of(rt: &impl Abort, alloc: Global, n: usize, parts: Parts) -> Message {
-    match Message::new(alloc, parts) {
-        Ok(message) => message,
-        Err((_, fault)) => panic!(rt; "{fault:?} at {n}"),
-    }
-}
-
-// A row's parts are a message, which comes back from its bytes in both orders, and these are its bytes in one.
-fn is_message(
-    rt: &impl Abort,
-    alloc: Global,
-    n: usize,
-    parts: Parts,
-    wanted: Option<&[u8]>,
-) -> Result<(), Fail> {
-    let message = message_of(rt, alloc, n, parts);
-    for order in [Order::Little, Order::Big] {
-        bytes_of(rt, alloc, n, &message, order)?;
-    }
-    if let Some(bytes) = wanted {
-        is_encoded(rt, alloc, n, &message, Order::Little, bytes)?;
-    }
-    Ok(())
+// Whether parts are a message, which comes back from its bytes in both orders, and these are its bytes in one.
+fn is_message(alloc: Global, parts: Parts, wanted: Option<&[u8]>) -> bool {
+    let Ok(message) = Message::new(alloc, parts) else {
+        return false;
+    };
+    let is_spelled = match wanted {
+        Some(bytes) => is_encoded(alloc, &message, Order::Little, bytes),
+        None => true,
+    };
+    is_spelled
+        && comes_back(alloc, &message, Order::Little)
+        && comes_back(alloc, &message, Order::Big)
 }
 
 #[test]
 fn messages_of_parts(rt: HostRuntime) -> Result<(), Fail> {
     let alloc = rt.alloc();
     for (n, (row, wanted)) in MESSAGES.iter().enumerate() {
-        is_message(&rt, alloc, n, parts_of(alloc, row)?, *wanted)?;
+        assert!(rt; is_message(alloc, parts_of(alloc, row)?, *wanted), "at {n}");
     }
     Ok(())
 }
@@ -289,8 +277,8 @@ fn the_longest_field_array(rt: HostRuntime) -> Result<(), Fail> {
 fn parts_that_are_no_message(rt: HostRuntime) -> Result<(), Fail> {
     let alloc = rt.alloc();
     for (n, (row, fault)) in REFUSED.iter().enumerate() {
-        let found = refused(&rt, alloc, n, parts_of(alloc, row)?);
-        assert_eq!(rt; found, (*fault, row.2.len(), row.3.len()), "at {n}");
+        let found = refused(alloc, parts_of(alloc, row)?);
+        assert!(rt; found == Some((*fault, row.2.len(), row.3.len())), "at {n}");
     }
     Ok(())
 }
@@ -303,16 +291,32 @@ fn fault_within(alloc: Global, parts: Parts, limits: Limits) -> Option<BuildFaul
     }
 }
 
-// The message keeps the limits exactly where its parts are a message under them.
+// Whether the message of parts keeps the limits, if they are one.
+fn keeps(alloc: Global, parts: Parts, limits: Limits) -> Option<bool> {
+    match Message::new(alloc, parts) {
+        Ok(message) => Some(message.within(limits)),
+        Err(_) => None,
+    }
+}
+
+// Whether a row's parts have this fault under limits, or none. The message keeps the limits exactly where its parts are a message under
+// them.
+fn is_judged(
+    alloc: Global,
+    row: &Row,
+    limits: Limits,
+    wanted: Option<BuildFault>,
+) -> Result<bool, Fail> {
+    let found = fault_within(alloc, parts_of(alloc, row)?, limits);
+    let kept = keeps(alloc, parts_of(alloc, row)?, limits);
+    Ok(found == wanted && kept == Some(wanted.is_none()))
+}
+
 #[test]
 fn parts_under_limits(rt: HostRuntime) -> Result<(), Fail> {
-    let alloc = rt.alloc();
-    let whole = message_of(&rt, alloc, 0, parts_of(alloc, &SHORT)?);
     for (n, (message, array, depth, wanted)) in LIMITED.iter().enumerate() {
         let limits = Limits::new(*message, *array, *depth).expect(&rt, "limits in range");
-        let found = fault_within(alloc, parts_of(alloc, &SHORT)?, limits);
-        assert_eq!(rt; found, *wanted, "at {n}");
-        assert!(rt; whole.within(limits) == wanted.is_none(), "at {n}");
+        assert!(rt; is_judged(rt.alloc(), &SHORT, limits, *wanted)?, "at {n}");
     }
     Ok(())
 }
@@ -363,13 +367,9 @@ const INDEXED: &[(Row, Option<BuildFault>)] = &[
 // Under the rule on indexes of descriptors, and without it.
 #[test]
 fn parts_with_indexes(rt: HostRuntime) -> Result<(), Fail> {
-    let alloc = rt.alloc();
     let below = Limits::specification().with_fds(FdRule::BelowCount);
     for (n, (row, wanted)) in INDEXED.iter().enumerate() {
-        let whole = message_of(&rt, alloc, n, parts_of(alloc, row)?);
-        let found = fault_within(alloc, parts_of(alloc, row)?, below);
-        assert_eq!(rt; found, *wanted, "at {n}");
-        assert!(rt; whole.within(below) == wanted.is_none(), "at {n}");
+        assert!(rt; is_judged(rt.alloc(), row, below, *wanted)?, "at {n}");
     }
     Ok(())
 }

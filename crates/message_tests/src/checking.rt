@@ -15,10 +15,10 @@ const BOOLEAN: &[u8] =
 #[test]
 fn a_checker_ends_with_a_message_until_a_restart(rt: HostRuntime) {
     let mut checker = Checker::new();
-    assert_eq!(rt; checker.take(REPLY_AND_FRONT), Check::Done(24));
-    assert_eq!(rt; checker.take(REPLY_AND_FRONT), Check::Done(0));
+    assert!(rt; checker.take(REPLY_AND_FRONT) == Check::Done(24));
+    assert!(rt; checker.take(REPLY_AND_FRONT) == Check::Done(0));
     checker.restart();
-    assert_eq!(rt; checker.take(&REPLY_AND_FRONT[24..]), Check::Partial);
+    assert!(rt; checker.take(&REPLY_AND_FRONT[24..]) == Check::Partial);
 }
 
 // The fault is answered at the piece whose byte shows it, and stays.
@@ -31,11 +31,11 @@ fn a_fault_stays_until_a_restart(rt: HostRuntime) {
     });
     for (n, piece) in BOOLEAN.chunks(1).enumerate() {
         let right = if n < 35 { Check::Partial } else { refused };
-        assert_eq!(rt; checker.take(piece), right, "at {n}");
+        assert!(rt; checker.take(piece) == right, "at {n}");
     }
     for piece in [BOOLEAN, REPLY_AND_FRONT, b""] {
-        assert_eq!(rt; checker.take(piece), refused);
+        assert!(rt; checker.take(piece) == refused);
     }
     checker.restart();
-    assert_eq!(rt; checker.take(REPLY_AND_FRONT), Check::Done(24));
+    assert!(rt; checker.take(REPLY_AND_FRONT) == Check::Done(24));
 }

@@ -5,8 +5,6 @@ use dbus_message::{Answer, BuildFault, Compose, Message, MessageBuilder, decode,
 use dbus_value::{Order, Value};
 use refusing_alloc::Refusing;
 use std::alloc::{AllocError, Allocator, Global};
-use std::process::Abort;
-use std::test::Fail;
 
 // What is begun: on this path a call or a signal, or a reply to the message that the bytes are.
 #[derive(Clone, Copy)]
@@ -153,17 +151,6 @@ fn body_of<A: Allocator + Copy>(alloc: A, numbers: &[u32]) -> Result<Vec<Value<A
     Ok(values)
 }
 
-// The message that is replied to.
-fn replied_to<A: Allocator + Copy>(alloc: A, begun: Begun) -> Result<Option<Message<A>>, Fail> {
-    match begun {
-        Begun::Call(_) | Begun::Signal => Ok(None),
-        Begun::Reply(bytes) | Begun::Error(bytes) => match decode(alloc, bytes)? {
-            Answer::Whole { message, .. } => Ok(Some(message)),
-            Answer::Partial => Err(Fail::from("partial")),
-        },
-    }
-}
-
 fn begin<A: Allocator + Copy>(
     alloc: A,
     begun: Begun,
@@ -208,56 +195,86 @@ fn composed<A: Allocator + Copy>(
     builder.build()
 }
 
-// A message is made that has these bytes, or the fault is reported.
-fn is_right<A: Allocator + Copy>(
-    rt: &impl Abort,
-    alloc: A,
-    n: usize,
-    row: &Row,
-    answer: Result<Message<A>, BuildFault>,
-) -> Result<(), Fail> {
-    match answer {
-        Ok(message) => {
-            let bytes = encode(alloc, &message, Order::Little)?;
-            assert!(rt; row.2 == Ok(bytes.as_slice()), "at {n}");
-        }
-        Err(fault) => assert!(rt; row.2 == Err(fault), "{fault:?} at {n}"),
-    }
-    Ok(())
+// How a chain ended.
+#[derive(Clone, Copy, PartialEq, Eq)]
+enum Ending {
+    Right,
+    WantsMemory,
+    Wrong,
 }
 
-// A row with the nth allocation failing. The answer is whether one was.
-fn row_refused(rt: &impl Abort, alloc: Global, n: usize, row: &Row) -> Result<bool, Fail> {
-    let heap = Refusing::none(alloc);
-    let call = replied_to(&heap, row.0)?;
-    let before = heap.blocks();
-    heap.refuse_nth(n as u64);
-    let answer = composed(&heap, row, call.as_ref());
-    let refused = heap.refusals() == 1;
-    heap.refuse_none();
-    if refused {
-        assert!(rt; matches!(answer, Err(BuildFault::Memory)), "at {n}");
+fn ended(is_right: bool) -> Ending {
+    if is_right {
+        Ending::Right
     } else {
-        is_right(rt, &heap, n, row, answer)?;
+        Ending::Wrong
     }
-    assert_eq!(rt; heap.blocks(), before, "at {n}");
-    Ok(refused)
+}
+
+// How it ended: a message is made that has these bytes, or the fault is reported.
+fn ending_of<A: Allocator + Copy>(
+    spare: A,
+    row: &Row,
+    made: Result<Message<A>, BuildFault>,
+) -> Ending {
+    match made {
+        Ok(message) => match encode(spare, &message, Order::Little) {
+            Ok(bytes) => ended(row.2 == Ok(bytes.as_slice())),
+            Err(_) => Ending::Wrong,
+        },
+        Err(BuildFault::Memory) => Ending::WantsMemory,
+        Err(fault) => ended(row.2 == Err(fault)),
+    }
+}
+
+// How a row's chain ended. What it replies to and the bytes take their memory from `spare`.
+fn chained<'h>(heap: &'h Refusing, spare: &'h Refusing, row: &Row) -> Ending {
+    match row.0 {
+        Begun::Call(_) | Begun::Signal => ending_of(spare, row, composed(heap, row, None)),
+        Begun::Reply(bytes) | Begun::Error(bytes) => match decode(spare, bytes) {
+            Ok(Answer::Whole { message, .. }) => {
+                ending_of(spare, row, composed(heap, row, Some(&message)))
+            }
+            _ => Ending::Wrong,
+        },
+    }
+}
+
+// Whether the nth allocation of a row failed. Nothing if it ended otherwise than it should, or a block is left.
+fn is_refused(alloc: Global, n: u64, row: &Row) -> Option<bool> {
+    let heap = Refusing::nth(alloc, n);
+    let spare = Refusing::none(alloc);
+    let ending = chained(&heap, &spare, row);
+    let refused = heap.refusals() == 1;
+    let wanted = if refused {
+        Ending::WantsMemory
+    } else {
+        Ending::Right
+    };
+    if ending == wanted && heap.blocks() == 0 && spare.blocks() == 0 {
+        Some(refused)
+    } else {
+        None
+    }
+}
+
+// How many allocations a row takes. Nothing if one of the runs went wrong.
+fn growths_of(alloc: Global, row: &Row) -> Option<u64> {
+    for n in 1..200 {
+        match is_refused(alloc, n, row) {
+            Some(true) => {}
+            Some(false) => return Some(n - 1),
+            None => return None,
+        }
+    }
+    None
 }
 
 // If an allocation fails, the chain goes on to its end, which reports it, and all that was taken is given back. If none is, the message is
-// made, or the fault is reported.
+// made, or the fault is reported. The path alone takes memory.
 #[test]
-fn composed_with_each_growth_refused(rt: HostRuntime) -> Result<(), Fail> {
-    for row in COMPOSED {
-        let mut met = 0;
-        for n in 1..200 {
-            if !row_refused(&rt, rt.alloc(), n, row)? {
-                met = n;
-                break;
-            }
-        }
-        // The path alone takes memory.
-        assert!(rt; met > 1, "{met}");
+fn composed_with_each_growth_refused(rt: HostRuntime) {
+    for (n, row) in COMPOSED.iter().enumerate() {
+        assert!(rt; growths_of(rt.alloc(), row) > Some(0), "at {n}");
     }
-    Ok(())
 }

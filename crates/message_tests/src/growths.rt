@@ -7,9 +7,7 @@ use dbus_message::{
 };
 use dbus_value::{Fault, Limits, Order, Reason, Refusal, Value};
 use refusing_alloc::Refusing;
-use std::alloc::{Allocator, Global};
-use std::process::Abort;
-use std::test::Fail;
+use std::alloc::{AllocError, Allocator, Global};
 
 // A signal with a text and a variant of an array in its body.
 const SIGNAL: &[u8] =
@@ -30,12 +28,12 @@ const SPECIFICATION: Numbers = (134_217_728, 67_108_864, 64);
 
 const OF_REPLY: Numbers = (24, 8, 3);
 
-fn limits_of(rt: &impl Abort, (message, array, depth): Numbers) -> Limits {
-    Limits::new(message, array, depth).expect(rt, "limits in range")
+fn limits_of((message, array, depth): Numbers) -> Option<Limits> {
+    Limits::new(message, array, depth)
 }
 
 // How a call ended that takes memory.
-#[derive(Clone, Copy, PartialEq, Eq, Debug)]
+#[derive(Clone, Copy, PartialEq, Eq)]
 enum Ending {
     Done,
     WantsMemory,
@@ -94,11 +92,6 @@ fn called<A: Allocator + Copy>(alloc: A, asked: Asked<'_>) -> Ending {
     }
 }
 
-// A call of a row ended as it should, and a count of allocations or of blocks is then as it should be.
-fn ends(rt: &impl Abort, row: usize, found: (Ending, u64), wanted: (Ending, u64)) {
-    assert_eq!(rt; found, wanted, "at {row}");
-}
-
 // What is called, over which bytes, under which limits, how that ends, and a number of allocations that it takes at least, or exactly if it
 // is 0.
 const CALLED: &[(Call, &[u8], Numbers, Ending, u64)] = &[
@@ -119,23 +112,33 @@ const CALLED: &[(Call, &[u8], Numbers, Ending, u64)] = &[
     (Call::CopyFirst, REPLY, OF_REPLY, Ending::Done, 0),
 ];
 
-// A call with the nth allocation failing, and then again. The answer is how many allocations there were, if none was refused.
-fn call_refused(
-    rt: &impl Abort,
-    alloc: Global,
-    n: usize,
-    asked: Asked<'_>,
-    right: Ending,
-) -> Option<u64> {
-    let heap = Refusing::nth(alloc, n as u64);
-    let ended = called(&heap, asked);
-    if heap.refusals() == 0 {
-        ends(rt, n, (ended, heap.blocks()), (right, 0));
-        return Some(heap.growths());
+// How many allocations a call takes, with the nth failing and then again: nothing if that failed.
+type Growths = Option<u64>;
+
+// What a call takes with the nth allocation failing, and then again. No answer if it ends otherwise than it should, or a block is left.
+fn call_refused(alloc: Global, n: u64, asked: Asked<'_>, right: Ending) -> Option<Growths> {
+    let heap = Refusing::nth(alloc, n);
+    let ending = called(&heap, asked);
+    let (refusals, growths) = (heap.refusals(), heap.growths());
+    let is_right = if refusals == 0 {
+        ending == right
+    } else {
+        ending == Ending::WantsMemory && called(&heap, asked) == right
+    };
+    if !is_right || heap.blocks() != 0 {
+        return None;
     }
-    ends(rt, n, (ended, heap.blocks()), (Ending::WantsMemory, 0));
-    let ended = called(&heap, asked);
-    ends(rt, n, (ended, heap.blocks()), (right, 0));
+    Some(if refusals == 0 { Some(growths) } else { None })
+}
+
+fn growths_of(alloc: Global, asked: Asked<'_>, right: Ending) -> Option<u64> {
+    for n in 1..100 {
+        match call_refused(alloc, n, asked, right) {
+            Some(None) => {}
+            Some(growths) => return growths,
+            None => return None,
+        }
+    }
     None
 }
 
@@ -143,31 +146,25 @@ fn call_refused(
 // answers the message, or the values. Bytes that are refused take no memory, and neither does copying no value.
 #[test]
 fn calls_with_each_growth_refused(rt: HostRuntime) {
-    for (call, bytes, numbers, right, least) in CALLED {
-        let limits = limits_of(&rt, *numbers);
+    for (row, (call, bytes, numbers, right, least)) in CALLED.iter().enumerate() {
+        let limits = limits_of(*numbers).expect(&rt, "limits in range");
         let call = *call;
         let asked = Asked {
             call,
             bytes,
             limits,
         };
-        let mut met = 0;
-        for n in 1..100 {
-            if let Some(growths) = call_refused(&rt, rt.alloc(), n, asked, *right) {
-                met = growths;
-                break;
-            }
-        }
-        let is_right = if *least == 0 { met == 0 } else { met >= *least };
-        assert!(rt; is_right, "{met}");
+        let met = growths_of(rt.alloc(), asked, *right);
+        let is_right = met == Some(*least) || *least > 0 && met > Some(*least);
+        assert!(rt; is_right, "at {row}: {met:?}");
     }
 }
 
 // The message that the bytes are.
-fn message_of<A: Allocator + Copy>(alloc: A, bytes: &[u8]) -> Result<Message<A>, Fail> {
-    match decode(alloc, bytes)? {
-        Answer::Whole { message, .. } => Ok(message),
-        Answer::Partial => Err(Fail::from("partial")),
+fn message_of<A: Allocator + Copy>(alloc: A, bytes: &[u8]) -> Option<Message<A>> {
+    match decode(alloc, bytes) {
+        Ok(Answer::Whole { message, .. }) => Some(message),
+        _ => None,
     }
 }
 
@@ -179,25 +176,20 @@ fn encoded<A: Allocator + Copy>(alloc: A, message: &Message<A>) -> Ending {
     }
 }
 
+// Whether encoding ends as it should with its allocation failing, and then again.
+fn encodes_again<'h>(heap: &'h Refusing, message: &Message<&'h Refusing>) -> bool {
+    heap.refuse_nth(1);
+    let first = (encoded(heap, message), heap.growths());
+    let again = (encoded(heap, message), heap.growths());
+    first == (Ending::WantsMemory, 1) && again == (Ending::Done, 2)
+}
+
 // Encoding takes memory once, before anything is written.
 #[test]
-fn encode_with_its_growth_refused(rt: HostRuntime) -> Result<(), Fail> {
+fn encode_with_its_growth_refused(rt: HostRuntime) {
     let heap = Refusing::none(rt.alloc());
-    let message = message_of(&heap, SIGNAL)?;
-    heap.refuse_nth(1);
-    ends(
-        &rt,
-        0,
-        (encoded(&heap, &message), heap.growths()),
-        (Ending::WantsMemory, 1),
-    );
-    ends(
-        &rt,
-        1,
-        (encoded(&heap, &message), heap.growths()),
-        (Ending::Done, 2),
-    );
-    Ok(())
+    let message = message_of(&heap, SIGNAL).expect(&rt, "a message");
+    assert!(rt; encodes_again(&heap, &message));
 }
 
 // How encoding into a vector ended, where the vector then holds these bytes.
@@ -213,37 +205,43 @@ fn encoded_into<A: Allocator>(out: &mut Vec<u8, A>, message: &Message<A>, wanted
 // How many bytes a vector holds that the signal is encoded into.
 const HELD: &[usize] = &[0, 1, 7, 95];
 
-// Encoding into a vector that holds so many bytes: with its allocation failing, again, and if there is room.
-fn encode_into_refused<'h>(
-    rt: &impl Abort,
+// Whether encoding into a vector that holds these bytes ends as it should: with its allocation failing, again, and if there is room.
+fn encodes_into<'h>(
     heap: &'h Refusing,
+    out: &mut Vec<u8, &'h Refusing>,
     message: &Message<&'h Refusing>,
-    count: usize,
-) -> Result<(), Fail> {
-    let held = vec![in heap; 0x2a; count]?;
-    let mut out = Vec::from_slice(heap, &held)?;
+    held: &[u8],
+) -> bool {
     heap.refuse_nth(1);
-    let ended = encoded_into(&mut out, message, &held);
-    ends(rt, count, (ended, heap.growths()), (Ending::WantsMemory, 1));
-    let ended = encoded_into(&mut out, message, SIGNAL);
-    ends(rt, count, (ended, heap.growths()), (Ending::Done, 2));
+    let first = (encoded_into(out, message, held), heap.growths());
+    let again = (encoded_into(out, message, SIGNAL), heap.growths());
     heap.refuse_from_nth(1);
-    let ended = encoded_into(&mut out, message, SIGNAL);
-    ends(rt, count, (ended, heap.growths()), (Ending::Done, 0));
+    let last = (encoded_into(out, message, SIGNAL), heap.growths());
     heap.refuse_none();
-    Ok(())
+    first == (Ending::WantsMemory, 1) && again == (Ending::Done, 2) && last == (Ending::Done, 0)
+}
+
+// The same with a vector that holds so many.
+fn encodes_into_held<'h>(heap: &'h Refusing, message: &Message<&'h Refusing>, held: &[u8]) -> bool {
+    match Vec::from_slice(heap, held) {
+        Ok(mut out) => encodes_into(heap, &mut out, message, held),
+        Err(_) => false,
+    }
 }
 
 // If the vector has too little room one allocation is asked for. If that fails the vector holds what it held, and
 // the same call made again encodes. If there is room no allocation is asked for.
 #[test]
-fn encode_into_with_its_growth_refused(rt: HostRuntime) -> Result<(), Fail> {
+fn encode_into_with_its_growth_refused(rt: HostRuntime) {
     let heap = Refusing::none(rt.alloc());
-    let message = message_of(&heap, SIGNAL)?;
+    let message = message_of(&heap, SIGNAL).expect(&rt, "a message");
     for count in HELD {
-        encode_into_refused(&rt, &heap, &message, *count)?;
+        let held = [0x2a; 95];
+        assert!(rt;
+            encodes_into_held(&heap, &message, &held[..*count]),
+            "{count}"
+        );
     }
-    Ok(())
 }
 
 // Parts of a message of type 5: a field of an unknown code, the signature `ayv`, and two values, whose types have to be
@@ -326,7 +324,7 @@ const BUILT: &[(&[u8], Change, Numbers, Ending)] = &[
 ];
 
 // A number in so many variants.
-fn nested<A: Allocator + Copy>(alloc: A, count: usize) -> Result<Value<A>, Fail> {
+fn nested<A: Allocator + Copy>(alloc: A, count: usize) -> Result<Value<A>, AllocError> {
     let mut value = Value::U32(7);
     for _ in 0..count {
         value = Value::Variant(Box::new(alloc, value)?);
@@ -345,7 +343,7 @@ fn change_parts<A: Allocator + Copy>(
     alloc: A,
     parts: &mut Parts<A>,
     change: Change,
-) -> Result<(), Fail> {
+) -> Result<(), AllocError> {
     match change {
         Change::Nothing => {}
         Change::LastValue => drop(parts.body.pop()),
@@ -367,10 +365,15 @@ fn change_parts<A: Allocator + Copy>(
     Ok(())
 }
 
-fn parts_of<A: Allocator + Copy>(alloc: A, bytes: &[u8], change: Change) -> Result<Parts<A>, Fail> {
-    let mut parts = message_of(alloc, bytes)?.into_parts();
-    change_parts(alloc, &mut parts, change)?;
-    Ok(parts)
+fn parts_of<A: Allocator + Copy>(alloc: A, bytes: &[u8], change: Change) -> Option<Parts<A>> {
+    let Some(message) = message_of(alloc, bytes) else {
+        return None;
+    };
+    let mut parts = message.into_parts();
+    match change_parts(alloc, &mut parts, change) {
+        Ok(()) => Some(parts),
+        Err(_) => None,
+    }
 }
 
 // A message made of its parts under limits, by the call without them if they are the specification's.
@@ -386,36 +389,48 @@ fn made<A: Allocator + Copy>(
     }
 }
 
-// How making a message ended that was made: it is that of the bytes.
-fn made_as<A: Allocator + Copy>(
+// How making a message ended: one that was made is that of the bytes.
+fn making_ended<A: Allocator + Copy>(
     alloc: A,
-    message: &Message<A>,
+    made: &Result<Message<A>, (Parts<A>, BuildFault)>,
     bytes: &[u8],
-) -> Result<Ending, Fail> {
-    let made = encode(alloc, message, Order::Little)?;
-    Ok(if made.as_slice() == bytes {
-        Ending::Done
-    } else {
-        Ending::Other
-    })
+) -> Ending {
+    let Ok(message) = made else {
+        return match made {
+            Err((_, fault)) => Ending::Unbuilt(*fault),
+            Ok(_) => Ending::Other,
+        };
+    };
+    match encode(alloc, message, Order::Little) {
+        Ok(made) if made.as_slice() == bytes => Ending::Done,
+        _ => Ending::Other,
+    }
+}
+
+// How making a message of changed parts ended with its first allocation failing, and how many it asked for.
+fn new_refused<'h>(
+    heap: &'h Refusing,
+    bytes: &[u8],
+    change: Change,
+    limits: Limits,
+) -> Option<(Ending, u64)> {
+    let Some(parts) = parts_of(heap, bytes, change) else {
+        return None;
+    };
+    heap.refuse_nth(1);
+    let made = made(heap, parts, limits);
+    let growths = heap.growths();
+    heap.refuse_none();
+    Some((making_ended(heap, &made, bytes), growths))
 }
 
 // Making a message of its parts takes no memory, however it ends: with the first allocation failing none is asked for.
 #[test]
-fn new_takes_no_memory(rt: HostRuntime) -> Result<(), Fail> {
+fn new_takes_no_memory(rt: HostRuntime) {
     for (n, (bytes, change, numbers, right)) in BUILT.iter().enumerate() {
         let heap = Refusing::none(rt.alloc());
-        let parts = parts_of(&heap, bytes, *change)?;
-        heap.refuse_nth(1);
-        let answer = made(&heap, parts, limits_of(&rt, *numbers));
-        let growths = heap.growths();
-        heap.refuse_none();
-        let ended = match answer {
-            Ok(message) => made_as(&heap, &message, bytes)?,
-            Err((_parts, fault)) => Ending::Unbuilt(fault),
-        };
-        ends(&rt, n, (ended, growths), (*right, 0));
-        ends(&rt, n, (ended, heap.blocks()), (*right, 0));
+        let limits = limits_of(*numbers).expect(&rt, "limits in range");
+        let ended = new_refused(&heap, bytes, *change, limits);
+        assert!(rt; ended == Some((*right, 0)) && heap.blocks() == 0, "at {n}");
     }
-    Ok(())
 }
