@@ -20,7 +20,7 @@ CLAUSE = re.compile(r"\s+(ensures|requires|decreases)\b")
 SILENT = re.compile(r"\s*(//|use |$)")
 IMPORT = re.compile(r"\bRattle\.(\w+)\.specs\.(\w+)")
 WORD = re.compile(r"\w+")
-COMMENT = re.compile(r"^\s*(//|--).*\n", re.M)
+COMMENT = re.compile(r"^ *(//|--).*\n", re.M)
 DECLARES = re.compile(r"(pub (?:struct|enum|trait|type|const|static)|(?:unsafe )?impl)\b")
 
 # Of a source file: its library and those that it names; what stands outside of functions, with the methods of traits; the words by which that is
