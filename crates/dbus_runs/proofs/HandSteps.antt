@@ -25,12 +25,13 @@ use Rattle.dbus_stream.specs.declared.read_fault.ReadFault.TheVariants as read
 use Rattle.dbus_report.specs.declared.ending.Cause.{Cause}
 use Rattle.dbus_report.specs.declared.ending.Cause.TheVariants.{Memory, ReadFailed, WriteFailed, TooManyReads}
 use Rattle.dbus_runs.specs.Counting.{ended_by, stopped_by}
-use Rattle.dbus_runs.specs.Handing.{GivesNext}
+use Rattle.dbus_runs.specs.Handing.{GivesNext, Stays}
 use Rattle.dbus_runs.specs.Onward.{AreAll, HasRead, HandsAllOn, HandsSomeOn, HandsOn, RawHandsOn, StopsFor}
 use Rattle.dbus_runs.specs.Visiting.{AddsUp, HasKept, HasLetGo, TakesOne}
 use Rattle.dbus_runs.specs.declared.counted.Counted.{Counted}
 use Rattle.dbus_runs.specs.declared.counted.NoMessage.{NoMessage}
 use Rattle.dbus_runs.specs.declared.counted.NoMessage.TheVariants.{Reader as FromReader, Writer}
+use Rattle.dbus_stream.proofs.RawSteps.{starts, unread}
 use Rattle.dbus_runs.proofs.LentSteps.{lent_size, lent_whole}
 use Rattle.dbus_runs.proofs.ReadSteps.{read_none, read_more, read_message, sizes-last, length-last}
 
@@ -198,33 +199,49 @@ module _ {R T B G S : Type 0} {b : Ghosts B} {k : Taking T G} {left : R → Opti
 -- a reader of raw messages
 module _ {R A S : Type 0} {left : R → Option (List ℕ)} {calls failures : R → ℕ} {takes : S → (n offset : ℕ) → List CutMessage → S → Type 0}
     {leaves : S → (n offset : ℕ) → List CutMessage → Cause → S → Type 0} {settled : S → Type 0} (laws : AddsUp takes leaves settled) {limits : Limits} {before : ℕ} where
+  -- so it is if the reader looks at what it keeps
+  pub still : {count : ℕ} {s0 s1 : S} (old mid from : RawReader R A) → HasHanded gathering left calls failures takes limits (kept old) before count old.reader mid.reader (kept mid) s0 s1 → Stays mid from
+      → HasHanded gathering left calls failures takes limits (kept old) before count old.reader from.reader (kept from) s0 s1
+  still old mid from h s =
+      let read = read_more gathering left calls limits (kept old) old.reader mid.reader from.reader h.items (kept mid) h.read (unread left calls mid mid from (starts left calls mid) s.unread) in
+      record {
+        items = h.items;
+        read = subst (λ (l : List ℕ). HasRead gathering left calls limits (kept old) old.reader from.reader h.items l) (append-nil (kept mid) ∙ sym s.kept_is) read;
+        done = s.done ∙ h.done;
+        unstopped = s.unstopped;
+        failed = ap failures s.unread.source ∙ h.failed;
+        count_is = h.count_is;
+        taken = h.taken;
+      }
+
   module _ {count : ℕ} (old mid : RawReader R A) {s0 s1 : S} (h : HasHanded gathering left calls failures takes limits (kept old) before count old.reader mid.reader (kept mid) s0 s1)
       (new : RawReader R A) (s2 : S) where
-    faults : (w : List ℕ) (fault : ReadFault) → Advances w mid new (Err fault) → Faults gathering w mid.reader new.reader fault
-    faults w read.Memory a = tt
-    faults w (read.Format fault) a = (a.0.done, a.2)
-    faults w read.Device a = a.2
-    faults w read.TooManyReads a = (a.2, a.3)
+    faults : (w : List ℕ) (fault : ReadFault) (from : RawReader R A) → Advances w from new (Err fault) → Faults gathering w from.reader new.reader fault
+    faults w read.Memory from a = tt
+    faults w (read.Format fault) from a = (a.0.done, a.2)
+    faults w read.Device from a = a.2
+    faults w read.TooManyReads from a = (a.2, a.3)
+
+    abbrev Given : NoMessage → Type 0
+    Given stop = GivesNext left calls failures takes leaves settled mid new s1 s2 (Err stop)
 
     -- there is no next message
-    faulted : (fault : ReadFault) (given : GivesNext left calls failures takes leaves settled mid new s1 s2 (Err (FromReader fault)))
-        → HandsOn gathering left calls limits (kept old) failures takes leaves before old.reader new.reader s0 s2 (ended_by count (raw.done_of new) fault)
-    faulted fault given = hands_faulted laws h given.0 given.3 fault (faults (kept mid ++ given.0.bytes) fault given.1) given.2 given.4
+    faulted : (fault : ReadFault) (given : Given (FromReader fault)) → HandsOn gathering left calls limits (kept old) failures takes leaves before old.reader new.reader s0 s2 (ended_by count (raw.done_of new) fault)
+    faulted fault (from, there, (r, a, counts, go, rests)) = hands_faulted laws (still old mid from h there) r go fault (faults (kept from ++ r.bytes) fault from a) counts rests
 
     -- the visitor holds nothing back, unless a write failed
-    pub settled_last : (stop : NoMessage) → GivesNext left calls failures takes leaves settled mid new s1 s2 (Err stop) → IfOk (stopped_by count (raw.done_of new) stop) (λ _. settled s2)
-    settled_last (FromReader (read.Format fault)) given = given.4
+    pub settled_last : (stop : NoMessage) → Given stop → IfOk (stopped_by count (raw.done_of new) stop) (λ _. settled s2)
+    settled_last (FromReader (read.Format fault)) (from, there, (r, a, counts, go, rests)) = rests
     settled_last (FromReader read.Memory) given = tt
     settled_last (FromReader read.Device) given = tt
     settled_last (FromReader read.TooManyReads) given = tt
     settled_last Writer given = tt
 
-    pub hands_stopped : (stop : NoMessage) → GivesNext left calls failures takes leaves settled mid new s1 s2 (Err stop)
-        → RawHandsOn left calls failures takes leaves limits before old new s0 s2 (stopped_by count (raw.done_of new) stop)
-    hands_stopped (FromReader (read.Format fault)) given =
-        let a = hands_refused laws h given.0 given.3 fault (faults (kept mid ++ given.0.bytes) (read.Format fault) given.1) given.2 in
-        record { all = a.0; kept = given.1.0.kept ∙ sym a.1; stopped = given.1.1 }
+    pub hands_stopped : (stop : NoMessage) → Given stop → RawHandsOn left calls failures takes leaves limits before old new s0 s2 (stopped_by count (raw.done_of new) stop)
+    hands_stopped (FromReader (read.Format fault)) (from, there, (r, a, same, go, rests)) =
+        let all = hands_refused laws (still old mid from h there) r go fault (faults (kept from ++ r.bytes) (read.Format fault) from a) same in
+        record { all = all.0; kept = a.0.kept ∙ sym all.1; stopped = a.1 }
     hands_stopped (FromReader read.Memory) given = faulted read.Memory given
     hands_stopped (FromReader read.Device) given = faulted read.Device given
     hands_stopped (FromReader read.TooManyReads) given = faulted read.TooManyReads given
-    hands_stopped Writer given = hands_unwritten laws h given.0 given.1 given.2
+    hands_stopped Writer (from, there, (r, back, same)) = hands_unwritten laws (still old mid from h there) r back same

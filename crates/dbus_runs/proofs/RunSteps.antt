@@ -1,6 +1,6 @@
 -- How a run ends that neither explains refused messages nor passes over them, of a command that tells the second writer. What it promises by parts
 -- is said of messages here.
-use Rattle.std.proofs.Common.{◌≡◌, ◌≢◌, ℕ, ◌+◌, List, [], ◌∷◌, ◌++◌, false, None, Some, Ok, Err, Option, Result, length, drop, refl, sym, ap, ◌∙◌, subst, append-nil, inl, inr}
+use Rattle.std.proofs.Common.{◌≡◌, ◌≢◌, ℕ, ◌+◌, List, [], ◌∷◌, ◌++◌, false, None, Some, Option, length, drop, refl, sym, ap, ◌∙◌, subst, append-nil, inl, inr}
 use Rattle.std.proofs.lemmas.Bool.{false≢true}
 use Rattle.std.specs.List.{concat}
 use Rattle.dbus_value_model.specs.declared.fault.Fault.{Fault}
@@ -10,7 +10,6 @@ use Rattle.dbus_device.specs.Write.{Wrote, Stopped}
 use Rattle.dbus_stream.specs.Cut.{CutMessage, BeginWith, CutOutcome, Ended, Unfinished, Refused, IsOutcome, IsCut}
 use Rattle.dbus_stream.specs.CutEnds.{fault_at_end, sizes}
 use Rattle.dbus_stream.proofs.CutLaws.{BeginWith-first}
-use Rattle.dbus_command.specs.declared.settings.Settings.{Settings}
 use Rattle.dbus_match.specs.Matching.{Ownership}
 use Rattle.dbus_command.specs.declared.command.Command.{Command}
 use Rattle.dbus_command.specs.declared.command.Command.TheVariants.{Show, Json, Check, Swap, Filter}
@@ -19,7 +18,7 @@ use Rattle.dbus_report.specs.Devices.{Taken, reading, taken, writing}
 use Rattle.dbus_runs.specs.Going.{first_of, second_of, is_check, GoesThrough, IsThrough, RunsWith, StopsAtFault, StopsWithin, IsAllOf, TellsStop}
 use Rattle.dbus_report.specs.Gathering.{Breaks, IsPrefixTo}
 use Rattle.dbus_report.specs.Lines.{cause_line}
-use Rattle.dbus_runs.specs.Output.{IsFront, IsOutputOfAll, fault_line, last_line, owners_known, second_output, status_of}
+use Rattle.dbus_runs.specs.Output.{IsFront, IsOutputOfAll, fault_line, owners_known, second_output}
 use Rattle.dbus_runs.specs.Parts.{closing_line, status_at, Part, Whole, PassedOver, sizes_of, BeginWithParts, IsLast, AreMade, AreTold, IsToldLast, owners_past}
 use Rattle.dbus_runs.specs.Running.{Runs, plain}
 use Rattle.dbus_report.specs.Failing.{Told}

@@ -6,8 +6,8 @@ use Rattle.dbus_message_model.specs.Messages.{MessageTree}
 use Rattle.dbus_validate.specs.declared.validating.Validated.{Validated}
 use Rattle.dbus_stream.specs.Cut.{CutMessage}
 use Rattle.dbus_stream.specs.Next.{DeviceCounts}
-use Rattle.dbus_stream.specs.RawNext.{Reads, Advances}
-use Rattle.dbus_stream.specs.RawReading.{kept, source_of}
+use Rattle.dbus_stream.specs.RawNext.{Reads, Advances, ReadsNothing}
+use Rattle.dbus_stream.specs.RawReading.{done_of, kept, source_of, stopped_of}
 use Rattle.dbus_stream.specs.declared.raw_reader.RawReader.{RawReader}
 use Rattle.dbus_json.specs.JsonMessages.{IsJsonLine}
 use Rattle.dbus_match.specs.declared.owner.Owner.{Owner}
@@ -48,13 +48,23 @@ abbrev pub HandsOne : {W : Type 0} → Writing W → Command → (old new : Carr
 HandsOne w command old new order message place g0 g1 result = (texts : List (List ℕ)) × IsOutputOf command (owners_known command old.owners) order message place.number place.offset texts
     × IfOk result (λ _. GoesOnAfter command message texts old new) × GathersOrNot w.held w.failures (written old.window texts) g0 g1 w.old w.new result
 
-module _ {R S : Type 0} (left : R → Option (List ℕ)) (calls read_failures : R → ℕ) (takes : S → (n offset : ℕ) → List CutMessage → S → Type 0)
+-- a reader stands where it stood, and may have looked at what it keeps
+pub record Stays {R A : Type 0} (old now : RawReader R A) : Type 0 where
+  pub unread : ReadsNothing old now
+  pub kept_is : kept now ≡ kept old
+  pub done : done_of now ≡ done_of old
+  pub unstopped : stopped_of now ≡ None
+
+module _ {R S : Type 0} (left : R → Option (List ℕ)) (calls failures : R → ℕ) (takes : S → (n offset : ℕ) → List CutMessage → S → Type 0)
     (leaves : S → (n offset : ℕ) → List CutMessage → Cause → S → Type 0) (settled : S → Type 0) where
   -- what a reader validates of its next message, which it lends. A visitor let go of what it held back
   -- before a read, and if there is no next message
+  abbrev pub GivesFrom : {A : Type 0} → RawReader R A → RawReader R A → S → S → Result (Option Validated) NoMessage → Type 0
+  GivesFrom from new s0 s1 (Ok validated) = (r : Reads left calls from new) × Advances (kept from ++ r.bytes) from new (Ok validated)
+      × (failures (source_of new) ≡ failures (source_of from)) × HasLetGo takes leaves s0 s1 × (validated ≡ None → settled s1)
+  GivesFrom from new s0 s1 (Err (Reader fault)) = (r : Reads left calls from new) × Advances (kept from ++ r.bytes) from new (Err fault)
+      × DeviceCounts {T = Option Validated} (failures (source_of from)) (failures (source_of new)) (Err fault) × HasLetGo takes leaves s0 s1 × settled s1
+  GivesFrom from new s0 s1 (Err Writer) = Reads left calls from new × HasKept takes leaves s0 s1 × (failures (source_of new) ≡ failures (source_of from))
+
   abbrev pub GivesNext : {A : Type 0} → RawReader R A → RawReader R A → S → S → Result (Option Validated) NoMessage → Type 0
-  GivesNext old new s0 s1 (Ok validated) = (r : Reads left calls old new) × Advances (kept old ++ r.bytes) old new (Ok validated)
-      × (read_failures (source_of new) ≡ read_failures (source_of old)) × HasLetGo takes leaves s0 s1 × (validated ≡ None → settled s1)
-  GivesNext old new s0 s1 (Err (Reader fault)) = (r : Reads left calls old new) × Advances (kept old ++ r.bytes) old new (Err fault)
-      × DeviceCounts {T = Option Validated} (read_failures (source_of old)) (read_failures (source_of new)) (Err fault) × HasLetGo takes leaves s0 s1 × settled s1
-  GivesNext old new s0 s1 (Err Writer) = Reads left calls old new × HasKept takes leaves s0 s1 × (read_failures (source_of new) ≡ read_failures (source_of old))
+  GivesNext {A} old new s0 s1 result = (from : RawReader R A) × Stays old from × GivesFrom from new s0 s1 result
