@@ -9,9 +9,8 @@ ghost use Rattle.dbus_json.specs.FormLaws.{whole_json};
 use crate::doubles::write_double;
 use crate::texts::write_string;
 use dbus_show::{Draft, write_hex};
-use dbus_value_model::Order;
 use dbus_value_text::{ValueForm, write_number_at, write_types};
-use dbus_walk::Container;
+use dbus_walk::{Container, Source};
 
 /// Values as JSON.
 pub(crate) struct Json;
@@ -26,11 +25,11 @@ impl ValueForm for Json {
     ghost separator_text = { codes "," };
 
     #[inline]
-    fn number<D: Draft>(draft: &mut D, bytes: &[u8], at: usize, order: Order, code: u8) {
+    fn number<D: Draft>(draft: &mut D, source: &Source<'_>, at: usize, code: u8) {
         if code == b'd' {
-            write_double(draft, order.u64_at(bytes, at));
+            write_double(draft, source.order.u64_at(source.bytes, at));
         } else {
-            write_number_at(draft, bytes, at, order, code);
+            write_number_at(draft, source.bytes, at, source.order, code);
         }
     }
 

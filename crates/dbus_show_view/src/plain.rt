@@ -7,9 +7,8 @@ ghost use Rattle.dbus_show_view.specs.Plain.{open_text, close_text};
 ghost use Rattle.dbus_show_view.specs.PlainLaws.{whole_text};
 
 use dbus_show::{Draft, write_hex, write_quoted};
-use dbus_value_model::Order;
 use dbus_value_text::{ValueForm, write_number_at, write_types};
-use dbus_walk::Container;
+use dbus_walk::{Container, Source};
 
 /// Values as text for a reader.
 pub(crate) struct Plain;
@@ -24,10 +23,10 @@ impl ValueForm for Plain {
     ghost separator_text = { codes ", " };
 
     #[inline]
-    fn number<D: Draft>(draft: &mut D, bytes: &[u8], at: usize, order: Order, code: u8) {
+    fn number<D: Draft>(draft: &mut D, source: &Source<'_>, at: usize, code: u8) {
         draft.push_code(code);
         draft.push_code(b':');
-        write_number_at(draft, bytes, at, order, code);
+        write_number_at(draft, source.bytes, at, source.order, code);
     }
 
     #[inline]

@@ -48,7 +48,7 @@ impl<D: Draft, F: ValueForm> Visitor for Writer<'_, D, F> {
         start: usize,
         _size: u8,
     ) -> Result<(), Infallible> {
-        F::number(self.draft, source.bytes, start, source.order, spot.types[0]);
+        F::number(self.draft, source, start, spot.types[0]);
         Ok(())
     }
 

@@ -17,12 +17,12 @@ returns-then-code-eq100 g c = record {
       let is : k ≡ DOUBLE = double_code k (e ∙ c.if-code-eq100.true) in
       let w = c.write_double.ensures in
       let bits = subst (λ (n : ℕ). IsDouble n w.0) c.u64_at.ensures.spelled w.1 in
-      (w.0, subst (λ (j : NumberCode). IsNumber j (number_of c.args.order (take (width j) (drop c.args.at c.args.bytes.now))) w.0) (sym is) bits, w.2);
+      (w.0, subst (λ (j : NumberCode). IsNumber j (number_of c.args.source.now.order (take (width j) (drop c.args.at c.args.source.now.bytes.now))) w.0) (sym is) bits, w.2);
 }
 
 pub returns-else-code-eq100 : goal.returns-else-code-eq100
 returns-else-code-eq100 g c = record {
   written = λ k e.
-      let n = number_of c.args.order (take (width k) (drop c.args.at c.args.bytes.now)) in
+      let n = number_of c.args.source.now.order (take (width k) (drop c.args.at c.args.source.now.bytes.now)) in
       (number_text k n, shown_number k n (λ is. c.if-code-eq100.false (sym e ∙ is)), c.write_number_at.ensures k e);
 }
