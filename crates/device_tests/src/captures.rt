@@ -1,7 +1,6 @@
 //! Messages of the wire format, byte by byte, and the texts that show them.
 
-use std::alloc::Global;
-use std::test::Fail;
+use std::alloc::{AllocError, Global};
 
 /// A method return with the serial 1, for the call 1, in Little and in Big.
 pub(crate) const RETURN: &[u8] =
@@ -52,7 +51,7 @@ pub(crate) const LONG_HEADER: &[u8] =
     b"\x6c\x02\x00\x01\x8c\x13\x00\x00\x01\x00\x00\x00\x10\x00\x00\x00\x05\x01\x75\x00\x01\x00\x00\x00\x08\x01\x67\x00\x02\x61\x79\x00\x88\x13\x00\x00";
 
 /// Bytes one after the other.
-pub(crate) fn joined(alloc: Global, parts: &[&[u8]]) -> Result<Vec<u8>, Fail> {
+pub(crate) fn joined(alloc: Global, parts: &[&[u8]]) -> Result<Vec<u8>, AllocError> {
     let mut all = Vec::new(alloc);
     for part in parts {
         all.extend_from_slice(part)?;

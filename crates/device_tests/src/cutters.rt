@@ -5,27 +5,25 @@ use crate::spelling::is_spelled;
 use dbus_stream::{Cutter, StreamFault};
 use dbus_value::{Fault, Reason};
 use refusing_alloc::Refusing;
-use std::alloc::Allocator;
-use std::process::Abort;
+use std::alloc::{Allocator, Global};
 use std::test::Fail;
 
-// Of this piece the cutter takes so many bytes, gives the message that these bytes spell in its order, or none where they
+// Whether of this piece the cutter takes so many bytes, gives the message that these bytes spell in its order, or none if they
 // are none, and holds so many bytes then.
 fn takes<A: Allocator + Copy>(
-    rt: &impl Abort,
     alloc: A,
     cutter: &mut Cutter<A>,
     piece: &[u8],
     count: usize,
     message: &[u8],
     held: usize,
-) -> Result<(), Fail> {
-    let Ok((taken, given)) = cutter.take(piece) else {
-        panic!(rt; "refused at {count}");
-    };
-    assert_eq!(rt; [taken, cutter.held()], [count, held], "at {count}");
-    assert!(rt; is_spelled(alloc, given, message)?, "at {count}");
-    Ok(())
+) -> bool {
+    match cutter.take(piece) {
+        Ok((taken, given)) => {
+            is_spelled(alloc, given, message) && taken == count && cutter.held() == held
+        }
+        Err(_) => false,
+    }
 }
 
 // Whether the cutter gives a message of the rest of the signal; whether it is refused memory; and whether it then holds what
@@ -39,137 +37,123 @@ fn answer_of<A: Allocator + Copy>(cutter: &mut Cutter<A>, rest: &[u8]) -> [bool;
     [gives, refused, cutter.held() == 50]
 }
 
-// The signal in two pieces. If the allocation of this number fails, the cutter is as it was, and answers the same piece as if nothing had
-// happened. If there are fewer allocations, how many there are.
-fn take_refused(
-    rt: &(impl Abort + AllocGlobal),
-    front: &[u8],
-    rest: &[u8],
-    n: u64,
-) -> Result<Option<u64>, Fail> {
-    let heap = Refusing::none(rt.alloc());
-    let mut cutter = Cutter::new(&heap);
-    takes(rt, &heap, &mut cutter, front, 50, b"", 50)?;
+// The signal in two pieces. Whether the allocation of this number fails: then the cutter is as it was, and answers the same piece as if
+// nothing had happened. Nothing if it is not so.
+fn take_refused<'a>(heap: &'a Refusing, n: u64) -> Option<bool> {
+    let (front, rest) = SIGNAL.split_at(50);
+    let mut cutter = Cutter::new(heap);
+    if !takes(heap, &mut cutter, front, 50, b"", 50) {
+        return None;
+    }
     heap.refuse_nth(n);
     let answer = answer_of(&mut cutter, rest);
     let refused = heap.refusals() == 1;
-    assert_eq!(rt; answer, [!refused, refused, refused], "at {n}");
-    if !refused {
-        return Ok(Some(heap.growths()));
+    if answer != [!refused, refused, refused] {
+        return None;
     }
-    takes(rt, &heap, &mut cutter, rest, 46, SIGNAL, 0)?;
-    drop(cutter);
-    assert_eq!(rt; heap.blocks(), 0, "at {n}");
-    Ok(None)
+    if refused && !takes(heap, &mut cutter, rest, 46, SIGNAL, 0) {
+        return None;
+    }
+    Some(refused)
+}
+
+// How many allocations the second piece takes.
+fn growths_of_take(alloc: Global) -> Option<u64> {
+    for n in 1..100 {
+        let heap = Refusing::none(alloc);
+        let refused = take_refused(&heap, n);
+        if refused == Some(false) {
+            return Some(n - 1);
+        }
+        if refused.is_none() || heap.blocks() != 0 {
+            return None;
+        }
+    }
+    None
 }
 
 #[test]
-fn take_with_each_growth_refused(rt: HostRuntime) -> Result<(), Fail> {
-    let (front, rest) = SIGNAL.split_at(50);
-    for n in 1..100 {
-        if let Some(met) = take_refused(&rt, front, rest, n)? {
-            assert!(rt; met > 5, "{met}");
-            return Ok(());
-        }
-    }
-    panic!(rt; "each growth is refused")
+fn take_with_each_growth_refused(rt: HostRuntime) {
+    assert!(rt; growths_of_take(rt.alloc()) > Some(5));
 }
 
-// Of this piece the cutter takes all and gives no message; it holds so many bytes then, and asked for one allocation at most.
+// Whether of this piece the cutter takes all and gives no message; it holds so many bytes then, and asked for one allocation at most.
 fn takes_by_one_growth<'a>(
-    rt: &impl Abort,
     heap: &'a Refusing,
     cutter: &mut Cutter<&'a Refusing>,
     piece: &[u8],
     held: usize,
-) -> Result<(), Fail> {
+) -> bool {
     heap.refuse_from_nth(2);
-    takes(rt, heap, cutter, piece, piece.len(), b"", held)?;
-    assert!(rt; heap.growths() <= 1, "at {held}");
-    Ok(())
+    takes(heap, cutter, piece, piece.len(), b"", held) && heap.growths() <= 1
 }
 
-// All bytes of the signal but the last, in every split in two.
-#[test]
-fn a_piece_within_a_message_takes_one_growth(rt: HostRuntime) -> Result<(), Fail> {
+// The same of all bytes of the signal but the last, with so many in the first of two pieces.
+fn takes_both<'a>(heap: &'a Refusing, n: usize) -> bool {
+    let mut cutter = Cutter::new(heap);
     let (most, _) = SIGNAL.split_at(95);
-    for n in 0..most.len() {
-        let heap = Refusing::none(rt.alloc());
-        let mut cutter = Cutter::new(&heap);
-        let (front, rest) = most.split_at(n);
-        takes_by_one_growth(&rt, &heap, &mut cutter, front, n)?;
-        takes_by_one_growth(&rt, &heap, &mut cutter, rest, 95)?;
-    }
-    Ok(())
+    let (front, rest) = most.split_at(n.min(most.len()));
+    takes_by_one_growth(heap, &mut cutter, front, n)
+        && takes_by_one_growth(heap, &mut cutter, rest, 95)
 }
 
-// The call with this piece, made again and again, each time with its next allocation failing: each is refused memory and changes
+#[test]
+fn a_piece_within_a_message_takes_one_growth(rt: HostRuntime) {
+    for n in 0..95 {
+        let heap = Refusing::none(rt.alloc());
+        assert!(rt; takes_both(&heap, n), "at {n}");
+    }
+}
+
+// The call with this piece, made again and again, each time with its next allocation failing: whether each is refused memory and changes
 // nothing that is held, and the one that meets no refusal takes so many bytes and gives this message, or none.
 fn takes_in_the_end<'a>(
-    rt: &impl Abort,
     heap: &'a Refusing,
     cutter: &mut Cutter<&'a Refusing>,
     piece: &[u8],
     count: usize,
     message: &[u8],
-) -> Result<(), Fail> {
+) -> bool {
     let before = cutter.held();
     for n in 1..100 {
         heap.refuse_nth(n);
         match cutter.take(piece) {
-            Err(StreamFault::Memory) => {
-                assert_eq!(rt; heap.refusals(), 1, "at {n}");
-                assert_eq!(rt; cutter.held(), before, "at {n}");
-            }
             Ok((taken, given)) => {
-                assert_eq!(rt; heap.refusals(), 0, "at {n}");
-                assert_eq!(rt; taken, count, "at {n}");
+                let refusals = heap.refusals();
                 heap.refuse_none();
-                assert!(rt; is_spelled(heap, given, message)?, "at {n}");
-                return Ok(());
+                return is_spelled(heap, given, message) && taken == count && refusals == 0;
             }
-            Err(StreamFault::Format(fault)) => panic!(rt; "{fault:?} at {n}"),
+            Err(fault) => {
+                if fault != StreamFault::Memory || heap.refusals() != 1 || cutter.held() != before {
+                    return false;
+                }
+            }
         }
     }
-    panic!(rt; "each growth is refused")
+    false
+}
+
+// Whether the signal comes in pieces of this size.
+fn comes_in<'a>(heap: &'a Refusing, size: usize) -> bool {
+    let mut cutter = Cutter::new(heap);
+    let mut left = SIGNAL.len();
+    for piece in SIGNAL.chunks(size.max(1)) {
+        left = left.saturating_sub(piece.len());
+        let message = if left == 0 { SIGNAL } else { b"".as_slice() };
+        if !takes_in_the_end(heap, &mut cutter, piece, piece.len(), message) {
+            return false;
+        }
+    }
+    cutter.held() == 0
 }
 
 // The signal in pieces of each size, with each allocation of each call failing, also those that decode it at its end.
 #[test]
-fn a_call_that_is_refused_memory_is_made_again(rt: HostRuntime) -> Result<(), Fail> {
-    for size in 1..97usize {
+fn a_call_that_is_refused_memory_is_made_again(rt: HostRuntime) {
+    for size in 1..97 {
         let heap = Refusing::none(rt.alloc());
-        let mut cutter = Cutter::new(&heap);
-        let mut left = SIGNAL.len();
-        for piece in SIGNAL.chunks(size) {
-            left = left.saturating_sub(piece.len());
-            let message = if left == 0 { SIGNAL } else { b"".as_slice() };
-            takes_in_the_end(&rt, &heap, &mut cutter, piece, piece.len(), message)?;
-        }
-        assert_eq!(rt; cutter.held(), 0, "at {size}");
+        assert!(rt; comes_in(&heap, size), "at {size}");
     }
-    Ok(())
-}
-
-// A fault is answered with each allocation failing too, in every split in two, and stays.
-#[test]
-fn a_fault_never_becomes_want_of_memory(rt: HostRuntime) -> Result<(), Fail> {
-    let fault = StreamFault::Format(Fault {
-        at: 16,
-        reason: Reason::FieldMissing(5),
-    });
-    for n in 0..BARE.len() {
-        let heap = Refusing::none(rt.alloc());
-        let mut cutter = Cutter::new(&heap);
-        let (front, rest) = BARE.split_at(n);
-        takes(&rt, &heap, &mut cutter, front, n, b"", n)?;
-        heap.refuse_from_nth(1);
-        for piece in [rest, rest, b"", RETURN] {
-            assert!(rt; is_fault(&mut cutter, piece, fault), "at {n}");
-        }
-        assert_eq!(rt; heap.growths(), 0, "at {n}");
-    }
-    Ok(())
 }
 
 // Whether the cutter answers this fault.
@@ -177,18 +161,50 @@ fn is_fault<A: Allocator + Copy>(cutter: &mut Cutter<A>, piece: &[u8], fault: St
     matches!(cutter.take(piece), Err(found) if found == fault)
 }
 
-// A reply followed by its first bytes, as one piece and then what was left of it, with each allocation of each call failing.
+// Whether a fault is answered and stays, with so many bytes in the first of two pieces.
+fn is_at_fault<'a>(heap: &'a Refusing, n: usize) -> bool {
+    let fault = StreamFault::Format(Fault {
+        at: 16,
+        reason: Reason::FieldMissing(5),
+    });
+    let mut cutter = Cutter::new(heap);
+    let (front, rest) = BARE.split_at(n.min(BARE.len()));
+    let takes = takes(heap, &mut cutter, front, n, b"", n);
+    heap.refuse_from_nth(1);
+    takes
+        && is_fault(&mut cutter, rest, fault)
+        && is_fault(&mut cutter, rest, fault)
+        && is_fault(&mut cutter, b"", fault)
+        && is_fault(&mut cutter, RETURN, fault)
+        && heap.growths() == 0
+}
+
+// A fault is answered with each allocation failing too, in every split in two, and stays.
 #[test]
-fn a_message_and_a_prefix_with_each_growth_refused(rt: HostRuntime) -> Result<(), Fail> {
-    let heap = Refusing::none(rt.alloc());
-    let mut cutter = Cutter::new(&heap);
-    let piece = joined(rt.alloc(), &[RETURN, FRONT])?;
-    takes_in_the_end(&rt, &heap, &mut cutter, &piece, 24, RETURN)?;
-    takes_in_the_end(&rt, &heap, &mut cutter, FRONT, 5, b"")?;
+fn a_fault_never_becomes_want_of_memory(rt: HostRuntime) {
+    for n in 0..BARE.len() {
+        let heap = Refusing::none(rt.alloc());
+        assert!(rt; is_at_fault(&heap, n), "at {n}");
+    }
+}
+
+// Whether the piece is a message and a prefix.
+fn is_cut<'a>(heap: &'a Refusing, piece: &[u8]) -> bool {
     let truncated = Fault {
         at: 5,
         reason: Reason::Truncated,
     };
-    assert_eq!(rt; cutter.finish(), Err(truncated));
+    let mut cutter = Cutter::new(heap);
+    takes_in_the_end(heap, &mut cutter, piece, 24, RETURN)
+        && takes_in_the_end(heap, &mut cutter, FRONT, 5, b"")
+        && cutter.finish() == Err(truncated)
+}
+
+// A reply followed by its first bytes, as one piece and then what was left of it, with each allocation of each call failing.
+#[test]
+fn a_message_and_a_prefix_with_each_growth_refused(rt: HostRuntime) -> Result<(), Fail> {
+    let heap = Refusing::none(rt.alloc());
+    let piece = joined(rt.alloc(), &[RETURN, FRONT])?;
+    assert!(rt; is_cut(&heap, &piece));
     Ok(())
 }

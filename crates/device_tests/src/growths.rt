@@ -2,11 +2,10 @@
 
 use crate::captures::*;
 use crate::pieces::Pieces;
-use crate::running::{CHECK, End, JSON, SHOW, TO_BIG, TO_LITTLE, assert_end, ran};
+use crate::running::{CHECK, JSON, SHOW, TO_BIG, TO_LITTLE, is_end, ran};
 use dbus_tool::ExitStatus;
 use refusing_alloc::Refusing;
-use std::alloc::{Allocator, Global};
-use std::process::Abort;
+use std::alloc::Global;
 use std::test::Fail;
 
 const RETURNS: &[&str] = &["filter", "type='method_return'"];
@@ -22,42 +21,47 @@ const ERRORS: &[&str] = &["filter", "type='error'"];
 // Two rules, inverted.
 const OTHERS: &[&str] = &["filter", "type='error'", "type='signal'", "--invert"];
 
-// If the allocation of this number fails, the run has failed and says so, what it wrote is a front of the whole, and
-// all that was taken is given back. If there are fewer allocations the run ends as it should, and this tells how many.
+/// How a run ends, and what it writes on both writers.
+pub(crate) type Whole<'a> = (ExitStatus, &'a [u8], &'a [u8]);
+
+// Whether the allocation of this number fails: then the run has failed and says so, what it wrote is a front of the whole, and
+// all that was taken is given back. Else the run ends as it should. Nothing if it is not so.
 fn growth_refused(
-    rt: &(impl Abort + AllocGlobal),
+    alloc: Global,
     words: &[&str],
     bytes: &[u8],
-    whole: (ExitStatus, &[u8], &[u8]),
-    n: usize,
-) -> Result<Option<u64>, Fail> {
-    let heap = Refusing::nth(rt.alloc(), n as u64);
-    let end = ran(rt.alloc(), &heap, words, Pieces::new(bytes, 1, 0))?;
-    assert_eq!(rt; heap.blocks(), 0, "at {n}");
+    whole: Whole,
+    n: u64,
+) -> Option<bool> {
+    let heap = Refusing::nth(alloc, n);
+    let Some(end) = ran(alloc, &heap, words, Pieces::new(bytes, 1, 0)) else {
+        return None;
+    };
+    let refused = heap.refusals() != 0;
     let (status, first, second) = whole;
-    if heap.refusals() == 0 {
-        assert_end(rt, n, &end, status, first, second);
-        return Ok(Some(heap.growths()));
+    let is_right = if refused {
+        let front = &first[..first.len().min(end.first.len())];
+        is_end(&end, ExitStatus::Failed, front, b"out of memory\n")
+    } else {
+        is_end(&end, status, first, second)
+    };
+    if is_right && heap.blocks() == 0 {
+        Some(refused)
+    } else {
+        None
     }
-    let front = &first[..first.len().min(end.first.len())];
-    let failed = ExitStatus::Failed;
-    assert_end(rt, n, &end, failed, front, b"out of memory\n");
-    Ok(None)
 }
 
-// How many allocations a run meets that ends so.
-fn growths_met(
-    rt: &(impl Abort + AllocGlobal),
-    words: &[&str],
-    bytes: &[u8],
-    whole: (ExitStatus, &[u8], &[u8]),
-) -> Result<u64, Fail> {
+// How many allocations a run meets that ends so. Nothing if one of the runs goes wrong.
+fn growths_met(alloc: Global, words: &[&str], bytes: &[u8], whole: Whole) -> Option<u64> {
     for n in 1..1000 {
-        if let Some(met) = growth_refused(rt, words, bytes, whole, n)? {
-            return Ok(met);
+        match growth_refused(alloc, words, bytes, whole, n) {
+            Some(true) => {}
+            Some(false) => return Some(n - 1),
+            None => return None,
         }
     }
-    Err(Fail::new("each growth is refused"))
+    None
 }
 
 /// Words, the input, how the run ends, and what is written on the first writer and on the second. The run meets more
@@ -105,59 +109,55 @@ const REFUSED: ExitStatus = ExitStatus::Refused;
 
 #[test]
 fn runs_with_each_growth_refused(rt: HostRuntime) -> Result<(), Fail> {
-    for (words, input, status, first, second, least) in RUNS {
+    for (n, (words, input, status, first, second, least)) in RUNS.iter().enumerate() {
         let bytes = joined(rt.alloc(), input)?;
         let first = joined(rt.alloc(), first)?;
-        let whole = (*status, first.as_slice(), *second);
-        let met = growths_met(&rt, words, bytes.as_slice(), whole)?;
-        assert!(rt; met > *least, "{met}");
+        let met = growths_met(rt.alloc(), words, &bytes, (*status, &first, *second));
+        assert!(rt; met > Some(*least), "at {n}: {met:?}");
     }
     Ok(())
 }
 
-// How many allocations a run takes over so many copies of the signal, of which this number of bytes come with each read.
-fn growths_of(
-    rt: &(impl Abort + AllocGlobal),
-    words: &[&str],
-    copies: usize,
-    size: usize,
-) -> Result<u64, Fail> {
-    let mut bytes = Vec::new(rt.alloc());
-    for _ in 0..copies {
-        bytes.extend_from_slice(SIGNAL)?;
+// How many allocations a run takes over these bytes, of which this number come with each read.
+fn growths_over(alloc: Global, words: &[&str], bytes: &[u8], size: usize) -> Option<u64> {
+    let heap = Refusing::none(alloc);
+    match ran(alloc, &heap, words, Pieces::new(bytes, size, 0)) {
+        Some(end) if end.status == ExitStatus::Done => Some(heap.growths()),
+        _ => None,
     }
-    let heap = Refusing::none(rt.alloc());
-    let end = ran(
-        rt.alloc(),
-        &heap,
-        words,
-        Pieces::new(bytes.as_slice(), size, 0),
-    )?;
-    assert_eq!(rt; end.status, ExitStatus::Done);
-    Ok(heap.growths())
+}
+
+// How many it takes over so many copies of the signal.
+fn growths_of(alloc: Global, words: &[&str], copies: usize, size: usize) -> Option<u64> {
+    let mut bytes = Vec::new(alloc);
+    for _ in 0..copies {
+        if bytes.extend_from_slice(SIGNAL).is_err() {
+            return None;
+        }
+    }
+    growths_over(alloc, words, &bytes, size)
 }
 
 const COMMANDS: &[&[&str]] = &[SHOW, JSON, CHECK, TO_LITTLE, TO_BIG, EACH, ERRORS, OTHERS];
 
 // A message like those before takes no memory, whether it comes whole or byte by byte.
 #[test]
-fn further_messages_take_no_more_memory(rt: HostRuntime) -> Result<(), Fail> {
+fn further_messages_take_no_more_memory(rt: HostRuntime) {
     for size in [1, 1000] {
-        for words in COMMANDS {
-            let few = growths_of(&rt, words, 2, size)?;
-            assert_eq!(rt; growths_of(&rt, words, 9, size)?, few);
+        for (n, words) in COMMANDS.iter().enumerate() {
+            let few = growths_of(rt.alloc(), words, 2, size);
+            let many = growths_of(rt.alloc(), words, 9, size);
+            assert!(rt; few.is_some() && few == many, "at {n}: {few:?} {many:?}");
         }
     }
-    Ok(())
 }
 
 // Of messages that come whole with one read, `show`, `json`, `filter` and a `swap` into their own order take no memory, and a `swap`
 // that byteswaps them takes it once.
 #[test]
-fn messages_in_the_buffer_take_no_memory(rt: HostRuntime) -> Result<(), Fail> {
+fn messages_in_the_buffer_take_no_memory(rt: HostRuntime) {
     for words in [SHOW, JSON, TO_LITTLE, EACH, ERRORS, OTHERS] {
-        assert_eq!(rt; growths_of(&rt, words, 3, 1000)?, 0);
+        assert!(rt; growths_of(rt.alloc(), words, 3, 1000) == Some(0));
     }
-    assert_eq!(rt; growths_of(&rt, TO_BIG, 3, 1000)?, 1);
-    Ok(())
+    assert!(rt; growths_of(rt.alloc(), TO_BIG, 3, 1000) == Some(1));
 }

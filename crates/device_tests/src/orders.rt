@@ -6,7 +6,7 @@ use crate::pieces::Pieces;
 use crate::running::{CHECK, SHOW, TO_BIG, TO_LITTLE, words_of};
 use dbus_stream::{DeviceFault, Sink, Source};
 use dbus_tool::{ExitStatus, ReadAhead, run_words};
-use std::alloc::Global;
+use std::alloc::{AllocError, Global};
 use std::cell::Cell;
 use std::test::Fail;
 
@@ -69,7 +69,7 @@ fn goes_out(
     bytes: &[u8],
     size: usize,
     expected: &[usize],
-) -> Result<bool, Fail> {
+) -> Result<bool, AllocError> {
     let words = words_of(alloc, "dbus-wire", words)?;
     let written = Cell::new(0);
     let mut reader = Watched {

@@ -7,8 +7,7 @@ use dbus_stream::{RawReader, ReadFault};
 use dbus_validate::Validated;
 use dbus_value::{Fault, Reason};
 use refusing_alloc::Refusing;
-use std::alloc::Allocator;
-use std::process::Abort;
+use std::alloc::{Allocator, Global};
 use std::test::Fail;
 
 // A call of a reader.
@@ -85,16 +84,30 @@ fn call_gives<A: Allocator + Copy>(
     }
 }
 
-// The calls of the reader of row `n` give this, one after another.
+// Whether the calls of a reader give this, one after another.
 fn calls_give<A: Allocator + Copy>(
-    rt: &impl Abort,
-    n: u64,
     reader: &mut RawReader<Pieces, A>,
     script: &[(Call, Given)],
-) {
-    for (i, (call, given)) in script.iter().enumerate() {
-        assert!(rt; call_gives(reader, *call, *given), "at {n}, {i}");
+) -> bool {
+    for (call, given) in script {
+        if !call_gives(reader, *call, *given) {
+            return false;
+        }
     }
+    true
+}
+
+// The same, and whether the messages have so many bytes in the end, and so many reads were made and failed.
+fn is_read<A: Allocator + Copy>(
+    reader: RawReader<Pieces, A>,
+    script: &[(Call, Given)],
+    counts: [u64; 3],
+) -> bool {
+    let mut reader = reader;
+    let gives = calls_give(&mut reader, script);
+    let done = reader.done();
+    let source = reader.into_source();
+    gives && [done, source.calls, source.failures] == counts
 }
 
 // Calls of a reader, and what they give.
@@ -226,17 +239,14 @@ fn messages_and_faults(rt: HostRuntime) -> Result<(), Fail> {
     for (n, (parts, size, fails_at, most, script, counts)) in READ.iter().enumerate() {
         let bytes = joined(rt.alloc(), *parts)?;
         let source = Pieces::new(bytes.as_slice(), *size, *fails_at);
-        let mut reader = RawReader::with_reads(rt.alloc(), source, u64::from(*most));
-        calls_give(&rt, n as u64, &mut reader, *script);
-        let done = reader.done();
-        let source = reader.into_source();
-        assert_eq!(rt; [done, source.calls, source.failures], *counts, "at {n}");
+        let reader = RawReader::with_reads(rt.alloc(), source, u64::from(*most));
+        assert!(rt; is_read(reader, *script, *counts), "at {n}");
     }
     Ok(())
 }
 
 // The one message of these bytes, of one byte a read, where the read of this number fails, the last of which finds their end.
-fn read_fails(rt: &(impl Abort + AllocGlobal), bytes: &[u8], n: u64) {
+fn read_fails(alloc: Global, bytes: &[u8], n: u64) -> bool {
     let size = bytes.len() as u64;
     let within = [
         (Next, FAILED),
@@ -250,29 +260,33 @@ fn read_fails(rt: &(impl Abort + AllocGlobal), bytes: &[u8], n: u64) {
         (Advance, NOTHING),
         (Next, NOTHING),
     ];
-    let mut reader = RawReader::new(rt.alloc(), Pieces::new(bytes, 1, n));
+    let reader = RawReader::new(alloc, Pieces::new(bytes, 1, n));
     let script = if n <= size { within } else { after };
-    calls_give(rt, n, &mut reader, script.as_slice());
-    let done = reader.done();
-    let source = reader.into_source();
-    assert_eq!(rt;
-        [done, source.calls, source.failures],
-        [size, size + 2, 1],
-        "at {n}"
-    );
+    is_read(reader, script.as_slice(), [size, size + 2, 1])
 }
 
 #[test]
 fn each_read_fails_once(rt: HostRuntime) {
     for bytes in [RETURN, SIGNAL] {
         for n in 0..bytes.len() + 1 {
-            read_fails(&rt, bytes, n as u64 + 1);
+            assert!(rt; read_fails(rt.alloc(), bytes, n as u64 + 1), "at {n}");
         }
     }
 }
 
 // So many messages that the last of them is cut by the end of the reader's buffer.
 const MANY: usize = 10_923;
+
+// Whether a reader gives the messages of these bytes, which come with one read. What lies in the buffer takes no memory.
+fn gives_many<'a>(heap: &'a Refusing, bytes: &[u8]) -> bool {
+    let mut reader = RawReader::new(heap, Pieces::new(bytes, bytes.len(), 0));
+    for _ in 1..MANY {
+        if !call_gives(&mut reader, Advance, Gives(RETURN)) {
+            return false;
+        }
+    }
+    heap.growths() == 0 && is_read(reader, ONE_FOR_THE_END, [262_152, 3, 0])
+}
 
 #[test]
 fn a_message_that_two_reads_give(rt: HostRuntime) -> Result<(), Fail> {
@@ -281,41 +295,41 @@ fn a_message_that_two_reads_give(rt: HostRuntime) -> Result<(), Fail> {
         bytes.extend_from_slice(RETURN)?;
     }
     let heap = Refusing::none(rt.alloc());
-    let source = Pieces::new(bytes.as_slice(), bytes.len(), 0);
-    let mut reader = RawReader::new(&heap, source);
-    for n in 1..MANY {
-        assert!(rt; call_gives(&mut reader, Advance, Gives(RETURN)), "at {n}");
-    }
-    // What lies in the buffer takes no memory.
-    assert_eq!(rt; heap.growths(), 0);
-    calls_give(&rt, 0, &mut reader, ONE_FOR_THE_END);
-    let done = reader.done();
-    assert_eq!(rt; [done, reader.into_source().calls], [262_152, 3]);
+    assert!(rt; gives_many(&heap, &bytes));
     Ok(())
 }
 
-// A call that meets a failing allocation, made again, gives the message, and nothing is lost. If there are fewer allocations, how
-// many there are.
-fn growth_refused(
-    rt: &(impl Abort + AllocGlobal),
-    bytes: &[u8],
-    size: usize,
-    n: u64,
-) -> Option<u64> {
-    let heap = Refusing::none(rt.alloc());
-    let mut reader = RawReader::new(&heap, Pieces::new(bytes, size, 0));
-    calls_give(rt, n, &mut reader, [(Advance, Gives(RETURN))].as_slice());
+// Whether the allocation of this number fails in the call that gives a second message: the call made again gives it, and nothing is
+// lost. Nothing if it is not so.
+fn growth_refused<'a>(heap: &'a Refusing, bytes: &[u8], size: usize, n: u64) -> Option<bool> {
+    let mut reader = RawReader::new(heap, Pieces::new(bytes, size, 0));
+    let is_begun = call_gives(&mut reader, Advance, Gives(RETURN));
     heap.refuse_nth(n);
     let no_memory = call_gives(&mut reader, Next, Fails(ReadFault::Memory));
     if heap.refusals() == 0 {
-        return Some(heap.growths());
+        return Some(false);
     }
-    assert!(rt; no_memory, "at {n}");
-    assert_eq!(rt; reader.done(), 24, "at {n}");
-    calls_give(rt, n, &mut reader, ONE_BY_ONE);
-    assert_eq!(rt; reader.done(), 120, "at {n}");
-    drop(reader);
-    assert_eq!(rt; heap.blocks(), 0, "at {n}");
+    let before = reader.done();
+    let goes_on = calls_give(&mut reader, ONE_BY_ONE);
+    if is_begun && no_memory && before == 24 && goes_on && reader.done() == 120 {
+        Some(true)
+    } else {
+        None
+    }
+}
+
+// How many allocations that call meets, with so many bytes a read. Nothing if one of the runs goes wrong.
+fn growths_of(alloc: Global, bytes: &[u8], size: usize) -> Option<u64> {
+    for n in 1..100 {
+        let heap = Refusing::none(alloc);
+        let refused = growth_refused(&heap, bytes, size, n);
+        if refused == Some(false) {
+            return Some(n - 1);
+        }
+        if refused.is_none() || heap.blocks() != 0 {
+            return None;
+        }
+    }
     None
 }
 
@@ -323,8 +337,7 @@ fn growth_refused(
 fn each_growth_refused(rt: HostRuntime) -> Result<(), Fail> {
     let bytes = joined(rt.alloc(), &[RETURN, SIGNAL])?;
     for size in [1, 25, 1000] {
-        let met = (1..100).find_map(|n| growth_refused(&rt, bytes.as_slice(), size, n));
-        assert!(rt; matches!(met, Some(met) if met > 0), "at {size}");
+        assert!(rt; growths_of(rt.alloc(), &bytes, size) > Some(0), "at {size}");
     }
     Ok(())
 }

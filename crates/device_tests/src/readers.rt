@@ -7,8 +7,7 @@ use dbus_message::Message;
 use dbus_stream::{FromRead, MessageReader, ReadFault, Source};
 use dbus_value::{Fault, Order, Reason};
 use refusing_alloc::Refusing;
-use std::alloc::Allocator;
-use std::process::Abort;
+use std::alloc::{Allocator, Global};
 use std::test::Fail;
 
 // A call of a reader.
@@ -57,76 +56,67 @@ fn call_gives<R: Source, A: Allocator + Copy>(
     reader: &mut MessageReader<R, A>,
     call: Call,
     given: Given,
-) -> Result<bool, Fail> {
+) -> bool {
     match call_of(reader, call) {
         Ok(message) => match given {
             Gives(bytes) => is_spelled(alloc, message, bytes),
-            Fails(_) => Ok(false),
+            Fails(_) => false,
         },
-        Err(fault) => Ok(matches!(given, Fails(wanted) if wanted == fault)),
+        Err(fault) => matches!(given, Fails(wanted) if wanted == fault),
     }
 }
 
-// These calls, one after another, give this. The reader is that of row `n`.
+// Whether these calls, one after another, give this.
 fn calls_give<R: Source, A: Allocator + Copy>(
-    rt: &impl Abort,
-    n: u64,
     alloc: A,
     reader: &mut MessageReader<R, A>,
     script: &[(Call, Given)],
-) -> Result<(), Fail> {
-    for (i, (call, given)) in script.iter().enumerate() {
-        assert!(rt; call_gives(alloc, reader, *call, *given)?, "at {n}, {i}");
+) -> bool {
+    for (call, given) in script {
+        if !call_gives(alloc, reader, *call, *given) {
+            return false;
+        }
     }
-    Ok(())
+    true
 }
+
+const WITH_A_PREFIX: &[(Call, Given<'static>)] = &[
+    (NextKept, NOTHING),
+    (Next, Gives(RETURN)),
+    (NextKept, NOTHING),
+    // A fault stays.
+    (Next, TRUNCATED_AT_5),
+    (NextKept, TRUNCATED_AT_5),
+    (Next, TRUNCATED_AT_5),
+    (NextKept, TRUNCATED_AT_5),
+];
 
 #[test]
 fn a_message_and_a_prefix_of_it(rt: HostRuntime) -> Result<(), Fail> {
     let bytes = joined(rt.alloc(), &[RETURN, FRONT])?;
     let mut reader = MessageReader::new(rt.alloc(), FromRead::new(bytes.as_slice()));
-    let script = [
-        (NextKept, NOTHING),
-        (Next, Gives(RETURN)),
-        (NextKept, NOTHING),
-        // A fault stays.
-        (Next, TRUNCATED_AT_5),
-        (NextKept, TRUNCATED_AT_5),
-        (Next, TRUNCATED_AT_5),
-        (NextKept, TRUNCATED_AT_5),
-    ];
-    calls_give(&rt, 0, rt.alloc(), &mut reader, script.as_slice())?;
-    assert_eq!(rt; reader.done(), 24);
+    assert!(rt; calls_give(rt.alloc(), &mut reader, WITH_A_PREFIX));
+    assert!(rt; reader.done() == 24);
     Ok(())
 }
 
-// Calls of the reader of row `n` give this, one after another; the messages have so many bytes in all, and so many reads
-// were made and failed.
-fn gives(
-    rt: &(impl Abort + AllocGlobal),
-    n: u64,
-    reader: MessageReader<Pieces>,
+// Whether calls of a reader give this, one after another; the messages have so many bytes in all, and so many reads were made and failed.
+fn gives<A: Allocator + Copy>(
+    alloc: A,
+    reader: MessageReader<Pieces, A>,
     script: &[(Call, Given)],
     counts: [u64; 3],
-) -> Result<(), Fail> {
+) -> bool {
     let mut reader = reader;
-    calls_give(rt, n, rt.alloc(), &mut reader, script)?;
+    let gives = calls_give(alloc, &mut reader, script);
     let done = reader.done();
     let source = reader.into_source();
-    assert_eq!(rt; [done, source.calls, source.failures], counts, "at {n}");
-    Ok(())
+    gives && [done, source.calls, source.failures] == counts
 }
 
 // The same of a reader over this source, which may make as many reads as it likes.
-fn reads(
-    rt: &(impl Abort + AllocGlobal),
-    source: Pieces,
-    script: &[(Call, Given)],
-    counts: [u64; 3],
-) -> Result<(), Fail> {
-    let n = source.fails_at;
-    let reader = MessageReader::new(rt.alloc(), source);
-    gives(rt, n, reader, script, counts)
+fn reads(alloc: Global, source: Pieces, script: &[(Call, Given)], counts: [u64; 3]) -> bool {
+    gives(alloc, MessageReader::new(alloc, source), script, counts)
 }
 
 const KEEPS_NONE: &[(Call, Given<'static>)] = &[
@@ -160,13 +150,23 @@ const FEW_READS: &[(u32, &[(Call, Given<'static>)], [u64; 3])] = &[
 ];
 
 #[test]
-fn readers_of_few_reads(rt: HostRuntime) -> Result<(), Fail> {
+fn readers_of_few_reads(rt: HostRuntime) {
     for (most, script, counts) in FEW_READS {
-        let most = u64::from(*most);
-        let reader = MessageReader::with_reads(rt.alloc(), Pieces::new(RETURN, 1, 0), most);
-        gives(&rt, most, reader, *script, *counts)?;
+        let source = Pieces::new(RETURN, 1, 0);
+        let reader = MessageReader::with_reads(rt.alloc(), source, u64::from(*most));
+        assert!(rt; gives(rt.alloc(), reader, script, *counts), "at {most}");
     }
-    Ok(())
+}
+
+// Whether a short message and this long one are given at the reads that end them.
+fn at_once(alloc: Global, bytes: &[u8], long: &[u8]) -> bool {
+    let script = [(Next, Gives(RETURN)), (Next, FAILED), (Next, Gives(long))];
+    reads(
+        alloc,
+        Pieces::new(bytes, 1, 25),
+        script.as_slice(),
+        [5060, 5061, 1],
+    )
 }
 
 // A message is given at the read that ends it, a short one and a long one.
@@ -175,17 +175,12 @@ fn gives_a_message_at_once(rt: HostRuntime) -> Result<(), Fail> {
     let mut long = joined(rt.alloc(), &[LONG_HEADER])?;
     long.resize(36 + 5000, 7)?;
     let bytes = joined(rt.alloc(), &[RETURN, long.as_slice()])?;
-    let source = Pieces::new(bytes.as_slice(), 1, 25);
-    let script = [
-        (Next, Gives(RETURN)),
-        (Next, FAILED),
-        (Next, Gives(long.as_slice())),
-    ];
-    reads(&rt, source, script.as_slice(), [5060, 5061, 1])
+    assert!(rt; at_once(rt.alloc(), &bytes, &long));
+    Ok(())
 }
 
-// The one message of these bytes, where each read in turn fails, the last of which finds their end.
-fn each_read_fails(rt: &(impl Abort + AllocGlobal), bytes: &[u8]) -> Result<(), Fail> {
+// The one message of these bytes, if each read in turn fails, the last of which finds their end.
+fn each_read_fails(alloc: Global, bytes: &[u8]) -> bool {
     let size = bytes.len() as u64;
     let within = [
         (Next, FAILED),
@@ -202,16 +197,18 @@ fn each_read_fails(rt: &(impl Abort + AllocGlobal), bytes: &[u8]) -> Result<(), 
     ];
     for n in 1..size + 1 {
         let source = Pieces::new(bytes, 1, n);
-        reads(rt, source, within.as_slice(), [size, size + 2, 1])?;
+        if !reads(alloc, source, within.as_slice(), [size, size + 2, 1]) {
+            return false;
+        }
     }
     let source = Pieces::new(bytes, 1, size + 1);
-    reads(rt, source, after.as_slice(), [size, size + 2, 1])
+    reads(alloc, source, after.as_slice(), [size, size + 2, 1])
 }
 
 #[test]
-fn each_read_fails_once(rt: HostRuntime) -> Result<(), Fail> {
-    each_read_fails(&rt, RETURN)?;
-    each_read_fails(&rt, SIGNAL)
+fn each_read_fails_once(rt: HostRuntime) {
+    assert!(rt; each_read_fails(rt.alloc(), RETURN));
+    assert!(rt; each_read_fails(rt.alloc(), SIGNAL));
 }
 
 // A reader that finds a failing allocation: its input, and how many bytes of it come with each read; the calls before, and how
@@ -252,23 +249,15 @@ const REFUSED: &[Refused] = &[
     (CUT, 999, &[], 0, Next, 0, RETURN, AT_5, [24, 2]),
 ];
 
-// The reader, that found a failing allocation, kept all that was read: the call made again gives the message.
-fn goes_on<A: Allocator + Copy>(
-    rt: &impl Abort,
-    n: u64,
-    alloc: A,
-    reader: MessageReader<Pieces, A>,
-    row: &Refused,
-) -> Result<(), Fail> {
+// Whether the reader, that found a failing allocation, kept all that was read: the call made again gives the message.
+fn goes_on<A: Allocator + Copy>(alloc: A, reader: MessageReader<Pieces, A>, row: &Refused) -> bool {
     let mut reader = reader;
     let (_, _, _, done_before, call, _, message, after, counts) = *row;
-    assert_eq!(rt; reader.done(), done_before, "at {n}");
-    let script = [(call, Gives(message))];
-    calls_give(rt, n, alloc, &mut reader, script.as_slice())?;
-    calls_give(rt, n, alloc, &mut reader, after)?;
+    let before = reader.done();
+    let given = call_gives(alloc, &mut reader, call, Gives(message));
+    let goes_on = calls_give(alloc, &mut reader, after);
     let done = reader.done();
-    assert_eq!(rt; [done, reader.into_source().calls], counts, "at {n}");
-    Ok(())
+    before == done_before && given && goes_on && [done, reader.into_source().calls] == counts
 }
 
 // Whether the reader gives a message, and whether it is refused memory.
@@ -283,46 +272,43 @@ fn answer_of<R: Source, A: Allocator + Copy>(
     }
 }
 
-// If the allocation of this number fails, the reader goes on as if nothing had happened. If there are fewer allocations,
-// how many there are.
-fn growth_refused(
-    rt: &(impl Abort + AllocGlobal),
-    row: &Refused,
-    bytes: &[u8],
-    n: u64,
-) -> Result<Option<u64>, Fail> {
+// Whether the allocation of this number fails: then the reader goes on as if nothing had happened. Nothing if it is not so.
+fn growth_refused<'a>(heap: &'a Refusing, row: &Refused, bytes: &[u8], n: u64) -> Option<bool> {
     let (_, size, before, _, call, ..) = *row;
-    let heap = Refusing::none(rt.alloc());
-    let mut reader = MessageReader::new(&heap, Pieces::new(bytes, size, 0));
-    calls_give(rt, n, &heap, &mut reader, before)?;
+    let mut reader = MessageReader::new(heap, Pieces::new(bytes, size, 0));
+    let is_begun = calls_give(heap, &mut reader, before);
     heap.refuse_nth(n);
     let answer = answer_of(&mut reader, call);
     let refused = heap.refusals() == 1;
-    assert_eq!(rt; answer, [!refused, refused], "at {n}");
-    if !refused {
-        return Ok(Some(heap.growths()));
+    if !is_begun || answer != [!refused, refused] {
+        return None;
     }
-    goes_on(rt, n, &heap, reader, row)?;
-    assert_eq!(rt; heap.blocks(), 0, "at {n}");
-    Ok(None)
+    if !refused || goes_on(heap, reader, row) {
+        return Some(refused);
+    }
+    None
 }
 
-// How many allocations the row's call meets.
-fn growths_of(rt: &(impl Abort + AllocGlobal), row: &Refused) -> Result<u64, Fail> {
-    let bytes = joined(rt.alloc(), row.0)?;
+// How many allocations the row's call meets. Nothing if one of the runs goes wrong.
+fn growths_of(alloc: Global, row: &Refused, bytes: &[u8]) -> Option<u64> {
     for n in 1..100 {
-        if let Some(met) = growth_refused(rt, row, bytes.as_slice(), n)? {
-            return Ok(met);
+        let heap = Refusing::none(alloc);
+        let refused = growth_refused(&heap, row, bytes, n);
+        if refused == Some(false) {
+            return Some(n - 1);
+        }
+        if refused.is_none() || heap.blocks() != 0 {
+            return None;
         }
     }
-    Err(Fail::new("each growth is refused"))
+    None
 }
 
 #[test]
 fn calls_with_each_growth_refused(rt: HostRuntime) -> Result<(), Fail> {
-    for row in REFUSED {
-        let met = growths_of(&rt, row)?;
-        assert!(rt; met > row.5, "{met}");
+    for (n, row) in REFUSED.iter().enumerate() {
+        let bytes = joined(rt.alloc(), row.0)?;
+        assert!(rt; growths_of(rt.alloc(), row, &bytes) > Some(row.5), "at {n}");
     }
     Ok(())
 }

@@ -8,9 +8,7 @@ use dbus_tool::{
     Asked, Command, ExitStatus, ReadAhead, Settings, command_of, run_reads, run_with, run_within,
     run_words,
 };
-use std::alloc::{Allocator, Global};
-use std::process::Abort;
-use std::test::Fail;
+use std::alloc::{AllocError, Allocator, Global};
 
 /// The words of the commands that take no rule.
 pub(crate) const SHOW: &[&str] = &["show"];
@@ -32,7 +30,11 @@ pub(crate) struct End {
 }
 
 /// The name of a program and words after it.
-pub(crate) fn words_of(alloc: Global, name: &str, words: &[&str]) -> Result<Vec<String>, Fail> {
+pub(crate) fn words_of(
+    alloc: Global,
+    name: &str,
+    words: &[&str],
+) -> Result<Vec<String>, AllocError> {
     let mut all = Vec::new(alloc);
     all.push(String::from_str(alloc, name)?)?;
     for word in words {
@@ -42,11 +44,13 @@ pub(crate) fn words_of(alloc: Global, name: &str, words: &[&str]) -> Result<Vec<
 }
 
 /// The command that the words name, and its settings.
-pub(crate) fn named(alloc: Global, words: &[&str]) -> Result<(Command, Settings), Fail> {
-    let words = words_of(alloc, "dbus-wire", words)?;
+pub(crate) fn named(alloc: Global, words: &[&str]) -> Option<(Command, Settings)> {
+    let Ok(words) = words_of(alloc, "dbus-wire", words) else {
+        return None;
+    };
     match command_of(alloc, words.as_slice()) {
-        Ok(Asked::Messages(command, settings)) => Ok((command, settings)),
-        _ => Err(Fail::new("no command")),
+        Ok(Asked::Messages(command, settings)) => Some((command, settings)),
+        _ => None,
     }
 }
 
@@ -69,8 +73,10 @@ pub(crate) fn ran<A: Allocator + Copy, R: Source + Drop>(
     heap: A,
     words: &[&str],
     reader: R,
-) -> Result<End, Fail> {
-    let (command, settings) = named(alloc, words)?;
+) -> Option<End> {
+    let Some((command, settings)) = named(alloc, words) else {
+        return None;
+    };
     let limits = settings.limits;
     let mut reader = reader;
     let mut first = FromWrite::new(Vec::new(alloc));
@@ -81,7 +87,7 @@ pub(crate) fn ran<A: Allocator + Copy, R: Source + Drop>(
     } else {
         run_within(heap, command, limits, MOST_READS, from, to, other)
     };
-    Ok(ended(status, first, second))
+    Some(ended(status, first, second))
 }
 
 /// How the command ends if the reader may make this number of reads.
@@ -90,13 +96,15 @@ pub(crate) fn ran_reads(
     words: &[&str],
     reads: u32,
     reader: &mut Pieces,
-) -> Result<End, Fail> {
-    let (command, _) = named(alloc, words)?;
+) -> Option<End> {
+    let Some((command, _)) = named(alloc, words) else {
+        return None;
+    };
     let mut first = FromWrite::new(Vec::new(alloc));
     let mut second = FromWrite::new(Vec::new(alloc));
     let (to, other) = (&mut first, &mut second);
     let status = run_reads(alloc, command, u64::from(reads), reader, to, other);
-    Ok(ended(status, first, second))
+    Some(ended(status, first, second))
 }
 
 /// How many bytes a device moves a call at most, and which of its calls fails; 0 for none.
@@ -112,8 +120,10 @@ pub(crate) fn ran_words(
     words: &[&str],
     bytes: &[u8],
     devices: [Device; 3],
-) -> Result<(End, [u64; 3]), Fail> {
-    let words = words_of(alloc, "dbus-wire", words)?;
+) -> Option<(End, [u64; 3])> {
+    let Ok(words) = words_of(alloc, "dbus-wire", words) else {
+        return None;
+    };
     let [reader, first, second] = devices;
     let mut reader = Pieces::new(bytes, reader.0, reader.1);
     let mut first = Narrow::new(alloc, first.0, first.1);
@@ -131,19 +141,10 @@ pub(crate) fn ran_words(
         first: first.held,
         second: second.held,
     };
-    Ok((end, failures))
+    Some((end, failures))
 }
 
-/// The run of the row `n` ended so, and wrote this.
-pub(crate) fn assert_end(
-    rt: &impl Abort,
-    n: usize,
-    end: &End,
-    status: ExitStatus,
-    first: &[u8],
-    second: &[u8],
-) {
-    assert_eq!(rt; end.status, status, "at {n}");
-    assert_eq!(rt; end.first.as_slice(), first, "at {n}");
-    assert_eq!(rt; end.second.as_slice(), second, "at {n}");
+/// Whether a run ended so, and wrote this.
+pub(crate) fn is_end(end: &End, status: ExitStatus, first: &[u8], second: &[u8]) -> bool {
+    end.status == status && end.first.as_slice() == first && end.second.as_slice() == second
 }
