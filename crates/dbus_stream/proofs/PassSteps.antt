@@ -1,6 +1,5 @@
 -- The steps of passing over bytes.
 use Rattle.std.proofs.Common.{◌≡◌, ℕ, ◌+◌, ◌-◌, ◌<◌, ◌≤◌, List, [], ◌++◌, Bool, true, false, not, None, Some, Option, Result, Ok, Err, length, take, drop, refl, sym, ap, ◌∙◌, subst, arith, append_assoc, append-nil, length-append, take-append-drop, inl, inr}
-use Rattle.std.specs.Prelude.{IfSome}
 use Rattle.std.specs.Io.KnownBytes.{Consumes, IsAtEnd}
 use Rattle.std.proofs.KnownBytes.{Consumes-nil, Consumes-kept}
 use Rattle.std.specs.List.{slice_range}
@@ -22,7 +21,7 @@ use Rattle.dbus_stream.specs.declared.read_fault.ReadFault.TheVariants.{Memory, 
 use Rattle.dbus_stream.specs.Gathering.{GathererState, gathering, fresh, under_way}
 use Rattle.dbus_stream.specs.Lasting.{is_truncated, is_refusal}
 use Rattle.dbus_stream.specs.Next.{ReadsNothing}
-use Rattle.dbus_stream.specs.Passing.{part_of, ReadsToSkip, Skips, SkipsAll, SkipAnswers, ReadsUpTo, FallsShort, IsRefusal, PassAnswers, Passing, Owes, IsDue, IsNoneDue, StatesAll}
+use Rattle.dbus_stream.specs.Passing.{part_of, ReadsToSkip, Skips, SkipsAll, SkipAnswers, ReadsUpTo, FallsShort, IsRefusal, PassAnswers, Passing, IsDue, IsNoneDue, StatesAll}
 use Rattle.dbus_stream.specs.RawReading.{limits_of, kept, lent_of, whole_or}
 use Rattle.dbus_stream.specs.Reading.{source_of, done_of, reads_of, most_reads_of, is_ended, stopped_of}
 use Rattle.dbus_stream.specs.Steps.{Buffers, FillsBy, FillsNone}
@@ -214,12 +213,6 @@ refusal_of (Some (Format fault)) e = (fault, (refl, not_true (is_truncated fault
 refusal_of (Some Device) e = absurd (false≢true e)
 refusal_of (Some TooManyReads) e = absurd (false≢true e)
 
-no_refusal : (stopped : Option ReadFault) (fault : Fault) → IsRefusal stopped fault → is_refusal stopped ≡ false → ⊥
-no_refusal stopped fault refusal none =
-    let met : not (is_truncated fault.reason) ≡ false = sym (ap is_refusal refusal.0) ∙ none in
-    let other : not (is_truncated fault.reason) ≡ true = ap not refusal.1 in
-    false≢true (sym met ∙ other)
-
 -- a reader of raw messages, whose reader below let go of what its taker held
 module _ {R A : Type 0} where
   -- it lends nothing, and keeps what is left of its buffer
@@ -300,17 +293,9 @@ module _ {R A : Type 0} where
   pub owes_none : (old : RawReader R A) → stopped_of old.reader ≡ None → 0 < old.owed → ⊥
   owes_none old none some = false≢true (sym (ap is_refusal none) ∙ old.owed_refused some)
 
-  pub none_refused : (old : RawReader R A) → is_refusal (stopped_of old.reader) ≡ false → IsNoneDue old
-  none_refused old none fault n refusal due = no_refusal (stopped_of old.reader) fault refusal none
-
   pub none_stated : (old : RawReader R A) → old.owed ≡ 0 → ((n : ℕ) → StatesAll (limits_of old) (kept old) n → ⊥) → IsNoneDue old
   none_stated old zero none fault n refusal (inl s) = none n s
   none_stated old zero none fault n refusal (inr o) = absurd (let e = o.owed in let some = o.some in omega (arith, zero, e, some))
-
-  pub due_stated : (old : RawReader R A) (res : Option ℕ) → is_refusal (stopped_of old.reader) ≡ true
-      → IfSome res (λ n. StatesLength (limits_of old) (kept old) n × (old.reader.held < n)) → IfSome res (λ n. (is_refusal (stopped_of old.reader) ≡ true) × IsDue old n × (old.reader.held < n))
-  due_stated old None refusal s = tt
-  due_stated old (Some n) refusal s = (refusal, inl s.0, s.1)
 
   pub due_owed : (old : RawReader R A) → 0 < old.owed → IsDue old old.owed × (old.reader.held < old.owed)
   due_owed old some =

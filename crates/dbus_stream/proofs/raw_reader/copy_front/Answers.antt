@@ -1,4 +1,4 @@
-use Rattle.std.proofs.Common.{◌≡◌, ◌≤◌, ◌<◌, ◌+◌, List, ℕ, length, take, arith}
+use Rattle.std.proofs.Common.{arith}
 use Rattle.dbus_stream.proofs.PassSteps.{copied}
 use Rattle.dbus_stream.proofs.raw_reader.copy_front.Goals as goal
 

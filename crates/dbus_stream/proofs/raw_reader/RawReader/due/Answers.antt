@@ -1,5 +1,5 @@
-use Rattle.std.proofs.Common.{◌≡◌, ◌≤◌, ◌<◌, ℕ, arith, sym, ◌∙◌}
-use Rattle.dbus_stream.proofs.PassSteps.{none_refused, none_stated, due_stated, due_owed}
+use Rattle.std.proofs.Common.{arith, sym, ◌∙◌}
+use Rattle.dbus_stream.proofs.PassSteps.{none_stated, due_owed}
 use Rattle.dbus_stream.proofs.raw_reader.RawReader.due.Goals as goal
 
 pub returns-then-self-gt0-clause-some : goal.returns-then-self-gt0-clause-some

@@ -1,4 +1,4 @@
-use Rattle.std.proofs.Common.{◌≡◌, refl, ap, inr}
+use Rattle.std.proofs.Common.{refl, ap, inr}
 use Rattle.dbus_stream.specs.Gathering.{GathererState}
 use Rattle.dbus_stream.proofs.PassSteps.{passing}
 use Rattle.dbus_stream.proofs.raw_reader.RawReader.pass_over.Goals as goal

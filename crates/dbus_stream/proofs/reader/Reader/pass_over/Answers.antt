@@ -1,8 +1,7 @@
-use Rattle.std.proofs.Common.{◌≡◌, ◌≤◌, ◌<◌, ◌+◌, ◌-◌, [], List, ℕ, ◌++◌, append-nil, length, take, refl, sym, ap, ◌∙◌, subst, arith}
+use Rattle.std.proofs.Common.{◌≡◌, ◌≤◌, ◌-◌, List, ℕ, ◌++◌, append-nil, length, take, refl, sym, ap, ◌∙◌, subst, arith}
 use Rattle.std.specs.List.{slice_range}
 use Rattle.std.proofs.lemmas.List.{length-take-le}
 use Rattle.dbus_stream.specs.Passing.{part_of}
-use Rattle.dbus_stream.specs.Reading.{source_of}
 use Rattle.dbus_stream.proofs.Lists.{no_part}
 use Rattle.dbus_stream.proofs.PassSteps.{front_goes, skip_none, skips, skips_to_end, skips_no_more, skips_filled, skips_failed}
 use Rattle.dbus_stream.proofs.reader.Reader.pass_over.Goals as goal
