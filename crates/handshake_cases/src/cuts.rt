@@ -2,40 +2,39 @@
 
 use crate::pieces::{after, is_tried};
 use anyhow::Result;
-use case_files::{Case, Tally, cases};
+use case_files::{Case, Tally};
 use dbus_auth_lines::{LineCutter, LineFault};
 use std::alloc::{AllocError, Global};
 use std::fmt::Write;
-use std::fs;
 
-/// Tries each case of the file.
-pub(crate) fn try_cuts(rt: &HostRuntime) -> Result<()> {
-    let text = fs::read_to_string(rt, "cut_lines.txt")?;
-    let mut tally = Tally::new("cut_lines.txt");
-    for case in cases(rt.alloc(), text.as_str(), 3)?.iter() {
-        tally.begin(case);
-        try_cut(rt, &mut tally, case)?;
-    }
-    tally.end(rt)?;
-    Ok(())
-}
-
-fn try_cut(rt: &HostRuntime, tally: &mut Tally, case: &Case) -> Result<()> {
+/// Tries a case of the file.
+pub(crate) fn try_cut(rt: &HostRuntime, tally: &mut Tally, case: &Case) -> Result<()> {
     let bytes = case.bytes(rt.alloc(), 1)?;
     let wanted = case.column(2);
-    for n in 0..bytes.len() + 1 {
-        if is_tried(n, bytes.len()) {
-            let got = cut_in_two(rt.alloc(), &bytes, n)?;
-            if got.as_str() != wanted {
-                let engine = format!(in rt.alloc(); "with {n} bytes first")?;
-                tally.differs(rt, engine.as_str(), &wanted, &got)?;
-                break;
-            }
-        }
+    if let Some((n, got)) = another_cut(rt.alloc(), &bytes, wanted)? {
+        let engine = format!(in rt.alloc(); "with {n} bytes first")?;
+        tally.differs(rt, engine.as_str(), &wanted, &got)?;
     }
     let got = cut_by_bytes(rt.alloc(), &bytes)?;
     tally.compare(rt, "byte by byte", &wanted, &got.as_str())?;
     Ok(())
+}
+
+// The first length of a first piece of which a cutter gives something else, and what it gives.
+fn another_cut(
+    alloc: Global,
+    bytes: &[u8],
+    wanted: &str,
+) -> Result<Option<(usize, String)>, AllocError> {
+    for n in 0..bytes.len() + 1 {
+        if is_tried(n, bytes.len()) {
+            let got = cut_in_two(alloc, bytes, n)?;
+            if got.as_str() != wanted {
+                return Ok(Some((n, got)));
+            }
+        }
+    }
+    Ok(None)
 }
 
 // What a cutter gives of the bytes in two pieces, the first of this length.

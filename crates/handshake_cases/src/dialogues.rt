@@ -6,65 +6,73 @@ use crate::outcome::{Outcome, wanted};
 use crate::pieces::{after, is_tried};
 use crate::setups::{Setup, setup_of};
 use anyhow::Result;
-use case_files::{Case, Tally, cases};
+use case_files::{Case, Tally};
 use std::alloc::Global;
-use std::fs;
 
-/// Tries each case of the file.
-pub(crate) fn try_dialogues(rt: &HostRuntime) -> Result<()> {
-    let text = fs::read_to_string(rt, "dialogues.txt")?;
-    let mut tally = Tally::new("dialogues.txt");
-    for case in cases(rt.alloc(), text.as_str(), 7)?.iter() {
-        tally.begin(case);
-        try_dialogue(rt, &mut tally, case)?;
-    }
-    tally.end(rt)?;
-    Ok(())
+/// Tries a case of the file.
+pub(crate) fn try_dialogue(rt: &HostRuntime, tally: &mut Tally, case: &Case) -> Result<()> {
+    let end = setup_of(rt.alloc(), case, 1)?;
+    let bytes = case.bytes(rt.alloc(), 2)?;
+    try_whole(rt, tally, case, &end, &bytes)?;
+    let faulty = case.column(5) == "closed" && case.column(6) != "closed";
+    let right = wanted(rt.alloc(), case)?.in_all(faulty)?;
+    try_cuts(rt, tally, &end, &bytes, faulty, &right)
 }
 
-fn try_dialogue(rt: &HostRuntime, tally: &mut Tally, case: &Case) -> Result<()> {
-    let alloc = rt.alloc();
-    let end = setup_of(alloc, case, 1)?;
-    let bytes = case.bytes(alloc, 2)?;
-    let right = wanted(alloc, case)?;
-    tally.compare(
-        rt,
-        "in one piece",
-        &right,
-        &in_one_piece(alloc, &end, &bytes)?,
-    )?;
-    let (machine, state) = lead_machine(alloc, &end, &bytes)?;
-    tally.compare(rt, "the machine", &right, &machine)?;
-    tally.compare(rt, "its state", &case.column(6), &state.as_str())?;
-    try_cuts(rt, tally, case, &end, &bytes)
-}
-
-// Tries every other cut of the bytes.
-fn try_cuts(
+// Tries the bytes as one piece, and line by line.
+fn try_whole(
     rt: &HostRuntime,
     tally: &mut Tally,
     case: &Case,
     end: &Setup,
     bytes: &[u8],
 ) -> Result<()> {
-    let alloc = rt.alloc();
-    let faulty = case.column(5) == "closed" && case.column(6) != "closed";
-    let right = wanted(alloc, case)?.in_all(faulty)?;
+    let right = wanted(rt.alloc(), case)?;
+    let got = in_one_piece(rt.alloc(), end, bytes)?;
+    tally.compare(rt, "in one piece", &right, &got)?;
+    let (machine, state) = lead_machine(rt.alloc(), end, bytes)?;
+    tally.compare(rt, "the machine", &right, &machine)?;
+    tally.compare(rt, "its state", &case.column(6), &state.as_str())?;
+    Ok(())
+}
+
+// Tries every other cut of the bytes.
+fn try_cuts(
+    rt: &HostRuntime,
+    tally: &mut Tally,
+    end: &Setup,
+    bytes: &[u8],
+    faulty: bool,
+    right: &Outcome,
+) -> Result<()> {
+    if let Some((n, got)) = another_cut(rt.alloc(), end, bytes, faulty, right)? {
+        let engine = format!(in rt.alloc(); "with {n} bytes first")?;
+        tally.differs(rt, engine.as_str(), right, &got)?;
+    }
+    let got = by_bytes(rt.alloc(), end, bytes, false)?.in_all(faulty)?;
+    tally.compare(rt, "byte by byte", right, &got)?;
+    let got = by_bytes(rt.alloc(), end, bytes, true)?.in_all(faulty)?;
+    tally.compare(rt, "with empty pieces", right, &got)?;
+    Ok(())
+}
+
+// The first length of a first piece of which the end makes something else, and what it makes.
+fn another_cut(
+    alloc: Global,
+    end: &Setup,
+    bytes: &[u8],
+    faulty: bool,
+    right: &Outcome,
+) -> Result<Option<(usize, Outcome)>> {
     for n in 0..bytes.len() + 1 {
         if is_tried(n, bytes.len()) {
             let got = in_two(alloc, end, bytes, n)?.in_all(faulty)?;
-            if got != right {
-                let engine = format!(in alloc; "with {n} bytes first")?;
-                tally.differs(rt, engine.as_str(), &right, &got)?;
-                break;
+            if got != *right {
+                return Ok(Some((n, got)));
             }
         }
     }
-    for (engine, between) in [("byte by byte", false), ("with empty pieces", true)] {
-        let got = by_bytes(alloc, end, bytes, between)?.in_all(faulty)?;
-        tally.compare(rt, engine, &right, &got)?;
-    }
-    Ok(())
+    Ok(None)
 }
 
 fn in_one_piece(alloc: Global, end: &Setup, bytes: &[u8]) -> Result<Outcome> {

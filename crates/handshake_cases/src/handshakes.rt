@@ -1,40 +1,33 @@
 //! The file of handshakes, which both ends lead with one another.
 
 use crate::outcome::{Outcome, status_word};
-use crate::setups::setup_of;
+use crate::setups::{Setup, setup_of};
 use crate::texts::Text;
 use crate::worlds::{Handshake, MESSAGE, Way, shake_hands};
 use anyhow::Result;
-use case_files::{Case, Tally, cases};
+use case_files::{Case, Tally};
 use std::alloc::{AllocError, Global};
-use std::fs;
 
-/// Tries each case of the file.
-pub(crate) fn try_handshakes(rt: &HostRuntime) -> Result<()> {
-    let text = fs::read_to_string(rt, "handshakes.txt")?;
-    let mut tally = Tally::new("handshakes.txt");
-    for case in cases(rt.alloc(), text.as_str(), 7)?.iter() {
-        tally.begin(case);
-        try_handshake(rt, &mut tally, case)?;
-    }
-    tally.end(rt)?;
-    Ok(())
-}
-
-fn try_handshake(rt: &HostRuntime, tally: &mut Tally, case: &Case) -> Result<()> {
-    let alloc = rt.alloc();
-    let client = setup_of(alloc, case, 1)?;
-    let server = setup_of(alloc, case, 2)?;
-    let right = wanted(alloc, case)?;
+/// Tries a case of the file.
+pub(crate) fn try_handshake(rt: &HostRuntime, tally: &mut Tally, case: &Case) -> Result<()> {
+    let client = setup_of(rt.alloc(), case, 1)?;
+    let server = setup_of(rt.alloc(), case, 2)?;
+    let right = wanted(rt.alloc(), case)?;
     for (engine, way) in [
         ("in one piece", Way::Whole),
         ("byte by byte", Way::Bytes),
         ("with empty pieces", Way::BytesAndNothing),
     ] {
-        let handshake = shake_hands(alloc, &client, &server, way)?;
-        tally.compare(rt, engine, &right, &told(alloc, &handshake)?)?;
+        let got = led(rt.alloc(), &client, &server, way)?;
+        tally.compare(rt, engine, &right, &got)?;
     }
     Ok(())
+}
+
+// What the handshake of these two ends comes to.
+fn led(alloc: Global, client: &Setup, server: &Setup, way: Way) -> Result<String> {
+    let handshake = shake_hands(alloc, client, server, way)?;
+    Ok(told(alloc, &handshake)?)
 }
 
 // What a case wants: what both ends send and where they stand, and what each leaves.
@@ -61,7 +54,7 @@ fn called_by(end: &str) -> &'static [u8] {
 }
 
 // What a handshake came to.
-fn told(alloc: Global, handshake: &Handshake) -> Result<String> {
+fn told(alloc: Global, handshake: &Handshake) -> Result<String, AllocError> {
     let Handshake {
         client,
         server,
@@ -69,13 +62,13 @@ fn told(alloc: Global, handshake: &Handshake) -> Result<String> {
         left_to_server,
     } = handshake;
     let (client_ends, server_ends) = (stands(alloc, client)?, stands(alloc, server)?);
-    Ok(format!(in alloc;
+    format!(in alloc;
         "{} | {} | {client_ends} | {server_ends} | {} and {} left",
         Text(&client.sent),
         Text(&server.sent),
         Text(left_to_client),
         Text(left_to_server)
-    )?)
+    )
 }
 
 // Where an end stands, with the GUID that a client has.

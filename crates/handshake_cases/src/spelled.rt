@@ -4,36 +4,42 @@ use crate::lines::{Line, Sender, read, written};
 use crate::meanings::meaning;
 use crate::texts::Text;
 use anyhow::Result;
-use case_files::{Case, CaseFault, Tally, cases};
+use case_files::{Case, CaseFault, Tally};
 use dbus_auth_lines::LineCutter;
 use std::alloc::Global;
-use std::fs;
 
-/// Tries each case of a file of lines.
-pub(crate) fn try_lines(rt: &HostRuntime, file: &str, sender: Sender) -> Result<()> {
-    let text = fs::read_to_string(rt, file)?;
-    let mut tally = Tally::new(file);
-    for case in cases(rt.alloc(), text.as_str(), 4)?.iter() {
-        tally.begin(case);
-        try_line(rt, &mut tally, case, sender)?;
-    }
-    tally.end(rt)?;
-    Ok(())
-}
-
-fn try_line(rt: &HostRuntime, tally: &mut Tally, case: &Case, sender: Sender) -> Result<()> {
+/// Tries a case of a file of lines.
+pub(crate) fn try_line(
+    rt: &HostRuntime,
+    tally: &mut Tally,
+    case: &Case,
+    sender: Sender,
+) -> Result<()> {
     let wanted = meaning(rt.alloc(), sender, case, 2)?;
     if case.column(1) != "none" {
         let line = case.bytes(rt.alloc(), 1)?;
-        let got = read(rt.alloc(), sender, &line)?;
-        tally.compare(rt, "read", &wanted, &got)?;
+        try_reading(rt, tally, "read", sender, &line, &wanted)?;
     }
-    let line = written(rt.alloc(), &wanted)?;
-    compare_written(rt, tally, case, line.as_deref())?;
-    if let Some(line) = line {
-        let got = read_again(rt.alloc(), sender, &line)?;
-        tally.compare(rt, "read again", &wanted, &got)?;
+    match written(rt.alloc(), &wanted)? {
+        Some(line) => {
+            compare_written(rt, tally, case, Some(&line))?;
+            try_again(rt, tally, sender, &line, &wanted)
+        }
+        None => compare_written(rt, tally, case, None),
     }
+}
+
+// Compares what the line means.
+fn try_reading(
+    rt: &HostRuntime,
+    tally: &mut Tally,
+    engine: &str,
+    sender: Sender,
+    line: &[u8],
+    wanted: &Line,
+) -> Result<()> {
+    let got = read(rt.alloc(), sender, line)?;
+    tally.compare(rt, engine, wanted, &got)?;
     Ok(())
 }
 
@@ -65,10 +71,18 @@ fn written_in(alloc: Global, case: &Case) -> Result<Option<Vec<u8>>, CaseFault> 
     Ok(Some(line))
 }
 
-// What the line means that a written one is cut into. If it is not one line, another one.
-fn read_again(alloc: Global, sender: Sender, written: &[u8]) -> Result<Line> {
-    match LineCutter::new(alloc).take(written)? {
-        (taken, Some(line)) if taken == written.len() => Ok(read(alloc, sender, &line)?),
-        _ => Ok(read(alloc, sender, b"")?),
+// Compares what the line means that a written one is cut into. If it is not one line, it is another one.
+fn try_again(
+    rt: &HostRuntime,
+    tally: &mut Tally,
+    sender: Sender,
+    written: &[u8],
+    wanted: &Line,
+) -> Result<()> {
+    match LineCutter::new(rt.alloc()).take(written)? {
+        (taken, Some(line)) if taken == written.len() => {
+            try_reading(rt, tally, "read again", sender, &line, wanted)
+        }
+        _ => try_reading(rt, tally, "read again", sender, b"", wanted),
     }
 }

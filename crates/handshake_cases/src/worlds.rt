@@ -92,6 +92,17 @@ pub(crate) struct Handshake {
     pub(crate) left_to_server: Vec<u8>,
 }
 
+// Hands over what is under way, again and again.
+fn talk(alloc: Global, client: &mut Side, server: &mut Side, way: Way) -> Result<()> {
+    for _ in 0..ROUNDS {
+        client.fetch(&mut server.under_way)?;
+        server.receive(alloc, way)?;
+        server.fetch(&mut client.under_way)?;
+        client.receive(alloc, way)?;
+    }
+    Ok(())
+}
+
 /// How the handshake of these two ends.
 pub(crate) fn shake_hands(
     alloc: Global,
@@ -101,12 +112,7 @@ pub(crate) fn shake_hands(
 ) -> Result<Handshake> {
     let mut client = Side::new(alloc, client)?;
     let mut server = Side::new(alloc, server)?;
-    for _ in 0..ROUNDS {
-        client.fetch(&mut server.under_way)?;
-        server.receive(alloc, way)?;
-        server.fetch(&mut client.under_way)?;
-        client.receive(alloc, way)?;
-    }
+    talk(alloc, &mut client, &mut server, way)?;
     Ok(Handshake {
         left_to_client: client.under_way,
         left_to_server: server.under_way,
