@@ -97,8 +97,9 @@ def print_table(minutes, runs, total, began):
 def waits_of(steps):
     """What each step waits for: a crate's proof and tests for the proofs below it, its edits for its own proof."""
     uses = read_crates()
+    # A proof that was kept is no step.
     return {
-        (crate, step): [(crate, "proof")] if step == "edits" else [(it, "proof") for it in uses.get(crate, []) if (it, "proof") in steps]
+        (crate, step): [(it, "proof") for it in ([crate] if step == "edits" else uses.get(crate, [])) if (it, "proof") in steps]
         for crate, step in steps
     }
 
