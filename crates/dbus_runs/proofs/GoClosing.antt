@@ -1,34 +1,23 @@
 -- How a run ends that passes over refused messages.
-use Rattle.std.proofs.Common.{◌≡◌, IfErr, IfOk, ℕ, ◌+◌, ◌≤◌, List, [], ◌∷◌, ◌++◌, Bool, false, true, Err, None, Ok, Option, Some, Result, refl, sym, ap, ◌∙◌, subst, arith, inl, inr, length, append_assoc, append-nil}
+use Rattle.std.proofs.Common.{◌≡◌, IfErr, IfOk, ℕ, ◌+◌, ◌≤◌, List, [], ◌∷◌, ◌++◌, Bool, false, true, Err, None, Ok, Option, Some, Result, refl, sym, ap, ◌∙◌, subst, arith, inl, inr, append_assoc}
 use Rattle.std.proofs.lemmas.Bool.{false≢true}
 use Rattle.dbus_value_model.specs.declared.fault.Fault.{Fault}
-use Rattle.dbus_value_model.specs.declared.limits.Limits.{Limits}
-use Rattle.dbus_device.specs.Write.{Stopped, Wrote}
-use Rattle.dbus_stream.specs.Cut.{CutOutcome, Ended, Unfinished, Refused}
+use Rattle.dbus_device.specs.Write.{Wrote}
 use Rattle.dbus_command.specs.declared.settings.Settings.{Settings}
 use Rattle.dbus_command.specs.declared.command.Command.{Command}
 use Rattle.dbus_report.specs.Devices.{writing, Taken}
-use Rattle.dbus_runs.specs.Going.{first_of, second_of, is_check, HandsParts, GoesThrough, IsThrough, StopsAtFault, StopsWithin, IsMore, IsStopOf, IsAllRead, GotFirst, GotSecond, Says, WritesBy}
-use Rattle.dbus_report.specs.Gathering.{IsPrefixTo}
-use Rattle.dbus_runs.specs.Parts.{AreTold, IsLast, Part, PassedOver, Whole, closing_line, passed_count, status_at}
+use Rattle.dbus_runs.specs.Going.{first_of, second_of, is_check, HandsParts, GoesThrough, HasLastLine, IsThrough, IsUntold, StopsWithin, IsMore, IsStopOf, GotFirst, GotSecond, Says, WritesBy}
+use Rattle.dbus_runs.specs.Parts.{AreTold, Part, PassedOver, Whole, closing_line, passed_count, status_at}
 use Rattle.dbus_report.specs.declared.ending.ExitStatus.{ExitStatus}
-use Rattle.dbus_report.specs.declared.ending.Cause.TheVariants.{Memory, ReadFailed, WriteFailed, TooManyReads}
+use Rattle.dbus_report.specs.declared.ending.Cause.TheVariants.{Memory}
 use Rattle.dbus_runs.specs.declared.going.Stop.{Stop}
-use Rattle.dbus_runs.specs.declared.going.Stop.TheVariants.{Cause as ByCause, Second}
+use Rattle.dbus_runs.specs.declared.going.Stop.TheVariants.{Cause as ByCause, Untold}
 use Rattle.dbus_runs.specs.declared.tally.Tally.{Tally}
 use Rattle.dbus_runs.proofs.PartLaws.{few_passed, few_passed_sizes}
-use Rattle.dbus_runs.proofs.WriteSteps.{TellsMore, divides, tells_more, wrote_stopped}
-
-last_front : (goes_on : Bool) (limits : Limits) (kept rest : List ℕ) (outcome : CutOutcome) (at_end : Type 0) → IsLast goes_on limits kept rest outcome at_end → IsPrefixTo kept rest
-last_front goes_on limits kept rest Ended at_end last = ([], last.0 ∙ sym (append-nil kept))
-last_front goes_on limits kept rest Unfinished at_end last = ([], last.0 ∙ sym (append-nil kept))
-last_front goes_on limits kept rest (Refused fault) at_end last = elim last [
-  | inl none ↦ ([], none.0 ∙ sym (append-nil kept))
-  | inr short ↦ short.0.front
-]
+use Rattle.dbus_runs.proofs.WriteSteps.{TellsMore, divides, tells_more}
 
 -- none is passed over in a run that is not to go on
-none_told : (settings : Settings) (n offset : ℕ) (parts : List Part) (told : List ℕ) → settings.keeps_going ≡ false → AreTold settings n offset parts told → passed_count parts ≡ 0
+pub none_told : (settings : Settings) (n offset : ℕ) (parts : List Part) (told : List ℕ) → settings.keeps_going ≡ false → AreTold settings n offset parts told → passed_count parts ≡ 0
 none_told settings n offset [] told halt t = refl
 none_told settings n offset (Whole item ∷ parts) told halt t = none_told settings (n + 1) (offset + item.size) parts t.1 halt t.4
 none_told settings n offset (PassedOver kept fault size ∷ parts) told halt t = absurd (false≢true (sym halt ∙ t.3.0))
@@ -80,68 +69,52 @@ module _ {W E : Type 0} {t : Taken} {held : W → Option (List ℕ)} {write_fail
           end_is = end_is;
         }
 
-    stops : (stop : Stop) (more : List ℕ) → IsPrefixTo more (closing_line command tally tally.passed fault)
-        → (IsMore t settings most command h.through.parts h.through.rest (h.text ++ more)
-        → IsAllRead t settings most command stop h.through.parts h.through.rest (h.text ++ more))
-        → IsStopOf t settings most command stop
-        → GotFirst held write_failures stop (first_of command h.out ((h.told ++ h.text) ++ more)) w0 w2 → GotSecond second_held second_failures stop (second_of command ((h.told ++ h.text) ++ more)) e0 e2
+    stops : (stop : Stop) (more : List ℕ) → IsMore t settings most command stop h.through.parts h.through.rest more → IsStopOf t settings most command stop
+        → GotFirst held write_failures command stop (first_of command h.out (h.told ++ more)) w0 w2 → GotSecond second_held second_failures command stop (second_of command (h.told ++ more)) e0 e2
         → StopsWithin t held write_failures second_held second_failures settings most command stop w0 w2 e0 e2
-    stops stop more prefix all caused first second =
-        let line_is = ap (λ (x : Tally). closing_line command x x.passed fault) h.through.tally_is in
-        let front = subst (λ (l : List ℕ). IsPrefixTo more l) line_is prefix in
-        record {
-          parts = h.through.parts;
-          rest = h.through.rest;
-          out = h.out;
-          told = h.told;
-          covers = h.through.covers;
-          more = h.text ++ more;
-          all = all (inr (
-            h.through.kept,
-            fault,
-            h.text,
-            last_front settings.keeps_going settings.limits h.through.kept h.through.rest h.through.tells.outcome _ h.through.last,
-            h.through.tells,
-            (front.0, ap (λ l. h.text ++ l) front.1 ∙ sym (append_assoc h.text more front.0)),
-          ));
-          caused = caused;
-          first = subst (λ (l : List ℕ). GotFirst held write_failures stop (first_of command h.out l) w0 w2) (append_assoc h.told h.text more) first;
-          second = subst (λ (l : List ℕ). GotSecond second_held second_failures stop (second_of command l) e0 e2) (append_assoc h.told h.text more) second;
-        }
+    stops stop more all caused first second = record {
+      parts = h.through.parts;
+      rest = h.through.rest;
+      out = h.out;
+      told = h.told;
+      covers = h.through.covers;
+      more = more;
+      all = all;
+      caused = caused;
+      first = first;
+      second = second;
+    }
 
-    stops_line : (stop : Stop) (line : List ℕ) → IsClosing line → ((more : List ℕ) → IsMore t settings most command h.through.parts h.through.rest more
-        → IsAllRead t settings most command stop h.through.parts h.through.rest more)
-        → IsStopOf t settings most command stop
-        → GotFirst held write_failures stop (first_of command h.out ((h.told ++ h.text) ++ line)) w0 w2 → GotSecond second_held second_failures stop (second_of command ((h.told ++ h.text) ++ line)) e0 e2
+    untold_by : (first : Bool) (text : List ℕ) (stop : Stop) → WritesBy first (writing held write_failures w1 w2) (writing second_held second_failures e1 e2) text (Err stop) → stop ≡ Untold
+    untold_by true text stop w = w.0
+    untold_by false text stop w = w.0
+
+    -- for want of memory the last line was not told
+    no_line : HasLastLine command tally.passed fault → w2 ≡ w1 → e2 ≡ e1 → StopsWithin t held write_failures second_held second_failures settings most command (ByCause Memory) w0 w2 e0 e2
+    no_line due same_first same_second =
+        let passed = ap (λ (x : Tally). x.passed) h.through.tally_is in
+        stops (ByCause Memory) h.text
+        (inr (h.through.kept, fault, h.through.tells, h.through.last, subst (λ (n : ℕ). HasLastLine command n fault) passed due)) h.through.read_failed
+        (subst (λ (x : W). Wrote held write_failures w0 (first_of command h.out (h.told ++ h.text)) x) (sym same_first) h.first)
+        (subst (λ (x : E). Wrote second_held second_failures e0 (second_of command (h.told ++ h.text)) x) (sym same_second) h.second)
+
+    -- not all of it was
+    half_line : (line : List ℕ) (stop : Stop) → IsClosing line → stop ≡ Untold → Closes (Err stop) → StopsWithin t held write_failures second_held second_failures settings most command stop w0 w2 e0 e2
+    half_line line stop is untold w =
+        let more = more_told (Err Untold) (subst (λ s. Closes (Err s)) untold w) in
+        let last = more.1 ∙ ap (λ (x : Tally). closing_line command x x.passed fault) h.through.tally_is in
+        let joined = append_assoc h.told h.text more.0 in
+        subst (λ s. StopsWithin t held write_failures second_held second_failures settings most command s w0 w2 e0 e2) (sym untold)
+        (stops Untold (h.text ++ more.0) (h.through.kept, fault, h.text, h.through.tells, inr (h.through.last, ap (λ l. h.text ++ l) last)) h.through.read_failed
+        (subst (λ (l : List ℕ). GotFirst held write_failures command Untold (first_of command h.out l) w0 w2) joined more.2.0)
+        (subst (λ (l : List ℕ). GotSecond second_held second_failures command Untold (second_of command l) e0 e2) joined more.2.1))
+
+    -- it was not told
+    pub not_closed : {S F : Type 0} (bytes : S → List ℕ) (line : Result S F) (stop : Stop) → IfOk line (λ l. IsClosing (bytes l)) → IfErr line (λ _. HasLastLine command tally.passed fault)
+        → IfOk line (λ l. WritesBy (is_check command) (writing held write_failures w1 w2) (writing second_held second_failures e1 e2) (bytes l) (Err stop))
+        → IfErr line (λ _. IsUntold (writing held write_failures w1 w2) (writing second_held second_failures e1 e2) (Err stop))
         → StopsWithin t held write_failures second_held second_failures settings most command stop w0 w2 e0 e2
-    stops_line stop line is all caused first second = stops stop line ([], sym is ∙ sym (append-nil line)) (all (h.text ++ line)) caused first second
-
-    pub not_closed : (stop : Stop) → Closes (Err stop) → StopsWithin t held write_failures second_held second_failures settings most command stop w0 w2 e0 e2
-    not_closed (ByCause Memory) w = let more = more_told (Err (ByCause Memory)) w in stops (ByCause Memory) [] (closing_line command tally tally.passed fault, refl) (λ m. m) h.through.read_failed more.0 more.1
-    not_closed (ByCause ReadFailed) w = absurd (more_told (Err (ByCause ReadFailed)) w)
-    not_closed (ByCause WriteFailed) w = let more = more_told (Err (ByCause WriteFailed)) w in stops_line (ByCause WriteFailed) more.0 more.1 (λ _ m. m) h.through.read_failed more.2.0 more.2.1
-    not_closed (ByCause TooManyReads) w = absurd (more_told (Err (ByCause TooManyReads)) w)
-    not_closed Second w = let more = more_told (Err Second) w in stops_line Second more.0 more.1 (λ _ m. m) h.through.read_failed more.2.0 more.2.1
-
-    -- a run that is not to go on ends before its fault is told, or within that
-    pub alone : {S F : Type 0} (bytes : S → List ℕ) (line : Result S F) (stop : Stop) (more : List ℕ) → IfOk line (λ l. IsClosing (bytes l)) → IfErr line (λ _. tally.passed ≡ 0 → is_check command ≡ true)
-        → IfOk line (λ l. WritesBy (is_check command) (writing held write_failures w1 w2) (writing second_held second_failures e1 e2) (bytes l) (Err stop)) → settings.keeps_going ≡ false → is_check command ≡ false
-        → StopsAtFault t held write_failures second_held second_failures settings most command stop more w0 w2 e0 e2
-    alone bytes (Err x) stop more is due writes halt other = absurd (false≢true (sym other ∙ due (none_passed h.through halt)))
-    alone bytes (Ok l) stop more is due writes halt other =
-        let w = subst (λ (b : Bool). WritesBy b (writing held write_failures w1 w2) (writing second_held second_failures e1 e2) (bytes l) (Err stop)) other writes in
-        let told = h.told ++ h.text in
-        let none : bytes l ≡ [] = is ∙ closing_none command tally tally.passed fault (none_passed h.through halt) other in
-        let all : second_of command told ++ bytes l ≡ second_of command told = ap (λ b. second_of command told ++ b) none ∙ append-nil (second_of command told) in
-        subst (λ s. StopsAtFault t held write_failures second_held second_failures settings most command s more w0 w2 e0 e2) (sym w.0) (record {
-          tally = tally;
-          fault = fault;
-          out = h.out;
-          told = h.told;
-          text = h.text;
-          through = h.through;
-          first = subst (λ (x : W). Wrote held write_failures w0 (first_of command h.out told) x) (sym w.2) h.first;
-          n = length (second_of command told) + w.1.0;
-          second = subst (λ (b : List ℕ). Stopped second_held second_failures e0 b (length (second_of command told) + w.1.0) e2) all
-              (wrote_stopped second_held second_failures (second_of command told) (bytes l) w.1.0 e0 e1 e2 h.second w.1.1);
-        })
+    not_closed bytes (Ok l) stop is due writes untold = half_line (bytes l) stop is (untold_by (is_check command) (bytes l) stop writes) (inl (bytes l, is, writes))
+    not_closed bytes (Err x) stop is due writes untold =
+        let same : stop ≡ ByCause Memory = (let e = untold.0 in cc) in
+        subst (λ s. StopsWithin t held write_failures second_held second_failures settings most command s w0 w2 e0 e2) (sym same) (no_line due untold.1 untold.2)

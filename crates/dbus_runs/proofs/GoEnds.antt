@@ -21,21 +21,21 @@ use Rattle.dbus_stream.specs.declared.raw_reader.RawReader.{RawReader}
 use Rattle.dbus_stream.specs.declared.read_fault.ReadFault.{ReadFault}
 use Rattle.dbus_stream.specs.declared.read_fault.ReadFault.TheVariants as read
 use Rattle.dbus_report.specs.Devices.{writing}
-use Rattle.dbus_runs.specs.Going.{first_of, second_of, IsMore, IsAllOf, cause_of, GotFirst, GotSecond, TellsBy}
+use Rattle.dbus_runs.specs.Going.{first_of, second_of, IsAllOf, IsTellable, cause_of, GotFirst, GotSecond, TellsBy}
 use Rattle.dbus_runs.specs.Onward.{HasRead, stop_of}
-use Rattle.dbus_runs.specs.Parts.{AreTold, BeginWithParts, closing_line, IsCutOff, IsLast, IsTold, passed_count, passed_sizes, PassedOver, sizes_of, tally_of}
+use Rattle.dbus_runs.specs.Parts.{AreTold, BeginWithParts, IsCutOff, IsLast, IsTold, passed_count, passed_sizes, PassedOver, sizes_of}
 use Rattle.dbus_runs.specs.Windows.{after, written}
 use Rattle.dbus_report.specs.declared.ending.Cause.TheVariants.{Memory, ReadFailed, WriteFailed, TooManyReads}
 use Rattle.dbus_runs.specs.declared.counted.Counted.{Counted}
 use Rattle.dbus_runs.specs.declared.going.Stop.{Stop}
-use Rattle.dbus_runs.specs.declared.going.Stop.TheVariants.{Cause as ByCause, Second}
+use Rattle.dbus_runs.specs.declared.going.Stop.TheVariants.{Cause as ByCause, Untold}
 use Rattle.dbus_runs.specs.declared.place.Carried.{Carried}
 use Rattle.dbus_runs.specs.declared.tally.Tally.{Tally}
 use Rattle.dbus_runs.proofs.PartLaws.{parts_more, sizes-both, passed-both, passed_sizes-both, past_all_both}
 use Rattle.dbus_runs.specs.WindowLaws.{written_none}
 use Rattle.dbus_runs.proofs.ReadSteps.{read_none, read_on}
 use Rattle.dbus_runs.proofs.WriteSteps.{HasTold, TellsMore, tells_more}
-use Rattle.dbus_runs.proofs.GoSteps.{Begun, HasCovered, HasGone, HasReached, refused_is, none_is, known_first, covers_read, covers, Took, Within, Torn, Through, Handed, Stopped, AllRead, stops_plain, all_called}
+use Rattle.dbus_runs.proofs.GoSteps.{Begun, HasCovered, HasGone, HasReached, refused_is, none_is, known_first, covers_read, covers, Took, Within, Through, Handed, Stopped, More, stops_plain, all_called}
 
 module _ {R A W E : Type 0} {run : Begun R A W E} {mid : RawReader R A} {counted : Counted} {tally : Tally} {carried : Carried} {w1 : W} {e1 : E} (h : HasReached run mid counted tally carried w1 e1) where
   -- it ends after a message
@@ -128,53 +128,40 @@ module _ {R A W E : Type 0} {run : Begun R A W E} {mid : RawReader R A} {counted
     through_there text told none =
         through mid text (kept mid) h.outcome told h.outcome_is fault_last h.gone.covered (last_is h.outcome fault_last (λ not. h.gone.covered.at_end (h.ended not)) none) refl
 
-    stops_told : (stop : Stop) (text : List ℕ) (w2 : W) (e2 : E) → Tells text
-        → (IsMore (Took run mid) run.settings (most_reads_of run.old) run.command h.gone.parts (kept mid) text → AllRead run mid stop h.gone.parts (kept mid) text) → Stopped run mid stop
-        → GotFirst run.held run.write_failures stop (first_of run.command h.gone.out (h.gone.told ++ text)) run.w0 w2 → GotSecond run.second_held run.second_failures stop (second_of run.command (h.gone.told ++ text)) run.e0 e2 → Within run mid stop w2 e2
-    stops_told stop text w2 e2 told all caused first second = record {
-      parts = h.gone.parts;
-      rest = kept mid;
-      out = h.gone.out;
-      told = h.gone.told;
-      covers = covers run mid h.gone.parts (kept mid) h.gone.out h.gone.told h.gone.covered;
-      more = text;
-      all = all (inr (
-        kept mid,
-        Some fault,
-        text,
-        ([], sym (append-nil (kept mid))),
-        record { outcome = h.outcome; outcome_is = h.outcome_is; fault_is = fault_last; told = told_at (length h.gone.parts + 1) text refl told },
-        (closing_line run.command (tally_of h.gone.parts) (passed_count h.gone.parts) (Some fault), refl),
-      ));
-      caused = caused;
-      first = first;
-      second = second;
-    }
+    -- the fault shows
+    tellable : (outcome : CutOutcome) → Some fault ≡ fault_at_end (kept mid) outcome → (((f : Fault) → outcome ≡ Refused f → ⊥) → IsAtEnd (run.left (source_of mid)))
+        → IsTellable (kept mid) (kept mid) outcome (IsAtEnd (run.left (source_of mid)))
+    tellable Ended e at_end = (refl, at_end (λ f is. absurd cc))
+    tellable Unfinished e at_end = (refl, at_end (λ f is. absurd cc))
+    tellable (Refused other) e at_end = refl
 
-    pub not_told : (w2 : W) (e2 : E) (stop : Stop) → TellsIt w2 e2 (Err stop) → Torn run mid stop w2 e2
+    pub not_told : (w2 : W) (e2 : E) (stop : Stop) → TellsIt w2 e2 (Err stop) → Within run mid stop w2 e2
     not_told w2 e2 (ByCause Memory) told =
         let more = more_told w2 e2 (Err (ByCause Memory)) told in
-        stops_plain run Memory mid h.gone.parts (kept mid) h.gone.out h.gone.told w2 e2 h.gone.covered (inl refl) h.gone.failed more.0 more.1
+        stops_plain run Memory mid h.gone.parts (kept mid) h.gone.out h.gone.told w2 e2 h.gone.covered (inl refl) h.gone.failed more.first more.second
     not_told w2 e2 (ByCause ReadFailed) told = absurd (more_told w2 e2 (Err (ByCause ReadFailed)) told)
-    not_told w2 e2 (ByCause WriteFailed) told =
-        let more = more_told w2 e2 (Err (ByCause WriteFailed)) told in
-        (stops_told (ByCause WriteFailed) more.0 w2 e2 more.1 (λ m. m) h.gone.failed more.2.0 more.2.1, λ _ other. absurd (false≢true (sym other ∙ more.3)))
+    not_told w2 e2 (ByCause WriteFailed) told = absurd (more_told w2 e2 (Err (ByCause WriteFailed)) told)
     not_told w2 e2 (ByCause TooManyReads) told = absurd (more_told w2 e2 (Err (ByCause TooManyReads)) told)
-    not_told w2 e2 Second told =
-        let more = more_told w2 e2 (Err Second) told in (
-          stops_told Second more.0 w2 e2 more.1 (λ m. m) h.gone.failed more.2.0 more.2.1,
-          λ halt _. record {
-            tally = tally;
-            fault = Some fault;
-            out = h.gone.out;
-            told = h.gone.told;
-            text = more.0;
-            through = through_there more.0 more.1 (λ goes. absurd (false≢true (sym halt ∙ goes)));
-            first = more.2.0;
-            n = more.2.1.0;
-            second = more.2.1.1;
-          },
-        )
+    not_told w2 e2 Untold told =
+        let more = more_told w2 e2 (Err Untold) told in
+        record {
+          parts = h.gone.parts;
+          rest = kept mid;
+          out = h.gone.out;
+          told = h.gone.told;
+          covers = covers run mid h.gone.parts (kept mid) h.gone.out h.gone.told h.gone.covered;
+          more = more.0;
+          all = (
+            kept mid,
+            Some fault,
+            more.0,
+            record { outcome = h.outcome; outcome_is = h.outcome_is; fault_is = fault_last; told = told_at (length h.gone.parts + 1) more.0 refl more.1 },
+            inl (tellable h.outcome fault_last (λ not. h.gone.covered.at_end (h.ended not)), refl),
+          );
+          caused = h.gone.failed;
+          first = more.2.0;
+          second = more.2.1;
+        }
 
     -- ---- and the message is passed over, or not
 
@@ -243,27 +230,24 @@ module _ {R A W E : Type 0} {run : Begun R A W E} {mid : RawReader R A} {counted
 
       -- it was not passed over, since reading was given up
       torn : (goes : run.settings.keeps_going ≡ true) (stop : Stop) (n : ℕ) (r : ReadsUpTo n run.left run.calls mid new) (other : Fault) → IsRefusal (stopped_of mid) other → StatesLength (limits_of mid) (kept mid) n → FallsShort n (kept mid ++ r.bytes) mid new
-          → (IsAllOf (Took run new) run.settings (most_reads_of run.old) run.command h.gone.parts (kept mid ++ r.bytes) text → AllRead run new stop h.gone.parts (kept mid ++ r.bytes) text)
-          → Stopped run new stop → GotFirst run.held run.write_failures stop (first_of run.command h.gone.out (h.gone.told ++ text)) run.w0 w2
-          → GotSecond run.second_held run.second_failures stop (second_of run.command (h.gone.told ++ text)) run.e0 e2 → Torn run new stop w2 e2
-      torn goes stop n r other refusal s short all caused first second = (
-        record {
-          parts = h.gone.parts;
-          rest = kept mid ++ r.bytes;
-          out = h.gone.out;
-          told = h.gone.told;
-          covers = covers run new h.gone.parts (kept mid ++ r.bytes) h.gone.out h.gone.told (short_covered n r);
-          more = text;
-          all = all (inr (kept mid, fault, met other refusal, cut_off n r.bytes s short, goes, told_at (length h.gone.parts + 1) text refl told));
-          caused = caused;
-          first = first;
-          second = second;
-        },
-        λ halt _. absurd (false≢true (sym halt ∙ goes)),
-      )
+          → (IsAllOf (Took run new) run.settings (most_reads_of run.old) run.command h.gone.parts (kept mid ++ r.bytes) text → More run new stop h.gone.parts (kept mid ++ r.bytes) text)
+          → Stopped run new stop → GotFirst run.held run.write_failures run.command stop (first_of run.command h.gone.out (h.gone.told ++ text)) run.w0 w2
+          → GotSecond run.second_held run.second_failures run.command stop (second_of run.command (h.gone.told ++ text)) run.e0 e2 → Within run new stop w2 e2
+      torn goes stop n r other refusal s short all caused first second = record {
+        parts = h.gone.parts;
+        rest = kept mid ++ r.bytes;
+        out = h.gone.out;
+        told = h.gone.told;
+        covers = covers run new h.gone.parts (kept mid ++ r.bytes) h.gone.out h.gone.told (short_covered n r);
+        more = text;
+        all = all (inr (kept mid, fault, met other refusal, cut_off n r.bytes s short, goes, told_at (length h.gone.parts + 1) text refl told));
+        caused = caused;
+        first = first;
+        second = second;
+      }
 
       pub breaks : (goes : run.settings.keeps_going ≡ true) (broken : ReadFault) → Passing run.left run.calls mid new (Err broken) → DeviceCounts {T = Bool} (run.failures (source_of mid)) (run.failures (source_of new)) (Err broken)
-          → Torn run new (ByCause (cause_of broken)) w2 e2
+          → Within run new (ByCause (cause_of broken)) w2 e2
       breaks goes read.Memory passing counts = elim passing [ inl p ↦ absurd p.5 | inr none ↦ absurd (let e = none.1 in cc) ]
       breaks goes (read.Format f) passing counts = elim passing [ inl p ↦ absurd p.5 | inr none ↦ absurd (let e = none.1 in cc) ]
       breaks goes read.Device passing counts = elim passing [

@@ -1,5 +1,5 @@
 -- The turns of a run that passes over refused messages. Each hands on the messages up to the next fault, tells it, and passes over that message.
-use Rattle.std.proofs.Common.{◌≡◌, ℕ, ◌+◌, ◌^◌, ◌<◌, ◌≤◌, List, [], ◌++◌, true, false, None, Some, Ok, Err, Option, length, refl, sym, ap, ◌∙◌, subst, arith, inl, inr, append-nil, length-append}
+use Rattle.std.proofs.Common.{◌≡◌, ℕ, ◌+◌, ◌^◌, ◌<◌, ◌≤◌, List, [], ◌++◌, true, false, None, Some, Ok, Option, length, refl, sym, ap, ◌∙◌, subst, arith, inl, inr, append-nil, length-append}
 use Rattle.std.specs.Io.KnownBytes.{Consumes}
 use Rattle.std.proofs.KnownBytes.{Consumes-nil, Consumes-trans}
 use Rattle.std.proofs.lemmas.Bool.{false≢true}
@@ -20,7 +20,7 @@ use Rattle.dbus_command.specs.declared.command.Command.{Command}
 use Rattle.dbus_match.specs.Matching.{Ownership}
 use Rattle.dbus_report.specs.Devices.{reading, taken, Taken}
 use Rattle.dbus_report.specs.Gathering.{Passes, Breaks, gathered_bytes}
-use Rattle.dbus_runs.specs.Going.{first_of, second_of, Covers, IsThrough, HandsParts, StopsWithin, IsStopOf, IsAllRead, PartsOf, GotFirst}
+use Rattle.dbus_runs.specs.Going.{first_of, second_of, Covers, IsThrough, HandsParts, StopsWithin, IsStopOf, IsMore, GotFirst}
 use Rattle.dbus_runs.specs.Commands.{command_of}
 use Rattle.dbus_runs.specs.Onward.{HasRead, HandsRawOn, HandsSomeOn, IsTrueEnd, stop_of}
 use Rattle.dbus_runs.specs.Output.{IsOutputOfAll, owners_after_all, owners_known}
@@ -234,9 +234,6 @@ module _ {R A W E : Type 0} (run : Begun R A W E) where
   abbrev pub Within : RawReader R A → Stop → W → E → Type 0
   Within new stop w e = StopsWithin (Took new) run.held run.write_failures run.second_held run.second_failures run.settings (most_reads_of run.old) run.command stop run.w0 w run.e0 e
 
-  abbrev pub Torn : RawReader R A → Stop → W → E → Type 0
-  Torn new stop w e = PartsOf (Took new) run.held run.write_failures run.second_held run.second_failures run.settings (most_reads_of run.old) run.command (Err stop) run.w0 w run.e0 e
-
   abbrev pub Through : RawReader R A → Tally → Option Fault → (out told text : List ℕ) → Type 0
   Through new tally fault out told text = IsThrough (Took new) run.settings (most_reads_of run.old) run.command tally fault out told text
 
@@ -246,29 +243,27 @@ module _ {R A W E : Type 0} (run : Begun R A W E) where
   abbrev pub Stopped : RawReader R A → Stop → Type 0
   Stopped new stop = IsStopOf (Took new) run.settings (most_reads_of run.old) run.command stop
 
-  abbrev pub AllRead : RawReader R A → Stop → List Part → List ℕ → List ℕ → Type 0
-  AllRead new stop parts rest more = IsAllRead (Took new) run.settings (most_reads_of run.old) run.command stop parts rest more
+  abbrev pub More : RawReader R A → Stop → List Part → List ℕ → List ℕ → Type 0
+  More new stop parts rest more = IsMore (Took new) run.settings (most_reads_of run.old) run.command stop parts rest more
 
   -- ---- the messages are not all handed on
 
   -- nothing is told of the rest
-  pub stops_plain : (cause : Cause) (new : RawReader R A) (parts : List Part) (rest out told : List ℕ) (w : W) (e : E) → HasCovered new parts rest out told → AllRead new (ByCause cause) parts rest []
-      → Stopped new (ByCause cause) → GotFirst run.held run.write_failures (ByCause cause) (first_of run.command out (told ++ [])) run.w0 w → Wrote run.second_held run.second_failures run.e0 (second_of run.command (told ++ [])) e → Torn new (ByCause cause) w e
-  stops_plain cause new parts rest out told w e h all caused first second = (
-    record {
-      parts = parts;
-      rest = rest;
-      out = out;
-      told = told;
-      covers = covers new parts rest out told h;
-      more = [];
-      all = all;
-      caused = caused;
-      first = first;
-      second = second;
-    },
-    λ _ _. refl,
-  )
+  pub stops_plain : (cause : Cause) (new : RawReader R A) (parts : List Part) (rest out told : List ℕ) (w : W) (e : E) → HasCovered new parts rest out told → More new (ByCause cause) parts rest []
+      → Stopped new (ByCause cause) → GotFirst run.held run.write_failures run.command (ByCause cause) (first_of run.command out told) run.w0 w → Wrote run.second_held run.second_failures run.e0 (second_of run.command told) e
+      → Within new (ByCause cause) w e
+  stops_plain cause new parts rest out told w e h all caused first second = record {
+    parts = parts;
+    rest = rest;
+    out = out;
+    told = told;
+    covers = covers new parts rest out told h;
+    more = [];
+    all = all;
+    caused = caused;
+    first = subst (λ (l : List ℕ). GotFirst run.held run.write_failures run.command (ByCause cause) (first_of run.command out l) run.w0 w) (sym (append-nil told)) first;
+    second = subst (λ (l : List ℕ). Wrote run.second_held run.second_failures run.e0 (second_of run.command l) e) (sym (append-nil told)) second;
+  }
 
   pub all_called : (new : RawReader R A) (parts : List Part) (rest out told : List ℕ) → HasCovered new parts rest out told → reads_of new ≡ most_reads_of new → RisesBy (most_reads_of run.old) (run.calls (source_of run.old)) (run.calls (source_of new))
   all_called new parts rest out told h e = subst (λ n. RisesBy n (run.calls (source_of run.old)) (run.calls (source_of new))) (e ∙ h.most_reads) h.called
@@ -372,27 +367,26 @@ module _ {R A W E : Type 0} {run : Begun R A W E} {mid : RawReader R A} {tally :
   Handing cause = HandsSomeOn gathering run.left run.calls run.settings.limits (kept mid) run.failures (WritesAll run.held run.write_failures) (LeavesWritten run.held run.write_failures) tally.count cause
       mid.reader new.reader s1 s2
 
-  stops_some : (cause : Cause) (s : Handing cause) → AllRead run new (ByCause cause) (h.parts ++ wholes s.items) s.rest [] → Stopped run new (ByCause cause)
-      → GotFirst run.held run.write_failures (ByCause cause) (first_of run.command (h.out ++ written s1.carried.window s.given_up.texts) h.told) run.w0 s2.first.now → Torn run new (ByCause cause) s2.first.now e1
+  stops_some : (cause : Cause) (s : Handing cause) → More run new (ByCause cause) (h.parts ++ wholes s.items) s.rest [] → Stopped run new (ByCause cause)
+      → GotFirst run.held run.write_failures run.command (ByCause cause) (first_of run.command (h.out ++ written s1.carried.window s.given_up.texts) h.told) run.w0 s2.first.now → Within run new (ByCause cause) s2.first.now e1
   stops_some cause s all caused first =
       let out = h.out ++ written s1.carried.window s.given_up.texts in
       stops_plain run cause new (h.parts ++ wholes s.items) s.rest out h.told s2.first.now e1
       (covered_next h new s2.first.now s.items s.rest s.rest s.given_up.texts refl s.read (made_is s.items s.given_up.texts s.given_up.made)) all caused
-      (subst (λ (l : List ℕ). GotFirst run.held run.write_failures (ByCause cause) (first_of run.command out l) run.w0 s2.first.now) (sym (append-nil h.told)) first)
-      (subst (λ (l : List ℕ). Wrote run.second_held run.second_failures run.e0 (second_of run.command l) e1) (sym (append-nil h.told)) h.wrote.second)
+      first h.wrote.second
 
   -- all that it made was written
   wrote_some : {cause : Cause} (s : Handing cause) → Passes run.held run.write_failures (written s1.carried.window s.given_up.texts) (gathered_bytes s1.gathered) [] s1.first.now s2.first.now
       → Wrote run.held run.write_failures run.w0 (first_of run.command (h.out ++ written s1.carried.window s.given_up.texts) h.told) s2.first.now
   wrote_some s p = wrote_next h new s2.first.now s.items s.given_up.texts (made_is s.items s.given_up.texts s.given_up.made) empty refl p
 
-  pub stop_hand : (cause : Cause) → Handing cause → Torn run new (ByCause cause) s2.first.now e1
+  pub stop_hand : (cause : Cause) → Handing cause → Within run new (ByCause cause) s2.first.now e1
   stop_hand Memory s = stops_some Memory s (inl refl) (s.caused ∙ h.failed) (wrote_some s s.given_up.leaves)
   stop_hand ReadFailed s = stops_some ReadFailed s (inl (s.all, refl)) (s.caused ∙ ap one_more h.failed) (wrote_some s s.given_up.leaves)
   stop_hand WriteFailed s =
       let texts = s.given_up.texts in
       let broken = subst (λ (g : List ℕ). Breaks run.held run.write_failures (written s1.carried.window texts) g s1.first.now s2.first.now) empty s.given_up.leaves in
-      stops_some WriteFailed s (inl refl) (s.caused ∙ h.failed) (subst (λ l. Breaks run.held run.write_failures l [] run.w0 s2.first.now) (out_next h new s2.first.now s.items texts (made_is s.items texts s.given_up.made))
+      stops_some WriteFailed s refl (s.caused ∙ h.failed) (subst (λ l. Breaks run.held run.write_failures l [] run.w0 s2.first.now) (out_next h new s2.first.now s.items texts (made_is s.items texts s.given_up.made))
       (wrote_breaks run.held run.write_failures (first_of run.command h.out h.told) (written s1.carried.window texts) run.w0 s1.first.now s2.first.now h.wrote.first broken))
   stop_hand TooManyReads s =
       let texts = s.given_up.texts in

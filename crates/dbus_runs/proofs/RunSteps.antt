@@ -1,8 +1,9 @@
 -- How a run ends that neither explains refused messages nor passes over them, of a command that tells the second writer. What it promises by parts
 -- is said of messages here.
-use Rattle.std.proofs.Common.{◌≡◌, ◌≢◌, ℕ, ◌+◌, List, [], ◌∷◌, ◌++◌, false, None, Some, Option, length, drop, refl, sym, ap, ◌∙◌, subst, append-nil, inl, inr}
+use Rattle.std.proofs.Common.{◌≡◌, ◌≢◌, ℕ, ◌+◌, List, [], ◌∷◌, ◌++◌, Bool, not, false, None, Some, Option, length, drop, refl, sym, ap, ◌∙◌, subst, append-nil, inl, inr}
 use Rattle.std.proofs.lemmas.Bool.{false≢true}
 use Rattle.std.specs.List.{concat}
+use Rattle.std.specs.Io.KnownBytes.{IsAtEnd}
 use Rattle.dbus_value_model.specs.declared.fault.Fault.{Fault}
 use Rattle.dbus_value_model.specs.declared.limits.Limits.{Limits}
 use Rattle.dbus_header.specs.MessageOutcomes.{IsPartial}
@@ -15,11 +16,11 @@ use Rattle.dbus_command.specs.declared.command.Command.{Command}
 use Rattle.dbus_command.specs.declared.command.Command.TheVariants.{Show, Json, Check, Swap, Filter}
 use Rattle.dbus_runs.specs.Checking.{TellsLine, WritesMessages, WritesBefore, Answers, Fails, IsCause}
 use Rattle.dbus_report.specs.Devices.{Taken, reading, taken, writing}
-use Rattle.dbus_runs.specs.Going.{first_of, second_of, is_check, GoesThrough, IsThrough, RunsWith, StopsAtFault, StopsWithin, IsAllOf, TellsStop}
+use Rattle.dbus_runs.specs.Going.{first_of, second_of, is_check, GoesThrough, IsThrough, RunsWith, StopsWithin, IsAllOf, IsTellable, TellsStop, TellsUntold, GotOrNot}
 use Rattle.dbus_report.specs.Gathering.{Breaks, IsPrefixTo}
 use Rattle.dbus_report.specs.Lines.{cause_line}
 use Rattle.dbus_runs.specs.Output.{IsFront, IsOutputOfAll, fault_line, owners_known, second_output}
-use Rattle.dbus_runs.specs.Parts.{closing_line, status_at, Part, Whole, PassedOver, sizes_of, BeginWithParts, IsLast, AreMade, AreTold, IsToldLast, owners_past}
+use Rattle.dbus_runs.specs.Parts.{closing_line, passed_count, status_at, tally_of, Part, Whole, PassedOver, sizes_of, BeginWithParts, IsLast, AreMade, AreTold, IsToldLast, owners_past}
 use Rattle.dbus_runs.specs.Running.{Runs, plain}
 use Rattle.dbus_report.specs.Failing.{Told}
 use Rattle.dbus_runs.specs.Windows.{written}
@@ -29,8 +30,8 @@ use Rattle.dbus_report.specs.declared.ending.Cause.{Cause}
 use Rattle.dbus_report.specs.declared.ending.Cause.TheVariants.{Memory, ReadFailed, WriteFailed, TooManyReads}
 use Rattle.dbus_runs.specs.declared.tally.Tally.{Tally}
 use Rattle.dbus_runs.specs.declared.going.Stop.{Stop}
-use Rattle.dbus_runs.specs.declared.going.Stop.TheVariants.{Cause as ByCause, Second}
-use Rattle.dbus_runs.proofs.GoClosing.{closing_none, none_passed}
+use Rattle.dbus_runs.specs.declared.going.Stop.TheVariants.{Cause as ByCause, Untold}
+use Rattle.dbus_runs.proofs.GoClosing.{closing_none, none_passed, none_told}
 use Rattle.dbus_runs.proofs.Outputs.{front_of_first}
 use Rattle.dbus_runs.proofs.WindowSteps.{written_all}
 use Rattle.dbus_runs.proofs.WriteSteps.{divides, wrote_both, wrote_stopped}
@@ -73,6 +74,12 @@ rest_is limits kept rest (Refused fault) at_end last = elim last [
   | inl all ↦ (all.0, λ none. absurd (none fault refl))
   | inr short ↦ absurd (false≢true short.2)
 ]
+
+-- what shows of a fault ends a run that is not to go on
+last_shown : (limits : Limits) (kept rest : List ℕ) (outcome : CutOutcome) (at_end : Type 0) → IsTellable kept rest outcome at_end → IsLast false limits kept rest outcome at_end
+last_shown limits kept rest Ended at_end shown = shown
+last_shown limits kept rest Unfinished at_end shown = shown
+last_shown limits kept rest (Refused fault) at_end shown = inl (shown, λ goes. absurd (false≢true goes))
 
 -- all that is made was written
 all_of : (out : List ℕ) (texts : List (List ℕ)) → out ≡ written (record { skip = 0; limit = None }) texts → out ≡ concat texts
@@ -174,10 +181,20 @@ module _ {R W E : Type 0} (left : R → Option (List ℕ)) (calls read_failures 
         }
     fails TooManyReads s = all_written TooManyReads s s.first (all_messages TooManyReads s s.all) (s.caused.0, s.first.failed, s.caused.1)
 
+    -- nothing is passed over, and only `check` has a last line
+    none_past : (stop : Stop) (s : StopsWithin Took held write_failures second_held second_failures (plain limits) most command stop w0 w1 e0 e1) → passed_count s.parts ≡ 0
+    none_past stop s = none_told (plain limits) 1 0 s.parts s.told refl s.covers.tells
+
+    none_more : (cause : Cause) (s : Within cause) → s.more ≡ []
+    none_more Memory s = elim s.all [ inl none ↦ none | inr lacks ↦ absurd (false≢true (sym other ∙ (lacks.4 (none_past (ByCause Memory) s)).1)) ]
+    none_more ReadFailed s = elim s.all [ inl none ↦ none.1 | inr cut ↦ absurd (false≢true cut.4) ]
+    none_more WriteFailed s = s.all
+    none_more TooManyReads s = elim s.all [ inl none ↦ none.1 | inr cut ↦ absurd (false≢true cut.4) ]
+
     -- and the second writer the cause alone
-    told_alone : (cause : Cause) (s : Within cause) (e2 : E) → s.more ≡ [] → Told second_held second_failures e1 e2 cause → Told second_held second_failures e0 e2 cause
-    told_alone cause s e2 none told =
-        let nothing : second_of command (s.told ++ s.more) ≡ [] = (divides command other).second (s.told ++ s.more) ∙ (λ i. (messages_of cause s).none_told i ++ none i) in
+    told_alone : (cause : Cause) (s : Within cause) (e2 : E) → Told second_held second_failures e1 e2 cause → Told second_held second_failures e0 e2 cause
+    told_alone cause s e2 told =
+        let nothing : second_of command (s.told ++ s.more) ≡ [] = (divides command other).second (s.told ++ s.more) ∙ (λ i. (messages_of cause s).none_told i ++ none_more cause s i) in
         let before = subst (λ l. Wrote second_held second_failures e0 l e1) nothing s.second in
         elim told [
           | inl all ↦ inl (wrote_both second_held second_failures [] (cause_line cause) e0 e1 e2 before all)
@@ -187,12 +204,29 @@ module _ {R W E : Type 0} (left : R → Option (List ℕ)) (calls read_failures 
     abbrev Ends : E → ExitStatus → Type 0
     Ends e2 end = Runs (reading left calls read_failures r0 r1) (writing held write_failures w0 w1) (writing second_held second_failures e0 e2) limits most command end
 
-    stopped : (stop : Stop) (e2 : E) (end : ExitStatus) (s : StopsWithin Took held write_failures second_held second_failures (plain limits) most command stop w0 w1 e0 e1)
-        → StopsAtFault Took held write_failures second_held second_failures (plain limits) most command stop s.more w0 w1 e0 e1 → end ≡ status.Failed → TellsStop second_held second_failures stop e1 e2 → Ends e2 end
-    stopped (ByCause cause) e2 end s none failed tells = inr (record { failed = failed; cause = cause; fails = fails cause s; told = told_alone cause s e2 none tells })
-    stopped Second e2 end s h failed same =
-        inl (answers h.tally h.fault h.out h.told h.text e2 end h.through h.first
-        (inr (h.n, subst (λ (e : E). Stopped second_held second_failures e0 (second_of command (h.told ++ h.text)) h.n e) (sym same) h.second, failed)))
+    -- a write of the line of the fault failed
+    untold : (e2 : E) (end : ExitStatus) → StopsWithin Took held write_failures second_held second_failures (plain limits) most command Untold w0 w1 e0 e1 → end ≡ status.Failed
+        → TellsStop second_held second_failures command Untold e1 e2 → Ends e2 end
+    untold e2 end s failed tells =
+        let due = s.all in
+        let text = due.2 in
+        let told = second_of command (s.told ++ text) in
+        let none = closing_none command (tally_of s.parts) (passed_count s.parts) due.1 (none_past Untold s) other in
+        let more : s.more ≡ text = elim due.4 [ inl shown ↦ shown.1 | inr last ↦ last.1 ∙ (ap (λ l. text ++ l) none ∙ append-nil text) ] in
+        let last : IsLast false limits due.0 s.rest due.3.outcome (IsAtEnd (left r1)) = elim due.4 [ inl shown ↦ last_shown limits due.0 s.rest due.3.outcome _ shown.0 | inr last ↦ last.0 ] in
+        let first = subst (λ (b : Bool). GotOrNot b held write_failures (first_of command s.out (s.told ++ s.more)) w0 w1) other s.first in
+        let second = subst (λ (b : Bool). GotOrNot (not b) second_held second_failures (second_of command (s.told ++ s.more)) e0 e1) other s.second in
+        let half = subst (λ (l : List ℕ). Stopped second_held second_failures e0 (second_of command (s.told ++ l)) second.0 e1) more second.1 in
+        let same = subst (λ (b : Bool). TellsUntold b second_held second_failures e1 e2) other tells in
+        inl (answers (tally_of s.parts) due.1 s.out s.told text e2 end
+        (record { parts = s.parts; rest = s.rest; covers = s.covers; tally_is = refl; kept = due.0; tells = due.3; last = last; read_failed = s.caused })
+        (subst (λ (l : List ℕ). Wrote held write_failures w0 (first_of command s.out (s.told ++ l)) w1) more first)
+        (inr (second.0, subst (λ (e : E). Stopped second_held second_failures e0 told second.0 e) (sym same) half, failed)))
+
+    stopped : (stop : Stop) (e2 : E) (end : ExitStatus) → StopsWithin Took held write_failures second_held second_failures (plain limits) most command stop w0 w1 e0 e1 → end ≡ status.Failed
+        → TellsStop second_held second_failures command stop e1 e2 → Ends e2 end
+    stopped (ByCause cause) e2 end s failed tells = inr (record { failed = failed; cause = cause; fails = fails cause s; told = told_alone cause s e2 tells })
+    stopped Untold e2 end s failed tells = untold e2 end s failed tells
 
     ran : (end : ExitStatus) → GoesThrough Took held write_failures second_held second_failures (plain limits) most command w0 w1 e0 e1 end → Ends e1 end
     ran end g =
@@ -208,5 +242,5 @@ module _ {R W E : Type 0} (left : R → Option (List ℕ)) (calls read_failures 
       → Runs (reading left calls read_failures r0 r1) (writing held write_failures w0 w1) (writing second_held second_failures e0 e1) limits most command end
   plainly e1 end runs = elim runs [
     | inl g ↦ ran e1 end g
-    | inr g ↦ stopped g.e g.stop e1 end g.within (g.alone refl other) g.failed g.tells
+    | inr g ↦ stopped g.e g.stop e1 end g.within g.failed g.tells
   ]

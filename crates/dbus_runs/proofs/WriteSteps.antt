@@ -1,5 +1,5 @@
 -- What is told after what was made and told.
-use Rattle.std.proofs.Common.{IfErr, IfOk, inl, inr, ◌≡◌, ℕ, ◌+◌, List, [], ◌++◌, length, take, drop, Option, Result, Ok, Err, true, false, Bool, refl, sym, ap, ◌∙◌, subst, arith, append_assoc, append-nil, length-append, take-append-drop}
+use Rattle.std.proofs.Common.{IfErr, IfOk, inl, inr, ◌≡◌, ℕ, ◌+◌, List, [], ◌++◌, length, Option, Result, Ok, Err, true, false, not, Bool, refl, sym, ap, ◌∙◌, subst, arith, append_assoc, length-append}
 use Rattle.std.specs.Io.KnownBytes.{Appends}
 use Rattle.std.proofs.KnownBytes.{Appends-nil, Appends-trans}
 use Rattle.std.proofs.Math.Seq.{take-append-add}
@@ -11,10 +11,10 @@ use Rattle.dbus_report.specs.Devices.{Writing, writing}
 use Rattle.dbus_report.specs.Gathering.{Breaks}
 use Rattle.dbus_value_model.specs.declared.fault.Fault.{Fault}
 use Rattle.dbus_runs.specs.Output.{fault_line, last_line, second_output}
-use Rattle.dbus_runs.specs.Going.{first_of, second_of, is_check, GotFirst, GotSecond, IsUntold, Says, WritesBy}
+use Rattle.dbus_runs.specs.Going.{first_of, second_of, is_check, GotOrNot, IsUntold, Says, WritesBy}
 use Rattle.dbus_report.specs.declared.ending.Cause.TheVariants.{Memory, ReadFailed, WriteFailed, TooManyReads}
 use Rattle.dbus_runs.specs.declared.going.Stop.{Stop}
-use Rattle.dbus_runs.specs.declared.going.Stop.TheVariants.{Cause as ByCause, Second}
+use Rattle.dbus_runs.specs.declared.going.Stop.TheVariants.{Cause as ByCause, Untold}
 
 module _ {W : Type 0} (held : W → Option (List ℕ)) (failures : W → ℕ) where
   pub wrote_nothing : (w : W) → Wrote held failures w [] w
@@ -30,9 +30,6 @@ module _ {W : Type 0} (held : W → Option (List ℕ)) (failures : W → ℕ) wh
     front = (q.front.0, ap (λ l. a ++ l) q.front.1 ∙ sym (append_assoc a q.written q.front.0));
     failed = q.failed ∙ ap one_more p.failed;
   }
-
-  stopped_breaks : (line : List ℕ) (n : ℕ) (w0 w1 : W) → Stopped held failures w0 line n w1 → Breaks held failures line [] w0 w1
-  stopped_breaks line n w0 w1 s = record { written = take n line; appended = s.appended; front = (drop n line, sym (take-append-drop n line)); failed = s.failed }
 
   pub wrote_stopped : (a b : List ℕ) (n : ℕ) (w0 w1 w2 : W) → Wrote held failures w0 a w1 → Stopped held failures w1 b n w2 → Stopped held failures w0 (a ++ b) (length a + n) w2
   wrote_stopped a b n w0 w1 w2 p q = record {
@@ -81,18 +78,18 @@ module _ {W E : Type 0} (held : W → Option (List ℕ)) (failures : W → ℕ) 
 
 module _ {W E : Type 0} (held : W → Option (List ℕ)) (failures : W → ℕ) (second_held : E → Option (List ℕ)) (second_failures : E → ℕ) (command : Command)
     (out told : List ℕ) (Is : List ℕ → Type 0) (w0 w1 w2 : W) (e0 e1 e2 : E) (h : HasTold held failures second_held second_failures command out told w0 w1 e0 e1) where
-  -- so much was told after it
-  abbrev pub TellsPart : Stop → List ℕ → Type 0
-  TellsPart stop more = GotFirst held failures stop (first_of command out (told ++ more)) w0 w2 × GotSecond second_held second_failures stop (second_of command (told ++ more)) e0 e2
+  -- so much was told after it, as far as it was written
+  abbrev pub TellsPart : List ℕ → Type 0
+  TellsPart more = GotOrNot (is_check command) held failures (first_of command out (told ++ more)) w0 w2 × GotOrNot (not (is_check command)) second_held second_failures (second_of command (told ++ more)) e0 e2
 
-  -- such a text was told after it, or for want of memory nothing
+  -- such a text was told after it, or not all of it, or for want of memory nothing
   abbrev pub TellsMore : Result (Unit {0}) Stop → Type 0
   TellsMore (Ok x) = (text : List ℕ) × Is text × HasTold held failures second_held second_failures command out (told ++ text) w0 w2 e0 e2
-  TellsMore (Err (ByCause Memory)) = TellsPart (ByCause Memory) []
+  TellsMore (Err (ByCause Memory)) = HasTold held failures second_held second_failures command out told w0 w2 e0 e2
   TellsMore (Err (ByCause ReadFailed)) = ⊥
-  TellsMore (Err (ByCause WriteFailed)) = (text : List ℕ) × Is text × TellsPart (ByCause WriteFailed) text × (is_check command ≡ true)
+  TellsMore (Err (ByCause WriteFailed)) = ⊥
   TellsMore (Err (ByCause TooManyReads)) = ⊥
-  TellsMore (Err Second) = (text : List ℕ) × Is text × TellsPart Second text
+  TellsMore (Err Untold) = (text : List ℕ) × Is text × TellsPart text
 
   still_first : w2 ≡ w1 → Wrote held failures w0 (first_of command out told) w2
   still_first same = subst (λ x. Wrote held failures w0 (first_of command out told) x) (sym same) h.first
@@ -100,10 +97,11 @@ module _ {W E : Type 0} (held : W → Option (List ℕ)) (failures : W → ℕ) 
   still_second : e2 ≡ e1 → Wrote second_held second_failures e0 (second_of command told) e2
   still_second same = subst (λ x. Wrote second_held second_failures e0 (second_of command told) x) (sym same) h.second
 
-  no_more : w2 ≡ w1 → e2 ≡ e1 → TellsPart (ByCause Memory) []
-  no_more p q = (
-    subst (λ (l : List ℕ). Wrote held failures w0 (first_of command out l) w2) (sym (append-nil told)) (still_first p),
-    subst (λ (l : List ℕ). Wrote second_held second_failures e0 (second_of command l) e2) (sym (append-nil told)) (still_second q),
+  tells_part : (first : Bool) (more : List ℕ) → is_check command ≡ first → GotOrNot first held failures (first_of command out (told ++ more)) w0 w2
+      → GotOrNot (not first) second_held second_failures (second_of command (told ++ more)) e0 e2 → TellsPart more
+  tells_part first more e p q = (
+    subst (λ (b : Bool). GotOrNot b held failures (first_of command out (told ++ more)) w0 w2) (sym e) p,
+    subst (λ (b : Bool). GotOrNot (not b) second_held second_failures (second_of command (told ++ more)) e0 e2) (sym e) q,
   )
 
   writes_more : (first : Bool) (res : Result (Unit {0}) Stop) (text : List ℕ) → Is text → is_check command ≡ first
@@ -114,13 +112,10 @@ module _ {W E : Type 0} (held : W → Option (List ℕ)) (failures : W → ℕ) 
       (text, is, record { first = all; second = subst (λ l. Wrote second_held second_failures e0 l e2) both.1 (still_second w.1) })
   writes_more true (Err stop) text is first w =
       let both = told_first command out told text first in
-      let broken = wrote_breaks held failures (first_of command out told) text w0 w1 w2 h.first (stopped_breaks held failures text w.1.0 w1 w2 w.1.1) in
-      subst (λ s. TellsMore (Err s)) (sym w.0) (
-        text,
-        is,
-        (subst (λ l. Breaks held failures l [] w0 w2) both.0 broken, subst (λ l. Wrote second_held second_failures e0 l e2) both.1 (still_second w.2)),
-        first,
-      )
+      let n = length (first_of command out told) + w.1.0 in
+      let broken = wrote_stopped held failures (first_of command out told) text w.1.0 w0 w1 w2 h.first w.1.1 in
+      subst (λ s. TellsMore (Err s)) (sym w.0)
+      (text, is, tells_part true text first (n, subst (λ l. Stopped held failures w0 l n w2) both.0 broken) (subst (λ l. Wrote second_held second_failures e0 l e2) both.1 (still_second w.2)))
   writes_more false (Ok x) text is second w =
       let both = told_second command out told text second in
       let all = subst (λ l. Wrote second_held second_failures e0 l e2) both.1 (wrote_both second_held second_failures (second_of command told) text e0 e1 e2 h.second w.0) in
@@ -130,12 +125,12 @@ module _ {W E : Type 0} (held : W → Option (List ℕ)) (failures : W → ℕ) 
       let n = length (second_of command told) + w.1.0 in
       let broken = wrote_stopped second_held second_failures (second_of command told) text w.1.0 e0 e1 e2 h.second w.1.1 in
       subst (λ s. TellsMore (Err s)) (sym w.0)
-      (text, is, (subst (λ l. Wrote held failures w0 l w2) both.0 (still_first w.2), (n, subst (λ l. Stopped second_held second_failures e0 l n e2) both.1 broken)))
+      (text, is, tells_part false text second (subst (λ l. Wrote held failures w0 l w2) both.0 (still_first w.2)) (n, subst (λ l. Stopped second_held second_failures e0 l n e2) both.1 broken))
 
   pub tells_more : (res : Result (Unit {0}) Stop) → Says (is_check command) (writing held failures w1 w2) (writing second_held second_failures e1 e2) Is res → TellsMore res
   tells_more res says = elim says [
     | inl some ↦ writes_more (is_check command) res some.0 some.1 refl some.2
-    | inr none ↦ subst (λ r. TellsMore r) (sym none.0) (no_more none.1 none.2)
+    | inr none ↦ subst (λ r. TellsMore r) (sym none.0) (record { first = still_first none.1; second = still_second none.2 })
   ]
 
 -- a text was made, and written

@@ -1,12 +1,12 @@
 -- What a command writes of an input by its settings: whether refused messages are explained, and
 -- whether they are passed over. most is how many reads may be made.
-use Rattle.std.specs.Prelude.{◌≡◌, ◌⊎◌, ℕ, ◌+◌, Bool, true, false, List, [], ◌++◌, length, Option, None, Some, Result, Ok, Err}
+use Rattle.std.specs.Prelude.{◌≡◌, ◌⊎◌, ℕ, ◌+◌, Bool, true, false, not, List, [], ◌++◌, length, Option, None, Some, Result, Ok, Err}
 use Rattle.std.specs.Io.KnownBytes.{Consumes, IsAtEnd}
 use Rattle.dbus_value_model.specs.declared.fault.Fault.{Fault}
 use Rattle.dbus_header.specs.MessageOutcomes.{IsRefused, IsPartial}
 use Rattle.dbus_device.specs.Device.{one_more, RisesBy}
 use Rattle.dbus_device.specs.Write.{Wrote, Stopped}
-use Rattle.dbus_stream.specs.Cut.{CutOutcome, IsOutcome}
+use Rattle.dbus_stream.specs.Cut.{CutOutcome, Ended, Unfinished, Refused, IsOutcome}
 use Rattle.dbus_stream.specs.CutEnds.{fault_at_end}
 use Rattle.dbus_stream.specs.declared.read_fault.ReadFault.{ReadFault}
 use Rattle.dbus_stream.specs.declared.read_fault.ReadFault.TheVariants as read
@@ -14,7 +14,7 @@ use Rattle.dbus_command.specs.declared.command.Command.{Command}
 use Rattle.dbus_command.specs.declared.settings.Settings.{Settings}
 use Rattle.dbus_command.specs.declared.command.Command.TheVariants.{Show, Json, Check, Swap, Filter}
 use Rattle.dbus_report.specs.Devices.{Reading, Writing, RisesAtMost, Taken, taken}
-use Rattle.dbus_report.specs.Gathering.{Breaks, IsPrefixTo}
+use Rattle.dbus_report.specs.Gathering.{Breaks}
 use Rattle.dbus_runs.specs.Output.{owners_known}
 use Rattle.dbus_runs.specs.Parts.{AreMade, AreTold, BeginWithParts, closing_line, IsCutOff, IsLast, IsTold, IsToldLast, Part, passed_count, sizes_of, status_at, tally_of}
 use Rattle.dbus_report.specs.Failing.{Told}
@@ -25,7 +25,7 @@ use Rattle.dbus_report.specs.declared.ending.ExitStatus.{ExitStatus}
 use Rattle.dbus_report.specs.declared.ending.ExitStatus.TheVariants as status
 use Rattle.dbus_runs.specs.declared.going.Handed.{Handed}
 use Rattle.dbus_runs.specs.declared.going.Stop.{Stop}
-use Rattle.dbus_runs.specs.declared.going.Stop.TheVariants.{Cause as ByCause, Second}
+use Rattle.dbus_runs.specs.declared.going.Stop.TheVariants.{Cause as ByCause, Untold}
 use Rattle.dbus_runs.specs.declared.tally.Tally.{Tally}
 use Rattle.dbus_report.specs.declared.telling.Refusal.{Refusal}
 
@@ -58,22 +58,42 @@ cause_of (read.Format fault) = ReadFailed
 cause_of read.Device = ReadFailed
 cause_of read.TooManyReads = TooManyReads
 
+-- a writer got this, or, if a write to it failed, a prefix
+abbrev pub GotOrNot : {W : Type 0} → (failed : Bool) → (W → Option (List ℕ)) → (W → ℕ) → List ℕ → W → W → Type 0
+GotOrNot true held failures all w0 w1 = (n : ℕ) × Stopped held failures w0 all n w1
+GotOrNot false held failures all w0 w1 = Wrote held failures w0 all w1
+
 -- the writers got this, but of the one to which a write failed a prefix
-abbrev pub GotFirst : {W : Type 0} → (W → Option (List ℕ)) → (W → ℕ) → Stop → List ℕ → W → W → Type 0
-GotFirst held failures (ByCause Memory) all w0 w1 = Wrote held failures w0 all w1
-GotFirst held failures (ByCause ReadFailed) all w0 w1 = Wrote held failures w0 all w1
-GotFirst held failures (ByCause WriteFailed) all w0 w1 = Breaks held failures all [] w0 w1
-GotFirst held failures (ByCause TooManyReads) all w0 w1 = Wrote held failures w0 all w1
-GotFirst held failures Second all w0 w1 = Wrote held failures w0 all w1
+abbrev pub GotFirst : {W : Type 0} → (W → Option (List ℕ)) → (W → ℕ) → Command → Stop → List ℕ → W → W → Type 0
+GotFirst held failures command (ByCause Memory) all w0 w1 = Wrote held failures w0 all w1
+GotFirst held failures command (ByCause ReadFailed) all w0 w1 = Wrote held failures w0 all w1
+GotFirst held failures command (ByCause WriteFailed) all w0 w1 = Breaks held failures all [] w0 w1
+GotFirst held failures command (ByCause TooManyReads) all w0 w1 = Wrote held failures w0 all w1
+GotFirst held failures command Untold all w0 w1 = GotOrNot (is_check command) held failures all w0 w1
 
-abbrev pub GotSecond : {E : Type 0} → (E → Option (List ℕ)) → (E → ℕ) → Stop → List ℕ → E → E → Type 0
-GotSecond held failures (ByCause cause) all e0 e1 = Wrote held failures e0 all e1
-GotSecond held failures Second all e0 e1 = (n : ℕ) × Stopped held failures e0 all n e1
+abbrev pub GotSecond : {E : Type 0} → (E → Option (List ℕ)) → (E → ℕ) → Command → Stop → List ℕ → E → E → Type 0
+GotSecond held failures command (ByCause cause) all e0 e1 = Wrote held failures e0 all e1
+GotSecond held failures command Untold all e0 e1 = GotOrNot (not (is_check command)) held failures all e0 e1
 
--- the second writer is told the cause, unless a write to it failed
-abbrev pub TellsStop : {E : Type 0} → (E → Option (List ℕ)) → (E → ℕ) → Stop → E → E → Type 0
-TellsStop held failures (ByCause cause) e0 e1 = Told held failures e0 e1 cause
-TellsStop held failures Second e0 e1 = e1 ≡ e0
+-- a write of what is told failed: the second writer is told so if that was to the first
+abbrev pub TellsUntold : {E : Type 0} → (first : Bool) → (E → Option (List ℕ)) → (E → ℕ) → E → E → Type 0
+TellsUntold true held failures e0 e1 = Told held failures e0 e1 WriteFailed
+TellsUntold false held failures e0 e1 = e1 ≡ e0
+
+-- the second writer is told why the run is given up
+abbrev pub TellsStop : {E : Type 0} → (E → Option (List ℕ)) → (E → ℕ) → Command → Stop → E → E → Type 0
+TellsStop held failures command (ByCause cause) e0 e1 = Told held failures e0 e1 cause
+TellsStop held failures command Untold e0 e1 = TellsUntold (is_check command) held failures e0 e1
+
+-- the fault of the rest shows by what is kept of it: the rest is refused, or the input ends there
+abbrev pub IsTellable : (kept rest : List ℕ) → CutOutcome → Type 0 → Type 0
+IsTellable kept rest Ended at_end = (rest ≡ kept) × at_end
+IsTellable kept rest Unfinished at_end = (rest ≡ kept) × at_end
+IsTellable kept rest (Refused fault) at_end = rest ≡ kept
+
+-- there is a last line, if a message was passed over, or `check` found no fault
+abbrev pub HasLastLine : Command → (passed : ℕ) → Option Fault → Type 0
+HasLastLine command passed fault = passed ≡ 0 → (fault ≡ None) × (is_check command ≡ true)
 
 module _ (t : Taken) (settings : Settings) (most : ℕ) (command : Command) where
   -- what was read is these parts and then the rest, and this is written of the texts that are made of the parts, and told of the parts
@@ -111,24 +131,31 @@ module _ (t : Taken) (settings : Settings) (most : ℕ) (command : Command) wher
   IsStopOf (ByCause ReadFailed) = t.failures1 ≡ one_more t.failures0
   IsStopOf (ByCause WriteFailed) = t.failures1 ≡ t.failures0
   IsStopOf (ByCause TooManyReads) = (t.failures1 ≡ t.failures0) × RisesBy most t.calls0 t.calls1
-  IsStopOf Second = t.failures1 ≡ t.failures0
+  IsStopOf Untold = t.failures1 ≡ t.failures0
 
-  -- this was told after the parts: nothing, or a prefix of what is told of the fault of the rest and then of the last line
-  abbrev pub IsMore : List Part → (rest more : List ℕ) → Type 0
-  IsMore parts rest more = (more ≡ []) ⊎ ((kept : List ℕ) × (fault : Option Fault) × (text : List ℕ) × IsPrefixTo kept rest × TellsRest parts kept fault text
-      × IsPrefixTo more (text ++ closing_line command (tally_of parts) (passed_count parts) fault))
+  -- these texts are due after the parts: what is told of the fault of the rest, once it shows; and then the last line, if nothing follows
+  abbrev pub AreDue : List Part → (rest more : List ℕ) → Type 0
+  AreDue parts rest more = (kept : List ℕ) × (fault : Option Fault) × (text : List ℕ) × (tells : TellsRest parts kept fault text)
+      × ((IsTellable kept rest tells.outcome (IsAtEnd t.left1) × (more ≡ text))
+      ⊎ (IsLast settings.keeps_going settings.limits kept rest tells.outcome (IsAtEnd t.left1) × (more ≡ text ++ closing_line command (tally_of parts) (passed_count parts) fault)))
+
+  -- all is told but the last line
+  abbrev pub LacksLast : List Part → (rest more : List ℕ) → Type 0
+  LacksLast parts rest more = (kept : List ℕ) × (fault : Option Fault) × (tells : TellsRest parts kept fault more)
+      × IsLast settings.keeps_going settings.limits kept rest tells.outcome (IsAtEnd t.left1) × HasLastLine command (passed_count parts) fault
 
   -- all that was read was made and told: the rest is neither a message nor refused, or a refused message was told of which not all bytes came
   abbrev pub IsAllOf : List Part → (rest more : List ℕ) → Type 0
   IsAllOf parts rest more = (IsPartial settings.limits rest × (more ≡ [])) ⊎ ((kept : List ℕ) × (fault : Fault) × IsRefused settings.limits kept fault × IsCutOff settings.limits kept rest
       × (settings.keeps_going ≡ true) × IsToldLast settings (length parts + 1) (sizes_of parts) kept (Some fault) more)
 
-  abbrev pub IsAllRead : Stop → List Part → (rest more : List ℕ) → Type 0
-  IsAllRead (ByCause Memory) parts rest more = IsMore parts rest more
-  IsAllRead (ByCause ReadFailed) parts rest more = IsAllOf parts rest more
-  IsAllRead (ByCause WriteFailed) parts rest more = IsMore parts rest more
-  IsAllRead (ByCause TooManyReads) parts rest more = IsAllOf parts rest more
-  IsAllRead Second parts rest more = IsMore parts rest more
+  -- this was told after the parts, or was to be told if a write of it failed
+  abbrev pub IsMore : Stop → List Part → (rest more : List ℕ) → Type 0
+  IsMore (ByCause Memory) parts rest more = (more ≡ []) ⊎ LacksLast parts rest more
+  IsMore (ByCause ReadFailed) parts rest more = IsAllOf parts rest more
+  IsMore (ByCause WriteFailed) parts rest more = more ≡ []
+  IsMore (ByCause TooManyReads) parts rest more = IsAllOf parts rest more
+  IsMore Untold parts rest more = AreDue parts rest more
 
 module _ {W E : Type 0} (t : Taken) (held : W → Option (List ℕ)) (write_failures : W → ℕ) (second_held : E → Option (List ℕ)) (second_failures : E → ℕ)
     (settings : Settings) (most : ℕ) (command : Command) where
@@ -149,32 +176,14 @@ module _ {W E : Type 0} (t : Taken) (held : W → Option (List ℕ)) (write_fail
     pub told : List ℕ
     pub covers : Covers t settings most command parts rest out told
     pub more : List ℕ
-    pub all : IsAllRead t settings most command stop parts rest more
+    pub all : IsMore t settings most command stop parts rest more
     pub caused : IsStopOf t settings most command stop
-    pub first : GotFirst held write_failures stop (first_of command out (told ++ more)) w0 w1
-    pub second : GotSecond second_held second_failures stop (second_of command (told ++ more)) e0 e1
-
-  -- all was made and told, but a write to the second writer failed
-  pub record HandsUntold (w0 w1 : W) (e0 e1 : E) : Type 0 where
-    pub tally : Tally
-    pub fault : Option Fault
-    pub out : List ℕ
-    pub told : List ℕ
-    pub text : List ℕ
-    pub through : IsThrough t settings most command tally fault out told text
-    pub first : Wrote held write_failures w0 (first_of command out (told ++ text)) w1
-    pub n : ℕ
-    pub second : Stopped second_held second_failures e0 (second_of command (told ++ text)) n e1
-
-  -- a run that tells a fault only as its last line, and to the second writer, is given up before that line or within it
-  abbrev pub StopsAtFault : Stop → (more : List ℕ) → W → W → E → E → Type 0
-  StopsAtFault (ByCause cause) more w0 w1 e0 e1 = more ≡ []
-  StopsAtFault Second more w0 w1 e0 e1 = HandsUntold w0 w1 e0 e1
+    pub first : GotFirst held write_failures command stop (first_of command out (told ++ more)) w0 w1
+    pub second : GotSecond second_held second_failures command stop (second_of command (told ++ more)) e0 e1
 
   abbrev pub PartsOf : Result Handed Stop → W → W → E → E → Type 0
   PartsOf (Ok handed) w0 w1 e0 e1 = HandsParts handed.tally handed.fault w0 w1 e0 e1
-  PartsOf (Err stop) w0 w1 e0 e1 = (s : StopsWithin stop w0 w1 e0 e1)
-      × (settings.keeps_going ≡ false → is_check command ≡ false → StopsAtFault stop s.more w0 w1 e0 e1)
+  PartsOf (Err stop) w0 w1 e0 e1 = StopsWithin stop w0 w1 e0 e1
 
   -- that was made and told, and then the last line
   pub record GoesThrough (w0 w1 : W) (e0 e1 : E) (end : ExitStatus) : Type 0 where
@@ -194,15 +203,14 @@ module _ {W E : Type 0} (t : Taken) (held : W → Option (List ℕ)) (write_fail
     pub stop : Stop
     pub e : E
     pub within : StopsWithin stop w0 w1 e0 e
-    pub tells : TellsStop second_held second_failures stop e e1
-    pub alone : settings.keeps_going ≡ false → is_check command ≡ false → StopsAtFault stop within.more w0 w1 e0 e
+    pub tells : TellsStop second_held second_failures command stop e e1
 
 -- a text was written on the first writer, or on the second, or a write failed after its first bytes
 abbrev pub WritesBy : {W E : Type 0} → (first : Bool) → Writing W → Writing E → List ℕ → Result (Unit {0}) Stop → Type 0
 WritesBy true w e text (Ok x) = Wrote w.held w.failures w.old text w.new × (e.new ≡ e.old)
-WritesBy true w e text (Err stop) = (stop ≡ ByCause WriteFailed) × ((n : ℕ) × Stopped w.held w.failures w.old text n w.new) × (e.new ≡ e.old)
+WritesBy true w e text (Err stop) = (stop ≡ Untold) × ((n : ℕ) × Stopped w.held w.failures w.old text n w.new) × (e.new ≡ e.old)
 WritesBy false w e text (Ok x) = Wrote e.held e.failures e.old text e.new × (w.new ≡ w.old)
-WritesBy false w e text (Err stop) = (stop ≡ Second) × ((n : ℕ) × Stopped e.held e.failures e.old text n e.new) × (w.new ≡ w.old)
+WritesBy false w e text (Err stop) = (stop ≡ Untold) × ((n : ℕ) × Stopped e.held e.failures e.old text n e.new) × (w.new ≡ w.old)
 
 -- for want of memory nothing was written
 abbrev pub IsUntold : {W E : Type 0} → Writing W → Writing E → Result (Unit {0}) Stop → Type 0

@@ -22,8 +22,8 @@ use std::alloc::{AllocError, Allocator};
 pub(crate) enum Stop {
     /// By this cause, which the second writer is to be told.
     Cause(Cause),
-    /// A write to the second writer failed.
-    Second,
+    /// A write of what is told failed.
+    Untold,
 }
 
 /// Does what [`crate::run_within`] does, by more settings.
@@ -84,21 +84,27 @@ fn go_on<A: Allocator + Copy, R: Source, W: Sink, E: Sink>(
             let line = closing_line(alloc, plan.output, handed.tally, handed.fault);
             match say(plan.output, line, first, second) {
                 Ok(()) => handed.tally.status(handed.fault),
-                Err(stop) => tell_stop(stop, second),
+                Err(stop) => tell_stop(plan.output, stop, second),
             }
         }
-        Err(stop) => tell_stop(stop, second),
+        Err(stop) => tell_stop(plan.output, stop, second),
     }
 }
 
 // Writes the cause on the second writer, unless a write to it failed.
-fn tell_stop<E: Sink>(stop: Stop, second: &mut E) -> ExitStatus
+fn tell_stop<E: Sink>(output: Output, stop: Stop, second: &mut E) -> ExitStatus
     ensures failed { result ≡ ExitStatus.Failed }
-    ensures tells { TellsStop E.held E.failures stop second.old second.new }
+    ensures tells { TellsStop E.held E.failures (command_of output.entry) stop second.old second.new }
 {
     match stop {
         Stop::Cause(cause) => give_up(cause, second),
-        Stop::Second => ExitStatus::Failed,
+        Stop::Untold => {
+            if tells_first(output) {
+                give_up(Cause::WriteFailed, second)
+            } else {
+                ExitStatus::Failed
+            }
+        }
     }
 }
 
@@ -149,12 +155,12 @@ fn say<A: Allocator + Copy, W: Sink, E: Sink>(
     if tells_first(output) {
         match write_all(first, text.as_bytes()) {
             Ok(()) => Ok(()),
-            Err(WrittenOnly(_)) => Err(Stop::Cause(Cause::WriteFailed)),
+            Err(WrittenOnly(_)) => Err(Stop::Untold),
         }
     } else {
         match write_all(second, text.as_bytes()) {
             Ok(()) => Ok(()),
-            Err(WrittenOnly(_)) => Err(Stop::Second),
+            Err(WrittenOnly(_)) => Err(Stop::Untold),
         }
     }
 }

@@ -1,7 +1,7 @@
 //! What was handed on and passed over of an input, and the last line that tells it.
 ghost use Rattle.std.specs.Prelude.{◌≡◌, ◌≤◌, ◌<◌, ◌+◌, ◌-◌, ◌^◌, IfErr, IfOk, string_bytes, true};
 ghost use Rattle.dbus_runs.specs.Commands.{command_of};
-ghost use Rattle.dbus_runs.specs.Going.{is_check};
+ghost use Rattle.dbus_runs.specs.Going.{HasLastLine, is_check};
 ghost use Rattle.dbus_runs.specs.Parts.{closing_line, status_at};
 
 use crate::count_lines::{counts_line, ok_line};
@@ -91,7 +91,7 @@ pub(crate) fn closing_line<A: Allocator + Copy>(
     requires few_bytes { tally.passed_size ≤ tally.size }
     ensures line { IfOk result (λ line. string_bytes line ≡
         closing_line (command_of output.entry) tally tally.passed fault) }
-    ensures due { IfErr result (λ _. tally.passed ≡ 0 → is_check (command_of output.entry) ≡ true) }
+    ensures due { IfErr result (λ _. HasLastLine (command_of output.entry) tally.passed fault) }
 {
     if tally.passed > 0 {
         let count = tally.count - tally.passed;

@@ -1,5 +1,5 @@
 use Rattle.std.proofs.Common.{inl, inr}
-use Rattle.dbus_runs.proofs.GoClosing.{alone, few, closes, not_closed}
+use Rattle.dbus_runs.proofs.GoClosing.{few, closes, not_closed}
 use Rattle.dbus_runs.proofs.WriteSteps.{said}
 use Rattle.dbus_runs.proofs.going.go_on.Goals as goal
 
@@ -17,10 +17,9 @@ returns-in-Err-say g c = inr (record {
   failed = c.tell_stop.ensures.failed;
   stop = c.in-Err-say.stop;
   e = c.say.new.second;
-  within = not_closed c.in-Ok.ensures c.say.new.first c.say.new.second c.in-Err-say.stop
-      (said _ _ _ _ _ _ c.closing_line-line.result c.closing_line-line.ensures.line c.in-Err-say.ensures.writes c.in-Err-say.ensures.untold);
+  within = not_closed c.in-Ok.ensures c.say.new.first c.say.new.second _ c.closing_line-line.result c.in-Err-say.stop c.closing_line-line.ensures.line c.closing_line-line.ensures.due
+      c.in-Err-say.ensures.writes c.in-Err-say.ensures.untold;
   tells = c.tell_stop.ensures.tells;
-  alone = alone c.in-Ok.ensures c.say.new.first c.say.new.second _ c.closing_line-line.result c.in-Err-say.stop _ c.closing_line-line.ensures.line c.closing_line-line.ensures.due c.in-Err-say.ensures.writes;
 })
 
 pub returns-in-Err : goal.returns-in-Err
@@ -28,7 +27,6 @@ returns-in-Err g c = inr (record {
   failed = c.tell_stop-in-Err.ensures.failed;
   stop = c.in-Err.stop;
   e = c.hand_over.new.second;
-  within = c.in-Err.ensures.0;
+  within = c.in-Err.ensures;
   tells = c.tell_stop-in-Err.ensures.tells;
-  alone = c.in-Err.ensures.1;
 })
