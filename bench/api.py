@@ -34,7 +34,7 @@ HEADINGS = {
         dbus_stream/writing.rt dbus_device dbus_stream""",
     "Match rules": "dbus_match/parse.rt dbus_match/to_text.rt dbus_match dbus_rule_set",
     "The handshake": "dbus_auth/server_end.rt dbus_auth/client_end.rt dbus_auth dbus_handshake_input dbus_auth_lines",
-    "Print": "dbus_show/show.rt dbus_show_view dbus_json dbus_show_handshake dbus_explain dbus_show",
+    "Print": "dbus_show_view dbus_json dbus_show_handshake dbus_explain dbus_show",
     "Texts and types": "dbus_types dbus_texts",
     "Limits": "dbus_value_model/limits.rt dbus_value_model/fd_rule.rt",
     "From C": "dbus_c",

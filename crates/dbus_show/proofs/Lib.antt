@@ -1,9 +1,5 @@
 pub mod Gaining
 pub mod EscapedText
 pub mod HexDigits
-pub mod ItemTexts
-pub mod SignedNumbers
-pub mod OtherCases
-pub mod TextsInARow
 pub mod LineFeeds
 pub mod FieldTexts

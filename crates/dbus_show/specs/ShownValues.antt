@@ -26,11 +26,6 @@ number_text UINT64 n = decimal n
 number_text DOUBLE n = encode_lower (num Big 8 n)
 number_text UNIX_FD n = decimal n
 
--- the number that a value is; of no other value is there one
-abbrev pub number_in : ValueTree → List ℕ
-number_in (NumberValue k n) = number_text k n
-number_in _ = []
-
 -- A byte of a text: 34 is a quotation mark and 92 a backslash, which stand after a backslash; the bytes below 32 and 127
 -- have no sign of their own and stand as a mark and two hexadecimal digits. Every other byte is itself.
 abbrev pub escape_by : (mark : List ℕ) → ℕ → List ℕ

@@ -1,8 +1,7 @@
 //! Messages shown, as they are built and as their bytes are validated.
 
 use dbus_message::Message;
-use dbus_show::show_into;
-use dbus_show_view::show_validated;
+use dbus_show_view::{show_message, show_validated};
 use dbus_validate::validate;
 use dbus_value::{Limits, Order};
 use std::alloc::{AllocError, Global};
@@ -32,8 +31,7 @@ pub(crate) fn is_shown(
     order: Order,
     message: &Message,
 ) -> Result<bool, AllocError> {
-    let mut text = String::new(alloc);
-    show_into(&mut text, order, message, NUMBER)?;
+    let text = show_message(alloc, order, message, NUMBER)?;
     match validated_text(alloc, bytes, limits)? {
         Some(validated) => Ok(validated.as_str() == text.as_str()),
         None => Ok(false),

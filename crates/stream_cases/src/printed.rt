@@ -5,8 +5,7 @@ use crate::streams::SIZES;
 use anyhow::{Result, bail};
 use case_files::{Case, Tally, cases};
 use dbus_message::{Answer, Message, decode};
-use dbus_show::{show_into, show_message};
-use dbus_show_view::show_validated;
+use dbus_show_view::{show_message, show_validated};
 use dbus_tool::Command;
 use dbus_validate::validate;
 use dbus_value::{Limits, Order};
@@ -38,8 +37,6 @@ fn print_message(
     let text = show_message(alloc, order, &message, number)?;
     tally.compare(rt, "show_message", wanted, &text)?;
     let mut kept = String::from_str(alloc, "kept")?;
-    show_into(&mut kept, order, &message, number)?;
-    tally.compare(rt, "show_into", wanted, &kept)?;
     let limits = Limits::specification();
     let Some(validated) = validate(bytes, limits) else {
         bail!("a case's bytes are validated to be no message");

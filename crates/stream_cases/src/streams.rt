@@ -8,7 +8,7 @@ use anyhow::Result;
 use case_files::{Case, Tally, cases, limits_in};
 use dbus_match::parse_rule;
 use dbus_message::encode;
-use dbus_show::show_message;
+use dbus_show_view::show_message;
 use dbus_tool::{Command, ExitStatus, Selection};
 use dbus_value::{Limits, Order};
 use std::alloc::{AllocError, Global};

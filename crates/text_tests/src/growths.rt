@@ -41,8 +41,8 @@ enum Call {
     RulesFound,
     /// A message is shown.
     Show,
-    /// A message is shown in a string kept from before.
-    ShowInto,
+    /// A message's bytes are shown in a string kept from before.
+    ShowAgain,
 }
 
 /// Lines of clients and servers, and cutters of lines, up to the longest line.
@@ -373,8 +373,8 @@ const TEXTS: &[(Call, u64)] = &[
     ),
     (Call::RuleText(RULE, RULE_TEXT), 1),
     (Call::RulesFound, 2),
-    (Call::Show, 1),
-    (Call::ShowInto, 1),
+    (Call::Show, 2),
+    (Call::ShowAgain, 1),
 ];
 
 /// The text of a rule.
@@ -449,6 +449,6 @@ fn answer_of<'a>(heap: &'a Refusing, spare: &'a Refusing, alloc: Global, call: C
         Call::RuleText(text, want) => rule_written(heap, spare, text, want),
         Call::RulesFound => rules_found(heap, spare),
         Call::Show => shown(heap, spare),
-        Call::ShowInto => shown_again(heap, spare),
+        Call::ShowAgain => shown_again(heap),
     }
 }

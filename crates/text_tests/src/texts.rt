@@ -3,9 +3,9 @@
 use crate::answer::Answer;
 use crate::signal::{SIGNAL, SIGNAL_TEXT, message_of};
 use dbus_match::{RuleFault, parse_rule, rule_text};
-use dbus_message::Message;
-use dbus_show::{show_into, show_message};
-use dbus_value::Order;
+use dbus_show_view::{show_message, show_validated};
+use dbus_validate::{Validated, validate};
+use dbus_value::Limits;
 use refusing_alloc::Refusing;
 use std::alloc::{AllocError, Allocator};
 
@@ -40,29 +40,28 @@ pub fn shown<A: Allocator + Copy>(alloc: A, spare: A) -> Answer {
     }
 }
 
-/// How the signal is shown in a string kept from before. The text again takes no memory.
-pub fn shown_again<'a>(heap: &'a Refusing, spare: &'a Refusing) -> Answer {
+/// How the signal's bytes are shown in a string kept from before. The text again takes no memory.
+pub fn shown_again(heap: &Refusing) -> Answer {
     let Ok(mut kept) = String::from_str(heap, "kept") else {
         return Answer::Memory;
     };
-    let Some((order, message)) = message_of(spare, SIGNAL) else {
+    let Some(validated) = validate(SIGNAL, Limits::specification()) else {
         return Answer::Wrong;
     };
-    shown_thrice(heap, &mut kept, order, &message)
+    shown_thrice(heap, &mut kept, &validated)
 }
 
 fn shown_thrice<'a>(
     heap: &'a Refusing,
     kept: &mut String<&'a Refusing>,
-    order: Order,
-    message: &Message<&'a Refusing>,
+    validated: &Validated,
 ) -> Answer {
-    let answer = match shown_in(kept, order, message) {
-        Answer::Memory => shown_in(kept, order, message).again(),
+    let answer = match shown_in(kept, validated) {
+        Answer::Memory => shown_in(kept, validated).again(),
         answer => answer,
     };
     let growths = heap.growths();
-    let last = shown_in(kept, order, message);
+    let last = shown_in(kept, validated);
     if last == Answer::Right && heap.growths() == growths {
         answer
     } else {
@@ -71,8 +70,8 @@ fn shown_thrice<'a>(
 }
 
 // The string holds the text in place of what it held, or nothing if memory runs out.
-fn shown_in<A: Allocator>(kept: &mut String<A>, order: Order, message: &Message<A>) -> Answer {
-    match show_into(kept, order, message, 1) {
+fn shown_in<A: Allocator>(kept: &mut String<A>, validated: &Validated) -> Answer {
+    match show_validated(kept, SIGNAL, Limits::specification(), validated, 1) {
         Ok(()) => Answer::of(kept.as_str() == SIGNAL_TEXT),
         Err(AllocError) if kept.is_empty() => Answer::Memory,
         Err(AllocError) => Answer::Wrong,

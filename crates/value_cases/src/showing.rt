@@ -1,7 +1,7 @@
 //! A value as it is printed: as the body of a message.
 
 use dbus_message::{Build, HeaderField, Message, Parts, field_code, message_type};
-use dbus_show::show_message;
+use dbus_show_view::show_message;
 use dbus_value_model::{Order, Value};
 use std::alloc::{AllocError, Global};
 
