@@ -20,9 +20,9 @@ use dbus_value_model::{Fault, Limits, Order, Reason, Refusal};
 use std::alloc::{Allocator, Global};
 use std::marker::Model;
 
-/// Cuts messages out of bytes that come in pieces of any length. It keeps the bytes of the message under way, so at
-/// most those of one message, and beside them a checker, so that no byte is looked at again when more come. The limits of
-/// its messages are those that it was made with.
+/// Cuts messages out of bytes that come in pieces of any length. It keeps the bytes of the message
+/// under way, so at most those of one message, and beside them a checker, so that no byte is looked
+/// at again when more come. The limits of its messages are those that it was made with.
 #[derive(Drop)]
 pub struct Cutter<A: Allocator = Global> {
     alloc: A,
@@ -51,7 +51,8 @@ impl<A: Allocator + Copy> Cutter<A> {
         Cutter::within(alloc, Limits::specification())
     }
 
-    /// A cutter that holds nothing yet, and returns messages that keep these limits. What it keeps is allocated by `alloc`.
+    /// A cutter that holds nothing yet, and returns messages that keep these limits. What it keeps
+    /// is allocated by `alloc`.
     pub fn within(alloc: A, limits: Limits) -> Self
         ensures { result ≡ fresh limits }
     {
@@ -62,11 +63,12 @@ impl<A: Allocator + Copy> Cutter<A> {
         }
     }
 
-    /// Takes the bytes of the piece up to the end of the message under way and returns that message; or the whole piece, if
-    /// the end is not there yet. Also returns the number of bytes of the piece that it took: hand in the others again.
+    /// Takes the bytes of the piece up to the end of the message under way and returns that
+    /// message; or the whole piece, if the end is not there yet. Also returns the number of bytes
+    /// of the piece that it took: hand in the others again.
     ///
-    /// `Format`: the bytes that are held and the piece begin with no message within its limits; it stays for good. `Memory`: an
-    /// allocation failed. A call that returns an error takes nothing.
+    /// `Format`: the bytes that are held and the piece begin with no message within its limits; it
+    /// stays for good. `Memory`: an allocation failed. A call that returns an error takes nothing.
     ///
     /// ```rust
     /// use dbus_stream::Cutter;
@@ -106,7 +108,8 @@ impl<A: Allocator + Copy> Cutter<A> {
         }
     }
 
-    // The answer by one decoding, if nothing is held and the piece states that all of its first message is there; else none.
+    // The answer by one decoding, if nothing is held and the piece states that all of its first
+    // message is there; else none.
     fn take_stated(
         &mut self,
         piece: &[u8],
@@ -138,8 +141,8 @@ impl<A: Allocator + Copy> Cutter<A> {
         }
     }
 
-    // The answer by the checker, which looks at no byte that is held. It is decoded once, where the message ends, and of a body
-    // that the checker took no value is checked again.
+    // The answer by the checker, which looks at no byte that is held. It is decoded once, where the
+    // message ends, and of a body that the checker took no value is checked again.
     fn take_checked(
         &mut self,
         piece: &[u8],
@@ -179,8 +182,8 @@ impl<A: Allocator + Copy> Cutter<A> {
 
     /// Whether the input may end here: `Ok` if nothing is held.
     ///
-    /// The fault: `Truncated` at the number of bytes that are held, if there are any; or the fault that `take`
-    /// returned, if it returned one.
+    /// The fault: `Truncated` at the number of bytes that are held, if there are any; or the fault
+    /// that `take` returned, if it returned one.
     pub fn finish(&self) -> Result<(), Fault>
         ensures nothing { self.now.fault ≡ None → self.now.held ≡ [] → result ≡ Ok tt }
         ensures rest { self.now.fault ≡ None → ((self.now.held ≡ []) → ⊥) →

@@ -15,8 +15,9 @@ use std::alloc::Allocator;
 use std::marker::Model;
 use std::mem;
 
-/// Takes the bytes of messages, and gives what is validated of each. It gathers the bytes of a message that comes in several
-/// pieces, and holds them still when it gives it; of a message that lies whole in a piece it notes the length.
+/// Takes the bytes of messages, and gives what is validated of each. It gathers the bytes of a
+/// message that comes in several pieces, and holds them still when it gives it; of a message that
+/// lies whole in a piece it notes the length.
 #[derive(Drop)]
 pub struct Gatherer<A: Allocator> {
     alloc: A,
@@ -76,11 +77,11 @@ impl<A: Allocator + Copy> Gatherer<A> {
         self.checker.restart();
     }
 
-    /// Takes the bytes of the piece up to the end of the message under way, and says how many these are; or the whole piece,
-    /// if its end is not there yet.
+    /// Takes the bytes of the piece up to the end of the message under way, and says how many these
+    /// are; or the whole piece, if its end is not there yet.
     ///
-    /// `Format`: the bytes that are held and the piece begin with no message. `Memory`: an allocation failed. Then nothing is
-    /// taken.
+    /// `Format`: the bytes that are held and the piece begin with no message. `Memory`: an
+    /// allocation failed. Then nothing is taken.
     #[inline(always)]
     pub(crate) fn gather(&mut self, piece: &[u8]) -> Result<Option<usize>, StreamFault>
         requires { self.old.whole ≡ false }
@@ -110,7 +111,8 @@ impl<A: Allocator + Copy> Gatherer<A> {
         }
     }
 
-    /// The last `count` bytes of the message that it holds are taken back, so that more bytes are wanted.
+    /// The last `count` bytes of the message that it holds are taken back, so that more bytes are
+    /// wanted.
     pub(crate) fn take_back(&mut self, count: usize)
         requires fits { count ≤ length self.old.held }
         requires partial { IsPartial self.old.limits
@@ -168,7 +170,8 @@ impl<A: Allocator + Copy> Gatherer<A> {
         }
     }
 
-    // What is validated of the whole message that it holds, which the checker took: its body is not gone over again.
+    // What is validated of the whole message that it holds, which the checker took: its body is not
+    // gone over again.
     fn validated_whole(&self) -> Validated
         requires { self.now.whole ≡ true }
         ensures { IsValidatedWhole self.now.limits self.now.held result }
@@ -176,8 +179,9 @@ impl<A: Allocator + Copy> Gatherer<A> {
         validate_known(self.held.as_slice(), self.limits)
     }
 
-    // Takes a piece that begins with no whole message, or goes on with one that is held, and writes into `given` what is validated of
-    // the message that ends there, if one does. It is not inlined: if a message lies whole in a piece, nothing makes room for it.
+    // Takes a piece that begins with no whole message, or goes on with one that is held, and writes
+    // into `given` what is validated of the message that ends there, if one does. It is not
+    // inlined: if a message lies whole in a piece, nothing makes room for it.
     #[inline(never)]
     fn take_gathered(
         &mut self,

@@ -5,16 +5,17 @@ ghost use Rattle.dbus_stream.specs.Headline.{Headline};
 
 use std::alloc::Allocator;
 
-/// Bytes are accepted exactly if they begin with a message that the marshalling relation spells within the limits;
-/// that message comes out, encoding it in its order gives those bytes back, and in either order decoding an encoding
-/// gives the message; however the input is cut, the same messages come and no byte past each is taken; a refusal carries
-/// the fault table's one place and reason.
+/// Bytes are accepted exactly if they begin with a message that the marshalling relation spells
+/// within the limits; that message comes out, encoding it in its order gives those bytes back, and
+/// in either order decoding an encoding gives the message; however the input is cut, the same
+/// messages come and no byte past each is taken; a refusal carries the fault table's one place and
+/// reason.
 ///
 /// The limits are any that are handed in, and every message is every valid one within them.
 ///
-/// It speaks of `decode_within` by `Decodes`, of `encode` by the bytes that it gives, and of a cutter by `Feeds`: any pieces
-/// are handed to `Cutter::take` one after another, and what a call leaves of one is handed in again. Each of them may answer
-/// out of memory, which takes nothing.
+/// It speaks of `decode_within` by `Decodes`, of `encode` by the bytes that it gives, and of a
+/// cutter by `Feeds`: any pieces are handed to `Cutter::take` one after another, and what a call
+/// leaves of one is handed in again. Each of them may answer out of memory, which takes nothing.
 pub fn headline<A: Allocator>()
     ensures { (limits : Limits) → Headline limits A }
 {}
@@ -24,7 +25,8 @@ pub fn one_cut()
     ensures { OneCut }
 {}
 
-/// If a stream is cut in two anywhere, the messages of its first part are the first of its messages, under any limits.
+/// If a stream is cut in two anywhere, the messages of its first part are the first of its
+/// messages, under any limits.
 pub fn cut_of_prefix()
     ensures { CutOfPrefix }
 {}

@@ -8,8 +8,8 @@ use dbus_check::{Check, Checker};
 use dbus_validate::validate;
 use dbus_value_model::Limits;
 
-/// Takes the bytes of messages, and gives the length of each. It holds no byte but what its checker holds, and takes no
-/// memory: it has a fixed size, about 40,000 bytes.
+/// Takes the bytes of messages, and gives the length of each. It holds no byte but what its checker
+/// holds, and takes no memory: it has a fixed size, about 40,000 bytes.
 #[derive(Drop)]
 pub struct Lengths {
     limits: Limits,

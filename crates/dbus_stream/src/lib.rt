@@ -1,12 +1,14 @@
-//! Streams of D-Bus messages: bytes that come in pieces, or from a device, cut into messages; and messages written to a device.
-//! D-Bus Specification, "Message Protocol".
+//! Streams of D-Bus messages: bytes that come in pieces, or from a device, cut into messages; and
+//! messages written to a device. D-Bus Specification, "Message Protocol".
 //!
-//! [`Cutter`] takes pieces of any length and gives the messages. Three readers have that loop inside: [`MessageReader`] gives
-//! messages, [`RawReader`] the bytes of each, and [`CheckReader`] only its length, without memory. They read from a [`Source`],
-//! which [`FromRead`] makes of a reader of std's. [`write_message`] writes one to a [`Sink`].
+//! [`Cutter`] takes pieces of any length and gives the messages. Three readers have that loop
+//! inside: [`MessageReader`] gives messages, [`RawReader`] the bytes of each, and [`CheckReader`]
+//! only its length, without memory. They read from a [`Source`], which [`FromRead`] makes of a
+//! reader of std's. [`write_message`] writes one to a [`Sink`].
 //!
-//! Whatever the pieces, the messages are the same, and no byte past each is taken: `laws` states it. Examples are at
-//! [`Cutter::take`] and [`MessageReader::next`]; `crates/example_service` uses a cutter behind a socket.
+//! Whatever the pieces, the messages are the same, and no byte past each is taken: `laws` states
+//! it. Examples are at [`Cutter::take`] and [`MessageReader::next`]; `crates/example_service` uses
+//! a cutter behind a socket.
 #![tactic(auto)]
 
 mod buffer;

@@ -13,8 +13,9 @@ use std::alloc::{Allocator, Global};
 
 /// Reads messages from a source, one after another, by a buffer of 4,096 bytes inside it.
 ///
-/// It keeps the bytes that it read and did not give in a message yet: at most those of one message and one buffer. The
-/// limits of its messages, and the number of reads that it makes at most in its life, are those that it was made with.
+/// It keeps the bytes that it read and did not give in a message yet: at most those of one message
+/// and one buffer. The limits of its messages, and the number of reads that it makes at most in its
+/// life, are those that it was made with.
 #[derive(Drop)]
 pub struct MessageReader<R, A: Allocator = Global> {
     // Its cutter holds the bytes of the message under way that came by earlier reads.
@@ -29,7 +30,8 @@ impl<R: Source, A: Allocator + Copy> MessageReader<R, A> {
     ghost use Rattle.dbus_stream.specs.MessageReaders.{kept, source_of, done_of, stopped_of, IsNewReader, Reads, ReadsNothing, NextAnswers, KeptAnswers};
     ghost use Rattle.dbus_stream.specs.Next.{DeviceCounts};
 
-    /// A reader as [`MessageReader::within`] makes it, of at most 2^32 reads and under the limits of the specification.
+    /// A reader as [`MessageReader::within`] makes it, of at most 2^32 reads and under the limits
+    /// of the specification.
     pub fn new(alloc: A, source: R) -> Self
         ensures { IsNewReader source (2 ^ 32) specification result }
     {
@@ -44,8 +46,9 @@ impl<R: Source, A: Allocator + Copy> MessageReader<R, A> {
         MessageReader::within(alloc, source, reads, Limits::specification())
     }
 
-    /// A reader of what the source gives, which has read nothing yet. It makes at most `reads` reads in its life, the one that
-    /// finds the end of the input among them, and returns messages that keep these limits. What it keeps is allocated by `alloc`.
+    /// A reader of what the source gives, which has read nothing yet. It makes at most `reads`
+    /// reads in its life, which are at most 2^32, the one that finds the end of the input among
+    /// them, and returns messages that keep these limits. What it keeps is allocated by `alloc`.
     pub fn within(alloc: A, source: R, reads: u64, limits: Limits) -> Self
         requires { reads ≤ 2 ^ 32 }
         ensures { IsNewReader source reads limits result }
@@ -74,14 +77,15 @@ impl<R: Source, A: Allocator + Copy> MessageReader<R, A> {
         self.reader.done
     }
 
-    /// The next message with its byte order, or None at the end of the input. Bytes after the message are kept. After
-    /// the end each call returns the same, without reading. A read is made only if no whole message is kept, so a
-    /// message is given at the read that ends it.
+    /// The next message with its byte order, or None at the end of the input. Bytes after the
+    /// message are kept. After the end each call returns the same, without reading. A read is made
+    /// only if no whole message is kept, so a message is given at the read that ends it.
     ///
-    /// `Format`: the bytes begin with no message within the limits; or the input ended within one, and then the reason is
-    /// `Truncated`, at their number. `TooManyReads`: as many reads were made as it may make, none of them found the end, and
-    /// no whole message is kept. Both stay for good. `Device`: a read failed in this call. `Memory`: an allocation failed.
-    /// After these two all that was read is kept, and the call may be made again.
+    /// `Format`: the bytes begin with no message within the limits; or the input ended within one,
+    /// and then the reason is `Truncated`, at their number. `TooManyReads`: as many reads were made
+    /// as it may make, none of them found the end, and no whole message is kept. Both stay for
+    /// good. `Device`: a read failed in this call. `Memory`: an allocation failed. After these two
+    /// all that was read is kept, and the call may be made again.
     ///
     /// ```rust
     /// use dbus_stream::{FromRead, MessageReader};
@@ -114,11 +118,13 @@ impl<R: Source, A: Allocator + Copy> MessageReader<R, A> {
         self.reader.next()
     }
 
-    /// The next message with its byte order out of what was read already: no read is made. Bytes after the message are
-    /// kept. None if what is kept begins with no whole message; then `next` goes on from there and reads more.
+    /// The next message with its byte order out of what was read already: no read is made. Bytes
+    /// after the message are kept. None if what is kept begins with no whole message; then `next`
+    /// goes on from there and reads more.
     ///
-    /// `Format`: the bytes begin with no message within the limits. It stays for good, and so does a fault that `next`
-    /// returns for good. `Memory`: an allocation failed. Then all that was read is kept, and the call may be made again.
+    /// `Format`: the bytes begin with no message within the limits. It stays for good, and so does
+    /// a fault that `next` returns for good. `Memory`: an allocation failed. Then all that was read
+    /// is kept, and the call may be made again.
     pub fn next_kept(&mut self) -> Result<Option<(Order, Message<A>)>, ReadFault>
         // It gives what the bytes that are kept begin with.
         ensures kept { stopped_of self.old ≡ None → KeptAnswers self.old self.new result }

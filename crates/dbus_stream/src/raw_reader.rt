@@ -14,18 +14,22 @@ use dbus_validate::Validated;
 use dbus_value_model::{Fault, Limits, Reason};
 use std::alloc::{Allocator, Global};
 
-/// Reads messages from a source, one after another, by a buffer of 262,144 bytes inside it, and lends or copies their bytes.
+/// Reads messages from a source, one after another, by a buffer of 262,144 bytes inside it, and
+/// lends or copies their bytes.
 ///
-/// It accepts and rejects what a [`crate::MessageReader`] does, and builds no message. A message that lies whole in the
-/// buffer is validated there, and lent where it lies; any other is checked as it comes, and its bytes are gathered. It keeps the
-/// bytes that it read and did not give yet: at most those of one message and one buffer. The limits of its messages, and how
-/// many reads it makes at most in its life, are those that it was made with.
+/// It accepts and rejects what a [`crate::MessageReader`] does, and builds no message. A message
+/// that lies whole in the buffer is validated there, and lent where it lies; any other is checked
+/// as it comes, and its bytes are gathered. It keeps the bytes that it read and did not give yet:
+/// at most those of one message and one buffer. The limits of its messages, and how many reads it
+/// makes at most in its life, are those that it was made with.
 #[derive(Drop)]
 pub struct RawReader<R, A: Allocator = Global> {
     alloc: A,
-    // Its taker holds the bytes of the message under way that came by earlier reads, or those of the one that is lent.
+    // Its taker holds the bytes of the message under way that came by earlier reads, or those of
+    // the one that is lent.
     reader: Reader<R, Gatherer<A>, Large>,
-    // How many bytes of a refused message are still to be dropped, after a call that could not drop all of them.
+    // How many bytes of a refused message are still to be dropped, after a call that could not drop
+    // all of them.
     owed: u64,
     ghost lent_before: { reader.taker.lent ≤ reader.start },
     ghost lent_counted: { reader.taker.lent ≤ reader.done },
@@ -46,7 +50,8 @@ impl<R: Source, A: Allocator + Copy> RawReader<R, A> {
     ghost use Rattle.dbus_stream.specs.RawReading.{limits_of, kept, lent_of, source_of, done_of, reads_of, most_reads_of, stopped_of, IsNewReader};
     ghost use Rattle.dbus_stream.specs.RawNext.{Advances, CopyAnswers, KeptAnswers, Reads, ReadsNothing, GivesLent};
 
-    /// A reader as [`RawReader::within`] makes it, of at most 2^32 reads and under the limits of the specification.
+    /// A reader as [`RawReader::within`] makes it, of at most 2^32 reads and under the limits of
+    /// the specification.
     pub fn new(alloc: A, source: R) -> Self
         ensures { IsNewReader source (2 ^ 32) specification result }
     {
@@ -61,8 +66,9 @@ impl<R: Source, A: Allocator + Copy> RawReader<R, A> {
         RawReader::within(alloc, source, reads, Limits::specification())
     }
 
-    /// A reader of what the source gives, which has read nothing yet. It makes at most `reads` reads in its life, the one that
-    /// finds the end of the input among them, and returns messages that keep these limits. What it keeps outside its buffer, and
+    /// A reader of what the source gives, which has read nothing yet. It makes at most `reads`
+    /// reads in its life, which are at most 2^32, the one that finds the end of the input among
+    /// them, and returns messages that keep these limits. What it keeps outside its buffer, and
     /// each copy, is allocated by `alloc`.
     pub fn within(alloc: A, source: R, reads: u64, limits: Limits) -> Self
         requires { reads ≤ 2 ^ 32 }
@@ -89,15 +95,16 @@ impl<R: Source, A: Allocator + Copy> RawReader<R, A> {
         self.reader.into_source()
     }
 
-    /// The number of bytes of all the messages that it returned, and of those that [`RawReader::pass_over`] dropped.
+    /// The number of bytes of all the messages that it returned, and of those that
+    /// [`RawReader::pass_over`] dropped.
     pub fn done(&self) -> u64
         ensures { result ≡ done_of self.now }
     {
         self.reader.done
     }
 
-    /// The bytes of the message that the last call gave, if that was [`RawReader::advance`] or [`RawReader::advance_kept`];
-    /// none if it gave no message.
+    /// The bytes of the message that the last call gave, if that was [`RawReader::advance`] or
+    /// [`RawReader::advance_kept`]; none if it gave no message.
     pub fn message(&self) -> &[u8]
         ensures { result.now ≡ lent_of self.now }
     {
@@ -110,23 +117,26 @@ impl<R: Source, A: Allocator + Copy> RawReader<R, A> {
             .part(start - self.reader.taker.lent(), start)
     }
 
-    /// The bytes that were read and not given yet, one slice after the other: those of the message under way that came by earlier
-    /// reads, and the others. After `Format` they begin with the bytes that are no message.
+    /// The bytes that were read and not given yet, one slice after the other: those of the message
+    /// under way that came by earlier reads, and the others. After `Format` they begin with the
+    /// bytes that are no message.
     pub fn kept(&self) -> (&[u8], &[u8])
         ensures { result.0.now ++ result.1.now ≡ kept self.now }
     {
         (self.reader.taker.under_way(), self.reader.part())
     }
 
-    /// Goes on to the next message, and returns what is validated of its bytes, which [`RawReader::message`] lends then; None at the
-    /// end of the input. Bytes after the message are kept. After the end each call returns the same, without reading. A read is
-    /// made only if no whole message is kept, so a message is given at the read that ends it. It allocates only for a
-    /// message that does not lie whole in the buffer. D-Bus Specification, "Message Protocol".
+    /// Goes on to the next message, and returns what is validated of its bytes, which
+    /// [`RawReader::message`] lends then; None at the end of the input. Bytes after the message are
+    /// kept. After the end each call returns the same, without reading. A read is made only if no
+    /// whole message is kept, so a message is given at the read that ends it. It allocates only for
+    /// a message that does not lie whole in the buffer. D-Bus Specification, "Message Protocol".
     ///
-    /// `Format`: the bytes begin with no message within the limits; or the input ended within one, and then the reason is
-    /// `Truncated`, at their number. `TooManyReads`: as many reads were made as it may make, none of them found the end, and
-    /// no whole message is kept. Both stay for good. `Device`: a read failed in this call. `Memory`: an allocation failed.
-    /// After these two all that was read is kept, and the call may be made again.
+    /// `Format`: the bytes begin with no message within the limits; or the input ended within one,
+    /// and then the reason is `Truncated`, at their number. `TooManyReads`: as many reads were made
+    /// as it may make, none of them found the end, and no whole message is kept. Both stay for
+    /// good. `Device`: a read failed in this call. `Memory`: an allocation failed. After these two
+    /// all that was read is kept, and the call may be made again.
     ///
     /// ```rust
     /// use dbus_message::message_type;
@@ -144,7 +154,8 @@ impl<R: Source, A: Allocator + Copy> RawReader<R, A> {
     /// }
     /// ```
     pub fn advance(&mut self) -> Result<Option<Validated>, ReadFault>
-        // Of what was kept and then read it lends the message that that begins with, and validates it.
+        // Of what was kept and then read it lends the message that that begins with, and validates
+        // it.
         ensures read { (r : Reads R.left R.calls self.old self.new) ×
             (stopped_of self.old ≡ None →
             Advances (kept self.old ++ r.bytes) self.old self.new result) }
@@ -163,11 +174,13 @@ impl<R: Source, A: Allocator + Copy> RawReader<R, A> {
         self.reader.next()
     }
 
-    /// Goes on to the next message out of what was read already: no read is made. Bytes after the message are kept. None if
-    /// what is kept begins with no whole message; then `advance` goes on from there and reads more.
+    /// Goes on to the next message out of what was read already: no read is made. Bytes after the
+    /// message are kept. None if what is kept begins with no whole message; then `advance` goes on
+    /// from there and reads more.
     ///
-    /// `Format`: the bytes begin with no message within the limits. It stays for good, and so does a fault that `advance`
-    /// returns for good. `Memory`: an allocation failed. Then all that was read is kept, and the call may be made again.
+    /// `Format`: the bytes begin with no message within the limits. It stays for good, and so does
+    /// a fault that `advance` returns for good. `Memory`: an allocation failed. Then all that was
+    /// read is kept, and the call may be made again.
     pub fn advance_kept(&mut self) -> Result<Option<Validated>, ReadFault>
         // It lends the message that the bytes that are kept begin with, and validates it.
         ensures kept { stopped_of self.old ≡ None → KeptAnswers self.old self.new result }
@@ -185,9 +198,10 @@ impl<R: Source, A: Allocator + Copy> RawReader<R, A> {
         self.reader.next_kept()
     }
 
-    /// The bytes of the next message, or None at the end of the input: of what [`RawReader::advance`] lends, a copy, or those
-    /// that were gathered. Then no message is lent. Faults are those of `advance`, and `Memory` also if the copy could not be
-    /// allocated: then the message is kept, and the same call returns it again.
+    /// The bytes of the next message, or None at the end of the input: of what
+    /// [`RawReader::advance`] lends, a copy, or those that were gathered. Then no message is lent.
+    /// Faults are those of `advance`, and `Memory` also if the copy could not be allocated: then
+    /// the message is kept, and the same call returns it again.
     pub fn next(&mut self) -> Result<Option<Vec<u8, A>>, ReadFault>
         // Of what was kept and then read it gives the bytes of the message that that begins with.
         ensures read { (r : Reads R.left R.calls self.old self.new) ×
@@ -209,16 +223,19 @@ impl<R: Source, A: Allocator + Copy> RawReader<R, A> {
         }
     }
 
-    /// Passes over the message that was refused, by the length that its first 16 bytes state, and returns whether it did. Then the
-    /// fault is gone, and the next call goes on with what follows those bytes. They are dropped as they are read, and a
-    /// read is made only if more of them are wanted; [`RawReader::done`] counts them. D-Bus Specification, "Message Format".
+    /// Passes over the message that was refused, by the length that its first 16 bytes state, and
+    /// returns whether it did. Then the fault is gone, and the next call goes on with what follows
+    /// those bytes. They are dropped as they are read, and a read is made only if more of them are
+    /// wanted; [`RawReader::done`] counts them. D-Bus Specification, "Message Format".
     ///
-    /// False, and nothing is changed, if none was refused (`Truncated` is no such fault), or if its first 16 bytes state no length
-    /// within the limits. False also if the input ends before so many bytes.
+    /// False, and nothing is changed, if none was refused (`Truncated` is no such fault), or if its
+    /// first 16 bytes state no length within the limits. False also if the input ends before so
+    /// many bytes.
     ///
-    /// `TooManyReads`: as many reads were made as it may make. `Device`: a read failed. Then, and if the input ended,
-    /// all that was kept and read is dropped, and the fault stays: [`RawReader::advance`] and `next` return it and change nothing.
-    /// The same call made again drops the bytes that are left of the message, and no others.
+    /// `TooManyReads`: as many reads were made as it may make. `Device`: a read failed. Then, and
+    /// if the input ended, all that was kept and read is dropped, and the fault stays:
+    /// [`RawReader::advance`] and `next` return it and change nothing. The same call made again
+    /// drops the bytes that are left of the message, and no others.
     ///
     /// ```rust
     /// use dbus_stream::{FromRead, RawReader, ReadFault};
@@ -239,7 +256,8 @@ impl<R: Source, A: Allocator + Copy> RawReader<R, A> {
     /// }
     /// ```
     pub fn pass_over(&mut self) -> Result<bool, ReadFault>
-        // Of what was kept and then read it drops so many bytes as the refused message states, or as are left of it.
+        // Of what was kept and then read it drops so many bytes as the refused message states, or
+        // as are left of it.
         ensures passes { Passing R.left R.calls self.old self.new result }
         ensures failed { DeviceCounts (R.failures (source_of self.old))
             (R.failures (source_of self.new)) result }
@@ -272,7 +290,8 @@ impl<R: Source, A: Allocator + Copy> RawReader<R, A> {
         self.stated()
     }
 
-    // The length that the first 16 of the bytes that are kept state, if they do. The bytes of a message under way are fewer.
+    // The length that the first 16 of the bytes that are kept state, if they do. The bytes of a
+    // message under way are fewer.
     fn stated(&self) -> Option<u64>
         ensures some { IfSome result (λ n. StatesLength (limits_of self.now) (kept self.now) n ×
             (self.now.reader.held < n)) }

@@ -9,12 +9,12 @@ use crate::taker::Taker;
 use dbus_device::{DeviceFault, Source};
 use dbus_value_model::{Fault, Reason};
 
-/// Reads messages from a source, one after another, by a buffer inside it, and gives what its taker makes of
-/// each: a [`crate::MessageReader`] the message, a [`crate::CheckReader`] its length.
+/// Reads messages from a source, one after another, by a buffer inside it, and gives what its taker
+/// makes of each: a [`crate::MessageReader`] the message, a [`crate::CheckReader`] its length.
 ///
-/// It keeps the bytes that it read and did not give in a message yet: what its taker holds, which is at most one message, and
-/// what is left of the buffer. The limits of its messages, and the number of reads that it makes at most in its life, are those that it
-/// was made with.
+/// It keeps the bytes that it read and did not give in a message yet: what its taker holds, which
+/// is at most one message, and what is left of the buffer. The limits of its messages, and the
+/// number of reads that it makes at most in its life, are those that it was made with.
 #[derive(Drop)]
 pub struct Reader<R, T, B: Buffer> {
     source: R,
@@ -48,8 +48,9 @@ impl<R: Source, T: Taker, B: Buffer> Reader<R, T, B> {
     ghost use Rattle.dbus_stream.specs.Passing.{part_of, ReadsToSkip, SkipAnswers};
     ghost use Rattle.dbus_stream.specs.Steps.{IsDrained, TakesAll, Fills, Finishes, GivesUp};
 
-    /// A reader of what the source gives to a taker that holds nothing. It has read nothing yet, and makes at most `reads` reads
-    /// in its life, the one that finds the end of the input among them.
+    /// A reader of what the source gives to a taker that holds nothing. It has read nothing yet,
+    /// and makes at most `reads` reads in its life, the one that finds the end of the input among
+    /// them.
     pub(crate) fn over(source: R, taker: T, buffer: B, reads: u64) -> Self
         requires small { B.room.size ≤ 262144 }
         requires few { reads ≤ 2 ^ 32 }
@@ -86,14 +87,16 @@ impl<R: Source, T: Taker, B: Buffer> Reader<R, T, B> {
         self.done
     }
 
-    /// What its taker makes of the next message, or None at the end of the input. Bytes after the message are kept. After
-    /// the end each call returns the same, without reading. A read is made only if no whole message is kept, so a
-    /// message is given at the read that ends it. D-Bus Specification, "Message Protocol".
+    /// What its taker makes of the next message, or None at the end of the input. Bytes after the
+    /// message are kept. After the end each call returns the same, without reading. A read is made
+    /// only if no whole message is kept, so a message is given at the read that ends it. D-Bus
+    /// Specification, "Message Protocol".
     ///
-    /// `Format`: the bytes begin with no message within the limits; or the input ended within one, and then the reason is
-    /// `Truncated`, at their number. `TooManyReads`: as many reads were made as it may make, none of them found the end, and
-    /// no whole message is kept. Both stay for good. `Device`: a read failed in this call. `Memory`: an allocation failed.
-    /// After these two all that was read is kept, and the call may be made again.
+    /// `Format`: the bytes begin with no message within the limits; or the input ended within one,
+    /// and then the reason is `Truncated`, at their number. `TooManyReads`: as many reads were made
+    /// as it may make, none of them found the end, and no whole message is kept. Both stay for
+    /// good. `Device`: a read failed in this call. `Memory`: an allocation failed. After these two
+    /// all that was read is kept, and the call may be made again.
     pub fn next(&mut self) -> Result<Option<T::Given>, ReadFault>
         // Of what was kept and then read it gives what that begins with.
         ensures read { (w : List ℕ) → Keeps T.known self.old w →
@@ -131,11 +134,13 @@ impl<R: Source, T: Taker, B: Buffer> Reader<R, T, B> {
         }
     }
 
-    /// What its taker makes of the next message out of what was read already: no read is made. Bytes after the message are
-    /// kept. None if what is kept begins with no whole message; then `next` goes on from there and reads more.
+    /// What its taker makes of the next message out of what was read already: no read is made.
+    /// Bytes after the message are kept. None if what is kept begins with no whole message; then
+    /// `next` goes on from there and reads more.
     ///
-    /// `Format`: the bytes begin with no message within the limits. It stays for good, and so does a fault that `next`
-    /// returns for good. `Memory`: an allocation failed. Then all that was read is kept, and the call may be made again.
+    /// `Format`: the bytes begin with no message within the limits. It stays for good, and so does
+    /// a fault that `next` returns for good. `Memory`: an allocation failed. Then all that was read
+    /// is kept, and the call may be made again.
     pub fn next_kept(&mut self) -> Result<Option<T::Given>, ReadFault>
         // It gives what the bytes that are kept begin with.
         ensures kept { (w : List ℕ) → Keeps T.known self.old w → stopped_of self.old ≡ None →
@@ -154,9 +159,10 @@ impl<R: Source, T: Taker, B: Buffer> Reader<R, T, B> {
         self.take_kept()
     }
 
-    /// Passes over so many bytes: those that its taker held before it let go of them, then what is left of the buffer and what is
-    /// read. It stands before what follows then, without a fault, and the answer is true. It is false if the input ends before;
-    /// then, and after an error, all that was there is passed over, and a fault stays. A read is made only if more are wanted.
+    /// Passes over so many bytes: those that its taker held before it let go of them, then what is
+    /// left of the buffer and what is read. It stands before what follows then, without a fault,
+    /// and the answer is true. It is false if the input ends before; then, and after an error, all
+    /// that was there is passed over, and a fault stays. A read is made only if more are wanted.
     ///
     /// `TooManyReads`: as many reads were made as it may make. `Device`: a read failed.
     pub(crate) fn pass_over(&mut self, count: u64) -> Result<bool, ReadFault>
@@ -229,7 +235,8 @@ impl<R: Source, T: Taker, B: Buffer> Reader<R, T, B> {
         Err(ReadFault::TooManyReads)
     }
 
-    // What the taker makes of what is left of the buffer. If no message ends there, it takes all of that.
+    // What the taker makes of what is left of the buffer. If no message ends there, it takes all of
+    // that.
     fn take_kept(&mut self) -> Result<Option<T::Given>, ReadFault>
         requires { stopped_of self.old ≡ None }
         ensures takes { (w : List ℕ) → Keeps T.known self.old w →

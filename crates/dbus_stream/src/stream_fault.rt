@@ -8,7 +8,8 @@ pub enum StreamFault {
     /// An allocation failed. Nothing was taken, and the call may be made again.
     #[error("allocation failed")]
     Memory,
-    /// The bytes begin with no message. The place counts from the first byte of the message under way. It stays for good.
+    /// The bytes begin with no message. The place counts from the first byte of the message under
+    /// way. It stays for good.
     #[error("the bytes are no message: {0}")]
     Format(Fault),
 }

@@ -7,7 +7,8 @@ pub enum WriteFault {
     /// An allocation failed. Nothing was written.
     #[error("allocation failed")]
     Memory,
-    /// A write failed, or took none of its bytes. The first `written` bytes of the message went out.
+    /// A write failed, or took none of its bytes. The first `written` bytes of the message went
+    /// out.
     #[error("the device failed after {written} bytes")]
     Device {
         /// The number of bytes of the message that went out.

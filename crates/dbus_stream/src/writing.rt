@@ -13,8 +13,8 @@ use std::alloc::Allocator;
 
 /// Writes the bytes that spell the message in this order.
 ///
-/// `Memory`: an allocation failed, and nothing was written. `Device`: a call failed or took none, and the bytes before
-/// it went out. Then the sink is not called again.
+/// `Memory`: an allocation failed, and nothing was written. `Device`: a call failed or took none,
+/// and the bytes before it went out. Then the sink is not called again.
 ///
 /// ```rust
 /// use dbus_message::{Answer, decode};
