@@ -25,6 +25,11 @@ def libraries_below(name, uses):
     return list(dict.fromkeys(it for used in uses[name] for it in (*libraries_below(used, uses), used)))
 
 
+def asked_programs():
+    """The programs of which cases/run.py has questions."""
+    return [name for name in read_crates() if (ROOT / "cases" / f"ask_{name}.py").exists()]
+
+
 def folder_of(name):
     return ROOT / "crates" / name
 

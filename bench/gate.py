@@ -5,19 +5,24 @@
   commit's hash draws;
 * with --all, all of them.
 
+Then it asks the programs that answer questions on the cases, as each of two compilers built them there (cases/README.md).
+
 A crate that is due and is not tried stays due, and is named: `bench/wrong_bodies.py --due` tries all of them. So what a landing costs has a bound.
 
 So the libraries are proved once for all of them. Beyond what `rt ci` says, each wrong body has to be refused at the goal that it names. The last
-line says how many crates and wrong bodies passed, and how many failed; the exit status is 1 if one did.
+line says how many crates, programs of questions and wrong bodies passed, and how many failed; the exit status is 1 if one did.
 """
 
 import sys
 
+from crate_list import asked_programs
 from edits import all_edits, edits_in, find_faults
 from trying import copy_with, drawn_edits, due_crates, hold, is_count, note_tried, refusals_in, run_in, tell
 
 DRAWN = 5
 DUE = 40
+# What `rt ci` adds to a program's name, as each compiler builds it.
+BUILDS = ("", ".by-rattle")
 
 
 def edits_that_are_due():
@@ -37,6 +42,18 @@ def chosen_edits(words):
     return list({it.name: it for it in (*always, *due, *drawn_edits(DRAWN))}.values()), left
 
 
+def ask_programs(copy):
+    """Of each program that answers questions, in each build, whether all its answers were right."""
+    outcomes = []
+    for name in asked_programs():
+        for build in BUILDS:
+            program = copy / "crates" / name / "out" / f"{name}{build}"
+            status, _ = run_in(copy, "cases/run.py", "--ask", name, "--", str(program)) if program.exists() else (1, [])
+            print(f"{name}{build}: {'answered wrongly, or is not there' if status else 'all answers right'}", flush=True)
+            outcomes.append(status == 0)
+    return outcomes
+
+
 def main(*words):
     if words not in ((), ("--all",)):
         print(__doc__, file=sys.stderr)
@@ -47,6 +64,7 @@ def main(*words):
     edits, left = chosen_edits(words)
     with copy_with(edits) as copy:
         status, lines = run_in(copy, "rt", "ci")
+        answered = ask_programs(copy)
     faults = hold(edits, refusals_in(lines))
     note_tried(edits, faults)
     tell(edits, faults)
@@ -56,8 +74,9 @@ def main(*words):
     passed, failed = (int(it) for it in counted.groups()) if counted else (0, 1)
     # Those that were not refused at all `rt ci` counts itself, if it tried them.
     elsewhere = sum(said is not None for said in faults.values())
-    print(f"{passed - elsewhere} passed, {max(failed + elsewhere, len(faults))} failed")
-    return 1 if status or faults else 0
+    wrong = answered.count(False)
+    print(f"{passed - elsewhere + answered.count(True)} passed, {max(failed + elsewhere, len(faults)) + wrong} failed")
+    return 1 if status or faults or wrong else 0
 
 
 if __name__ == "__main__":

@@ -6,6 +6,8 @@ import re
 import shlex
 import sys
 
+# Where the files are.
+DATA = pathlib.Path(__file__).resolve().parent / "data"
 ITEM = re.compile(r'(?:(\d+)\*)?(?:"((?:[^"\\]|\\.)*)"|((?:[0-9a-f]{2})+))(?:\s+|$)')
 ESCAPE = re.compile(rb'\\(?:x([0-9a-f]{2})|(["\\]))')
 

@@ -1,0 +1,232 @@
+"""What is asked of the program `message_engines`: each call that reads or writes texts, values or messages."""
+
+import re
+
+from questions import Question, from_place, hexed, words_of
+from read_cases import read_bytes
+from seen import Message
+
+# What comes after a case's bytes, and changes no answer.
+MORE = bytes.fromhex("00ff6c")
+ORDERS = ("little", "big")
+
+# ---- Texts
+
+
+def said(verdict):
+    """A verdict as a check says it: it has no place of what is too long, and no form of names."""
+    word = verdict.split(" ")[0]
+    return "too long" if word == "too" else verdict if word == "bad" else "accepted"
+
+
+def ask_text(kind, text, verdict):
+    """What calls make of a text that has this verdict as one of a kind."""
+    about = f"{kind} {hexed(text)}"
+    place = int(verdict.split(" ")[-1]) if verdict[-1].isdigit() else None
+    scanned = f"ended {len(text)}" if place is None else f"taken {place}"
+    yield Question(f"text_break as {kind}", f"text {about}", verdict)
+    yield Question(f"first_break as {kind}", f"text-first-break {about}", str(len(text) if place is None else place))
+    yield Question(f"TextScan::step as {kind}", f"text-by-bytes {about}", scanned)
+    yield Question(f"TextScan::take as {kind}", f"text-in-two {about}", from_place(0, scanned))
+    yield Question(f"the check of {kind}", f"text-check {about}", "no check" if kind == "text" else said(verdict))
+
+
+def ask_name(case, _):
+    _, kind, text, verdict = case
+    yield from ask_text(kind, read_bytes(text), verdict)
+
+
+def ask_signature(case, _):
+    _, text, as_signature, as_single, types, alignment = case
+    text = read_bytes(text)
+    yield from ask_text("signature", text, as_signature)
+    yield from ask_text("single", text, as_single)
+    wanted = said(as_signature) if types == "-" else f"{types} {types} {hexed(text)}"
+    yield Question("parse_signature", f"text-parse signature {hexed(text)}", wanted)
+    wanted = said(as_single) if alignment == "-" else f"{alignment} {alignment}"
+    yield Question("parse_single", f"text-parse single {hexed(text)}", wanted)
+
+
+# ---- Values
+
+# What comes before a value, at which nobody looks, and after it.
+BEFORE = b"\xaa"
+AFTER = b"\xff"
+# An end that is further away stays without bytes up to it.
+FURTHEST = 5000
+READ = re.compile(r"(?P<outcome>done (?P<end>\d+)|partial|refused \d+ \S+)(?: after (?P<after>\d+)| (?P<text>.*))?")
+
+
+class Asked:
+    """A case of a value in one order: the bytes up to its last, and what is wanted of reading."""
+
+    def __init__(self, types, settings, order, column, reading):
+        numbers = {name: int(number) for name, _, number in (word.partition("=") for word in settings.split())}
+        self.types, self.order, self.settings = read_bytes(types), order, settings
+        self.at = numbers.get("at", 0)
+        self.data = BEFORE * self.at + read_bytes(column)
+        self.end = numbers.get("end", len(self.data))
+        self.is_limited = bool({"message", "array", "depth"} & set(numbers))
+        self.read = READ.fullmatch(reading)
+        self.outcome = self.read["outcome"]
+        # How many bytes decide that.
+        self.least = self.at + int(self.read["after"]) if self.read["after"] else len(self.data)
+
+    def followed(self):
+        """The bytes with others after them, past the end, unless more are wanted."""
+        return self.data if self.outcome == "partial" else self.data + AFTER * (max(min(self.end, FURTHEST) - len(self.data), 0) + 9)
+
+    def question(self, engine, kind, wanted, data=None, *more):
+        place = () if "end=" in self.settings else (f"end={self.end}",)
+        words = words_of(kind, hexed(self.types), hexed(data or self.data), f"order={self.order}", self.settings, *place, *more)
+        return Question(f"{engine} in {self.order} endian", words, wanted)
+
+    def ends(self):
+        """What is wanted at each place of an engine that says only whether a value ends there at the latest."""
+        return from_place(self.at, "none", *((int(self.read["end"]), self.outcome) if self.read["end"] else ()))
+
+    def fronts(self):
+        """What is wanted of each front of the bytes."""
+        return from_place(self.at, "partial", *(() if self.outcome == "partial" else (self.least, self.outcome)))
+
+
+def ask_reading(asked):
+    followed = asked.followed()
+    yield asked.question("get_within of fronts", "value-fronts", asked.fronts(), followed)
+    yield asked.question("get_within of fronts, below-count", "value-fronts", asked.fronts(), followed, "rule=below-count")
+    yield asked.question("Values in two pieces", "value-checked", from_place(asked.at, asked.outcome))
+    yield asked.question("Values byte by byte", "value-by-bytes", f"{asked.least} {asked.outcome}")
+    if asked.read["end"]:
+        yield asked.question("get_within up to each end", "value-ends", asked.ends())
+    if asked.outcome != "partial" and asked.end <= FURTHEST:
+        yield asked.question("validate_value", "value-validated", asked.ends(), followed, f"to={asked.end}")
+        yield asked.question("validate_values", "values-validated", asked.ends(), followed, f"to={asked.end}")
+
+
+def ask_writing(asked, writing):
+    """What checks and writers make of the value, and its type and its text and those of a copy."""
+    checked = "same" if writing in ("ArrayTooLong", "TooLong") else writing
+    words = ["past"] if asked.outcome.endswith(" FdIndex") else []
+    words += [checked] if asked.is_limited else [checked, checked]
+    words += [writing, writing, "same", "same"] if checked == "same" else []
+    yield asked.question("writing", "value-written", "none" if writing == "-" else " ".join(words))
+    if writing != "-":
+        engine = f"showing in {asked.order} endian"
+        start = f"#1 l method_return serial=1 flags=00 reply_serial=1 signature={asked.types.decode()}\n  "
+        text = asked.read["text"] and hexed(f"{start}{asked.read['text']}\n".encode())
+
+        def shown(answers):
+            both = f"{hexed(asked.types)} {text or answers[engine].split(' ')[-1]}"
+            return f"{both} {both}"
+
+        yield asked.question("showing", "value-shown", shown)
+
+
+def ask_value(case, _):
+    _, types, settings, little, big, reading, writing = case
+    for order, column in zip(ORDERS, (little, big)):
+        asked = Asked(types, settings, order, column, reading)
+        yield from ask_reading(asked)
+        yield from ask_writing(asked, writing)
+
+
+# ---- Messages
+
+
+def stated_length(data):
+    """The length that a message's first 16 bytes state."""
+    order = "big" if data[:1] == b"B" else "little"
+    number = lambda at: int.from_bytes(data[at : at + 4], order)
+    return (16 + number(12) + 7) // 8 * 8 + number(4)
+
+
+def ask_fronts(order, data, limits, answer, decides):
+    """What each engine answers of each front of a message's bytes, with others after them. If the bytes are refused, and the last of them does not
+    decide that, the one that does so for decoding has to do so for all."""
+    word, *numbers = answer.split(" ")
+    given = data if word == "partial" else data + MORE
+    decoding = f"decode_within in {order} endian"
+
+    def least(answers):
+        if word == "whole" or decides:
+            return len(data)
+        found = re.fullmatch(rf"0 partial, (\d+) {re.escape(answer)}", answers[decoding])
+        return min(int(found[1]), len(data)) if found else len(data)
+
+    def fronts(before, *after):
+        return lambda answers: from_place(0, before, *(() if word == "partial" else (least(answers), answer))) + "".join(after)
+
+    def question(engine, kind, wanted):
+        return Question(f"{engine} in {order} endian", words_of("fronts", kind, hexed(given), limits), wanted)
+
+    stated = from_place(0, "partial", *((16, f"states {stated_length(given)}") if len(given) >= 16 else ()))
+    yield question("decode_within", "decode", fronts("partial"))
+    yield question("validate", "validate", fronts("none") if word == "whole" else "0 none")
+    yield question("stated_length_within", "state", fronts("partial") if word == "refused" and int(numbers[0]) < 16 else stated)
+    trailing = (f", {len(data) + 1} refused {len(data)} Trailing",) if word == "whole" else ()
+    yield question("MessageView::of_within", "view", fronts("truncated", *trailing))
+    yield question("Checker", "check", fronts("partial"))
+    yield question("Checker in two pieces", "check-in-two", f"0 {answer}")
+    yield question("Checker byte by byte", "check-by-bytes", fronts("partial"))
+
+
+def ask_whole(order, columns, limits):
+    """What is made of a whole message, whose bytes are columns in both orders."""
+    data = columns[order]
+    other = columns["big" if order == "little" else "little"]
+
+    def question(engine, kind, wanted, *settings, more=b""):
+        return Question(f"{engine} in {order} endian", words_of(kind, hexed(data + more), limits, *settings), wanted)
+
+    for wanted in ORDERS:
+        yield question(f"encode, {wanted},", "encode", columns[wanted].hex(), f"order={wanted}")
+        yield question(f"Message::new_within, {wanted},", "build", columns[wanted].hex(), f"order={wanted}")
+    yield question("Message::within", "within", "yes")
+    yield question("byteswap", "byteswap", other.hex(), more=MORE)
+    message = Message(data)
+    yield question("the header that MessageView gives", "header", message.header())
+    yield question("the values that MessageView gives", "see", message.values())
+    yield question("show_message", "show", None, "by=message", "number=7", more=MORE)
+    shown = f"show_message in {order} endian"
+    yield question("show_validated", "show", lambda answers: answers[shown], "by=validated", "number=7", more=MORE)
+
+
+def asker_of_messages(decides=False):
+    def ask_message(case, _):
+        _, limits, little, big, answer = case
+        columns = dict(zip(ORDERS, (read_bytes(little), read_bytes(big))))
+        for order, data in columns.items():
+            if data:
+                yield from ask_fronts(order, data, limits, answer, decides)
+                if answer.startswith("whole"):
+                    yield from ask_whole(order, columns, limits)
+
+    return ask_message
+
+
+def ask_printed(case, _):
+    _, number, data, text = case
+    for engine in ("message", "validated"):
+        words = f"show {hexed(read_bytes(data))} by={engine} number={number}"
+        yield Question(f"show, {engine}", words, hexed(read_bytes(text)))
+
+
+def ask_match(case, _):
+    """The two columns of bytes are one message."""
+    little, big = read_bytes(case[3]), read_bytes(case[4])
+    yield Question("encode in big endian", f"encode {hexed(little)} order=big", hexed(big))
+    yield Question("encode in little endian", f"encode {hexed(big)} order=little", hexed(little))
+
+
+FILES = {
+    "names.txt": ask_name,
+    "signatures.txt": ask_signature,
+    "values.txt": ask_value,
+    "messages.txt": asker_of_messages(),
+    # The last byte decides each fault.
+    "faults.txt": asker_of_messages(decides=True),
+    "limits.txt": asker_of_messages(),
+    "descriptors.txt": asker_of_messages(),
+    "printed.txt": ask_printed,
+    "matches.txt": ask_match,
+}
