@@ -44,6 +44,7 @@ from dbus_wire import (
     check_text,
     client_line,
     messages,
+    rebuild,
     server_line,
     spell_body,
     stated_length,
@@ -164,6 +165,24 @@ class Cases(unittest.TestCase):
             built = build(serial=77, body=message.body_bytes, **parts)
             self.assertEqual(({part: getattr(built, part) for part in names}, built.serial), (parts, 77), name)
             self.assertEqual(repr(built.body), repr(message.body), name)
+
+    def test_a_message_that_is_not_changed_comes_back(self):
+        session = list(messages(SESSION))
+        self.assertEqual(len(session), 136)
+        for message in (*session, *map(Message.parse, whole_cases().values())):
+            self.assertEqual(rebuild(message).data, message.data)
+
+    def test_a_message_that_is_changed_keeps_its_other_fields(self):
+        for name, data in whole_cases().items():
+            message = Message.parse(data)
+            changed = rebuild(message, serial=77, sender=":1.7")
+            self.assertEqual((changed.serial, changed.sender, changed.body_bytes), (77, ":1.7", message.body_bytes), name)
+            others = [repr(part) for part in message.header_fields if part[0] != HeaderField.SENDER]
+            self.assertEqual([repr(part) for part in changed.header_fields if part[0] != HeaderField.SENDER], others, name)
+        signal = build(MessageType.SIGNAL, 1, path="/", interface="a.b", member="C", sender=":1.2")
+        self.assertEqual([code for code, _ in rebuild(signal, sender=None, destination="a.b").header_fields], [1, 2, 3, 6])
+        self.assertRaises(TypeError, rebuild, signal, order="B")
+        self.assertRaises(Refused, rebuild, signal, path=None)
 
     def test_bodies_are_spelled_as_they_are(self):
         for name, data in whole_cases().items():

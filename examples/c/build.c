@@ -1,9 +1,8 @@
 /* Builds messages of those on standard input, and writes them. The words say what is built of each:
- *   again                the same message, of its parts
+ *   again                the same message, byte for byte
  *   serial NUMBER        the same with this serial
  *   destination NAME     the same with this destination
- *   error NAME           of each call, the error of this name that answers it, with serial 1
- * Header fields that the D-Bus Specification does not name are left out. */
+ *   error NAME           of each call, the error of this name that answers it, with serial 1 */
 #include <dbus_wire.h>
 
 #include <stdio.h>
@@ -38,14 +37,18 @@ static int build(struct dbus_wire_parts parts, const char *what, const char *wor
     static uint8_t out[1 << 20];
     struct dbus_wire_checked told;
     size_t length = parts.length;
+    uint32_t answer;
 
-    if (strcmp(what, "serial") == 0) parts.serial = (uint32_t)strtoul(word, NULL, 10);
-    if (strcmp(what, "destination") == 0) parts.destination = put(&length, word);
     if (strcmp(what, "error") == 0) {
         if (parts.kind != DBUS_WIRE_TYPE_METHOD_CALL) return 1;
         parts = error_to(&parts, put(&length, word));
+        answer = dbus_wire_build(&parts, bytes, length, NULL, out, sizeof out, &told);
+    } else {
+        if (strcmp(what, "serial") == 0) parts.serial = (uint32_t)strtoul(word, NULL, 10);
+        if (strcmp(what, "destination") == 0) parts.destination = put(&length, word);
+        answer = dbus_wire_rebuild(&parts, bytes, length, NULL, out, sizeof out, &told);
     }
-    switch (dbus_wire_build(&parts, bytes, length, NULL, out, sizeof out, &told)) {
+    switch (answer) {
     case DBUS_WIRE_OK: return fwrite(out, 1, told.length, stdout) == told.length;
     case DBUS_WIRE_REFUSED: fprintf(stderr, "not built: %s\n", dbus_wire_reason_text(told.reason)); return 0;
     case DBUS_WIRE_NO_ROOM: fprintf(stderr, "not built: it has %llu bytes\n", (unsigned long long)told.length); return 0;

@@ -20,7 +20,7 @@ from ._handshake import Client, Server, Status, Step
 from ._library import LIBRARY_VERSION
 from ._limits import Limits
 from ._lines import BadLine, Line, LineCommand, client_line, server_line
-from ._messages import Message, MessageFlag, MessageType, Order, build, byteswap, messages, stated_length
+from ._messages import Message, MessageFlag, MessageType, Order, build, byteswap, messages, rebuild, stated_length
 from ._rules import BadRule, Rule, RuleSet
 from ._spelling import spell_body
 from ._texts import TextFault, TextKind, check_text
@@ -59,6 +59,7 @@ __all__ = [
     "check_text",
     "client_line",
     "messages",
+    "rebuild",
     "server_line",
     "spell_body",
     "stated_length",

@@ -123,6 +123,7 @@ _CALLS = {
     "wanted": (c_uint64, *_MESSAGE),
     "swap": (c_uint32, *_MESSAGE, c_uint32, c_char_p, c_size_t, POINTER(Checked)),
     "build": (c_uint32, POINTER(Parts), *_MESSAGE, c_char_p, c_size_t, POINTER(Checked)),
+    "rebuild": (c_uint32, POINTER(Parts), *_MESSAGE, c_char_p, c_size_t, POINTER(Checked)),
     "put_number": (c_uint32, *_BODY, c_uint32, c_uint64),
     "put_text": (c_uint32, *_BODY, c_char_p, c_size_t),
     "put_signature": (c_uint32, *_BODY, c_char_p, c_size_t),

@@ -19,6 +19,10 @@ from ._values import ObjectPath, Signature, text_at, values_of
 # The most bytes that one read asks for, so that a length that is only stated takes no memory.
 _PIECE = 1 << 20
 
+# The parts of a message that are numbers, each with its name in the library, and those that are texts.
+_NUMBERS = {"type": "kind", "flags": "flags", "serial": "serial", "reply_serial": "reply_serial", "unix_fds": "unix_fds"}
+_TEXTS = ("path", "interface", "member", "error_name", "destination", "sender", "signature")
+
 
 class Order(str, enum.Enum):
     """A byte order, as the first byte of a message names it."""
@@ -205,31 +209,50 @@ def build(
 ) -> Message:
     """The message within the limits that has exactly these parts. What is None or 0 is no header field.
 
-    The fields are in the order of their codes: of the parts of another message this makes one with its fields in that order, and
-    without those of other codes.
+    The fields are in the order of their codes; `rebuild` changes a message and keeps its fields as they are.
 
     The body's bytes are spelled in the byte order, 'l' or 'B', as `spell_body` spells values, and as those of `body_bytes` are. Raises Refused if no message has these
     parts; its place counts from the first byte that they spell. Raises ValueError of a number that no field has room for.
     """
-    given, data = _library.Parts(order=ord(Order(order).value)), bytearray()
-    numbers = {"kind": type, "flags": flags, "serial": serial, "reply_serial": reply_serial or 0, "unix_fds": unix_fds}
-    for name, number in numbers.items():
-        if not 0 <= number < 1 << 32:
-            raise ValueError(f"{number} is out of range")
-        setattr(given, name, number)
+    numbers = {"type": type, "flags": flags, "serial": serial, "reply_serial": reply_serial, "unix_fds": unix_fds}
     texts = {"path": path, "interface": interface, "member": member, "error_name": error_name}
     texts |= {"destination": destination, "sender": sender, "signature": signature}
-    for name, text in texts.items():
-        if text is not None:
-            spelled = text.encode("utf-8", "surrogatepass")
+    return _built(library.dbus_wire_build, b"", {"order": order, "body": body} | numbers | texts, limits)
+
+
+def rebuild(message: Message, *, limits: Limits | None = None, **changes: Any) -> Message:
+    """The message with other parts: those that `build` takes, by their names, but for its byte order. What becomes None or 0 is no
+    header field any more.
+
+    Each header field stays in its place, also those of codes that the specification does not name. Fields that the message does not
+    have come last, in the order of their codes. With no changes it is the same message, byte for byte. Raises what `build` raises.
+    """
+    parts = {name: getattr(message, name) for name in (*_NUMBERS, *_TEXTS)}
+    parts["body"] = message.body_bytes
+    if unknown := changes.keys() - parts.keys():
+        raise TypeError(f"a message has no part {min(unknown)!r} to change")
+    return _built(library.dbus_wire_rebuild, message.data, parts | changes | {"order": message.order}, limits)
+
+
+def _built(call: Any, front: bytes, parts: dict[str, Any], limits: Limits | None) -> Message:
+    """The message that the call makes of the parts, whose texts and body come after the bytes in front."""
+    given, data = _library.Parts(order=ord(Order(parts["order"]).value)), bytearray(front)
+    for name, name_there in _NUMBERS.items():
+        number = parts[name] or 0
+        if not 0 <= number < 1 << 32:
+            raise ValueError(f"{number} is out of range")
+        setattr(given, name_there, number)
+    for name in _TEXTS:
+        if parts[name] is not None:
+            spelled = parts[name].encode("utf-8", "surrogatepass")
             setattr(given, name, _library.Text(len(data), len(spelled), 1))
             data += spelled
     given.body = len(data)
-    data += as_bytes(body)
+    data += as_bytes(parts["body"])
     given.length = len(data)
     # Each of seven texts has 16 bytes beside its own at most, and so has each number, the fixed header and the body.
     out, told = ctypes.create_string_buffer(len(data) + 11 * 16), _library.Checked()
-    answer = library.dbus_wire_build(byref(given), bytes(data), len(data), byref(limits_struct(limits)), out, len(out), byref(told))
+    answer = call(byref(given), bytes(data), len(data), byref(limits_struct(limits)), out, len(out), byref(told))
     if answer == NO_MEMORY:
         raise MemoryError
     if answer != OK:

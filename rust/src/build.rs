@@ -1,12 +1,12 @@
-//! A message built of its parts.
+//! A message built of its parts, or changed by them.
 
 use std::error::Error;
 use std::fmt;
 use std::num::NonZeroU32;
 
-use crate::{sys, Fault, Kind, Limits, Order};
+use crate::{sys, Fault, Kind, Limits, Message, Order};
 
-/// The parts of a message, of which [`build`] makes it. Those of one at hand are [`Message::parts`](crate::Message::parts).
+/// The parts of a message, of which [`build`] makes it, and by which [`rebuild`] changes one. Those of one at hand are [`Message::parts`](crate::Message::parts).
 #[derive(Clone, Copy, Debug, PartialEq, Eq)]
 pub struct Parts<'a> {
     /// The byte order, which is also that of the body.
@@ -61,7 +61,7 @@ impl<'a> Parts<'a> {
     }
 }
 
-/// Why [`build`] built nothing.
+/// Why [`build`] or [`rebuild`] built nothing.
 #[derive(Clone, Copy, Debug, PartialEq, Eq)]
 pub enum BuildError {
     /// No message within the limits has these parts. The fault is at an offset from the first byte that the parts spell, or at 0.
@@ -83,27 +83,59 @@ impl Error for BuildError {}
 
 /// The bytes of the message within the limits that has exactly these parts, its header fields in the order of their codes.
 ///
-/// So of the parts of a message at hand it makes that message only if its fields are in this order, and none is of another code.
+/// So of the parts of a message at hand it makes that message only if its fields are in this order, and none is of another code;
+/// [`rebuild`] changes a message and keeps its fields.
 ///
 /// ```
 /// use dbus_wire::{build, BuildError, Kind, Limits, Message, Parts};
 ///
 /// let signal = Parts { path: Some("/"), interface: Some("a.b"), member: Some("C"), ..Parts::new(Kind::Signal, 1) };
 /// let bytes = build(&signal, &Limits::default())?;
-/// let sent = Parts { sender: Some(":1.2"), ..Message::parse(&bytes).unwrap().parts() };
-/// assert_eq!(Message::parse(&build(&sent, &Limits::default())?).unwrap().sender(), Some(":1.2"));
+/// assert_eq!(Message::parse(&bytes).unwrap().member(), Some("C"));
 /// # Ok::<(), BuildError>(())
 /// ```
 pub fn build(parts: &Parts<'_>, limits: &Limits) -> Result<Vec<u8>, BuildError> {
-    let mut bytes = Vec::new();
+    built(sys::dbus_wire_build, Vec::new(), parts, limits)
+}
+
+/// The bytes of the message, changed as the parts say. Each header field stays in its place, as the parts have it, and so does each of
+/// a code that the specification does not name. Fields that the message does not have come last, in the order of their codes. Its own
+/// parts leave it as it is, byte for byte. A message keeps its byte order: parts of the other one are refused.
+///
+/// ```
+/// use dbus_wire::{build, rebuild, BuildError, Kind, Limits, Message, Parts};
+///
+/// let signal = Parts { path: Some("/"), interface: Some("a.b"), member: Some("C"), ..Parts::new(Kind::Signal, 1) };
+/// let bytes = build(&signal, &Limits::default())?;
+/// let message = Message::parse(&bytes).unwrap();
+/// let sent = rebuild(&message, &Parts { sender: Some(":1.2"), ..message.parts() }, &Limits::default())?;
+/// assert_eq!(Message::parse(&sent).unwrap().sender(), Some(":1.2"));
+/// assert_eq!(rebuild(&message, &message.parts(), &Limits::default())?, message.bytes());
+/// # Ok::<(), BuildError>(())
+/// ```
+pub fn rebuild(message: &Message<'_>, parts: &Parts<'_>, limits: &Limits) -> Result<Vec<u8>, BuildError> {
+    built(sys::dbus_wire_rebuild, message.bytes().to_vec(), parts, limits)
+}
+
+// `sys::dbus_wire_build`, or another call that takes what it takes.
+type Build = unsafe extern "C" fn(
+    *const sys::dbus_wire_parts,
+    *const u8,
+    usize,
+    *const sys::dbus_wire_limits,
+    *mut u8,
+    usize,
+    *mut sys::dbus_wire_checked,
+) -> u32;
+
+// What the call makes of the parts, whose texts and body come after the bytes.
+fn built(call: Build, mut bytes: Vec<u8>, parts: &Parts<'_>, limits: &Limits) -> Result<Vec<u8>, BuildError> {
     let given = placed(parts, &mut bytes);
     // Each of seven texts has 16 bytes beside its own at most, and so has each number, the fixed header and the body.
     let mut out = vec![0; bytes.len() + 11 * 16];
     let mut told = sys::dbus_wire_checked::default();
     // SAFETY: two slices, of which `out` is mutable, and references, as `sys` says.
-    let answer = unsafe {
-        sys::dbus_wire_build(&given, bytes.as_ptr(), bytes.len(), &limits.raw(), out.as_mut_ptr(), out.len(), &mut told)
-    };
+    let answer = unsafe { call(&given, bytes.as_ptr(), bytes.len(), &limits.raw(), out.as_mut_ptr(), out.len(), &mut told) };
     match answer {
         sys::DBUS_WIRE_OK => {
             out.truncate(told.length as usize);

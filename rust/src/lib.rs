@@ -23,7 +23,8 @@
 //! * [`Message`] has the parts of a message, and allocates nothing. [`Values`] goes over the values
 //!   of its body, and [`Fields`] over its header fields; [`Message::flatten`] gives all values as one
 //!   row. They borrow the bytes, so no text is copied.
-//! * [`build`] makes a message of its [`Parts`], whose [`Body`] is spelled value by value.
+//! * [`build`] makes a message of its [`Parts`], whose [`Body`] is spelled value by value; [`rebuild`] changes one, and keeps its header
+//!   fields in their places.
 //! * [`byteswap`] writes a message in the other byte order, and [`check_text`] checks names, signatures and other texts.
 //! * A match [`Rule`], or a [`RuleSet`] of many, says which messages a program wants; [`Owners`] says who owns the names that they
 //!   ask for. Threads ask [`SharedRules`] at the same time.
@@ -60,7 +61,7 @@ mod text;
 mod value;
 
 pub use body::{Body, TooLong};
-pub use build::{build, BuildError, Parts};
+pub use build::{build, rebuild, BuildError, Parts};
 pub use check::{check, wanted, Answer, Order};
 pub use checker::{Checker, OutOfMemory, Taken};
 pub use fault::{Fault, ParseError, Reason, RuleReason};

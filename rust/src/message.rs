@@ -190,7 +190,8 @@ impl<'a> Message<'a> {
         Fields::of_message(self.bytes)
     }
 
-    /// Its parts, of which [`build`](crate::build) makes a message. They hold all but header fields of unknown codes.
+    /// Its parts, of which [`build`](crate::build) makes a message, and by which [`rebuild`](crate::rebuild) changes this one. They hold
+    /// all but header fields of unknown codes.
     pub fn parts(&self) -> Parts<'a> {
         Parts {
             order: self.order(),

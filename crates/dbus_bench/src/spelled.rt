@@ -4,7 +4,7 @@ use crate::timing::{Extent, Measure};
 use dbus_body::{
     PutFault, begin_struct, close_array, open_array, put_number, put_signature, put_text,
 };
-use dbus_c_build::{Place, PlacedParts, build};
+use dbus_c_build::{Given, Place, PlacedParts, build};
 use dbus_message::message_type;
 use dbus_value::{Limits, Order};
 use std::alloc::{AllocError, Global};
@@ -100,7 +100,12 @@ fn built(alloc: Global) -> io::Result<usize> {
         Ok(spelled) => spelled,
         Err(_) => return Err(Error::from(ErrorKind::OutOfMemory)),
     };
-    match build(alloc, bytes.as_slice(), &parts, Limits::specification()) {
+    let given = Given {
+        bytes: bytes.as_slice(),
+        limits: Limits::specification(),
+        kept: None,
+    };
+    match build(alloc, &given, &parts) {
         Ok(message) => Ok(message.len()),
         Err(_) => Err(Error::from(ErrorKind::InvalidData)),
     }

@@ -1,19 +1,23 @@
 -- What is built of parts in numbers, and why nothing is.
-use Rattle.std.proofs.Common.{◌≡◌, ◌⊎◌, ℕ, ◌-◌, ◌<◌, ◌≤◌, List, ◌++◌, length, drop, Option, inl, inr, refl, sym, ap, subst, ◌∙◌, arith}
+use Rattle.std.proofs.Common.{◌≡◌, ◌⊎◌, ℕ, ◌-◌, ◌<◌, ◌≤◌, List, [], ◌++◌, length, drop, Option, Some, None, inl, inr, refl, sym, ap, subst, ◌∙◌, arith}
+use Rattle.std.specs.Option.{MatchOption}
 use Rattle.std.proofs.lemmas.Bool.{cases_lt}
 use Rattle.dbus_value_model.specs.declared.fault.Reason.{Reason}
 use Rattle.dbus_value_model.specs.declared.fault.Reason.TheVariants.{ByteOrder, Overrun}
 use Rattle.dbus_value_model.specs.declared.limits.Limits.{Limits}
 use Rattle.dbus_value_model.specs.declared.order.Order.{Order}
-use Rattle.dbus_message_model.specs.Messages.{IsMessage}
+use Rattle.dbus_message_model.specs.Messages.{FieldTree, IsMessage}
+use Rattle.dbus_validate.specs.declared.validating.Validated.{Validated}
 use Rattle.dbus_c_build.specs.Placed.{HasParts}
 use Rattle.dbus_c_build.specs.Building.{IsBuilt, IsRefusal, MakeNone}
+use Rattle.dbus_c_build.specs.Kept.{AreKept, IsKept}
+use Rattle.dbus_c_build.specs.declared.given.Given.{Given}
 use Rattle.dbus_c_build.specs.declared.placed.Place.{Place}
 use Rattle.dbus_c_build.specs.declared.placed.PlacedParts.{PlacedParts}
 use Rattle.dbus_c_build.specs.declared.refusal.Refusal.{Refusal}
 use Rattle.dbus_c_build.specs.declared.refusal.Refusal.TheVariants as refusals
 use Rattle.dbus_c_build.proofs.OnlyMessage.{one_order}
-use Rattle.dbus_c.specs.Building.{AreNoParts, Builds, built, no_room, StandFor, StandForNone, place_given, refusal_told, field_told}
+use Rattle.dbus_c.specs.Building.{AreNoParts, Builds, FieldsOf, Keeps, KeepsOrder, Kept, Nothing, built, fields_kept, no_room, StandFor, StandForNone, place_given, refusal_told, field_told}
 use Rattle.dbus_c.specs.Building as builds
 use Rattle.dbus_c.specs.Checking.{whole_told}
 use Rattle.dbus_c.specs.declared.checking.Checked.{Checked}
@@ -21,7 +25,7 @@ use Rattle.dbus_c.specs.declared.parts.Parts.{Parts}
 
 -- ---- numbers stand for one header
 
-abbrev made : Order → (kind flags serial reply_serial unix_fds : ℕ) → (path interface member error_name destination sender signature : Option Place) → Place → PlacedParts
+abbrev pub made : Order → (kind flags serial reply_serial unix_fds : ℕ) → (path interface member error_name destination sender signature : Option Place) → Place → PlacedParts
 made order kind flags serial reply_serial unix_fds path interface member error_name destination sender signature body = record {
   order = order;
   kind = kind;
@@ -39,11 +43,11 @@ made order kind flags serial reply_serial unix_fds path interface member error_n
   body = body;
 }
 
-abbrev stood_for : Order → Parts → PlacedParts
+abbrev pub stood_for : Order → Parts → PlacedParts
 stood_for order w = made order w.kind w.flags w.serial w.reply_serial w.unix_fds (place_given w.path) (place_given w.interface) (place_given w.member) (place_given w.error_name) (place_given w.destination) (place_given w.sender) (place_given w.signature) (record { start = w.body; length = w.length - w.body })
 
-stands_for : (w : Parts) (p : PlacedParts) → StandFor w p → p ≡ stood_for p.order w
-stands_for w p s =
+stands_for : (k : Kept) (w : Parts) (p : PlacedParts) → StandFor k w p → p ≡ stood_for p.order w
+stands_for k w p s =
     ap (λ (x : ℕ). made p.order x p.flags p.serial p.reply_serial p.unix_fds p.path p.interface p.member p.error_name p.destination p.sender p.signature p.body) s.numbers.0
     ∙ ap (λ (x : ℕ). made p.order w.kind x p.serial p.reply_serial p.unix_fds p.path p.interface p.member p.error_name p.destination p.sender p.signature p.body) s.numbers.1
     ∙ ap (λ (x : ℕ). made p.order w.kind w.flags x p.reply_serial p.unix_fds p.path p.interface p.member p.error_name p.destination p.sender p.signature p.body) s.numbers.2
@@ -58,40 +62,51 @@ stands_for w p s =
     ∙ ap (λ (x : Option Place). made p.order w.kind w.flags w.serial w.reply_serial w.unix_fds (place_given w.path) (place_given w.interface) (place_given w.member) (place_given w.error_name) (place_given w.destination) (place_given w.sender) x p.body) s.signature
     ∙ ap (λ (x : Place). made p.order w.kind w.flags w.serial w.reply_serial w.unix_fds (place_given w.path) (place_given w.interface) (place_given w.member) (place_given w.error_name) (place_given w.destination) (place_given w.sender) (place_given w.signature) x) s.body.1
 
-stands_once : (w : Parts) (p q : PlacedParts) → StandFor w p → StandFor w q → p ≡ q
-stands_once w p q s t = stands_for w p s ∙ ap (λ (o : Order). stood_for o w) (one_order p.order q.order (sym s.order ∙ t.order)) ∙ sym (stands_for w q t)
+pub stands_once : (k : Kept) (w : Parts) (p q : PlacedParts) → StandFor k w p → StandFor k w q → p ≡ q
+stands_once k w p q s t = stands_for k w p s ∙ ap (λ (o : Order). stood_for o w) (one_order p.order q.order (sym s.order ∙ t.order)) ∙ sym (stands_for k w q t)
+
+-- the fields of what is kept are those that are given
+pub given_so : (g : Given) (k : Kept) (order : Order) → Keeps g k → KeepsOrder k order → AreKept g order (fields_kept k)
+given_so g Nothing order keeps same =
+    let none : List FieldTree = [] in
+    subst (λ (o : Option Validated). MatchOption o (none ≡ []) (λ j. IsKept g.limits g.bytes.now order j none)) (sym keeps) refl
+given_so g (FieldsOf own m) order keeps same =
+    elim (g.kept) as (λ o. MatchOption o ⊥ (λ j. IsKept g.limits g.bytes.now own j m.fields) → MatchOption o (m.fields ≡ []) (λ j. IsKept g.limits g.bytes.now order j m.fields)) [
+      | None ↦ λ none. absurd none
+      | Some j ↦ λ is. subst (λ (o : Order). IsKept g.limits g.bytes.now o j m.fields) same is
+    ] keeps
 
 -- ---- nothing is built
 
-module _ (limits : Limits) (b : List ℕ) (w : Parts) where
-  no_parts_none : (reason : Reason) → AreNoParts w reason → StandForNone limits b w
-  no_parts_none ByteOrder none = λ p m stand has valid. none p.order stand.order
+module _ (limits : Limits) (b : List ℕ) (k : Kept) (w : Parts) where
+  no_parts_none : (reason : Reason) → AreNoParts k w reason → StandForNone limits b k w
+  no_parts_none ByteOrder none = λ p m stand has valid. none p.order stand.keeps stand.order
   no_parts_none Overrun (named, inl kind) = λ p m stand has valid. absurd (omega (arith, kind, stand.numbers.0, has.numbers.0, valid.kind_fits))
   no_parts_none Overrun (named, inr (inl flags)) = λ p m stand has valid. absurd (omega (arith, flags, stand.numbers.1, has.numbers.1, valid.flags))
   no_parts_none Overrun (named, inr (inr ends)) = λ p m stand has valid. absurd (omega (arith, ends, stand.body.0))
   no_parts_none _ none = absurd none
 
-  makes_none : (p : PlacedParts) (why : Refusal) → (why ≡ refusals.Memory → ⊥) → IsRefusal limits b p why → MakeNone limits b p
+  makes_none : (p : PlacedParts) (why : Refusal) → (why ≡ refusals.Memory → ⊥) → IsRefusal limits b (fields_kept k) p why → MakeNone limits b (fields_kept k) p
   makes_none p refusals.Memory other is = absurd (other refl)
   makes_none p (refusals.Outside code) other is = is.0
   makes_none p (refusals.TooLong code) other is = is.0
   makes_none p (refusals.Format f) other is = is.0
 
-  stands_for_none : (p : PlacedParts) → StandFor w p → MakeNone limits b p → StandForNone limits b w
+  stands_for_none : (p : PlacedParts) → StandFor k w p → MakeNone limits b (fields_kept k) p → StandForNone limits b k w
   stands_for_none p stand none = λ q m other has valid.
-      let P : PlacedParts → Type 0 = λ x. HasParts b x m → IsMessage limits x.order m → ⊥ in
-      subst P (stands_once w p q stand other) (none m) has valid
+      let P : PlacedParts → Type 0 = λ x. HasParts b (fields_kept k) x m → IsMessage limits x.order m → ⊥ in
+      subst P (stands_once k w p q stand other) (none m) has valid
 
   module _ (answer : ℕ) (told : Checked) (old new : List ℕ) where
-    pub no_parts_refused : (reason : Reason) → AreNoParts w reason → answer ≡ 2 → told ≡ field_told reason 0 → new ≡ old → Builds limits b w answer told old new
+    pub no_parts_refused : (reason : Reason) → AreNoParts k w reason → answer ≡ 2 → told ≡ field_told reason 0 → new ≡ old → Builds limits b k w answer told old new
     no_parts_refused reason none two told_is same = builds.refused (no_parts_none reason none) two (builds.no_parts reason none told_is) same
 
-    pub parts_refused : (p : PlacedParts) (why : Refusal) → StandFor w p → (why ≡ refusals.Memory → ⊥) → IsRefusal limits b p why → answer ≡ 2 → told ≡ refusal_told why → new ≡ old → Builds limits b w answer told old new
+    pub parts_refused : (p : PlacedParts) (why : Refusal) → StandFor k w p → (why ≡ refusals.Memory → ⊥) → IsRefusal limits b (fields_kept k) p why → answer ≡ 2 → told ≡ refusal_told why → new ≡ old → Builds limits b k w answer told old new
     parts_refused p why stand other is two told_is same = builds.refused (stands_for_none p stand (makes_none p why other is)) two (builds.why p why stand other is told_is) same
 
-    built_if : (p : PlacedParts) (out : List ℕ) → StandFor w p → IsBuilt limits b p out → told ≡ whole_told p.order (length out)
+    built_if : (p : PlacedParts) (out : List ℕ) → StandFor k w p → IsBuilt limits b (fields_kept k) p out → told ≡ whole_told p.order (length out)
         → (length out ≤ length old → (answer ≡ 0) × (new ≡ out ++ drop (length out) old)) → (length old < length out → (answer ≡ 4) × (new ≡ old))
-        → ((length old < length out) ⊎ (length out ≤ length old)) → Builds limits b w answer told old new
+        → ((length old < length out) ⊎ (length out ≤ length old)) → Builds limits b k w answer told old new
     built_if p out stand is told_is written left (inr room) =
         let m = is.message in
         let room_is = subst (λ (l : List ℕ). length l ≤ length old) is.bytes room in
@@ -103,6 +118,6 @@ module _ (limits : Limits) (b : List ℕ) (w : Parts) where
         let told_so = told_is ∙ ap (λ (l : List ℕ). whole_told p.order (length l)) is.bytes in
         no_room p m stand is.parts is.valid few_is (left few).0 told_so (left few).1
 
-    pub message_built : (p : PlacedParts) (out : List ℕ) → StandFor w p → IsBuilt limits b p out → told ≡ whole_told p.order (length out)
-        → (length out ≤ length old → (answer ≡ 0) × (new ≡ out ++ drop (length out) old)) → (length old < length out → (answer ≡ 4) × (new ≡ old)) → Builds limits b w answer told old new
+    pub message_built : (p : PlacedParts) (out : List ℕ) → StandFor k w p → IsBuilt limits b (fields_kept k) p out → told ≡ whole_told p.order (length out)
+        → (length out ≤ length old → (answer ≡ 0) × (new ≡ out ++ drop (length out) old)) → (length old < length out → (answer ≡ 4) × (new ≡ old)) → Builds limits b k w answer told old new
     message_built p out stand is told_is written left = built_if p out stand is told_is written left (cases_lt (length old) (length out))

@@ -8,4 +8,5 @@ pub mod OwnerLines
 pub mod RuleTelling
 pub mod EndsMade
 mod Built
+mod Rebuilt
 mod FlatParts

@@ -1,27 +1,32 @@
-//! A message built of parts in numbers, which are those that are told of one that is taken apart.
+//! A message built of parts in numbers, which are those that are told of one that is taken apart, or changed by them.
 #![tactic(auto)]
 
 ghost use Rattle.std.specs.Prelude.{◌≡◌, ◌<◌, ◌≤◌, ◌++◌, length, drop, nat_eq, if◌then◌else◌, MatchOption, MatchResult};
 ghost use Rattle.dbus_value_model.specs.declared.fault.Reason.TheVariants.{MessageTooLong, Signature};
-ghost use Rattle.dbus_c.specs.Building.{AreNoParts, Builds, StandFor, field_told, place_given, refusal_told};
+ghost use Rattle.dbus_value_model.specs.declared.order.Order.{Order};
+ghost use Rattle.dbus_message_model.specs.Messages.{order_byte};
+ghost use Rattle.dbus_c.specs.Building.{AreNoParts, Builds, ComesBack, Keeps, KeepsOrder, Kept, Nothing, Rebuilds, StandFor, field_told, place_given, refusal_told};
 ghost use Rattle.dbus_c.specs.Checking.{whole_told};
 ghost use Rattle.dbus_c.specs.GivenLimits.{limits_of};
+ghost use Rattle.dbus_c.specs.Parting.{HasParts};
 
 use crate::answers::{NO_MEMORY, NO_ROOM, REFUSED, WHOLE};
-use crate::checking::{Checked, fault_told, nothing_told};
+use crate::checking::{Checked, check_all, fault_told, nothing_told};
 use crate::given_limits::{WireLimits, given_limits};
 use crate::parts::{Parts, TextPlace, order_byte};
 use crate::reasons::reason_number;
-use dbus_c_build::{Place, PlacedParts, Refusal, build};
+use dbus_c_build::{Given, Place, PlacedParts, Refusal, build};
 use dbus_message_model::field_code::SIGNATURE;
 use dbus_message_model::order_named;
+use dbus_validate::validate_first;
 use dbus_value_model::{Order, Reason};
 use std::alloc::Global;
 
 /// Writes the message that has exactly these parts to the start of `out`, in the byte order that they name: the header fields that
 /// are there, in the order of their codes, and the body from `parts.body` up to `parts.length`, which is spelled as in a message.
-/// The places are among `bytes`. It is not the inverse of [`crate::dbus_wire_parts_of`]: a message comes back from its parts
-/// exactly if it has no header fields beside the known ones, these in the order of their codes, and no UNIX_FDS of 0.
+/// The places are among `bytes`. It is not the inverse of [`crate::dbus_wire_parts_of`], as [`dbus_wire_rebuild`] is: a message comes
+/// back from its parts exactly if it has no header fields beside the known ones, these in the order of their codes, and no UNIX_FDS
+/// of 0.
 ///
 /// [`WHOLE`] if it is written; `told` has its length and order. [`NO_ROOM`] if `out` has fewer bytes than the message, with the same
 /// told. [`REFUSED`] if no message within the limits has these parts. Then `told` has the reason and the field: what
@@ -39,16 +44,71 @@ pub extern "C" fn dbus_wire_build(
     out: &mut [u8],
     told: &mut Checked,
 ) -> u32
-    ensures { Builds (limits_of limits.now) bytes.now parts.now result told.new out.old out.new }
+    ensures { Builds (limits_of limits.now) bytes.now Nothing parts.now result told.new out.old out.new }
 {
-    let placed = match placed_parts(parts) {
+    let given = Given {
+        bytes,
+        limits: given_limits(limits),
+        kept: None,
+    };
+    build_given(alloc, parts, &given, out, told)
+}
+
+/// Writes the message that the bytes begin with to the start of `out`, changed as the parts say: each header field stays in its
+/// place, one of a known code as the parts have it, or not at all if they have none, and one of another code as it is. Then come the
+/// fields that the message does not have, in the order of their codes. The parts of the message, as [`crate::dbus_wire_parts_of`]
+/// writes them, leave it as it is, byte for byte.
+///
+/// It answers as [`dbus_wire_build`], but takes the byte order of the message alone: `ByteOrder` is told of any other. A UNIX_FDS of 0
+/// stays if the parts have 0. If the bytes begin with no message within the limits, it answers as [`crate::dbus_wire_check`], and
+/// `out` stays as it was. D-Bus Specification, "Message Format" and "Header Fields".
+#[unsafe(no_mangle)]
+pub extern "C" fn dbus_wire_rebuild(
+    alloc: Global,
+    parts: &Parts,
+    bytes: &[u8],
+    limits: &WireLimits,
+    out: &mut [u8],
+    told: &mut Checked,
+) -> u32
+    ensures rebuilds { Rebuilds (limits_of limits.now) bytes.now parts.now result told.new out.old out.new }
+    ensures same { HasParts (limits_of limits.now) bytes.now parts.now →
+        ComesBack bytes.now parts.now result out.old out.new }
+{
+    let within = given_limits(limits);
+    match validate_first(bytes, within) {
+        Some(validated) => {
+            let given = Given {
+                bytes,
+                limits: within,
+                kept: Some(validated),
+            };
+            build_given(alloc, parts, &given, out, told)
+        }
+        None => check_all(bytes, within, told),
+    }
+}
+
+// Builds the message of what is given, and writes it.
+fn build_given(
+    alloc: Global,
+    parts: &Parts,
+    given: &Given<'_>,
+    out: &mut [u8],
+    told: &mut Checked,
+) -> u32
+    requires { (k : Kept) × Keeps given.now k }
+    ensures { (k : Kept) → Keeps given.now k →
+        Builds given.now.limits given.now.bytes.now k parts.now result told.new out.old out.new }
+{
+    let placed = match placed_parts(parts, given) {
         Ok(placed) => placed,
         Err(reason) => {
             *told = field_told(reason, 0);
             return REFUSED;
         }
     };
-    match build(alloc, bytes, &placed, given_limits(limits)) {
+    match build(alloc, given, &placed) {
         Ok(message) => write_built(message.as_slice(), placed.order, out, told),
         Err(why) => {
             *told = refusal_told(why);
@@ -119,11 +179,30 @@ fn too_long(code: u8) -> Reason
     }
 }
 
-// The parts that the numbers stand for, or why they stand for none.
-fn placed_parts(parts: &Parts) -> Result<PlacedParts, Reason>
-    ensures { MatchResult result (λ p. StandFor parts.now p) (λ reason. AreNoParts parts.now reason) }
+// The byte order that is named, if it is one, and that of the message that is kept.
+fn order_given(parts: &Parts, given: &Given<'_>) -> Option<Order>
+    ensures { (k : Kept) → Keeps given.now k → MatchOption result
+        ((order : Order) → KeepsOrder k order → parts.now.order ≡ order_byte order → ⊥)
+        (λ order. KeepsOrder k order × (parts.now.order ≡ order_byte order)) }
 {
-    let order = match order_named(parts.order) {
+    match given.kept {
+        Some(validated) => {
+            if parts.order == order_byte(validated.order) {
+                Some(validated.order)
+            } else {
+                None
+            }
+        }
+        None => order_named(parts.order),
+    }
+}
+
+// The parts that the numbers stand for, or why they stand for none.
+fn placed_parts(parts: &Parts, given: &Given<'_>) -> Result<PlacedParts, Reason>
+    ensures { (k : Kept) → Keeps given.now k →
+        MatchResult result (λ p. StandFor k parts.now p) (λ reason. AreNoParts k parts.now reason) }
+{
+    let order = match order_given(parts, given) {
         Some(order) => order,
         None => return Err(Reason::ByteOrder),
     };

@@ -8,8 +8,8 @@
 //! checker that is handed one piece after another, and [`dbus_wire_rules_add`] keeps match rules;
 //! [`dbus_wire_server_new`] and [`dbus_wire_client_new`] make an end of a handshake;
 //! [`dbus_wire_client_line`] and [`dbus_wire_server_line`] give the lines of one between others,
-//! and [`dbus_wire_build`] builds a message of its parts, whose body [`dbus_wire_put_number`] and
-//! its like spell.
+//! [`dbus_wire_build`] builds a message of its parts, whose body [`dbus_wire_put_number`] and its
+//! like spell, and [`dbus_wire_rebuild`] changes one.
 //!
 //! `include/dbus_wire.h` declares them, and says which allocate and what a caller owes; `examples/c` has callers.
 #![tactic(auto)]
@@ -39,7 +39,7 @@ pub use answers::{
     NO_CHECKER, NO_HANDSHAKE, NO_KIND, NO_MEMORY, NO_ROOM, NO_RULE, NO_VALUE, PARTIAL, REFUSED,
     SHARED, WHOLE,
 };
-pub use building::dbus_wire_build;
+pub use building::{dbus_wire_build, dbus_wire_rebuild};
 pub use checkers::{
     Taken, dbus_wire_checker_free, dbus_wire_checker_new, dbus_wire_checker_restart,
     dbus_wire_checker_take,

@@ -1,6 +1,8 @@
+mod Anywhere
 mod Cancelling
 mod SameFields
-mod PlainFields
+mod ClearFields
 pub mod OnlyMessage
 mod Spelling
-mod Refusing
+pub mod Refusing
+mod KeptFields

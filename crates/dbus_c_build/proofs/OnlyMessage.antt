@@ -1,39 +1,41 @@
 -- The only message that the bytes of parts may begin with has these parts, and is all of the bytes.
-use Rattle.std.proofs.Common.{◌≡◌, ℕ, zero, suc, ◌^◌, ◌<◌, ◌≤◌, List, [], ◌∷◌, ◌++◌, length, replicate, map, refl, sym, ap, subst, ◌∙◌, arith, append_assoc}
+use Rattle.std.proofs.Common.{◌≡◌, ℕ, ◌-◌, ◌^◌, ◌<◌, ◌≤◌, List, [], ◌∷◌, ◌++◌, length, replicate, map, refl, sym, ap, subst, ◌∙◌, arith, append_assoc}
 use Rattle.std.proofs.lemmas.List.{length-replicate, append-nil}
 use Rattle.dbus_value_model.specs.declared.limits.Limits.{Limits}
 use Rattle.dbus_value_model.specs.declared.order.Order.{Order}
 use Rattle.dbus_value_model.specs.declared.order.Order.TheVariants.{Little, Big}
 use Rattle.dbus_value_model.specs.Appending.{with_values}
+use Rattle.dbus_value_model.specs.Bounds.{bounds_of}
 use Rattle.dbus_value_model.specs.Bytes.{num, pad, gap_to}
 use Rattle.dbus_value_model.specs.Spelling.{spelling, spellings}
-use Rattle.dbus_value_model.specs.Values.{ValueTrees, value_trees, IsWellFormed, AreWellFormed}
+use Rattle.dbus_value_model.specs.Values.{ValueTrees, value_trees}
 use Rattle.dbus_message_model.specs.Messages.{FieldTree, MessageTree, IsMessage, order_byte, field_struct, field_array, fields_end, body_bytes, message_bytes}
 use Rattle.dbus_message_model.proofs.MessageLengths.{message_length}
 use Rattle.dbus_c_build.specs.BuildLaws.{OneBuilt}
-use Rattle.dbus_c_build.specs.Placed.{HasParts, text_at, fields_of}
+use Rattle.dbus_c_build.specs.Placed.{HasParts, text_at, fields_after}
 use Rattle.dbus_c_build.specs.Spelled.{with_header, spelled}
 use Rattle.dbus_c_build.specs.Building.{HaveBytes}
 use Rattle.dbus_c_build.specs.declared.placed.PlacedParts.{PlacedParts}
+use Rattle.dbus_c_build.proofs.Anywhere.{AreSpelled, message_spelled}
 use Rattle.dbus_c_build.proofs.Cancelling.{fronts, heads, numbers}
-use Rattle.dbus_c_build.proofs.PlainFields.{plain_fields}
+use Rattle.dbus_c_build.proofs.ClearFields.{clear_fields}
 use Rattle.dbus_c_build.proofs.SameFields.{same_fields}
 
 abbrev structs : List FieldTree → ValueTrees
 structs fs = value_trees (map field_struct fs)
 
 -- where a message has the parts, its bytes are these
-pub parts_spelled : (b : List ℕ) (p : PlacedParts) (m : MessageTree) → HasParts b p m → message_bytes p.order m ≡ spelled b p
-parts_spelled b p m has =
+pub parts_spelled : (b : List ℕ) (kept : List FieldTree) (p : PlacedParts) (m : MessageTree) → HasParts b kept p m → message_bytes p.order m ≡ spelled b kept p
+parts_spelled b kept p m has =
     ap (λ (k : ℕ). with_header p.order k m.flags m.serial m.fields (body_bytes p.order m)) has.numbers.0
     ∙ ap (λ (f : ℕ). with_header p.order p.kind f m.serial m.fields (body_bytes p.order m)) has.numbers.1
     ∙ ap (λ (s : ℕ). with_header p.order p.kind p.flags s m.fields (body_bytes p.order m)) has.numbers.2
     ∙ ap (λ (fs : List FieldTree). with_header p.order p.kind p.flags p.serial fs (body_bytes p.order m)) has.fields
-    ∙ ap (with_header p.order p.kind p.flags p.serial (fields_of b p)) has.body
+    ∙ ap (with_header p.order p.kind p.flags p.serial (fields_after b p kept)) has.body
 
 -- what is built of the parts of a message is that message
 pub one_built : OneBuilt
-one_built limits b p m out has is = is.bytes ∙ parts_spelled b p is.message is.parts ∙ sym (parts_spelled b p m has)
+one_built limits b kept p m out has is = is.bytes ∙ parts_spelled b kept p is.message is.parts ∙ sym (parts_spelled b kept p m has)
 
 pub array_is : (order : Order) (fs : List FieldTree) → spelling order 12 (field_array fs) ≡ num order 4 (length (spellings order 16 (structs fs))) ++ spellings order 16 (structs fs)
 unfolding spelling gap_to
@@ -46,10 +48,6 @@ values_are order vs front long = ap (λ (n : ℕ). front ++ spellings order n vs
 pub contents_within : (limits : Limits) (order : Order) (m : MessageTree) → IsMessage limits order m → length (spellings order 16 (structs m.fields)) ≤ limits.array
 unfolding gap_to
 contents_within limits order m valid = valid.within_fields.0
-
-pub formed_structs : (depth : ℕ) (fs : List FieldTree) → IsWellFormed depth (field_array fs) → (d : ℕ) × AreWellFormed d (structs fs)
-formed_structs zero fs h = absurd h
-formed_structs (suc d) fs h = (d, h.1)
 
 -- the bytes of a message and others, part by part
 in_parts : (order : Order) (kind flags serial : ℕ) (fs : List FieldTree) (body rest : List ℕ) →
@@ -67,23 +65,26 @@ one_order Big Little same = absurd (omega (arith, same))
 one_order Big Big same = refl
 
 -- what a message is whose bytes begin those of the parts
-pub record IsOnly (limits : Limits) (b : List ℕ) (p : PlacedParts) (order : Order) (m : MessageTree) (rest : List ℕ) : Type 0 where
+pub record IsOnly (limits : Limits) (b : List ℕ) (kept : List FieldTree) (p : PlacedParts) (order : Order) (m : MessageTree) (rest : List ℕ) : Type 0 where
   pub order_is : order ≡ p.order
   pub numbers : (m.kind ≡ p.kind) × (m.flags ≡ p.flags) × (m.serial ≡ p.serial)
-  pub fields : m.fields ≡ fields_of b p
+  pub fields : m.fields ≡ fields_after b p kept
   pub body : body_bytes p.order m ≡ text_at b p.body
   pub nothing : rest ≡ []
 
-module _ (limits : Limits) (b : List ℕ) (p : PlacedParts) (have : HaveBytes b p) where
-  in_order : (m : MessageTree) (rest : List ℕ) → length (text_at b p.body) < 256 ^ 4 → IsMessage limits p.order m → message_bytes p.order m ++ rest ≡ spelled b p → IsOnly limits b p p.order m rest
+module _ (limits : Limits) (b : List ℕ) (kept : List FieldTree) (p : PlacedParts) (have : HaveBytes b kept p) (spells : AreSpelled (bounds_of limits) p.order (limits.depth - 1) kept) where
+  abbrev fs : List FieldTree
+  fs = fields_after b p kept
+
+  in_order : (m : MessageTree) (rest : List ℕ) → length (text_at b p.body) < 256 ^ 4 → IsMessage limits p.order m → message_bytes p.order m ++ rest ≡ spelled b kept p → IsOnly limits b kept p p.order m rest
   in_order m rest few valid same =
       let order = p.order in
       let body = text_at b p.body in
       let contents = spellings order 16 (structs m.fields) in
-      let given = spellings order 16 (structs (fields_of b p)) in
+      let given = spellings order 16 (structs fs) in
       let left = in_parts order m.kind m.flags m.serial m.fields (body_bytes order m) rest in
-      let right = in_parts order p.kind p.flags p.serial (fields_of b p) body [] in
-      let all = sym left ∙ same ∙ sym (append-nil (spelled b p)) ∙ right in
+      let right = in_parts order p.kind p.flags p.serial fs body [] in
+      let all = sym left ∙ same ∙ sym (append-nil (spelled b kept p)) ∙ right in
       let tail = (heads _ _ _ _ all).1 in
       let byte : (n : ℕ) → n < 256 → n < 256 ^ 1 = λ n h. omega (arith, h) in
       let kind = numbers order 1 m.kind p.kind _ _ (byte _ valid.kind_fits) (byte _ have.numbers.0) tail in
@@ -96,16 +97,17 @@ module _ (limits : Limits) (b : List ℕ) (p : PlacedParts) (have : HaveBytes b 
       let held = fronts contents given _ _ array.0 array.1 in
       let front : List ℕ = replicate 16 0 in
       let sixteen : length front ≡ 16 = length-replicate {A = ℕ} 16 0 in
-      let spelled_alike = values_are order (structs m.fields) front sixteen ∙ ap (λ (l : List ℕ). front ++ l) held.0 ∙ sym (values_are order (structs (fields_of b p)) front sixteen) in
-      let formed = formed_structs limits.depth m.fields valid.formed_fields in
-      let fields : m.fields ≡ fields_of b p = same_fields order m.fields (fields_of b p) formed.0 front formed.1 (plain_fields b p have) spelled_alike in
-      let ends : pad 8 (fields_end order m.fields) ≡ pad 8 (fields_end order (fields_of b p)) = ap (λ (fs : List FieldTree). pad 8 (fields_end order fs)) fields in
-      let after = fronts (pad 8 (fields_end order m.fields)) (pad 8 (fields_end order (fields_of b p))) _ _ (ap length ends) held.1 in
+      let spelled_alike = values_are order (structs m.fields) front sixteen ∙ ap (λ (l : List ℕ). front ++ l) held.0 ∙ sym (values_are order (structs fs) front sixteen) in
+      let bounds = bounds_of limits in
+      let clear = clear_fields bounds order (limits.depth - 1) b kept p have spells in
+      let alike : m.fields ≡ fs = same_fields bounds order (limits.depth - 1) m.fields fs front (message_spelled limits order m valid) clear spelled_alike in
+      let ends : pad 8 (fields_end order m.fields) ≡ pad 8 (fields_end order fs) = ap (λ (gs : List FieldTree). pad 8 (fields_end order gs)) alike in
+      let after = fronts (pad 8 (fields_end order m.fields)) (pad 8 (fields_end order fs)) _ _ (ap length ends) held.1 in
       let bodies = fronts (body_bytes order m) body rest [] long.0 after.1 in
-      record { order_is = refl; numbers = (kind.0, flags.0, serial.0); fields = fields; body = bodies.0; nothing = bodies.1 }
+      record { order_is = refl; numbers = (kind.0, flags.0, serial.0); fields = alike; body = bodies.0; nothing = bodies.1 }
 
-  pub only_message : (order : Order) (m : MessageTree) (rest : List ℕ) → length (text_at b p.body) < 256 ^ 4 → IsMessage limits order m → message_bytes order m ++ rest ≡ spelled b p → IsOnly limits b p order m rest
+  pub only_message : (order : Order) (m : MessageTree) (rest : List ℕ) → length (text_at b p.body) < 256 ^ 4 → IsMessage limits order m → message_bytes order m ++ rest ≡ spelled b kept p → IsOnly limits b kept p order m rest
   only_message order m rest few valid same =
       let is : order ≡ p.order = one_order order p.order (heads _ _ _ _ same).0 in
-      let P : Order → Type 0 = λ o. IsMessage limits o m → message_bytes o m ++ rest ≡ spelled b p → IsOnly limits b p o m rest in
+      let P : Order → Type 0 = λ o. IsMessage limits o m → message_bytes o m ++ rest ≡ spelled b kept p → IsOnly limits b kept p o m rest in
       subst P (sym is) (in_order m rest few) valid same

@@ -1,17 +1,19 @@
--- Fields of well-formed values that spell what fields of plain values do are the same.
-use Rattle.std.proofs.Common.{◌≡◌, ℕ, zero, suc, ◌^◌, ◌<◌, List, [], ◌∷◌, ◌++◌, length, map, refl, sym, ap, subst, ◌∙◌, arith, append_assoc}
+-- Fields of a message that are spelled as others are, each of which is plain or spelled at any offset, are these.
+use Rattle.std.proofs.Common.{◌≡◌, ◌⊎◌, ℕ, zero, suc, ◌^◌, ◌<◌, List, [], ◌∷◌, ◌++◌, length, map, inl, inr, refl, sym, ap, subst, ◌∙◌, arith, append_assoc}
 use Rattle.dbus_texts.specs.Types.{NumberCode, UINT32, TextCode, TypeTree, NumberType, TextType, sig}
 use Rattle.dbus_types.specs.Alignments.{length_width}
 use Rattle.dbus_header.proofs.Fields.{sig_injective}
-use Rattle.dbus_texts.specs.ComputedKinds.{type_spelled}
+use Rattle.dbus_value_model.specs.declared.limits.Bounds.{Bounds}
 use Rattle.dbus_value_model.specs.declared.order.Order.{Order}
 use Rattle.dbus_value_model.specs.Appending.{with_padding, with_value, with_values}
 use Rattle.dbus_value_model.specs.Bytes.{num}
 use Rattle.dbus_value_model.specs.Spelling.{spelling, spellings}
-use Rattle.dbus_value_model.specs.Values.{ValueTree, ValueTrees, NumberValue, TextValue, VariantValue, ArrayValue, StructValue, EntryValue, type_of, value_trees, IsNumber, IsWellFormed, AreWellFormed}
+use Rattle.dbus_value_model.specs.Values.{ValueTree, ValueTrees, NumberValue, TextValue, VariantValue, ArrayValue, StructValue, EntryValue, type_of, value_trees, IsNumber, IsWellFormed}
+use Rattle.dbus_value_laws.proofs.ValueOutcomes.{one_value}
 use Rattle.dbus_marshal.proofs.Written.{length_values, length_padding, value_is, written_number, written_text, written_none, written_more}
 use Rattle.dbus_message_model.specs.Messages.{FieldTree, field_struct}
 use Rattle.dbus_encode.proofs.FieldWriting.{before_value, field_written, field_length}
+use Rattle.dbus_c_build.proofs.Anywhere.{IsSpelled, AreSpelled}
 use Rattle.dbus_c_build.proofs.Cancelling.{fronts, heads, numbers}
 
 -- a text or a UINT32 whose length or number fits
@@ -23,9 +25,13 @@ IsPlain (ArrayValue t xs) = ⊥
 IsPlain (StructValue xs) = ⊥
 IsPlain (EntryValue k v) = ⊥
 
-abbrev pub ArePlain : List FieldTree → Type 0
-ArePlain [] = Unit {0}
-ArePlain (f ∷ fs) = ((f.code < 256) × (length (sig (type_of f.value)) < 256) × IsPlain f.value) × ArePlain fs
+abbrev pub IsPlainField : FieldTree → Type 0
+IsPlainField f = (f.code < 256) × (length (sig (type_of f.value)) < 256) × IsPlain f.value
+
+-- each is plain, or has a spelling at any offset
+abbrev pub AreClear : Bounds → Order → (depth : ℕ) → List FieldTree → Type 0
+AreClear bounds order depth [] = Unit {0}
+AreClear bounds order depth (f ∷ fs) = (IsPlainField f ⊎ IsSpelled bounds order depth f) × AreClear bounds order depth fs
 
 abbrev structs : List FieldTree → ValueTrees
 structs fs = value_trees (map field_struct fs)
@@ -105,7 +111,7 @@ module _ (order : Order) where
   one_byte : (n : ℕ) → n < 256 → n < 256 ^ 1
   one_byte n h = omega (arith, h)
 
-  same_field : (g f : FieldTree) (front x y : List ℕ) → IsSoundField g → (f.code < 256) × (length (sig (type_of f.value)) < 256) × IsPlain f.value →
+  same_field : (g f : FieldTree) (front x y : List ℕ) → IsSoundField g → IsPlainField f →
       with_value order (field_struct g) front ++ x ≡ with_value order (field_struct f) front ++ y → g ≡ f
   same_field g f front x y sound plain same =
       let parts = sym (in_parts g front x sound.code) ∙ same ∙ in_parts f front y plain.0 in
@@ -124,6 +130,31 @@ module _ (order : Order) where
       let value : g.value ≡ f.value = same_value order b x y g.value f.value sound.depth sound.formed plain.2 type values in
       ap (λ (c : ℕ). let h : FieldTree = record { code = c; value = g.value } in h) coding.0 ∙ ap (λ (v : ValueTree). let h : FieldTree = record { code = f.code; value = v } in h) value
 
+module _ (bounds : Bounds) (order : Order) (depth : ℕ) where
+  same_spelled : (g f : FieldTree) (front x y : List ℕ) → IsSpelled bounds order depth g → IsSpelled bounds order depth f
+      → with_value order (field_struct g) front ++ x ≡ with_value order (field_struct f) front ++ y → g ≡ f
+  same_spelled g f front x y one other same =
+      let o = length front in
+      let whole : (h : FieldTree) (z : List ℕ) → with_value order (field_struct h) front ++ z ≡ front ++ (spelling order o (field_struct h) ++ z) =
+      λ h z. ap (λ (l : List ℕ). l ++ z) (value_is order (field_struct h) front) ∙ append_assoc front (spelling order o (field_struct h)) z in
+      let here = (fronts front front _ _ refl (sym (whole g x) ∙ same ∙ whole f y)).1 in
+      let structs_same : field_struct g ≡ field_struct f = (one_value bounds order depth o (field_struct g) (field_struct f) x y (one o) (other o) refl here).0 in
+      let code : g.code ≡ f.code = cc in
+      let value : g.value ≡ f.value = cc in
+      ap (λ (c : ℕ). let h : FieldTree = record { code = c; value = g.value } in h) code ∙ ap (λ (v : ValueTree). let h : FieldTree = record { code = f.code; value = v } in h) value
+
+  pub spelled_sound : (f : FieldTree) → IsSpelled bounds order depth f → IsSoundField f
+  spelled_sound f spelled = sound_field depth f (spelled 0).formed
+
+  same_clear : (g f : FieldTree) (front x y : List ℕ) → IsSpelled bounds order depth g → IsPlainField f ⊎ IsSpelled bounds order depth f
+      → with_value order (field_struct g) front ++ x ≡ with_value order (field_struct f) front ++ y → g ≡ f
+  same_clear g f front x y spelled (inl plain) same = same_field order g f front x y (spelled_sound g spelled) plain same
+  same_clear g f front x y spelled (inr other) same = same_spelled g f front x y spelled other same
+
+  clear_code : (f : FieldTree) → IsPlainField f ⊎ IsSpelled bounds order depth f → f.code < 256
+  clear_code f (inl plain) = plain.0
+  clear_code f (inr spelled) = (spelled_sound f spelled).code
+
   values_are : (vs : ValueTrees) (front : List ℕ) → with_values order vs front ≡ front ++ spellings order (length front) vs
   unfolding with_values
   values_are vs front = refl
@@ -134,17 +165,16 @@ module _ (order : Order) where
       let all = ap length (written_more order (field_struct f) (structs fs) front) ∙ length_values order (structs fs) (with_value order (field_struct f) front) in
       omega (arith, all, field_length order f.code f.value front small, length_padding 8 front)
 
-  pub same_fields : (gs fs : List FieldTree) (depth : ℕ) (front : List ℕ) → AreWellFormed depth (structs gs) → ArePlain fs
+  pub same_fields : (gs fs : List FieldTree) (front : List ℕ) → AreSpelled bounds order depth gs → AreClear bounds order depth fs
       → with_values order (structs gs) front ≡ with_values order (structs fs) front → gs ≡ fs
-  same_fields [] [] depth front formed plain same = refl
-  same_fields [] (f ∷ fs) depth front formed plain same = absurd (omega (arith, longer f fs front plain.0.0, ap length (sym (written_none order front) ∙ same)))
-  same_fields (g ∷ gs) [] depth front formed plain same =
-      absurd (omega (arith, longer g gs front (sound_field depth g formed.0).code, ap length (same ∙ written_none order front)))
-  same_fields (g ∷ gs) (f ∷ fs) depth front formed plain same =
-      let sound = sound_field depth g formed.0 in
+  same_fields [] [] front spelled clear same = refl
+  same_fields [] (f ∷ fs) front spelled clear same = absurd (omega (arith, longer f fs front (clear_code f clear.0), ap length (sym (written_none order front) ∙ same)))
+  same_fields (g ∷ gs) [] front spelled clear same =
+      absurd (omega (arith, longer g gs front (spelled_sound g spelled.0).code, ap length (same ∙ written_none order front)))
+  same_fields (g ∷ gs) (f ∷ fs) front spelled clear same =
       let more = sym (written_more order (field_struct g) (structs gs) front) ∙ same ∙ written_more order (field_struct f) (structs fs) front in
       let flat = sym (values_are (structs gs) (with_value order (field_struct g) front)) ∙ more ∙ values_are (structs fs) (with_value order (field_struct f) front) in
-      let first : g ≡ f = same_field g f front _ _ sound plain.0 flat in
+      let first : g ≡ f = same_clear g f front _ _ spelled.0 clear.0 flat in
       let next = ap (λ (h : FieldTree). with_values order (structs gs) (with_value order (field_struct h) front)) (sym first) ∙ more in
-      let rest : gs ≡ fs = same_fields gs fs depth (with_value order (field_struct f) front) formed.1 plain.1 next in
+      let rest : gs ≡ fs = same_fields gs fs (with_value order (field_struct f) front) spelled.1 clear.1 next in
       ap (λ (h : FieldTree). h ∷ gs) first ∙ ap (λ (hs : List FieldTree). f ∷ hs) rest

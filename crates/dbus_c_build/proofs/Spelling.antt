@@ -1,7 +1,9 @@
 -- What is appended of a header, put together.
-use Rattle.std.proofs.Common.{◌≡◌, ℕ, ◌+◌, ◌-◌, ◌<◌, List, [], ◌∷◌, ◌++◌, length, take, drop, map, Bool, true, false, if◌then◌else◌, nat_eq, Option, Some, None, Result, Ok, Err, OnOk, refl, sym, ap, ◌∙◌, arith, append_assoc}
+use Rattle.std.proofs.Common.{◌≡◌, ℕ, ◌+◌, ◌-◌, ◌<◌, List, [], ◌∷◌, ◌++◌, length, take, drop, map, Bool, true, false, if◌then◌else◌, nat_eq, Result, Ok, Err, OnOk, refl, sym, ap, ◌∙◌, arith, append_assoc}
 use Rattle.std.proofs.lemmas.Bool.{eqb-true}
-use Rattle.std.proofs.lemmas.List.{length-append, take_at, drop_at}
+use Rattle.std.specs.List.{flat_map}
+use Rattle.std.specs.Result.{is_ok}
+use Rattle.std.proofs.lemmas.List.{length-append, take_at, drop_at, flat_map_more}
 use Rattle.dbus_texts.specs.Types.{STRING, OBJECT_PATH, SIGNATURE, TextType, sig}
 use Rattle.dbus_value_model.specs.declared.order.Order.{Order}
 use Rattle.dbus_value_model.specs.Appending.{with_padding, with_value, with_values}
@@ -11,12 +13,11 @@ use Rattle.dbus_value_model.specs.Values.{ValueTrees, NoValues, TextValue, value
 use Rattle.dbus_value_model.proofs.Numbers.{length-num}
 use Rattle.dbus_value_model.proofs.OneByte.{num_1}
 use Rattle.dbus_marshal.proofs.Written.{padding_is, written_none, written_more, written_path}
-use Rattle.dbus_message_model.specs.Messages.{FieldTree, field_struct, field_array, fields_end, order_byte}
+use Rattle.dbus_message_model.specs.Messages.{FieldTree, field_struct, field_array, fields_end, has_code, order_byte}
 use Rattle.dbus_encode.proofs.FieldWriting.{before_value, field_written}
-use Rattle.dbus_c_build.specs.Placed.{text_at, text_code, text_value, text_field, number_field, number_value, fields_of}
+use Rattle.dbus_c_build.specs.Placed.{text_at, text_code, number_field, number_value, field_given, stays, in_place, added, fields_after}
 use Rattle.dbus_c_build.specs.Building.{fields_length}
 use Rattle.dbus_c_build.specs.Spelled.{with_fields, fixed_items, spelled}
-use Rattle.dbus_c_build.specs.declared.placed.Place.{Place}
 use Rattle.dbus_c_build.specs.declared.placed.PlacedParts.{PlacedParts}
 use Rattle.dbus_c_build.proofs.OnlyMessage.{array_is}
 
@@ -24,6 +25,11 @@ use Rattle.dbus_c_build.proofs.OnlyMessage.{array_is}
 pub on_ok : {T E P Q : Type 0} (r : Result T E) → (P → Q) → OnOk r P → OnOk r Q
 on_ok (Ok x) make h = make h
 on_ok (Err e) make h = tt
+
+-- and what is one thing then, and another if it fails
+pub if_ok : {T E : Type 0} (r : Result T E) (now then_is else_is wanted : List ℕ) → now ≡ (if is_ok r then then_is else else_is) → then_is ≡ wanted → OnOk r (now ≡ wanted)
+if_ok (Ok x) now then_is else_is wanted is same = is ∙ same
+if_ok (Err e) now then_is else_is wanted is same = tt
 
 -- ---- a field
 
@@ -38,11 +44,6 @@ field_after order f c front start small is begins =
     ap (with_value order f.value) (begins ∙ sym before) ∙ sym (field_written order f front small)
 
 module _ (order : Order) where
-  pub one_more : (f : FieldTree) (fs : List FieldTree) (front : List ℕ) → with_fields order (f ∷ fs) front ≡ with_fields order fs (with_fields order (f ∷ []) front)
-  one_more f fs front =
-      written_more order (field_struct f) (value_trees (map field_struct fs)) front
-      ∙ ap (with_fields order fs) (sym (written_more order (field_struct f) NoValues front ∙ written_none order (with_value order (field_struct f) front)))
-
   pub one_field : (f : FieldTree) (front : List ℕ) → with_fields order (f ∷ []) front ≡ with_value order (field_struct f) front
   one_field f front = written_more order (field_struct f) NoValues front ∙ written_none order (with_value order (field_struct f) front)
 
@@ -64,48 +65,52 @@ module _ (order : Order) where
   pub string_kind : (code : ℕ) (t start : List ℕ) → (code ≡ 8 → ⊥) → with_value order (TextValue STRING t) start ≡ with_value order (TextValue (text_code code) t) start
   string_kind code t start other = kind_if code t start (nat_eq code 1) (nat_eq code 8) refl other
 
-  number_if_there : (code n : ℕ) (is_zero : Bool) (front : List ℕ) → nat_eq n 0 ≡ is_zero → (n ≡ 0 → ⊥)
+  none_or_one : (code n : ℕ) (is_zero : Bool) (front : List ℕ) → nat_eq n 0 ≡ is_zero → (n ≡ 0 → ⊥)
       → with_value order (field_struct (number_value code n)) front ≡ with_fields order (if is_zero then [] else number_value code n ∷ []) front
-  number_if_there code n true front is other = absurd (other (eqb-true n 0 is))
-  number_if_there code n false front is other = sym (one_field (number_value code n) front)
+  none_or_one code n true front is other = absurd (other (eqb-true n 0 is))
+  none_or_one code n false front is other = sym (one_field (number_value code n) front)
 
-  pub number_there : (code n : ℕ) (front : List ℕ) → (n ≡ 0 → ⊥) → with_value order (field_struct (number_value code n)) front ≡ with_fields order (number_field code n []) front
-  number_there code n front other = number_if_there code n (nat_eq n 0) front refl other
+  pub number_there : (code n : ℕ) (front : List ℕ) → (n ≡ 0 → ⊥) → with_value order (field_struct (number_value code n)) front ≡ with_fields order (number_field code n) front
+  number_there code n front other = none_or_one code n (nat_eq n 0) front refl other
 
-  none_more : (fs : List FieldTree) (front : List ℕ) → with_fields order fs front ≡ with_fields order fs (with_fields order [] front)
-  none_more fs front = ap (with_fields order fs) (sym (written_none order front))
+  -- fields after others
+  pub fields_more : (xs ys : List FieldTree) (front : List ℕ) → with_fields order (xs ++ ys) front ≡ with_fields order ys (with_fields order xs front)
+  fields_more [] ys front = ap (with_fields order ys) (sym (written_none order front))
+  fields_more (x ∷ xs) ys front =
+      written_more order (field_struct x) (value_trees (map field_struct (xs ++ ys))) front
+      ∙ fields_more xs ys (with_value order (field_struct x) front)
+      ∙ ap (with_fields order ys) (sym (written_more order (field_struct x) (value_trees (map field_struct xs)) front))
 
-  text_more : (b : List ℕ) (code : ℕ) (q : Option Place) (fs : List FieldTree) (front next : List ℕ) → next ≡ with_fields order (text_field b code q []) front
-      → with_fields order (text_field b code q fs) front ≡ with_fields order fs next
-  text_more b code None fs front next is = none_more fs front ∙ ap (with_fields order fs) (sym is)
-  text_more b code (Some q) fs front next is = one_more (text_value b code q) fs front ∙ ap (with_fields order fs) (sym is)
+  -- those that one more thing comes to, after those of others
+  pub fields_next : {X : Type 0} (g : X → List FieldTree) (done : List X) (x : X) (start now next : List ℕ) → now ≡ with_fields order (flat_map g done) start
+      → next ≡ with_fields order (g x) now → next ≡ with_fields order (flat_map g (done ++ x ∷ [])) start
+  fields_next g done x start now next before after =
+      after ∙ ap (with_fields order (g x)) before ∙ sym (fields_more (flat_map g done) (g x) start)
+      ∙ ap (λ (fs : List FieldTree). with_fields order fs start) (flat_map_more g [] done x)
 
-  number_if : (code n : ℕ) (is_zero : Bool) (fs : List FieldTree) (front next : List ℕ) → next ≡ with_fields order (if is_zero then [] else number_value code n ∷ []) front
-      → with_fields order (if is_zero then fs else number_value code n ∷ fs) front ≡ with_fields order fs next
-  number_if code n true fs front next is = none_more fs front ∙ ap (with_fields order fs) (sym is)
-  number_if code n false fs front next is = one_more (number_value code n) fs front ∙ ap (with_fields order fs) (sym is)
+  -- what comes in the place of a field that is kept, and of one that may be added
+  module _ (b : List ℕ) (p : PlacedParts) (kept : List FieldTree) where
+    pub same_in_place : (f : FieldTree) (front next : List ℕ) → stays p kept f.code ≡ true → next ≡ with_value order (field_struct f) front → next ≡ with_fields order (in_place b p kept f) front
+    same_in_place f front next is put =
+        put ∙ sym (one_field f front) ∙ ap (λ (same : Bool). with_fields order (if same then f ∷ [] else field_given b p f.code) front) (sym is)
 
-  number_more : (code n : ℕ) (fs : List FieldTree) (front next : List ℕ) → next ≡ with_fields order (number_field code n []) front
-      → with_fields order (number_field code n fs) front ≡ with_fields order fs next
-  number_more code n fs front next is = number_if code n (nat_eq n 0) fs front next is
+    pub given_in_place : (f : FieldTree) (front next : List ℕ) → stays p kept f.code ≡ false → next ≡ with_fields order (field_given b p f.code) front → next ≡ with_fields order (in_place b p kept f) front
+    given_in_place f front next is put = put ∙ ap (λ (same : Bool). with_fields order (if same then f ∷ [] else field_given b p f.code) front) (sym is)
 
-  -- the nine fields, one after another
-  pub all_fields : (b : List ℕ) (p : PlacedParts) (o0 o1 o2 o3 o4 o5 o6 o7 o8 o9 : List ℕ)
-      → o1 ≡ with_fields order (text_field b 1 p.path []) o0 → o2 ≡ with_fields order (text_field b 2 p.interface []) o1
-      → o3 ≡ with_fields order (text_field b 3 p.member []) o2 → o4 ≡ with_fields order (text_field b 4 p.error_name []) o3
-      → o5 ≡ with_fields order (number_field 5 p.reply_serial []) o4 → o6 ≡ with_fields order (text_field b 6 p.destination []) o5
-      → o7 ≡ with_fields order (text_field b 7 p.sender []) o6 → o8 ≡ with_fields order (text_field b 8 p.signature []) o7
-      → o9 ≡ with_fields order (number_field 9 p.unix_fds []) o8 → o9 ≡ with_fields order (fields_of b p) o0
-  all_fields b p o0 o1 o2 o3 o4 o5 o6 o7 o8 o9 e1 e2 e3 e4 e5 e6 e7 e8 e9 =
-      sym (text_more b 1 p.path _ o0 o1 e1 ∙ text_more b 2 p.interface _ o1 o2 e2 ∙ text_more b 3 p.member _ o2 o3 e3 ∙ text_more b 4 p.error_name _ o3 o4 e4
-      ∙ number_more 5 p.reply_serial _ o4 o5 e5 ∙ text_more b 6 p.destination _ o5 o6 e6 ∙ text_more b 7 p.sender _ o6 o7 e7 ∙ text_more b 8 p.signature _ o7 o8 e8
-      ∙ number_more 9 p.unix_fds [] o8 o9 e9 ∙ written_none order o9)
+    pub given_added : (code : ℕ) (front next : List ℕ) → has_code code kept ≡ false → next ≡ with_fields order (field_given b p code) front → next ≡ with_fields order (added b p kept code) front
+    given_added code front next is put = put ∙ ap (λ (there : Bool). with_fields order (if there then [] else field_given b p code) front) (sym is)
+
+    pub none_added : (code : ℕ) (front : List ℕ) → has_code code kept ≡ true → front ≡ with_fields order (added b p kept code) front
+    none_added code front is = sym (written_none order front) ∙ ap (λ (there : Bool). with_fields order (if there then [] else field_given b p code) front) (sym is)
 
 -- ---- the header
 
-module _ (b : List ℕ) (p : PlacedParts) where
+module _ (b : List ℕ) (kept : List FieldTree) (p : PlacedParts) where
+  abbrev fs : List FieldTree
+  fs = fields_after b p kept
+
   abbrev structs : ValueTrees
-  structs = value_trees (map field_struct (fields_of b p))
+  structs = value_trees (map field_struct fs)
 
   abbrev contents : List ℕ
   contents = spellings p.order 16 structs
@@ -126,15 +131,15 @@ module _ (b : List ℕ) (p : PlacedParts) where
   fixed_length : length fixed ≡ 16
   fixed_length = simp (length-append, length-num)
 
-  pub fields_are : (out : List ℕ) → out ≡ with_fields p.order (fields_of b p) fixed → out ≡ first_items ++ (num p.order 4 0 ++ contents)
+  pub fields_are : (out : List ℕ) → out ≡ with_fields p.order fs fixed → out ≡ first_items ++ (num p.order 4 0 ++ contents)
   unfolding with_values
   fields_are out is = is ∙ ap (λ (n : ℕ). fixed ++ spellings p.order n structs) fixed_length ∙ ap (λ (l : List ℕ). l ++ contents) fixed_is ∙ simp append_assoc
 
-  pub fields_count : (out : List ℕ) → out ≡ with_fields p.order (fields_of b p) fixed → length out ≡ 16 + fields_length b p
+  pub fields_count : (out : List ℕ) → out ≡ with_fields p.order fs fixed → length out ≡ 16 + fields_length b kept p
   fields_count out is = ap length (fields_are out is) ∙ simp (length-append, length-num, first_length) (omega arith)
 
-  pub all_spelled : (o2 o3 o4 o5 : List ℕ) (n : ℕ) → p.kind < 256 → p.flags < 256 → o2 ≡ with_fields p.order (fields_of b p) fixed → n ≡ length o2 - 16
-      → o3 ≡ take 12 o2 ++ (num p.order 4 n ++ drop 16 o2) → o4 ≡ with_padding 8 o3 → o5 ≡ o4 ++ text_at b p.body → o5 ≡ spelled b p
+  pub all_spelled : (o2 o3 o4 o5 : List ℕ) (n : ℕ) → p.kind < 256 → p.flags < 256 → o2 ≡ with_fields p.order fs fixed → n ≡ length o2 - 16
+      → o3 ≡ take 12 o2 ++ (num p.order 4 n ++ drop 16 o2) → o4 ≡ with_padding 8 o3 → o5 ≡ o4 ++ text_at b p.body → o5 ≡ spelled b kept p
   all_spelled o2 o3 o4 o5 n kind flags fields counts length_is padded ends =
       let is = fields_are o2 fields in
       let regrouped : o2 ≡ (first_items ++ num p.order 4 0) ++ contents = is ∙ sym (append_assoc first_items (num p.order 4 0) contents) in
@@ -142,13 +147,13 @@ module _ (b : List ℕ) (p : PlacedParts) where
       let sixteen : length (first_items ++ num p.order 4 0) ≡ 16 = omega (arith, length-append first_items (num p.order 4 0), first_length, length-num p.order 4 0) in
       let back : drop 16 o2 ≡ contents = ap (drop 16) regrouped ∙ drop_at (first_items ++ num p.order 4 0) contents 16 sixteen in
       let number : n ≡ length contents = omega (arith, counts, fields_count o2 fields) in
-      let array : o3 ≡ first_items ++ spelling p.order 12 (field_array (fields_of b p)) =
+      let array : o3 ≡ first_items ++ spelling p.order 12 (field_array fs) =
       length_is ∙ ap (λ (l : List ℕ). l ++ (num p.order 4 n ++ drop 16 o2)) front ∙ ap (λ (l : List ℕ). first_items ++ (num p.order 4 n ++ l)) back
-      ∙ ap (λ (k : ℕ). first_items ++ (num p.order 4 k ++ contents)) number ∙ ap (λ (l : List ℕ). first_items ++ l) (sym (array_is p.order (fields_of b p))) in
-      let long : length o3 ≡ fields_end p.order (fields_of b p) = ap length array ∙ length-append first_items (spelling p.order 12 (field_array (fields_of b p))) ∙ ap (λ (k : ℕ). k + length (spelling p.order 12 (field_array (fields_of b p)))) first_length in
-      let padding : o4 ≡ (first_items ++ spelling p.order 12 (field_array (fields_of b p))) ++ pad 8 (fields_end p.order (fields_of b p)) =
-      padded ∙ padding_is 8 o3 ∙ ap (λ (k : ℕ). o3 ++ pad 8 k) long ∙ ap (λ (l : List ℕ). l ++ pad 8 (fields_end p.order (fields_of b p))) array in
+      ∙ ap (λ (k : ℕ). first_items ++ (num p.order 4 k ++ contents)) number ∙ ap (λ (l : List ℕ). first_items ++ l) (sym (array_is p.order fs)) in
+      let long : length o3 ≡ fields_end p.order fs = ap length array ∙ length-append first_items (spelling p.order 12 (field_array fs)) ∙ ap (λ (k : ℕ). k + length (spelling p.order 12 (field_array fs))) first_length in
+      let padding : o4 ≡ (first_items ++ spelling p.order 12 (field_array fs)) ++ pad 8 (fields_end p.order fs) =
+      padded ∙ padding_is 8 o3 ∙ ap (λ (k : ℕ). o3 ++ pad 8 k) long ∙ ap (λ (l : List ℕ). l ++ pad 8 (fields_end p.order fs)) array in
       let joined = ends ∙ ap (λ (l : List ℕ). l ++ text_at b p.body) padding in
-      let regrouped_all : ((first_items ++ spelling p.order 12 (field_array (fields_of b p))) ++ pad 8 (fields_end p.order (fields_of b p))) ++ text_at b p.body
-      ≡ order_byte p.order ∷ (p.kind ∷ (p.flags ∷ (1 ∷ (num p.order 4 (length (text_at b p.body)) ++ (num p.order 4 p.serial ++ (spelling p.order 12 (field_array (fields_of b p)) ++ (pad 8 (fields_end p.order (fields_of b p)) ++ text_at b p.body))))))) = simp append_assoc in
+      let regrouped_all : ((first_items ++ spelling p.order 12 (field_array fs)) ++ pad 8 (fields_end p.order fs)) ++ text_at b p.body
+      ≡ order_byte p.order ∷ (p.kind ∷ (p.flags ∷ (1 ∷ (num p.order 4 (length (text_at b p.body)) ++ (num p.order 4 p.serial ++ (spelling p.order 12 (field_array fs) ++ (pad 8 (fields_end p.order fs) ++ text_at b p.body))))))) = simp append_assoc in
       joined ∙ regrouped_all ∙ rw (num_1 p.order p.kind kind, num_1 p.order p.flags flags, num_1 p.order 1 (omega arith)) refl

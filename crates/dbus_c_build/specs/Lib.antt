@@ -1,4 +1,5 @@
 pub mod Placed
+pub mod Kept
 pub mod Spelled
 pub mod Building
 pub mod BuildLaws

@@ -1,9 +1,10 @@
 -- The parts of a message that is to be built, whose texts and body are places among bytes, and which messages have them.
 -- D-Bus Specification, "Message Format" and "Header Fields".
-use Rattle.std.specs.Prelude.{◌≡◌, ℕ, ◌+◌, ◌≤◌, List, [], ◌∷◌, length, take, drop, nat_eq, if◌then◌else◌, Option, Some, None}
+use Rattle.std.specs.Prelude.{◌≡◌, ℕ, ◌+◌, ◌≤◌, List, [], ◌∷◌, ◌++◌, length, take, drop, Bool, true, ◌&&◌, nat_eq, if◌then◌else◌, Option, Some, None}
+use Rattle.std.specs.List.{flat_map}
 use Rattle.dbus_texts.specs.Types.{TextCode, STRING, OBJECT_PATH, SIGNATURE, UINT32}
 use Rattle.dbus_value_model.specs.Values.{NumberValue, TextValue}
-use Rattle.dbus_message_model.specs.Messages.{FieldTree, MessageTree, body_bytes}
+use Rattle.dbus_message_model.specs.Messages.{FieldTree, MessageTree, body_bytes, fd_count, has_code, is_known}
 use Rattle.dbus_c_build.specs.declared.placed.Place.{Place}
 use Rattle.dbus_c_build.specs.declared.placed.PlacedParts.{PlacedParts}
 
@@ -14,6 +15,10 @@ place_of code p =
     else if nat_eq code 3 then p.member else if nat_eq code 4 then p.error_name else if nat_eq code 6 then p.destination
     else if nat_eq code 7 then p.sender else if nat_eq code 8 then p.signature else None
 
+-- the number of a field by its code, or 0
+abbrev pub number_of : ℕ → PlacedParts → ℕ
+number_of code p = if nat_eq code 5 then p.reply_serial else if nat_eq code 9 then p.unix_fds else 0
+
 -- the place lies within the bytes, if there is one
 abbrev pub IsInside : List ℕ → Option Place → Type 0
 IsInside b None = Unit {0}
@@ -23,6 +28,8 @@ IsInside b (Some q) = q.start + q.length ≤ length b
 abbrev pub text_at : List ℕ → Place → List ℕ
 text_at b q = take q.length (drop q.start b)
 
+-- ---- fields
+
 -- the code of the type of the text in a field
 abbrev pub text_code : ℕ → TextCode
 text_code code = if nat_eq code 1 then OBJECT_PATH else if nat_eq code 8 then SIGNATURE else STRING
@@ -30,27 +37,46 @@ text_code code = if nat_eq code 1 then OBJECT_PATH else if nat_eq code 8 then SI
 abbrev pub text_value : List ℕ → (code : ℕ) → Place → FieldTree
 text_value b code q = record { code = code; value = TextValue (text_code code) (text_at b q) }
 
--- the field of a text, if there is one, before others
-abbrev pub text_field : List ℕ → (code : ℕ) → Option Place → List FieldTree → List FieldTree
-text_field b code None fs = fs
-text_field b code (Some q) fs = text_value b code q ∷ fs
-
 abbrev pub number_value : (code number : ℕ) → FieldTree
 number_value code n = record { code = code; value = NumberValue UINT32 n }
 
--- the field of a number, if it is not 0, before others
-abbrev pub number_field : (code number : ℕ) → List FieldTree → List FieldTree
-number_field code n fs = if nat_eq n 0 then fs else number_value code n ∷ fs
+-- the field of a number, if it is not 0
+abbrev pub number_field : (code number : ℕ) → List FieldTree
+number_field code n = if nat_eq n 0 then [] else number_value code n ∷ []
 
--- the fields that are there, in the order of their codes
-abbrev pub fields_of : List ℕ → PlacedParts → List FieldTree
-fields_of b p =
-    text_field b 1 p.path (text_field b 2 p.interface (text_field b 3 p.member (text_field b 4 p.error_name (number_field 5 p.reply_serial
-    (text_field b 6 p.destination (text_field b 7 p.sender (text_field b 8 p.signature (number_field 9 p.unix_fds []))))))))
+-- the field of a text, if there is one, or else of a number
+abbrev pub field_of : List ℕ → (code : ℕ) → Option Place → (number : ℕ) → List FieldTree
+field_of b code (Some q) n = text_value b code q ∷ []
+field_of b code None n = number_field code n
 
--- the message has exactly these parts: no other field, and a body that the bytes at its place spell
-pub record HasParts (b : List ℕ) (p : PlacedParts) (m : MessageTree) : Type 0 where
+-- the field of a known code that the parts have, if they have one
+abbrev pub field_given : List ℕ → PlacedParts → (code : ℕ) → List FieldTree
+field_given b p code = field_of b code (place_of code p) (number_of code p)
+
+-- Whether a field of a message stays as it is: it does if its code is unknown, or if it is the UNIX_FDS, which may be 0, of the
+-- number that the parts have.
+abbrev pub stays : PlacedParts → (kept : List FieldTree) → (code : ℕ) → Bool
+stays p kept code = if is_known code then nat_eq code 9 && nat_eq p.unix_fds (fd_count kept) else true
+
+-- what comes in the place of a field of a message
+abbrev pub in_place : List ℕ → PlacedParts → (kept : List FieldTree) → FieldTree → List FieldTree
+in_place b p kept f = if stays p kept f.code then f ∷ [] else field_given b p f.code
+
+-- the field of a code that the message does not have
+abbrev pub added : List ℕ → PlacedParts → (kept : List FieldTree) → (code : ℕ) → List FieldTree
+added b p kept code = if has_code code kept then [] else field_given b p code
+
+abbrev pub known_codes : List ℕ
+known_codes = 1 ∷ (2 ∷ (3 ∷ (4 ∷ (5 ∷ (6 ∷ (7 ∷ (8 ∷ (9 ∷ []))))))))
+
+-- The fields of a message that has these parts, if it keeps the fields of another, or none: each of these in its place, changed as
+-- the parts say, and then those that it did not have, in the order of their codes.
+abbrev pub fields_after : List ℕ → PlacedParts → (kept : List FieldTree) → List FieldTree
+fields_after b p kept = flat_map (in_place b p kept) kept ++ flat_map (added b p kept) known_codes
+
+-- the message has exactly these parts beside what it keeps: no other field, and a body that the bytes at its place spell
+pub record HasParts (b : List ℕ) (kept : List FieldTree) (p : PlacedParts) (m : MessageTree) : Type 0 where
   pub inside : (code : ℕ) → IsInside b (place_of code p)
   pub numbers : (m.kind ≡ p.kind) × (m.flags ≡ p.flags) × (m.serial ≡ p.serial)
-  pub fields : m.fields ≡ fields_of b p
+  pub fields : m.fields ≡ fields_after b p kept
   pub body : body_bytes p.order m ≡ text_at b p.body

@@ -7,7 +7,7 @@ use Rattle.dbus_value_model.specs.Bytes.{num, pad}
 use Rattle.dbus_value_model.specs.Spelling.{spelling}
 use Rattle.dbus_value_model.specs.Values.{value_trees}
 use Rattle.dbus_message_model.specs.Messages.{FieldTree, order_byte, field_array, field_struct, fields_end}
-use Rattle.dbus_c_build.specs.Placed.{text_at, fields_of}
+use Rattle.dbus_c_build.specs.Placed.{text_at, fields_after}
 use Rattle.dbus_c_build.specs.declared.placed.PlacedParts.{PlacedParts}
 
 -- bytes that begin at a message's first one, with fields after them
@@ -24,5 +24,5 @@ with_header order kind flags serial fs body =
     ++ (num order 4 (length body) ++ (num order 4 serial ++ (spelling order 12 (field_array fs)
     ++ (pad 8 (fields_end order fs) ++ body)))))))
 
-abbrev pub spelled : List ℕ → PlacedParts → List ℕ
-spelled b p = with_header p.order p.kind p.flags p.serial (fields_of b p) (text_at b p.body)
+abbrev pub spelled : List ℕ → (kept : List FieldTree) → PlacedParts → List ℕ
+spelled b kept p = with_header p.order p.kind p.flags p.serial (fields_after b p kept) (text_at b p.body)

@@ -1,27 +1,29 @@
 //! A message built of its parts.
 #![tactic(auto)]
 
-ghost use Rattle.std.specs.Prelude.{◌≡◌, ◌≤◌, [], ◌++◌, length, take, drop, OnOk, IfOk, IfErr};
+ghost use Rattle.std.specs.Prelude.{◌≡◌, ◌≤◌, List, [], ◌++◌, length, take, drop, OnOk, IfOk, IfErr};
 ghost use Rattle.dbus_value_model.specs.Bytes.{num};
+ghost use Rattle.dbus_message_model.specs.Messages.{FieldTree};
 ghost use Rattle.dbus_c_build.specs.Building.{HaveBytes, HaveNoBytes, IsBuilt, IsRefusal};
+ghost use Rattle.dbus_c_build.specs.Kept.{AreKept};
 ghost use Rattle.dbus_c_build.specs.Spelled.{fixed_items, spelled};
 
-use crate::fields::{put_fields, text_at};
-use crate::placed::PlacedParts;
+use crate::given::Given;
+use crate::kept::append_fields;
+use crate::placed::{BODY, PlacedParts};
+use crate::places::{check_places, text_at};
 use crate::refusal::Refusal;
 use dbus_body::{begin_struct, put_number};
 use dbus_check::fault_at_end;
 use dbus_marshal::writing::overwrite_32;
 use dbus_message_model::order_byte;
 use dbus_validate::validate;
-use dbus_value_model::{ARRAY_LIMIT, Limits, Order};
+use dbus_value_model::{ARRAY_LIMIT, Order};
+use dbus_walk::FIELDS_START;
 use std::alloc::{AllocError, Allocator};
 
 /// The protocol version.
 const VERSION: u8 = 1;
-
-/// Where the header fields begin.
-const FIELDS_START: usize = 16;
 
 /// How many bytes most headers have at most: room that is made at the start.
 const HEADER_ROOM: usize = 512;
@@ -55,22 +57,27 @@ fn set_length<A: Allocator>(out: &mut Vec<u8, A>, order: Order, fields_length: u
 /// The bytes that the parts spell, whether or not they are a message.
 fn spell<A: Allocator + Copy>(
     alloc: A,
-    bytes: &[u8],
+    given: &Given<'_>,
     parts: &PlacedParts,
 ) -> Result<Vec<u8, A>, Refusal>
-    ensures spelled { IfOk result (λ v. v.items ≡ spelled bytes.now parts.now) }
-    ensures bounded { IfOk result (λ v. HaveBytes bytes.now parts.now) }
-    ensures refused { IfErr result (λ why. HaveNoBytes bytes.now parts.now why) }
+    requires kept { (fs : List FieldTree) × AreKept given.now parts.now.order fs }
+    ensures spelled { (fs : List FieldTree) → AreKept given.now parts.now.order fs →
+        IfOk result (λ v. v.items ≡ spelled given.now.bytes.now fs parts.now) }
+    ensures bounded { (fs : List FieldTree) → AreKept given.now parts.now.order fs →
+        IfOk result (λ v. HaveBytes given.now.bytes.now fs parts.now) }
+    ensures refused { (fs : List FieldTree) → AreKept given.now parts.now.order fs →
+        IfErr result (λ why. HaveNoBytes given.now.bytes.now fs parts.now why) }
 {
     let (_kind, _flags, _serial) = (parts.kind, parts.flags, parts.serial);
     let (_reply_serial, _unix_fds) = (parts.reply_serial, parts.unix_fds);
-    let body = text_at(bytes, parts.body, 0)?;
+    check_places(given.bytes, parts)?;
+    let body = text_at(given.bytes, parts.body);
     let mut out = Vec::with_capacity(alloc, body.len() + HEADER_ROOM)?;
     put_fixed(&mut out, parts, body.len() as u32)?;
-    put_fields(&mut out, bytes, parts)?;
+    append_fields(&mut out, given, parts)?;
     let length = out.len() - FIELDS_START;
     if length > ARRAY_LIMIT as usize {
-        return Err(Refusal::TooLong(0));
+        return Err(Refusal::TooLong(BODY));
     }
     set_length(&mut out, parts.order, length as u32);
     // A body begins where a struct could.
@@ -79,24 +86,28 @@ fn spell<A: Allocator + Copy>(
     Ok(out)
 }
 
-/// The message that has exactly these parts: the header fields that are there, in the order of their codes, and the body, in the
-/// byte order that is named. `bytes` are those that the places are in.
+/// The message that has exactly these parts: in the byte order that they name, with their body and their header fields. If the fields
+/// of a message are kept, which is in the same order, each stays in its place: one of a known code as the parts have it, or nothing,
+/// and one of another code as it is, as is a UNIX_FDS of 0 of which the parts have 0. Then come the fields that it did not have, in
+/// the order of their codes. `given` says which bytes the places are in.
 ///
 /// Some message within the limits has these parts exactly if it returns one. Else it returns the [`Refusal`], which says why; that of
 /// `Format` is the fault of the bytes that the parts spell. It takes one block of memory for a header of up to 512 bytes, and a few
 /// for a longer one. D-Bus Specification, "Message Format".
 pub fn build<A: Allocator + Copy>(
     alloc: A,
-    bytes: &[u8],
+    given: &Given<'_>,
     parts: &PlacedParts,
-    limits: Limits,
 ) -> Result<Vec<u8, A>, Refusal>
-    ensures built { IfOk result (λ v. IsBuilt limits bytes.now parts.now v.items) }
-    ensures refused { IfErr result (λ why. IsRefusal limits bytes.now parts.now why) }
+    requires kept { (fs : List FieldTree) × AreKept given.now parts.now.order fs }
+    ensures built { (fs : List FieldTree) → AreKept given.now parts.now.order fs →
+        IfOk result (λ v. IsBuilt given.now.limits given.now.bytes.now fs parts.now v.items) }
+    ensures refused { (fs : List FieldTree) → AreKept given.now parts.now.order fs →
+        IfErr result (λ why. IsRefusal given.now.limits given.now.bytes.now fs parts.now why) }
 {
-    let out = spell(alloc, bytes, parts)?;
-    match validate(out.as_slice(), limits) {
+    let out = spell(alloc, given, parts)?;
+    match validate(out.as_slice(), given.limits) {
         Some(_) => Ok(out),
-        None => Err(Refusal::Format(fault_at_end(out.as_slice(), limits))),
+        None => Err(Refusal::Format(fault_at_end(out.as_slice(), given.limits))),
     }
 }

@@ -1,7 +1,15 @@
 //! The parts of a message to be built, whose texts and body are among the caller's bytes.
 #![tactic(auto)]
 
+ghost use Rattle.std.specs.Prelude.{◌≡◌};
+
+use dbus_message_model::field_code::{
+    DESTINATION, ERROR_NAME, INTERFACE, MEMBER, PATH, REPLY_SERIAL, SENDER, SIGNATURE, UNIX_FDS,
+};
 use dbus_value_model::Order;
+
+/// What stands for the body among the codes of the fields.
+pub(crate) const BODY: u8 = 0;
 
 /// A place among bytes: where a text or a body is.
 #[derive(Clone, Copy, Debug, Drop)]
@@ -43,4 +51,36 @@ pub struct PlacedParts {
     pub signature: Option<Place>,
     /// The bytes of the body, spelled as they are in a message, where a body begins at a multiple of 8.
     pub body: Place,
+}
+
+impl PlacedParts {
+    ghost use Rattle.dbus_c_build.specs.Placed.{number_of, place_of};
+
+    /// The place of the text of a field by its code, or of the body.
+    pub(crate) fn place(&self, code: u8) -> Option<Place>
+        ensures { result ≡ place_of code self.now }
+    {
+        match code {
+            BODY => Some(self.body),
+            PATH => self.path,
+            INTERFACE => self.interface,
+            MEMBER => self.member,
+            ERROR_NAME => self.error_name,
+            DESTINATION => self.destination,
+            SENDER => self.sender,
+            SIGNATURE => self.signature,
+            _ => None,
+        }
+    }
+
+    /// The number of a field by its code, or 0.
+    pub(crate) fn number(&self, code: u8) -> u32
+        ensures { result ≡ number_of code self.now }
+    {
+        match code {
+            REPLY_SERIAL => self.reply_serial,
+            UNIX_FDS => self.unix_fds,
+            _ => 0,
+        }
+    }
 }

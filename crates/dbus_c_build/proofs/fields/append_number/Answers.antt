@@ -1,4 +1,4 @@
-use Rattle.std.proofs.Common.{◌<◌, arith, [], ◌++◌, ℕ, refl, sym, ap, ◌∙◌}
+use Rattle.std.proofs.Common.{◌<◌, arith, ◌++◌, ℕ, refl, sym, ap, ◌∙◌}
 use Rattle.dbus_texts.specs.Types.{UINT32}
 use Rattle.dbus_value_model.specs.Appending.{with_padding}
 use Rattle.dbus_value_model.specs.Bytes.{num}
@@ -6,12 +6,12 @@ use Rattle.dbus_marshal.proofs.Written.{written_none, written_number}
 use Rattle.dbus_c_build.specs.Placed.{number_field, number_value}
 use Rattle.dbus_c_build.specs.Spelled.{with_fields}
 use Rattle.dbus_c_build.proofs.Spelling.{on_ok, field_after, number_there}
-use Rattle.dbus_c_build.proofs.fields.put_number_field.Goals as goal
+use Rattle.dbus_c_build.proofs.fields.append_number.Goals as goal
 
 pub returns-then-n-eq0 : goal.returns-then-n-eq0
 returns-then-n-eq0 g c =
     let front = c.args.out.now.items in
-    sym (ap (λ (n : ℕ). with_fields c.args.order (number_field c.args.code n []) front) c.if-n-eq0.true ∙ written_none c.args.order front)
+    sym (ap (λ (n : ℕ). with_fields c.args.order (number_field c.args.code n) front) c.if-n-eq0.true ∙ written_none c.args.order front)
 
 pub returns : goal.returns
 returns g c =
