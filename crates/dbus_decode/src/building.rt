@@ -12,9 +12,9 @@ ghost use Rattle.dbus_walk.specs.Fields.{FieldsStand, FieldStands, field_end};
 
 use dbus_message_model::{HeaderField, Parts};
 use dbus_unmarshal::{build_typed, build_values};
-use dbus_validate::Validated;
+use dbus_validate::{Validated, Whole};
 use dbus_value_model::Limits;
-use dbus_walk::{FIELDS_START, Source, Spot, field_at, fields_end, lengths_of};
+use dbus_walk::{FIELDS_START, Source, field_at, fields_end};
 use std::alloc::{AllocError, Allocator};
 
 /// For how many fields room is made at the start: most messages have no more.
@@ -76,20 +76,15 @@ pub fn build_message<A: Allocator + Copy>(
         IfOk result (λ parts. parts_tree parts ≡ m) }
     ensures packed { IfOk result PartsKeepBytes }
 {
-    let source = Source {
-        bytes: &bytes[..validated.length],
-        order: validated.order,
+    let whole = Whole {
+        bytes,
+        limits,
+        validated,
     };
+    let source = whole.source();
     let fields = build_fields(alloc, &source, limits.depth)?;
-    let types = validated.fields.signature(bytes);
     let mut table = [0; 255];
-    let spot = Spot {
-        at: validated.body,
-        types,
-        lengths: lengths_of(types, &mut table),
-        depth_left: limits.depth,
-    };
-    let body = build_values(alloc, &source, &spot)?;
+    let body = build_values(alloc, &source, &whole.body(&mut table))?;
     Ok(Parts {
         kind: validated.kind,
         flags: validated.flags,

@@ -12,9 +12,9 @@ use crate::fields::{KnownFields, OtherFields};
 use crate::json::Json;
 use dbus_message_model::order_byte;
 use dbus_show::{Draft, write_integer, write_kind};
-use dbus_validate::Validated;
+use dbus_validate::{Validated, Whole};
 use dbus_value_model::Limits;
-use dbus_value_text::{Whole, write_body, write_fields};
+use dbus_value_text::{write_body, write_fields};
 
 /// Appends the name of a message type, or its number if it has none.
 fn write_type<D: Draft>(draft: &mut D, kind: u8)

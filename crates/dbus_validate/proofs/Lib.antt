@@ -8,3 +8,4 @@ mod WholeSteps
 mod WholeRefusals
 pub mod Firsts
 mod Headed
+pub mod WholeParts

@@ -1,4 +1,3 @@
 pub mod Codes
 pub mod Read
 mod Rows
-pub mod WholeParts

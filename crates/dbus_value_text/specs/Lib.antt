@@ -1,6 +1,5 @@
 pub mod Gaining
 pub mod Forms
 pub mod Fields
-pub mod Wholes
 pub mod Writing
 pub mod WritingLaws

@@ -5,12 +5,12 @@ ghost use Rattle.std.specs.Prelude.{ℕ, List};
 ghost use Rattle.dbus_message_model.specs.Messages.{MessageTree};
 ghost use Rattle.dbus_value_text.specs.Forms.{led};
 ghost use Rattle.dbus_value_text.specs.Fields.{AreFieldTexts, taken_fields};
-ghost use Rattle.dbus_value_text.specs.Wholes.{WasValidated, IsWholeOf};
+ghost use Rattle.dbus_validate.specs.Wholes.{WasValidated, IsWholeOf};
 
 use crate::field_form::FieldForm;
-use crate::whole::Whole;
 use dbus_show::Draft;
-use dbus_walk::{FIELDS_START, Source, Spot, field_at, fields_end, lengths_of, skip_value};
+use dbus_validate::Whole;
+use dbus_walk::{FIELDS_START, Spot, field_at, fields_end, lengths_of, skip_value};
 
 /// Appends the header fields of a message that a form takes, in their order: the first after a lead, and each other after a
 /// separator. D-Bus Specification, "Header Fields".
@@ -25,10 +25,7 @@ pub fn write_fields<F: FieldForm, D: Draft>(
         (texts : List (List ℕ)) × AreFieldTexts F.is_text (taken_fields F.is_taken m.fields) texts ×
         D.gains draft.old (led lead.now separator.now texts) draft.new }
 {
-    let source = Source {
-        bytes: &whole.bytes[..whole.validated.length],
-        order: whole.validated.order,
-    };
+    let source = whole.source();
     let end = fields_end(&source);
     let mut table = [0; 255];
     let mut place = FIELDS_START;

@@ -12,7 +12,6 @@ mod texts;
 mod value_form;
 mod values;
 mod visiting;
-mod whole;
 mod writer;
 
 pub use body::write_body;
@@ -22,4 +21,3 @@ pub use numbers::write_number_at;
 pub use texts::write_types;
 pub use value_form::ValueForm;
 pub use values::write_value;
-pub use whole::Whole;

@@ -2,7 +2,7 @@ use Rattle.std.proofs.Common.{ℕ, List, [], ◌∷◌, ◌++◌, length, codes,
 use Rattle.dbus_message_model.specs.Messages.{message_bytes}
 use Rattle.dbus_header.proofs.OutcomeLaws.{whole_bytes}
 use Rattle.dbus_show.proofs.Gaining.{then}
-use Rattle.dbus_value_text.proofs.WholeParts.{told_parts}
+use Rattle.dbus_validate.proofs.WholeParts.{told_parts}
 use Rattle.dbus_json.specs.JsonValues.{array, member, object}
 use Rattle.dbus_json.specs.JsonMessages.{IsJsonLine, first_members}
 use Rattle.dbus_json.specs.FormLaws.{are_json}

@@ -1,17 +1,13 @@
 use Rattle.std.proofs.Common.{ℕ, sym, ap, subst, ◌∙◌, rules, arith}
-use Rattle.std.proofs.lemmas.List.{length-take}
 use Rattle.dbus_walk.proofs.FieldParts.{none_walked, next_field, field_walked, all_walked}
-use Rattle.dbus_value_text.proofs.WholeParts.{inside, after_fields, fields_there, some_fields}
 use Rattle.dbus_value_text.proofs.Rows.{FieldsLed, no_fields_led, field_led, field_passed}
 use Rattle.dbus_value_text.proofs.fields.write_fields.Goals as goal
 
-pub slice_bounds-source-end : goal.slice_bounds-source-end
-slice_bounds-source-end g c = let within = inside c.args.whole.now c.requires.validated in omega (arith, within, length-take c.args.whole.now.validated.now.length c.args.whole.now.bytes.now)
-
 pub fields_end-end-requires : goal.fields_end-end-requires
 fields_end-end-requires g c =
-    let there = some_fields c.args.whole.now c.requires.validated in
-    record { stand = (c.args.whole.now.limits.depth, there.0, there.1, there.2) }
+    let h = c.requires.validated in
+    let there = c.source-source.ensures.fields h.message h.whole in
+    record { stand = (c.args.whole.now.limits.depth, h.message.fields, there.0, there.1) }
 
 pub loop-place-init : goal.loop-place-init
 loop-place-init g c = record {
@@ -23,40 +19,46 @@ loop-place-init g c = record {
 
 pub field_at-field-requires : goal.field_at-field-requires
 field_at-field-requires g c =
-    let there = some_fields c.args.whole.now c.requires.validated in
-    let n = next_field (c.loop-place.invariant.left there.0 there.1 there.2) c.loop-place-test.true in
+    let h = c.requires.validated in
+    let there = c.source-source.ensures.fields h.message h.whole in
+    let n = next_field (c.loop-place.invariant.left h.message.fields there.0 there.1) c.loop-place-test.true in
     record { stands = (n.f, n.after, n.stands) }
 
 pub lengths_of-requires : goal.lengths_of-requires
 lengths_of-requires g c =
-    let there = some_fields c.args.whole.now c.requires.validated in
-    let n = next_field (c.loop-place.invariant.left there.0 there.1 there.2) c.loop-place-test.true in
+    let h = c.requires.validated in
+    let there = c.source-source.ensures.fields h.message h.whole in
+    let n = next_field (c.loop-place.invariant.left h.message.fields there.0 there.1) c.loop-place-test.true in
     record { few = (c.field_at-field.ensures n.f n.after n.stands).few }
 
 pub field-place-requires-clause-stands : goal.field-place-requires-clause-stands
 field-place-requires-clause-stands g c =
-    let there = some_fields c.args.whole.now c.requires.validated in
-    let n = next_field (c.loop-place.invariant.left there.0 there.1 there.2) c.loop-place-test.true in
+    let h = c.requires.validated in
+    let there = c.source-source.ensures.fields h.message h.whole in
+    let n = next_field (c.loop-place.invariant.left h.message.fields there.0 there.1) c.loop-place-test.true in
     (n.f.value, n.after, (c.field_at-field.ensures n.f n.after n.stands).value)
 
 pub skip_value-place-requires-clause-stands : goal.skip_value-place-requires-clause-stands
 skip_value-place-requires-clause-stands g c =
-    let there = some_fields c.args.whole.now c.requires.validated in
-    let n = next_field (c.loop-place.invariant.left there.0 there.1 there.2) c.loop-place-test.true in
+    let h = c.requires.validated in
+    let there = c.source-source.ensures.fields h.message h.whole in
+    let n = next_field (c.loop-place.invariant.left h.message.fields there.0 there.1) c.loop-place-test.true in
     (n.f.value, n.after, (c.field_at-field.ensures n.f n.after n.stands).value)
 
 pub loop-place-smaller-then-takes : goal.loop-place-smaller-then-takes
 loop-place-smaller-then-takes g c =
-    let there = some_fields c.args.whole.now c.requires.validated in
-    let n = next_field (c.loop-place.invariant.left there.0 there.1 there.2) c.loop-place-test.true in
+    let h = c.requires.validated in
+    let there = c.source-source.ensures.fields h.message h.whole in
+    let n = next_field (c.loop-place.invariant.left h.message.fields there.0 there.1) c.loop-place-test.true in
     let p = c.field_at-field.ensures n.f n.after n.stands in
     let w = c.field-place.ensures.written n.f.value n.after p.value in
     omega (arith, w.1 ∙ p.ends, n.some, c.loop-place-test.true)
 
 pub loop-place-smaller : goal.loop-place-smaller
 loop-place-smaller g c =
-    let there = some_fields c.args.whole.now c.requires.validated in
-    let n = next_field (c.loop-place.invariant.left there.0 there.1 there.2) c.loop-place-test.true in
+    let h = c.requires.validated in
+    let there = c.source-source.ensures.fields h.message h.whole in
+    let n = next_field (c.loop-place.invariant.left h.message.fields there.0 there.1) c.loop-place-test.true in
     let p = c.field_at-field.ensures n.f n.after n.stands in
     omega (arith, c.skip_value-place.ensures n.f.value n.after p.value ∙ p.ends, n.some, c.loop-place-test.true)
 
@@ -91,7 +93,7 @@ loop-place-preserved g c = record {
 pub returns : goal.returns
 returns g c = record {
   written = λ m whole.
-      let j = c.requires.validated in
-      let all = all_walked (c.loop-place.invariant.left m.fields (after_fields c.args.whole.now j m whole) (fields_there c.args.whole.now j m whole)) c.loop-place-test.false in
+      let there = c.source-source.ensures.fields m whole in
+      let all = all_walked (c.loop-place.invariant.left m.fields there.0 there.1) c.loop-place-test.false in
       (all.0, all.1, all.2.gained);
 }
