@@ -1,6 +1,6 @@
 # make run         builds dbus-wire without its proofs, in 40 seconds, and checks a sample capture; ARGS='show' FILE=my.dbus for
 #                  another command and capture
-# make quick-test  the tests, the programs that compare every case and the examples of doc comments, without proofs: some minutes
+# make quick-test  the tests, the cases and the examples of doc comments, without proofs: some minutes
 #                  It also holds the manual page and the completions against the texts of help
 # make api         prints docs/API.md, the calls of the libraries, out of the sources; make quick-test checks that it is current
 # make graph       writes which crate stands on which into docs/ARCHITECTURE.md; make definitions-check, and quick-test, check it

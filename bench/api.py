@@ -21,7 +21,7 @@ CALLERS = """dbus_c dbus_value dbus_message dbus_compose dbus_body dbus_validate
     dbus_command dbus_report""".split()
 
 # What tests are made of.
-NOT_CALLED = ("_tests", "case_files", "refusing_alloc")
+NOT_CALLED = ("_tests", "case_questions", "refusing_alloc")
 
 # Each heading, with the crates, and the files of crates, whose calls stand below it in this order.
 HEADINGS = {

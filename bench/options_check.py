@@ -1,7 +1,7 @@
 #!/usr/bin/env python3
 """options_check.py: whether the manual page, the completions and the cases name the commands and options that the texts of help name, and no others.
 
-The texts of help are crates/tool_cases/data/*.help, which the program prints, as the cases there say.
+The texts of help are cases/data/*.help, which the program prints, as the cases there say.
 """
 
 import pathlib
@@ -9,7 +9,7 @@ import re
 import sys
 
 HERE = pathlib.Path(__file__).resolve().parent.parent
-DATA = HERE / "crates/tool_cases/data"
+DATA = HERE / "cases/data"
 PROGRAM = "dbus-wire"
 OPTION = re.compile(r"(?<![\w-])(--[a-z]+(?:-[a-z]+)*)")
 # A line of help for an option, with its letter if it has one.

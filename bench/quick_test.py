@@ -2,32 +2,34 @@
 """quick_test.py [NAME..]: runs the tests and the programs with stored output, or the crates named, without proofs.
 
 A crate with tests is run by `rt try --test`. A program beside whose src/ is a file stdout is run by `rt try` with its files args and stdin
-and the files of its folder data/, and has to write what stdout has and to end with the status of its file status. A program that counts
-the cases of its files is run in shares of them, and the counts are added up. As many runs go side by side as there are processors.
+and the files of its folder data/, and has to write what stdout has and to end with the status of its file status. A program that answers
+questions is asked on all cases (cases/run.py). As many runs go side by side as there are processors.
 The exit status is 1 if one failed, or did not end within the time limit: the last line names those.
 """
 
 import collections
 import concurrent.futures as futures
 import difflib
-import itertools
 import re
-import shutil
 import subprocess
 import sys
 import tempfile
 import time
 from pathlib import Path
 
-from crate_list import folder_of, lanes, read_crates
+from crate_list import ROOT, asked_programs, folder_of, lanes, read_crates
+
+sys.dont_write_bytecode = True
+sys.path.insert(0, str(ROOT / "cases"))
+
+from run import asked_of, differences, lines_of  # noqa: E402
 
 # As long as the gate gives a proved program.
 SECONDS = "120"
 LINES_SHOWN = 20
 NO_ANSWER = 6
-# In how many shares the cases of a program's files are run, so that on a busy machine too each share ends within the time limit.
-SHARES = 4
-COUNTED = re.compile(r"(\S+): (\d+) cases, (\d+) differ")
+# `rt try` hands over at most 1 MiB of what a run writes, and a share has to end within the time limit, on a busy machine too.
+MOST_ANSWERED = 50_000
 
 
 def stored(folder, name):
@@ -39,8 +41,9 @@ def has_tests(folder):
     return any("#[test]" in file.read_text() for file in folder.glob("src/**/*.rt"))
 
 
-def words_of(folder, data):
-    """The command line that tries the program, with the files of this folder that it reads."""
+def words_of(folder):
+    """The command line that tries the program, with the files of its folder data/."""
+    data = folder / "data"
     files = [str(it.relative_to(data)) for it in sorted(data.rglob("*")) if it.is_file()]
     given = [word for file in files for word in ("--data", f"{file}={data / file}")]
     arguments = stored(folder, "args").decode().splitlines()
@@ -57,18 +60,17 @@ def try_tests(folder):
     return "failed", "\n".join([*bad, ran.stderr])
 
 
-def try_program(folder, data=None):
-    """Whether the program did what it should over the files of a folder, what is to be said, and what it wrote."""
-    words = words_of(folder, data or folder / "data")
-    ran = subprocess.run(words, cwd=folder, input=stored(folder, "stdin"), capture_output=True)
+def try_whole(folder):
+    """Whether the program did what it should, and what is to be said."""
+    ran = subprocess.run(words_of(folder), cwd=folder, input=stored(folder, "stdin"), capture_output=True)
     told = ran.stderr.decode(errors="replace")
     written = ran.stdout.decode(errors="replace")
     if ran.returncode == NO_ANSWER and "within the time limit" in told:
-        return "too long", f"no end within {SECONDS} s with checks: make test runs it proved", written
+        return "too long", f"no end within {SECONDS} s with checks: make test runs it proved"
     wanted = int(stored(folder, "status") or 0)
     if ran.returncode != wanted:
-        return "failed", f"{written}{told}status {ran.returncode}, wanted {wanted}", written
-    return "passed", "", written
+        return "failed", f"{written}{told}status {ran.returncode}, wanted {wanted}"
+    return compared(folder, written)
 
 
 def compared(folder, written):
@@ -80,68 +82,44 @@ def compared(folder, written):
     return "failed", "\n".join([*difflib.unified_diff(*texts, "wanted", "written", lineterm="")][:LINES_SHOWN])
 
 
-def try_whole(folder):
-    how, said, written = try_program(folder)
-    return compared(folder, written) if how == "passed" else (how, said)
+def shares_of(asked):
+    """The cases in shares, with answers of some 50,000 characters each. What is not known beforehand is as long as the question."""
+    shares, size = [[]], 0
+    for it in asked:
+        size += sum(len(question.wanted if isinstance(question.wanted, str) else question.words) + 1 for question in it.questions)
+        if size > MOST_ANSWERED and shares[-1]:
+            shares.append([])
+            size = 0
+        shares[-1].append(it)
+    return shares
 
 
-def files_of_cases(folder):
-    """The files of which the program writes how many cases they have, if it writes nothing else."""
-    lines = stored(folder, "stdout").decode(errors="replace").splitlines()
-    counted = [COUNTED.fullmatch(line) for line in lines]
-    return {it[1] for it in counted} if all(counted) else set()
-
-
-def is_case(line):
-    return bool(line.strip()) and not line.strip().startswith("#")
-
-
-def write_share(folder, share, n):
-    """Writes the program's files, with an empty line for each case that is not of share n, so that each stays at its line."""
-    shutil.copytree(folder / "data", share, dirs_exist_ok=True)
-    for file in files_of_cases(folder):
-        numbers = itertools.count()
-        lines = (share / file).read_text().splitlines()
-        kept = [line if not is_case(line) or next(numbers) % SHARES == n else "" for line in lines]
-        (share / file).write_text("".join(f"{line}\n" for line in kept))
-
-
-def try_share(folder, n):
-    with tempfile.TemporaryDirectory() as share:
-        write_share(folder, Path(share), n)
-        return try_program(folder, Path(share))
-
-
-def added(outputs):
-    """What a program that counts cases would have written of all files, of what it wrote of their shares."""
-    counts, others = {}, []
-    for line in "".join(outputs).splitlines():
-        if counted := COUNTED.fullmatch(line):
-            cases, differ = counts.get(counted[1], (0, 0))
-            counts[counted[1]] = cases + int(counted[2]), differ + int(counted[3])
-        else:
-            others.append(line)
-    totals = [f"{file}: {cases} cases, {differ} differ" for file, (cases, differ) in counts.items()]
-    return "".join(f"{line}\n" for line in [*others, *totals])
-
-
-def try_shares(folder):
-    """As many shares run side by side as programs do, so the shares of one come one after the other."""
-    outputs = []
-    for n in range(SHARES):
-        how, said, written = try_share(folder, n)
-        if how != "passed":
-            return how, f"share {n + 1} of {SHARES}: {said}"
-        outputs.append(written)
-    return compared(folder, added(outputs))
+def try_questions(folder):
+    """Whether the program gave right answers on all cases, and what is to be said. Each share of them is an input of its own."""
+    shares = shares_of(asked_of(folder.name))
+    with tempfile.TemporaryDirectory() as room:
+        for n, share in enumerate(shares):
+            Path(room, f"{n:03}").write_text(lines_of(share))
+        words = ["rt", "try", "--seconds", SECONDS, "--cases", room]
+        ran = subprocess.run(words, cwd=folder, capture_output=True, text=True, errors="replace")
+    if ran.returncode == NO_ANSWER:
+        return "too long", f"no end within {SECONDS} s with checks: make test runs it proved"
+    outputs = re.split(r"^== \d+$", ran.stdout, flags=re.MULTILINE)[1:]
+    if len(outputs) != len(shares):
+        return "failed", f"{ran.stdout[-1000:]}{ran.stderr}"
+    answers = [re.findall(r"^\| (.*)$", output, flags=re.MULTILINE) for output in outputs]
+    told = [line for share, lines in zip(shares, answers) for line in differences(share, lines)]
+    if told:
+        return "failed", "\n".join(told[:LINES_SHOWN])
+    return "passed", f"{sum(len(it.questions) for share in shares for it in share)} questions"
 
 
 def run(name):
     folder, began = folder_of(name), time.monotonic()
-    if not (folder / "src" / "main.rt").exists():
-        way = try_tests
+    if name in asked_programs():
+        way = try_questions
     else:
-        way = try_shares if files_of_cases(folder) else try_whole
+        way = try_whole if (folder / "src" / "main.rt").exists() else try_tests
     how, said = way(folder)
     print(f"{name} {how} in {time.monotonic() - began:.0f} s: {said}", flush=True)
     return how

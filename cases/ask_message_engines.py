@@ -72,9 +72,9 @@ class Asked:
         # How many bytes decide that.
         self.least = self.at + int(self.read["after"]) if self.read["after"] else len(self.data)
 
-    def followed(self):
-        """The bytes with others after them, past the end, unless more are wanted."""
-        return self.data if self.outcome == "partial" else self.data + AFTER * (max(min(self.end, FURTHEST) - len(self.data), 0) + 9)
+    def followed(self, end=0):
+        """The bytes with others after them, some past this offset, unless more are wanted."""
+        return self.data if self.outcome == "partial" else self.data + AFTER * (max(end - len(self.data), 0) + 9)
 
     def question(self, engine, kind, wanted, data=None, *more):
         place = () if "end=" in self.settings else (f"end={self.end}",)
@@ -91,9 +91,10 @@ class Asked:
 
 
 def ask_reading(asked):
-    followed = asked.followed()
-    yield asked.question("get_within of fronts", "value-fronts", asked.fronts(), followed)
-    yield asked.question("get_within of fronts, below-count", "value-fronts", asked.fronts(), followed, "rule=below-count")
+    followed = asked.followed(min(asked.end, FURTHEST))
+    yield asked.question("get_within", "value", asked.outcome, followed)
+    yield asked.question("get_within of fronts", "value-fronts", asked.fronts(), asked.followed())
+    yield asked.question("get_within of fronts, below-count", "value-fronts", asked.fronts(), asked.followed(), "rule=below-count")
     yield asked.question("Values in two pieces", "value-checked", from_place(asked.at, asked.outcome))
     yield asked.question("Values byte by byte", "value-by-bytes", f"{asked.least} {asked.outcome}")
     if asked.read["end"]:

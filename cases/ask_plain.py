@@ -1,14 +1,10 @@
 """What any implementation can be asked (README.md, "Questions"). An answer may be the first words alone of the right one, or `?` if the implementation
 does not know the question."""
 
-import re
-
+from handshakes import meaning_of
 from questions import Question, hexed, words_of
 from read_cases import read_bytes
 from run import UNKNOWN
-
-# An item of bytes, or a word.
-WORD = r'(?:\d+\*)?"(?:[^"\\]|\\.)*"|[^ ]+'
 
 
 def question(engine, words, wanted):
@@ -38,14 +34,9 @@ def ask_name(case, _):
     yield question(kind, f"text {kind} {hexed(read_bytes(text))}", verdict)
 
 
-def hexed_items(column):
-    """A column of words and bytes, in which the bytes are spelled as questions and answers spell them."""
-    return " ".join(word if re.fullmatch("[a-z]+", word) else hexed(read_bytes(word)) for word in re.findall(WORD, column))
-
-
 def ask_rule(case, _):
     _, text, answer = case
-    wanted = answer if answer.startswith("refused") else hexed_items(answer)
+    wanted = answer if answer.startswith("refused") else f"accepted {hexed(read_bytes(answer.removeprefix('accepted ')))}"
     yield question("rule", f"rule {hexed(read_bytes(text))}", wanted)
 
 
@@ -57,7 +48,9 @@ def ask_match(case, _):
 
 def asker_of_lines(sender):
     def ask_line(case, _):
-        yield question("line", f"line {sender} {hexed(read_bytes(case[1]))}", hexed_items(case[2]))
+        _, line, meaning, _ = case
+        if line != "none":
+            yield question("line", f"line {sender} {hexed(read_bytes(line))}", meaning_of(meaning))
 
     return ask_line
 

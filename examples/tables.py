@@ -67,7 +67,7 @@ def run(*words, given=""):
 
 def text_cases(numbers):
     """Of each case the number of its kind, its bytes, and what is said of them."""
-    data = ROOT / "crates/value_cases/data"
+    data = ROOT / "cases/data"
     for _, kind, text, said in read_cases(data / "names.txt"):
         yield numbers[CASE_KINDS.get(kind, kind.upper())], text, said
     for _, text, signature, single, *_ in read_cases(data / "signatures.txt"):
@@ -102,7 +102,7 @@ def words_of(meaning):
 
 def line_cases():
     """Of each case the side, what it sends, and what LINES says of it, or of lines that are cut their lengths."""
-    data = ROOT / "crates/handshake_cases/data"
+    data = ROOT / "cases/data"
     for side in ("client", "server"):
         for _, text, meaning, _ in read_cases(data / f"{side}_lines.txt"):
             line = read_bytes(text)

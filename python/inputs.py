@@ -10,7 +10,7 @@ from read_cases import read_bytes, read_cases  # noqa: E402
 from dbus_wire import Limits, messages  # noqa: E402
 
 SAMPLES = {name: (ROOT / "samples" / f"{name}.dbus").read_bytes() for name in ("session", "big-endian")}
-CASES = ROOT / "crates/message_cases/data"
+CASES = ROOT / "cases/data"
 # What a Message names as it is in the header; `unix_fds` is 0 without that field.
 FIELDS = ("path", "interface", "member", "error_name", "reply_serial", "destination", "sender", "signature")
 
@@ -24,10 +24,10 @@ def limits_of(column):
 
 def message_cases():
     """The name, limits, bytes and answer of each case of messages in each order that it has."""
-    for path in sorted(CASES.glob("*.txt")):
-        for name, limits, *columns, answer in read_cases(path):
+    for file in ("descriptors", "faults", "limits", "messages"):
+        for name, limits, *columns, answer in read_cases(CASES / f"{file}.txt"):
             for column in filter(None, columns):
-                yield f"{path.stem}: {name}", limits_of(limits), read_bytes(column), answer
+                yield f"{file}: {name}", limits_of(limits), read_bytes(column), answer
 
 
 def whole_cases():

@@ -52,9 +52,7 @@ from dbus_wire import (
 from dbus_wire import _library
 
 SESSION = SAMPLES["session"]
-TEXT_CASES = ROOT / "crates/value_cases/data"
-RULE_CASES = ROOT / "crates/stream_cases/data"
-HANDSHAKE_CASES = ROOT / "crates/handshake_cases/data"
+CASES = ROOT / "cases/data"
 CASE_KINDS = {"text": "STRING", "path": "OBJECT_PATH"}
 
 
@@ -220,9 +218,9 @@ class Cases(unittest.TestCase):
         self.assertRaises(Refused, build, **signal, limits=Limits(message=16))
 
     def test_texts_have_the_answers(self):
-        for _, kind, text, answer in read_cases(TEXT_CASES / "names.txt"):
+        for _, kind, text, answer in read_cases(CASES / "names.txt"):
             self.hold_text(TextKind[CASE_KINDS.get(kind, kind.upper())], text, answer)
-        for _, text, signature, single, *_ in read_cases(TEXT_CASES / "signatures.txt"):
+        for _, text, signature, single, *_ in read_cases(CASES / "signatures.txt"):
             self.hold_text(TextKind.SIGNATURE, text, signature)
             self.hold_text(TextKind.SINGLE_TYPE, text, single)
 
@@ -400,7 +398,7 @@ class Checkers(unittest.TestCase):
 
 class Rules(unittest.TestCase):
     def test_each_case_of_a_rule(self):
-        for name, text, said in read_cases(RULE_CASES / "rules.txt"):
+        for name, text, said in read_cases(CASES / "rules.txt"):
             with self.subTest(name):
                 answer, *right = said.split(" ", 1)
                 if answer == "accepted":
@@ -413,7 +411,7 @@ class Rules(unittest.TestCase):
                     self.assertEqual(f"{caught.exception.at} {caught.exception.reason}", *right)
 
     def test_each_case_of_a_message(self):
-        for name, text, owners, *columns, said in read_cases(RULE_CASES / "matches.txt"):
+        for name, text, owners, *columns, said in read_cases(CASES / "matches.txt"):
             with self.subTest(name), Rule(read_bytes(text)) as rule:
                 owners = dict(word.split("=") for word in owners.split())
                 for message in (Message.parse(read_bytes(column)) for column in columns if column):
@@ -441,7 +439,7 @@ class Rules(unittest.TestCase):
 
     def test_each_rule_of_a_set(self):
         captured = list(messages(io.BytesIO(SESSION)))
-        texts = [text for name, text, said in read_cases(RULE_CASES / "rules.txt") if said.startswith("accepted")]
+        texts = [text for name, text, said in read_cases(CASES / "rules.txt") if said.startswith("accepted")]
         with RuleSet() as rules:
             numbers = {rules.add(read_bytes(text)): Rule(read_bytes(text)) for text in texts}
             for number in list(numbers)[::3]:
@@ -470,7 +468,7 @@ class Handshakes(unittest.TestCase):
 
     def test_each_case_of_an_end(self):
         tried = 0
-        for name, setup, received, sent, taken, status, _ in read_cases(HANDSHAKE_CASES / "dialogues.txt"):
+        for name, setup, received, sent, taken, status, _ in read_cases(CASES / "dialogues.txt"):
             with self.subTest(name):
                 end, rest = self.end_of(setup), read_bytes(received)
                 if end is None:

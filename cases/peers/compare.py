@@ -8,7 +8,7 @@ import sys
 
 HERE = pathlib.Path(__file__).resolve().parent
 ROOT = HERE.parent.parent
-CASES = ROOT / "crates" / "message_cases" / "data"
+CASES = HERE.parent / "data"
 sys.dont_write_bytecode = True
 sys.path.insert(0, str(HERE.parent))
 

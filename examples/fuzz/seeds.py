@@ -5,7 +5,7 @@ import pathlib
 import sys
 
 ROOT = pathlib.Path(__file__).resolve().parent.parent.parent
-CASES = ROOT / "crates/message_cases/data"
+CASES = ROOT / "cases/data"
 sys.dont_write_bytecode = True
 sys.path[:0] = [str(ROOT / "cases"), str(ROOT / "examples")]
 from compare import SAMPLES, capture, messages  # noqa: E402

@@ -1,4 +1,4 @@
-//! The explanation of a fault that no input has. Those of all others are cases of `tool_cases`.
+//! The explanation of a fault that no input has. Those of all others are cases of `explained.txt`.
 
 use dbus_explain::{Refused, explain_message};
 use dbus_show::StringDraft;
