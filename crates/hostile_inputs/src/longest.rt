@@ -2,8 +2,8 @@
 //!
 //! Both are replies to serial 1. The body is two arrays of BYTE, the first of 2^26 bytes, the most that an array may have.
 
-use crate::answer::{built, checked};
 use crate::parts::{Part, Parts};
+use crate::reading::{built, checked};
 use dbus_stream::{CheckReader, MessageReader};
 use std::io;
 

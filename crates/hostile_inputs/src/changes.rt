@@ -1,22 +1,18 @@
-//! `hostile_bytes`: five messages, of which each byte is changed to each other value, as all readers of messages answer them.
+//! Five messages, of which each byte is changed to each other value, as all readers of messages answer them.
 //!
 //! Of each message it prints how many of its prefixes are partial, how many of the changed messages decoding finds whole,
-//! refused and partial, and how often a reader answers otherwise. It reads no input.
-#![tactic(auto)]
+//! refused and partial, and how often a reader answers otherwise.
 
 ghost use Rattle.std.specs.Prelude.{◌<◌, ◌≡◌, length};
 
-mod answer;
-mod messages;
-mod readers;
-mod tally;
-
+use crate::messages::MESSAGES;
+use crate::readers::{Readers, Splits, decoded};
+use crate::tally::Tally;
 use dbus_check::Checker;
-use messages::MESSAGES;
-use readers::{Readers, decoded};
 use std::io;
-use std::process::ExitCode;
-use tally::Tally;
+
+// Of a changed message every so many splits are tried; which, changes with the byte's value.
+const STEP: usize = 4;
 
 // The messages that differ from these bytes in the byte at one offset, which has each other value in turn.
 fn change_byte(readers: &mut Readers, bytes: &mut [u8], at: usize, tally: &mut Tally)
@@ -29,7 +25,11 @@ fn change_byte(readers: &mut Readers, bytes: &mut [u8], at: usize, tally: &mut T
             bytes[at] = value;
             let right = decoded(readers.alloc, bytes);
             tally.count(right);
-            tally.differ(readers.differing(bytes, right));
+            let splits = Splits {
+                first: usize::from(value) % STEP,
+                step: STEP,
+            };
+            tally.differ(readers.differing(bytes, right, splits));
         }
     }
     bytes[at] = kept;
@@ -53,7 +53,8 @@ fn try_message(
     tally.print(rt, name, prefixes)
 }
 
-fn try_all(rt: &HostRuntime) -> io::Result<()> {
+/// Prints what the readers answer of all.
+pub(crate) fn try_changes(rt: &HostRuntime) -> io::Result<()> {
     let mut readers = Readers {
         alloc: rt.alloc(),
         checker: Checker::new(),
@@ -62,11 +63,4 @@ fn try_all(rt: &HostRuntime) -> io::Result<()> {
         try_message(rt, &mut readers, name, message)?;
     }
     Ok(())
-}
-
-fn main(rt: HostRuntime) -> ExitCode {
-    match try_all(&rt) {
-        Ok(()) => ExitCode::SUCCESS,
-        Err(_) => ExitCode::FAILURE,
-    }
 }

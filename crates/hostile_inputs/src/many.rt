@@ -1,7 +1,7 @@
 //! A million messages of 24 bytes, of which each read gives the second half of one and the first of the next.
 
-use crate::answer::{Answer, built, checked};
 use crate::parts::{Part, Parts};
+use crate::reading::{Answer, built, checked};
 use dbus_stream::{CheckReader, MessageReader};
 use refusing_alloc::Refusing;
 use std::io;

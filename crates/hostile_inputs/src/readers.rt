@@ -70,6 +70,16 @@ fn cut_in_two(alloc: Global, front: &[u8], rest: &[u8]) -> [Answer; 2] {
     }
 }
 
+/// The splits of bytes in two whose first piece has this length, or some steps more.
+#[derive(Clone, Copy)]
+pub(crate) struct Splits {
+    pub(crate) first: usize,
+    pub(crate) step: usize,
+}
+
+// Each split.
+const EVERY: Splits = Splits { first: 0, step: 1 };
+
 /// What readers work with.
 #[derive(Drop)]
 pub(crate) struct Readers {
@@ -80,11 +90,11 @@ pub(crate) struct Readers {
 }
 
 impl Readers {
-    // How many answers of a checker and of a cutter are another in every split in two: of the first piece, which decoding of
-    // that piece tells, and of both.
-    fn in_two_differs(&mut self, bytes: &[u8], right: Answer) -> u64 {
+    // How many answers of a checker and of a cutter are another in these splits in two: of the first piece, which decoding of that
+    // piece tells, and of both.
+    fn in_two_differs(&mut self, bytes: &[u8], right: Answer, splits: Splits) -> u64 {
         let mut count = 0u64;
-        for n in 0..bytes.len() + 1 {
+        for n in (splits.first..bytes.len() + 1).step_by(splits.step.max(1)) {
             let (front, rest) = bytes.split_at(n);
             let wanted = [decoded(self.alloc, front), right];
             for given in [
@@ -108,10 +118,10 @@ impl Readers {
         u64::from(MessageView::of(bytes).err() != unseen(bytes, right))
     }
 
-    /// How many answers of all readers are another than this.
-    pub(crate) fn differing(&mut self, bytes: &[u8], right: Answer) -> u64 {
+    /// How many answers of all readers are another than this, in these splits in two.
+    pub(crate) fn differing(&mut self, bytes: &[u8], right: Answer, splits: Splits) -> u64 {
         self.whole_differs(bytes, right)
-            .saturating_add(self.in_two_differs(bytes, right))
+            .saturating_add(self.in_two_differs(bytes, right, splits))
             .saturating_add(self.view_differs(bytes, right))
     }
 
@@ -121,7 +131,7 @@ impl Readers {
         for n in 0..message.len() {
             let front = &message[..n];
             let is_partial = decoded(self.alloc, front) == Answer::Partial;
-            if is_partial && self.differing(front, Answer::Partial) == 0 {
+            if is_partial && self.differing(front, Answer::Partial, EVERY) == 0 {
                 count = count.saturating_add(1);
             }
         }
