@@ -1,7 +1,9 @@
-//! The answers of the calls: one set for all of them, in which 0 is success. Their numbers are for good.
+//! The answers of the calls: one set for all of them, in which 0 is success. Their numbers are for
+//! good.
 #![tactic(auto)]
 
-/// The bytes begin with a message, or are a text of the kind that is asked for; what was asked for is written.
+/// The bytes begin with a message, or are a text of the kind that is asked for; what was asked for
+/// is written.
 pub const WHOLE: u32 = 0;
 
 /// More bytes are needed.

@@ -1,4 +1,5 @@
-//! A message built of parts in numbers, which are those that are told of one that is taken apart, or changed by them.
+//! A message built of parts in numbers, which are those that are told of one that is taken apart,
+//! or changed by them.
 #![tactic(auto)]
 
 ghost use Rattle.std.specs.Prelude.{◌≡◌, ◌<◌, ◌≤◌, ◌++◌, length, drop, nat_eq, if◌then◌else◌, MatchOption, MatchResult};
@@ -22,19 +23,22 @@ use dbus_validate::validate_first;
 use dbus_value_model::{Order, Reason};
 use std::alloc::Global;
 
-/// Writes the message that has exactly these parts to the start of `out`, in the byte order that they name: the header fields that
-/// are there, in the order of their codes, and the body from `parts.body` up to `parts.length`, which is spelled as in a message.
-/// The places are among `bytes`. It is not the inverse of [`crate::dbus_wire_parts_of`], as [`dbus_wire_rebuild`] is: a message comes
-/// back from its parts exactly if it has no header fields beside the known ones, these in the order of their codes, and no UNIX_FDS
-/// of 0.
+/// Writes the message that has exactly these parts to the start of `out`, in the byte order that
+/// they name: the header fields that are there, in the order of their codes, and the body from
+/// `parts.body` up to `parts.length`, which is spelled as in a message. The places are among
+/// `bytes`. It is not the inverse of [`crate::dbus_wire_parts_of`], as [`dbus_wire_rebuild`] is: a
+/// message comes back from its parts exactly if it has no header fields beside the known ones,
+/// these in the order of their codes, and no UNIX_FDS of 0.
 ///
-/// [`WHOLE`] if it is written; `told` has its length and order. [`NO_ROOM`] if `out` has fewer bytes than the message, with the same
-/// told. [`REFUSED`] if no message within the limits has these parts. Then `told` has the reason and the field: what
-/// [`crate::dbus_wire_check`] finds in the bytes that the parts spell; or `Overrun` if a place is outside `bytes`, or a number over
-/// 255 stands for a byte; `MessageTooLong` or `Signature` if a text is too long for any message; `ByteOrder` if no order is named.
-/// Of several the first is told: the order, the numbers, the body, each field in the order of the codes, all fields, the bytes.
-/// [`NO_MEMORY`] if memory runs out, of which it takes one block for a header of up to 512 bytes. In these three cases `out` stays as
-/// it was. D-Bus Specification, "Message Format" and "Header Fields".
+/// [`WHOLE`] if it is written; `told` has its length and order. [`NO_ROOM`] if `out` has fewer
+/// bytes than the message, with the same told. [`REFUSED`] if no message within the limits has
+/// these parts. Then `told` has the reason and the field: what [`crate::dbus_wire_check`] finds in
+/// the bytes that the parts spell; or `Overrun` if a place is outside `bytes`, or a number over 255
+/// stands for a byte; `MessageTooLong` or `Signature` if a text is too long for any message;
+/// `ByteOrder` if no order is named. Of several the first is told: the order, the numbers, the
+/// body, each field in the order of the codes, all fields, the bytes. [`NO_MEMORY`] if memory runs
+/// out, of which it takes one block for a header of up to 512 bytes. In these three cases `out`
+/// stays as it was. D-Bus Specification, "Message Format" and "Header Fields".
 #[unsafe(no_mangle)]
 pub extern "C" fn dbus_wire_build(
     alloc: Global,
@@ -54,14 +58,16 @@ pub extern "C" fn dbus_wire_build(
     build_given(alloc, parts, &given, out, told)
 }
 
-/// Writes the message that the bytes begin with to the start of `out`, changed as the parts say: each header field stays in its
-/// place, one of a known code as the parts have it, or not at all if they have none, and one of another code as it is. Then come the
-/// fields that the message does not have, in the order of their codes. The parts of the message, as [`crate::dbus_wire_parts_of`]
+/// Writes the message that the bytes begin with to the start of `out`, changed as the parts say:
+/// each header field stays in its place, one of a known code as the parts have it, or not at all if
+/// they have none, and one of another code as it is. Then come the fields that the message does not
+/// have, in the order of their codes. The parts of the message, as [`crate::dbus_wire_parts_of`]
 /// writes them, leave it as it is, byte for byte.
 ///
-/// It answers as [`dbus_wire_build`], but takes the byte order of the message alone: `ByteOrder` is told of any other. A UNIX_FDS of 0
-/// stays if the parts have 0. If the bytes begin with no message within the limits, it answers as [`crate::dbus_wire_check`], and
-/// `out` stays as it was. D-Bus Specification, "Message Format" and "Header Fields".
+/// It answers as [`dbus_wire_build`], but takes the byte order of the message alone: `ByteOrder` is
+/// told of any other. A UNIX_FDS of 0 stays if the parts have 0. If the bytes begin with no message
+/// within the limits, it answers as [`crate::dbus_wire_check`], and `out` stays as it was. D-Bus
+/// Specification, "Message Format" and "Header Fields".
 #[unsafe(no_mangle)]
 pub extern "C" fn dbus_wire_rebuild(
     alloc: Global,

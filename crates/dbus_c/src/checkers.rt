@@ -26,8 +26,9 @@ pub struct Taken {
     pub field: u32,
 }
 
-/// Makes a checker that was handed nothing, and takes messages within the limits: [`WHOLE`], or [`NO_MEMORY`] if memory runs
-/// out; then there is none. It takes two blocks of memory, of some 40,000 bytes and a few. What the handle kept is not freed.
+/// Makes a checker that was handed nothing, and takes messages within the limits: [`WHOLE`], or
+/// [`NO_MEMORY`] if memory runs out; then there is none. It takes two blocks of memory, of some
+/// 40,000 bytes and a few. What the handle kept is not freed.
 #[unsafe(no_mangle)]
 pub extern "C" fn dbus_wire_checker_new(
     alloc: Global,
@@ -44,10 +45,11 @@ pub extern "C" fn dbus_wire_checker_new(
 
 /// Hands the checker a piece of a message, which it takes up to the message's end.
 ///
-/// Of all bytes that it took since it was made or began again, and the piece: [`WHOLE`] if they begin with a message within its
-/// limits, [`REFUSED`] with the fault, [`PARTIAL`] if more bytes are needed. After [`WHOLE`] it takes nothing, and after
-/// [`REFUSED`] it tells the same fault, until [`dbus_wire_checker_restart`]. [`NO_CHECKER`] if there is none; then nothing is
-/// told. It allocates nothing. D-Bus Specification, "Message Protocol".
+/// Of all bytes that it took since it was made or began again, and the piece: [`WHOLE`] if they
+/// begin with a message within its limits, [`REFUSED`] with the fault, [`PARTIAL`] if more bytes
+/// are needed. After [`WHOLE`] it takes nothing, and after [`REFUSED`] it tells the same fault,
+/// until [`dbus_wire_checker_restart`]. [`NO_CHECKER`] if there is none; then nothing is told. It
+/// allocates nothing. D-Bus Specification, "Message Protocol".
 #[unsafe(no_mangle)]
 pub extern "C" fn dbus_wire_checker_take(
     alloc: Global,
@@ -66,7 +68,8 @@ pub extern "C" fn dbus_wire_checker_take(
     }
 }
 
-/// Begins again, under the same limits: nothing was handed. [`WHOLE`]; [`NO_CHECKER`] if there is none.
+/// Begins again, under the same limits: nothing was handed. [`WHOLE`]; [`NO_CHECKER`] if there is
+/// none.
 #[unsafe(no_mangle)]
 pub extern "C" fn dbus_wire_checker_restart(alloc: Global, checker: &mut WireHandle) -> u32
     ensures { TellsRestart checker.old.state checker.new.state result }

@@ -82,10 +82,12 @@ pub(crate) fn fault_told(fault: Fault) -> Checked
     }
 }
 
-/// Whether the bytes begin with a message within the limits: [`WHOLE`] with its length and byte order, [`REFUSED`] with
-/// the fault that they show, [`PARTIAL`] if they do neither, so that more bytes are needed. Bytes after the message are not looked at.
+/// Whether the bytes begin with a message within the limits: [`WHOLE`] with its length and byte
+/// order, [`REFUSED`] with the fault that they show, [`PARTIAL`] if they do neither, so that more
+/// bytes are needed. Bytes after the message are not looked at.
 ///
-/// It allocates nothing, and takes some 43,000 bytes of the stack. D-Bus Specification, "Message Protocol".
+/// It allocates nothing, and takes some 43,000 bytes of the stack. D-Bus Specification, "Message
+/// Protocol".
 #[unsafe(no_mangle)]
 pub extern "C" fn dbus_wire_check(bytes: &[u8], limits: &WireLimits, out: &mut Checked) -> u32
     ensures tells { Tells (limits_of limits.now) bytes.now result out.new }
@@ -135,7 +137,8 @@ pub(crate) fn answer_to_none(bytes: &[u8], limits: Limits) -> u32
     check_all(bytes, limits, &mut told)
 }
 
-// The message within the limits that the bytes begin with, validated; or the answer to bytes that begin with none.
+// The message within the limits that the bytes begin with, validated; or the answer to bytes that
+// begin with none.
 pub(crate) fn first_validated(bytes: &[u8], limits: &WireLimits) -> Result<Validated, u32>
     ensures whole { BeginsWithMessage (limits_of limits.now) bytes.now ↔ (answer_of result ≡ WHOLE) }
     ensures apart { TellsApart (limits_of limits.now) bytes.now (answer_of result) }

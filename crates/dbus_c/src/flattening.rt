@@ -39,8 +39,8 @@ pub(crate) enum Part {
 /// [`WHOLE`] if there is room for all from `first` on, else [`NO_ROOM`]: the same call at a place
 /// after those written goes on. If the bytes begin with no message, [`crate::PARTIAL`] or
 /// [`crate::REFUSED`], as [`crate::dbus_wire_check`], which reports why; then `items` and `count`
-/// stay as they are. Each call goes over all of the message twice, to validate it and for the items,
-/// whatever room there is, and allocates nothing. D-Bus Specification, "Message Format".
+/// stay as they are. Each call goes over all of the message twice, to validate it and for the
+/// items, whatever room there is, and allocates nothing. D-Bus Specification, "Message Format".
 #[unsafe(no_mangle)]
 pub extern "C" fn dbus_wire_flatten(
     bytes: &[u8],
@@ -58,9 +58,10 @@ pub extern "C" fn dbus_wire_flatten(
     flatten_part(Part::Body, bytes, limits, first, items, count)
 }
 
-/// Writes the items of the array of the header fields of the message within the limits that the bytes begin with, as
-/// [`dbus_wire_flatten`] does those of its body: the first is that of the array, and then comes each field, a struct, with its code and
-/// the variant of its value. It answers as [`dbus_wire_flatten`] does. D-Bus Specification, "Header Fields".
+/// Writes the items of the array of the header fields of the message within the limits that the
+/// bytes begin with, as [`dbus_wire_flatten`] does those of its body: the first is that of the
+/// array, and then comes each field, a struct, with its code and the variant of its value. It
+/// answers as [`dbus_wire_flatten`] does. D-Bus Specification, "Header Fields".
 #[unsafe(no_mangle)]
 pub extern "C" fn dbus_wire_flatten_fields(
     bytes: &[u8],

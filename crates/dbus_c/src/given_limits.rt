@@ -13,9 +13,11 @@ pub const ANY_INDEX: u32 = 0;
 /// The number of the rule that each index of a file descriptor is below their count.
 pub const INDEX_BELOW_COUNT: u32 = 1;
 
-/// Limits as four numbers of 32 bits, in this order. A number over the specification's stands for the specification's.
+/// Limits as four numbers of 32 bits, in this order. A number over the specification's stands for
+/// the specification's.
 ///
-/// D-Bus Specification, "Message Format", "Marshaling (Wire Format)", "Valid Signatures", "Header Fields".
+/// D-Bus Specification, "Message Format", "Marshaling (Wire Format)", "Valid Signatures", "Header
+/// Fields".
 #[repr(C)]
 #[derive(Drop)]
 pub struct WireLimits {
@@ -25,7 +27,8 @@ pub struct WireLimits {
     pub array: u32,
     /// The most arrays, structs and variants that are open at once.
     pub depth: u32,
-    /// The rule on indexes of file descriptors: [`ANY_INDEX`]; each other number is [`INDEX_BELOW_COUNT`].
+    /// The rule on indexes of file descriptors: [`ANY_INDEX`]; each other number is
+    /// [`INDEX_BELOW_COUNT`].
     pub fds: u32,
 }
 

@@ -17,13 +17,15 @@ use dbus_auth_lines::{ClientWords, Place, ServerWords, client_words, server_word
 // No text.
 const NOWHERE: Place = Place { at: 0, length: 0 };
 
-/// A line of a handshake. Fields that do not apply are 0. D-Bus Specification, "Authentication Protocol".
+/// A line of a handshake. Fields that do not apply are 0. D-Bus Specification, "Authentication
+/// Protocol".
 #[repr(C)]
 #[derive(Drop)]
 pub struct HandshakeLine {
     /// Of a line: the number of bytes that it has, its CR LF included.
     pub length: u64,
-    /// Of bytes that are refused and not too long: the offset of the first one that a line may not have there.
+    /// Of bytes that are refused and not too long: the offset of the first one that a line may not
+    /// have there.
     pub offset: u64,
     /// Of a line: the number of its command, as [`crate::line_command`] has it.
     pub command: u32,
@@ -31,15 +33,18 @@ pub struct HandshakeLine {
     pub is_too_long: u32,
     /// The mechanism of `AUTH`.
     pub mechanism: TextPlace,
-    /// The hexadecimal digits of the response of `AUTH`, of `DATA` or of the GUID of `OK`; the text of `ERROR`; the mechanisms of
-    /// `REJECTED`, from the first one up to the line's end, with the spaces after the last one.
+    /// The hexadecimal digits of the response of `AUTH`, of `DATA` or of the GUID of `OK`; the text
+    /// of `ERROR`; the mechanisms of `REJECTED`, from the first one up to the line's end, with the
+    /// spaces after the last one.
     pub text: TextPlace,
 }
 
-/// Writes the line of a client that the bytes begin with, and returns [`WHOLE`]. If they begin with none, returns [`PARTIAL`] if more
-/// bytes may make one, and [`REFUSED`] with the first fault if not. It allocates nothing.
+/// Writes the line of a client that the bytes begin with, and returns [`WHOLE`]. If they begin with
+/// none, returns [`PARTIAL`] if more bytes may make one, and [`REFUSED`] with the first fault if
+/// not. It allocates nothing.
 ///
-/// The byte 0 that a client sends before its first line is none of it. D-Bus Specification, "Authentication Protocol".
+/// The byte 0 that a client sends before its first line is none of it. D-Bus Specification,
+/// "Authentication Protocol".
 #[unsafe(no_mangle)]
 pub extern "C" fn dbus_wire_client_line(bytes: &[u8], out: &mut HandshakeLine) -> u32
     ensures { (b : Beginning) → BeginsAs bytes.now b → TellsLine HasClientLine b result out.new }

@@ -22,10 +22,12 @@ pub struct HandshakeStep {
     pub reply: u64,
 }
 
-/// Makes the end of a server that offers these mechanisms, of the GUID whose text of 32 hexadecimal digits is given: [`WHOLE`]. Else
-/// there is none: [`REFUSED`] if the text is another one, [`NO_MEMORY`] if memory runs out. What the handle kept is not freed.
+/// Makes the end of a server that offers these mechanisms, of the GUID whose text of 32 hexadecimal
+/// digits is given: [`WHOLE`]. Else there is none: [`REFUSED`] if the text is another one,
+/// [`NO_MEMORY`] if memory runs out. What the handle kept is not freed.
 ///
-/// **The user in `mechanisms` has to be the one that the transport reports.** D-Bus Specification, "Authentication Protocol".
+/// **The user in `mechanisms` has to be the one that the transport reports.** D-Bus Specification,
+/// "Authentication Protocol".
 #[unsafe(no_mangle)]
 pub extern "C" fn dbus_wire_server_new(
     alloc: Global,
@@ -38,9 +40,10 @@ pub extern "C" fn dbus_wire_server_new(
     made_told(handshake.make_server(alloc, guid, mechanisms))
 }
 
-/// Makes the end of a client that asks for these mechanisms, EXTERNAL first, with this trace of ANONYMOUS: [`WHOLE`]. Else there is none:
-/// [`REFUSED`] if the trace has over 255 bytes, [`NO_MEMORY`] if memory runs out. What the handle kept is not freed. D-Bus
-/// Specification, "Authentication Protocol".
+/// Makes the end of a client that asks for these mechanisms, EXTERNAL first, with this trace of
+/// ANONYMOUS: [`WHOLE`]. Else there is none: [`REFUSED`] if the trace has over 255 bytes,
+/// [`NO_MEMORY`] if memory runs out. What the handle kept is not freed. D-Bus Specification,
+/// "Authentication Protocol".
 #[unsafe(no_mangle)]
 pub extern "C" fn dbus_wire_client_new(
     alloc: Global,
@@ -53,12 +56,15 @@ pub extern "C" fn dbus_wire_client_new(
     made_told(handshake.make_client(alloc, mechanisms, trace))
 }
 
-/// Hands the end a piece of what its peer sent, of which it takes at most one line, and writes what it sends to the start of `reply`.
+/// Hands the end a piece of what its peer sent, of which it takes at most one line, and writes what
+/// it sends to the start of `reply`.
 ///
-/// [`PARTIAL`] while the handshake goes on, [`WHOLE`] once it succeeded, [`REFUSED`] once it failed; from then on nothing is taken and
-/// nothing sent, so what follows `BEGIN`, or the line of `OK`, is left. The first call on a client takes nothing and writes the byte
-/// 0 and its first line. [`NO_ROOM`] if `reply` has less room than [`dbus_c_auth::REPLY_ROOM`], [`NO_MEMORY`] if memory runs out,
-/// [`NO_HANDSHAKE`] if there is no end: then nothing is changed, and nothing told. D-Bus Specification, "Authentication Protocol".
+/// [`PARTIAL`] while the handshake goes on, [`WHOLE`] once it succeeded, [`REFUSED`] once it
+/// failed; from then on nothing is taken and nothing sent, so what follows `BEGIN`, or the line of
+/// `OK`, is left. The first call on a client takes nothing and writes the byte 0 and its first
+/// line. [`NO_ROOM`] if `reply` has less room than [`dbus_c_auth::REPLY_ROOM`], [`NO_MEMORY`] if
+/// memory runs out, [`NO_HANDSHAKE`] if there is no end: then nothing is changed, and nothing told.
+/// D-Bus Specification, "Authentication Protocol".
 #[unsafe(no_mangle)]
 pub extern "C" fn dbus_wire_handshake_take(
     alloc: Global,
@@ -80,9 +86,10 @@ pub extern "C" fn dbus_wire_handshake_take(
     }
 }
 
-/// Writes the server's GUID of a client that has begun, as 32 hexadecimal digits in lower case, to the start of `out`: [`WHOLE`]. Else
-/// `out` stays as it is: [`NO_VALUE`] if no client has begun, [`NO_ROOM`] if there is room for fewer, [`NO_HANDSHAKE`] if there is no
-/// end. D-Bus Specification, "OK Command".
+/// Writes the server's GUID of a client that has begun, as 32 hexadecimal digits in lower case, to
+/// the start of `out`: [`WHOLE`]. Else `out` stays as it is: [`NO_VALUE`] if no client has begun,
+/// [`NO_ROOM`] if there is room for fewer, [`NO_HANDSHAKE`] if there is no end. D-Bus
+/// Specification, "OK Command".
 #[unsafe(no_mangle)]
 pub extern "C" fn dbus_wire_handshake_guid(
     alloc: Global,

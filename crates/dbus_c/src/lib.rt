@@ -1,5 +1,5 @@
-//! The wire format for C: calls that a static library exports, over numbers and the caller's bytes. D-Bus Specification, "Message
-//! Protocol", "Match Rules" and "Authentication Protocol".
+//! The wire format for C: calls that a static library exports, over numbers and the caller's bytes.
+//! D-Bus Specification, "Message Protocol", "Match Rules" and "Authentication Protocol".
 //!
 //! [`dbus_wire_check`] checks bytes, [`dbus_wire_wanted`] says how many to read,
 //! [`dbus_wire_parts_of`] gives a message's parts, and [`dbus_wire_swap`] byteswaps.
@@ -11,7 +11,8 @@
 //! [`dbus_wire_build`] builds a message of its parts, whose body [`dbus_wire_put_number`] and its
 //! like spell, and [`dbus_wire_rebuild`] changes one.
 //!
-//! `include/dbus_wire.h` declares them, and says which allocate and what a caller owes; `examples/c` has callers.
+//! `include/dbus_wire.h` declares them, and says which allocate and what a caller owes;
+//! `examples/c` has callers.
 #![tactic(auto)]
 
 mod answers;

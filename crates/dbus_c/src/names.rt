@@ -4,8 +4,9 @@
 ghost use Rattle.std.specs.Prelude.{◌≡◌, ◌<◌, ◌≤◌, ◌+◌, ◌∷◌, ◌++◌, drop, length};
 ghost use Rattle.dbus_c.specs.ReasonNames.{NamesAreTexts, name_at};
 
-/// Writes the name of the reason of this number, and a 0 after it, at the start of `out`, if that has room for both; else
-/// `out` stays as it is. Returns the name's length, 0 if there is no such reason.
+/// Writes the name of the reason of this number, and a 0 after it, at the start of `out`, if that
+/// has room for both; else `out` stays as it is. Returns the name's length, 0 if there is no such
+/// reason.
 #[unsafe(no_mangle)]
 pub extern "C" fn dbus_wire_reason_name(reason: u32, out: &mut [u8]) -> usize
     ensures counted { result ≡ length (name_at reason) }

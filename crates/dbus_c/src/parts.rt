@@ -37,8 +37,8 @@ pub struct TextPlace {
 pub struct Parts {
     /// The number of bytes that it has.
     pub length: u64,
-    /// The offset of its body, which begins after the header and its padding, and ends where the message does: also where it is
-    /// empty.
+    /// The offset of its body, which begins after the header and its padding, and ends where the
+    /// message does: also where it is empty.
     pub body: u64,
     /// Its first byte, `l` or `B`, which names its byte order.
     pub order: u32,
@@ -68,9 +68,10 @@ pub struct Parts {
     pub signature: TextPlace,
 }
 
-/// Writes the parts of the message within the limits that the bytes begin with, and returns [`WHOLE`]. If they begin with none,
-/// returns [`crate::PARTIAL`] or [`crate::REFUSED`], as [`crate::dbus_wire_check`], which reports why, and `out` stays as it is.
-/// Each part lies within the message, whatever bytes follow it. It allocates nothing.
+/// Writes the parts of the message within the limits that the bytes begin with, and returns
+/// [`WHOLE`]. If they begin with none, returns [`crate::PARTIAL`] or [`crate::REFUSED`], as
+/// [`crate::dbus_wire_check`], which reports why, and `out` stays as it is. Each part lies within
+/// the message, whatever bytes follow it. It allocates nothing.
 ///
 /// D-Bus Specification, "Message Format" and "Header Fields".
 #[unsafe(no_mangle)]

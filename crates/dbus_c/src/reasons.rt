@@ -41,7 +41,8 @@ pub fn reason_number(reason: Reason) -> u32
     }
 }
 
-/// The code of the header field that is missing, if that is the reason; else 0, which is no field's code.
+/// The code of the header field that is missing, if that is the reason; else 0, which is no field's
+/// code.
 pub fn field_named(reason: Reason) -> u32
     ensures { result ≡ field_named reason }
 {

@@ -25,7 +25,8 @@ pub fn rule_reason_number(reason: RuleReason) -> u32
     }
 }
 
-/// Writes the name of the reason of this number why a text spells no rule, as [`crate::dbus_wire_reason_name`] does.
+/// Writes the name of the reason of this number why a text spells no rule, as
+/// [`crate::dbus_wire_reason_name`] does.
 #[unsafe(no_mangle)]
 pub extern "C" fn dbus_wire_rule_reason_name(reason: u32, out: &mut [u8]) -> usize
     ensures counted { result ≡ length (rule_name_at reason) }

@@ -30,11 +30,12 @@ pub struct RuleRefused {
     pub reserved: u32,
 }
 
-/// Adds the match rule that the text spells to the rules, and writes to `id` what stands for it, which stands for none before:
-/// [`WHOLE`]. Else what is kept stays: [`REFUSED`] with the text's one fault, as [`dbus_match::parse_rule`] finds it, or that it
-/// is not UTF-8, which comes first; [`NO_MEMORY`] if memory runs out, or 2^64 - 1 rules were added. `id` changes in
-/// the first case alone, and `out` in the second. To rules that are shared it adds none, whatever the text is: [`SHARED`], and
-/// nothing changes. D-Bus Specification, "Match Rules".
+/// Adds the match rule that the text spells to the rules, and writes to `id` what stands for it,
+/// which stands for none before: [`WHOLE`]. Else what is kept stays: [`REFUSED`] with the text's
+/// one fault, as [`dbus_match::parse_rule`] finds it, or that it is not UTF-8, which comes first;
+/// [`NO_MEMORY`] if memory runs out, or 2^64 - 1 rules were added. `id` changes in the first case
+/// alone, and `out` in the second. To rules that are shared it adds none, whatever the text is:
+/// [`SHARED`], and nothing changes. D-Bus Specification, "Match Rules".
 #[unsafe(no_mangle)]
 pub extern "C" fn dbus_wire_rules_add(
     alloc: Global,
@@ -70,8 +71,8 @@ pub extern "C" fn dbus_wire_rules_add(
     }
 }
 
-/// Removes the rule that `id` stands for: [`WHOLE`]; [`NO_RULE`] if it stands for none. From then on it stands for none. Of rules that
-/// are shared it removes none: [`SHARED`].
+/// Removes the rule that `id` stands for: [`WHOLE`]; [`NO_RULE`] if it stands for none. From then
+/// on it stands for none. Of rules that are shared it removes none: [`SHARED`].
 #[unsafe(no_mangle)]
 pub extern "C" fn dbus_wire_rules_remove(
     alloc: Global,
@@ -93,10 +94,12 @@ pub extern "C" fn dbus_wire_rules_remove(
     }
 }
 
-/// Shares the rules with `other`, another handle, which from then on keeps the same rules, and frees what it kept before: [`WHOLE`].
-/// From then on no call changes the rules of either, and each may be used by a thread of its own at the same time; what they share is
-/// freed with the last of them. [`NO_MEMORY`] if memory runs out: then both keep what they kept, and rules that were not shared are not
-/// shared. [`SHARED`] if 2^63 handles share the rules: then `other` keeps what it kept. D-Bus Specification, "Match Rules".
+/// Shares the rules with `other`, another handle, which from then on keeps the same rules, and
+/// frees what it kept before: [`WHOLE`]. From then on no call changes the rules of either, and each
+/// may be used by a thread of its own at the same time; what they share is freed with the last of
+/// them. [`NO_MEMORY`] if memory runs out: then both keep what they kept, and rules that were not
+/// shared are not shared. [`SHARED`] if 2^63 handles share the rules: then `other` keeps what it
+/// kept. D-Bus Specification, "Match Rules".
 #[unsafe(no_mangle)]
 pub extern "C" fn dbus_wire_rules_share(
     alloc: Global,
@@ -112,14 +115,16 @@ pub extern "C" fn dbus_wire_rules_share(
     }
 }
 
-/// Writes what stands for each rule that matches the message within the limits that the bytes begin with at the start of `ids`:
-/// [`WHOLE`]. [`NO_ROOM`] if `ids` is too short for them, and then it stays as it is. In both cases `count` is their number.
-/// [`crate::PARTIAL`] and [`REFUSED`] as [`crate::dbus_wire_check`]. Of a message, [`NO_MEMORY`] if memory runs out. In these three
-/// cases `ids` and `count` stay as they are.
+/// Writes what stands for each rule that matches the message within the limits that the bytes begin
+/// with at the start of `ids`: [`WHOLE`]. [`NO_ROOM`] if `ids` is too short for them, and then it
+/// stays as it is. In both cases `count` is their number. [`crate::PARTIAL`] and [`REFUSED`] as
+/// [`crate::dbus_wire_check`]. Of a message, [`NO_MEMORY`] if memory runs out. In these three cases
+/// `ids` and `count` stay as they are.
 ///
-/// A rule's `sender` that is a well-known name matches a message whose SENDER is that name, or one that `owners` gives it: a line
-/// `name=unique` for each owner of a name. The text is UTF-8; else it names no owners. It takes memory for them, and for what it finds.
-/// D-Bus Specification, "Match Rules".
+/// A rule's `sender` that is a well-known name matches a message whose SENDER is that name, or one
+/// that `owners` gives it: a line `name=unique` for each owner of a name. The text is UTF-8; else
+/// it names no owners. It takes memory for them, and for what it finds. D-Bus Specification, "Match
+/// Rules".
 #[unsafe(no_mangle)]
 pub extern "C" fn dbus_wire_rules_matching(
     alloc: Global,
@@ -148,9 +153,11 @@ pub extern "C" fn dbus_wire_rules_matching(
     tell_all(&found, ids)
 }
 
-/// Writes the canonical text of the rule that `id` stands for and a 0 after it at the start of `out`: [`WHOLE`]. [`NO_ROOM`] if `out`
-/// is too short for both. In both cases `length` is the text's number of bytes. [`NO_MEMORY`] if memory runs out, and [`NO_RULE`] if it
-/// stands for none; then `length` stays as it is. `out` changes under [`WHOLE`] alone. D-Bus Specification, "Match Rules".
+/// Writes the canonical text of the rule that `id` stands for and a 0 after it at the start of
+/// `out`: [`WHOLE`]. [`NO_ROOM`] if `out` is too short for both. In both cases `length` is the
+/// text's number of bytes. [`NO_MEMORY`] if memory runs out, and [`NO_RULE`] if it stands for none;
+/// then `length` stays as it is. `out` changes under [`WHOLE`] alone. D-Bus Specification, "Match
+/// Rules".
 #[unsafe(no_mangle)]
 pub extern "C" fn dbus_wire_rules_text(
     alloc: Global,

@@ -15,12 +15,15 @@ use dbus_swap::byteswap;
 use dbus_validate::{Validated, validate};
 use dbus_value_model::{Limits, Order};
 
-/// Writes the message within the limits that the bytes begin with to the start of `out`, in the byte order that `order` names:
-/// big if it is `B`, else little. A message has the same length in both.
+/// Writes the message within the limits that the bytes begin with to the start of `out`, in the
+/// byte order that `order` names: big if it is `B`, else little. A message has the same length in
+/// both.
 ///
-/// [`WHOLE`] if it is written; `told` has its length, and the order that it was read in. [`crate::PARTIAL`] and
-/// [`crate::REFUSED`] as [`crate::dbus_wire_check`] returns them. [`NO_ROOM`] if `out` has fewer bytes than the message, whose length
-/// and order are given. In these three cases `out` stays as it was. It allocates nothing. D-Bus Specification, "Message Format".
+/// [`WHOLE`] if it is written; `told` has its length, and the order that it was read in.
+/// [`crate::PARTIAL`] and [`crate::REFUSED`] as [`crate::dbus_wire_check`] returns them.
+/// [`NO_ROOM`] if `out` has fewer bytes than the message, whose length and order are given. In
+/// these three cases `out` stays as it was. It allocates nothing. D-Bus Specification, "Message
+/// Format".
 #[unsafe(no_mangle)]
 pub extern "C" fn dbus_wire_swap(
     bytes: &[u8],

@@ -22,11 +22,13 @@ pub struct TextChecked {
     pub reserved: u32,
 }
 
-/// Whether the bytes are a text of the kind that has this number: [`WHOLE`] if they are, else [`REFUSED`] with the reason.
+/// Whether the bytes are a text of the kind that has this number: [`WHOLE`] if they are, else
+/// [`REFUSED`] with the reason.
 ///
-/// A text is too long if it has more than 255 bytes and is not a STRING or an object path; this comes first. Else it breaks at the
-/// length of its longest prefix with which some text of the kind begins, limits on length lifted. [`NO_KIND`] if there is no kind of
-/// this number; `out` then stays as it is. It allocates nothing.
+/// A text is too long if it has more than 255 bytes and is not a STRING or an object path; this
+/// comes first. Else it breaks at the length of its longest prefix with which some text of the kind
+/// begins, limits on length lifted. [`NO_KIND`] if there is no kind of this number; `out` then
+/// stays as it is. It allocates nothing.
 ///
 /// D-Bus Specification, "Basic types", "Valid Object Paths", "Valid Names", "Valid Signatures".
 #[unsafe(no_mangle)]

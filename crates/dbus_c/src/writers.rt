@@ -65,12 +65,13 @@ fn width_named(number: u32) -> Option<u8>
     }
 }
 
-/// Puts a number of `width` bytes, 1, 2, 4 or 8, after what is spelled, with the padding before it. `bits` are the bytes of a signed
-/// number or a DOUBLE as those of an unsigned one, and 0 or 1 stand for a BOOLEAN; what has no place in the width is left out.
+/// Puts a number of `width` bytes, 1, 2, 4 or 8, after what is spelled, with the padding before it.
+/// `bits` are the bytes of a signed number or a DOUBLE as those of an unsigned one, and 0 or 1
+/// stand for a BOOLEAN; what has no place in the width is left out.
 ///
-/// [`WHOLE`] if it is put. [`NO_ROOM`] if `out` has fewer bytes than what would be spelled, and [`NO_KIND`] if no number has this
-/// width; in these two cases all stays. The bytes of `out` after what is put may change.
-/// It allocates nothing. D-Bus Specification, "Marshaling (Wire Format)".
+/// [`WHOLE`] if it is put. [`NO_ROOM`] if `out` has fewer bytes than what would be spelled, and
+/// [`NO_KIND`] if no number has this width; in these two cases all stays. The bytes of `out` after
+/// what is put may change. It allocates nothing. D-Bus Specification, "Marshaling (Wire Format)".
 #[unsafe(no_mangle)]
 pub extern "C" fn dbus_wire_put_number(
     out: &mut [u8],
@@ -93,12 +94,13 @@ pub extern "C" fn dbus_wire_put_number(
     put_to(writer, end)
 }
 
-/// Puts a STRING or an OBJECT_PATH after what is spelled: padding, the length of the text in four bytes, the text and a zero byte.
-/// Whether the text is one is not looked at.
+/// Puts a STRING or an OBJECT_PATH after what is spelled: padding, the length of the text in four
+/// bytes, the text and a zero byte. Whether the text is one is not looked at.
 ///
-/// [`WHOLE`] if it is put. [`NO_ROOM`] if `out` has fewer bytes than what would be spelled, and [`REFUSED`] if the text has
-/// 4,294,967,296 bytes or more; in these two cases all stays. The bytes of `out` after what is put may change.
-/// It allocates nothing. D-Bus Specification, "Marshaling (Wire Format)".
+/// [`WHOLE`] if it is put. [`NO_ROOM`] if `out` has fewer bytes than what would be spelled, and
+/// [`REFUSED`] if the text has 4,294,967,296 bytes or more; in these two cases all stays. The bytes
+/// of `out` after what is put may change. It allocates nothing. D-Bus Specification, "Marshaling
+/// (Wire Format)".
 #[unsafe(no_mangle)]
 pub extern "C" fn dbus_wire_put_text(out: &mut [u8], writer: &mut Writer, text: &[u8]) -> u32
     ensures put { length text.now < 2 ^ 32 →
@@ -115,12 +117,14 @@ pub extern "C" fn dbus_wire_put_text(out: &mut [u8], writer: &mut Writer, text: 
     put_to(writer, end)
 }
 
-/// Puts a SIGNATURE after what is spelled, or what stands before the value in a variant: the length of the text in one byte, the text
-/// and a zero byte. Whether the text is a signature is not looked at.
+/// Puts a SIGNATURE after what is spelled, or what stands before the value in a variant: the length
+/// of the text in one byte, the text and a zero byte. Whether the text is a signature is not looked
+/// at.
 ///
-/// [`WHOLE`] if it is put. [`NO_ROOM`] if `out` has fewer bytes than what would be spelled, and [`REFUSED`] if the text has more than
-/// 255 bytes; in these two cases all stays. The bytes of `out` after what is put may change.
-/// It allocates nothing. D-Bus Specification, "Marshaling (Wire Format)".
+/// [`WHOLE`] if it is put. [`NO_ROOM`] if `out` has fewer bytes than what would be spelled, and
+/// [`REFUSED`] if the text has more than 255 bytes; in these two cases all stays. The bytes of
+/// `out` after what is put may change. It allocates nothing. D-Bus Specification, "Marshaling (Wire
+/// Format)".
 #[unsafe(no_mangle)]
 pub extern "C" fn dbus_wire_put_signature(out: &mut [u8], writer: &mut Writer, text: &[u8]) -> u32
     ensures put { length text.now < 256 → (order : Order) →
@@ -138,8 +142,9 @@ pub extern "C" fn dbus_wire_put_signature(out: &mut [u8], writer: &mut Writer, t
 
 /// Puts the padding before a struct or a dict entry after what is spelled. The fields come next.
 ///
-/// [`WHOLE`] if it is put. [`NO_ROOM`] if `out` has fewer bytes than what would be spelled; then all stays. The bytes of
-/// `out` after what is put may change. It allocates nothing. D-Bus Specification, "Marshaling (Wire Format)".
+/// [`WHOLE`] if it is put. [`NO_ROOM`] if `out` has fewer bytes than what would be spelled; then
+/// all stays. The bytes of `out` after what is put may change. It allocates nothing. D-Bus
+/// Specification, "Marshaling (Wire Format)".
 #[unsafe(no_mangle)]
 pub extern "C" fn dbus_wire_begin_struct(out: &mut [u8], writer: &mut Writer) -> u32
     ensures { Appends (with_padding 8) writer.old out.old result writer.new out.new }
@@ -148,12 +153,14 @@ pub extern "C" fn dbus_wire_begin_struct(out: &mut [u8], writer: &mut Writer) ->
     put_to(writer, end)
 }
 
-/// Puts what stands before the elements of an array after what is spelled, and writes its place: padding, four bytes for the length,
-/// and the padding before an element of this alignment, 1, 2, 4 or 8, also if there is none.
+/// Puts what stands before the elements of an array after what is spelled, and writes its place:
+/// padding, four bytes for the length, and the padding before an element of this alignment, 1, 2, 4
+/// or 8, also if there is none.
 ///
-/// [`WHOLE`] if it is put. [`NO_ROOM`] if `out` has fewer bytes than what would be spelled, and [`NO_KIND`] if no type has this
-/// alignment; in these two cases all stays. The bytes of `out` after what is put may change.
-/// It allocates nothing. D-Bus Specification, "Marshaling (Wire Format)".
+/// [`WHOLE`] if it is put. [`NO_ROOM`] if `out` has fewer bytes than what would be spelled, and
+/// [`NO_KIND`] if no type has this alignment; in these two cases all stays. The bytes of `out`
+/// after what is put may change. It allocates nothing. D-Bus Specification, "Marshaling (Wire
+/// Format)".
 #[unsafe(no_mangle)]
 pub extern "C" fn dbus_wire_open_array(
     out: &mut [u8],
@@ -185,11 +192,12 @@ pub extern "C" fn dbus_wire_open_array(
     }
 }
 
-/// Writes the length of the array that was opened at this place: the number of bytes from where its elements begin up to the end of
-/// what is spelled.
+/// Writes the length of the array that was opened at this place: the number of bytes from where its
+/// elements begin up to the end of what is spelled.
 ///
-/// [`WHOLE`] if it is written. [`REFUSED`] if the place does not lie within what is spelled, this not within `out`, or the elements have
-/// 4,294,967,296 bytes or more; then all stays. It allocates nothing. D-Bus Specification, "Marshaling (Wire Format)".
+/// [`WHOLE`] if it is written. [`REFUSED`] if the place does not lie within what is spelled, this
+/// not within `out`, or the elements have 4,294,967,296 bytes or more; then all stays. It allocates
+/// nothing. D-Bus Specification, "Marshaling (Wire Format)".
 #[unsafe(no_mangle)]
 pub extern "C" fn dbus_wire_close_array(out: &mut [u8], writer: &Writer, array: &WireArray) -> u32
     ensures { Closes writer.now array.now out.old result out.new }

@@ -86,14 +86,16 @@ fn spell<A: Allocator + Copy>(
     Ok(out)
 }
 
-/// The message that has exactly these parts: in the byte order that they name, with their body and their header fields. If the fields
-/// of a message are kept, which is in the same order, each stays in its place: one of a known code as the parts have it, or nothing,
-/// and one of another code as it is, as is a UNIX_FDS of 0 of which the parts have 0. Then come the fields that it did not have, in
-/// the order of their codes. `given` says which bytes the places are in.
+/// The message that has exactly these parts: in the byte order that they name, with their body and
+/// their header fields. If the fields of a message are kept, which is in the same order, each stays
+/// in its place: one of a known code as the parts have it, or nothing, and one of another code as
+/// it is, as is a UNIX_FDS of 0 of which the parts have 0. Then come the fields that it did not
+/// have, in the order of their codes. `given` says which bytes the places are in.
 ///
-/// Some message within the limits has these parts exactly if it returns one. Else it returns the [`Refusal`], which says why; that of
-/// `Format` is the fault of the bytes that the parts spell. It takes one block of memory for a header of up to 512 bytes, and a few
-/// for a longer one. D-Bus Specification, "Message Format".
+/// Some message within the limits has these parts exactly if it returns one. Else it returns the
+/// [`Refusal`], which says why; that of `Format` is the fault of the bytes that the parts spell. It
+/// takes one block of memory for a header of up to 512 bytes, and a few for a longer one. D-Bus
+/// Specification, "Message Format".
 pub fn build<A: Allocator + Copy>(
     alloc: A,
     given: &Given<'_>,

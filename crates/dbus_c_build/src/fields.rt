@@ -30,7 +30,8 @@ fn text_type(code: u8) -> u8
     }
 }
 
-/// Appends what stands before a field's value: padding, the code, and the signature of one basic type.
+/// Appends what stands before a field's value: padding, the code, and the signature of one basic
+/// type.
 fn start_field<A: Allocator>(
     out: &mut Vec<u8, A>,
     code: u8,

@@ -1,5 +1,5 @@
-//! All header fields of a message appended: those that are kept, each in its place, and those that are new. D-Bus Specification,
-//! "Header Fields".
+//! All header fields of a message appended: those that are kept, each in its place, and those that
+//! are new. D-Bus Specification, "Header Fields".
 #![tactic(auto)]
 
 ghost use Rattle.std.specs.Prelude.{◌≡◌, ℕ, List, OnOk, IfErr};
@@ -37,7 +37,8 @@ fn stays(parts: &PlacedParts, kept: &Validated, code: u8) -> bool
     true
 }
 
-/// Appends the field from `at` up to `end` as it is. A field begins at a multiple of 8, so its bytes are the same wherever it is.
+/// Appends the field from `at` up to `end` as it is. A field begins at a multiple of 8, so its
+/// bytes are the same wherever it is.
 fn append_same<A: Allocator>(
     out: &mut Vec<u8, A>,
     source: &Source<'_>,
@@ -99,7 +100,8 @@ fn append_kept<A: Allocator>(
     Ok(())
 }
 
-/// Appends the fields that the parts have and the message that is kept does not have, in the order of their codes.
+/// Appends the fields that the parts have and the message that is kept does not have, in the order
+/// of their codes.
 fn append_added<A: Allocator>(
     out: &mut Vec<u8, A>,
     given: &Given<'_>,

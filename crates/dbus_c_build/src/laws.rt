@@ -3,8 +3,9 @@
 
 ghost use Rattle.dbus_c_build.specs.BuildLaws.{OneBuilt};
 
-/// What is built of parts that a message has is that message, byte for byte. So if no fields are kept, a message comes back from its
-/// parts if it has no header fields beside the known ones, in the order of their codes; and each does if its own fields are kept.
+/// What is built of parts that a message has is that message, byte for byte. So if no fields are
+/// kept, a message comes back from its parts if it has no header fields beside the known ones, in
+/// the order of their codes; and each does if its own fields are kept.
 #[tactic(auto, using(crate::proofs::OnlyMessage::one_built))]
 pub fn one_built()
     ensures { OneBuilt }

@@ -49,7 +49,8 @@ pub struct PlacedParts {
     pub sender: Option<Place>,
     /// The SIGNATURE: the types of the values in the body.
     pub signature: Option<Place>,
-    /// The bytes of the body, spelled as they are in a message, where a body begins at a multiple of 8.
+    /// The bytes of the body, spelled as they are in a message, where a body begins at a multiple
+    /// of 8.
     pub body: Place,
 }
 

@@ -39,8 +39,8 @@ fn check_place(bytes: &[u8], place: Place, code: u8) -> Result<(), Refusal>
     Ok(())
 }
 
-/// Whether each place is within the bytes and not too long: if not, the first that is not says why, the body's before those of the
-/// fields in the order of their codes.
+/// Whether each place is within the bytes and not too long: if not, the first that is not says why,
+/// the body's before those of the fields in the order of their codes.
 pub(crate) fn check_places(bytes: &[u8], parts: &PlacedParts) -> Result<(), Refusal>
     ensures good { OnOk result (AreGood bytes.now parts.now) }
     ensures refused { IfErr result (λ why. (kept : List FieldTree) → HaveNoBytes bytes.now kept parts.now why) }

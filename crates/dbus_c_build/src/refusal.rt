@@ -4,19 +4,22 @@ use dbus_body::PutFault;
 use dbus_value_model::Fault;
 use std::alloc::AllocError;
 
-/// Why nothing is built of parts. All but `Memory` say that no message has them. A code is that of a header field; 0 stands for the
-/// body. Of several faults it is the first: a place, or its length, the body's before those of the fields in the order of their codes;
-/// then the length of all fields; then the fault of the bytes.
+/// Why nothing is built of parts. All but `Memory` say that no message has them. A code is that of
+/// a header field; 0 stands for the body. Of several faults it is the first: a place, or its
+/// length, the body's before those of the fields in the order of their codes; then the length of
+/// all fields; then the fault of the bytes.
 #[derive(Clone, Copy, PartialEq, Eq, Debug, Drop)]
 pub enum Refusal {
     /// An allocation failed.
     Memory,
     /// The place of the text of this field, or of the body, is not within the bytes.
     Outside(u8),
-    /// The text of this field, or the body, is longer than any message has one: a SIGNATURE has at most 255 bytes, each other at
-    /// most 134,217,728. Or it is 0, and all header fields together have more than 67,108,864 bytes.
+    /// The text of this field, or the body, is longer than any message has one: a SIGNATURE has at
+    /// most 255 bytes, each other at most 134,217,728. Or it is 0, and all header fields together
+    /// have more than 67,108,864 bytes.
     TooLong(u8),
-    /// The bytes that the parts spell are no message within the limits: their fault, at an offset from the first of them.
+    /// The bytes that the parts spell are no message within the limits: their fault, at an offset
+    /// from the first of them.
     Format(Fault),
 }
 

@@ -11,9 +11,11 @@ use std::alloc::Global;
 use std::marker::Model;
 use std::{mem, ptr};
 
-/// A handle of what it keeps in a block of the heap, or of nothing: then its pointer is null. It may move between threads.
+/// A handle of what it keeps in a block of the heap, or of nothing: then its pointer is null. It
+/// may move between threads.
 ///
-/// Each call that may take or free the block is passed the heap. Dropping a handle frees nothing: [`WireHandle::free`] does.
+/// Each call that may take or free the block is passed the heap. Dropping a handle frees nothing:
+/// [`WireHandle::free`] does.
 #[repr(C)]
 #[derive(Drop)]
 pub struct WireHandle {

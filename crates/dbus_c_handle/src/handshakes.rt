@@ -12,9 +12,10 @@ impl WireHandle {
     ghost use Rattle.dbus_c_auth.specs.Handshakes.{client_made, server_made};
     ghost use Rattle.dbus_c_handle.specs.Handshakes.{Goes, TellsGuid, handshake_of, kept_as};
 
-    /// Keeps the end of a new server, of the GUID that the text spells, which offers these mechanisms. Whether the text spells one;
-    /// if not, the handle keeps nothing. An error if memory runs out: then it keeps nothing either. What it kept before is not freed,
-    /// since C may hand in a handle that was never set.
+    /// Keeps the end of a new server, of the GUID that the text spells, which offers these
+    /// mechanisms. Whether the text spells one; if not, the handle keeps nothing. An error if
+    /// memory runs out: then it keeps nothing either. What it kept before is not freed, since C may
+    /// hand in a handle that was never set.
     pub fn make_server(
         &mut self,
         alloc: Global,
@@ -38,9 +39,9 @@ impl WireHandle {
         }
     }
 
-    /// Keeps the end of a new client that asks for these mechanisms, with this trace of ANONYMOUS. Whether the trace has at most 255
-    /// bytes; if not, the handle keeps nothing. An error if memory runs out: then it keeps nothing either. What it kept before is not
-    /// freed.
+    /// Keeps the end of a new client that asks for these mechanisms, with this trace of ANONYMOUS.
+    /// Whether the trace has at most 255 bytes; if not, the handle keeps nothing. An error if
+    /// memory runs out: then it keeps nothing either. What it kept before is not freed.
     pub fn make_client(
         &mut self,
         alloc: Global,
@@ -64,8 +65,8 @@ impl WireHandle {
         }
     }
 
-    /// Hands the end a piece, and writes what it sends to the room, as [`Handshake::take`] does; `None` if the handle keeps no end, and
-    /// then it stays as it is.
+    /// Hands the end a piece, and writes what it sends to the room, as [`Handshake::take`] does;
+    /// `None` if the handle keeps no end, and then it stays as it is.
     pub fn go_on(
         &mut self,
         alloc: Global,

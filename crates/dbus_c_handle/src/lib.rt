@@ -1,8 +1,8 @@
-//! What C keeps from call to call: a handle of a checker of messages, of match rules or of an end of a handshake in a block
-//! of the heap.
+//! What C keeps from call to call: a handle of a checker of messages, of match rules or of an end
+//! of a handshake in a block of the heap.
 //!
-//! A further thing to keep is a further variant of [`Kept`]: the handle itself stays as it is. D-Bus Specification, "Message
-//! Protocol" and "Match Rules".
+//! A further thing to keep is a further variant of [`Kept`]: the handle itself stays as it is.
+//! D-Bus Specification, "Message Protocol" and "Match Rules".
 #![tactic(auto)]
 
 mod checkers;

@@ -22,9 +22,11 @@ impl WireHandle {
     ghost use Rattle.dbus_view.specs.Views.{Views};
     ghost use Rattle.dbus_c_handle.specs.Rules.{Adds, IsWritten, KeepsAll, given_of, is_shared, rules_of};
 
-    /// Keeps the rule that the text spells, as [`parse_rule`] reads it, beside the rules that it keeps, and returns what stands for the
-    /// rule. Its fault if there is one, or `Memory` if memory runs out or 2^64 - 1 rules were added: then it keeps all that it
-    /// kept. Else a handle that keeps something else frees that. The rules must not be shared: [`WireHandle::are_shared`] says whether they are.
+    /// Keeps the rule that the text spells, as [`parse_rule`] reads it, beside the rules that it
+    /// keeps, and returns what stands for the rule. Its fault if there is one, or `Memory` if
+    /// memory runs out or 2^64 - 1 rules were added: then it keeps all that it kept. Else a handle
+    /// that keeps something else frees that. The rules must not be shared:
+    /// [`WireHandle::are_shared`] says whether they are.
     pub fn add_rule(&mut self, alloc: Global, text: &str) -> Result<RuleHandle, RuleFault>
         requires { is_shared self.old.state ≡ false }
         ensures added { MatchResult result (Adds text.now self.old.state self.new.state)
@@ -38,7 +40,8 @@ impl WireHandle {
         added
     }
 
-    // The box of what the handle kept, or of rules of which there are none yet. From then on it keeps nothing.
+    // The box of what the handle kept, or of rules of which there are none yet. From then on it
+    // keeps nothing.
     pub(crate) fn take_or_make(&mut self, alloc: Global) -> Result<Box<Kept>, AllocError>
         ensures { MatchResult result (λ kept. KeepsAll self.old.state (Some kept.value)) (λ _. KeepsAll self.old.state self.new.state) }
     {
@@ -67,8 +70,8 @@ impl WireHandle {
         was
     }
 
-    /// What stands for each rule that matches the message that the view is of, as [`RuleSet::matching`] says; an error only if memory
-    /// runs out.
+    /// What stands for each rule that matches the message that the view is of, as
+    /// [`RuleSet::matching`] says; an error only if memory runs out.
     pub fn matching(
         &mut self,
         alloc: Global,
@@ -92,8 +95,8 @@ impl WireHandle {
         Ok(found)
     }
 
-    /// The canonical text of the rule that this stands for, as [`rule_text`] writes it, or that memory ran out; `None` if it stands for
-    /// none.
+    /// The canonical text of the rule that this stands for, as [`rule_text`] writes it, or that
+    /// memory ran out; `None` if it stands for none.
     pub fn canonical_text(
         &mut self,
         alloc: Global,
@@ -132,7 +135,8 @@ impl Kept {
     }
 }
 
-// Adds the rule to those that are kept, which are not shared, in place of what is kept otherwise; or all stays.
+// Adds the rule to those that are kept, which are not shared, in place of what is kept otherwise;
+// or all stays.
 fn add_to(alloc: Global, kept: &mut Kept, rule: Rule) -> Result<RuleHandle, RuleFault>
     requires { is_shared (Some kept.old) ≡ false }
     ensures added { MatchResult result (AddsRule rule (Some kept.old) (Some kept.new))

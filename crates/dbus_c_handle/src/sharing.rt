@@ -34,12 +34,13 @@ impl WireHandle {
         are
     }
 
-    /// Shares the rules that it keeps with another handle, which from then on keeps the same rules: what it kept before is freed.
-    /// No rule is copied, and each handle may be used by a thread of its own at the same time. A handle that keeps no rules shares a
-    /// set of none, and frees what else it keeps.
+    /// Shares the rules that it keeps with another handle, which from then on keeps the same rules:
+    /// what it kept before is freed. No rule is copied, and each handle may be used by a thread of
+    /// its own at the same time. A handle that keeps no rules shares a set of none, and frees what
+    /// else it keeps.
     ///
-    /// [`ShareFault`]: both keep what they kept, and rules that were not shared are not shared; or 2^63 handles share the rules, and both
-    /// keep the rules that they kept.
+    /// [`ShareFault`]: both keep what they kept, and rules that were not shared are not shared; or
+    /// 2^63 handles share the rules, and both keep the rules that they kept.
     pub fn share_rules(&mut self, alloc: Global, other: &mut WireHandle) -> Result<(), ShareFault>
         ensures { MatchResult result (λ _. SharesRules self.old.state self.new.state other.new.state)
             (λ fault. SharesNone fault self.old.state self.new.state other.old.state other.new.state) }
@@ -56,7 +57,8 @@ impl WireHandle {
     }
 }
 
-// Makes the rules that are kept shared ones, in place of what is kept otherwise, if there is memory for that. Else all stays.
+// Makes the rules that are kept shared ones, in place of what is kept otherwise, if there is memory
+// for that. Else all stays.
 fn make_shared(alloc: Global, kept: &mut Kept)
     ensures rules { KeepsRules (Some kept.old) (Some kept.new) }
     ensures failed { is_shared (Some kept.new) ≡ false → KeepsAll (Some kept.old) (Some kept.new) }

@@ -11,8 +11,8 @@ use dbus_view::MessageView;
 use std::alloc::{AllocError, Global};
 use std::collections::BTreeMap;
 
-/// How many messages have each name, and how many bytes these have. It holds as much memory as the different names take, and a call
-/// takes time for the logarithm of their number.
+/// How many messages have each name, and how many bytes these have. It holds as much memory as the
+/// different names take, and a call takes time for the logarithm of their number.
 ///
 /// ```rust
 /// use dbus_count::{Counts, Form};
@@ -52,11 +52,12 @@ impl Counts {
         }
     }
 
-    /// Counts the message of the view under each name that it has. An allocation is made only for a name that is new, or longer than
-    /// those before it. D-Bus Specification, "Header Fields".
+    /// Counts the message of the view under each name that it has. An allocation is made only for a
+    /// name that is new, or longer than those before it. D-Bus Specification, "Header Fields".
     ///
-    /// `AllocError`: an allocation failed. Then the message is counted under the names that come before the first one whose count
-    /// takes memory that is not there, in the order type, sender, destination, interface, member, error; and under no other.
+    /// `AllocError`: an allocation failed. Then the message is counted under the names that come
+    /// before the first one whose count takes memory that is not there, in the order type, sender,
+    /// destination, interface, member, error; and under no other.
     pub fn add(&mut self, view: &MessageView) -> Result<(), AllocError>
         ensures counted { (order : Order) (m : MessageTree) → Views view.now order m → OnOk result ((name : List ℕ) →
             counting_of self.new name ≡ with_names (names_of m) (length view.now.bytes) name (counting_of self.old name)) }

@@ -1,4 +1,5 @@
-//! Laws over tables: what a function here ensures is a fact about the definitions, and it does nothing when it runs.
+//! Laws over tables: what a function here ensures is a fact about the definitions, and it does
+//! nothing when it runs.
 #![tactic(auto)]
 
 ghost use Rattle.dbus_count.specs.Laws.{OneTable};

@@ -1,5 +1,5 @@
-//! How many messages have each name, and how many bytes these have: names of types, senders, destinations, interfaces, members and
-//! errors.
+//! How many messages have each name, and how many bytes these have: names of types, senders,
+//! destinations, interfaces, members and errors.
 //!
 //! [`Counts`] keeps the counts, and takes memory only for a name that is new.
 #![tactic(auto)]

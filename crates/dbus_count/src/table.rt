@@ -126,9 +126,10 @@ fn tables_into(out: &mut String, form: Form, counts: &Counts) -> Result<(), Allo
 impl Counts {
     ghost use Rattle.dbus_count.specs.Tables.{AreTables, words};
 
-    /// The tables as text: those of types, senders, destinations, interfaces, members and errors, one after the other. A table has a
-    /// line for each name that was counted, in this form. A name that more messages have comes first; of those that as many have, the
-    /// one whose bytes come first. A member has its interface and a dot before it, if it has one.
+    /// The tables as text: those of types, senders, destinations, interfaces, members and errors,
+    /// one after the other. A table has a line for each name that was counted, in this form. A name
+    /// that more messages have comes first; of those that as many have, the one whose bytes come
+    /// first. A member has its interface and a dot before it, if it has one.
     ///
     /// `AllocError`: an allocation failed.
     pub fn tables(&self, form: Form) -> Result<String, AllocError>

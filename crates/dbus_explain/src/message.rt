@@ -24,12 +24,14 @@ pub struct Refused<'a> {
     pub offset: u64,
 }
 
-/// Appends three lines that explain why a message is refused, each ended by a line feed, with no other one in it.
+/// Appends three lines that explain why a message is refused, each ended by a line feed, with no
+/// other one in it.
 ///
-/// The first has the message's number and where it begins, the place of the fault from there, and its name: a part of the header, a
-/// header field, or the path to a value, such as `body[1][3].key`, in which arrays and structs count from 0. The second has the
-/// bytes around the place in hexadecimal, and the one there between brackets, which are empty at the end of what was read. The third
-/// says what has to be there, and where the D-Bus Specification says so.
+/// The first has the message's number and where it begins, the place of the fault from there, and
+/// its name: a part of the header, a header field, or the path to a value, such as
+/// `body[1][3].key`, in which arrays and structs count from 0. The second has the bytes around the
+/// place in hexadecimal, and the one there between brackets, which are empty at the end of what was
+/// read. The third says what has to be there, and where the D-Bus Specification says so.
 ///
 /// ```text
 ///   message 2 at 96, byte 72: body[1][3].key
@@ -37,8 +39,9 @@ pub struct Refused<'a> {
 ///   a BOOLEAN is 0 or 1 (D-Bus Specification, "Marshaling (Wire Format)")
 /// ```
 ///
-/// Of a place past the bytes, their end is named and shown. Any bytes and any fault are safe, and only the draft allocates. That a path
-/// goes as far as it can, and which rule is said, are not proved. D-Bus Specification, "Message Protocol".
+/// Of a place past the bytes, their end is named and shown. Any bytes and any fault are safe, and
+/// only the draft allocates. That a path goes as far as it can, and which rule is said, are not
+/// proved. D-Bus Specification, "Message Protocol".
 pub fn explain_message<D: Draft>(draft: &mut D, refused: &Refused)
     ensures { (text : List ℕ) × IsExplained refused.now text × D.gains draft.old text draft.new }
 {

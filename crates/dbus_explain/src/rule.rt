@@ -9,9 +9,10 @@ use crate::values::allowed_at;
 use dbus_match::RuleReason;
 use dbus_show::{Draft, write_quoted};
 
-/// Appends three lines that explain why a text spells no rule, for this reason at this place, each ended by a line feed, with no other
-/// one in it: the text, with its escapes, between quotation marks; a `^` below the character at the place, or below the closing mark if
-/// the place is at the text's end or past it; and what may be there.
+/// Appends three lines that explain why a text spells no rule, for this reason at this place, each
+/// ended by a line feed, with no other one in it: the text, with its escapes, between quotation
+/// marks; a `^` below the character at the place, or below the closing mark if the place is at the
+/// text's end or past it; and what may be there.
 ///
 /// ```text
 ///   "type='signal'member='M'"
@@ -19,7 +20,8 @@ use dbus_show::{Draft, write_quoted};
 ///   type takes signal, method_call, method_return or error; a comma comes between two pairs
 /// ```
 ///
-/// Only the draft allocates. Which words the last line has is not proved. D-Bus Specification, "Match Rules".
+/// Only the draft allocates. Which words the last line has is not proved. D-Bus Specification,
+/// "Match Rules".
 pub fn explain_rule<D: Draft>(draft: &mut D, text: &str, at: usize, reason: RuleReason)
     ensures { (explained : List ℕ) × IsExplainedRule text.now at explained ×
         D.gains draft.old explained draft.new }

@@ -1,5 +1,5 @@
-//! Where in the values of a message a fault is. What comes before it is validated, and passed over; only the value in which it lies is
-//! entered. D-Bus Specification, "Marshaling (Wire Format)".
+//! Where in the values of a message a fault is. What comes before it is validated, and passed over;
+//! only the value in which it lies is entered. D-Bus Specification, "Marshaling (Wire Format)".
 #![tactic(auto)]
 
 ghost use Rattle.std.specs.Prelude.{◌≡◌, ℕ, ◌+◌, ◌≤◌, None, IfSome, length, true};
@@ -15,7 +15,8 @@ use dbus_types::{TextKind, boundary, type_end};
 use dbus_value_model::{DEPTH_LIMIT, Limits, Order, gap};
 use dbus_value_validator::{short_text, validate_value};
 
-/// The bytes of a message as far as they were read, their order, and the place of their fault, which is not past them.
+/// The bytes of a message as far as they were read, their order, and the place of their fault,
+/// which is not past them.
 #[derive(Clone, Copy)]
 pub(crate) struct Search<'a> {
     pub(crate) bytes: &'a [u8],
@@ -44,7 +45,8 @@ impl<'a> Search<'a> {
         Some(after)
     }
 
-    /// The place after the padding before a value of a type that begins with this code, if it is at or before the fault.
+    /// The place after the padding before a value of a type that begins with this code, if it is at
+    /// or before the fault.
     pub(crate) fn aligned(&self, place: usize, code: u8) -> Option<usize>
         ensures gap { IfSome result (λ after. (t : TypeTree) → first_code t ≡ code →
             after ≡ place + gap_to (alignment_of t) place) }
@@ -74,7 +76,8 @@ impl<'a> Search<'a> {
         )
     }
 
-    /// How many values of the type are passed from the place on, and where the next one is, in which the fault is.
+    /// How many values of the type are passed from the place on, and where the next one is, in
+    /// which the fault is.
     pub(crate) fn after_values(&self, first: Spot<'a>) -> Option<(usize, Spot<'a>)>
         requires { first.place ≤ self.now.at }
         ensures types { IfSome result (λ r. r.1.types.now ≡ first.entry.types.now) }
@@ -96,7 +99,8 @@ impl<'a> Search<'a> {
         None
     }
 
-    /// Of values of these types, which begin at the place, the one in which the fault is, and its number from 0.
+    /// Of values of these types, which begin at the place, the one in which the fault is, and its
+    /// number from 0.
     pub(crate) fn among(&self, values: Spot<'a>) -> Option<(usize, Spot<'a>)>
         requires { values.place ≤ self.now.at }
         ensures found { IfSome result (λ r. (ts : TypeTrees) → sigs ts ≡ values.entry.types.now → AreShaped ts →
@@ -124,7 +128,8 @@ impl<'a> Search<'a> {
         None
     }
 
-    /// The text of this kind whose length is at the place, and the place after it, if it is valid and ends at or before the fault.
+    /// The text of this kind whose length is at the place, and the place after it, if it is valid
+    /// and ends at or before the fault.
     pub(crate) fn typed(&self, place: usize, kind: TextKind) -> Option<Spot<'a>>
         ensures typed { IfSome result (λ spot. IsTyped self.now.bytes.now self.now.at kind place spot.types.now spot.place) }
         ensures within { IfSome result (λ spot. spot.place ≤ self.now.at) }

@@ -6,7 +6,8 @@ ghost use Rattle.dbus_show.specs.Laws.{line_feeds};
 
 use dbus_match::RuleReason;
 
-// A key with its `=`, and what it takes; and the same if the comma after its value is missing, so that this goes on in the next pair.
+// A key with its `=`, and what it takes; and the same if the comma after its value is missing, so
+// that this goes on in the next pair.
 macro_rules! takes {
     ($key:literal, $values:literal) => {
         (

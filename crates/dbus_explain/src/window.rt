@@ -29,7 +29,8 @@ fn write_bytes<D: Draft>(draft: &mut D, bytes: &[u8])
     }
 }
 
-/// Appends bytes of which the first is between brackets, and each other after a space; if there is none, the brackets.
+/// Appends bytes of which the first is between brackets, and each other after a space; if there is
+/// none, the brackets.
 fn write_marked<D: Draft>(draft: &mut D, bytes: &[u8])
     ensures { D.gains draft.old (marked bytes.now) draft.new }
 {
@@ -44,7 +45,8 @@ fn write_marked<D: Draft>(draft: &mut D, bytes: &[u8])
     }
 }
 
-/// Appends the bytes around a place: at most eight before it, the byte there between brackets, and at most seven after that.
+/// Appends the bytes around a place: at most eight before it, the byte there between brackets, and
+/// at most seven after that.
 pub(crate) fn write_window<D: Draft>(draft: &mut D, bytes: &[u8], at: usize)
     requires { at ≤ length bytes.now }
     ensures { D.gains draft.old (window bytes.now at) draft.new }

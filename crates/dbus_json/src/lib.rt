@@ -1,7 +1,7 @@
 //! Messages as lines of JSON, from their bytes.
 //!
-//! A line is one object. It is written by a walk along the signatures of the message's values, and no value is built: no memory is
-//! taken but that of the text.
+//! A line is one object. It is written by a walk along the signatures of the message's values, and
+//! no value is built: no memory is taken but that of the text.
 #![tactic(auto)]
 
 mod doubles;

@@ -49,12 +49,14 @@ fn write_start<D: Draft>(draft: &mut D, validated: &Validated, number: u64, offs
     write_integer(draft, validated.serial);
 }
 
-/// Appends the message that the bytes begin with as a line of JSON, which ends in a line feed. It was validated in them under the limits.
+/// Appends the message that the bytes begin with as a line of JSON, which ends in a line feed. It
+/// was validated in them under the limits.
 ///
-/// The line is one object: `number` and `offset` as they are given, which are the message's number, counted from 1, and where it
-/// begins in the input; its length in bytes, its order as `"l"` or `"B"`, its type by name, its flags and its serial; each known
-/// header field by its name; all other fields in the array `fields`, and the values of the body in the array `body`. No message is
-/// built from the bytes, and only the draft allocates.
+/// The line is one object: `number` and `offset` as they are given, which are the message's number,
+/// counted from 1, and where it begins in the input; its length in bytes, its order as `"l"` or
+/// `"B"`, its type by name, its flags and its serial; each known header field by its name; all
+/// other fields in the array `fields`, and the values of the body in the array `body`. No message
+/// is built from the bytes, and only the draft allocates.
 ///
 /// ```text
 /// {"number":1,"offset":0,"length":96,"order":"l","type":"signal","flags":0,"serial":2,"path":"/a","fields":[],"body":["hi",[1,2]]}

@@ -1,12 +1,13 @@
-//! Laws of messages, of what bytes are to a decoder: whole, refused or partial, and of the length that they state. Each
-//! function's contract is a law; it does nothing when it runs.
+//! Laws of messages, of what bytes are to a decoder: whole, refused or partial, and of the length
+//! that they state. Each function's contract is a law; it does nothing when it runs.
 #![tactic(auto)]
 
 ghost use Rattle.dbus_header.specs.OutcomeLaws.{OneMessage, OneLength, SomeOutcome, OneOutcome, OneWhole, OneFault, WholeForGood, RefusedForGood, WiderWhole, ReadsMessages, ReadsMessageFaults};
 ghost use Rattle.dbus_message_model.specs.LimitLaws.{WiderLimits, ValidWithin};
 ghost use Rattle.dbus_header.specs.StatedLaws.{StatedHolds, WholeStates, OneStated, SomeStated};
 
-/// No message's bytes begin another message's, and bytes spell at most one message in at most one order.
+/// No message's bytes begin another message's, and bytes spell at most one message in at most one
+/// order.
 pub fn one_message()
     ensures { OneMessage }
 {}
@@ -46,8 +47,8 @@ pub fn refused_for_good()
     ensures { RefusedForGood }
 {}
 
-/// Whatever follows bytes for which `stated_length` gives a length, a message that they begin with has this number of bytes, and all
-/// are there.
+/// Whatever follows bytes for which `stated_length` gives a length, a message that they begin with
+/// has this number of bytes, and all are there.
 pub fn stated_holds()
     ensures { StatedHolds }
 {}
@@ -77,7 +78,8 @@ pub fn wider_whole()
     ensures { WiderWhole }
 {}
 
-/// The messages that are valid within limits are the valid ones that keep them, as `Message::within` says.
+/// The messages that are valid within limits are the valid ones that keep them, as
+/// `Message::within` says.
 pub fn valid_within()
     ensures { ValidWithin }
 {}

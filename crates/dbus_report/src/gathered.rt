@@ -3,8 +3,8 @@
 
 ghost use Rattle.std.specs.Prelude.{◌≤◌};
 
-/// What is gathered: up to 16,384 bytes, in the value itself. An `ArrayVec` blanks what it gives up, which costs as much as
-/// writing it.
+/// What is gathered: up to 16,384 bytes, in the value itself. An `ArrayVec` blanks what it gives
+/// up, which costs as much as writing it.
 #[derive(Drop)]
 pub struct Gathered {
     bytes: [u8; 16_384],

@@ -10,7 +10,8 @@ use dbus_stream::{Sink, WrittenOnly, write_all};
 #[derive(Clone, Copy, Debug, PartialEq, Eq)]
 pub struct Unwritten;
 
-// Gathers the bytes. If there is no room for them, what is gathered is written, and they are after it.
+// Gathers the bytes. If there is no room for them, what is gathered is written, and they are after
+// it.
 fn gather<W: Sink>(bytes: &[u8], gathered: &mut Gathered, first: &mut W) -> Result<(), Unwritten>
     ensures { Gathers W.held W.failures bytes.now (gathered_bytes gathered.old) (gathered_bytes gathered.new) first.old
         first.new result }

@@ -6,7 +6,8 @@ use crate::ending::Cause;
 use dbus_value_model::Fault;
 use std::alloc::{AllocError, Allocator};
 
-/// What is written of a fault after messages of this size: `refused at P: NAME` and LF. The place counts from the start of the input.
+/// What is written of a fault after messages of this size: `refused at P: NAME` and LF. The place
+/// counts from the start of the input.
 ///
 /// `AllocError`: an allocation failed.
 pub fn refused_line<A: Allocator + Copy>(

@@ -9,7 +9,8 @@ use crate::gathering::write_after;
 use dbus_show::Draft;
 use dbus_stream::Sink;
 
-/// A text that goes to a writer by what is gathered for it. Once a write failed, nothing more is written.
+/// A text that goes to a writer by what is gathered for it. Once a write failed, nothing more is
+/// written.
 #[derive(Drop)]
 pub struct Page<'a, W> {
     /// What is gathered for the writer.

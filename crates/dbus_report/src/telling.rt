@@ -22,8 +22,9 @@ pub struct Refusal {
     pub fault: Fault,
 }
 
-/// What is told of a message that is refused: its line, which says which one it is if the run goes on after it, and, if that is wanted, the
-/// lines that explain it by the bytes that the reader keeps.
+/// What is told of a message that is refused: its line, which says which one it is if the run goes
+/// on after it, and, if that is wanted, the lines that explain it by the bytes that the reader
+/// keeps.
 ///
 /// `AllocError`: an allocation failed.
 pub fn refusal_text<R: Source, A: Allocator + Copy>(

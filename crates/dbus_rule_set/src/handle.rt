@@ -1,7 +1,8 @@
 //! Handles of rules.
 #![tactic(auto)]
 
-/// What stands for a rule in a [`crate::RuleSet`], from the call that adds the rule on. A set gives no handle twice.
+/// What stands for a rule in a [`crate::RuleSet`], from the call that adds the rule on. A set gives
+/// no handle twice.
 ///
 /// Handles are ordered; their order says nothing of the order in which rules were added.
 #[repr(C)]

@@ -1,8 +1,9 @@
-//! Sets of match rules of D-Bus, with an index: which of many rules match a message. D-Bus Specification, "Match Rules".
+//! Sets of match rules of D-Bus, with an index: which of many rules match a message. D-Bus
+//! Specification, "Match Rules".
 //!
-//! [`RuleSet::add`] keeps a rule and returns its [`RuleHandle`], [`RuleSet::matching`] gives the handles of the rules that match a
-//! message, and [`RuleSet::remove`] removes one. A rule matches exactly if `dbus_match::matches_view` says so. An example is at
-//! [`RuleSet`].
+//! [`RuleSet::add`] keeps a rule and returns its [`RuleHandle`], [`RuleSet::matching`] gives the
+//! handles of the rules that match a message, and [`RuleSet::remove`] removes one. A rule matches
+//! exactly if `dbus_match::matches_view` says so. An example is at [`RuleSet`].
 #![tactic(auto)]
 
 mod bucket;

@@ -22,11 +22,12 @@ use dbus_view::MessageView;
 use std::alloc::{AllocError, AllocFailed, Allocator, Global};
 use std::collections::BTreeMap;
 
-/// Match rules, each with a handle. Those that match a message are found without asking each of them.
-/// D-Bus Specification, "Match Rules".
+/// Match rules, each with a handle. Those that match a message are found without asking each of
+/// them. D-Bus Specification, "Match Rules".
 ///
-/// The index is by `path`, `interface`, `member` and `arg0`: of the rules that have the same of these keys, only those that ask
-/// for the message's own texts are looked at. Rules that have none of the four are looked at for each message.
+/// The index is by `path`, `interface`, `member` and `arg0`: of the rules that have the same of
+/// these keys, only those that ask for the message's own texts are looked at. Rules that have none
+/// of the four are looked at for each message.
 ///
 /// This keeps a rule, and asks whether it is among those that match a message:
 ///
@@ -71,7 +72,8 @@ impl<A: Allocator> RuleSet<A> {
 
     /// Adds the rule, and returns its handle, which the set did not give before.
     ///
-    /// Returns an error, with the rule, only if an allocation failed or the set has given 2^64 - 1 handles. It then holds what it held.
+    /// Returns an error, with the rule, only if an allocation failed or the set has given 2^64 - 1
+    /// handles. It then holds what it held.
     ///
     /// ```rust
     /// use dbus_match::parse_rule;
@@ -109,7 +111,8 @@ impl<A: Allocator> RuleSet<A> {
         }
     }
 
-    /// Removes the rule that the handle stands for, and returns it; `None` if it stands for none. It allocates nothing.
+    /// Removes the rule that the handle stands for, and returns it; `None` if it stands for none.
+    /// It allocates nothing.
     ///
     /// ```rust
     /// use dbus_match::{parse_rule, rule_text};
@@ -159,10 +162,12 @@ impl<A: Allocator> RuleSet<A> {
         self.rules.is_empty()
     }
 
-    /// Puts the handles of the rules that match the message at the end of `found`: of each once, in the order of the handles.
+    /// Puts the handles of the rules that match the message at the end of `found`: of each once, in
+    /// the order of the handles.
     ///
-    /// A rule matches as [`dbus_match::matches_view`] says, with these owners of well-known names. Returns an error only if `found` has to
-    /// grow and the allocation fails; `found` then is as it was.
+    /// A rule matches as [`dbus_match::matches_view`] says, with these owners of well-known names.
+    /// Returns an error only if `found` has to grow and the allocation fails; `found` then is as it
+    /// was.
     ///
     /// ```rust
     /// use dbus_match::{Owner, parse_rule};

@@ -40,7 +40,8 @@ fn ask_each<A: Allocator>(
     Ok(())
 }
 
-/// Puts the handles of the rules that match at the end of `found`. So many handles were given, for these masks.
+/// Puts the handles of the rules that match at the end of `found`. So many handles were given, for
+/// these masks.
 #[tactic(auto, using(crate::proofs::Begins::begins_on))]
 pub(crate) fn search<A: Allocator>(
     rules: &BTreeMap<RuleHandle, Rule<A>, A>,

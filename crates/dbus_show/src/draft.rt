@@ -5,8 +5,8 @@ ghost use Rattle.std.specs.Prelude.{◌<◌, ◌∷◌, List, [], ◌++◌, ℕ}
 
 use std::str;
 
-/// What gains a text piece by piece. If it cannot take a piece, it takes nothing more, and each writer returns as ever, so that
-/// only its maker asks at the end whether it has all.
+/// What gains a text piece by piece. If it cannot take a piece, it takes nothing more, and each
+/// writer returns as ever, so that only its maker asks at the end whether it has all.
 pub trait Draft {
     // It gained a text.
     ghost gains: { Self → List ℕ → Self → Type 0 };

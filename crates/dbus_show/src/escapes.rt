@@ -57,7 +57,8 @@ fn write_escaped<D: Draft>(draft: &mut D, text: &str, mark: &str)
     draft.push_str(&text[start..]);
 }
 
-/// Appends a text between quotation marks. A byte below 32, or 127, is written as the mark and two hexadecimal digits.
+/// Appends a text between quotation marks. A byte below 32, or 127, is written as the mark and two
+/// hexadecimal digits.
 pub fn write_quoted_by<D: Draft>(draft: &mut D, text: &str, mark: &str)
     ensures { D.gains draft.old (quoted_by mark.now text.now) draft.new }
 {

@@ -8,7 +8,8 @@ pub fn one_line_for_a_value()
     ensures { NoneInValues }
 {}
 
-/// The text of a message has a line feed for its header's line and one for each value of its body, and no other.
+/// The text of a message has a line feed for its header's line and one for each value of its body,
+/// and no other.
 pub fn one_line_for_each_value()
     ensures { OneForEachLine }
 {}

@@ -1,8 +1,10 @@
-//! What texts are made of, and the text of a message, a line for the header and one for each value of the body, as a definition.
+//! What texts are made of, and the text of a message, a line for the header and one for each value
+//! of the body, as a definition.
 //!
-//! Texts are written to a [`Draft`]: a string ([`StringDraft`]) or the output. The text is a function of the message, which `specs/`
-//! states; `dbus_show_view` writes it. `dbus-wire show` prints it, and its manual page describes it. The names of the parts are those
-//! of the D-Bus Specification, "Message Format" and "Header Fields".
+//! Texts are written to a [`Draft`]: a string ([`StringDraft`]) or the output. The text is a
+//! function of the message, which `specs/` states; `dbus_show_view` writes it. `dbus-wire show`
+//! prints it, and its manual page describes it. The names of the parts are those of the D-Bus
+//! Specification, "Message Format" and "Header Fields".
 #![tactic(auto)]
 
 mod draft;

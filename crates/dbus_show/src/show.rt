@@ -25,10 +25,11 @@ pub fn write_kind<D: Draft>(draft: &mut D, kind: u8)
     }
 }
 
-/// Appends the line of a message's header as far as its fields: `#`, the number, the byte order as `l` or `B`, the message type, the
-/// serial and the flags, as in `#1 l signal serial=2 flags=01`.
+/// Appends the line of a message's header as far as its fields: `#`, the number, the byte order as
+/// `l` or `B`, the message type, the serial and the flags, as in `#1 l signal serial=2 flags=01`.
 ///
-/// The number is that of the message among those that are shown. D-Bus Specification, "Message Format".
+/// The number is that of the message among those that are shown. D-Bus Specification, "Message
+/// Format".
 pub fn write_start<D: Draft>(
     draft: &mut D,
     order: Order,

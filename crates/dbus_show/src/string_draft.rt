@@ -13,8 +13,8 @@ const KEPT: usize = 1024;
 
 /// A text that is written piece by piece into a string of the caller.
 ///
-/// Pieces are gathered, since many short ones cost the string more than a long one. Once an allocation failed, the string gets
-/// nothing more, which [`StringDraft::finish`] reports.
+/// Pieces are gathered, since many short ones cost the string more than a long one. Once an
+/// allocation failed, the string gets nothing more, which [`StringDraft::finish`] reports.
 #[derive(Drop)]
 pub struct StringDraft<'a, A: Allocator> {
     /// The string that is written to.

@@ -12,7 +12,8 @@ use dbus_handshake_input::{HandshakeSize, LineVisitor};
 use dbus_show::{Draft, write_integer};
 use std::alloc::Allocator;
 
-/// Appends a line of text to a draft for each line of a handshake that it takes: the offset, the line and what it says.
+/// Appends a line of text to a draft for each line of a handshake that it takes: the offset, the
+/// line and what it says.
 ///
 /// ```text
 /// 1: "AUTH EXTERNAL 31303030": asks for "EXTERNAL" as "1000"

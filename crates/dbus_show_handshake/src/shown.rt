@@ -15,7 +15,8 @@ fn has_other(bytes: &[u8]) -> bool
     bytes.iter().any(|byte| *byte > 127)
 }
 
-/// Appends bytes: as a text between quotation marks if all are ASCII, or else two lower case digits for each.
+/// Appends bytes: as a text between quotation marks if all are ASCII, or else two lower case digits
+/// for each.
 pub(crate) fn write_shown<D: Draft>(draft: &mut D, bytes: &[u8])
     ensures { D.gains draft.old (shown bytes.now) draft.new }
 {

@@ -37,7 +37,8 @@ impl FieldForm for Named {
     }
 }
 
-/// Appends a text or a UINT32 alone, and of any other type the text of the value: the offset after the value.
+/// Appends a text or a UINT32 alone, and of any other type the text of the value: the offset after
+/// the value.
 fn write_bare<D: Draft>(draft: &mut D, source: &Source<'_>, spot: &Spot<'_>) -> usize
     requires stands { StandsThere source.now spot.now }
     requires noted { AreLengths spot.now.types.now spot.now.lengths.now }

@@ -12,8 +12,8 @@ use dbus_show::Draft;
 use dbus_validate::Whole;
 use dbus_walk::Spot;
 
-/// Appends the values of a message's body in a form: the first after a lead, and each other after a separator.
-/// D-Bus Specification, "Message Format".
+/// Appends the values of a message's body in a form: the first after a lead, and each other after a
+/// separator. D-Bus Specification, "Message Format".
 pub fn write_body<F: ValueForm, D: Draft>(
     draft: &mut D,
     whole: &Whole<'_>,

@@ -10,7 +10,8 @@ ghost use Rattle.dbus_value_text.specs.Gaining.{GainsSome};
 use dbus_show::Draft;
 use dbus_walk::{Source, Spot};
 
-/// A form in which header fields are written: which fields it takes, by their codes, and what it writes of each.
+/// A form in which header fields are written: which fields it takes, by their codes, and what it
+/// writes of each.
 pub trait FieldForm {
     // It takes fields with this code.
     ghost is_taken: { ℕ → Bool };
@@ -22,7 +23,8 @@ pub trait FieldForm {
     fn takes(code: u8) -> bool
         ensures { result ≡ is_taken code };
 
-    /// Appends the field that has this code, and whose value is at a spot: the offset after the value.
+    /// Appends the field that has this code, and whose value is at a spot: the offset after the
+    /// value.
     fn field<D: Draft>(draft: &mut D, source: &Source<'_>, code: u8, spot: &Spot<'_>) -> usize
         requires taken { is_taken code ≡ true }
         requires stands { StandsThere source.now spot.now }

@@ -12,8 +12,8 @@ use dbus_show::Draft;
 use dbus_validate::Whole;
 use dbus_walk::{FIELDS_START, Spot, field_at, fields_end, lengths_of, skip_value};
 
-/// Appends the header fields of a message that a form takes, in their order: the first after a lead, and each other after a
-/// separator. D-Bus Specification, "Header Fields".
+/// Appends the header fields of a message that a form takes, in their order: the first after a
+/// lead, and each other after a separator. D-Bus Specification, "Header Fields".
 pub fn write_fields<F: FieldForm, D: Draft>(
     draft: &mut D,
     whole: &Whole<'_>,

@@ -1,7 +1,8 @@
 //! The parts of a message as text, from its bytes.
 //!
-//! One walk along the signatures of the values writes them in a form, as lines for a reader or JSON. What a form is to say is its
-//! [`ValueForm`], and of header fields its [`FieldForm`]. No value is built: only the text is allocated.
+//! One walk along the signatures of the values writes them in a form, as lines for a reader or
+//! JSON. What a form is to say is its [`ValueForm`], and of header fields its [`FieldForm`]. No
+//! value is built: only the text is allocated.
 #![tactic(auto)]
 
 mod body;

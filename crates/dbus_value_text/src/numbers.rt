@@ -10,8 +10,9 @@ ghost use Rattle.dbus_show.specs.ShownValues.{number_text};
 use dbus_show::{Draft, write_hex, write_integer};
 use dbus_value_model::Order;
 
-/// Appends the number at `at`, of the type that has this code, as it is shown: an integer in decimal, a BOOLEAN as `true` or
-/// `false`, a DOUBLE as 16 hexadecimal digits. D-Bus Specification, "Basic types".
+/// Appends the number at `at`, of the type that has this code, as it is shown: an integer in
+/// decimal, a BOOLEAN as `true` or `false`, a DOUBLE as 16 hexadecimal digits. D-Bus Specification,
+/// "Basic types".
 pub fn write_number_at<D: Draft>(draft: &mut D, bytes: &[u8], at: usize, order: Order, code: u8)
     requires { (k : NumberCode) → number_code k ≡ code →
         at + width k ≤ length bytes.now }

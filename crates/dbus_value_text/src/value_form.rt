@@ -16,10 +16,11 @@ ghost use Rattle.dbus_value_text.specs.Forms.{AreTexts, IsListed, joined, told_t
 use dbus_show::Draft;
 use dbus_walk::{Container, Source};
 
-/// A form in which values are written: what it writes of a number, of a text and of an array of BYTE, and what comes around and
-/// between the parts of a container.
+/// A form in which values are written: what it writes of a number, of a text and of an array of
+/// BYTE, and what comes around and between the parts of a container.
 ///
-/// Its members say which texts a value may have, and its law says that the text of a container is made of those of its parts.
+/// Its members say which texts a value may have, and its law says that the text of a container is
+/// made of those of its parts.
 pub trait ValueForm {
     // This may be the text of the value.
     ghost is_text: { ValueTree → List ℕ → Type 0 };
@@ -52,7 +53,8 @@ pub trait ValueForm {
         ensures written { (xs : ValueTrees) → bytes_in xs ≡ bytes.now →
             GainsSome D.gains draft.old (is_text (ArrayValue (NumberType BYTE) xs)) draft.new };
 
-    /// Appends what comes before the parts of a container. `types` are those of its parts, or of an array its own.
+    /// Appends what comes before the parts of a container. `types` are those of its parts, or of an
+    /// array its own.
     fn open<D: Draft>(draft: &mut D, kind: Container, types: &[u8])
         requires ascii { (kind ≡ Variant) ⊎ (kind ≡ Array) → IsAscii types.now }
         ensures written { (v : ValueTree) → IsOf kind v → told_types v ≡ types.now →

@@ -1,4 +1,5 @@
-//! Values of any type as text, from a message's bytes. D-Bus Specification, "Marshaling (Wire Format)".
+//! Values of any type as text, from a message's bytes. D-Bus Specification, "Marshaling (Wire
+//! Format)".
 #![tactic(auto)]
 
 ghost use Rattle.std.specs.Prelude.{◌≡◌, ℕ, List};
