@@ -104,11 +104,10 @@ def try_questions(folder):
         ran = subprocess.run(words, cwd=folder, capture_output=True, text=True, errors="replace")
     if ran.returncode == NO_ANSWER:
         return "too long", f"no end within {SECONDS} s with checks: make test runs it proved"
-    outputs = re.split(r"^== \d+$", ran.stdout, flags=re.MULTILINE)[1:]
+    outputs = re.split(r"^== \d+\n", ran.stdout, flags=re.MULTILINE)[1:]
     if len(outputs) != len(shares):
         return "failed", f"{ran.stdout[-1000:]}{ran.stderr}"
-    answers = [re.findall(r"^\| (.*)$", output, flags=re.MULTILINE) for output in outputs]
-    told = [line for share, lines in zip(shares, answers) for line in differences(share, lines)]
+    told = [line for share, output in zip(shares, outputs) for line in differences(share, output.split("\n")[:-1])]
     if told:
         return "failed", "\n".join(told[:LINES_SHOWN])
     return "passed", f"{sum(len(it.questions) for share in shares for it in share)} questions"
