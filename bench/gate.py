@@ -5,18 +5,20 @@
   commit's hash draws;
 * with --all, all of them.
 
-Then it asks the programs that answer questions on the cases, as each of two compilers built them there (cases/README.md).
+Then it asks the programs that answer questions on the cases, and makes the runs that are stored in runs/ of programs, as each of two compilers
+built these there (cases/README.md).
 
 A crate that is due and is not tried stays due, and is named: `bench/wrong_bodies.py --due` tries all of them. So what a landing costs has a bound.
 
 So the libraries are proved once for all of them. Beyond what `rt ci` says, each wrong body has to be refused at the goal that it names. The last
-line says how many crates, programs of questions and wrong bodies passed, and how many failed; the exit status is 1 if one did.
+line says how many crates, programs of questions, stored runs and wrong bodies passed, and how many failed; the exit status is 1 if one did.
 """
 
 import sys
 
 from crate_list import asked_programs
 from edits import all_edits, edits_in, find_faults
+from stored_runs import is_right, stored_runs
 from trying import copy_with, drawn_edits, due_crates, hold, is_count, note_tried, refusals_in, run_in, tell
 
 DRAWN = 5
@@ -54,6 +56,17 @@ def ask_programs(copy):
     return outcomes
 
 
+def make_runs(copy):
+    """Of each stored run of a program, in each build, whether it went right."""
+    outcomes = []
+    for name, run in stored_runs():
+        for build in BUILDS:
+            program = copy / "crates" / name / "out" / f"{name}{build}"
+            outcomes.append(program.exists() and is_right(program, run))
+            print(f"{name}{build} {run.name}: {'right' if outcomes[-1] else 'wrong, or is not there'}", flush=True)
+    return outcomes
+
+
 def main(*words):
     if words not in ((), ("--all",)):
         print(__doc__, file=sys.stderr)
@@ -64,7 +77,7 @@ def main(*words):
     edits, left = chosen_edits(words)
     with copy_with(edits) as copy:
         status, lines = run_in(copy, "rt", "ci")
-        answered = ask_programs(copy)
+        answered = ask_programs(copy) + make_runs(copy)
     faults = hold(edits, refusals_in(lines))
     note_tried(edits, faults)
     tell(edits, faults)

@@ -3,7 +3,7 @@
 
 A crate with tests is run by `rt try --test`. A program beside whose src/ is a file stdout is run by `rt try` with its files args and stdin
 and the files of its folder data/, and has to write what stdout has and to end with the status of its file status. A program that answers
-questions is asked on all cases (cases/run.py). As many runs go side by side as there are processors.
+questions is asked on all cases (cases/run.py), and what is stored in a program's runs/ is run too (stored_runs.py). As many runs go side by side as there are processors.
 The exit status is 1 if one failed, or did not end within the time limit: the last line names those.
 """
 
@@ -113,6 +113,13 @@ def try_questions(folder):
     return "passed", f"{sum(len(it.questions) for share in shares for it in share)} questions"
 
 
+def try_runs(folder):
+    """The same of the runs that are stored in runs/."""
+    words = ["rt", "try", "--seconds", SECONDS, "--cases", "runs"]
+    ran = subprocess.run(words, cwd=folder, capture_output=True, text=True, errors="replace")
+    return ("failed", ran.stdout + ran.stderr) if ran.returncode else ("passed", "its stored runs too")
+
+
 def run(name):
     folder, began = folder_of(name), time.monotonic()
     if name in asked_programs():
@@ -120,6 +127,8 @@ def run(name):
     else:
         way = try_whole if (folder / "src" / "main.rt").exists() else try_tests
     how, said = way(folder)
+    if how == "passed" and (folder / "runs").exists():
+        how, said = try_runs(folder)
     print(f"{name} {how} in {time.monotonic() - began:.0f} s: {said}", flush=True)
     return how
 

@@ -1,31 +1,21 @@
-//! `example_client`: a client of a message bus, whose connection to it is standard input and output.
+//! A client of a message bus, whose connection to it is standard input and output.
 //!
 //! It does the client's side of the handshake, calls `Hello` and then `ListNames`, reports on standard error the name that it
 //! got and the names that are on the bus, and ends.
 //!
-//! It authenticates by EXTERNAL, and by ANONYMOUS if the bus rejects that. The argument is the number of the user that it
-//! comes as; without one it is the user that the transport reports. If an answer did not come, standard error says why,
-//! and the exit status is 1.
-#![tactic(auto)]
+//! It authenticates by EXTERNAL, and by ANONYMOUS if the bus rejects that. It comes as the user that is given, or else as the
+//! one that the transport reports. If an answer did not come, standard error says why, and the exit status is 1.
 
-mod session;
-
+use crate::session::Session;
 use anyhow::{Result, bail};
 use dbus_auth::Mechanism;
 use dbus_message::{Message, arg, field, field_code};
 use dbus_value::Value;
-use session::Session;
-use std::env;
+use std::alloc::Global;
 use std::io::{Read, Write};
 
-// The mechanisms that are tried, for the user that the first argument names.
-fn mechanisms(rt: &HostRuntime) -> Result<Vec<Mechanism>> {
-    let alloc = rt.alloc();
-    let words: Vec<String> = env::args(rt)?.collect(alloc)?;
-    let user = match words.get(1) {
-        Some(word) => Some(word.as_str().parse()?),
-        None => None,
-    };
+// The mechanisms that are tried, for this user.
+fn mechanisms(alloc: Global, user: Option<u32>) -> Result<Vec<Mechanism>> {
     let trace = Vec::from_slice(alloc, b"example")?;
     Ok(vec![in alloc; Mechanism::External(user), Mechanism::Anonymous(trace)]?)
 }
@@ -52,11 +42,12 @@ fn tell(rt: &HostRuntime, reply: &Message) -> Result<()> {
     Ok(())
 }
 
-fn main(rt: HostRuntime) -> Result<()> {
+/// Lists the names on the bus on standard input and output, for this user.
+pub(crate) fn run(rt: &HostRuntime, user: Option<u32>) -> Result<()> {
     let alloc = rt.alloc();
     let mut bytes = Vec::new(alloc);
-    let mut session = Session::start(alloc, mechanisms(&rt)?, &mut bytes)?;
-    send(&rt, &bytes)?;
+    let mut session = Session::start(alloc, mechanisms(alloc, user)?, &mut bytes)?;
+    send(rt, &bytes)?;
     let mut buffer = [0; 4096];
     for _ in 0..u64::MAX {
         let count = rt.stdin().read(&mut buffer)?;
@@ -65,9 +56,9 @@ fn main(rt: HostRuntime) -> Result<()> {
         }
         bytes.clear();
         let reply = session.take(&buffer[..count], &mut bytes)?;
-        send(&rt, &bytes)?;
+        send(rt, &bytes)?;
         if let Some(reply) = reply {
-            return tell(&rt, &reply);
+            return tell(rt, &reply);
         }
     }
     bail!("the bus left before it answered")

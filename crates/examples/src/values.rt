@@ -1,9 +1,8 @@
-//! `example_values`: prints the values of the messages on standard input, in place. No tree is built but of a
-//! property that is a container.
+//! Prints the values of the messages on standard input, in place. No tree is built but of a property that is a
+//! container.
 //!
 //! Of `NameOwnerChanged` it prints the name and its owners, of `PropertiesChanged` each property and its new value, and of any
 //! other message the numbers of each array of UINT32 in its body.
-#![tactic(auto)]
 
 use anyhow::{Result, bail};
 use dbus_message::{
@@ -105,7 +104,8 @@ fn print_message(rt: &HostRuntime, alloc: Global, view: &MessageView) -> Result<
     }
 }
 
-fn main(rt: HostRuntime) -> Result<()> {
+/// Prints the values of the messages on standard input.
+pub(crate) fn run(rt: &HostRuntime) -> Result<()> {
     let alloc = rt.alloc();
     let mut bytes = Vec::new(alloc);
     rt.stdin().read_to_end(&mut bytes)?;
@@ -121,7 +121,7 @@ fn main(rt: HostRuntime) -> Result<()> {
         let Some((message, more)) = rest.split_at_checked(length as usize) else {
             bail!("the input ends within a message");
         };
-        print_message(&rt, alloc, &MessageView::of(message)?)?;
+        print_message(rt, alloc, &MessageView::of(message)?)?;
         rest = more;
     }
     Ok(())

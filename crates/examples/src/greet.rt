@@ -1,15 +1,15 @@
-//! `example_greet`: reads a message from standard input, and writes a call to its sender to standard output.
+//! Reads a message from standard input, and writes a call to its sender to standard output.
 //!
 //! The call is of `org.example.Greeter.Greet`, on the path that the message was for, with the message's member as its
 //! argument, and in the message's byte order. If there is none to be made, standard error says why, and the exit status
 //! is 1.
-#![tactic(auto)]
 
 use anyhow::{Context, Result, bail};
 use dbus_message::{Answer, Compose, Message, decode, encode};
 use std::io::{Read, Write};
 
-fn main(rt: HostRuntime) -> Result<()> {
+/// Greets the sender of the message on standard input.
+pub(crate) fn run(rt: &HostRuntime) -> Result<()> {
     let alloc = rt.alloc();
     let mut bytes = Vec::new(alloc);
     rt.stdin().read_to_end(&mut bytes)?;
