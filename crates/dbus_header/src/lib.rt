@@ -2,7 +2,8 @@
 //! what bytes begin with. D-Bus Specification, "Message Format".
 //!
 //! [`stated_length`] returns the length of a message, from its first 16, so that a caller knows how many to read;
-//! `crates/example_values` uses it. [`read_fixed_header`] is for the crates above, which read the rest.
+//! `crates/examples/src/values.rt` uses it. [`read_fixed_header`] is for the crates above, which read
+//! the rest.
 #![tactic(auto)]
 
 mod field_limits;

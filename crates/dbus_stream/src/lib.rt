@@ -7,8 +7,8 @@
 //! reader of std's. [`write_message`] writes one to a [`Sink`].
 //!
 //! Whatever the pieces, the messages are the same, and no byte past each is taken: `laws` states
-//! it. Examples are at [`Cutter::take`] and [`MessageReader::next`]; `crates/example_service` uses
-//! a cutter behind a socket.
+//! it. Examples are at [`Cutter::take`] and [`MessageReader::next`]; `crates/examples` uses a
+//! cutter behind a socket.
 #![tactic(auto)]
 
 mod buffer;

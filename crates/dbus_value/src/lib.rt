@@ -3,7 +3,7 @@
 //!
 //! A [`Value`] is a tree of any of the types. [`put`] appends its bytes to a vector, [`get`] reads one of a given type, and
 //! [`check_value`] asks whether one is well formed. [`Limits`] are what calls with `_within` in their names keep. The
-//! values of a message come with it: `crates/example_service` makes and reads some.
+//! values of a message come with it: `crates/examples/src/methods.rt` makes and reads some.
 //!
 //! It is one name for four crates: the values and the relation that spells them (`dbus_value_model`), writing (`dbus_marshal`),
 //! reading (`dbus_unmarshal`) and the laws over what bytes spell (`dbus_value_laws`); and the law that joins writing and reading.

@@ -3,7 +3,7 @@
 //!
 //! A [`Value`] is a tree of any of the types. [`check_value`] asks whether it is well formed, [`type_of`] returns its type, and
 //! [`copy`] an equal one. Here too are what all crates above speak of: [`Limits`], the byte [`Order`], and the [`Fault`]s with their
-//! [`Reason`]s. Callers use the crate `dbus_value`. `crates/example_service` makes values.
+//! [`Reason`]s. Callers use the crate `dbus_value`. `crates/examples/src/methods.rt` makes values.
 #![tactic(auto)]
 
 pub mod check_laws;

@@ -3,7 +3,7 @@
 //!
 //! [`Values`] and [`Elements`] are iterators. Each [`ValueView`] that they give is a number, a text, or a container whose own values
 //! are still to be seen. Nothing is validated again, and nothing is allocated. An array is passed over by its length.
-//! `crates/example_values` uses them.
+//! `crates/examples/src/values.rt` uses them.
 #![tactic(auto)]
 
 mod elements;
