@@ -119,8 +119,8 @@ fn read_serial(bytes: &[u8], order: Order) -> Result<u32, Stop>
     Ok(serial)
 }
 
-/// The length of the field array, at 12, if the body has `body` bytes: `ArrayTooLong` if it is over the limits' array,
-/// else `MessageTooLong` if the message is over their message.
+/// The length of the field array, at 12, if the body has `body` bytes: `ArrayTooLong` if it is over
+/// the limits' array, else `MessageTooLong` if the message is over their message.
 fn read_fields_length(bytes: &[u8], order: Order, body: u32, limits: Limits) -> Result<u32, Stop>
     requires { 12 ≤ length bytes.now }
     ensures gives { Gives (λ n. (n, 16)) bytes.now result
@@ -139,7 +139,8 @@ fn read_fields_length(bytes: &[u8], order: Order, body: u32, limits: Limits) -> 
     Ok(fields)
 }
 
-/// The items that have fixed places, in their order. `TooDeep` at 12 if the field array may not be opened.
+/// The items that have fixed places, in their order. `TooDeep` at 12 if the field array may not be
+/// opened.
 #[tactic(auto, unfolding(crate::specs::HeaderReading::fixed_header))]
 pub fn read_fixed_header(bytes: &[u8], limits: Limits) -> Result<FixedHeader, Stop>
     ensures gives { Gives (λ h. (h, 16)) bytes.now result (fixed_header limits 0 bytes.now) }

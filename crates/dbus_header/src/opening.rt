@@ -7,7 +7,8 @@ ghost use Rattle.dbus_header.specs.MessageReading.{opening};
 
 use dbus_value_model::{Limits, Reason, Stop, refuse};
 
-/// That one more container may be opened, at a place where `opened` are open: `TooDeep` if none may.
+/// That one more container may be opened, at a place where `opened` are open: `TooDeep` if none
+/// may.
 #[inline]
 pub fn check_open(limits: Limits, opened: u8, at: usize) -> Result<(), Stop>
     requires { opened ≤ limits.depth }

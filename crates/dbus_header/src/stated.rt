@@ -9,12 +9,12 @@ ghost use Rattle.dbus_header.specs.StatedLengths.{Stated};
 use crate::fixed_header::read_fixed_header;
 use dbus_value_model::{Fault, Limits, Stop, padding_length};
 
-/// The number of bytes that state a message's length: those of its header before the contents of the field array. No message
-/// has fewer. D-Bus Specification, "Message Format".
+/// The number of bytes that state a message's length: those of its header before the contents of
+/// the field array. No message has fewer. D-Bus Specification, "Message Format".
 pub const FIXED_HEADER_LENGTH: usize = 16;
 
-/// The length in bytes of the message that the bytes begin with, within the limits of the specification, as
-/// [`stated_length_within`] says. D-Bus Specification, "Message Format".
+/// The length in bytes of the message that the bytes begin with, within the limits of the
+/// specification, as [`stated_length_within`] says. D-Bus Specification, "Message Format".
 ///
 /// ```rust
 /// use dbus_message::stated_length;
@@ -31,14 +31,16 @@ pub fn stated_length(bytes: &[u8]) -> Result<Option<u64>, Fault>
     stated_length_within(bytes, Limits::specification())
 }
 
-/// The length in bytes of the message that the bytes begin with, under limits, once 16 of them are there: those 16, the header
-/// fields, the padding after them to a multiple of 8, and the body. D-Bus Specification, "Message Format".
+/// The length in bytes of the message that the bytes begin with, under limits, once 16 of them are
+/// there: those 16, the header fields, the padding after them to a multiple of 8, and the body.
+/// D-Bus Specification, "Message Format".
 ///
-/// `Ok(Some(n))` if the first 16 bytes are there and none of their items is at fault: whatever follows, a message that
-/// begins with them has exactly n bytes, from 16 to the limits' message, so that `decode_within` gives none out of fewer. The
-/// fields and the body are not looked at. `Ok(None)` if fewer than 16 bytes are there and show no fault: more are wanted.
-/// `Err` if an item within the first 16 bytes is at fault (the byte order, the type, the version, the serial, or a length
-/// over its limit), with the fault that `decode_within` returns. Nothing is allocated.
+/// `Ok(Some(n))` if the first 16 bytes are there and none of their items is at fault: whatever
+/// follows, a message that begins with them has exactly n bytes, from 16 to the limits' message, so
+/// that `decode_within` gives none out of fewer. The fields and the body are not looked at.
+/// `Ok(None)` if fewer than 16 bytes are there and show no fault: more are wanted. `Err` if an item
+/// within the first 16 bytes is at fault (the byte order, the type, the version, the serial, or a
+/// length over its limit), with the fault that `decode_within` returns. Nothing is allocated.
 pub fn stated_length_within(bytes: &[u8], limits: Limits) -> Result<Option<u64>, Fault>
     ensures stated { Stated limits bytes.now result }
     ensures within { IfOk result (λ stated. IfSome stated (λ n. (16 ≤ n) × (n ≤ limits.message))) }

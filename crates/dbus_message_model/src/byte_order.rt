@@ -7,7 +7,8 @@ ghost use Rattle.dbus_message_model.specs.Messages.{order_byte};
 
 use dbus_value_model::Order;
 
-/// The byte that a message of this order begins with, which is ASCII: `l` or `B`. D-Bus Specification, "Message Format".
+/// The byte that a message of this order begins with, which is ASCII: `l` or `B`. D-Bus
+/// Specification, "Message Format".
 pub fn order_byte(order: Order) -> u8
     ensures named { result ≡ order_byte order }
     ensures ascii { result < 128 }
@@ -18,8 +19,8 @@ pub fn order_byte(order: Order) -> u8
     }
 }
 
-/// The order of a message that begins with this byte; None if it is neither `l` nor `B`. The byte is a number of the width that it has
-/// in structures for C. D-Bus Specification, "Message Format".
+/// The order of a message that begins with this byte; None if it is neither `l` nor `B`. The byte
+/// is a number of the width that it has in structures for C. D-Bus Specification, "Message Format".
 pub fn order_named(byte: u32) -> Option<Order>
     ensures { MatchOption result
         ((order : Order) → byte ≡ order_byte order → ⊥)

@@ -27,8 +27,8 @@ pub enum Wanted {
     Number,
 }
 
-/// What the value of a field of this code has to be: the table of the known fields. D-Bus Specification,
-/// "Header Fields".
+/// What the value of a field of this code has to be: the table of the known fields. D-Bus
+/// Specification, "Header Fields".
 pub fn want(code: u8) -> Wanted
     ensures { want_of result ≡ want code }
 {

@@ -1,5 +1,5 @@
-//! The flags of a message, each a bit of the one byte that they share. Bits without a name are kept and have no meaning.
-//! D-Bus Specification, "Message Format".
+//! The flags of a message, each a bit of the one byte that they share. Bits without a name are kept
+//! and have no meaning. D-Bus Specification, "Message Format".
 
 /// The caller wants no reply, though the message is a call.
 pub const NO_REPLY_EXPECTED: u8 = 1;

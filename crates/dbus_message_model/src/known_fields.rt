@@ -92,8 +92,8 @@ fn number_in<A: Allocator>(value: &Value<A>) -> u32
     }
 }
 
-/// The number of descriptors that come with the message: the number of the first UNIX_FDS field, or 0. D-Bus Specification, "Header
-/// Fields".
+/// The number of descriptors that come with the message: the number of the first UNIX_FDS field, or
+/// 0. D-Bus Specification, "Header Fields".
 #[tactic(auto, using(crate::proofs::FieldLists::count_here, crate::proofs::FieldLists::count_later))]
 pub fn fd_count<A: Allocator>(fields: &[HeaderField<A>]) -> u32
     ensures { result ≡ fd_count (field_trees fields.now) }

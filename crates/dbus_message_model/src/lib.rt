@@ -1,10 +1,11 @@
-//! Messages of the D-Bus wire format: what they are, and, in `specs/`, the relation that spells them in bytes. D-Bus
-//! Specification, "Message Format" and "Header Fields".
+//! Messages of the D-Bus wire format: what they are, and, in `specs/`, the relation that spells
+//! them in bytes. D-Bus Specification, "Message Format" and "Header Fields".
 //!
-//! A [`Message`] is valid by its invariant: it has [`Parts`], which are a type, flags, a serial, header fields and a body.
-//! [`Message::path`] and its like give the known header fields; [`field`] and [`arg`] look up any header field and a value of the
-//! body. The codes are in [`field_code`], [`flag`] and [`message_type`]. It
-//! is made by `dbus_build` or by decoding; `crates/examples/src/greet.rt` does both.
+//! A [`Message`] is valid by its invariant: it has [`Parts`], which are a type, flags, a serial,
+//! header fields and a body. [`Message::path`] and its like give the known header fields; [`field`]
+//! and [`arg`] look up any header field and a value of the body. The codes are in [`field_code`],
+//! [`flag`] and [`message_type`]. It is made by `dbus_build` or by decoding;
+//! `crates/examples/src/greet.rt` does both.
 #![tactic(auto)]
 
 mod byte_order;

@@ -11,8 +11,8 @@ use crate::message::Message;
 use dbus_value_model::Value;
 use std::alloc::Allocator;
 
-/// The value of the message's first header field of a code, if it has one. An array of BYTE in it is `Bytes`.
-/// D-Bus Specification, "Header Fields".
+/// The value of the message's first header field of a code, if it has one. An array of BYTE in it
+/// is `Bytes`. D-Bus Specification, "Header Fields".
 pub fn field<A: Allocator>(message: &Message<A>, code: u8) -> Option<&Value<A>>
     ensures first { MatchOption result (field_value code (message_tree message.now).fields ≡
         None) (λ v. field_value code (message_tree message.now).fields ≡ Some (value_tree v.now)) }
@@ -26,8 +26,8 @@ pub fn field<A: Allocator>(message: &Message<A>, code: u8) -> Option<&Value<A>>
     None
 }
 
-/// The body's value of a number, counted from 0, if there is one. An array of BYTE in it is `Bytes`.
-/// D-Bus Specification, "Message Format".
+/// The body's value of a number, counted from 0, if there is one. An array of BYTE in it is
+/// `Bytes`. D-Bus Specification, "Message Format".
 pub fn arg<A: Allocator>(message: &Message<A>, n: usize) -> Option<&Value<A>>
     ensures numbered { MatchOption result (body_value n (message_tree message.now).body ≡
         None) (λ v. body_value n (message_tree message.now).body ≡ Some (value_tree v.now)) }

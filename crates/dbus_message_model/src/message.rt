@@ -11,9 +11,9 @@ ghost use Rattle.dbus_message_model.specs.PartsViews.{parts_tree};
 use crate::parts::Parts;
 use std::alloc::{Allocator, Global};
 
-/// A valid message within the limits: it has a spelling in both byte orders, of one length. Its values have each array of
-/// BYTE as `Bytes`, so that what a message holds is known by its spelling.
-/// D-Bus Specification, "Message Format".
+/// A valid message within the limits: it has a spelling in both byte orders, of one length. Its
+/// values have each array of BYTE as `Bytes`, so that what a message holds is known by its
+/// spelling. D-Bus Specification, "Message Format".
 #[derive(Debug, Drop)]
 pub struct Message<A: Allocator = Global> {
     parts: Parts<A>,
@@ -30,8 +30,8 @@ impl<A: Allocator> Message<A> {
     ghost use Rattle.dbus_value_model.specs.declared.limits.TheConstants.{MESSAGE_LIMIT};
     ghost use Rattle.dbus_message_model.specs.MessageViews.{message_tree};
 
-    /// The message of these parts, which the caller knows to be valid, and to be spelled by `size` bytes. Parts of which that
-    /// is not known are validated by `Message::new` of `dbus_build`.
+    /// The message of these parts, which the caller knows to be valid, and to be spelled by `size`
+    /// bytes. Parts of which that is not known are validated by `Message::new` of `dbus_build`.
     pub fn of_valid(parts: Parts<A>, size: usize) -> Self
         requires valid { IsValidMessage specification (parts_tree parts) }
         requires packed { PartsKeepBytes parts }

@@ -1,5 +1,5 @@
-//! The message types that the specification names. Any other type but 0 is accepted, and its messages are to be ignored.
-//! D-Bus Specification, "Message Format".
+//! The message types that the specification names. Any other type but 0 is accepted, and its
+//! messages are to be ignored. D-Bus Specification, "Message Format".
 
 /// A call of a method.
 pub const METHOD_CALL: u8 = 1;

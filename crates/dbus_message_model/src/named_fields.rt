@@ -97,7 +97,8 @@ impl<A: Allocator> Message<A> {
         self.text(field_code::SENDER)
     }
 
-    /// The SIGNATURE field, if there is one: the types of the body's values. D-Bus Specification, "Header Fields".
+    /// The SIGNATURE field, if there is one: the types of the body's values. D-Bus Specification,
+    /// "Header Fields".
     pub fn signature(&self) -> Option<&str>
         ensures { MatchOption result (field_value 8 (message_tree self.now).fields ≡ None) (λ s.
             field_value 8 (message_tree self.now).fields ≡ Some (TextValue SIGNATURE s.now)) }
@@ -105,7 +106,8 @@ impl<A: Allocator> Message<A> {
         self.text(field_code::SIGNATURE)
     }
 
-    /// The UNIX_FDS field, if there is one: how many file descriptors come with the message. D-Bus Specification, "Header Fields".
+    /// The UNIX_FDS field, if there is one: how many file descriptors come with the message. D-Bus
+    /// Specification, "Header Fields".
     pub fn unix_fds(&self) -> Option<u32>
         ensures { MatchOption result (field_value 9 (message_tree self.now).fields ≡ None) (λ n.
             field_value 9 (message_tree self.now).fields ≡ Some (NumberValue UINT32 n)) }

@@ -1,12 +1,14 @@
-//! Values of the D-Bus wire format: what they are, which of them are well formed, and how they are written and read.
-//! D-Bus Specification, "Type System" and "Marshaling (Wire Format)".
+//! Values of the D-Bus wire format: what they are, which of them are well formed, and how they are
+//! written and read. D-Bus Specification, "Type System" and "Marshaling (Wire Format)".
 //!
-//! A [`Value`] is a tree of any of the types. [`put`] appends its bytes to a vector, [`get`] reads one of a given type, and
-//! [`check_value`] asks whether one is well formed. [`Limits`] are what calls with `_within` in their names keep. The
-//! values of a message come with it: `crates/examples/src/methods.rt` makes and reads some.
+//! A [`Value`] is a tree of any of the types. [`put`] appends its bytes to a vector, [`get`] reads
+//! one of a given type, and [`check_value`] asks whether one is well formed. [`Limits`] are what
+//! calls with `_within` in their names keep. The values of a message come with it:
+//! `crates/examples/src/methods.rt` makes and reads some.
 //!
-//! It is one name for four crates: the values and the relation that spells them (`dbus_value_model`), writing (`dbus_marshal`),
-//! reading (`dbus_unmarshal`) and the laws over what bytes spell (`dbus_value_laws`); and the law that joins writing and reading.
+//! It is one name for four crates: the values and the relation that spells them
+//! (`dbus_value_model`), writing (`dbus_marshal`), reading (`dbus_unmarshal`) and the laws over
+//! what bytes spell (`dbus_value_laws`); and the law that joins writing and reading.
 #![tactic(auto)]
 
 pub mod round_trip_laws;

@@ -25,7 +25,8 @@ use crate::verdict::{Verdict, earlier};
 use dbus_types::{SigType, TextKind, is_byte, text_break};
 use std::alloc::Allocator;
 
-/// Whether a value is well formed, as [`check_value_within`] says under the limits of the specification.
+/// Whether a value is well formed, as [`check_value_within`] says under the limits of the
+/// specification.
 ///
 /// `depth` arrays, structs and variants are open around it, [`DEPTH_LIMIT`] at most.
 pub fn check_value<A: Allocator + Copy>(
@@ -41,16 +42,17 @@ pub fn check_value<A: Allocator + Copy>(
     check_value_within(alloc, value, depth, Limits::specification())
 }
 
-/// Whether a value is well formed if `depth` arrays, structs and variants are open around it, at most as many as the
-/// limits' depth.
+/// Whether a value is well formed if `depth` arrays, structs and variants are open around it, at
+/// most as many as the limits' depth.
 ///
-/// It is refused for the first case that holds of any part of it: `TooDeep` if more arrays, structs and variants are
-/// open at once than the limits' depth; `Mixed` if an item has another type than its array's, an array of BYTE is not
-/// `Bytes`, a dict entry is outside an array or its key is not basic, a struct is empty, or a type spells no signature
-/// within the limits; `Name` if an object path or a signature is not valid, or a text has U+0000. Nothing is allocated, so
-/// `Memory` is never returned. A value that passes has short signatures, as writing and measuring ask, and as every value has
-/// it, numbers in the ranges of their types.
-/// D-Bus Specification, "Type System", "Valid Signatures" and "Message Protocol".
+/// It is refused for the first case that holds of any part of it: `TooDeep` if more arrays, structs
+/// and variants are open at once than the limits' depth; `Mixed` if an item has another type than
+/// its array's, an array of BYTE is not `Bytes`, a dict entry is outside an array or its key is not
+/// basic, a struct is empty, or a type spells no signature within the limits; `Name` if an object
+/// path or a signature is not valid, or a text has U+0000. Nothing is allocated, so `Memory` is
+/// never returned. A value that passes has short signatures, as writing and measuring ask, and as
+/// every value has it, numbers in the ranges of their types. D-Bus Specification, "Type System",
+/// "Valid Signatures" and "Message Protocol".
 #[tactic(auto, using(crate::proofs::ShortLaws::short_of))]
 pub fn check_value_within<A: Allocator + Copy>(
     _alloc: A,
@@ -71,7 +73,8 @@ pub fn check_value_within<A: Allocator + Copy>(
     }
 }
 
-/// What is found of a value where `depth_left` arrays, structs and variants may be open at once, in one walk over it.
+/// What is found of a value where `depth_left` arrays, structs and variants may be open at once, in
+/// one walk over it.
 ///
 /// D-Bus Specification, "Type System" and "Valid Signatures".
 #[tactic(auto, using(crate::proofs::Verdicts::whole_found))]
@@ -82,8 +85,8 @@ pub fn check_nested<A: Allocator>(value: &Value<A>, depth_left: u8) -> Verdict
     earlier(check_single(value), check_parts(value, depth_left))
 }
 
-/// What is found of a value, its own type left aside: the items of an array are of its element type, which is not BYTE, and a
-/// signature spells the type of a variant's value.
+/// What is found of a value, its own type left aside: the items of an array are of its element
+/// type, which is not BYTE, and a signature spells the type of a variant's value.
 #[cycle(check)]
 fn check_parts<A: Allocator>(value: &Value<A>, depth_left: u8) -> Verdict
     ensures { IsPartsVerdict depth_left value.now result }

@@ -14,9 +14,11 @@ pub enum Reason {
     Version,
     /// The serial, or a REPLY_SERIAL, is 0.
     ZeroSerial,
-    /// An array's length is over the limit on arrays: 67,108,864 bytes, or fewer if such a limit is handed in.
+    /// An array's length is over the limit on arrays: 67,108,864 bytes, or fewer if such a limit is
+    /// handed in.
     ArrayTooLong,
-    /// The header, its padding and the body have more than 134,217,728 bytes, or fewer if such a limit is handed in.
+    /// The header, its padding and the body have more than 134,217,728 bytes, or fewer if such a
+    /// limit is handed in.
     MessageTooLong,
     /// A padding byte is not 0.
     Padding,
@@ -52,20 +54,23 @@ pub enum Reason {
     FieldMissing(u8),
     /// Bytes are left after the body's last value, or after the message.
     Trailing,
-    /// A container is opened while as many are open as the limit on depth: 64, or fewer if such a limit is handed in.
+    /// A container is opened while as many are open as the limit on depth: 64, or fewer if such a
+    /// limit is handed in.
     TooDeep,
     /// The input ends within a message.
     Truncated,
     /// The index of a file descriptor is not below their count, if that is asked for.
     FdIndex,
-    /// Reserved: no input is refused for it today. The case is kept so that the reasons keep their order.
+    /// Reserved: no input is refused for it today. The case is kept so that the reasons keep their
+    /// order.
     NotYet,
 }
 
 /// Why bytes are refused, and where.
 #[derive(Clone, Copy, PartialEq, Eq, Debug)]
 pub struct Fault {
-    /// The place, in bytes from the message's first byte. If no byte shows the fault, it is the number of bytes read before it.
+    /// The place, in bytes from the message's first byte. If no byte shows the fault, it is the
+    /// number of bytes read before it.
     pub at: u64,
     /// The reason.
     pub reason: Reason,

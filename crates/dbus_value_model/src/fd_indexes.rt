@@ -9,9 +9,9 @@ ghost use Rattle.dbus_value_model.specs.ValueViews.{value_tree, value_trees_of};
 use crate::value::Value;
 use std::alloc::Allocator;
 
-/// The number, counted from 0, of the first value that has an index of a file descriptor not below `index_limit`, at any depth: in
-/// variants, arrays, structs and dict entries too. Nothing if every index is below it, or if `index_limit` is nothing.
-/// D-Bus Specification, "Basic types".
+/// The number, counted from 0, of the first value that has an index of a file descriptor not below
+/// `index_limit`, at any depth: in variants, arrays, structs and dict entries too. Nothing if every
+/// index is below it, or if `index_limit` is nothing. D-Bus Specification, "Basic types".
 pub fn first_past<A: Allocator>(values: &[Value<A>], index_limit: Option<u32>) -> Option<usize>
     ensures { IsFirstPast index_limit 0 (value_trees_of values.now) result }
 {

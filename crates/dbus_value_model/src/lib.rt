@@ -1,9 +1,11 @@
-//! Values of the D-Bus wire format: what they are, which of them are well formed, and, in `specs/`, the relation that spells them
-//! in bytes. D-Bus Specification, "Type System" and "Marshaling (Wire Format)".
+//! Values of the D-Bus wire format: what they are, which of them are well formed, and, in `specs/`,
+//! the relation that spells them in bytes. D-Bus Specification, "Type System" and "Marshaling (Wire
+//! Format)".
 //!
-//! A [`Value`] is a tree of any of the types. [`check_value`] asks whether it is well formed, [`type_of`] returns its type, and
-//! [`copy`] an equal one. Here too are what all crates above speak of: [`Limits`], the byte [`Order`], and the [`Fault`]s with their
-//! [`Reason`]s. Callers use the crate `dbus_value`. `crates/examples/src/methods.rt` makes values.
+//! A [`Value`] is a tree of any of the types. [`check_value`] asks whether it is well formed,
+//! [`type_of`] returns its type, and [`copy`] an equal one. Here too are what all crates above
+//! speak of: [`Limits`], the byte [`Order`], and the [`Fault`]s with their [`Reason`]s. Callers use
+//! the crate `dbus_value`. `crates/examples/src/methods.rt` makes values.
 #![tactic(auto)]
 
 pub mod check_laws;

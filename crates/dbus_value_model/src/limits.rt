@@ -14,12 +14,12 @@ pub const ARRAY_LIMIT: u32 = 67_108_864;
 /// D-Bus Specification, "Message Format".
 pub const MESSAGE_LIMIT: u32 = 134_217_728;
 
-/// The most arrays, structs and variants that are open at once in a message, those of its header among them.
-/// D-Bus Specification, "Valid Signatures", for the limit on nesting.
+/// The most arrays, structs and variants that are open at once in a message, those of its header
+/// among them. D-Bus Specification, "Valid Signatures", for the limit on nesting.
 pub const DEPTH_LIMIT: u8 = 64;
 
-/// The limits that values are read and written within, and messages made, none of them over that of the specification, and
-/// the rule on the indexes of file descriptors.
+/// The limits that values are read and written within, and messages made, none of them over that of
+/// the specification, and the rule on the indexes of file descriptors.
 #[derive(Clone, Copy, PartialEq, Eq, Debug)]
 pub struct Limits {
     /// The most bytes that a message has, at most [`MESSAGE_LIMIT`].
@@ -49,8 +49,8 @@ impl Limits {
     ghost use Rattle.dbus_value_model.specs.Specification.{IsLimits, specification, with_fds};
     ghost use Rattle.dbus_value_model.specs.Bounds.{bounds_of, bounds_with};
 
-    /// These limits, which allow any index of a file descriptor, or nothing if one of them is over that of the
-    /// specification.
+    /// These limits, which allow any index of a file descriptor, or nothing if one of them is over
+    /// that of the specification.
     ///
     /// ```rust
     /// use dbus_message::decode_within;
@@ -102,8 +102,8 @@ impl Limits {
         self.bounds_with(None)
     }
 
-    /// What values keep under these limits, if every index of a file descriptor is below `fds`; `None` allows any. The rule of
-    /// these limits on indexes is not used.
+    /// What values keep under these limits, if every index of a file descriptor is below `fds`;
+    /// `None` allows any. The rule of these limits on indexes is not used.
     pub fn bounds_with(self, fds: Option<u32>) -> Bounds
         ensures { result ≡ bounds_with self fds }
     {

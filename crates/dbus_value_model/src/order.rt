@@ -15,7 +15,8 @@ pub enum Order {
 }
 
 impl Order {
-    /// The number that the two bytes at a place spell: the sum of these, each times 256 to the power of its place.
+    /// The number that the two bytes at a place spell: the sum of these, each times 256 to the
+    /// power of its place.
     pub fn u16_at(self, bytes: &[u8], at: usize) -> u16
         requires { at + 2 ≤ length bytes.now }
         ensures spelled { result ≡ number_of self (take 2 (drop at bytes.now)) }
@@ -28,7 +29,8 @@ impl Order {
         }
     }
 
-    /// The number that the four bytes at a place spell: the sum of these, each times 256 to the power of its place.
+    /// The number that the four bytes at a place spell: the sum of these, each times 256 to the
+    /// power of its place.
     pub fn u32_at(self, bytes: &[u8], at: usize) -> u32
         requires { at + 4 ≤ length bytes.now }
         ensures spelled { result ≡ number_of self (take 4 (drop at bytes.now)) }
@@ -41,7 +43,8 @@ impl Order {
         }
     }
 
-    /// The number that the eight bytes at a place spell: the sum of these, each times 256 to the power of its place.
+    /// The number that the eight bytes at a place spell: the sum of these, each times 256 to the
+    /// power of its place.
     pub fn u64_at(self, bytes: &[u8], at: usize) -> u64
         requires { at + 8 ≤ length bytes.now }
         ensures spelled { result ≡ number_of self (take 8 (drop at bytes.now)) }

@@ -4,8 +4,8 @@
 ghost use Rattle.std.specs.Prelude.{◌≡◌, ◌<◌};
 ghost use Rattle.dbus_value_model.specs.Bytes.{gap_to};
 
-/// The number of bytes of padding from the offset `at` to the next multiple of `alignment`, which is not 0: fewer than
-/// `alignment`. D-Bus Specification, "Marshaling (Wire Format)".
+/// The number of bytes of padding from the offset `at` to the next multiple of `alignment`, which
+/// is not 0: fewer than `alignment`. D-Bus Specification, "Marshaling (Wire Format)".
 #[inline]
 #[tactic(auto, unfolding(crate::specs::Bytes::gap_to))]
 pub fn padding_length(alignment: u8, at: u64) -> u8

@@ -9,8 +9,8 @@ ghost use Rattle.dbus_value_model.specs.ValueViews.{value_tree, byte_values};
 use crate::value::Value;
 use std::alloc::Allocator;
 
-/// Shows that a number is in the range of its type. It looks at it and does nothing with it: a clause on the value's tree
-/// cannot know the range otherwise. D-Bus Specification, "Basic types".
+/// Shows that a number is in the range of its type. It looks at it and does nothing with it: a
+/// clause on the value's tree cannot know the range otherwise. D-Bus Specification, "Basic types".
 pub fn basic_in_range<A: Allocator>(value: &Value<A>)
     ensures { IsBasic (type_of (value_tree value.now)) → HoldsNumbers (value_tree value.now) }
 {

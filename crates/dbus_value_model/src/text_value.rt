@@ -15,7 +15,8 @@ pub enum StringFault {
     /// An allocation failed.
     #[error("allocation failed")]
     Memory,
-    /// The text has U+0000. It breaks at `at`, which is the length of its longest prefix with which some STRING begins.
+    /// The text has U+0000. It breaks at `at`, which is the length of its longest prefix with which
+    /// some STRING begins.
     #[error("no STRING: U+0000 stands at offset {at}")]
     Bad { at: usize },
 }
@@ -58,8 +59,9 @@ impl<A: Allocator> Value<A> {
         }
     }
 
-    /// A STRING of the text, as [`Value::text`] makes it. Nothing is checked: if the text has U+0000, the value is not well formed,
-    /// which [`check_value`](crate::check_value) finds, and making a message of it.
+    /// A STRING of the text, as [`Value::text`] makes it. Nothing is checked: if the text has
+    /// U+0000, the value is not well formed, which [`check_value`](crate::check_value) finds, and
+    /// making a message of it.
     ///
     /// The one error is that an allocation failed.
     pub fn text_unchecked(alloc: A, text: &str) -> Result<Value<A>, AllocError>

@@ -20,8 +20,9 @@ pub fn has_single_type<A: Allocator>(value: &Value<A>) -> bool
     type_left(value, 0, 255).is_some()
 }
 
-/// The number of bytes that are left of `left` after the text of the value's type, or nothing if the type is not complete or
-/// its text has more bytes. So many structs are open around it, and no array: it is no array's element.
+/// The number of bytes that are left of `left` after the text of the value's type, or nothing if
+/// the type is not complete or its text has more bytes. So many structs are open around it, and no
+/// array: it is no array's element.
 #[cycle(type_left)]
 fn type_left<A: Allocator>(value: &Value<A>, structs: u8, left: u8) -> Option<u8>
     ensures { LeavesOfType (tree_type (value_tree value.now)) false 0 structs left result }

@@ -40,8 +40,9 @@ pub fn plain_type_of<A: Allocator>(value: &Value<A>) -> Option<SigType<A>>
 
 /// The type of a value. D-Bus Specification, "Type System".
 ///
-/// That of a struct is made of its fields' types, that of a dict entry of its key's and value's; an array keeps its
-/// element type itself. The value need not be well formed. The one error is that an allocation failed.
+/// That of a struct is made of its fields' types, that of a dict entry of its key's and value's; an
+/// array keeps its element type itself. The value need not be well formed. The one error is that an
+/// allocation failed.
 #[cycle(type_of)]
 pub fn type_of<A: Allocator + Copy>(alloc: A, value: &Value<A>) -> Result<SigType<A>, AllocError>
     ensures { IfOk result (λ t. type_tree t ≡ tree_type (value_tree value.now)) }

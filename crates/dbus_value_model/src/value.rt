@@ -6,8 +6,8 @@ use std::alloc::{Allocator, Global};
 
 /// A value. D-Bus Specification, "Type System".
 ///
-/// It has 56 bytes over [`Global`], besides what it points to: a word for the case, and 48 bytes for the longest one, an
-/// array's element type and the vector of its elements.
+/// It has 56 bytes over [`Global`], besides what it points to: a word for the case, and 48 bytes
+/// for the longest one, an array's element type and the vector of its elements.
 #[cycle(value)]
 #[derive(Debug, Drop)]
 pub enum Value<A: Allocator = Global> {

@@ -7,7 +7,8 @@ ghost use Rattle.dbus_value_model.specs.declared.value_fault.ValueFault.TheVaria
 use std::alloc::AllocError;
 use thiserror::Error;
 
-/// Why a value is not well formed, or is not written. D-Bus Specification, "Marshaling (Wire Format)".
+/// Why a value is not well formed, or is not written. D-Bus Specification, "Marshaling (Wire
+/// Format)".
 #[derive(Clone, Copy, PartialEq, Eq, Debug, Error)]
 pub enum ValueFault {
     /// An allocation failed.
@@ -16,9 +17,9 @@ pub enum ValueFault {
     /// More arrays, structs and variants are open at once than the limit on depth.
     #[error("more containers are open at once than the limit on depth")]
     TooDeep,
-    /// A part has no type that fits its place: an item has another type than its array's, an array of BYTE is not
-    /// `Bytes`, a dict entry is outside an array or its key is not basic, a struct is empty, or a type spells no
-    /// signature within the limits.
+    /// A part has no type that fits its place: an item has another type than its array's, an array
+    /// of BYTE is not `Bytes`, a dict entry is outside an array or its key is not basic, a struct
+    /// is empty, or a type spells no signature within the limits.
     #[error("a part has no type that fits its place")]
     Mixed,
     /// An object path or a signature is not valid, or a text has U+0000.

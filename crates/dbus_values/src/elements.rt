@@ -10,7 +10,8 @@ use dbus_value_model::{Order, gap};
 use dbus_walk::{Run, Source, Spot, number_width};
 use std::marker::Model;
 
-/// Elements of an array, which follow one another. All have one type. D-Bus Specification, "Marshaling (Wire Format)".
+/// Elements of an array, which follow one another. All have one type. D-Bus Specification,
+/// "Marshaling (Wire Format)".
 #[derive(Drop)]
 pub struct Elements<'a> {
     source: Source<'a>,
@@ -48,7 +49,8 @@ impl<'a> Elements<'a> {
     ghost use Rattle.dbus_value_model.specs.Spelling.{spellings};
     ghost use Rattle.dbus_values.specs.States.{AreNumbersIn, ElementsAreLeft, IsOfNoNumbers, SomeElementsAreLeft};
 
-    /// The elements of a run in the bytes, which have this type. At most `depth_left` containers may be open in each.
+    /// The elements of a run in the bytes, which have this type. At most `depth_left` containers
+    /// may be open in each.
     pub(crate) fn new(
         source: &Source<'a>,
         run: Run,
@@ -117,8 +119,9 @@ impl<'a> Elements<'a> {
         self.end - self.at
     }
 
-    /// The bytes of the numbers that are left, one number after another, each in the order that [`Elements::order`] gives. `None`
-    /// if the elements are no numbers. D-Bus Specification, "Marshaling (Wire Format)".
+    /// The bytes of the numbers that are left, one number after another, each in the order that
+    /// [`Elements::order`] gives. `None` if the elements are no numbers. D-Bus Specification,
+    /// "Marshaling (Wire Format)".
     ///
     /// ```rust
     /// use dbus_message::{MessageView, ValueView};

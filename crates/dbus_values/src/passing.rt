@@ -13,7 +13,8 @@ use crate::view::ValueView;
 use dbus_types::lengths_in;
 use dbus_walk::{Layout, Source, Spot, layout, skip_value, text_in};
 
-/// How the value at a spot is seen, and the offset after it. Only a container other than an array is gone through.
+/// How the value at a spot is seen, and the offset after it. Only a container other than an array
+/// is gone through.
 pub(crate) fn pass<'a>(source: &Source<'a>, spot: &Spot<'a>) -> (ValueView<'a>, usize)
     requires stands { StandsThere source.now spot.now }
     requires few { length spot.now.types.now ≤ 255 }

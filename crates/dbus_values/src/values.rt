@@ -10,8 +10,9 @@ use dbus_types::type_end;
 use dbus_walk::{Source, Spot};
 use std::marker::Model;
 
-/// Values of a message that follow one another, one of each type of a signature: the fields of a struct, the key and the value
-/// of a dict entry, the value that a variant holds, or the values of a body. D-Bus Specification, "Marshaling (Wire Format)".
+/// Values of a message that follow one another, one of each type of a signature: the fields of a
+/// struct, the key and the value of a dict entry, the value that a variant holds, or the values of
+/// a body. D-Bus Specification, "Marshaling (Wire Format)".
 #[derive(Drop)]
 pub struct Values<'a> {
     source: Source<'a>,
@@ -46,7 +47,8 @@ impl<'a> Values<'a> {
     ghost use Rattle.dbus_values.specs.States.{AreLeft, SomeAreLeft, values_at};
     ghost use Rattle.dbus_values.specs.Seen.{IsFirstCode};
 
-    /// The values in the bytes from `at` on, one of each type of the signature. At most `depth_left` containers may be open in them.
+    /// The values in the bytes from `at` on, one of each type of the signature. At most
+    /// `depth_left` containers may be open in them.
     pub fn new(source: &Source<'a>, at: usize, types: &'a [u8], depth_left: u8) -> Values<'a>
         requires { SomeAreLeft (record {
           order = source.now.order;
@@ -97,7 +99,8 @@ impl<'a> Values<'a> {
         (self.source, spot)
     }
 
-    /// The offset in the bytes where the first of the values begins, padding with it, or where the last one ended.
+    /// The offset in the bytes where the first of the values begins, padding with it, or where the
+    /// last one ended.
     pub fn at(&self) -> usize
         ensures { result ≡ self.now.at }
     {

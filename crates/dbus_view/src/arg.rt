@@ -25,7 +25,8 @@ pub(crate) struct Arg<'a> {
 
 ghost use Rattle.dbus_view.specs.Bodies.{IsArg, IsNumbered, IsFound, IsTextPlace};
 
-/// Value `n` of those that are left, counted from 0, if there is one. Those before it are passed over.
+/// Value `n` of those that are left, counted from 0, if there is one. Those before it are passed
+/// over.
 pub(crate) fn arg_at<'a>(values: Values<'a>, n: usize) -> Option<Arg<'a>>
     ensures { (xs : ValueTrees) (rest : List ℕ) → AreLeft values.entry xs rest →
         MatchOption result (body_value n xs ≡ None) (λ a. IsNumbered values.entry n xs a) }

@@ -1,8 +1,8 @@
 //! What is seen of one value of a body.
 #![tactic(auto)]
 
-/// A value of a message's body, as it is seen without reading it: its text, borrowed from the message's bytes, if it is one.
-/// D-Bus Specification, "Basic types".
+/// A value of a message's body, as it is seen without reading it: its text, borrowed from the
+/// message's bytes, if it is one. D-Bus Specification, "Basic types".
 #[derive(Clone, Copy, PartialEq, Eq, Debug)]
 pub enum ArgView<'a> {
     /// A STRING.

@@ -17,7 +17,8 @@ pub struct FieldView<'a> {
     pub value: Values<'a>,
 }
 
-/// Header fields of a message in their order, those of unknown codes too. D-Bus Specification, "Header Fields".
+/// Header fields of a message in their order, those of unknown codes too. D-Bus Specification,
+/// "Header Fields".
 #[derive(Drop)]
 pub struct Fields<'a> {
     source: Source<'a>,

@@ -27,8 +27,8 @@ use std::marker::Model;
 
 /// A view of a message, which borrows its bytes. D-Bus Specification, "Message Format".
 ///
-/// All of the bytes are one message, and it keeps the limits that the view was made with. What the calls give is what that message
-/// has; texts are parts of the bytes. No call allocates.
+/// All of the bytes are one message, and it keeps the limits that the view was made with. What the
+/// calls give is what that message has; texts are parts of the bytes. No call allocates.
 #[derive(Drop)]
 pub struct MessageView<'a> {
     bytes: &'a [u8],
@@ -55,7 +55,8 @@ impl<'a> MessageView<'a> {
     ghost use Rattle.dbus_view.specs.Opening.{IsViewFault};
     ghost use Rattle.dbus_view.specs.Views.{Views, ViewsOne, IsViewOf};
 
-    /// A view of the message that the bytes are, as [`MessageView::of_within`] makes it under the limits of the specification.
+    /// A view of the message that the bytes are, as [`MessageView::of_within`] makes it under the
+    /// limits of the specification.
     ///
     /// ```rust
     /// use dbus_message::MessageView;
@@ -74,11 +75,12 @@ impl<'a> MessageView<'a> {
         MessageView::of_within(bytes, Limits::specification())
     }
 
-    /// A view of the message that the bytes are, all of them, if it keeps the limits. D-Bus Specification, "Message Format".
+    /// A view of the message that the bytes are, all of them, if it keeps the limits. D-Bus
+    /// Specification, "Message Format".
     ///
-    /// Else why they are not one: the fault of the message that begins so, as decoding finds it; `Truncated` at the end of the bytes,
-    /// if these show no fault and are no whole message; `Trailing` at the end of the message that they begin with, if
-    /// others follow it.
+    /// Else why they are not one: the fault of the message that begins so, as decoding finds it;
+    /// `Truncated` at the end of the bytes, if these show no fault and are no whole message;
+    /// `Trailing` at the end of the message that they begin with, if others follow it.
     pub fn of_within(bytes: &'a [u8], limits: Limits) -> Result<MessageView<'a>, Fault>
         ensures viewed { IfOk result (λ v. IsViewOf limits bytes.now v) }
         ensures refused { IfErr result (λ f. IsViewFault limits bytes.now f) }
@@ -223,7 +225,8 @@ impl<'a> MessageView<'a> {
         self.text(SENDER)
     }
 
-    /// The header fields, those of unknown codes too, none of them seen yet. D-Bus Specification, "Header Fields".
+    /// The header fields, those of unknown codes too, none of them seen yet. D-Bus Specification,
+    /// "Header Fields".
     pub fn fields(&self) -> Fields<'a>
         ensures left { (order : Order) (m : MessageTree) → Views self.now order m → FieldsAreLeft result m.fields }
         ensures one { ViewsOne self.now }
@@ -261,8 +264,8 @@ impl<'a> MessageView<'a> {
         Values::new(&source, self.validated.body, types, self.limits.depth)
     }
 
-    /// Value `n` of the body, counted from 0, if there is one. The values before it are passed over.
-    /// D-Bus Specification, "Message Format".
+    /// Value `n` of the body, counted from 0, if there is one. The values before it are passed
+    /// over. D-Bus Specification, "Message Format".
     pub fn arg(&self, n: usize) -> Option<ArgView<'a>>
         ensures { (order : Order) (m : MessageTree) → Views self.now order m →
             MatchOption result (body_value n m.body ≡ None) (λ a.
@@ -272,8 +275,9 @@ impl<'a> MessageView<'a> {
         Some(view_of(arg))
     }
 
-    /// Where the text of value `n` of the body is in the bytes, the values counted from 0, and the first code of its type, if
-    /// there is one. The values before it are passed over. D-Bus Specification, "Message Format".
+    /// Where the text of value `n` of the body is in the bytes, the values counted from 0, and the
+    /// first code of its type, if there is one. The values before it are passed over. D-Bus
+    /// Specification, "Message Format".
     pub fn arg_place(&self, n: usize) -> Option<ArgPlace>
         ensures { (order : Order) (m : MessageTree) → Views self.now order m →
             MatchOption result (body_value n m.body ≡ None) (λ p.
