@@ -13,6 +13,8 @@ GUID = "0123456789abcdef0123456789abcdef"
 MESSAGE = bytes.fromhex("6c02010100000000010000000800000005017500010000 00")
 # A line without its CR LF.
 LINE = re.compile(rb"[\x01-\x09\x0b\x0c\x0e-\x7f]{0,16382}")
+# A word of what a server is made of.
+OF_SERVER = re.compile("guid=[0-9a-f]{32}|user=[0-9]+|anonymous=yes")
 # Bytes that are as many are only split near their ends.
 LONG = 1000
 
@@ -70,6 +72,7 @@ def settings_of(column):
     side, *words = column.split(" ")
     if side == "client":
         return f"mechanisms={','.join(map(mechanism_of, words))}" if words else ""
+    assert side == "server" and all(map(OF_SERVER.fullmatch, words)), column
     return words_of(*words, "" if "guid=" in column else f"guid={GUID}")
 
 

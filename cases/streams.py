@@ -116,8 +116,10 @@ def ask_message(data, limits, answer, least, where):
     if answer == "partial":
         followed = alone = Stream(data, limits, [], "partial", where=where)
     elif answer.startswith("whole"):
-        followed = Stream(data + MORE, limits, [data], "refused 0 ByteOrder", len(data) + 1, where)
-        alone = Stream(data, limits, [data], "done", where=where)
+        length = int(answer.removeprefix("whole "))
+        message = data[:length].ljust(length, b"?")
+        followed = Stream(data + MORE, limits, [message], "refused 0 ByteOrder", len(message) + 1, where)
+        alone = Stream(data, limits, [message], "done", where=where)
     else:
         followed = Stream(data + MORE, limits, [], answer, least, where)
         alone = Stream(data, limits, [], answer, least, where)
