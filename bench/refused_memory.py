@@ -2,7 +2,7 @@
 """refused_memory.py PROGRAM SAMPLE: runs dbus-wire failing each of its allocations in turn.
 
 Each command line below is run once with nothing refused, and then once for each allocation. If an allocation fails, the program
-must end with status 3 and the line `out of memory`, and its output must be a front of what it is otherwise. The exit status is 1
+must end with status 3 and the line `out of memory`, and what it writes before that must be a front of what it is otherwise. The exit status is 1
 if a run ended in another way, or if more runs than are named below ended as if nothing had been refused.
 
 Those that do are of allocations that the kit's libraries do without: one in each run, room that is asked for ahead when the words of
@@ -14,6 +14,7 @@ import subprocess
 import sys
 import tempfile
 
+LAST = b"out of memory\n"
 HERE = os.path.dirname(os.path.abspath(__file__))
 # Each with the number of failures that pass unseen.
 COMMAND_LINES = (
@@ -35,6 +36,7 @@ COMMAND_LINES = (
     (("count",), 11),
     (("count", "--json"), 11),
     (("count", "--max-array", "100", "--explain"), 1),
+    (("count", "--max-array", "100", "--keep-going"), 1),
     (("handshake", "--side", "client"), 1),
     (("swap",), 1),
     (("swap", "--to", "M"), 1),
@@ -55,7 +57,8 @@ def run(program, words, sample, environment):
 def is_right(refused, plain):
     """Whether a run with a failing allocation ended as it should."""
     status, out, told = refused
-    return status == 3 and told == b"out of memory\n" and plain[1].startswith(out)
+    before, last = told[: -len(LAST)], told[-len(LAST) :]
+    return status == 3 and last == LAST and plain[1].startswith(out) and plain[2].startswith(before)
 
 
 def try_words(program, words, sample, library, folder):

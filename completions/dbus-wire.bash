@@ -54,7 +54,7 @@ _dbus_wire() {
             COMPREPLY=($(compgen -W "--keep-going $options" -- "$word"))
             ;;
         count)
-            COMPREPLY=($(compgen -W "--json $options" -- "$word"))
+            COMPREPLY=($(compgen -W "--json --keep-going $options" -- "$word"))
             ;;
         handshake)
             COMPREPLY=($(compgen -W '--side -h --help' -- "$word"))

@@ -22,7 +22,7 @@ complete -c dbus-wire -n '__fish_seen_subcommand_from filter' -l learn-owners -f
 complete -c dbus-wire -n '__fish_seen_subcommand_from filter' -f -a 'type= sender= interface= member= path= path_namespace= destination='
 complete -c dbus-wire -n '__fish_seen_subcommand_from show json filter' -l skip -x -d 'Messages to skip first'
 complete -c dbus-wire -n '__fish_seen_subcommand_from show json filter' -l limit -x -d 'Most messages to write'
-complete -c dbus-wire -n '__fish_seen_subcommand_from show json check filter' -l keep-going -f -d 'Go on after a refused message'
+complete -c dbus-wire -n '__fish_seen_subcommand_from show json check count filter' -l keep-going -f -d 'Go on after a refused message'
 complete -c dbus-wire -n '__fish_seen_subcommand_from count' -l json -f -d 'Write each line of the tables as JSON'
 for command in show json check count swap filter
     complete -c dbus-wire -n "__fish_seen_subcommand_from $command" -l explain -f -d 'Explain what is refused'

@@ -54,7 +54,7 @@ with_options app = with_rule
     (limit_rule (codes "max-array") ARRAY_LIMIT))
     (limit_rule (codes "max-depth") DEPTH_LIMIT)) fds_rule) handshake_rule
 
--- and with `--keep-going`, which all but `count` and `swap` have
+-- and with `--keep-going`, which all but `swap` have
 abbrev pub with_keep_going : App → App
 with_keep_going app = with_options (with_rule app (flag_rule (codes "keep-going")))
 
@@ -78,7 +78,7 @@ abbrev pub filter_app : App
 filter_app = with_window (with_rule (with_rule (with_rule (with_rule (new_app (codes "filter")) text_rule) (flag_rule (codes "invert"))) owner_rule) (flag_rule (codes "learn-owners")))
 
 abbrev pub count_app : App
-count_app = with_options (with_rule (new_app (codes "count")) (flag_rule (codes "json")))
+count_app = with_keep_going (with_rule (new_app (codes "count")) (flag_rule (codes "json")))
 
 abbrev pub handshake_app : App
 handshake_app = with_rule (new_app (codes "handshake")) side_rule

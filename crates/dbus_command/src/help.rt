@@ -114,14 +114,13 @@ pub(crate) const COUNT: &str = "Counts the messages of each type, sender, member
 
 /// What stands after the help of `count`.
 pub(crate) const COUNT_MORE: &str = more!(
-    "
+    going "
   Tables on standard output: for each type, sender, destination, interface,
   member and error name a line `N messages B bytes WORD NAME`, those of most
   messages first. With --json each line is an object: the name behind its word,
   `messages` and `bytes`. If the input is refused, `refused at P: NAME` on
   standard error, and the tables are those of the messages before. Memory is
   taken for each name, and not for each message.",
-    "",
     "
   dbus-wire count < capture | grep ' member '"
 );

@@ -133,7 +133,7 @@ fn count_command<'a>(alloc: Global) -> Result<Command<'a>, AllocError>
         .about(help::COUNT)
         .after_help(help::COUNT_MORE);
     let formed = count.arg(flag(alloc, "json", help::COUNT_JSON))?;
-    with_options(alloc, formed)
+    with_keep_going(alloc, formed)
 }
 
 // `swap`, with its order.

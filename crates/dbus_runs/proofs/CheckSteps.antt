@@ -1,5 +1,5 @@
 -- How `check` ends: it counts the messages, and writes one line.
-use Rattle.std.proofs.Common.{◌≡◌, ℕ, ◌+◌, List, [], ◌∷◌, Err, Option, length, take, drop, refl, sym, ap, ◌∙◌, subst, take-append-drop, inl, inr}
+use Rattle.std.proofs.Common.{◌≡◌, ℕ, List, [], ◌∷◌, Err, Option, length, take, drop, refl, sym, ap, ◌∙◌, subst, take-append-drop, inl, inr}
 use Rattle.std.specs.Io.KnownBytes.{Appends}
 use Rattle.std.proofs.KnownBytes.{Appends-nil}
 use Rattle.dbus_device.specs.Write.{Wrote}
@@ -12,6 +12,7 @@ use Rattle.dbus_runs.specs.Checking.{WritesBefore, Answers, Fails, IsCause}
 use Rattle.dbus_runs.specs.Closing.{WritesLine}
 use Rattle.dbus_runs.specs.Counting.{CountsAll, CountsSome}
 use Rattle.dbus_report.specs.Devices.{Taken, reading, taken}
+use Rattle.dbus_runs.specs.Inputs.{Placed, placed, wholes}
 use Rattle.dbus_runs.specs.Output.{IsFront, IsOutputOfAll, check_line, status_of}
 use Rattle.dbus_report.specs.Gathering.{IsPrefixTo}
 use Rattle.dbus_report.specs.declared.ending.ExitStatus.{ExitStatus}
@@ -19,12 +20,12 @@ use Rattle.dbus_report.specs.declared.ending.Cause.{Cause}
 use Rattle.dbus_report.specs.declared.ending.Cause.TheVariants.{Memory, ReadFailed, WriteFailed, TooManyReads}
 use Rattle.dbus_runs.specs.declared.counted.Counted.{Counted}
 use Rattle.dbus_runs.proofs.Outputs.{front_of_whole}
-use Rattle.dbus_runs.proofs.WriteSteps.{wrote_nothing}
+use Rattle.dbus_runs.specs.ToldLaws.{wrote_nothing}
 
 -- `check` writes nothing of a message
-no_output : (n offset : ℕ) (items : List CutMessage) → IsOutputOfAll Check [] n offset items []
-no_output n offset [] = refl
-no_output n offset (item ∷ items) = ([], [], refl, inr (λ never. never, refl), no_output (n + 1) (offset + item.size) items)
+no_output : (items : List Placed) → IsOutputOfAll Check [] items []
+no_output [] = refl
+no_output (m ∷ items) = ([], [], refl, inr (λ never. never, refl), no_output items)
 
 module _ {R W : Type 0} (left : R → Option (List ℕ)) (calls read_failures : R → ℕ) (held : W → Option (List ℕ)) (write_failures : W → ℕ) (limits : Limits) (most : ℕ)
     (r0 r1 : R) (w0 : W) where
@@ -46,7 +47,7 @@ module _ {R W : Type 0} (left : R → Option (List ℕ)) (calls read_failures : 
         let one = IsCut-one limits a.bytes a.items items a.rest rest a.outcome outcome a.cut cut in
         let same : line ≡ check_line (length items) (sizes items) (fault_at_end rest outcome)
         = line_is ∙ (λ i. check_line (length (one.0 i)) (sizes (one.0 i)) (fault_at_end (one.1 i) (one.2 i))) in
-        front_of_whole Check items (fault_at_end rest outcome) [] written (no_output 1 0 items) (front.0, sym same ∙ front.1)
+        front_of_whole Check items (fault_at_end rest outcome) [] written (no_output (placed 1 0 (wholes items))) (front.0, sym same ∙ front.1)
 
     line_front : (cause : Cause) (written : List ℕ) → Appends (held w0) (held w1) written → IsPrefixTo written line → WritesBefore limits Check cause a.bytes written
         → IsCause left calls read_failures held write_failures limits most Check r0 r1 w0 w1 cause
@@ -83,7 +84,7 @@ module _ {R W : Type 0} (left : R → Option (List ℕ)) (calls read_failures : 
       read_failed = a.failed;
       cut = a.cut;
       at_end = a.at_end;
-      output = record { texts = []; each = no_output 1 0 a.items; joined = line_is };
+      output = record { texts = []; each = no_output (placed 1 0 (wholes a.items)); joined = line_is };
       first = wrote;
       second = inl (wrote_nothing second_held second_failures e, end_is ∙ ap status_of a.fault_is);
     }
@@ -96,7 +97,7 @@ module _ {R W : Type 0} (left : R → Option (List ℕ)) (calls read_failures : 
     consumed = s.consumed;
     called = s.called;
     appended = Appends-nil (held w0);
-    front = λ items rest outcome _. front_of_whole Check items (fault_at_end rest outcome) [] [] (no_output 1 0 items) (check_line (length items) (sizes items) (fault_at_end rest outcome), refl);
+    front = λ items rest outcome _. front_of_whole Check items (fault_at_end rest outcome) [] [] (no_output (placed 1 0 (wholes items))) (check_line (length items) (sizes items) (fault_at_end rest outcome), refl);
     before = before;
     caused = caused;
   }
@@ -105,8 +106,8 @@ module _ {R W : Type 0} (left : R → Option (List ℕ)) (calls read_failures : 
   pub gave_up : (cause : Cause) → CountsSome Took limits most cause → Fails left calls read_failures held write_failures limits most Check cause r0 r1 w0 w0
   gave_up Memory s = some_counted Memory s tt (s.caused, refl)
   gave_up ReadFailed s =
-      some_counted ReadFailed s (record { items = s.items; rest = s.rest; messages = s.messages; partial = s.caused.0; texts = []; output = no_output 1 0 s.items; written_is = refl }) (s.caused.1, refl)
+      some_counted ReadFailed s (record { items = s.items; rest = s.rest; messages = s.messages; partial = s.caused.0; texts = []; output = no_output (placed 1 0 (wholes s.items)); written_is = refl }) (s.caused.1, refl)
   gave_up WriteFailed s = absurd s.caused
   gave_up TooManyReads s =
-      some_counted TooManyReads s (record { items = s.items; rest = s.rest; messages = s.messages; partial = s.caused.0; texts = []; output = no_output 1 0 s.items; written_is = refl })
+      some_counted TooManyReads s (record { items = s.items; rest = s.rest; messages = s.messages; partial = s.caused.0; texts = []; output = no_output (placed 1 0 (wholes s.items)); written_is = refl })
       (s.caused.1, refl, s.caused.2)

@@ -1,7 +1,6 @@
 -- The next message of a reader, which first looks at what it keeps.
-use Rattle.std.proofs.Common.{◌≡◌, ℕ, List, Some, None, Err, Ok, Option, refl, sym, ap, ◌∙◌, subst, append-nil, inl}
+use Rattle.std.proofs.Common.{◌≡◌, ℕ, List, [], Some, None, Err, Ok, Option, refl, sym, ap, ◌∙◌, subst, append-nil, inl}
 use Rattle.dbus_validate.specs.declared.validating.Validated.{Validated}
-use Rattle.dbus_stream.specs.Cut.{CutMessage}
 use Rattle.dbus_stream.specs.Next.{DeviceCounts}
 use Rattle.dbus_stream.specs.declared.read_fault.ReadFault.{ReadFault}
 use Rattle.dbus_stream.specs.declared.read_fault.ReadFault.TheVariants as read
@@ -9,10 +8,13 @@ use Rattle.dbus_stream.specs.RawNext.{Advances, KeptAnswers, Lends, ReadsNothing
 use Rattle.dbus_stream.specs.RawReading.{kept, source_of, stopped_of}
 use Rattle.dbus_stream.specs.declared.raw_reader.RawReader.{RawReader}
 use Rattle.dbus_stream.proofs.RawSteps.{starts, unread}
-use Rattle.dbus_report.specs.declared.ending.Cause.{Cause}
+use Rattle.dbus_report.specs.declared.ending.Cause.TheVariants.{WriteFailed}
 use Rattle.dbus_runs.specs.Handing.{GivesNext, Stays}
-use Rattle.dbus_runs.specs.Visiting.{AddsUp, HasKept, HasLetGo}
+use Rattle.dbus_runs.specs.Inputs.{Placed}
+use Rattle.dbus_runs.specs.Visiting.{AddsUp}
 use Rattle.dbus_runs.specs.declared.counted.NoMessage.TheVariants.{Reader, Writer}
+use Rattle.dbus_runs.specs.declared.visitor.Stop.{Stop}
+use Rattle.dbus_runs.specs.declared.visitor.Stop.TheVariants.{Cause as ByCause}
 
 pub stays : {R A : Type 0} (old : RawReader R A) → stopped_of old ≡ None → Stays old old
 stays old unstopped = record { unread = record { source = refl; reads = refl; most_reads = refl; limits = refl; ended = refl }; kept_is = refl; done = refl; unstopped = unstopped }
@@ -28,8 +30,8 @@ looked old mid from n k s =
       unstopped = s.unstopped;
     }
 
-module _ {R A S : Type 0} (left : R → Option (List ℕ)) (calls failures : R → ℕ) {takes : S → (n offset : ℕ) → List CutMessage → S → Type 0}
-    {leaves : S → (n offset : ℕ) → List CutMessage → Cause → S → Type 0} {settled : S → Type 0} (laws : AddsUp takes leaves settled) (old new : RawReader R A) (unstopped : stopped_of old ≡ None)
+module _ {R A S : Type 0} (left : R → Option (List ℕ)) (calls failures : R → ℕ) {takes : S → S → List Placed → (told : List ℕ) → Type 0}
+    {leaves : S → S → List Placed → (told : List ℕ) → Stop → Type 0} {settled : S → Type 0} (laws : AddsUp takes leaves settled) (old new : RawReader R A) (unstopped : stopped_of old ≡ None)
     (n : ReadsNothing old new) where
   -- a message that is kept
   pub gives_kept : (j : Validated) (s : S) → Lends (kept old) j old new → GivesNext left calls failures takes leaves settled old new s s (Ok (Some j))
@@ -53,7 +55,7 @@ module _ {R A S : Type 0} (left : R → Option (List ℕ)) (calls failures : R �
 
   -- a fault of what is kept
   pub gives_kept_fault : (fault : ReadFault) (s0 s1 : S) → KeptAnswers old new (Err fault)
-      → DeviceCounts {T = Option Validated} (failures (source_of old)) (failures (source_of new)) (Err fault) → HasLetGo takes leaves s0 s1 → settled s1
+      → DeviceCounts {T = Option Validated} (failures (source_of old)) (failures (source_of new)) (Err fault) → takes s0 s1 [] [] → settled s1
       → GivesNext left calls failures takes leaves settled old new s0 s1 (Err (Reader fault))
   gives_kept_fault fault s0 s1 k counts go rests = (
     old,
@@ -62,5 +64,5 @@ module _ {R A S : Type 0} (left : R → Option (List ℕ)) (calls failures : R �
   )
 
   -- the visitor could not let go of what it held back, and nothing was read
-  pub gives_unwritten : (s0 s1 : S) → HasKept takes leaves s0 s1 → GivesNext left calls failures takes leaves settled old new s0 s1 (Err Writer)
+  pub gives_unwritten : (s0 s1 : S) → leaves s0 s1 [] [] (ByCause WriteFailed) → GivesNext left calls failures takes leaves settled old new s0 s1 (Err Writer)
   gives_unwritten s0 s1 back = (old, stays old unstopped, (unread left calls old old new (starts left calls old) n, back, ap failures n.source))

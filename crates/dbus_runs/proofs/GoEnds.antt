@@ -1,5 +1,5 @@
 -- How a turn of a run that passes over refused messages ends: the input ends, or a message is refused.
-use Rattle.std.proofs.Common.{◌≡◌, ℕ, ◌+◌, ◌-◌, ◌<◌, List, [], ◌∷◌, ◌++◌, Bool, true, false, None, Some, Ok, Err, Result, length, refl, sym, ap, ◌∙◌, subst, arith, inl, inr, append-nil, length-append}
+use Rattle.std.proofs.Common.{◌≡◌, ℕ, ◌+◌, ◌-◌, ◌<◌, List, [], ◌∷◌, ◌++◌, Bool, true, false, None, Some, Ok, Err, length, refl, sym, ap, ◌∙◌, subst, arith, inl, inr, append-nil, length-append}
 use Rattle.std.specs.Io.KnownBytes.{IsAtEnd}
 use Rattle.std.proofs.KnownBytes.{Consumes-trans}
 use Rattle.std.proofs.lemmas.Bool.{false≢true}
@@ -9,7 +9,6 @@ use Rattle.dbus_header.specs.MessageOutcomes.{IsRefused, IsPartial}
 use Rattle.dbus_header.specs.StatedLengths.{StatesLength}
 use Rattle.dbus_header.proofs.OutcomeLaws.{one_outcome, nothing_partial}
 use Rattle.dbus_device.specs.Device.{one_more}
-use Rattle.dbus_device.specs.Write.{Wrote}
 use Rattle.dbus_stream.specs.Cut.{CutOutcome, Ended, Unfinished, Refused, IsOutcome}
 use Rattle.dbus_stream.specs.CutEnds.{fault_at_end}
 use Rattle.dbus_stream.specs.Gathering.{gathering}
@@ -20,58 +19,58 @@ use Rattle.dbus_stream.specs.RawReading.{done_of, is_ended, kept, limits_of, mos
 use Rattle.dbus_stream.specs.declared.raw_reader.RawReader.{RawReader}
 use Rattle.dbus_stream.specs.declared.read_fault.ReadFault.{ReadFault}
 use Rattle.dbus_stream.specs.declared.read_fault.ReadFault.TheVariants as read
-use Rattle.dbus_report.specs.Devices.{writing}
-use Rattle.dbus_runs.specs.Going.{first_of, second_of, IsAllOf, IsTellable, cause_of, GotFirst, GotSecond, TellsBy}
+use Rattle.dbus_runs.specs.Going.{IsAllOf, cause_of}
+use Rattle.dbus_runs.specs.Inputs.{BeginWithParts, IsCutOff, IsLast, IsTellable, PassedOver, Placed, placed, sizes_of}
 use Rattle.dbus_runs.specs.Onward.{HasRead, stop_of}
-use Rattle.dbus_runs.specs.Parts.{AreTold, BeginWithParts, IsCutOff, IsLast, IsTold, passed_count, passed_sizes, PassedOver, sizes_of}
-use Rattle.dbus_runs.specs.Windows.{after, written}
+use Rattle.dbus_runs.specs.Parts.{AreTold, IsTold, passed_count, passed_sizes}
+use Rattle.dbus_runs.specs.Visiting.{AddsUp, Tells}
+use Rattle.dbus_report.specs.declared.ending.Cause.{Cause}
 use Rattle.dbus_report.specs.declared.ending.Cause.TheVariants.{Memory, ReadFailed, WriteFailed, TooManyReads}
 use Rattle.dbus_runs.specs.declared.counted.Counted.{Counted}
-use Rattle.dbus_runs.specs.declared.going.Stop.{Stop}
-use Rattle.dbus_runs.specs.declared.going.Stop.TheVariants.{Cause as ByCause, Untold}
-use Rattle.dbus_runs.specs.declared.place.Carried.{Carried}
 use Rattle.dbus_runs.specs.declared.tally.Tally.{Tally}
-use Rattle.dbus_runs.proofs.PartLaws.{parts_more, sizes-both, passed-both, passed_sizes-both, past_all_both}
-use Rattle.dbus_runs.specs.WindowLaws.{written_none}
+use Rattle.dbus_runs.specs.declared.visitor.Stop.{Stop}
+use Rattle.dbus_runs.specs.declared.visitor.Stop.TheVariants.{Cause as ByCause, Untold}
+use Rattle.dbus_runs.proofs.PartLaws.{parts_more, placed_past, sizes-both, passed-both, passed_sizes-both}
 use Rattle.dbus_runs.proofs.ReadSteps.{read_none, read_on}
-use Rattle.dbus_runs.proofs.WriteSteps.{HasTold, TellsMore, tells_more}
-use Rattle.dbus_runs.proofs.GoSteps.{Begun, HasCovered, HasGone, HasReached, refused_is, none_is, known_first, covers_read, covers, Took, Within, Through, Handed, Stopped, More, stops_plain, all_called}
+use Rattle.dbus_runs.proofs.GoSteps.{Begun, HasCovered, HasEnded, HasGone, HasReached, refused_is, none_is, covers_read, covers, Took, Within, Through, Stopped, More, stops_plain, all_called}
 
-module _ {R A W E : Type 0} {run : Begun R A W E} {mid : RawReader R A} {counted : Counted} {tally : Tally} {carried : Carried} {w1 : W} {e1 : E} (h : HasReached run mid counted tally carried w1 e1) where
+module _ {R A S : Type 0} {takes : S → S → List Placed → (told : List ℕ) → Type 0} {leaves : S → S → List Placed → (told : List ℕ) → Stop → Type 0} {settled : S → Type 0} (laws : AddsUp takes leaves settled)
+    {run : Begun R A S} {mid : RawReader R A} {counted : Counted} {tally : Tally} {s1 : S} (h : HasReached run takes mid counted tally s1) where
+  abbrev items : List Placed
+  items = placed 1 0 h.gone.parts
+
   -- it ends after a message
-  pub finished : counted.fault ≡ None → Handed run mid tally None w1 e1
+  pub finished : counted.fault ≡ None → HasEnded run takes mid tally None s1
   finished none =
       let g = h.gone in
       let no_fault : None ≡ fault_at_end (kept mid) h.outcome = sym none ∙ h.fault_is in
       let ended : h.outcome ≡ Ended = none_is (kept mid) h.outcome no_fault in
       let at_end : IsAtEnd (run.left (source_of mid)) = g.covered.at_end (h.ended (λ f is. absurd (let both = sym ended ∙ is in cc))) in
       record {
-        out = g.out;
         told = g.told;
         text = [];
         through = record {
           parts = g.parts;
           rest = kept mid;
-          covers = covers run mid g.parts (kept mid) g.out g.told g.covered;
+          covers = covers run mid g.parts (kept mid) g.told g.covered;
           tally_is = g.tally_is;
           kept = kept mid;
           tells = record { outcome = h.outcome; outcome_is = h.outcome_is; fault_is = no_fault; told = refl };
           last = subst (λ o. IsLast run.settings.keeps_going run.settings.limits (kept mid) (kept mid) o (IsAtEnd (run.left (source_of mid)))) (sym ended) (refl, at_end);
           read_failed = g.failed;
         };
-        first = subst (λ (l : List ℕ). Wrote run.held run.write_failures run.w0 (first_of run.command g.out l) w1) (sym (append-nil g.told)) g.wrote.first;
-        second = subst (λ (l : List ℕ). Wrote run.second_held run.second_failures run.e0 (second_of run.command l) e1) (sym (append-nil g.told)) g.wrote.second;
+        came = subst (λ (l : List ℕ). takes run.s0 s1 items l) (sym (append-nil g.told)) g.came;
       }
 
   -- ---- the fault is told
 
   module _ {fault : Fault} (faulty : counted.fault ≡ Some fault) where
     -- this is told of it
-    abbrev Tells : List ℕ → Type 0
-    Tells text = IsTold run.settings (record { number = counted.count + 1; offset = counted.size; fault = fault }) (kept mid) text
+    abbrev Due : List ℕ → Type 0
+    Due text = IsTold run.settings (record { number = counted.count + 1; offset = counted.size; fault = fault }) (kept mid) text
 
     -- by its place among the parts
-    told_at : (n : ℕ) (text : List ℕ) → n ≡ length h.gone.parts + 1 → Tells text → IsTold run.settings (record { number = n; offset = sizes_of h.gone.parts; fault = fault }) (kept mid) text
+    told_at : (n : ℕ) (text : List ℕ) → n ≡ length h.gone.parts + 1 → Due text → IsTold run.settings (record { number = n; offset = sizes_of h.gone.parts; fault = fault }) (kept mid) text
     told_at n text e told =
         let number : counted.count + 1 ≡ n = omega (arith, h.count_is, ap (λ (t : Tally). t.count) h.gone.tally_is, e) in
         let offset : counted.size ≡ sizes_of h.gone.parts = sym h.size_is ∙ ap (λ (t : Tally). t.size) h.gone.tally_is in
@@ -84,23 +83,14 @@ module _ {R A W E : Type 0} {run : Begun R A W E} {mid : RawReader R A} {counted
     stopped_last : stopped_of mid ≡ Some (read.Format fault)
     stopped_last = h.stopped ∙ ap stop_of faulty
 
-    -- it was told, or a prefix of it
-    abbrev TellsIt : W → E → Result (Unit {0}) Stop → Type 0
-    TellsIt w2 e2 res =
-        TellsBy (writing run.held run.write_failures w1 w2) (writing run.second_held run.second_failures e1 e2) run.command run.settings (record { number = counted.count + 1; offset = counted.size; fault = fault }) (kept mid) res
-
-    pub more_told : (w2 : W) (e2 : E) (res : Result (Unit {0}) Stop) → TellsIt w2 e2 res
-        → TellsMore run.held run.write_failures run.second_held run.second_failures run.command h.gone.out h.gone.told Tells run.w0 w1 w2 run.e0 e1 e2 h.gone.wrote res
-    more_told w2 e2 res told = tells_more run.held run.write_failures run.second_held run.second_failures run.command h.gone.out h.gone.told Tells run.w0 w1 w2 run.e0 e1 e2 h.gone.wrote res told
-
     -- all was read up to the rest
-    through : (new : RawReader R A) (text rest : List ℕ) (outcome : CutOutcome) → Tells text → IsOutcome run.settings.limits (kept mid) outcome → Some fault ≡ fault_at_end (kept mid) outcome
-        → HasCovered run new h.gone.parts rest h.gone.out h.gone.told → IsLast run.settings.keeps_going run.settings.limits (kept mid) rest outcome (IsAtEnd (run.left (source_of new)))
-        → run.failures (source_of new) ≡ run.failures (source_of mid) → Through run new tally (Some fault) h.gone.out h.gone.told text
+    abbrev through : (new : RawReader R A) (text rest : List ℕ) (outcome : CutOutcome) → Due text → IsOutcome run.settings.limits (kept mid) outcome → Some fault ≡ fault_at_end (kept mid) outcome
+        → HasCovered run new h.gone.parts rest h.gone.told → IsLast run.settings.keeps_going run.settings.limits (kept mid) rest outcome (IsAtEnd (run.left (source_of new)))
+        → run.failures (source_of new) ≡ run.failures (source_of mid) → Through run new tally (Some fault) h.gone.told text
     through new text rest outcome told outcome_is fault_is covered last same = record {
       parts = h.gone.parts;
       rest = rest;
-      covers = covers run new h.gone.parts rest h.gone.out h.gone.told covered;
+      covers = covers run new h.gone.parts rest h.gone.told covered;
       tally_is = h.gone.tally_is;
       kept = kept mid;
       tells = record { outcome = outcome; outcome_is = outcome_is; fault_is = fault_is; told = told_at (length h.gone.parts + 1) text refl told };
@@ -123,8 +113,8 @@ module _ {R A W E : Type 0} {run : Begun R A W E} {mid : RawReader R A} {counted
         )
 
     -- nothing was passed over, if the run is not to go on, or could not
-    through_there : (text : List ℕ) → Tells text → (run.settings.keeps_going ≡ true → (other : Fault) (n : ℕ) → IsRefusal (stopped_of mid) other → StatesAll (limits_of mid) (kept mid) n → ⊥)
-        → Through run mid tally (Some fault) h.gone.out h.gone.told text
+    abbrev through_there : (text : List ℕ) → Due text → (run.settings.keeps_going ≡ true → (other : Fault) (n : ℕ) → IsRefusal (stopped_of mid) other → StatesAll (limits_of mid) (kept mid) n → ⊥)
+        → Through run mid tally (Some fault) h.gone.told text
     through_there text told none =
         through mid text (kept mid) h.outcome told h.outcome_is fault_last h.gone.covered (last_is h.outcome fault_last (λ not. h.gone.covered.at_end (h.ended not)) none) refl
 
@@ -135,168 +125,165 @@ module _ {R A W E : Type 0} {run : Begun R A W E} {mid : RawReader R A} {counted
     tellable Unfinished e at_end = (refl, at_end (λ f is. absurd cc))
     tellable (Refused other) e at_end = refl
 
-    pub not_told : (w2 : W) (e2 : E) (stop : Stop) → TellsIt w2 e2 (Err stop) → Within run mid stop w2 e2
-    not_told w2 e2 (ByCause Memory) told =
-        let more = more_told w2 e2 (Err (ByCause Memory)) told in
-        stops_plain run Memory mid h.gone.parts (kept mid) h.gone.out h.gone.told w2 e2 h.gone.covered (inl refl) h.gone.failed more.first more.second
-    not_told w2 e2 (ByCause ReadFailed) told = absurd (more_told w2 e2 (Err (ByCause ReadFailed)) told)
-    not_told w2 e2 (ByCause WriteFailed) told = absurd (more_told w2 e2 (Err (ByCause WriteFailed)) told)
-    not_told w2 e2 (ByCause TooManyReads) told = absurd (more_told w2 e2 (Err (ByCause TooManyReads)) told)
-    not_told w2 e2 Untold told =
-        let more = more_told w2 e2 (Err Untold) told in
-        record {
-          parts = h.gone.parts;
-          rest = kept mid;
-          out = h.gone.out;
-          told = h.gone.told;
-          covers = covers run mid h.gone.parts (kept mid) h.gone.out h.gone.told h.gone.covered;
-          more = more.0;
-          all = (
-            kept mid,
-            Some fault,
-            more.0,
-            record { outcome = h.outcome; outcome_is = h.outcome_is; fault_is = fault_last; told = told_at (length h.gone.parts + 1) more.0 refl more.1 },
-            inl (tellable h.outcome fault_last (λ not. h.gone.covered.at_end (h.ended not)), refl),
-          );
-          caused = h.gone.failed;
-          first = more.2.0;
-          second = more.2.1;
-        }
+    pub not_told : settled s1 → (s2 : S) (stop : Stop) → Tells takes leaves Due s1 s2 (Err stop) → Within run leaves mid stop s2
+    not_told rests s2 (ByCause Memory) same =
+        let came = (laws.rests run.s0 s1 items h.gone.told h.gone.came rests).0 in
+        stops_plain run leaves Memory mid h.gone.parts (kept mid) h.gone.told s2 h.gone.covered (inl refl) h.gone.failed (subst (λ (s : S). leaves run.s0 s items h.gone.told (ByCause Memory)) (sym same) came)
+    not_told rests s2 (ByCause ReadFailed) never = absurd never
+    not_told rests s2 (ByCause WriteFailed) never = absurd never
+    not_told rests s2 (ByCause TooManyReads) never = absurd never
+    not_told rests s2 Untold half = record {
+      parts = h.gone.parts;
+      rest = kept mid;
+      told = h.gone.told;
+      covers = covers run mid h.gone.parts (kept mid) h.gone.told h.gone.covered;
+      more = half.0;
+      all = (
+        kept mid,
+        Some fault,
+        half.0,
+        record { outcome = h.outcome; outcome_is = h.outcome_is; fault_is = fault_last; told = told_at (length h.gone.parts + 1) half.0 refl half.1 },
+        inl (tellable h.outcome fault_last (λ not. h.gone.covered.at_end (h.ended not)), refl),
+      );
+      caused = h.gone.failed;
+      came = subst (λ (l : List Placed). leaves run.s0 s2 l (h.gone.told ++ half.0) Untold) (append-nil items) (laws.leaves_after run.s0 s1 s2 items [] h.gone.told half.0 Untold h.gone.came half.2);
+    }
 
     -- ---- and the message is passed over, or not
 
-    abbrev HasToldIt : List ℕ → W → E → Type 0
-    HasToldIt text w2 e2 = HasTold run.held run.write_failures run.second_held run.second_failures run.command h.gone.out (h.gone.told ++ text) run.w0 w2 run.e0 e2
+    module _ (text : List ℕ) (told : Due text) {s2 : S} (took : takes s1 s2 [] text) where
+      came_told : takes run.s0 s2 items (h.gone.told ++ text)
+      came_told = subst (λ (l : List Placed). takes run.s0 s2 l (h.gone.told ++ text)) (append-nil items) (laws.joins run.s0 s1 s2 items [] h.gone.told text h.gone.came took)
 
-    handed : (new : RawReader R A) (text : List ℕ) (w2 : W) (e2 : E) → HasToldIt text w2 e2 → Through run new tally (Some fault) h.gone.out h.gone.told text → Handed run new tally (Some fault) w2 e2
-    handed new text w2 e2 wrote all = record { out = h.gone.out; told = h.gone.told; text = text; through = all; first = wrote.first; second = wrote.second }
+      pub halts : run.settings.keeps_going ≡ false → HasEnded run takes mid tally (Some fault) s2
+      halts halt = record { told = h.gone.told; text = text; through = through_there text told (λ goes. absurd (false≢true (sym halt ∙ goes))); came = came_told }
 
-    pub halts : (text : List ℕ) (w2 : W) (e2 : E) → Tells text → HasToldIt text w2 e2 → run.settings.keeps_going ≡ false → Handed run mid tally (Some fault) w2 e2
-    halts text w2 e2 told wrote halt = handed mid text w2 e2 wrote (through_there text told (λ goes. absurd (false≢true (sym halt ∙ goes))))
+      module _ (new : RawReader R A) where
+        met : (other : Fault) → IsRefusal (stopped_of mid) other → IsRefused run.settings.limits (kept mid) fault
+        met other refusal =
+            let same : other ≡ fault = (let both = sym refusal.0 ∙ stopped_last in cc) in
+            refused_is run.settings.limits (kept mid) fault h.outcome h.outcome_is fault_last (subst (λ (f : Fault). is_truncated f.reason ≡ false) same refusal.1)
 
-    module _ (text : List ℕ) {w2 : W} {e2 : E} (told : Tells text) (wrote : HasToldIt text w2 e2) (new : RawReader R A) where
-      met : (other : Fault) → IsRefusal (stopped_of mid) other → IsRefused run.settings.limits (kept mid) fault
-      met other refusal =
-          let same : other ≡ fault = (let both = sym refusal.0 ∙ stopped_last in cc) in
-          refused_is run.settings.limits (kept mid) fault h.outcome h.outcome_is fault_last (subst (λ (f : Fault). is_truncated f.reason ≡ false) same refusal.1)
+        states : (n : ℕ) → StatesLength (limits_of mid) (kept mid) n → StatesLength run.settings.limits (kept mid) n
+        states n s = subst (λ (l : Limits). StatesLength l (kept mid) n) h.gone.covered.limits_are s
 
-      states : (n : ℕ) → StatesLength (limits_of mid) (kept mid) n → StatesLength run.settings.limits (kept mid) n
-      states n s = subst (λ (l : Limits). StatesLength l (kept mid) n) h.gone.covered.limits_are s
+        -- no byte of it was dropped before
+        stated : (other : Fault) (n : ℕ) → IsRefusal (stopped_of mid) other → IsDue mid n → StatesLength (limits_of mid) (kept mid) n
+        stated other n refusal (inl s) = s
+        stated other n refusal (inr o) = absurd ((one_outcome run.settings.limits (kept mid)).2 fault (met other refusal) (subst (λ l. IsPartial run.settings.limits l) (sym o.kept) (nothing_partial run.settings.limits)))
 
-      -- no byte of it was dropped before
-      stated : (other : Fault) (n : ℕ) → IsRefusal (stopped_of mid) other → IsDue mid n → StatesLength (limits_of mid) (kept mid) n
-      stated other n refusal (inl s) = s
-      stated other n refusal (inr o) = absurd ((one_outcome run.settings.limits (kept mid)).2 fault (met other refusal) (subst (λ l. IsPartial run.settings.limits l) (sym o.kept) (nothing_partial run.settings.limits)))
+        -- what was read to pass over it
+        abbrev passing : (n : ℕ) (r : ReadsUpTo n run.left run.calls mid new) → HasRead gathering run.left run.calls run.settings.limits (kept mid) mid.reader new.reader [] (kept mid ++ r.bytes)
+        passing n r =
+            read_on gathering run.left run.calls run.settings.limits (kept mid) (λ before. length (kept mid ++ before) < n) mid.reader mid.reader new.reader [] (kept mid)
+            (read_none gathering run.left run.calls run.settings.limits (kept mid) mid.reader h.gone.covered.limits_are) r
 
-      -- what was read to pass over it
-      abbrev passing : (n : ℕ) (r : ReadsUpTo n run.left run.calls mid new) → HasRead gathering run.left run.calls run.settings.limits (kept mid) mid.reader new.reader [] (kept mid ++ r.bytes)
-      passing n r =
-          read_on gathering run.left run.calls run.settings.limits (kept mid) (λ before. length (kept mid ++ before) < n) mid.reader mid.reader new.reader [] (kept mid)
-          (read_none gathering run.left run.calls run.settings.limits (kept mid) mid.reader h.gone.covered.limits_are) r
+        short_covered : (n : ℕ) (r : ReadsUpTo n run.left run.calls mid new) → HasCovered run new h.gone.parts (kept mid ++ r.bytes) h.gone.told
+        short_covered n r =
+            let c = h.gone.covered in
+            let p = passing n r in
+            record {
+              bytes = c.bytes ++ r.bytes;
+              consumed = Consumes-trans _ _ _ _ _ c.consumed r.consumed;
+              called = omega (arith, c.called, r.called, r.reads);
+              most_reads = r.most_reads ∙ c.most_reads;
+              limits_are = r.limits ∙ c.limits_are;
+              at_end = p.at_end c.at_end;
+              begin = parts_more run.settings.limits c.bytes h.gone.parts (kept mid) r.bytes c.begin;
+              tells = c.tells;
+            }
 
-      short_covered : (n : ℕ) (r : ReadsUpTo n run.left run.calls mid new) → HasCovered run new h.gone.parts (kept mid ++ r.bytes) h.gone.out h.gone.told
-      short_covered n r =
-          let c = h.gone.covered in
-          let p = passing n r in
-          record {
-            bytes = c.bytes ++ r.bytes;
-            consumed = Consumes-trans _ _ _ _ _ c.consumed r.consumed;
-            called = omega (arith, c.called, r.called, r.reads);
-            most_reads = r.most_reads ∙ c.most_reads;
-            limits_are = r.limits ∙ c.limits_are;
-            at_end = p.at_end c.at_end;
-            begin = parts_more run.settings.limits c.bytes h.gone.parts (kept mid) r.bytes c.begin;
-            texts = c.texts;
-            made = c.made;
-            out_is = c.out_is;
-            tells = c.tells;
+        cut_off : (n : ℕ) (bytes : List ℕ) → StatesLength (limits_of mid) (kept mid) n → FallsShort n (kept mid ++ bytes) mid new → IsCutOff run.settings.limits (kept mid) (kept mid ++ bytes)
+        cut_off n bytes s f = record { size = n; front = (bytes, refl); states = states n s; short = f.short }
+
+        -- the input ends within it
+        ends_short : (goes : run.settings.keeps_going ≡ true) (n : ℕ) (r : ReadsUpTo n run.left run.calls mid new) (other : Fault) → IsRefusal (stopped_of mid) other → StatesLength (limits_of mid) (kept mid) n
+            → FallsShort n (kept mid ++ r.bytes) mid new → is_ended new ≡ true → run.failures (source_of new) ≡ run.failures (source_of mid) → HasEnded run takes new tally (Some fault) s2
+        ends_short goes n r other refusal s short ended same =
+            let covered = short_covered n r in
+            record {
+              told = h.gone.told;
+              text = text;
+              through = through new text (kept mid ++ r.bytes) (Refused fault) told (met other refusal) refl covered (inr (cut_off n r.bytes s short, covered.at_end ended, goes)) same;
+              came = came_told;
+            }
+
+        pub stays : run.settings.keeps_going ≡ true → Passing run.left run.calls mid new (Ok false) → run.failures (source_of new) ≡ run.failures (source_of mid) → HasEnded run takes new tally (Some fault) s2
+        stays goes passing same = elim passing [
+          | inl p ↦ ends_short goes p.1 p.4 p.0 p.2 (stated p.0 p.1 p.2 p.3) p.5.0 p.5.1 same
+          | inr none ↦ subst (λ (x : RawReader R A). HasEnded run takes x tally (Some fault) s2) (sym none.2) (record {
+            told = h.gone.told;
+            text = text;
+            through = through_there text told (λ goes other n refusal all. none.0 other n refusal (inl all));
+            came = came_told;
+          })
+        ]
+
+        module _ (rests : settled s2) where
+          -- it was not passed over, since reading was given up
+          torn : (goes : run.settings.keeps_going ≡ true) (cause : Cause) (n : ℕ) (r : ReadsUpTo n run.left run.calls mid new) (other : Fault) → IsRefusal (stopped_of mid) other
+              → StatesLength (limits_of mid) (kept mid) n → FallsShort n (kept mid ++ r.bytes) mid new
+              → (IsAllOf (Took run new) run.settings (most_reads_of run.old) run.is_check h.gone.parts (kept mid ++ r.bytes) text → More run new (ByCause cause) h.gone.parts (kept mid ++ r.bytes) text)
+              → Stopped run new (ByCause cause) → leaves run.s0 s2 items (h.gone.told ++ text) (ByCause cause) → Within run leaves new (ByCause cause) s2
+          torn goes cause n r other refusal s short all caused came = record {
+            parts = h.gone.parts;
+            rest = kept mid ++ r.bytes;
+            told = h.gone.told;
+            covers = covers run new h.gone.parts (kept mid ++ r.bytes) h.gone.told (short_covered n r);
+            more = text;
+            all = all (inr (kept mid, fault, met other refusal, cut_off n r.bytes s short, goes, told_at (length h.gone.parts + 1) text refl told));
+            caused = caused;
+            came = came;
           }
 
-      cut_off : (n : ℕ) (bytes : List ℕ) → StatesLength (limits_of mid) (kept mid) n → FallsShort n (kept mid ++ bytes) mid new → IsCutOff run.settings.limits (kept mid) (kept mid ++ bytes)
-      cut_off n bytes s f = record { size = n; front = (bytes, refl); states = states n s; short = f.short }
+          pub breaks : (goes : run.settings.keeps_going ≡ true) (broken : ReadFault) → Passing run.left run.calls mid new (Err broken)
+              → DeviceCounts {T = Bool} (run.failures (source_of mid)) (run.failures (source_of new)) (Err broken) → Within run leaves new (ByCause (cause_of broken)) s2
+          breaks goes read.Memory passing counts = elim passing [ inl p ↦ absurd p.5 | inr none ↦ absurd (let e = none.1 in cc) ]
+          breaks goes (read.Format f) passing counts = elim passing [ inl p ↦ absurd p.5 | inr none ↦ absurd (let e = none.1 in cc) ]
+          breaks goes read.Device passing counts = elim passing [
+            | inl p ↦ torn goes ReadFailed p.1 p.4 p.0 p.2 (stated p.0 p.1 p.2 p.3) p.5 (λ all. all) (counts.0 ∙ ap one_more h.gone.failed)
+                (laws.rests run.s0 s2 items (h.gone.told ++ text) came_told rests).1
+            | inr none ↦ absurd (let e = none.1 in cc)
+          ]
+          breaks goes read.TooManyReads passing counts = elim passing [
+            | inl p ↦ torn goes TooManyReads p.1 p.4 p.0 p.2 (stated p.0 p.1 p.2 p.3) p.5.0 (λ all. all)
+                (counts ∙ h.gone.failed, all_called run new h.gone.parts (kept mid ++ p.4.bytes) h.gone.told (short_covered p.1 p.4) p.5.1)
+                (laws.rests run.s0 s2 items (h.gone.told ++ text) came_told rests).2
+            | inr none ↦ absurd (let e = none.1 in cc)
+          ]
 
-      -- the input ends within it
-      ends_short : (goes : run.settings.keeps_going ≡ true) (n : ℕ) (r : ReadsUpTo n run.left run.calls mid new) (other : Fault) → IsRefusal (stopped_of mid) other → StatesLength (limits_of mid) (kept mid) n → FallsShort n (kept mid ++ r.bytes) mid new
-          → is_ended new ≡ true → run.failures (source_of new) ≡ run.failures (source_of mid) → Handed run new tally (Some fault) w2 e2
-      ends_short goes n r other refusal s short ended same =
-          let covered = short_covered n r in
-          handed new text w2 e2 wrote (through new text (kept mid ++ r.bytes) (Refused fault) told (met other refusal) refl covered (inr (cut_off n r.bytes s short, covered.at_end ended, goes)) same)
+        -- the message was passed over
+        over : (past : Tally) (end : ℕ) → end ≡ done_of new → past ≡ record { count = tally.count + 1; size = end; passed = tally.passed + 1; passed_size = tally.passed_size + (end - tally.size) }
+            → run.settings.keeps_going ≡ true → (n : ℕ) (r : ReadsUpTo n run.left run.calls mid new) (other : Fault) → IsRefusal (stopped_of mid) other → StatesLength (limits_of mid) (kept mid) n
+            → PassesOver n (kept mid ++ r.bytes) mid new → run.failures (source_of new) ≡ run.failures (source_of mid) → HasGone run takes new past s2
+        over past end there past_is goes n r other refusal s p same =
+            let parts = h.gone.parts in
+            let is = h.gone.tally_is in
+            let part = PassedOver (kept mid) fault n in
+            let read = passing n r in
+            let begin : BeginWithParts run.settings.limits (kept mid ++ read.bytes) (part ∷ []) (kept new) = (((r.bytes, refl), met other refusal, states n s, p.there), sym p.kept) in
+            let number : 1 + length parts ≡ length parts + 1 = omega arith in
+            let offset : sizes_of parts ≡ 0 + sizes_of parts = omega arith in
+            let told_next = subst (λ (o : ℕ). IsTold run.settings (record { number = 1 + length parts; offset = o; fault = fault }) (kept mid) text) offset (told_at (1 + length parts) text number told) in
+            let told_is : AreTold run.settings (1 + length parts) (0 + sizes_of parts) (part ∷ []) text = (text, [], sym (append-nil text), (goes, told_next), refl) in
+            let count_is : tally.count + 1 ≡ length (parts ++ part ∷ []) = omega (arith, ap (λ (t : Tally). t.count) is, length-append parts (part ∷ [])) in
+            let size_is : done_of new ≡ sizes_of (parts ++ part ∷ []) = omega (arith, p.done, h.gone.done, sizes-both parts (part ∷ [])) in
+            let passed_is : tally.passed + 1 ≡ passed_count (parts ++ part ∷ []) = omega (arith, ap (λ (t : Tally). t.passed) is, passed-both parts (part ∷ [])) in
+            let passed_size_is : tally.passed_size + (end - tally.size) ≡ passed_sizes (parts ++ part ∷ [])
+            = omega (arith, there, ap (λ (t : Tally). t.passed_size) is, ap (λ (t : Tally). t.size) is, p.done, h.gone.done, passed_sizes-both parts (part ∷ [])) in
+            record {
+              parts = parts ++ part ∷ [];
+              told = h.gone.told ++ text;
+              covered = covers_read run mid new parts (part ∷ []) (kept mid) (kept new) h.gone.told text (kept mid ++ r.bytes) [] h.gone.covered read begin told_is;
+              tally_is = past_is ∙ (λ i. record { count = count_is i; size = (there ∙ size_is) i; passed = passed_is i; passed_size = passed_size_is i });
+              done = size_is;
+              failed = same ∙ h.gone.failed;
+              came = subst (λ (l : List Placed). takes run.s0 s2 l (h.gone.told ++ text)) (placed_past 1 0 parts (kept mid) fault n) came_told;
+            }
 
-      pub stays : run.settings.keeps_going ≡ true → Passing run.left run.calls mid new (Ok false) → run.failures (source_of new) ≡ run.failures (source_of mid) → Handed run new tally (Some fault) w2 e2
-      stays goes passing same = elim passing [
-        | inl p ↦ ends_short goes p.1 p.4 p.0 p.2 (stated p.0 p.1 p.2 p.3) p.5.0 p.5.1 same
-        | inr none ↦ subst (λ (x : RawReader R A). Handed run x tally (Some fault) w2 e2) (sym none.2) (handed mid text w2 e2 wrote (through_there text told (λ goes other n refusal all. none.0 other n refusal (inl all))))
-      ]
-
-      -- it was not passed over, since reading was given up
-      torn : (goes : run.settings.keeps_going ≡ true) (stop : Stop) (n : ℕ) (r : ReadsUpTo n run.left run.calls mid new) (other : Fault) → IsRefusal (stopped_of mid) other → StatesLength (limits_of mid) (kept mid) n → FallsShort n (kept mid ++ r.bytes) mid new
-          → (IsAllOf (Took run new) run.settings (most_reads_of run.old) run.command h.gone.parts (kept mid ++ r.bytes) text → More run new stop h.gone.parts (kept mid ++ r.bytes) text)
-          → Stopped run new stop → GotFirst run.held run.write_failures run.command stop (first_of run.command h.gone.out (h.gone.told ++ text)) run.w0 w2
-          → GotSecond run.second_held run.second_failures run.command stop (second_of run.command (h.gone.told ++ text)) run.e0 e2 → Within run new stop w2 e2
-      torn goes stop n r other refusal s short all caused first second = record {
-        parts = h.gone.parts;
-        rest = kept mid ++ r.bytes;
-        out = h.gone.out;
-        told = h.gone.told;
-        covers = covers run new h.gone.parts (kept mid ++ r.bytes) h.gone.out h.gone.told (short_covered n r);
-        more = text;
-        all = all (inr (kept mid, fault, met other refusal, cut_off n r.bytes s short, goes, told_at (length h.gone.parts + 1) text refl told));
-        caused = caused;
-        first = first;
-        second = second;
-      }
-
-      pub breaks : (goes : run.settings.keeps_going ≡ true) (broken : ReadFault) → Passing run.left run.calls mid new (Err broken) → DeviceCounts {T = Bool} (run.failures (source_of mid)) (run.failures (source_of new)) (Err broken)
-          → Within run new (ByCause (cause_of broken)) w2 e2
-      breaks goes read.Memory passing counts = elim passing [ inl p ↦ absurd p.5 | inr none ↦ absurd (let e = none.1 in cc) ]
-      breaks goes (read.Format f) passing counts = elim passing [ inl p ↦ absurd p.5 | inr none ↦ absurd (let e = none.1 in cc) ]
-      breaks goes read.Device passing counts = elim passing [
-        | inl p ↦ torn goes (ByCause ReadFailed) p.1 p.4 p.0 p.2 (stated p.0 p.1 p.2 p.3) p.5 (λ all. all) (counts.0 ∙ ap one_more h.gone.failed) wrote.first wrote.second
-        | inr none ↦ absurd (let e = none.1 in cc)
-      ]
-      breaks goes read.TooManyReads passing counts = elim passing [
-        | inl p ↦ torn goes (ByCause TooManyReads) p.1 p.4 p.0 p.2 (stated p.0 p.1 p.2 p.3) p.5.0 (λ all. all)
-            (counts ∙ h.gone.failed, all_called run new h.gone.parts (kept mid ++ p.4.bytes) h.gone.out h.gone.told (short_covered p.1 p.4) p.5.1) wrote.first wrote.second
-        | inr none ↦ absurd (let e = none.1 in cc)
-      ]
-
-      -- the message was passed over
-      pub goes_on : (past : Tally) (end : ℕ) → end ≡ done_of new → past ≡ record { count = tally.count + 1; size = end; passed = tally.passed + 1; passed_size = tally.passed_size + (end - tally.size) }
-          → run.settings.keeps_going ≡ true → Passing run.left run.calls mid new (Ok true) → run.failures (source_of new) ≡ run.failures (source_of mid) → HasGone run new past carried w2 e2
-      goes_on past end there past_is goes answer same = elim answer [
-        | inl p ↦ over past end there past_is goes p.1 p.4 p.0 p.2 (stated p.0 p.1 p.2 p.3) p.5 same
-        | inr none ↦ absurd (let e = none.1 in cc)
-      ]
-        where
-          over : (past : Tally) (end : ℕ) → end ≡ done_of new → past ≡ record { count = tally.count + 1; size = end; passed = tally.passed + 1; passed_size = tally.passed_size + (end - tally.size) }
-              → run.settings.keeps_going ≡ true → (n : ℕ) (r : ReadsUpTo n run.left run.calls mid new) (other : Fault) → IsRefusal (stopped_of mid) other → StatesLength (limits_of mid) (kept mid) n
-              → PassesOver n (kept mid ++ r.bytes) mid new → run.failures (source_of new) ≡ run.failures (source_of mid) → HasGone run new past carried w2 e2
-          over past end there past_is goes n r other refusal s p same =
-              let parts = h.gone.parts in
-              let is = h.gone.tally_is in
-              let part = PassedOver (kept mid) fault n in
-              let read = passing n r in
-              let begin : BeginWithParts run.settings.limits (kept mid ++ read.bytes) (part ∷ []) (kept new) = (((r.bytes, refl), met other refusal, states n s, p.there), sym p.kept) in
-              let number : 1 + length parts ≡ length parts + 1 = omega arith in
-              let offset : sizes_of parts ≡ 0 + sizes_of parts = omega arith in
-              let told_next = subst (λ (o : ℕ). IsTold run.settings (record { number = 1 + length parts; offset = o; fault = fault }) (kept mid) text) offset (told_at (1 + length parts) text number told) in
-              let told_is : AreTold run.settings (1 + length parts) (0 + sizes_of parts) (part ∷ []) text = (text, [], sym (append-nil text), (goes, told_next), refl) in
-              let none : h.gone.out ++ written carried.window [] ≡ h.gone.out = ap (λ l. h.gone.out ++ l) (written_none carried.window) ∙ append-nil h.gone.out in
-              let count_is : tally.count + 1 ≡ length (parts ++ part ∷ []) = omega (arith, ap (λ (t : Tally). t.count) is, length-append parts (part ∷ [])) in
-              let size_is : done_of new ≡ sizes_of (parts ++ part ∷ []) = omega (arith, p.done, h.gone.done, sizes-both parts (part ∷ [])) in
-              let passed_is : tally.passed + 1 ≡ passed_count (parts ++ part ∷ []) = omega (arith, ap (λ (t : Tally). t.passed) is, passed-both parts (part ∷ [])) in
-              let passed_size_is : tally.passed_size + (end - tally.size) ≡ passed_sizes (parts ++ part ∷ [])
-              = omega (arith, there, ap (λ (t : Tally). t.passed_size) is, ap (λ (t : Tally). t.size) is, p.done, h.gone.done, passed_sizes-both parts (part ∷ [])) in
-              record {
-                parts = parts ++ part ∷ [];
-                out = h.gone.out;
-                told = h.gone.told ++ text;
-                covered = covers_read run mid new parts (part ∷ []) (kept mid) (kept new) h.gone.out h.gone.told text (kept mid ++ r.bytes) h.gone.out (h.gone.told ++ text) [] [] carried h.gone.covered h.gone.window_is none refl
-                    read begin ([], [], refl, refl, refl) told_is;
-                tally_is = past_is ∙ (λ i. record { count = count_is i; size = (there ∙ size_is) i; passed = passed_is i; passed_size = passed_size_is i });
-                window_is = h.gone.window_is ∙ ap (λ l. after run.settings.window (length l)) (sym (append-nil h.gone.covered.texts));
-                owners_are = h.gone.owners_are ∙ sym (past_all_both run.command (known_first run.command) parts (part ∷ []));
-                done = size_is;
-                failed = same ∙ h.gone.failed;
-                wrote = wrote;
-              }
+        pub goes_on : (past : Tally) (end : ℕ) → end ≡ done_of new → past ≡ record { count = tally.count + 1; size = end; passed = tally.passed + 1; passed_size = tally.passed_size + (end - tally.size) }
+            → run.settings.keeps_going ≡ true → Passing run.left run.calls mid new (Ok true) → run.failures (source_of new) ≡ run.failures (source_of mid) → HasGone run takes new past s2
+        goes_on past end there past_is goes answer same = elim answer [
+          | inl p ↦ over past end there past_is goes p.1 p.4 p.0 p.2 (stated p.0 p.1 p.2 p.3) p.5 same
+          | inr none ↦ absurd (let e = none.1 in cc)
+        ]

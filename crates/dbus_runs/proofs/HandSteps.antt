@@ -27,16 +27,21 @@ use Rattle.dbus_report.specs.declared.ending.Cause.TheVariants.{Memory, ReadFail
 use Rattle.dbus_runs.specs.Counting.{ended_by, stopped_by}
 use Rattle.dbus_runs.specs.Handing.{GivesNext, Stays}
 use Rattle.dbus_runs.specs.Onward.{AreAll, HasRead, HandsAllOn, HandsSomeOn, HandsOn, RawHandsOn, StopsFor}
-use Rattle.dbus_runs.specs.Visiting.{AddsUp, HasKept, HasLetGo, TakesOne}
+use Rattle.dbus_runs.specs.Inputs.{Placed, placed, wholes}
+use Rattle.dbus_runs.specs.Visiting.{AddsUp, TakesOne}
 use Rattle.dbus_runs.specs.declared.counted.Counted.{Counted}
 use Rattle.dbus_runs.specs.declared.counted.NoMessage.{NoMessage}
 use Rattle.dbus_runs.specs.declared.counted.NoMessage.TheVariants.{Reader as FromReader, Writer}
+use Rattle.dbus_runs.specs.declared.place.Place.{Place}
+use Rattle.dbus_runs.specs.declared.visitor.Stop.{Stop}
+use Rattle.dbus_runs.specs.declared.visitor.Stop.TheVariants.{Cause as ByCause}
 use Rattle.dbus_stream.proofs.RawSteps.{starts, unread}
 use Rattle.dbus_runs.proofs.LentSteps.{lent_size, lent_whole}
+use Rattle.dbus_runs.proofs.PartLaws.{placed_last}
 use Rattle.dbus_runs.proofs.ReadSteps.{read_none, read_more, read_message, sizes-last, length-last}
 
 module _ {R T B G S : Type 0} {b : Ghosts B} (k : Taking T G) (left : R → Option (List ℕ)) (calls failures : R → ℕ)
-    (takes : S → (n offset : ℕ) → List CutMessage → S → Type 0) (limits : Limits) (kept : List ℕ) (before : ℕ) where
+    (takes : S → S → List Placed → (told : List ℕ) → Type 0) (limits : Limits) (kept : List ℕ) (before : ℕ) where
   -- the visitor took the messages that were read so far, and the rest is kept
   pub record HasHanded (count : ℕ) (old new : Reader R T B b) (rest : List ℕ) (s0 s1 : S) : Type 0 where
     pub items : List CutMessage
@@ -45,9 +50,9 @@ module _ {R T B G S : Type 0} {b : Ghosts B} (k : Taking T G) (left : R → Opti
     pub unstopped : stopped_of new ≡ None
     pub failed : failures (source_of new) ≡ failures (source_of old)
     pub count_is : count ≡ before + length items
-    pub taken : takes s0 (before + 1) (done_of old) items s1
+    pub taken : takes s0 s1 (placed (before + 1) (done_of old) (wholes items)) []
 
-  pub hands_none : ((a : S) (n offset : ℕ) → takes a n offset [] a) → (reader : Reader R T B b) (s : S) → limits_of k reader ≡ limits → stopped_of reader ≡ None
+  pub hands_none : ((a : S) → takes a a [] []) → (reader : Reader R T B b) (s : S) → limits_of k reader ≡ limits → stopped_of reader ≡ None
       → HasHanded before reader reader kept s s
   hands_none nothing reader s within unstopped = record {
     items = [];
@@ -56,7 +61,7 @@ module _ {R T B G S : Type 0} {b : Ghosts B} (k : Taking T G) (left : R → Opti
     unstopped = unstopped;
     failed = refl;
     count_is = omega arith;
-    taken = nothing s (before + 1) (done_of reader);
+    taken = nothing s;
   }
 
 -- what a fault of the reader says of the bytes w that it keeps
@@ -71,34 +76,28 @@ abbrev pub item_of : {R A : Type 0} {w : List ℕ} {j : Validated} {old new : Ra
 item_of l = record { order = l.gives.order; message = l.gives.message; size = l.size }
 
 -- it was taken, or not, by its bytes
-pub took_lent : {R A S : Type 0} (takes : S → (n offset : ℕ) → List CutMessage → S → Type 0) (leaves : S → (n offset : ℕ) → List CutMessage → Cause → S → Type 0) (s2 s3 : S) (limits : Limits)
-    (w bytes : List ℕ) (j : Validated) (old new : RawReader R A) → bytes ≡ lent_of new → raw.limits_of old ≡ limits → (l : Lends w j old new) → (n offset : ℕ) (res : Result (Unit {0}) Cause)
-    → offset ≡ raw.done_of old → ((order : Order) (m : MessageTree) → IsWhole limits bytes order m (length bytes)
-    → TakesOne takes leaves s2 n offset (record { order = order; message = m; size = length bytes }) s3 res) → TakesOne takes leaves s2 n (raw.done_of old) (item_of l) s3 res
-took_lent takes leaves s2 s3 limits w bytes j old new e same l n offset res at one =
-    subst (λ (o : ℕ). TakesOne takes leaves s2 n o (item_of l) s3 res) at
-    (subst (λ (size : ℕ). TakesOne takes leaves s2 n offset (record { order = l.gives.order; message = l.gives.message; size = size }) s3 res) (lent_size limits w bytes j old new e l)
-    (one l.gives.order l.gives.message (lent_whole limits w bytes j old new e same l)))
+pub took_lent : {R A S : Type 0} (takes : S → S → List Placed → (told : List ℕ) → Type 0) (leaves : S → S → List Placed → (told : List ℕ) → Stop → Type 0) (s2 s3 : S) (limits : Limits)
+    (w bytes : List ℕ) (j : Validated) (old new : RawReader R A) → bytes ≡ lent_of new → raw.limits_of old ≡ limits → (l : Lends w j old new) → (place : Place) (res : Result (Unit {0}) Cause)
+    → ((order : Order) (m : MessageTree) → IsWhole limits bytes order m (length bytes)
+    → TakesOne takes leaves s2 s3 (record { place = place; item = record { order = order; message = m; size = length bytes } }) res) → TakesOne takes leaves s2 s3 (record { place = place; item = item_of l }) res
+took_lent takes leaves s2 s3 limits w bytes j old new e same l place res one =
+    subst (λ (size : ℕ). TakesOne takes leaves s2 s3 (record { place = place; item = record { order = l.gives.order; message = l.gives.message; size = size } }) res) (lent_size limits w bytes j old new e l)
+    (one l.gives.order l.gives.message (lent_whole limits w bytes j old new e same l))
 
 -- what was read after that
-module _ {R T B G S : Type 0} {b : Ghosts B} {k : Taking T G} {left : R → Option (List ℕ)} {calls failures : R → ℕ} {takes : S → (n offset : ℕ) → List CutMessage → S → Type 0}
-    {leaves : S → (n offset : ℕ) → List CutMessage → Cause → S → Type 0} {settled : S → Type 0} (laws : AddsUp takes leaves settled) {limits : Limits} {kept : List ℕ} {before count : ℕ}
+module _ {R T B G S : Type 0} {b : Ghosts B} {k : Taking T G} {left : R → Option (List ℕ)} {calls failures : R → ℕ} {takes : S → S → List Placed → (told : List ℕ) → Type 0}
+    {leaves : S → S → List Placed → (told : List ℕ) → Stop → Type 0} {settled : S → Type 0} (laws : AddsUp takes leaves settled) {limits : Limits} {kept : List ℕ} {before count : ℕ}
     {old mid : Reader R T B b} {rest : List ℕ} {s0 s1 : S} (h : HasHanded k left calls failures takes limits kept before count old mid rest s0 s1) {new : Reader R T B b}
     (r : Reads k left calls rest mid new) where
-  -- the number and the offset of the next message
-  next : (P : (n offset : ℕ) → Type 0) → P (count + 1) (done_of mid) → P (before + 1 + length h.items) (done_of old + sizes h.items)
-  next P p =
-      let number : count + 1 ≡ before + 1 + length h.items = omega (arith, h.count_is) in
-      subst (λ (n : ℕ). P n (done_of old + sizes h.items)) number (subst (λ (o : ℕ). P (count + 1) o) h.done p)
+  abbrev all : List Placed
+  all = placed (before + 1) (done_of old) (wholes h.items)
 
   -- no more are taken for this cause
-  stays : (cause : Cause) {s2 s3 : S} → takes s0 (before + 1) (done_of old) h.items s2 → leaves s2 (before + 1 + length h.items) (done_of old + sizes h.items) [] cause s3
-      → leaves s0 (before + 1) (done_of old) h.items cause s3
-  stays cause {s2} {s3} taken gave =
-      subst (λ (l : List CutMessage). leaves s0 (before + 1) (done_of old) l cause s3) (append-nil h.items) (laws.leaves_after s0 s2 s3 (before + 1) (done_of old) h.items [] cause taken gave)
+  stays : (cause : Cause) {s2 s3 : S} → takes s0 s2 all [] → leaves s2 s3 [] [] (ByCause cause) → leaves s0 s3 all [] (ByCause cause)
+  stays cause {s2} {s3} taken gave = subst (λ (l : List Placed). leaves s0 s3 l [] (ByCause cause)) (append-nil all) (laws.leaves_after s0 s2 s3 all [] [] [] (ByCause cause) taken gave)
 
   -- reading or writing is given up
-  hands_some : (cause : Cause) {s2 : S} → AreAll limits cause (rest ++ r.bytes) → leaves s0 (before + 1) (done_of old) h.items cause s2 → StopsFor failures cause old new
+  hands_some : (cause : Cause) {s2 : S} → AreAll limits cause (rest ++ r.bytes) → leaves s0 s2 all [] (ByCause cause) → StopsFor failures cause old new
       → HandsSomeOn k left calls limits kept failures takes leaves before cause old new s0 s2
   hands_some cause all gave caused = record {
     items = h.items;
@@ -110,14 +109,14 @@ module _ {R T B G S : Type 0} {b : Ghosts B} {k : Taking T G} {left : R → Opti
   }
 
   -- the visitor could not let go what it held back
-  pub hands_unwritten : {s2 : S} → HasKept takes leaves s1 s2 → failures (source_of new) ≡ failures (source_of mid)
+  pub hands_unwritten : {s2 : S} → leaves s1 s2 [] [] (ByCause WriteFailed) → failures (source_of new) ≡ failures (source_of mid)
       → HandsSomeOn k left calls limits kept failures takes leaves before WriteFailed old new s0 s2
-  hands_unwritten kept same = hands_some WriteFailed tt (stays WriteFailed h.taken (kept _ _)) (same ∙ h.failed)
+  hands_unwritten kept same = hands_some WriteFailed tt (stays WriteFailed h.taken kept) (same ∙ h.failed)
 
   -- it did
-  module _ {s2 : S} (go : HasLetGo takes leaves s1 s2) where
-    pub taken : takes s0 (before + 1) (done_of old) h.items s2
-    taken = subst (λ (l : List CutMessage). takes s0 (before + 1) (done_of old) l s2) (append-nil h.items) (laws.joins s0 s1 s2 (before + 1) (done_of old) h.items [] h.taken (go _ _))
+  module _ {s2 : S} (go : takes s1 s2 [] []) where
+    pub taken : takes s0 s2 all []
+    taken = subst (λ (l : List Placed). takes s0 s2 l []) (append-nil all) (laws.joins s0 s1 s2 all [] [] [] h.taken go)
 
     module _ (item : CutMessage) (whole : IsWhole (limits_of k mid) (rest ++ r.bytes) item.order item.message item.size) (same : failures (source_of new) ≡ failures (source_of mid)) where
       read_item : HasRead k left calls limits kept old new (h.items ++ item ∷ []) (drop item.size (rest ++ r.bytes))
@@ -125,33 +124,38 @@ module _ {R T B G S : Type 0} {b : Ghosts B} {k : Taking T G} {left : R → Opti
           read_message k left calls limits kept old new h.items item (rest ++ r.bytes) (read_more k left calls limits kept old mid new h.items rest h.read r)
           (subst (λ l. IsWhole l (rest ++ r.bytes) item.order item.message item.size) h.read.limits_are whole)
 
-      -- one more message
-      pub hands_more : {s3 : S} → done_of new ≡ done_of mid + item.size → stopped_of new ≡ None → takes s2 (count + 1) (done_of mid) (item ∷ []) s3
-          → HasHanded k left calls failures takes limits kept before (count + 1) old new (drop item.size (rest ++ r.bytes)) s0 s3
-      hands_more {s3} done unstopped one = record {
-        items = h.items ++ item ∷ [];
-        read = read_item;
-        done = omega (arith, done, h.done, sizes-last h.items item);
-        unstopped = unstopped;
-        failed = same ∙ h.failed;
-        count_is = omega (arith, h.count_is, length-last h.items item);
-        taken = laws.joins s0 s2 s3 (before + 1) (done_of old) h.items (item ∷ []) taken (next (λ n o. takes s2 n o (item ∷ []) s3) one);
-      }
+      -- one more message, which is at this place
+      module _ (place : Place) (number : place.number ≡ count + 1) (offset : place.offset ≡ done_of mid) where
+        last_is : all ++ record { place = place; item = item } ∷ [] ≡ placed (before + 1) (done_of old) (wholes (h.items ++ item ∷ []))
+        last_is = placed_last (before + 1) (done_of old) h.items item place (omega (arith, number, h.count_is)) (offset ∙ h.done)
 
-      -- which is not taken
-      pub hands_not : {s3 : S} (cause : Cause) → TakesOne takes leaves s2 (count + 1) (done_of mid) item s3 (Err cause)
-          → HandsSomeOn k left calls limits kept failures takes leaves before cause old new s0 s3
-      hands_not {s3} Memory one = hands_some Memory tt (stays Memory taken (next (λ n o. leaves s2 n o [] Memory s3) one)) (same ∙ h.failed)
-      hands_not ReadFailed one = absurd one
-      hands_not TooManyReads one = absurd one
-      hands_not {s3} WriteFailed one = record {
-        items = h.items ++ item ∷ [];
-        rest = drop item.size (rest ++ r.bytes);
-        read = read_item;
-        all = tt;
-        given_up = laws.leaves_after s0 s2 s3 (before + 1) (done_of old) h.items (item ∷ []) WriteFailed taken (next (λ n o. leaves s2 n o (item ∷ []) WriteFailed s3) one);
-        caused = same ∙ h.failed;
-      }
+        pub hands_more : {s3 : S} → done_of new ≡ done_of mid + item.size → stopped_of new ≡ None → takes s2 s3 (record { place = place; item = item } ∷ []) []
+            → HasHanded k left calls failures takes limits kept before (count + 1) old new (drop item.size (rest ++ r.bytes)) s0 s3
+        hands_more {s3} done unstopped one = record {
+          items = h.items ++ item ∷ [];
+          read = read_item;
+          done = omega (arith, done, h.done, sizes-last h.items item);
+          unstopped = unstopped;
+          failed = same ∙ h.failed;
+          count_is = omega (arith, h.count_is, length-last h.items item);
+          taken = subst (λ (l : List Placed). takes s0 s3 l []) last_is (laws.joins s0 s2 s3 all (record { place = place; item = item } ∷ []) [] [] taken one);
+        }
+
+        -- which is not taken
+        pub hands_not : {s3 : S} (cause : Cause) → TakesOne takes leaves s2 s3 (record { place = place; item = item }) (Err cause)
+            → HandsSomeOn k left calls limits kept failures takes leaves before cause old new s0 s3
+        hands_not {s3} Memory one = hands_some Memory tt (stays Memory taken one) (same ∙ h.failed)
+        hands_not ReadFailed one = absurd one
+        hands_not TooManyReads one = absurd one
+        hands_not {s3} WriteFailed one = record {
+          items = h.items ++ item ∷ [];
+          rest = drop item.size (rest ++ r.bytes);
+          read = read_item;
+          all = tt;
+          given_up = subst (λ (l : List Placed). leaves s0 s3 l [] (ByCause WriteFailed)) last_is
+              (laws.leaves_after s0 s2 s3 all (record { place = place; item = item } ∷ []) [] [] (ByCause WriteFailed) taken one);
+          caused = same ∙ h.failed;
+        }
 
     -- no further message comes
     abbrev pub hands_all : (outcome : CutOutcome) (counted : Counted) → counted.count ≡ count → counted.size ≡ done_of new → done_of new ≡ done_of mid
@@ -190,15 +194,15 @@ module _ {R T B G S : Type 0} {b : Ghosts B} {k : Taking T G} {left : R → Opti
     pub hands_faulted : (fault : ReadFault) → Faults k (rest ++ r.bytes) mid new fault → DeviceCounts {T = Option G} (failures (source_of mid)) (failures (source_of new)) (Err fault)
         → settled s2 → HandsOn k left calls limits kept failures takes leaves before old new s0 s2 (ended_by count (done_of new) fault)
     hands_faulted (read.Format fault) answer same o = (hands_refused fault answer same).0
-    hands_faulted read.Memory answer same o = hands_some Memory tt (laws.rests s0 s2 (before + 1) (done_of old) h.items taken o).0 (same ∙ h.failed)
+    hands_faulted read.Memory answer same o = hands_some Memory tt (laws.rests s0 s2 all [] taken o).0 (same ∙ h.failed)
     hands_faulted read.Device partial counts o =
-        hands_some ReadFailed (subst (λ l. IsPartial l (rest ++ r.bytes)) h.read.limits_are partial) (laws.rests s0 s2 (before + 1) (done_of old) h.items taken o).1 (counts.0 ∙ ap one_more h.failed)
+        hands_some ReadFailed (subst (λ l. IsPartial l (rest ++ r.bytes)) h.read.limits_are partial) (laws.rests s0 s2 all [] taken o).1 (counts.0 ∙ ap one_more h.failed)
     hands_faulted read.TooManyReads answer same o =
-        hands_some TooManyReads (subst (λ l. IsPartial l (rest ++ r.bytes)) h.read.limits_are answer.0) (laws.rests s0 s2 (before + 1) (done_of old) h.items taken o).2 (same ∙ h.failed, answer.1)
+        hands_some TooManyReads (subst (λ l. IsPartial l (rest ++ r.bytes)) h.read.limits_are answer.0) (laws.rests s0 s2 all [] taken o).2 (same ∙ h.failed, answer.1)
 
 -- a reader of raw messages
-module _ {R A S : Type 0} {left : R → Option (List ℕ)} {calls failures : R → ℕ} {takes : S → (n offset : ℕ) → List CutMessage → S → Type 0}
-    {leaves : S → (n offset : ℕ) → List CutMessage → Cause → S → Type 0} {settled : S → Type 0} (laws : AddsUp takes leaves settled) {limits : Limits} {before : ℕ} where
+module _ {R A S : Type 0} {left : R → Option (List ℕ)} {calls failures : R → ℕ} {takes : S → S → List Placed → (told : List ℕ) → Type 0}
+    {leaves : S → S → List Placed → (told : List ℕ) → Stop → Type 0} {settled : S → Type 0} (laws : AddsUp takes leaves settled) {limits : Limits} {before : ℕ} where
   -- so it is if the reader looks at what it keeps
   pub still : {count : ℕ} {s0 s1 : S} (old mid from : RawReader R A) → HasHanded gathering left calls failures takes limits (kept old) before count old.reader mid.reader (kept mid) s0 s1 → Stays mid from
       → HasHanded gathering left calls failures takes limits (kept old) before count old.reader from.reader (kept from) s0 s1

@@ -1,4 +1,5 @@
 pub mod WindowSteps
+pub mod PartLaws
 pub mod OutputSteps
 pub mod Outputs
 pub mod LentSteps
@@ -6,11 +7,10 @@ pub mod ReadSteps
 pub mod GivenSteps
 pub mod HandSteps
 pub mod CountSteps
-pub mod ByNameSteps
 pub mod CheckSteps
-pub mod PartLaws
-pub mod WriteSteps
 pub mod GoSteps
 pub mod GoEnds
 pub mod GoClosing
+pub mod EndSteps
+pub mod NameSteps
 pub mod RunSteps

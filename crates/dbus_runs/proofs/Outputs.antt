@@ -13,10 +13,12 @@ use Rattle.dbus_match.specs.Matching.{Ownership}
 use Rattle.dbus_command.proofs.Selections.{selected}
 use Rattle.dbus_command.specs.declared.command.Command.{Command}
 use Rattle.dbus_command.specs.declared.command.Command.TheVariants.{Show, Json, Check, Swap, Filter}
+use Rattle.dbus_runs.specs.Inputs.{Placed, placed, sizes_of, wholes}
 use Rattle.dbus_runs.specs.Laws.{OneFront, OneOutput, SomeOutput}
 use Rattle.dbus_runs.specs.Output.{IsExact, IsFront, IsOutputOf, IsOutputOfAll, IsTextOf, Picks, last_line, owners_after, owners_known, owners_after_all}
 use Rattle.dbus_report.specs.Gathering.{IsPrefixTo}
 use Rattle.dbus_runs.specs.OutputLaws.{output_both}
+use Rattle.dbus_runs.proofs.PartLaws.{placed_both, wholes_both}
 
 -- ---- there is one
 
@@ -42,27 +44,30 @@ some_of_one command os order message n offset =
       | inr n ↦ ([], inr (n, refl))
     ]
 
-some_of_all : (command : Command) (os : List Ownership) (n offset : ℕ) (items : List CutMessage) → (out : List (List ℕ)) × IsOutputOfAll command os n offset items out
-some_of_all command os n offset [] = ([], refl)
-some_of_all command os n offset (item ∷ items) =
-    let one = some_of_one command os item.order item.message n offset in
-    let more = some_of_all command (owners_after command os item.message) (n + 1) (offset + item.size) items in
+some_of_all : (command : Command) (os : List Ownership) (items : List Placed) → (out : List (List ℕ)) × IsOutputOfAll command os items out
+some_of_all command os [] = ([], refl)
+some_of_all command os (m ∷ items) =
+    let one = some_of_one command os m.item.order m.item.message m.place.number m.place.offset in
+    let more = some_of_all command (owners_after command os m.item.message) items in
     (one.0 ++ more.0, (one.0, more.0, refl, one.1, more.1))
 
 pub some_output : SomeOutput
 some_output command items fault =
-    let all = some_of_all command (owners_known command None) 1 0 items in
+    let all = some_of_all command (owners_known command None) (placed 1 0 (wholes items)) in
     (concat all.0 ++ last_line command (length items) (sizes items) fault, record { texts = all.0; each = all.1; joined = refl })
 
 -- a prefix of what is written of the first messages is one of what the first writer gets
 pub front_of_first : (command : Command) (items more all : List CutMessage) (fault : Option Fault) (texts : List (List ℕ)) (front : List ℕ) → all ≡ items ++ more
-    → IsOutputOfAll command (owners_known command None) 1 0 items texts → IsPrefixTo front (concat texts) → IsFront command all fault front
+    → IsOutputOfAll command (owners_known command None) (placed 1 0 (wholes items)) texts → IsPrefixTo front (concat texts) → IsFront command all fault front
 front_of_first command items more all fault texts front e o prefix =
-    let rest = some_of_all command (owners_after_all command (owners_known command None) items) (1 + length items) (0 + sizes items) more in
+    let os = owners_known command None in
+    let first = placed 1 0 (wholes items) in
+    let others = placed (1 + length (wholes items)) (0 + sizes_of (wholes items)) (wholes more) in
+    let rest = some_of_all command (owners_after_all command os first) others in
     let last = last_line command (length all) (sizes all) fault in
     let tail = concat rest.0 in
-    let each : IsOutputOfAll command (owners_known command None) 1 0 all (texts ++ rest.0)
-    = subst (λ l. IsOutputOfAll command (owners_known command None) 1 0 l (texts ++ rest.0)) (sym e) (output_both command (owners_known command None) 1 0 items more texts rest.0 o rest.1) in (
+    let both : first ++ others ≡ placed 1 0 (wholes all) = sym (placed_both 1 0 (wholes items) (wholes more)) ∙ ap (λ l. placed 1 0 l) (sym (wholes_both items more) ∙ ap wholes (sym e)) in
+    let each = subst (λ (l : List Placed). IsOutputOfAll command os l (texts ++ rest.0)) both (output_both command os first others texts rest.0 o rest.1) in (
       concat (texts ++ rest.0) ++ last,
       record { texts = texts ++ rest.0; each = each; joined = refl },
       (
@@ -73,7 +78,7 @@ front_of_first command items more all fault texts front e o prefix =
     )
 
 -- so is one of what is written of all messages and then the last line
-pub front_of_whole : (command : Command) (items : List CutMessage) (fault : Option Fault) (texts : List (List ℕ)) (front : List ℕ) → IsOutputOfAll command (owners_known command None) 1 0 items texts
+pub front_of_whole : (command : Command) (items : List CutMessage) (fault : Option Fault) (texts : List (List ℕ)) (front : List ℕ) → IsOutputOfAll command (owners_known command None) (placed 1 0 (wholes items)) texts
     → IsPrefixTo front (concat texts ++ last_line command (length items) (sizes items) fault) → IsFront command items fault front
 front_of_whole command items fault texts front o prefix =
     (concat texts ++ last_line command (length items) (sizes items) fault, record { texts = texts; each = o; joined = refl }, prefix)
@@ -98,18 +103,17 @@ output_one command os order message n offset a b exact p q = elim p [
   | inr unmet ↦ elim q [ inl met ↦ absurd (unmet.0 met.0) | inr too ↦ unmet.1 ∙ sym too.1 ]
 ]
 
-output_all_one : (command : Command) (os : List Ownership) (n offset : ℕ) (items : List CutMessage) (a b : List (List ℕ)) → IsExact command → IsOutputOfAll command os n offset items a
-    → IsOutputOfAll command os n offset items b → a ≡ b
-output_all_one command os n offset [] a b exact p q = p ∙ sym q
-output_all_one command os n offset (x ∷ items) a b exact p q =
-    let same : p.0 ≡ q.0 = output_one command os x.order x.message n offset p.0 q.0 exact p.3 q.3 in
-    let suffix : p.1 ≡ q.1 = output_all_one command (owners_after command os x.message) (n + 1) (offset + x.size) items p.1 q.1 exact p.4 q.4 in
+output_all_one : (command : Command) (os : List Ownership) (items : List Placed) (a b : List (List ℕ)) → IsExact command → IsOutputOfAll command os items a → IsOutputOfAll command os items b → a ≡ b
+output_all_one command os [] a b exact p q = p ∙ sym q
+output_all_one command os (m ∷ items) a b exact p q =
+    let same : p.0 ≡ q.0 = output_one command os m.item.order m.item.message m.place.number m.place.offset p.0 q.0 exact p.3 q.3 in
+    let suffix : p.1 ≡ q.1 = output_all_one command (owners_after command os m.item.message) items p.1 q.1 exact p.4 q.4 in
     let parts : p.0 ++ p.1 ≡ q.0 ++ q.1 = λ i. same i ++ suffix i in
     p.2 ∙ (parts ∙ sym q.2)
 
 pub one_output : OneOutput
 one_output command items fault x y exact h k =
-    h.joined ∙ ap (λ a. concat a ++ last_line command (length items) (sizes items) fault) (output_all_one command (owners_known command None) 1 0 items h.texts k.texts exact h.each k.each) ∙ sym k.joined
+    h.joined ∙ ap (λ a. concat a ++ last_line command (length items) (sizes items) fault) (output_all_one command (owners_known command None) (placed 1 0 (wholes items)) h.texts k.texts exact h.each k.each) ∙ sym k.joined
 
 pub one_front : OneFront
 one_front command items fault front out exact is whole = subst (λ l. IsPrefixTo front l) (one_output command items fault is.0 out exact is.1 whole) is.2

@@ -1,30 +1,18 @@
--- Parts of an input that follow one another, and what is made and told of them.
-use Rattle.std.proofs.Common.{inl, inr, ◌≡◌, ℕ, suc, ◌+◌, ◌<◌, ◌≤◌, List, [], ◌∷◌, ◌++◌, length, drop, refl, sym, ap, ◌∙◌, subst, arith, append_assoc, append-nil, length-append}
+-- Parts of an input that follow one another, what is told of them, and the messages among them.
+use Rattle.std.proofs.Common.{◌≡◌, ℕ, suc, ◌+◌, ◌<◌, ◌≤◌, List, [], ◌∷◌, ◌++◌, length, drop, refl, sym, ap, ◌∙◌, subst, arith, append_assoc, length-append}
 use Rattle.std.proofs.lemmas.List.{drop-append-le}
+use Rattle.dbus_value_model.specs.declared.fault.Fault.{Fault}
 use Rattle.dbus_value_model.specs.declared.limits.Limits.{Limits}
-use Rattle.dbus_value_model.specs.declared.order.Order.{Order}
-use Rattle.dbus_message_model.specs.Messages.{MessageTree}
 use Rattle.dbus_header.specs.StatedLengths.{StatesLength}
 use Rattle.dbus_header.proofs.OutcomeLaws.{whole_for_good, whole_inside}
 use Rattle.dbus_stream.specs.Cut.{CutMessage, BeginWith}
 use Rattle.dbus_stream.specs.CutEnds.{sizes}
 use Rattle.dbus_command.specs.declared.settings.Settings.{Settings}
-use Rattle.dbus_command.specs.declared.window.Window.{Window}
-use Rattle.dbus_match.specs.Matching.{Ownership}
-use Rattle.dbus_command.specs.declared.command.Command.{Command}
-use Rattle.dbus_command.specs.declared.command.Command.TheVariants.{Show, Json, Check, Swap, Filter}
-use Rattle.dbus_runs.specs.Going.{first_of, second_of}
-use Rattle.dbus_runs.specs.Output.{IsOutputOf, IsOutputOfAll, owners_after, owners_after_all}
-use Rattle.dbus_runs.specs.Windows.{written}
-use Rattle.dbus_runs.specs.WindowLaws.{written_none}
-use Rattle.dbus_runs.specs.Parts.{Part, Whole, PassedOver, size_of, sizes_of, IsPart, BeginWithParts, AreMade, AreTold, owners_past, passed_count, passed_sizes}
+use Rattle.dbus_runs.specs.Inputs.{Part, Whole, PassedOver, Placed, placed, placed_at, size_of, sizes_of, wholes, IsPart, BeginWithParts}
+use Rattle.dbus_runs.specs.Parts.{AreTold, passed_count, passed_sizes}
+use Rattle.dbus_runs.specs.declared.place.Place.{Place}
 
 -- ---- the input
-
--- messages as parts
-abbrev pub wholes : List CutMessage → List Part
-wholes [] = []
-wholes (item ∷ items) = Whole item ∷ wholes items
 
 module _ (limits : Limits) where
   part_more : (bytes more : List ℕ) (part : Part) → IsPart limits bytes part → IsPart limits (bytes ++ more) part × (size_of part ≤ length bytes)
@@ -133,75 +121,46 @@ told_both settings n offset (part ∷ parts) more a b p q =
     = subst (λ k. AreTold settings k (offset + size_of part + sizes_of parts) more b) number (subst (λ k. AreTold settings (n + suc (length parts)) k more b) place q) in
     (p.0, p.1 ++ b, ap (λ l. l ++ b) p.2 ∙ append_assoc p.0 p.1 b, p.3, told_both settings (n + 1) (offset + size_of part) parts more p.1 b p.4 rest)
 
--- the owners that a command knows after parts
-abbrev pub owners_past_all : Command → List Ownership → List Part → List Ownership
-owners_past_all command os [] = os
-owners_past_all command os (part ∷ parts) = owners_past_all command (owners_past command os part) parts
-
-pub past_all_both : (command : Command) (os : List Ownership) (parts more : List Part) → owners_past_all command os (parts ++ more) ≡ owners_past_all command (owners_past_all command os parts) more
-past_all_both command os [] more = refl
-past_all_both command os (part ∷ parts) more = past_all_both command (owners_past command os part) parts more
-
-pub past_all_wholes : (command : Command) (os : List Ownership) (items : List CutMessage) → owners_past_all command os (wholes items) ≡ owners_after_all command os items
-past_all_wholes command os [] = refl
-past_all_wholes command os (item ∷ items) = past_all_wholes command (owners_after command os item.message) items
-
-pub made_both : (command : Command) (os : List Ownership) (n offset : ℕ) (parts more : List Part) (a b : List (List ℕ)) → AreMade command os n offset parts a
-    → AreMade command (owners_past_all command os parts) (n + length parts) (offset + sizes_of parts) more b → AreMade command os n offset (parts ++ more) (a ++ b)
-made_both command os n offset [] more a b p q =
-    let number : n + 0 ≡ n = omega arith in
-    let place : offset + 0 ≡ offset = omega arith in
-    let first : [] ≡ a = sym p in
-    subst (λ l. AreMade command os n offset more (l ++ b)) first
-    (subst (λ k. AreMade command os k offset more b) number (subst (λ k. AreMade command os (n + 0) k more b) place q))
-made_both command os n offset (part ∷ parts) more a b p q =
-    let number : n + suc (length parts) ≡ n + 1 + length parts = omega arith in
-    let place : offset + (size_of part + sizes_of parts) ≡ offset + size_of part + sizes_of parts = omega arith in
-    let later = owners_past command os part in
-    let last = owners_past_all command later parts in
-    let rest : AreMade command last (n + 1 + length parts) (offset + size_of part + sizes_of parts) more b
-    = subst (λ k. AreMade command last k (offset + size_of part + sizes_of parts) more b) number (subst (λ k. AreMade command last (n + suc (length parts)) k more b) place q) in
-    (p.0, p.1 ++ b, ap (λ l. l ++ b) p.2 ∙ append_assoc p.0 p.1 b, p.3, made_both command later (n + 1) (offset + size_of part) parts more p.1 b p.4 rest)
-
-pub made_of : (command : Command) (os : List Ownership) (n offset : ℕ) (items : List CutMessage) (out : List (List ℕ)) → IsOutputOfAll command os n offset items out → AreMade command os n offset (wholes items) out
-made_of command os n offset [] out o = o
-made_of command os n offset (item ∷ items) out o = (o.0, o.1, o.2, o.3, made_of command (owners_after command os item.message) (n + 1) (offset + item.size) items o.1 o.4)
-
 pub told_of : (settings : Settings) (n offset : ℕ) (items : List CutMessage) → AreTold settings n offset (wholes items) []
 told_of settings n offset [] = refl
 told_of settings n offset (item ∷ items) = ([], [], refl, refl, told_of settings (n + 1) (offset + item.size) items)
 
--- ---- what the writers get
+-- ---- the messages among them
 
-unpicked_none : (os : List Ownership) (order : Order) (message : MessageTree) (n offset : ℕ) (texts : List (List ℕ)) → IsOutputOf Check os order message n offset texts → texts ≡ []
-unpicked_none os order message n offset texts o = elim o [ inl picked ↦ absurd picked.0 | inr none ↦ none.1 ]
+n_is : (n : ℕ) → n + 0 ≡ n
+n_is n = omega arith
 
--- `check` makes nothing
-checked_nothing : (os : List Ownership) (n offset : ℕ) (parts : List Part) (out : List (List ℕ)) → AreMade Check os n offset parts out → out ≡ []
-checked_nothing os n offset [] out o = o
-checked_nothing os n offset (Whole item ∷ parts) out o = o.2 ∙ (λ i. unpicked_none os item.order item.message n offset o.0 o.3 i ++ checked_nothing os (n + 1) (offset + item.size) parts o.1 o.4 i)
-checked_nothing os n offset (PassedOver kept fault size ∷ parts) out o = o.2 ∙ (λ i. o.3 i ++ checked_nothing os (n + 1) (offset + size) parts o.1 o.4 i)
+moved : (n offset : ℕ) (first : List Placed) (parts : List Part) (size : ℕ) (more : List Part) → first ++ placed (n + 1 + length parts) (offset + size + sizes_of parts) more
+    ≡ first ++ placed (n + suc (length parts)) (offset + (size + sizes_of parts)) more
+moved n offset first parts size more =
+    let number : n + 1 + length parts ≡ n + suc (length parts) = omega arith in
+    let place : offset + size + sizes_of parts ≡ offset + (size + sizes_of parts) = omega arith in
+    λ i. first ++ placed (number i) (place i) more
 
-pub first_nothing : (command : Command) → first_of command [] [] ≡ []
-first_nothing Show = refl
-first_nothing Json = refl
-first_nothing Check = refl
-first_nothing (Swap order) = refl
-first_nothing (Filter selection) = refl
+-- those of parts after others
+pub placed_both : (n offset : ℕ) (parts more : List Part) → placed n offset (parts ++ more) ≡ placed n offset parts ++ placed (n + length parts) (offset + sizes_of parts) more
+placed_both n offset [] more = λ i. placed (sym (n_is n) i) (sym (n_is offset) i) more
+placed_both n offset (Whole item ∷ parts) more =
+    ap (λ l. placed_at n offset item ∷ l) (placed_both (n + 1) (offset + item.size) parts more ∙ moved n offset (placed (n + 1) (offset + item.size) parts) parts item.size more)
+placed_both n offset (PassedOver kept fault size ∷ parts) more =
+    placed_both (n + 1) (offset + size) parts more ∙ moved n offset (placed (n + 1) (offset + size) parts) parts size more
 
-pub second_nothing : (command : Command) → second_of command [] ≡ []
-second_nothing Show = refl
-second_nothing Json = refl
-second_nothing Check = refl
-second_nothing (Swap order) = refl
-second_nothing (Filter selection) = refl
+pub wholes_both : (items more : List CutMessage) → wholes (items ++ more) ≡ wholes items ++ wholes more
+wholes_both [] more = refl
+wholes_both (item ∷ items) more = ap (λ l. Whole item ∷ l) (wholes_both items more)
 
--- more is made
-pub first_more : (command : Command) (os : List Ownership) (window : Window) (n offset : ℕ) (parts : List Part) (out told : List ℕ) (texts : List (List ℕ)) → AreMade command os n offset parts texts
-    → first_of command out told ++ written window texts ≡ first_of command (out ++ written window texts) told
-first_more Show os window n offset parts out told texts o = refl
-first_more Json os window n offset parts out told texts o = refl
-first_more Check os window n offset parts out told texts o =
-    ap (λ l. told ++ l) (ap (λ l. written window l) (checked_nothing os n offset parts texts o) ∙ written_none window) ∙ append-nil told
-first_more (Swap order) os window n offset parts out told texts o = refl
-first_more (Filter selection) os window n offset parts out told texts o = refl
+-- one message more
+pub placed_last : (n offset : ℕ) (items : List CutMessage) (item : CutMessage) (place : Place) → place.number ≡ n + length items → place.offset ≡ offset + sizes items
+    → placed n offset (wholes items) ++ record { place = place; item = item } ∷ [] ≡ placed n offset (wholes (items ++ item ∷ []))
+placed_last n offset [] item place number at =
+    let same_number : place.number ≡ n = omega (arith, number) in
+    let same_offset : place.offset ≡ offset = omega (arith, at) in
+    λ i. record { place = record { number = same_number i; offset = same_offset i }; item = item } ∷ []
+placed_last n offset (x ∷ items) item place number at =
+    ap (λ l. placed_at n offset x ∷ l) (placed_last (n + 1) (offset + x.size) items item place (omega (arith, number)) (omega (arith, at)))
+
+-- one more is passed over
+pub placed_past : (n offset : ℕ) (parts : List Part) (kept : List ℕ) (fault : Fault) (size : ℕ) → placed n offset parts ≡ placed n offset (parts ++ PassedOver kept fault size ∷ [])
+placed_past n offset [] kept fault size = refl
+placed_past n offset (Whole item ∷ parts) kept fault size = ap (λ l. placed_at n offset item ∷ l) (placed_past (n + 1) (offset + item.size) parts kept fault size)
+placed_past n offset (PassedOver other why long ∷ parts) kept fault size = placed_past (n + 1) (offset + long) parts kept fault size

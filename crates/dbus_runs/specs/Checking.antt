@@ -12,6 +12,7 @@ use Rattle.dbus_stream.specs.Cut.{CutMessage, BeginWith, IsCut, CutOutcome, Refu
 use Rattle.dbus_stream.specs.CutEnds.{fault_at_end, sizes}
 use Rattle.dbus_command.specs.declared.command.Command.{Command}
 use Rattle.dbus_report.specs.Devices.{RisesAtMost}
+use Rattle.dbus_runs.specs.Inputs.{placed, wholes}
 use Rattle.dbus_runs.specs.Output.{IsOutputOfAll, owners_known, IsFirstOutput, IsFront, second_output, status_of}
 use Rattle.dbus_report.specs.declared.ending.ExitStatus.{ExitStatus}
 use Rattle.dbus_report.specs.declared.ending.ExitStatus.TheVariants as status
@@ -30,7 +31,7 @@ pub record WritesMessages (limits : Limits) (command : Command) (bytes written :
   pub messages : BeginWith limits bytes items rest
   pub partial : IsPartial limits rest
   pub texts : List (List ℕ)
-  pub output : IsOutputOfAll command (owners_known command None) 1 0 items texts
+  pub output : IsOutputOfAll command (owners_known command None) (placed 1 0 (wholes items)) texts
   pub written_is : written ≡ concat texts
 
 -- where reading was given up, all messages that were read were written

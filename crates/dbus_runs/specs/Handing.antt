@@ -1,10 +1,9 @@
 -- What is written of one message, and what is read of the next one. g0 and g1 are what is gathered before and after.
-use Rattle.std.specs.Prelude.{◌≡◌, ◌↔◌, ℕ, Bool, IsTrue, Vec, List, ◌++◌, length, Option, None, Result, Ok, Err, IfOk}
+use Rattle.std.specs.Prelude.{◌≡◌, ◌↔◌, ℕ, Bool, IsTrue, Vec, List, [], ◌++◌, length, Option, None, Result, Ok, Err, IfOk}
 use Rattle.std.specs.declared.alloc.Global.{Global}
 use Rattle.dbus_value_model.specs.declared.order.Order.{Order}
 use Rattle.dbus_message_model.specs.Messages.{MessageTree}
 use Rattle.dbus_validate.specs.declared.validating.Validated.{Validated}
-use Rattle.dbus_stream.specs.Cut.{CutMessage}
 use Rattle.dbus_stream.specs.Next.{DeviceCounts}
 use Rattle.dbus_stream.specs.RawNext.{Reads, Advances, ReadsNothing}
 use Rattle.dbus_stream.specs.RawReading.{done_of, kept, source_of, stopped_of}
@@ -17,11 +16,14 @@ use Rattle.dbus_runs.specs.Windows.{after, written}
 use Rattle.dbus_runs.specs.Output.{IsOutputOf, IsTextOf, Picks, owners_after, owners_known}
 use Rattle.dbus_report.specs.Gathering.{GathersOrNot}
 use Rattle.dbus_report.specs.declared.ending.Cause.{Cause}
-use Rattle.dbus_runs.specs.Visiting.{HasKept, HasLetGo}
+use Rattle.dbus_report.specs.declared.ending.Cause.TheVariants.{WriteFailed}
+use Rattle.dbus_runs.specs.Inputs.{Placed}
 use Rattle.dbus_runs.specs.declared.counted.NoMessage.{NoMessage}
 use Rattle.dbus_runs.specs.declared.counted.NoMessage.TheVariants.{Reader, Writer}
 use Rattle.dbus_runs.specs.declared.place.Carried.{Carried}
 use Rattle.dbus_runs.specs.declared.place.Place.{Place}
+use Rattle.dbus_runs.specs.declared.visitor.Stop.{Stop}
+use Rattle.dbus_runs.specs.declared.visitor.Stop.TheVariants.{Cause as ByCause}
 
 -- a line of JSON of one message was written or gathered, which has this place in its input
 abbrev pub WritesJson : {W : Type 0} → Writing W → Order → MessageTree → Place → List ℕ → List ℕ → Result (Unit {0}) Cause → Type 0
@@ -55,16 +57,16 @@ pub record Stays {R A : Type 0} (old now : RawReader R A) : Type 0 where
   pub done : done_of now ≡ done_of old
   pub unstopped : stopped_of now ≡ None
 
-module _ {R S : Type 0} (left : R → Option (List ℕ)) (calls failures : R → ℕ) (takes : S → (n offset : ℕ) → List CutMessage → S → Type 0)
-    (leaves : S → (n offset : ℕ) → List CutMessage → Cause → S → Type 0) (settled : S → Type 0) where
+module _ {R S : Type 0} (left : R → Option (List ℕ)) (calls failures : R → ℕ) (takes : S → S → List Placed → (told : List ℕ) → Type 0)
+    (leaves : S → S → List Placed → (told : List ℕ) → Stop → Type 0) (settled : S → Type 0) where
   -- what a reader validates of its next message, which it lends. A visitor let go of what it held back
   -- before a read, and if there is no next message
   abbrev pub GivesFrom : {A : Type 0} → RawReader R A → RawReader R A → S → S → Result (Option Validated) NoMessage → Type 0
   GivesFrom from new s0 s1 (Ok validated) = (r : Reads left calls from new) × Advances (kept from ++ r.bytes) from new (Ok validated)
-      × (failures (source_of new) ≡ failures (source_of from)) × HasLetGo takes leaves s0 s1 × (validated ≡ None → settled s1)
+      × (failures (source_of new) ≡ failures (source_of from)) × takes s0 s1 [] [] × (validated ≡ None → settled s1)
   GivesFrom from new s0 s1 (Err (Reader fault)) = (r : Reads left calls from new) × Advances (kept from ++ r.bytes) from new (Err fault)
-      × DeviceCounts {T = Option Validated} (failures (source_of from)) (failures (source_of new)) (Err fault) × HasLetGo takes leaves s0 s1 × settled s1
-  GivesFrom from new s0 s1 (Err Writer) = Reads left calls from new × HasKept takes leaves s0 s1 × (failures (source_of new) ≡ failures (source_of from))
+      × DeviceCounts {T = Option Validated} (failures (source_of from)) (failures (source_of new)) (Err fault) × takes s0 s1 [] [] × settled s1
+  GivesFrom from new s0 s1 (Err Writer) = Reads left calls from new × leaves s0 s1 [] [] (ByCause WriteFailed) × (failures (source_of new) ≡ failures (source_of from))
 
   abbrev pub GivesNext : {A : Type 0} → RawReader R A → RawReader R A → S → S → Result (Option Validated) NoMessage → Type 0
   GivesNext {A} old new s0 s1 result = (from : RawReader R A) × Stays old from × GivesFrom from new s0 s1 result

@@ -8,8 +8,7 @@ use Rattle.dbus_command.specs.declared.command.Command.{Command}
 use Rattle.dbus_command.specs.declared.command.Command.TheVariants.{Check}
 use Rattle.dbus_report.specs.Devices.{reading, writing}
 use Rattle.dbus_report.specs.declared.ending.ExitStatus.{ExitStatus}
-use Rattle.dbus_runs.specs.Going.{RunsWith}
-use Rattle.dbus_runs.specs.Running.{Runs, plain}
+use Rattle.dbus_runs.specs.Running.{Runs, RunsWith, plain}
 use Rattle.dbus_runs.specs.Output.{IsExact, IsFirstOutput, IsFront}
 use Rattle.dbus_report.specs.Gathering.{IsPrefixTo}
 

@@ -1,7 +1,7 @@
 -- What is read if messages are handed to a visitor from where a reader stands, and what becomes of the
 -- visitor. kept is what the reader keeps there, and before is how many messages came before. k is what
 -- is known of its taker, and limits are those that each message keeps.
-use Rattle.std.specs.Prelude.{◌≡◌, ℕ, ◌+◌, List, ◌++◌, true, length, Option, None, Some, Result, Ok, Err}
+use Rattle.std.specs.Prelude.{◌≡◌, ℕ, ◌+◌, List, [], ◌++◌, true, length, Option, None, Some, Result, Ok, Err}
 use Rattle.std.specs.Io.KnownBytes.{Consumes, IsAtEnd}
 use Rattle.dbus_value_model.specs.declared.fault.Fault.{Fault}
 use Rattle.dbus_value_model.specs.declared.limits.Limits.{Limits}
@@ -20,7 +20,10 @@ use Rattle.dbus_stream.specs.declared.read_fault.ReadFault.{ReadFault}
 use Rattle.dbus_stream.specs.declared.read_fault.ReadFault.TheVariants.{Format}
 use Rattle.dbus_report.specs.declared.ending.Cause.{Cause}
 use Rattle.dbus_report.specs.declared.ending.Cause.TheVariants.{Memory, ReadFailed, WriteFailed, TooManyReads}
+use Rattle.dbus_runs.specs.Inputs.{Placed, placed, wholes}
 use Rattle.dbus_runs.specs.declared.counted.Counted.{Counted}
+use Rattle.dbus_runs.specs.declared.visitor.Stop.{Stop}
+use Rattle.dbus_runs.specs.declared.visitor.Stop.TheVariants.{Cause as ByCause}
 
 -- the fault that a reader answers for good after it
 abbrev pub stop_of : Option Fault → Option ReadFault
@@ -60,7 +63,7 @@ module _ {R T B G : Type 0} {b : Ghosts B} (k : Taking T G) (left : R → Option
     pub limits_are : limits_of k new ≡ limits
     pub at_end : IsTrueEnd left old → IsTrueEnd left new
 
-  module _ {S : Type 0} (failures : R → ℕ) (takes : S → (n offset : ℕ) → List CutMessage → S → Type 0) (leaves : S → (n offset : ℕ) → List CutMessage → Cause → S → Type 0)
+  module _ {S : Type 0} (failures : R → ℕ) (takes : S → S → List Placed → (told : List ℕ) → Type 0) (leaves : S → S → List Placed → (told : List ℕ) → Stop → Type 0)
       (before : ℕ) where
     -- all messages were handed on, up to the end of the input or a fault
     pub record HandsAllOn (counted : Counted) (old new : Reader R T B b) (s0 s1 : S) : Type 0 where
@@ -75,7 +78,7 @@ module _ {R T B G : Type 0} {b : Ghosts B} (k : Taking T G) (left : R → Option
       pub size_is : counted.size ≡ done_of old + sizes items
       pub fault_is : counted.fault ≡ fault_at_end rest outcome
       pub done : done_of new ≡ counted.size
-      pub taken : takes s0 (before + 1) (done_of old) items s1
+      pub taken : takes s0 s1 (placed (before + 1) (done_of old) (wholes items)) []
       pub failed : failures (source_of new) ≡ failures (source_of old)
 
     -- some of the first messages were handed on
@@ -84,15 +87,15 @@ module _ {R T B G : Type 0} {b : Ghosts B} (k : Taking T G) (left : R → Option
       pub rest : List ℕ
       pub read : HasRead old new items rest
       pub all : AreAll limits cause rest
-      pub given_up : leaves s0 (before + 1) (done_of old) items cause s1
+      pub given_up : leaves s0 s1 (placed (before + 1) (done_of old) (wholes items)) [] (ByCause cause)
       pub caused : StopsFor failures cause old new
 
     abbrev pub HandsOn : Reader R T B b → Reader R T B b → S → S → Result Counted Cause → Type 0
     HandsOn old new s0 s1 (Ok counted) = HandsAllOn counted old new s0 s1
     HandsOn old new s0 s1 (Err cause) = HandsSomeOn cause old new s0 s1
 
-module _ {R A S : Type 0} (left : R → Option (List ℕ)) (calls failures : R → ℕ) (takes : S → (n offset : ℕ) → List CutMessage → S → Type 0)
-    (leaves : S → (n offset : ℕ) → List CutMessage → Cause → S → Type 0) (limits : Limits) (before : ℕ) where
+module _ {R A S : Type 0} (left : R → Option (List ℕ)) (calls failures : R → ℕ) (takes : S → S → List Placed → (told : List ℕ) → Type 0)
+    (leaves : S → S → List Placed → (told : List ℕ) → Stop → Type 0) (limits : Limits) (before : ℕ) where
   -- a reader of raw messages keeps the rest then, and answers the fault
   pub record HandsRawOn (counted : Counted) (old new : RawReader R A) (s0 s1 : S) : Type 0 where
     pub all : HandsAllOn gathering left calls limits (raw.kept old) failures takes leaves before counted old.reader new.reader s0 s1

@@ -1,5 +1,5 @@
 -- What a command writes of the messages of its input and the fault after them.
-use Rattle.std.specs.Prelude.{◌≡◌, ℕ, ◌+◌, ◌⊎◌, List, [], ◌∷◌, ◌++◌, length, Option, None, Some, Vec}
+use Rattle.std.specs.Prelude.{◌≡◌, ℕ, ◌+◌, ◌⊎◌, Bool, true, false, List, [], ◌∷◌, ◌++◌, length, Option, None, Some, Vec}
 use Rattle.std.specs.List.{concat}
 use Rattle.std.specs.declared.alloc.Global.{Global}
 use Rattle.dbus_value_model.specs.declared.fault.Fault.{Fault}
@@ -17,38 +17,36 @@ use Rattle.dbus_command.specs.declared.command.Command.{Command}
 use Rattle.dbus_command.specs.declared.command.Command.TheVariants.{Show, Json, Check, Swap, Filter}
 use Rattle.dbus_report.specs.Gathering.{IsPrefixTo}
 use Rattle.dbus_runs.specs.CountLines.{ok_line}
+use Rattle.dbus_runs.specs.Inputs.{Placed, placed, wholes}
 use Rattle.dbus_report.specs.Lines.{refused_line}
 use Rattle.dbus_report.specs.declared.ending.ExitStatus.{ExitStatus}
 use Rattle.dbus_report.specs.declared.ending.ExitStatus.TheVariants as status
 
+-- the command is `check`, which writes nothing of a message, and tells the first writer of a fault
+abbrev pub is_check : Command → Bool
+is_check Check = true
+is_check command = false
+
 -- the owners of names that a command knows: its own, or those that it has learned since
 abbrev pub owners_known : Command → Option (Vec (Owner Global) Global) → List Ownership
-owners_known Show learned = []
-owners_known Json learned = []
-owners_known Check learned = []
-owners_known (Swap order) learned = []
 owners_known (Filter selection) learned = known selection learned
+owners_known command learned = []
 
 -- the owners that it knows after a message, if it knew these before
 abbrev pub owners_after : Command → List Ownership → MessageTree → List Ownership
-owners_after Show os message = os
-owners_after Json os message = os
-owners_after Check os message = os
-owners_after (Swap order) os message = os
 owners_after (Filter selection) os message = known_after selection os message
+owners_after command os message = os
 
 -- the owners that a command knows after messages, if it knew these before
-abbrev pub owners_after_all : Command → List Ownership → List CutMessage → List Ownership
+abbrev pub owners_after_all : Command → List Ownership → List Placed → List Ownership
 owners_after_all command os [] = os
-owners_after_all command os (item ∷ items) = owners_after_all command (owners_after command os item.message) items
+owners_after_all command os (m ∷ items) = owners_after_all command (owners_after command os m.item.message) items
 
 -- a command makes a text of the message, if it knows these owners
 abbrev pub Picks : Command → List Ownership → MessageTree → Type 0
-Picks Show os message = Unit {0}
-Picks Json os message = Unit {0}
 Picks Check os message = ⊥
-Picks (Swap order) os message = Unit {0}
 Picks (Filter selection) os message = SelectsBy selection os message
+Picks command os message = Unit {0}
 
 -- that text, if the message is the n-th of its input and begins at this offset there
 abbrev pub IsTextOf : Command → Order → MessageTree → (n offset : ℕ) → List ℕ → Type 0
@@ -64,20 +62,17 @@ IsOutputOf command os order message n offset texts =
     (Picks command os message × (text : List ℕ) × IsTextOf command order message n offset text × (texts ≡ text ∷ []))
     ⊎ ((Picks command os message → ⊥) × (texts ≡ []))
 
--- those that it makes of several, one after the other, of which the first is the n-th and begins at this offset, if it knows these owners before
-abbrev pub IsOutputOfAll : Command → List Ownership → (n offset : ℕ) → List CutMessage → List (List ℕ) → Type 0
-IsOutputOfAll command os n offset [] texts = texts ≡ []
-IsOutputOfAll command os n offset (item ∷ items) texts = (one : List (List ℕ)) × (more : List (List ℕ)) × (texts ≡ one ++ more)
-    × IsOutputOf command os item.order item.message n offset one × IsOutputOfAll command (owners_after command os item.message) (n + 1) (offset + item.size) items more
+-- those that it makes of several, one after the other, if it knows these owners before
+abbrev pub IsOutputOfAll : Command → List Ownership → List Placed → List (List ℕ) → Type 0
+IsOutputOfAll command os [] texts = texts ≡ []
+IsOutputOfAll command os (m ∷ items) texts = (one : List (List ℕ)) × (more : List (List ℕ)) × (texts ≡ one ++ more)
+    × IsOutputOf command os m.item.order m.item.message m.place.number m.place.offset one × IsOutputOfAll command (owners_after command os m.item.message) items more
 
 -- the messages and the fault after them determine each byte that the command writes. `json` may write a DOUBLE by any digits that read
 -- back as its bits.
 abbrev pub IsExact : Command → Type 0
-IsExact Show = Unit {0}
 IsExact Json = ⊥
-IsExact Check = Unit {0}
-IsExact (Swap order) = Unit {0}
-IsExact (Filter selection) = Unit {0}
+IsExact command = Unit {0}
 
 -- how many messages of how many bytes, or the fault, whose place counts from the start of the input
 abbrev pub check_line : ℕ → ℕ → Option Fault → List ℕ
@@ -86,16 +81,13 @@ check_line count size (Some fault) = refused_line (size + fault.at) fault.reason
 
 -- what is written after so many messages of so many bytes: only `check` writes a line there
 abbrev pub last_line : Command → ℕ → ℕ → Option Fault → List ℕ
-last_line Show count size fault = []
-last_line Json count size fault = []
 last_line Check count size fault = check_line count size fault
-last_line (Swap order) count size fault = []
-last_line (Filter selection) count size fault = []
+last_line command count size fault = []
 
 -- what the first writer gets
 pub record IsFirstOutput (command : Command) (items : List CutMessage) (fault : Option Fault) (out : List ℕ) : Type 0 where
   pub texts : List (List ℕ)
-  pub each : IsOutputOfAll command (owners_known command None) 1 0 items texts
+  pub each : IsOutputOfAll command (owners_known command None) (placed 1 0 (wholes items)) texts
   pub joined : out ≡ concat texts ++ last_line command (length items) (sizes items) fault
 
 -- a prefix of what the first writer gets
@@ -108,11 +100,8 @@ fault_line size (Some fault) = refused_line (size + fault.at) fault.reason
 
 -- what the second writer gets: the fault, which `check` tells the first
 abbrev pub second_output : Command → ℕ → Option Fault → List ℕ
-second_output Show size fault = fault_line size fault
-second_output Json size fault = fault_line size fault
 second_output Check size fault = []
-second_output (Swap order) size fault = fault_line size fault
-second_output (Filter selection) size fault = fault_line size fault
+second_output command size fault = fault_line size fault
 
 abbrev pub status_of : Option Fault → ExitStatus
 status_of None = status.Done

@@ -1,37 +1,71 @@
 //! The messages of a source, counted by their names.
-ghost use Rattle.std.specs.Prelude.{◌≡◌, ◌≤◌, ◌^◌, IfOk, string_bytes};
-ghost use Rattle.dbus_stream.specs.RawReading.{IsNewReader, kept, most_reads_of, source_of};
+ghost use Rattle.std.specs.Prelude.{◌≡◌, ◌^◌};
 ghost use Rattle.dbus_count.specs.Kept.{counting_of};
-ghost use Rattle.dbus_runs.specs.ByName.{CountsByName, CountsMessages, IsFaultTold, IsUnwritten, ReadsNames, WritesCounts, WritesTables};
+ghost use Rattle.dbus_runs.specs.ByName.{CountsByName, CountsMessages, LeavesCounted, WritesTables};
 ghost use Rattle.dbus_runs.specs.CountLaws as laws;
-ghost use Rattle.dbus_report.specs.Devices.{reading, taken, writing};
+ghost use Rattle.dbus_report.specs.Devices.{reading, writing};
 
-use crate::closing::status_of;
-use crate::counted::Counted;
-use crate::handing::hand_all;
+use crate::going::{pass_through, tell_stop};
 use crate::place::Lent;
-use crate::visitor::MessageVisitor;
+use crate::visitor::{MessageVisitor, write_text};
 use dbus_command::Settings;
 use dbus_count::{Counts, Form};
-use dbus_report::{Cause, ExitStatus, Refusal, Unwritten, give_up, refusal_text};
-use dbus_stream::{MOST_READS, RawReader, Sink, Source, WrittenOnly, write_all};
+use dbus_report::{Cause, ExitStatus, Unwritten, give_up};
+use dbus_stream::{MOST_READS, Sink, Source, WrittenOnly, write_all};
 use dbus_view::MessageView;
-use std::alloc::{AllocError, Global};
+use std::alloc::Global;
 
-/// What was read of an input.
-#[derive(Debug, Drop)]
-pub(crate) struct Read {
-    /// Its messages, and the fault after them.
-    pub(crate) counted: Counted,
-    /// What is told of the fault; nothing if there is none.
-    pub(crate) told: String,
+/// Counts messages by their names, and tells the second writer of those that are refused.
+#[derive(Drop)]
+pub(crate) struct Counter<'a, E> {
+    /// The counts.
+    pub(crate) counts: Counts,
+    /// The second writer.
+    pub(crate) second: &'a mut E,
 }
 
-/// Counts the messages of a source by their names, up to the end of the input or a fault, with at most 2^32 reads. Then the tables of
-/// the counts go to the first writer, in this form, and what is told of the fault to the second.
+impl<'a, E> Counter<'a, E> {
+    /// The counts, and the writer.
+    fn into_parts(self) -> (Counts, &'a mut E)
+        ensures counts { result.0 ≡ self.entry.counts }
+        ensures same_reference { result.1.ghost_name ≡ self.entry.second.ghost_name }
+        ensures now { result.1.now ≡ self.entry.second.now }
+    {
+        (self.counts, self.second)
+    }
+}
+
+impl<E: Sink> MessageVisitor for Counter<'_, E> {
+    ghost takes = { CountsMessages E.held E.failures };
+
+    ghost leaves = { LeavesCounted E.held E.failures };
+
+    ghost settled = { λ _. Unit {0} };
+
+    fn settle(&mut self) -> Result<(), Unwritten> {
+        Ok(())
+    }
+
+    fn take(&mut self, lent: &Lent<'_>) -> Result<(), Cause> {
+        let view = MessageView::of_validated(lent.bytes, lent.limits, lent.validated);
+        match self.counts.add(&view) {
+            Ok(()) => Ok(()),
+            Err(_) => Err(Cause::Memory),
+        }
+    }
+
+    fn tell(&mut self, text: &str) -> Result<(), Unwritten> {
+        write_text(self.second, text)
+    }
+
+    ghost adds_up = { laws.adds_up E.held E.failures };
+}
+
+/// Counts the messages of a source by their names, with at most 2^32 reads, and tells the second writer of those that are refused, as
+/// [`crate::run_with`] does. Then the tables of the counts go to the first writer, in this form.
 ///
-/// `Done`, `Refused`: all was written, and whether there is a fault. `Failed`: a read or a write failed, as many reads were made as may
-/// be, or memory ran out; if it was not a write to the second writer, that is told there.
+/// `Done`, `Refused`: all was written, and whether anything was refused. `Failed`: a read or a write failed, as many reads were made as
+/// may be, or memory ran out; if it was not a write to the second writer, that is told there.
 pub fn count_by_name<R: Source, W: Sink, E: Sink>(
     alloc: Global,
     settings: Settings,
@@ -45,131 +79,18 @@ pub fn count_by_name<R: Source, W: Sink, E: Sink>(
         (writing E.held E.failures second.old second.new)
         settings form (2 ^ 32) result }
 {
-    let mut counts = Counts::new(alloc);
-    match read_names(alloc, settings, reader, &mut counts) {
-        Ok(read) => write_counts(&counts, form, &read, first, second),
-        Err(cause) => give_up(cause, second),
-    }
-}
-
-// Counts the messages of a source by their names, and says what is told of the fault after them.
-fn read_names<R: Source>(
-    alloc: Global,
-    settings: Settings,
-    source: &mut R,
-    counts: &mut Counts,
-) -> Result<Read, Cause>
-    ensures { ReadsNames (taken (reading R.left R.calls R.failures source.old source.new)) settings (2 ^ 32)
-        (counting_of counts.old) (counting_of counts.new) result }
-{
-    let (read, _source) = read_through(alloc, settings, source, counts);
-    read
-}
-
-// The same, and hands the source back.
-fn read_through<R: Source + Drop>(
-    alloc: Global,
-    settings: Settings,
-    source: R,
-    counts: &mut Counts,
-) -> (Result<Read, Cause>, R)
-    ensures reads { ReadsNames (taken (reading R.left R.calls R.failures source result.1)) settings (2 ^ 32)
-        (counting_of counts.old) (counting_of counts.new) result.0 }
-    ensures same_reference { R.reference result.1 ≡ R.reference source }
-{
-    let mut messages = RawReader::within(alloc, source, MOST_READS, settings.limits);
-    let read = read_all(alloc, settings, &mut messages, counts);
-    (read, messages.into_source())
-}
-
-// The same of a new reader.
-fn read_all<R: Source>(
-    alloc: Global,
-    settings: Settings,
-    messages: &mut RawReader<R>,
-    counts: &mut Counts,
-) -> Result<Read, Cause>
-    requires { IsNewReader (source_of messages.old) (most_reads_of messages.old) settings.limits
-        messages.old }
-    ensures reads { ReadsNames
-        (taken (reading R.left R.calls R.failures (source_of messages.old) (source_of messages.new)))
-        settings (most_reads_of messages.old) (counting_of counts.old) (counting_of counts.new) result }
-    ensures same_reference { R.reference (source_of messages.new) ≡
-        R.reference (source_of messages.old) }
-{
-    match hand_all(settings.limits, 0, messages, counts) {
-        Ok(counted) => match fault_text(alloc, settings, counted, messages) {
-            Ok(told) => Ok(Read { counted, told }),
-            Err(_) => Err(Cause::Memory),
+    let mut counter = Counter {
+        counts: Counts::new(alloc),
+        second: &mut *second,
+    };
+    let (ended, _source) = pass_through(alloc, settings, false, MOST_READS, reader, &mut counter);
+    let (counts, _second) = counter.into_parts();
+    match ended {
+        Ok(status) => match write_tables(&counts, form, first) {
+            Ok(()) => status,
+            Err(cause) => give_up(cause, second),
         },
-        Err(cause) => Err(cause),
-    }
-}
-
-// What is told of the fault after messages, if there is one.
-fn fault_text<R: Source>(
-    alloc: Global,
-    settings: Settings,
-    counted: Counted,
-    messages: &RawReader<R>,
-) -> Result<String, AllocError>
-    requires { counted.count ≤ 2 ^ 50 }
-    ensures { IfOk result (λ text.
-        IsFaultTold settings counted (kept messages.now) counted.fault (string_bytes text)) }
-{
-    match counted.fault {
-        None => Ok(String::new(alloc)),
-        Some(fault) => {
-            let refusal = Refusal {
-                number: counted.count + 1,
-                offset: counted.size,
-                fault,
-            };
-            refusal_text(alloc, false, settings.explains, refusal, messages)
-        }
-    }
-}
-
-impl MessageVisitor for Counts {
-    ghost takes = { CountsMessages };
-
-    ghost leaves = { λ _ _ _ _ cause _. IsUnwritten cause };
-
-    ghost settled = { λ _. Unit {0} };
-
-    fn settle(&mut self) -> Result<(), Unwritten> {
-        Ok(())
-    }
-
-    fn take(&mut self, lent: &Lent<'_>) -> Result<(), Cause> {
-        let view = MessageView::of_validated(lent.bytes, lent.limits, lent.validated);
-        match self.add(&view) {
-            Ok(()) => Ok(()),
-            Err(_) => Err(Cause::Memory),
-        }
-    }
-
-    ghost adds_up = { laws.adds_up };
-}
-
-// Writes the tables on the first writer, and then what is told of the fault on the second.
-fn write_counts<W: Sink, E: Sink>(
-    counts: &Counts,
-    form: Form,
-    read: &Read,
-    first: &mut W,
-    second: &mut E,
-) -> ExitStatus
-    ensures { WritesCounts (writing W.held W.failures first.old first.new)
-        (writing E.held E.failures second.old second.new)
-        form (counting_of counts.now) read.now.counted.fault (string_bytes read.now.told) result }
-{
-    match write_tables(counts, form, first) {
-        Ok(()) => match write_all(second, read.told.as_bytes()) {
-            Ok(()) => status_of(read.counted.fault),
-            Err(WrittenOnly(_)) => ExitStatus::Failed,
-        },
-        Err(cause) => give_up(cause, second),
+        Err(stop) => tell_stop(stop, false, second),
     }
 }
 

@@ -1,167 +1,145 @@
-//! A command by its settings: refused messages may be explained, and passed over.
-ghost use Rattle.std.specs.Prelude.{◌≡◌, ◌≤◌, ◌^◌, IfErr, IfOk, string_bytes};
+//! The messages of an input, handed on by settings: those that are refused are told, and may be passed over.
+ghost use Rattle.std.specs.Prelude.{◌≡◌, ◌≤◌, ◌^◌, IfOk};
 ghost use Rattle.dbus_stream.specs.RawReading.{IsNewReader, kept, most_reads_of, source_of};
-ghost use Rattle.dbus_runs.specs.Commands.{command_of};
-ghost use Rattle.dbus_report.specs.Devices.{reading, taken, writing};
-ghost use Rattle.dbus_runs.specs.Going.{IsUntold, PartsOf, RunsWith, TellsBy, TellsStop, WritesBy, cause_of, is_check};
-ghost use Rattle.dbus_runs.specs.OutputWriting.{IsFresh};
+ghost use Rattle.dbus_report.specs.Devices.{reading, taken};
+ghost use Rattle.dbus_runs.specs.Going.{Closes, PassesAll, cause_of};
+ghost use Rattle.dbus_runs.specs.Parts.{IsTold};
+ghost use Rattle.dbus_runs.specs.Told.{TellsStop};
+ghost use Rattle.dbus_runs.specs.Visiting.{Tells};
 
 use crate::handing::hand_all;
-use crate::output::{Output, Plan, output_of};
-use crate::output_writer::OutputWriter;
-use crate::place::Carried;
-use crate::tally::{Tally, closing_line, tells_first};
-use dbus_command::{Command, Settings};
-use dbus_report::{Cause, ExitStatus, Gathered, Refusal, give_up, refusal_text};
-use dbus_stream::{RawReader, ReadFault, Sink, Source, WrittenOnly, write_all};
+use crate::tally::{Tally, closing_line};
+use crate::visitor::{MessageVisitor, Stop};
+use dbus_command::Settings;
+use dbus_report::{Cause, ExitStatus, Refusal, Unwritten, give_up, refusal_text};
+use dbus_stream::{RawReader, ReadFault, Sink, Source};
 use dbus_value_model::Fault;
-use std::alloc::{AllocError, Allocator};
+use std::alloc::Allocator;
 
-/// Why a run is given up.
-#[derive(Clone, Copy, Debug, PartialEq, Eq)]
-pub(crate) enum Stop {
-    /// By this cause, which the second writer is to be told.
-    Cause(Cause),
-    /// A write of what is told failed.
-    Untold,
-}
-
-/// Does what [`crate::run_within`] does, by more settings.
+/// Hands the messages of a source to the visitor, up to its end, a message that is refused and not passed over, or this number
+/// of reads. The visitor tells each refusal, and then the last line, if there is one: what was passed over, or, of `check`,
+/// that nothing is refused.
 ///
-/// If they explain, the line of a message that is refused is followed by the three lines of `dbus_explain::explain_message`, by the bytes that
-/// were read from the message's start on.
-///
-/// If they keep going, a message that is refused is passed over if its first 16 bytes state a length within the limits. What came before it
-/// is written, and then the line `refused at P: NAME in message N at O`: the place of the fault, and where the message begins, from the
-/// start of the input, and its number among all messages of the input. The numbers and offsets of those after it count it. A message that
-/// states no such length, or that the input ends within, is told by that line too, and ends the run. If any was passed over, the last
-/// line is `N messages B bytes, K passed over C bytes`.
-///
-/// These lines go to the second writer, but of `Check` to the first. `Check` of an input without fault writes `ok N messages B bytes`, and
-/// holds the bytes of a message as the other commands do.
-///
-/// `Done`: nothing was refused. `Refused`: something was, and all was told. `Failed`: as [`crate::run_within`] says; if it
-/// was not a write to the second writer that failed, the line of the cause is its last.
-pub fn run_with<A: Allocator + Copy, R: Source, W: Sink, E: Sink>(
+/// Returns the status that is due, or why the run is given up; and the source.
+pub(crate) fn pass_through<R: Source + Drop, A: Allocator + Copy, V: MessageVisitor>(
     alloc: A,
-    command: Command,
     settings: Settings,
+    is_check: bool,
     reads: u64,
-    reader: &mut R,
-    first: &mut W,
-    second: &mut E,
-) -> ExitStatus
-    requires { reads ≤ 2 ^ 32 }
-    ensures { RunsWith (reading R.left R.calls R.failures reader.old reader.new)
-        (writing W.held W.failures first.old first.new)
-        (writing E.held E.failures second.old second.new)
-        settings reads command result }
+    source: R,
+    visitor: &mut V,
+) -> (Result<ExitStatus, Stop>, R)
+    requires few { reads ≤ 2 ^ 32 }
+    requires settled { V.settled visitor.old }
+    ensures passes { PassesAll (taken (reading R.left R.calls R.failures source result.1)) settings reads is_check
+        V.takes V.leaves visitor.old visitor.new result.0 }
+    ensures settled { IfOk result.0 (λ _. V.settled visitor.new) }
+    ensures same_reference { R.reference result.1 ≡ R.reference source }
 {
-    let plan = Plan {
-        output: output_of(&command),
-        settings,
+    let mut messages = RawReader::within(alloc, source, reads, settings.limits);
+    let ended = hand_parts(alloc, settings, is_check, &mut messages, visitor);
+    (ended, messages.into_source())
+}
+
+// The same of a new reader.
+fn hand_parts<R: Source, A: Allocator + Copy, V: MessageVisitor>(
+    alloc: A,
+    settings: Settings,
+    is_check: bool,
+    messages: &mut RawReader<R, A>,
+    visitor: &mut V,
+) -> Result<ExitStatus, Stop>
+    requires new { IsNewReader (source_of messages.old) (most_reads_of messages.old) settings.limits
+        messages.old }
+    requires settled { V.settled visitor.old }
+    ensures passes { PassesAll (taken (reading R.left R.calls R.failures (source_of messages.old) (source_of messages.new)))
+        settings (most_reads_of messages.old) is_check V.takes V.leaves visitor.old visitor.new result }
+    ensures settled { IfOk result (λ _. V.settled visitor.new) }
+    ensures same_reference { R.reference (source_of messages.new) ≡
+        R.reference (source_of messages.old) }
+{
+    let mut tally = Tally {
+        count: 0,
+        size: 0,
+        passed: 0,
+        passed_size: 0,
     };
-    go_on(alloc, plan, reads, reader, first, second)
-}
-
-// Hands on all that the reader gives, tells what is refused, and writes the last line, or the cause.
-fn go_on<A: Allocator + Copy, R: Source, W: Sink, E: Sink>(
-    alloc: A,
-    plan: Plan,
-    reads: u64,
-    reader: &mut R,
-    first: &mut W,
-    second: &mut E,
-) -> ExitStatus
-    requires { reads ≤ 2 ^ 32 }
-    ensures { RunsWith (reading R.left R.calls R.failures reader.old reader.new)
-        (writing W.held W.failures first.old first.new)
-        (writing E.held E.failures second.old second.new)
-        plan.entry.settings reads (command_of plan.entry.output) result }
-{
-    match hand_over(alloc, plan, reads, reader, first, second) {
-        Ok(handed) => {
-            let line = closing_line(alloc, plan.output, handed.tally, handed.fault);
-            match say(plan.output, line, first, second) {
-                Ok(()) => handed.tally.status(handed.fault),
-                Err(stop) => tell_stop(plan.output, stop, second),
-            }
+    'parts: loop {
+        let counted = match hand_all(settings.limits, tally.count, messages, visitor) {
+            Ok(counted) => counted,
+            Err(cause) => return Err(Stop::Cause(cause)),
+        };
+        tally = tally.up_to(counted);
+        let fault = match counted.fault {
+            Some(fault) => fault,
+            None => return close(alloc, is_check, tally, None, visitor),
+        };
+        let refusal = Refusal {
+            number: counted.count + 1,
+            offset: counted.size,
+            fault,
+        };
+        match tell(alloc, settings, refusal, messages, visitor) {
+            Ok(()) => {}
+            Err(stop) => return Err(stop),
         }
-        Err(stop) => tell_stop(plan.output, stop, second),
-    }
-}
-
-// Writes the cause on the second writer, unless a write to it failed.
-fn tell_stop<E: Sink>(output: Output, stop: Stop, second: &mut E) -> ExitStatus
-    ensures failed { result ≡ ExitStatus.Failed }
-    ensures tells { TellsStop E.held E.failures (command_of output.entry) stop second.old second.new }
-{
-    match stop {
-        Stop::Cause(cause) => give_up(cause, second),
-        Stop::Untold => {
-            if tells_first(output) {
-                give_up(Cause::WriteFailed, second)
-            } else {
-                ExitStatus::Failed
-            }
+        if !settings.keeps_going {
+            return close(alloc, is_check, tally, Some(fault), visitor);
+        }
+        match messages.pass_over() {
+            Ok(true) => tally = tally.past(messages.done()),
+            Ok(false) => return close(alloc, is_check, tally, Some(fault), visitor),
+            Err(fault) => return Err(Stop::Cause(cause_of(fault))),
         }
     }
 }
 
-/// An input that was read to its end, or to a message that is not passed over.
-#[derive(Clone, Copy, Debug, PartialEq, Eq)]
-pub(crate) struct Handed {
-    pub(crate) tally: Tally,
-    /// The fault of the bytes after what was tallied.
-    pub(crate) fault: Option<Fault>,
-}
-
-// Tells a refusal on the writer that it is for.
-fn tell<R: Source, A: Allocator + Copy, W: Sink, E: Sink>(
+// Has the visitor tell a refusal.
+fn tell<R: Source, A: Allocator + Copy, V: MessageVisitor>(
     alloc: A,
-    plan: Plan,
+    settings: Settings,
     refusal: Refusal,
     messages: &RawReader<R, A>,
-    first: &mut W,
-    second: &mut E,
+    visitor: &mut V,
 ) -> Result<(), Stop>
-    ensures { TellsBy (writing W.held W.failures first.old first.new) (writing E.held E.failures second.old second.new)
-        (command_of plan.entry.output) plan.entry.settings refusal (kept messages.now) result }
+    requires { V.settled visitor.old }
+    ensures tells { Tells V.takes V.leaves (IsTold settings refusal (kept messages.now)) visitor.old visitor.new result }
+    ensures settled { IfOk result (λ _. V.settled visitor.new) }
 {
     let Settings {
         explains,
         keeps_going,
         ..
-    } = plan.settings;
-    let text = refusal_text(alloc, keeps_going, explains, refusal, messages);
-    say(plan.output, text, first, second)
-}
-
-// Writes a text on the writer that it is for, if there was memory for it.
-fn say<A: Allocator + Copy, W: Sink, E: Sink>(
-    output: Output,
-    text: Result<String<A>, AllocError>,
-    first: &mut W,
-    second: &mut E,
-) -> Result<(), Stop>
-    ensures writes { IfOk text (λ t. WritesBy (is_check (command_of output.entry)) (writing W.held W.failures first.old first.new)
-        (writing E.held E.failures second.old second.new) (string_bytes t) result) }
-    ensures untold { IfErr text (λ _. IsUntold (writing W.held W.failures first.old first.new)
-        (writing E.held E.failures second.old second.new) result) }
-{
-    let Ok(text) = text else {
+    } = settings;
+    let Ok(text) = refusal_text(alloc, keeps_going, explains, refusal, messages) else {
         return Err(Stop::Cause(Cause::Memory));
     };
-    if tells_first(output) {
-        match write_all(first, text.as_bytes()) {
-            Ok(()) => Ok(()),
-            Err(WrittenOnly(_)) => Err(Stop::Untold),
-        }
-    } else {
-        match write_all(second, text.as_bytes()) {
-            Ok(()) => Ok(()),
-            Err(WrittenOnly(_)) => Err(Stop::Untold),
-        }
+    match visitor.tell(text.as_str()) {
+        Ok(()) => Ok(()),
+        Err(Unwritten) => Err(Stop::Untold),
+    }
+}
+
+// Has the visitor tell the last line. Returns the status that is due then.
+fn close<A: Allocator + Copy, V: MessageVisitor>(
+    alloc: A,
+    is_check: bool,
+    tally: Tally,
+    fault: Option<Fault>,
+    visitor: &mut V,
+) -> Result<ExitStatus, Stop>
+    requires settled { V.settled visitor.old }
+    requires few { tally.passed ≤ tally.count }
+    requires few_bytes { tally.passed_size ≤ tally.size }
+    ensures closes { Closes V.takes V.leaves is_check tally fault visitor.old visitor.new result }
+    ensures settled { IfOk result (λ _. V.settled visitor.new) }
+{
+    let Ok(line) = closing_line(alloc, is_check, tally, fault) else {
+        return Err(Stop::Cause(Cause::Memory));
+    };
+    match visitor.tell(line.as_str()) {
+        Ok(()) => Ok(tally.status(fault)),
+        Err(Unwritten) => Err(Stop::Untold),
     }
 }
 
@@ -177,111 +155,19 @@ fn cause_of(fault: ReadFault) -> Cause
     }
 }
 
-// Hands the messages of a reader to a writer of an output, tells each that is refused, and passes
-// over it, up to the end of the input or a message that is not passed over.
-fn hand_parts<R: Source, A: Allocator + Copy, W: Sink, E: Sink>(
-    alloc: A,
-    plan: Plan,
-    messages: &mut RawReader<R, A>,
-    writer: &mut OutputWriter<'_, A, W>,
-    second: &mut E,
-) -> Result<Handed, Stop>
-    requires new { IsNewReader (source_of messages.old) (most_reads_of messages.old) plan.settings.limits
-        messages.old }
-    requires fresh { IsFresh plan writer.old }
-    ensures parts { PartsOf (taken (reading R.left R.calls R.failures (source_of messages.old) (source_of messages.new)))
-        W.held W.failures E.held E.failures plan.entry.settings (most_reads_of messages.old) (command_of plan.entry.output) result
-        writer.old.first.now writer.new.first.now second.old second.new }
-    ensures same_reference { R.reference (source_of messages.new) ≡
-        R.reference (source_of messages.old) }
-    ensures same_first { writer.new.first.ghost_name ≡ writer.old.first.ghost_name }
+/// Tells the second writer why a run is given up, unless a write to it failed.
+pub(crate) fn tell_stop<E: Sink>(stop: Stop, is_check: bool, second: &mut E) -> ExitStatus
+    ensures failed { result ≡ ExitStatus.Failed }
+    ensures tells { TellsStop E.held E.failures is_check stop second.old second.new }
 {
-    let mut tally = Tally {
-        count: 0,
-        size: 0,
-        passed: 0,
-        passed_size: 0,
-    };
-    'parts: loop {
-        let counted = match hand_all(plan.settings.limits, tally.count, messages, writer) {
-            Ok(counted) => counted,
-            Err(cause) => return Err(Stop::Cause(cause)),
-        };
-        tally = tally.up_to(counted);
-        let fault = match counted.fault {
-            Some(fault) => fault,
-            None => return Ok(Handed { tally, fault: None }),
-        };
-        let refusal = Refusal {
-            number: counted.count + 1,
-            offset: counted.size,
-            fault,
-        };
-        match tell(alloc, plan, refusal, messages, writer.first, second) {
-            Ok(()) => {}
-            Err(stop) => return Err(stop),
-        }
-        if !plan.settings.keeps_going {
-            let fault = Some(fault);
-            return Ok(Handed { tally, fault });
-        }
-        match messages.pass_over() {
-            Ok(true) => tally = tally.past(messages.done()),
-            Ok(false) => {
-                let fault = Some(fault);
-                return Ok(Handed { tally, fault });
+    match stop {
+        Stop::Cause(cause) => give_up(cause, second),
+        Stop::Untold => {
+            if is_check {
+                give_up(Cause::WriteFailed, second)
+            } else {
+                ExitStatus::Failed
             }
-            Err(fault) => return Err(Stop::Cause(cause_of(fault))),
         }
     }
-}
-
-// Hands on the messages of a source, and gives the source back.
-fn hand_through<R: Source + Drop, A: Allocator + Copy, W: Sink, E: Sink>(
-    alloc: A,
-    plan: Plan,
-    reads: u64,
-    source: R,
-    first: &mut W,
-    second: &mut E,
-) -> (Result<Handed, Stop>, R)
-    requires { reads ≤ 2 ^ 32 }
-    ensures parts { PartsOf (taken (reading R.left R.calls R.failures source result.1))
-        W.held W.failures E.held E.failures plan.entry.settings reads (command_of plan.entry.output) result.0
-        first.old first.new second.old second.new }
-    ensures same_reference { R.reference result.1 ≡ R.reference source }
-{
-    let mut messages = RawReader::within(alloc, source, reads, plan.settings.limits);
-    let mut writer = OutputWriter {
-        output: plan.output,
-        carried: Carried {
-            window: plan.settings.window,
-            owners: None,
-        },
-        spare: Vec::new(alloc),
-        gathered: Gathered::new(),
-        first,
-    };
-    let handed = hand_parts(alloc, plan, &mut messages, &mut writer, second);
-    let _first = writer.into_first();
-    (handed, messages.into_source())
-}
-
-// Hands on the messages of a source that it borrows, as [`run_with`] does, up to its end, a message
-// that is not passed over, or this number of reads.
-fn hand_over<R: Source, A: Allocator + Copy, W: Sink, E: Sink>(
-    alloc: A,
-    plan: Plan,
-    reads: u64,
-    source: &mut R,
-    first: &mut W,
-    second: &mut E,
-) -> Result<Handed, Stop>
-    requires { reads ≤ 2 ^ 32 }
-    ensures { PartsOf (taken (reading R.left R.calls R.failures source.old source.new))
-        W.held W.failures E.held E.failures plan.entry.settings reads (command_of plan.entry.output) result
-        first.old first.new second.old second.new }
-{
-    let (handed, _source) = hand_through(alloc, plan, reads, source, first, second);
-    handed
 }

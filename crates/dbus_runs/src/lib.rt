@@ -26,5 +26,4 @@ mod visitor;
 mod window;
 
 pub use by_name::count_by_name;
-pub use going::run_with;
-pub use running::{run, run_reads, run_within};
+pub use running::{run, run_reads, run_with, run_within};

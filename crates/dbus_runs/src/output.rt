@@ -8,6 +8,7 @@ ghost use Rattle.dbus_report.specs.Gathering.{gathered_bytes};
 ghost use Rattle.dbus_report.specs.Devices.{writing};
 ghost use Rattle.dbus_runs.specs.Handing.{HandsOne, IsPicked, WritesOne};
 ghost use Rattle.dbus_runs.specs.Commands.{command_of};
+ghost use Rattle.dbus_runs.specs.Output.{is_check};
 
 use crate::filtering::select;
 use crate::json_lines::write_json_line;
@@ -15,7 +16,7 @@ use crate::place::{Carried, Lent};
 use crate::showing::show;
 use crate::swapping::swap;
 use crate::window::lets_through;
-use dbus_command::{Command, Selection, Settings};
+use dbus_command::{Command, Selection};
 use dbus_match::Owner;
 use dbus_report::{Cause, Gathered, put_out};
 use dbus_stream::Sink;
@@ -37,13 +38,6 @@ pub(crate) enum Output<'a> {
     Matching(&'a Selection),
 }
 
-/// What a command does with an input: what it writes of each message, and by which settings.
-#[derive(Clone, Copy)]
-pub(crate) struct Plan<'a> {
-    pub(crate) output: Output<'a>,
-    pub(crate) settings: Settings,
-}
-
 /// What the command writes of each message.
 pub(crate) fn output_of(command: &Command) -> Output<'_>
     ensures { command_of result ≡ command.now }
@@ -54,6 +48,19 @@ pub(crate) fn output_of(command: &Command) -> Output<'_>
         Command::Json => Output::JsonLine,
         Command::Swap(order) => Output::InOrder(*order),
         Command::Filter(selection) => Output::Matching(selection),
+    }
+}
+
+/// Whether the command is `check`, of which what is told goes to the first writer.
+pub(crate) fn is_check(output: Output) -> bool
+    ensures { result ≡ is_check (command_of output.entry) }
+{
+    match output {
+        Output::Nothing => true,
+        Output::Text => false,
+        Output::JsonLine => false,
+        Output::InOrder(_) => false,
+        Output::Matching(_) => false,
     }
 }
 

@@ -1,14 +1,17 @@
-//! A command, over any reader and two writers.
+//! A command, over any reader and two writers, by its settings.
 ghost use Rattle.std.specs.Prelude.{◌≤◌, ◌^◌, false};
 ghost use Rattle.dbus_value_model.specs.Specification.{specification};
 ghost use Rattle.dbus_report.specs.Devices.{reading, writing};
-ghost use Rattle.dbus_runs.specs.Running.{Runs};
+ghost use Rattle.dbus_runs.specs.Running.{Runs, RunsWith};
 
 use crate::closing::{status_of, write_count};
 use crate::counting::count_over;
-use crate::going::run_with;
+use crate::going::{pass_through, tell_stop};
+use crate::output::{is_check, output_of};
+use crate::output_writer::OutputWriter;
+use crate::place::Carried;
 use dbus_command::{Command, Settings, Window};
-use dbus_report::{ExitStatus, give_up};
+use dbus_report::{ExitStatus, Gathered, give_up};
 use dbus_stream::{MOST_READS, Sink, Source};
 use dbus_value_model::Limits;
 use std::alloc::Allocator;
@@ -106,6 +109,59 @@ pub fn run_within<A: Allocator + Copy, R: Source, W: Sink, E: Sink>(
             };
             run_with(alloc, command, settings, reads, reader, first, second)
         }
+    }
+}
+
+/// Does what [`run_within`] does, by more settings.
+///
+/// If they explain, the line of a message that is refused is followed by the three lines of `dbus_explain::explain_message`, by the bytes that
+/// were read from the message's start on.
+///
+/// If they keep going, a message that is refused is passed over if its first 16 bytes state a length within the limits. What came before it
+/// is written, and then the line `refused at P: NAME in message N at O`: the place of the fault, and where the message begins, from the
+/// start of the input, and its number among all messages of the input. The numbers and offsets of those after it count it. A message that
+/// states no such length, or that the input ends within, is told by that line too, and ends the run. If any was passed over, the last
+/// line is `N messages B bytes, K passed over C bytes`.
+///
+/// These lines go to the second writer, but of `Check` to the first. `Check` of an input without fault writes `ok N messages B bytes`, and
+/// holds the bytes of a message as the other commands do.
+///
+/// `Done`: nothing was refused. `Refused`: something was, and all was told. `Failed`: as [`run_within`] says; if it
+/// was not a write to the second writer that failed, the line of the cause is its last.
+pub fn run_with<A: Allocator + Copy, R: Source, W: Sink, E: Sink>(
+    alloc: A,
+    command: Command,
+    settings: Settings,
+    reads: u64,
+    reader: &mut R,
+    first: &mut W,
+    second: &mut E,
+) -> ExitStatus
+    requires { reads ≤ 2 ^ 32 }
+    ensures { RunsWith (reading R.left R.calls R.failures reader.old reader.new)
+        (writing W.held W.failures first.old first.new)
+        (writing E.held E.failures second.old second.new)
+        settings reads command result }
+{
+    let output = output_of(&command);
+    let is_check = is_check(output);
+    let mut writer = OutputWriter {
+        output,
+        carried: Carried {
+            window: settings.window,
+            owners: None,
+        },
+        spare: Vec::new(alloc),
+        gathered: Gathered::new(),
+        first,
+        second: &mut *second,
+    };
+    let (ended, _source) = pass_through(alloc, settings, is_check, reads, reader, &mut writer);
+    let (first_writer, _second) = writer.into_writers();
+    let _first = first_writer.into_inner();
+    match ended {
+        Ok(status) => status,
+        Err(stop) => tell_stop(stop, is_check, second),
     }
 }
 

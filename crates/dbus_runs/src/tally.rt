@@ -1,12 +1,9 @@
 //! What was handed on and passed over of an input, and the last line that tells it.
 ghost use Rattle.std.specs.Prelude.{◌≡◌, ◌≤◌, ◌<◌, ◌+◌, ◌-◌, ◌^◌, IfErr, IfOk, string_bytes, true};
-ghost use Rattle.dbus_runs.specs.Commands.{command_of};
-ghost use Rattle.dbus_runs.specs.Going.{HasLastLine, is_check};
-ghost use Rattle.dbus_runs.specs.Parts.{closing_line, status_at};
+ghost use Rattle.dbus_runs.specs.Parts.{HasLastLine, closing_line, status_at};
 
 use crate::count_lines::{counts_line, ok_line};
 use crate::counted::Counted;
-use crate::output::Output;
 use dbus_report::ExitStatus;
 use dbus_value_model::Fault;
 use std::alloc::{AllocError, Allocator};
@@ -67,38 +64,25 @@ impl Tally {
     }
 }
 
-/// Whether what is told goes to the first writer.
-pub(crate) fn tells_first(output: Output) -> bool
-    ensures { result ≡ is_check (command_of output.entry) }
-{
-    match output {
-        Output::Nothing => true,
-        Output::Text => false,
-        Output::JsonLine => false,
-        Output::InOrder(_) => false,
-        Output::Matching(_) => false,
-    }
-}
-
-/// The last line: what was passed over, if anything was; or that of an input without fault.
+/// The last line, if there is one: what was passed over; or of `check` that of an input without fault.
 pub(crate) fn closing_line<A: Allocator + Copy>(
     alloc: A,
-    output: Output,
+    is_check: bool,
     tally: Tally,
     fault: Option<Fault>,
 ) -> Result<String<A>, AllocError>
     requires few { tally.passed ≤ tally.count }
     requires few_bytes { tally.passed_size ≤ tally.size }
     ensures line { IfOk result (λ line. string_bytes line ≡
-        closing_line (command_of output.entry) tally tally.passed fault) }
-    ensures due { IfErr result (λ _. HasLastLine (command_of output.entry) tally.passed fault) }
+        closing_line is_check tally tally.passed fault) }
+    ensures due { IfErr result (λ _. HasLastLine is_check tally.passed fault) }
 {
     if tally.passed > 0 {
         let count = tally.count - tally.passed;
         let size = tally.size - tally.passed_size;
         return counts_line(alloc, count, size, tally.passed, tally.passed_size);
     }
-    if fault.is_none() && tells_first(output) {
+    if fault.is_none() && is_check {
         return ok_line(alloc, tally.count, tally.size);
     }
     Ok(String::new(alloc))

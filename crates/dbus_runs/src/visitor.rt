@@ -1,26 +1,39 @@
-//! What takes the messages of an input.
-ghost use Rattle.std.specs.Prelude.{ℕ, List, length};
+//! What takes the messages of an input, and tells of those that are refused.
+ghost use Rattle.std.specs.Prelude.{◌≡◌, ℕ, IfOk, List, length};
 ghost use Rattle.dbus_value_model.specs.declared.order.Order.{Order};
 ghost use Rattle.dbus_message_model.specs.Messages.{MessageTree};
 ghost use Rattle.dbus_header.specs.MessageOutcomes.{IsWhole};
 ghost use Rattle.dbus_validate.specs.Validating.{IsValidatedWhole};
-ghost use Rattle.dbus_stream.specs.Cut.{CutMessage};
-ghost use Rattle.dbus_report.specs.declared.ending.Cause.{Cause};
-ghost use Rattle.dbus_runs.specs.Visiting.{AddsUp, LetsGo, TakesOne};
+ghost use Rattle.dbus_runs.specs.Inputs.{Placed};
+ghost use Rattle.dbus_runs.specs.Told.{WroteOrNot};
+ghost use Rattle.dbus_runs.specs.Visiting.{AddsUp, LetsGo, TakesOne, TellsOne};
 
 use crate::place::Lent;
 use dbus_report::{Cause, Unwritten};
+use dbus_stream::{Sink, WrittenOnly, write_all};
 
-/// What takes the messages of an input, one after the other.
+/// Why a run is given up.
+#[derive(Clone, Copy, Debug, PartialEq, Eq)]
+pub(crate) enum Stop {
+    /// By this cause, which the second writer is to be told.
+    Cause(Cause),
+    /// A write of what is told failed.
+    Untold,
+}
+
+/// What takes the messages of an input, one after the other, and tells what is to be told.
 ///
-/// Its relations say what becomes of it by messages, of which the first has a number and an offset in
-/// the input. Its law says that this adds up.
+/// Its relations say what becomes of it by messages, each with its place in the input, and by what it tells.
+/// Its law says that this adds up.
 pub(crate) trait MessageVisitor {
-    // It took these messages: what it was before them, and after them.
-    ghost takes: { Self → ℕ → ℕ → List CutMessage → Self → Type 0 };
+    ghost use Rattle.dbus_runs.specs.declared.visitor.Stop.{Stop};
 
-    // It took these messages, and no more for this cause. It holds nothing back, unless a write failed.
-    ghost leaves: { Self → ℕ → ℕ → List CutMessage → Cause → Self → Type 0 };
+    // It took these messages, and told this text: what it was before, and after.
+    ghost takes: { Self → Self → List Placed → List ℕ → Type 0 };
+
+    // It took these messages and told this text, as far as this stop let it. It holds nothing back,
+    // unless a write failed.
+    ghost leaves: { Self → Self → List Placed → List ℕ → Stop → Type 0 };
 
     // It holds nothing back.
     ghost settled: { Self → Type 0 };
@@ -40,8 +53,26 @@ pub(crate) trait MessageVisitor {
         requires { IsValidatedWhole lent.now.limits lent.now.bytes.now lent.now.validated }
         ensures { (order : Order) (m : MessageTree) →
             IsWhole lent.now.limits lent.now.bytes.now order m (length lent.now.bytes.now) →
-            TakesOne takes leaves self.old lent.now.place.number lent.now.place.offset
-            (record { order = order; message = m; size = length lent.now.bytes.now }) self.new result };
+            TakesOne takes leaves self.old self.new
+            (record { place = lent.now.place; item = record { order = order; message = m; size = length lent.now.bytes.now } }) result };
+
+    /// Tells a text.
+    ///
+    /// `Unwritten`: a write of it failed, or took none of its bytes.
+    fn tell(&mut self, text: &str) -> Result<(), Unwritten>
+        requires { settled self.old }
+        ensures tells { TellsOne takes leaves self.old self.new text.now result }
+        ensures settled { IfOk result (λ _. settled self.new) };
 
     ghost adds_up: { AddsUp takes leaves settled };
+}
+
+/// Writes a text that is told.
+pub(crate) fn write_text<W: Sink>(writer: &mut W, text: &str) -> Result<(), Unwritten>
+    ensures { WroteOrNot W.held W.failures text.now writer.old writer.new result }
+{
+    match write_all(writer, text.as_bytes()) {
+        Ok(()) => Ok(()),
+        Err(WrittenOnly(_)) => Err(Unwritten),
+    }
 }

@@ -8,11 +8,10 @@ use Rattle.dbus_command.specs.Unowned.{lacks_owner}
 use Rattle.dbus_command.specs.Windows.{ask_more}
 use Rattle.dbus_runs.specs.ByName.{CountsByName}
 use Rattle.dbus_report.specs.Devices.{Reading, Writing, writing}
-use Rattle.dbus_runs.specs.Going.{RunsWith}
 use Rattle.dbus_tool.specs.Handshaking.{ReadsHandshake, Shows, StopsBy, TellsHandshake, ahead}
 use Rattle.dbus_tool.specs.Listing.{Lists}
 use Rattle.dbus_tool.specs.RuleLines.{IsRuleTold}
-use Rattle.dbus_runs.specs.Running.{Runs}
+use Rattle.dbus_runs.specs.Running.{Runs, RunsWith}
 use Rattle.dbus_report.specs.Failing.{Told}
 use Rattle.dbus_handshake_input.specs.declared.fault.HandshakeFault.{HandshakeFault}
 use Rattle.dbus_handshake_input.specs.declared.read_ahead.ReadAhead.{ReadAhead}

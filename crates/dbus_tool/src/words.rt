@@ -35,8 +35,8 @@ const OWNER_NOTE: &str =
 /// answered by bytes that were read ahead. If the input begins with no handshake of that side,
 /// `handshake refused at P: NAME` and LF go to the second writer, with the place from the start of the input and the name of the reason.
 ///
-/// If they name `count`, all messages are read, up to the end of the input or a fault, and then the first writer gets the tables of how many
-/// have each name, as [`dbus_count::Counts::tables`] says, and the second what is told of the fault.
+/// If they name `count`, the second writer is told of what is refused as by [`run_with`], and then the first gets the tables of how many
+/// messages have each name, as [`dbus_count::Counts::tables`] says.
 ///
 /// If they name `handshake` with a side, the first writer gets a line for each line of the side's handshake, its offset, the line and what it
 /// says, and then `ok N lines B bytes`; or, if the input begins with none, the lines before that place, and the second writer what is said

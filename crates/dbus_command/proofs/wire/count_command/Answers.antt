@@ -2,7 +2,7 @@ use Rattle.std.proofs.Common.{◌≡◌, ap, ap₂, ◌∙◌, rules, false, cod
 use Rattle.std.proofs.lemmas.Result.{IfOk-weaker}
 use Rattle.clap.specs.Words.{app_of, new_app, with_rule}
 use Rattle.clap.specs.declared.builder.command.Command.TheViews.{out-Command}
-use Rattle.dbus_command.specs.CommandLine.{with_options}
+use Rattle.dbus_command.specs.CommandLine.{with_keep_going}
 use Rattle.dbus_command.proofs.Options.{same_locals}
 use Rattle.dbus_command.proofs.wire.count_command.Goals as goal
 
@@ -12,7 +12,7 @@ returns c =
     let none : (out-Command c.after_help-count.result).has_globals ≡ false = search rules in
     let formed = c.in_ok-formed.ensures.shape c.flag.ensures.local ∙ ap₂ with_rule start c.flag.ensures.rule in
     let first = same_locals _ _ _ c.in_ok-formed.ensures c.flag.ensures.local in
-    IfOk-weaker c.with_options.result _ _ (λ m h. record {
-      app_is = h.app_is ∙ ap with_options formed;
+    IfOk-weaker c.with_keep_going.result _ _ (λ m h. record {
+      app_is = h.app_is ∙ ap with_keep_going formed;
       local = h.as_local ∙ (first ∙ none);
-    }) c.with_options.ensures
+    }) c.with_keep_going.ensures

@@ -1,23 +1,28 @@
-use Rattle.std.proofs.Common.{◌≡◌, ℕ, List, ap, ◌∙◌, inl, subst, string_bytes}
-use Rattle.dbus_count.specs.Counting.{Counting}
+use Rattle.std.proofs.Common.{◌≡◌, Err, rules, inl, inr, refl, subst}
 use Rattle.dbus_count.specs.Kept.{counting_of}
-use Rattle.dbus_runs.specs.ByName.{IsFaultTold, WritesCounts, after_messages, counting}
+use Rattle.dbus_count.specs.declared.counts.Counts.{Counts}
 use Rattle.dbus_report.specs.Devices.{writing}
+use Rattle.dbus_runs.specs.ByName.{WritesTables}
+use Rattle.dbus_runs.proofs.NameSteps.{counts_all}
 use Rattle.dbus_runs.proofs.by_name.count_by_name.Goals as goal
+
+pub returns-in-Ok-write_tables : goal.returns-in-Ok-write_tables
+returns-in-Ok-write_tables g c =
+    let passes = rw c.in-Ok.is at c.pass_through-ended.ensures.passes in
+    let same = passes.came.same_second in
+    let source : c.pass_through-ended.result.1.now ≡ c.reader-1.given.0 = search rules in
+    let second : c.pass_through-ended.new.visitor.second.now ≡ c.second-1.given.0 = search rules in
+    let tables = rw c.into_parts-counts.ensures.counts at c.in-Ok-write_tables.ensures in
+    inl (counts_all g.R.Source.left g.R.Source.calls g.R.Source.failures g.E.Sink.held g.E.Sink.failures (writing g.W.Sink.held g.W.Sink.failures c.args.first.now c.write_tables.new.first) c.args.settings c.args.form _
+    c.args.reader.now c.pass_through-ended.result.1.now _ c.pass_through-ended.new.visitor source second _ c.in-Ok.status c.in-Ok.status c.new.ensures passes (inl (tables, refl, refl)))
 
 pub returns-in-Ok : goal.returns-in-Ok
 returns-in-Ok g c =
-    let read = c.in-Ok.read in
-    let told = string_bytes read.told in
-    let r = c.in-Ok.ensures in
-    let a = r.1 in
-    let w = writing g.W.Sink.held g.W.Sink.failures c.args.first.now c.write_counts.new.first in
-    let e = writing g.E.Sink.held g.E.Sink.failures c.args.second.now c.write_counts.new.second in
-    let counts : counting_of c.read_names.new.counts ≡ counting a.all.items = λ i name. (a.names name ∙ ap (λ x. after_messages a.all.items name x) (c.new-counts.ensures name)) i in
-    inl (
-      read.counted,
-      a.all,
-      told,
-      subst (λ (kept : List ℕ). IsFaultTold c.args.settings read.counted kept read.counted.fault told) a.kept_is r.2,
-      subst (λ (n : Counting). WritesCounts w e c.args.form n read.counted.fault told c.write_counts.result) counts c.write_counts.ensures,
-    )
+    let passes = rw c.in-Ok.is at c.pass_through-ended.ensures.passes in
+    let same = passes.came.same_second in
+    let source : c.pass_through-ended.result.1.now ≡ c.reader-1.given.0 = search rules in
+    let tables = subst (λ (x : Counts). WritesTables (writing g.W.Sink.held g.W.Sink.failures c.args.first.now c.write_tables.new.first) c.args.form (counting_of x) (Err c.in-Err-write_tables.cause))
+    c.into_parts-counts.ensures.counts c.in-Err-write_tables.ensures in
+    inl (counts_all g.R.Source.left g.R.Source.calls g.R.Source.failures g.E.Sink.held g.E.Sink.failures (writing g.W.Sink.held g.W.Sink.failures c.args.first.now c.write_tables.new.first) c.args.settings c.args.form _
+    c.args.reader.now c.pass_through-ended.result.1.now _ c.pass_through-ended.new.visitor source (search rules) c.give_up.new.second c.in-Ok.status c.give_up.result c.new.ensures passes
+    (inr (c.in-Err-write_tables.cause, tables, c.give_up.ensures.told, c.give_up.ensures.failed)))

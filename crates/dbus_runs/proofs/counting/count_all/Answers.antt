@@ -1,4 +1,4 @@
-use Rattle.std.proofs.Common.{◌≡◌, ◌≤◌, ◌<◌, ◌^◌, ◌++◌, [], drop, Ok, arith, refl, sym, ap, ◌∙◌, subst}
+use Rattle.std.proofs.Common.{◌≡◌, ◌≤◌, ◌<◌, ◌^◌, ◌+◌, ◌++◌, [], drop, Ok, arith, refl, sym, ap, ◌∙◌, subst}
 use Rattle.dbus_header.proofs.OutcomeLaws.{whole_inside}
 use Rattle.dbus_stream.specs.CheckReading.{GivesLength, limits_of, Reads}
 use Rattle.dbus_stream.specs.Cut.{CutMessage, Ended}
@@ -8,7 +8,7 @@ use Rattle.dbus_runs.specs.Counting.{Tallies, ended_by}
 use Rattle.dbus_report.specs.Devices.{reading, taken}
 use Rattle.dbus_runs.proofs.ReadSteps.{length-sizes}
 use Rattle.dbus_runs.proofs.HandSteps.{hands_none, hands_more, hands_all, hands_faulted}
-use Rattle.dbus_runs.proofs.CountSteps.{adds_up, check_faults, counts, gives_up, tallied}
+use Rattle.dbus_runs.proofs.CountSteps.{adds_up, check_faults, counts, tallied}
 use Rattle.dbus_runs.proofs.counting.count_all.Goals as goal
 use Rattle.dbus_runs.proofs.counting.count_all.Goals.{In-Ok-Some}
 
@@ -44,7 +44,8 @@ messages-preserved g c =
     let item : CutMessage = record { order = gives.order; message = gives.message; size = c.in-Ok-Some.field-0-0 } in (
       drop item.size (c.messages.invariant.0 ++ given.0.bytes),
       gives.kept,
-      hands_more adds_up c.messages.invariant.2 given.0 {s2 = tt} (λ _ _. tt) item gives.whole c.in-Ok-Some.ensures.failed gives.done gives.unstopped tt,
+      hands_more adds_up c.messages.invariant.2 given.0 {s2 = tt} tt item gives.whole c.in-Ok-Some.ensures.failed
+          (record { number = c.messages.count + 1; offset = done_of c.messages.messages }) refl refl gives.done gives.unstopped tt,
       c.next.ensures.same_reference ∙ c.messages.invariant.3,
     )
 
@@ -62,8 +63,8 @@ returns-in-Ok-None-clause-counts g c =
     let h = c.messages.invariant.2 in
     let read = rw c.in-Ok-None.field-0-is at (c.in-Ok-None.ensures.read rest c.messages.invariant.1) in
     let answer = read.1 h.unstopped in
-    tallied lengths g.R.Source.left g.R.Source.calls g.R.Source.failures (limits_of c.args.messages.now) (most_reads_of c.args.messages.now) [] refl c.args.messages.now c.requires.reads c.requires.most_reads c.requires.done c.requires.ended c.next.new.self counts gives_up {s0 = tt} {s1 = tt} (λ _ _ _ never. never) (Ok _)
-    (hands_all adds_up h read.0 {s2 = tt} (λ _ _. tt) Ended _ refl c.done.ensures answer.2.done refl answer.0 (λ _. answer.1) c.in-Ok-None.ensures.failed)
+    tallied g.R.Source.left g.R.Source.calls g.R.Source.failures c.args.messages.now c.next.new.self c.requires (Ok _)
+    (hands_all adds_up h read.0 {s2 = tt} tt Ended _ refl c.done.ensures answer.2.done refl answer.0 (λ _. answer.1) c.in-Ok-None.ensures.failed)
 
 pub returns-in-Err-clause-counts : goal.returns-in-Err-clause-counts
 returns-in-Err-clause-counts g c =
@@ -73,5 +74,5 @@ returns-in-Err-clause-counts g c =
     let read = c.in-Err.ensures.read rest c.messages.invariant.1 in
     let answer : c.ended_by.result ≡ ended_by c.messages.count (done_of c.next.new.self) fault = c.ended_by.ensures ∙ ap (λ n. ended_by c.messages.count n fault) c.done-in-Err.ensures in
     subst (λ x. Tallies (taken (reading g.R.Source.left g.R.Source.calls g.R.Source.failures (source_of c.args.messages.now) (source_of c.next.new.self))) (limits_of c.args.messages.now) (most_reads_of c.args.messages.now) x) (sym answer)
-    (tallied lengths g.R.Source.left g.R.Source.calls g.R.Source.failures (limits_of c.args.messages.now) (most_reads_of c.args.messages.now) [] refl c.args.messages.now c.requires.reads c.requires.most_reads c.requires.done c.requires.ended c.next.new.self counts gives_up {s0 = tt} {s1 = tt} (λ _ _ _ never. never) (ended_by c.messages.count (done_of c.next.new.self) fault)
-    (hands_faulted adds_up h read.0 {s2 = tt} (λ _ _. tt) fault (check_faults (rest ++ read.0.bytes) c.messages.messages c.next.new.self fault (read.1 h.unstopped)) c.in-Err.ensures.failed tt))
+    (tallied g.R.Source.left g.R.Source.calls g.R.Source.failures c.args.messages.now c.next.new.self c.requires (ended_by c.messages.count (done_of c.next.new.self) fault)
+    (hands_faulted adds_up h read.0 {s2 = tt} tt fault (check_faults (rest ++ read.0.bytes) c.messages.messages c.next.new.self fault (read.1 h.unstopped)) c.in-Err.ensures.failed tt))

@@ -1,59 +1,100 @@
-use Rattle.std.proofs.Common.{◌≡◌, Ok, ap, arith, refl, ◌∙◌}
+use Rattle.std.proofs.Common.{◌≡◌, Bool, not, true, false, arith, refl, sym, ◌∙◌}
 use Rattle.dbus_stream.specs.RawReading.{done_of}
-use Rattle.dbus_runs.specs.Commands.{command_of}
-use Rattle.dbus_runs.proofs.GoEnds.{finished, more_told, not_told, halts, stays, breaks, goes_on}
+use Rattle.dbus_runs.proofs.GoClosing.{closes, few}
+use Rattle.dbus_runs.proofs.GoEnds.{finished, not_told, halts, stays, breaks, goes_on}
 use Rattle.dbus_runs.proofs.GoSteps.{gone_none, within, done_small, grows, reach, stop_hand}
 use Rattle.dbus_runs.proofs.going.hand_parts.Goals as goal
 
+-- a flag that is not set, or is
+unset : (b : Bool) → not b ≡ true → b ≡ false
+unset true e = sym e
+unset false e = refl
+
+set : (b : Bool) → not b ≡ false → b ≡ true
+set true e = refl
+set false e = sym e
+
 pub parts-init : goal.parts-init
-parts-init g c = (gone_none _ _ c.requires.fresh.carried c.requires.new, c.requires.new.stopped, c.requires.fresh.gathered, c.requires.fresh.output, refl, refl)
+parts-init g c = (gone_none _ _ g.met.V.MessageVisitor.adds_up.nothing c.requires.new, c.requires.new.stopped, c.requires.settled, refl)
 
 pub hand_all-requires : goal.hand_all-requires
 hand_all-requires g c =
     let h = c.parts.invariant.0 in
     record { unstopped = c.parts.invariant.1; within = h.covered.limits_are; few = (within h).count }
 
-pub returns-in-Err-clause-parts : goal.returns-in-Err-clause-parts
-returns-in-Err-clause-parts g c = stop_hand c.parts.writer c.parts.invariant.0 (ap command_of c.parts.invariant.3) c.parts.invariant.2 c.hand_all.new.messages c.hand_all.new.visitor c.in-Err.cause c.in-Err.ensures.hands
+pub returns-in-Err-clause-passes : goal.returns-in-Err-clause-passes
+returns-in-Err-clause-passes g c =
+    stop_hand c.parts.invariant.0 g.met.V.MessageVisitor.adds_up c.hand_all.new.messages c.hand_all.new.visitor c.in-Err.cause c.in-Err.ensures.hands
 
-pub returns-in-None-clause-parts : goal.returns-in-None-clause-parts
-returns-in-None-clause-parts g c = finished (reach c.parts.writer c.parts.invariant.0 (ap command_of c.parts.invariant.3) c.parts.invariant.2 c.hand_all.new.messages c.hand_all.new.visitor c.in-Ok.counted c.up_to-tally.result c.up_to-tally.ensures c.in-Ok.ensures.settled c.in-Ok.ensures.hands) c.in-None.is
+pub close-requires : goal.close-requires
+close-requires g c =
+    let laws = g.met.V.MessageVisitor.adds_up in
+    let r = reach c.parts.invariant.0 laws c.hand_all.new.messages c.hand_all.new.visitor c.in-Ok.counted c.up_to-tally.result c.up_to-tally.ensures c.in-Ok.ensures.hands in
+    let both = few (finished laws r c.in-None.is) in
+    record { settled = c.in-Ok.ensures.settled; few = both.0; few_bytes = both.1 }
+
+pub returns-in-None-clause-passes : goal.returns-in-None-clause-passes
+returns-in-None-clause-passes g c =
+    let laws = g.met.V.MessageVisitor.adds_up in
+    let r = reach c.parts.invariant.0 laws c.hand_all.new.messages c.hand_all.new.visitor c.in-Ok.counted c.up_to-tally.result c.up_to-tally.ensures c.in-Ok.ensures.hands in
+    closes (finished laws r c.in-None.is) laws c.in-Ok.ensures.settled c.close.new.visitor c.close.result c.close.ensures.closes
 
 pub overflow_add-refusal : goal.overflow_add-refusal
 overflow_add-refusal g c =
-    let r = reach c.parts.writer c.parts.invariant.0 (ap command_of c.parts.invariant.3) c.parts.invariant.2 c.hand_all.new.messages c.hand_all.new.visitor c.in-Ok.counted c.up_to-tally.result c.up_to-tally.ensures c.in-Ok.ensures.settled c.in-Ok.ensures.hands in
+    let r = reach c.parts.invariant.0 g.met.V.MessageVisitor.adds_up c.hand_all.new.messages c.hand_all.new.visitor c.in-Ok.counted c.up_to-tally.result c.up_to-tally.ensures c.in-Ok.ensures.hands in
     let far = within r.gone in
     omega (arith, far.count, far.small, r.count_is)
 
-pub returns-in-Err-tell-clause-parts : goal.returns-in-Err-tell-clause-parts
-returns-in-Err-tell-clause-parts g c =
-    let r = reach c.parts.writer c.parts.invariant.0 (ap command_of c.parts.invariant.3) c.parts.invariant.2 c.hand_all.new.messages c.hand_all.new.visitor c.in-Ok.counted c.up_to-tally.result c.up_to-tally.ensures c.in-Ok.ensures.settled c.in-Ok.ensures.hands in
-    not_told r c.in-Some.is c.tell.new.first c.tell.new.second c.in-Err-tell.stop c.in-Err-tell.ensures
+pub returns-in-Err-tell-clause-passes : goal.returns-in-Err-tell-clause-passes
+returns-in-Err-tell-clause-passes g c =
+    let laws = g.met.V.MessageVisitor.adds_up in
+    let r = reach c.parts.invariant.0 laws c.hand_all.new.messages c.hand_all.new.visitor c.in-Ok.counted c.up_to-tally.result c.up_to-tally.ensures c.in-Ok.ensures.hands in
+    not_told laws r c.in-Some.is c.in-Ok.ensures.settled c.tell.new.visitor c.in-Err-tell.stop c.in-Err-tell.ensures.tells
 
-pub returns-then-not-plan-clause-parts : goal.returns-then-not-plan-clause-parts
-returns-then-not-plan-clause-parts g c =
-    let r = reach c.parts.writer c.parts.invariant.0 (ap command_of c.parts.invariant.3) c.parts.invariant.2 c.hand_all.new.messages c.hand_all.new.visitor c.in-Ok.counted c.up_to-tally.result c.up_to-tally.ensures c.in-Ok.ensures.settled c.in-Ok.ensures.hands in
-    let told = more_told r c.in-Some.is c.tell.new.first c.tell.new.second (Ok tt) c.in-Ok-tell.ensures in
-    halts r c.in-Some.is told.0 c.tell.new.first c.tell.new.second told.1 told.2 c.if-not-plan.true
+pub close-requires-then-not-settings : goal.close-requires-then-not-settings
+close-requires-then-not-settings g c =
+    let laws = g.met.V.MessageVisitor.adds_up in
+    let r = reach c.parts.invariant.0 laws c.hand_all.new.messages c.hand_all.new.visitor c.in-Ok.counted c.up_to-tally.result c.up_to-tally.ensures c.in-Ok.ensures.hands in
+    let told = c.in-Ok-tell.ensures.tells in
+    let both = few (halts laws r c.in-Some.is told.0 told.1 told.2 (unset c.args.settings.keeps_going c.if-not-settings.true)) in
+    record { settled = c.in-Ok-tell.ensures.settled; few = both.0; few_bytes = both.1 }
 
-pub returns-in-Ok-false-clause-parts : goal.returns-in-Ok-false-clause-parts
-returns-in-Ok-false-clause-parts g c =
-    let r = reach c.parts.writer c.parts.invariant.0 (ap command_of c.parts.invariant.3) c.parts.invariant.2 c.hand_all.new.messages c.hand_all.new.visitor c.in-Ok.counted c.up_to-tally.result c.up_to-tally.ensures c.in-Ok.ensures.settled c.in-Ok.ensures.hands in
-    let told = more_told r c.in-Some.is c.tell.new.first c.tell.new.second (Ok tt) c.in-Ok-tell.ensures in
-    stays r c.in-Some.is told.0 told.1 told.2 c.pass_over.new.self c.if-not-plan.false
-    (rw c.in-Ok-false.field-0-test at c.in-Ok-false.ensures.passes) c.in-Ok-false.ensures.failed
+pub returns-then-not-settings-clause-passes : goal.returns-then-not-settings-clause-passes
+returns-then-not-settings-clause-passes g c =
+    let laws = g.met.V.MessageVisitor.adds_up in
+    let r = reach c.parts.invariant.0 laws c.hand_all.new.messages c.hand_all.new.visitor c.in-Ok.counted c.up_to-tally.result c.up_to-tally.ensures c.in-Ok.ensures.hands in
+    let told = c.in-Ok-tell.ensures.tells in
+    let ended = halts laws r c.in-Some.is told.0 told.1 told.2 (unset c.args.settings.keeps_going c.if-not-settings.true) in
+    closes ended laws c.in-Ok-tell.ensures.settled c.close-then-not-settings.new.visitor c.close-then-not-settings.result c.close-then-not-settings.ensures.closes
 
-pub returns-in-Err-pass_over-clause-parts : goal.returns-in-Err-pass_over-clause-parts
-returns-in-Err-pass_over-clause-parts g c =
-    let r = reach c.parts.writer c.parts.invariant.0 (ap command_of c.parts.invariant.3) c.parts.invariant.2 c.hand_all.new.messages c.hand_all.new.visitor c.in-Ok.counted c.up_to-tally.result c.up_to-tally.ensures c.in-Ok.ensures.settled c.in-Ok.ensures.hands in
-    let told = more_told r c.in-Some.is c.tell.new.first c.tell.new.second (Ok tt) c.in-Ok-tell.ensures in
+pub close-requires-in-Ok-false : goal.close-requires-in-Ok-false
+close-requires-in-Ok-false g c =
+    let laws = g.met.V.MessageVisitor.adds_up in
+    let r = reach c.parts.invariant.0 laws c.hand_all.new.messages c.hand_all.new.visitor c.in-Ok.counted c.up_to-tally.result c.up_to-tally.ensures c.in-Ok.ensures.hands in
+    let told = c.in-Ok-tell.ensures.tells in
+    let both = few (stays laws r c.in-Some.is told.0 told.1 told.2 c.pass_over.new.self (set c.args.settings.keeps_going c.if-not-settings.false) (rw c.in-Ok-false.field-0-test at c.in-Ok-false.ensures.passes) c.in-Ok-false.ensures.failed) in
+    record { settled = c.in-Ok-tell.ensures.settled; few = both.0; few_bytes = both.1 }
+
+pub returns-in-Ok-false-clause-passes : goal.returns-in-Ok-false-clause-passes
+returns-in-Ok-false-clause-passes g c =
+    let laws = g.met.V.MessageVisitor.adds_up in
+    let r = reach c.parts.invariant.0 laws c.hand_all.new.messages c.hand_all.new.visitor c.in-Ok.counted c.up_to-tally.result c.up_to-tally.ensures c.in-Ok.ensures.hands in
+    let told = c.in-Ok-tell.ensures.tells in
+    let ended = stays laws r c.in-Some.is told.0 told.1 told.2 c.pass_over.new.self (set c.args.settings.keeps_going c.if-not-settings.false) (rw c.in-Ok-false.field-0-test at c.in-Ok-false.ensures.passes) c.in-Ok-false.ensures.failed in
+    closes ended laws c.in-Ok-tell.ensures.settled c.close-in-Ok-false.new.visitor c.close-in-Ok-false.result c.close-in-Ok-false.ensures.closes
+
+pub returns-in-Err-pass_over-clause-passes : goal.returns-in-Err-pass_over-clause-passes
+returns-in-Err-pass_over-clause-passes g c =
+    let laws = g.met.V.MessageVisitor.adds_up in
+    let r = reach c.parts.invariant.0 laws c.hand_all.new.messages c.hand_all.new.visitor c.in-Ok.counted c.up_to-tally.result c.up_to-tally.ensures c.in-Ok.ensures.hands in
+    let told = c.in-Ok-tell.ensures.tells in
     rw c.cause_of.ensures
-    (breaks r c.in-Some.is told.0 told.1 told.2 c.pass_over.new.self c.if-not-plan.false c.in-Err-pass_over.fault
+    (breaks laws r c.in-Some.is told.0 told.1 told.2 c.pass_over.new.self c.in-Ok-tell.ensures.settled (set c.args.settings.keeps_going c.if-not-settings.false) c.in-Err-pass_over.fault
     c.in-Err-pass_over.ensures.passes c.in-Err-pass_over.ensures.failed)
 
 pub past-tally-requires : goal.past-tally-requires
 past-tally-requires g c =
-    let r = reach c.parts.writer c.parts.invariant.0 (ap command_of c.parts.invariant.3) c.parts.invariant.2 c.hand_all.new.messages c.hand_all.new.visitor c.in-Ok.counted c.up_to-tally.result c.up_to-tally.ensures c.in-Ok.ensures.settled c.in-Ok.ensures.hands in
+    let r = reach c.parts.invariant.0 g.met.V.MessageVisitor.adds_up c.hand_all.new.messages c.hand_all.new.visitor c.in-Ok.counted c.up_to-tally.result c.up_to-tally.ensures c.in-Ok.ensures.hands in
     let far = within r.gone in
     let on = grows g.R.Source.left g.R.Source.calls c.hand_all.new.messages c.pass_over.new.self (rw c.in-Ok-true.field-0-test at c.in-Ok-true.ensures.passes) in
     let small = done_small c.pass_over.new.self in
@@ -67,16 +108,15 @@ past-tally-requires g c =
 
 pub parts-preserved : goal.parts-preserved
 parts-preserved g c =
-    let r = reach c.parts.writer c.parts.invariant.0 (ap command_of c.parts.invariant.3) c.parts.invariant.2 c.hand_all.new.messages c.hand_all.new.visitor c.in-Ok.counted c.up_to-tally.result c.up_to-tally.ensures c.in-Ok.ensures.settled c.in-Ok.ensures.hands in
-    let told = more_told r c.in-Some.is c.tell.new.first c.tell.new.second (Ok tt) c.in-Ok-tell.ensures in
+    let laws = g.met.V.MessageVisitor.adds_up in
+    let r = reach c.parts.invariant.0 laws c.hand_all.new.messages c.hand_all.new.visitor c.in-Ok.counted c.up_to-tally.result c.up_to-tally.ensures c.in-Ok.ensures.hands in
+    let told = c.in-Ok-tell.ensures.tells in
     let passes = rw c.in-Ok-true.field-0-test at c.in-Ok-true.ensures.passes in (
-      goes_on r c.in-Some.is told.0 told.1 told.2 c.pass_over.new.self c.past-tally.result c.done.result c.done.ensures c.past-tally.ensures
-          c.if-not-plan.false passes c.in-Ok-true.ensures.failed,
+      goes_on laws r c.in-Some.is told.0 told.1 told.2 c.pass_over.new.self c.past-tally.result c.done.result c.done.ensures c.past-tally.ensures
+          (set c.args.settings.keeps_going c.if-not-settings.false) passes c.in-Ok-true.ensures.failed,
       (grows g.R.Source.left g.R.Source.calls c.hand_all.new.messages c.pass_over.new.self passes).0,
-      c.in-Ok.ensures.settled,
-      c.in-Ok.ensures.hands.all.taken.same_output ∙ c.parts.invariant.3,
-      c.in-Ok.ensures.hands.all.taken.same_first ∙ c.parts.invariant.4,
-      c.pass_over.ensures.same_reference ∙ (c.hand_all.ensures.same_reference ∙ c.parts.invariant.5),
+      c.in-Ok-tell.ensures.settled,
+      c.pass_over.ensures.same_reference ∙ (c.hand_all.ensures.same_reference ∙ c.parts.invariant.3),
     )
 
 pub parts-smaller : goal.parts-smaller

@@ -45,8 +45,9 @@ messages-preserved g c =
     let l = given.2.1 in
     let h = still laws c.args.messages.now c.messages.messages given.0 c.messages.invariant.0 given.1 in
     let one = took_lent g.V.MessageVisitor.takes g.V.MessageVisitor.leaves c.next_message.new.visitor c.take.new.self c.args.limits (kept given.0 ++ given.2.0.bytes) c.message.result.now c.in-Ok-Some.validated
-    given.0 new c.message.ensures h.read.limits_are l (c.messages.count + 1) c.done-offset.result (Ok tt) (c.done-offset.ensures ∙ sym given.1.done) c.in-Ok.ensures in
-    let more = hands_more laws h given.2.0 given.2.3 (item_of l) l.gives.whole given.2.2 l.gives.done l.gives.unstopped one in (
+    given.0 new c.message.ensures h.read.limits_are l (record { number = c.messages.count + 1; offset = c.done-offset.result }) (Ok tt) c.in-Ok.ensures in
+    let more = hands_more laws h given.2.0 given.2.3 (item_of l) l.gives.whole given.2.2 (record { number = c.messages.count + 1; offset = c.done-offset.result }) refl (c.done-offset.ensures ∙ sym given.1.done)
+    l.gives.done l.gives.unstopped one in (
       subst (λ v. HasHanded gathering g.R.Source.left g.R.Source.calls g.R.Source.failures g.V.MessageVisitor.takes c.args.limits (kept c.args.messages.now) c.args.before (c.messages.count + 1)
           c.args.messages.now.reader new.reader v c.args.visitor.now c.take.new.self) (sym l.gives.kept) more,
       c.next_message.ensures.same_reference ∙ c.messages.invariant.1,
@@ -66,8 +67,9 @@ returns-in-Err-take-clause-hands g c =
     let given = lent g (goal.at.returns-in-Err-take-clause-hands g c).In-Ok-Some in
     let h = still laws c.args.messages.now c.messages.messages given.0 c.messages.invariant.0 given.1 in
     let one = took_lent g.V.MessageVisitor.takes g.V.MessageVisitor.leaves c.next_message.new.visitor c.take.new.self c.args.limits (kept given.0 ++ given.2.0.bytes) c.message.result.now c.in-Ok-Some.validated
-    given.0 c.next_message.new.messages c.message.ensures h.read.limits_are given.2.1 (c.messages.count + 1) c.done-offset.result (Err c.in-Err-take.cause) (c.done-offset.ensures ∙ sym given.1.done) c.in-Err-take.ensures in
-    hands_not laws h given.2.0 given.2.3 (item_of given.2.1) given.2.1.gives.whole given.2.2 c.in-Err-take.cause one
+    given.0 c.next_message.new.messages c.message.ensures h.read.limits_are given.2.1 (record { number = c.messages.count + 1; offset = c.done-offset.result }) (Err c.in-Err-take.cause) c.in-Err-take.ensures in
+    hands_not laws h given.2.0 given.2.3 (item_of given.2.1) given.2.1.gives.whole given.2.2 (record { number = c.messages.count + 1; offset = c.done-offset.result }) refl (c.done-offset.ensures ∙ sym given.1.done)
+    c.in-Err-take.cause one
 
 pub returns-in-Ok-None-clause-hands : goal.returns-in-Ok-None-clause-hands
 returns-in-Ok-None-clause-hands g c =
