@@ -22,19 +22,25 @@ use dbus_match::Owner;
 use dbus_value_model::Order;
 use std::alloc::Global;
 
-/// What the words ask for: the command that they name, and its settings; or of `handshake` the side that `--side` names. The first of the words is the program's name. `--max-message` and
-/// `--max-array`, in bytes, `--max-depth`, in open containers, and `--fds`, a rule on indexes of descriptors, name the limits;
-/// one that they do not name is that of the specification. The flags `--explain`, and `--keep-going` of all commands but `swap`,
-/// are set if they are among the words, and `--json` of `count` is its form. `--handshake` names the side whose handshake comes before the messages. `--skip` and `--limit`, of
-/// `show`, `json` and `filter`, are the numbers of the window; without them it leaves no message out.
+/// What the words ask for: the command that they name, and its settings; or of `handshake` the side
+/// that `--side` names. The first of the words is the program's name. `--max-message` and
+/// `--max-array`, in bytes, `--max-depth`, in open containers, and `--fds`, a rule on indexes of
+/// descriptors, name the limits; one that they do not name is that of the specification. The flags
+/// `--explain`, and `--keep-going` of all commands but `swap`, are set if they are among the words,
+/// and `--json` of `count` is its form. `--handshake` names the side whose handshake comes before
+/// the messages. `--skip` and `--limit`, of `show`, `json` and `filter`, are the numbers of the
+/// window; without them it leaves no message out.
 ///
-/// `Usage`: the words name no command of the program, or have what it does not take, a limit over that of the specification,
-/// a number of messages over 4294967295 and an owner that is no NAME=UNIQUE of two bus names among it. `Rule`: they name `filter`, with a text that spells no rule;
-/// it is the first such text. `Help`, `Version`: they ask for help, or for the version. `Memory`: an allocation failed.
+/// `Usage`: the words name no command of the program, or have what it does not take, a limit over
+/// that of the specification, a number of messages over 4294967295 and an owner that is no
+/// NAME=UNIQUE of two bus names among it. `Rule`: they name `filter`, with a text that spells no
+/// rule; it is the first such text. `Help`, `Version`: they ask for help, or for the version.
+/// `Memory`: an allocation failed.
 pub fn command_of(alloc: Global, words: &[String]) -> Result<Asked, UsageFault>
     // What is returned is what the words name: a command and its settings, or a side.
     ensures named { IfOk result (IsNamedBy (map string_bytes words.now)) }
-    // Help or the version is returned if the words ask for it, a fault of usage if they have one, and a rule if it is refused.
+    // Help or the version is returned if the words ask for it, a fault of usage if they have one,
+    // and a rule if it is refused.
     ensures faults { TellsFault (map string_bytes words.now) result }
 {
     let Ok(command) = wire(alloc) else {

@@ -1,7 +1,7 @@
 //! The texts of help.
 
-// What stands after the help of a command: what it reads, what it writes, how it ends, and an example. With `going` it is of
-// one that takes `--keep-going`.
+// What stands after the help of a command: what it reads, what it writes, how it ends, and an
+// example. With `going` it is of one that takes `--keep-going`.
 macro_rules! more {
     (going $output:literal, $example:literal) => {
         more!(

@@ -25,8 +25,8 @@ struct Change<'a> {
 }
 
 impl Selection {
-    /// Whether the message is selected where `learned` are the owners that the selection has known since it learned some; `None` stands for its
-    /// own owners. Nothing is allocated.
+    /// Whether the message is selected where `learned` are the owners that the selection has known
+    /// since it learned some; `None` stands for its own owners. Nothing is allocated.
     pub fn selects_knowing(&self, view: &MessageView, learned: &Option<Vec<Owner>>) -> bool
         ensures { (order : Order) (m : MessageTree) → Views view.now order m →
             IsTrue result ↔ SelectsBy self.now (known self.now learned.now) m }
@@ -37,9 +37,10 @@ impl Selection {
         }
     }
 
-    /// Learns what the message tells of the owner of a name that a rule's `sender` is, if the selection learns: a signal `NameOwnerChanged`
-    /// of the bus. `learned` is what [`Selection::selects_knowing`] asks of the messages after it; at first it is `None`.
-    /// D-Bus Specification, "Message Bus Messages".
+    /// Learns what the message tells of the owner of a name that a rule's `sender` is, if the
+    /// selection learns: a signal `NameOwnerChanged` of the bus. `learned` is what
+    /// [`Selection::selects_knowing`] asks of the messages after it; at first it is `None`. D-Bus
+    /// Specification, "Message Bus Messages".
     ///
     /// `AllocError`: an allocation failed. Then `learned` is `None`.
     pub fn learn(

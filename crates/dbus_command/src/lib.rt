@@ -1,7 +1,8 @@
 //! The command line of the program `dbus-wire`: which command its words name, with which settings.
 //!
-//! [`command_of`] returns what some words ask for, a [`Command`] as a rule, or their [`UsageFault`]. The texts of help are here too. `dbus_tool` runs the
-//! command. `man/dbus-wire.1` describes the words.
+//! [`command_of`] returns what some words ask for, a [`Command`] as a rule, or their
+//! [`UsageFault`]. The texts of help are here too. `dbus_tool` runs the command. `man/dbus-wire.1`
+//! describes the words.
 #![tactic(auto)]
 
 mod asked;

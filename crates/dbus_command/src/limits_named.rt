@@ -8,7 +8,8 @@ use clap::ArgMatches;
 use dbus_value_model::{ARRAY_LIMIT, DEPTH_LIMIT, FdRule, Limits, MESSAGE_LIMIT};
 use std::alloc::Global;
 
-/// The limits that the options name. `Usage`: one of them is given what it may not be. `Memory`: an allocation failed.
+/// The limits that the options name. `Usage`: one of them is given what it may not be. `Memory`: an
+/// allocation failed.
 pub(crate) fn limits_named(alloc: Global, inner: &ArgMatches) -> Result<Limits, UsageFault>
     ensures { TellsNamed (HasLimits (rows_of (found_of inner.now))) result }
 {
@@ -24,7 +25,8 @@ pub(crate) fn limits_named(alloc: Global, inner: &ArgMatches) -> Result<Limits, 
     }
 }
 
-// Limits of the numbers that the options name, or nothing if one of them is given no number that it may be.
+// Limits of the numbers that the options name, or nothing if one of them is given no number that it
+// may be.
 fn numbers_named(inner: &ArgMatches) -> Option<Limits>
     ensures { GivesNumbers (rows_of (found_of inner.now)) result }
 {
@@ -34,7 +36,8 @@ fn numbers_named(inner: &ArgMatches) -> Option<Limits>
     Limits::new(message, array, u8::try_from(depth).ok()?)
 }
 
-// The number that an option is given, or `most` if it is not given. Nothing, if its text is no number of 32 bits.
+// The number that an option is given, or `most` if it is not given. Nothing, if its text is no
+// number of 32 bits.
 fn number_named(inner: &ArgMatches, name: &str, most: u32) -> Option<u32>
     ensures { GivesNumber (one_of name.now (rows_of (found_of inner.now))) most result }
 {
@@ -54,7 +57,8 @@ fn given_named(inner: &ArgMatches, name: &str) -> Option<Option<u32>>
     }
 }
 
-/// The window that the options name. `Usage`: one of them is given what it may not be. `Memory`: an allocation failed.
+/// The window that the options name. `Usage`: one of them is given what it may not be. `Memory`: an
+/// allocation failed.
 pub(crate) fn window_named(alloc: Global, inner: &ArgMatches) -> Result<Window, UsageFault>
     ensures { TellsNamed (HasWindow (rows_of (found_of inner.now))) result }
 {
@@ -64,7 +68,8 @@ pub(crate) fn window_named(alloc: Global, inner: &ArgMatches) -> Result<Window, 
     }
 }
 
-// The window of the numbers that the options name, or nothing if one of them is given no number that it may be.
+// The window of the numbers that the options name, or nothing if one of them is given no number
+// that it may be.
 fn window_of(inner: &ArgMatches) -> Option<Window>
     ensures { GivesWindow (rows_of (found_of inner.now)) result }
 {

@@ -8,7 +8,8 @@ use dbus_match::Owner;
 use dbus_texts::{check_bus_name, is_unique};
 use std::alloc::Global;
 
-/// The owners that these words give, in their order. `Usage`: one of them gives none. `Memory`: an allocation failed.
+/// The owners that these words give, in their order. `Usage`: one of them gives none. `Memory`: an
+/// allocation failed.
 pub(crate) fn owners_given(alloc: Global, words: &[&str]) -> Result<Vec<Owner>, UsageFault>
     ensures { TellsOwners (map (λ word. word.now) words.now) result }
 {

@@ -6,8 +6,8 @@ use crate::usage_fault::{RefusedRule, UsageFault};
 use dbus_match::{Rule, RuleFault, parse_rule};
 use std::alloc::Global;
 
-/// The rules that the texts spell, in their order. `Rule`: the first text that spells none, with `explains` as it is given.
-/// `Memory`: an allocation failed.
+/// The rules that the texts spell, in their order. `Rule`: the first text that spells none, with
+/// `explains` as it is given. `Memory`: an allocation failed.
 pub(crate) fn rules_spelled(
     alloc: Global,
     texts: &[&str],

@@ -10,8 +10,8 @@ use dbus_match::{Owner, Rule, matches_view};
 use dbus_view::MessageView;
 use std::alloc::{AllocError, Global};
 
-/// Which messages are selected: those that one of the rules matches, or, if `is_inverted`, those that none of them matches.
-/// D-Bus Specification, "Match Rules".
+/// Which messages are selected: those that one of the rules matches, or, if `is_inverted`, those
+/// that none of them matches. D-Bus Specification, "Match Rules".
 #[derive(PartialEq, Eq, Debug, Drop)]
 pub struct Selection {
     /// The rules. Without any, no message is matched.
@@ -20,7 +20,8 @@ pub struct Selection {
     pub is_inverted: bool,
     /// The owners of well-known names: `sender` with such a name also matches what its owner sent.
     pub owners: Vec<Owner>,
-    /// Whether the owners that the bus tells by its signals count from then on, in place of the old ones.
+    /// Whether the owners that the bus tells by its signals count from then on, in place of the old
+    /// ones.
     pub learns: bool,
 }
 

@@ -22,8 +22,8 @@ pub struct Settings {
 }
 
 impl Settings {
-    /// Whether they ask for more than limits and a handshake: for explanations, for the messages after a refused one, or for a window that
-    /// leaves some messages out.
+    /// Whether they ask for more than limits and a handshake: for explanations, for the messages
+    /// after a refused one, or for a window that leaves some messages out.
     pub fn ask_more(&self) -> bool
         ensures { result ≡ ask_more self.now }
     {

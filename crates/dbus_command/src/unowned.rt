@@ -10,9 +10,10 @@ use crate::selection::Selection;
 use dbus_match::{Owner, Rule};
 
 impl Command {
-    /// Whether it is `Filter` with a rule whose `sender` is a well-known name, not the bus's own, that has no owner: the selection gives
-    /// none and learns none. Such a rule matches nothing that a bus delivers, which names each sender by its unique name.
-    /// D-Bus Specification, "Message Bus Names".
+    /// Whether it is `Filter` with a rule whose `sender` is a well-known name, not the bus's own,
+    /// that has no owner: the selection gives none and learns none. Such a rule matches nothing
+    /// that a bus delivers, which names each sender by its unique name. D-Bus Specification,
+    /// "Message Bus Names".
     pub fn lacks_owner(&self) -> bool
         ensures { result ≡ lacks_owner self.now }
     {

@@ -1,6 +1,7 @@
 //! Which of the messages that a command selects it writes.
 
-/// Of the messages that a command selects, the first are skipped, and at most so many after these are written.
+/// Of the messages that a command selects, the first are skipped, and at most so many after these
+/// are written.
 #[derive(Clone, Copy, PartialEq, Eq, Debug)]
 pub struct Window {
     /// How many are skipped.

@@ -212,7 +212,8 @@ fn handshake_command<'a>(alloc: Global) -> Result<Command<'a>, AllocError>
         .arg(side_option(alloc))
 }
 
-// The program before it has subcommands, with its version. Its texts call it `dbus-wire`, whatever the first word is.
+// The program before it has subcommands, with its version. Its texts call it `dbus-wire`, whatever
+// the first word is.
 fn bare_command<'a>(alloc: Global) -> Result<Command<'a>, AllocError>
     ensures { IfOk result (λ c. app_of c ≡ bare_app) }
 {

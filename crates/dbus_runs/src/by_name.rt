@@ -61,11 +61,13 @@ impl<E: Sink> MessageVisitor for Counter<'_, E> {
     ghost adds_up = { laws.adds_up E.held E.failures };
 }
 
-/// Counts the messages of a source by their names, with at most 2^32 reads, and tells the second writer of those that are refused, as
-/// [`crate::run_with`] does. Then the tables of the counts go to the first writer, in this form.
+/// Counts the messages of a source by their names, with at most 2^32 reads, and tells the second
+/// writer of those that are refused, as [`crate::run_with`] does. Then the tables of the counts go
+/// to the first writer, in this form.
 ///
-/// `Done`, `Refused`: all was written, and whether anything was refused. `Failed`: a read or a write failed, as many reads were made as
-/// may be, or memory ran out; if it was not a write to the second writer, that is told there.
+/// `Done`, `Refused`: all was written, and whether anything was refused. `Failed`: a read or a
+/// write failed, as many reads were made as may be, or memory ran out; if it was not a write to the
+/// second writer, that is told there.
 pub fn count_by_name<R: Source, W: Sink, E: Sink>(
     alloc: Global,
     settings: Settings,

@@ -54,7 +54,8 @@ fn count_through<R: Source + Drop>(
     (counted, messages.into_source())
 }
 
-/// Counts the messages of a source within these limits, up to its end, a fault or this number of reads. It allocates nothing.
+/// Counts the messages of a source within these limits, up to its end, a fault or this number of
+/// reads. It allocates nothing.
 pub(crate) fn count_over<R: Source>(
     limits: Limits,
     reads: u64,

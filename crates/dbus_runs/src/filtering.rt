@@ -13,7 +13,8 @@ use dbus_match::Owner;
 use dbus_view::MessageView;
 use std::alloc::AllocError;
 
-/// Whether the message is selected by the owners that are known before it. What it tells of owners is learned then.
+/// Whether the message is selected by the owners that are known before it. What it tells of owners
+/// is learned then.
 pub(crate) fn select(
     selection: &Selection,
     lent: &Lent,

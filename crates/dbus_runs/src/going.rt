@@ -1,4 +1,5 @@
-//! The messages of an input, handed on by settings: those that are refused are told, and may be passed over.
+//! The messages of an input, handed on by settings: those that are refused are told, and may be
+//! passed over.
 ghost use Rattle.std.specs.Prelude.{◌≡◌, ◌≤◌, ◌^◌, IfOk};
 ghost use Rattle.dbus_stream.specs.RawReading.{IsNewReader, kept, most_reads_of, source_of};
 ghost use Rattle.dbus_report.specs.Devices.{reading, taken};
@@ -16,9 +17,9 @@ use dbus_stream::{RawReader, ReadFault, Sink, Source};
 use dbus_value_model::Fault;
 use std::alloc::Allocator;
 
-/// Hands the messages of a source to the visitor, up to its end, a message that is refused and not passed over, or this number
-/// of reads. The visitor tells each refusal, and then the last line, if there is one: what was passed over, or, of `check`,
-/// that nothing is refused.
+/// Hands the messages of a source to the visitor, up to its end, a message that is refused and not
+/// passed over, or this number of reads. The visitor tells each refusal, and then the last line, if
+/// there is one: what was passed over, or, of `check`, that nothing is refused.
 ///
 /// Returns the status that is due, or why the run is given up; and the source.
 pub(crate) fn pass_through<R: Source + Drop, A: Allocator + Copy, V: MessageVisitor>(

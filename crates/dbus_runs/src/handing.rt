@@ -14,9 +14,9 @@ use dbus_validate::Validated;
 use dbus_value_model::Limits;
 use std::alloc::Allocator;
 
-// What is validated of the next message, which the reader lends then, if there is one. If the reader
-// keeps none, the visitor lets go of what it holds back, and then more is read, unless what is kept
-// has a fault.
+// What is validated of the next message, which the reader lends then, if there is one. If the
+// reader keeps none, the visitor lets go of what it holds back, and then more is read, unless what
+// is kept has a fault.
 fn next_message<R: Source, A: Allocator + Copy, V: MessageVisitor>(
     messages: &mut RawReader<R, A>,
     visitor: &mut V,

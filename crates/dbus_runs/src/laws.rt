@@ -1,5 +1,5 @@
-//! Laws over what a command writes: what a function here ensures is a fact about the definitions, and it does nothing
-//! when it runs.
+//! Laws over what a command writes: what a function here ensures is a fact about the definitions,
+//! and it does nothing when it runs.
 #![tactic(auto)]
 
 ghost use Rattle.dbus_runs.specs.Laws.{OneFront, OneOutput, PlainRuns, SomeOutput};
@@ -11,7 +11,8 @@ pub fn some_output()
     ensures { SomeOutput }
 {}
 
-/// It has no other, unless it is `Json`, which may write a DOUBLE by any digits that read back as its bits.
+/// It has no other, unless it is `Json`, which may write a DOUBLE by any digits that read back as
+/// its bits.
 pub fn one_output()
     ensures { OneOutput }
 {}
@@ -21,7 +22,8 @@ pub fn one_front()
     ensures { OneFront }
 {}
 
-/// By settings that ask for no more, a command but `check` does what it does under their limits alone.
+/// By settings that ask for no more, a command but `check` does what it does under their limits
+/// alone.
 pub fn plain_run<R: Source, W: Sink, E: Sink>()
     ensures { PlainRuns R.left R.calls R.failures W.held W.failures E.held E.failures }
 {}

@@ -1,8 +1,8 @@
 //! The commands of the program `dbus-wire` over messages, with any reader and two writers.
 //!
-//! [`run_within`] runs a command under limits, with at most a given number of reads, [`run_with`] by settings, and [`count_by_name`] counts
-//! messages by their names. Each returns the exit status. `specs/` states what a command writes: of all but `Json` it is a function of what
-//! it reads.
+//! [`run_within`] runs a command under limits, with at most a given number of reads, [`run_with`]
+//! by settings, and [`count_by_name`] counts messages by their names. Each returns the exit status.
+//! `specs/` states what a command writes: of all but `Json` it is a function of what it reads.
 #![tactic(auto)]
 
 mod by_name;

@@ -80,8 +80,8 @@ fn picks(output: Output, lent: &Lent, owners: &mut Option<Vec<Owner>>) -> Result
     }
 }
 
-// Writes or gathers the text that the command makes of the message. A message is byteswapped in `spare`, so that only a longer one than
-// those before takes memory.
+// Writes or gathers the text that the command makes of the message. A message is byteswapped in
+// `spare`, so that only a longer one than those before takes memory.
 fn write_one<A: Allocator + Copy, W: Sink>(
     output: Output,
     lent: &Lent,
@@ -108,7 +108,8 @@ fn write_one<A: Allocator + Copy, W: Sink>(
     }
 }
 
-/// Writes or gathers what the window lets through of what the command makes of the message, and carries on what the next one needs.
+/// Writes or gathers what the window lets through of what the command makes of the message, and
+/// carries on what the next one needs.
 pub(crate) fn hand_one<A: Allocator + Copy, W: Sink>(
     output: Output,
     lent: &Lent,

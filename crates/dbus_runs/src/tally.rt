@@ -11,7 +11,8 @@ use std::alloc::{AllocError, Allocator};
 /// What was handed on and passed over of an input.
 #[derive(Clone, Copy, Debug, PartialEq, Eq)]
 pub(crate) struct Tally {
-    /// How many messages there are, those that were passed over among them, and how many bytes they have.
+    /// How many messages there are, those that were passed over among them, and how many bytes they
+    /// have.
     pub(crate) count: u64,
     pub(crate) size: u64,
     /// How many of them were passed over, and how many bytes these have.
@@ -64,7 +65,8 @@ impl Tally {
     }
 }
 
-/// The last line, if there is one: what was passed over; or of `check` that of an input without fault.
+/// The last line, if there is one: what was passed over; or of `check` that of an input without
+/// fault.
 pub(crate) fn closing_line<A: Allocator + Copy>(
     alloc: A,
     is_check: bool,

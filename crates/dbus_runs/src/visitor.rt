@@ -23,8 +23,8 @@ pub(crate) enum Stop {
 
 /// What takes the messages of an input, one after the other, and tells what is to be told.
 ///
-/// Its relations say what becomes of it by messages, each with its place in the input, and by what it tells.
-/// Its law says that this adds up.
+/// Its relations say what becomes of it by messages, each with its place in the input, and by what
+/// it tells. Its law says that this adds up.
 pub(crate) trait MessageVisitor {
     ghost use Rattle.dbus_runs.specs.declared.visitor.Stop.{Stop};
 

@@ -1,7 +1,7 @@
 //! The program `dbus-wire` over the words of its command line, with any reader and two writers.
 //!
-//! [`run_words`] does what the words name, and returns the exit status. `dbus_runs` has the commands over messages, which are here too.
-//! `dbus_wire` is the program.
+//! [`run_words`] does what the words name, and returns the exit status. `dbus_runs` has the
+//! commands over messages, which are here too. `dbus_wire` is the program.
 #![tactic(auto)]
 
 mod lines;

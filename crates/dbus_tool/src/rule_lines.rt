@@ -9,8 +9,8 @@ use dbus_match::RuleReason;
 use dbus_show::StringDraft;
 use std::alloc::{AllocError, Allocator};
 
-/// What is written of a rule that is refused: the line of its fault, whose place counts from the start of the rule, and then what explains
-/// it, if that is asked for.
+/// What is written of a rule that is refused: the line of its fault, whose place counts from the
+/// start of the rule, and then what explains it, if that is asked for.
 pub(crate) fn rule_text<A: Allocator + Copy>(
     alloc: A,
     refused: &RefusedRule,

@@ -20,31 +20,39 @@ use std::alloc::Global;
 const OWNER_NOTE: &str =
     "note: no owner is known for a rule's sender; --owner NAME=UNIQUE gives one, and --learn-owners takes them from the bus's signals\n";
 
-/// Does what [`run_with`] does for the command that the words name, of which the first is the program's name, by the settings
-/// that they name and with at most 2^32 reads; or, if they ask neither for explanations nor to keep going nor for a
-/// window, what [`run_within`] does.
-/// If the words ask for help, its text goes to the first writer. If they name no command, a text that says how goes to the second;
-/// and if they name `filter` with a text that spells no rule, `rule refused at P: NAME` and LF, the place in that text and the name
-/// of the reason, and then the lines that explain it, if they ask for explanations.
+/// Does what [`run_with`] does for the command that the words name, of which the first is the
+/// program's name, by the settings that they name and with at most 2^32 reads; or, if they ask
+/// neither for explanations nor to keep going nor for a window, what [`run_within`] does. If the
+/// words ask for help, its text goes to the first writer. If they name no command, a text that says
+/// how goes to the second; and if they name `filter` with a text that spells no rule, `rule refused
+/// at P: NAME` and LF, the place in that text and the name of the reason, and then the lines that
+/// explain it, if they ask for explanations.
 ///
-/// If they ask for explanations, and a rule of `filter` asks for a well-known sender of which no owner is known, as
-/// `dbus_command::Command::lacks_owner` says, a line on the second writer says so first, and how to give owners.
+/// If they ask for explanations, and a rule of `filter` asks for a well-known sender of which no
+/// owner is known, as `dbus_command::Command::lacks_owner` says, a line on the second writer says
+/// so first, and how to give owners.
 ///
-/// If they name the side of a handshake, that is taken first, as `dbus_handshake_input::pass_handshake` does, by reads which are none
-/// of the 2^32; the run has what follows, and counts its offsets from there. Its reads are calls of the device below `reader`, or are
-/// answered by bytes that were read ahead. If the input begins with no handshake of that side,
-/// `handshake refused at P: NAME` and LF go to the second writer, with the place from the start of the input and the name of the reason.
+/// If they name the side of a handshake, that is taken first, as
+/// `dbus_handshake_input::pass_handshake` does, by reads which are none of the 2^32; the run has
+/// what follows, and counts its offsets from there. Its reads are calls of the device below
+/// `reader`, or are answered by bytes that were read ahead. If the input begins with no handshake
+/// of that side, `handshake refused at P: NAME` and LF go to the second writer, with the place from
+/// the start of the input and the name of the reason.
 ///
-/// If they name `count`, the second writer is told of what is refused as by [`run_with`], and then the first gets the tables of how many
-/// messages have each name, as [`dbus_count::Counts::tables`] says.
+/// If they name `count`, the second writer is told of what is refused as by [`run_with`], and then
+/// the first gets the tables of how many messages have each name, as [`dbus_count::Counts::tables`]
+/// says.
 ///
-/// If they name `handshake` with a side, the first writer gets a line for each line of the side's handshake, its offset, the line and what it
-/// says, and then `ok N lines B bytes`; or, if the input begins with none, the lines before that place, and the second writer what is said
-/// above. All goes out before the status is given, and no more than 16,384 bytes are gathered. No byte after the handshake is looked at.
+/// If they name `handshake` with a side, the first writer gets a line for each line of the side's
+/// handshake, its offset, the line and what it says, and then `ok N lines B bytes`; or, if the
+/// input begins with none, the lines before that place, and the second writer what is said above.
+/// All goes out before the status is given, and no more than 16,384 bytes are gathered. No byte
+/// after the handshake is looked at.
 ///
-/// `Done`, `Refused`, `Failed`: as [`run_within`] says. `Done` also where help was written, and `Refused` where a handshake was refused.
-/// `Usage`: the words name no command, or a rule is refused, and that was reported. `Failed` also if such a text was not written,
-/// of help with `write failed` on the second writer; and if an allocation failed, with `out of memory` there.
+/// `Done`, `Refused`, `Failed`: as [`run_within`] says. `Done` also where help was written, and
+/// `Refused` where a handshake was refused. `Usage`: the words name no command, or a rule is
+/// refused, and that was reported. `Failed` also if such a text was not written, of help with
+/// `write failed` on the second writer; and if an allocation failed, with `out of memory` there.
 pub fn run_words<R: Source, W: Sink, E: Sink>(
     alloc: Global,
     words: &[String],
@@ -74,7 +82,8 @@ pub fn run_words<R: Source, W: Sink, E: Sink>(
     }
 }
 
-// Runs a command by its settings. If they explain, and a rule's sender has no owner, it says so first.
+// Runs a command by its settings. If they explain, and a rule's sender has no owner, it says so
+// first.
 fn run_noted<R: Source, W: Sink, E: Sink>(
     alloc: Global,
     command: Command,
