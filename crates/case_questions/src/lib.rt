@@ -7,7 +7,7 @@
 //!     let line = line?;
 //!     let mut reply = Reply::new(alloc);
 //!     if !answer(&mut reply, alloc, Question::new(line.as_str())) {
-//!         reply.word("no such question");
+//!         reply.word("?");
 //!     }
 //!     rt.println(reply.line())?;
 //! }

@@ -38,7 +38,7 @@ fn main(rt: HostRuntime) -> io::Result<()> {
     for line in questions.lines() {
         let mut reply = Reply::new(alloc);
         if !answer(&mut reply, alloc, Question::new(line)) {
-            reply.word("no such question");
+            reply.word("?");
         }
         println!(rt; "{}", reply.line())?;
     }

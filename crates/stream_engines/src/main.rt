@@ -34,7 +34,7 @@ fn main(rt: HostRuntime) -> io::Result<()> {
     for line in questions.lines() {
         let mut reply = Reply::new(alloc);
         if answering::say(&mut reply, alloc, Question::new(line)).is_none() {
-            reply.word("no such question");
+            reply.word("?");
         }
         println!(rt; "{}", reply.line())?;
     }
