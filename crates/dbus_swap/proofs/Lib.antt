@@ -1,4 +1,5 @@
 pub mod Byteswapped
+pub mod ByteswappedFields
 pub mod NumberRuns
 pub mod Leaves
 pub mod MessageParts
