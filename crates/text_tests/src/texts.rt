@@ -4,7 +4,7 @@ use crate::answer::Answer;
 use crate::signal::{SIGNAL, SIGNAL_TEXT, message_of};
 use dbus_match::{RuleFault, parse_rule, rule_text};
 use dbus_show_view::{show_message, show_validated};
-use dbus_validate::{Validated, validate};
+use dbus_validate::validate;
 use dbus_value::Limits;
 use refusing_alloc::Refusing;
 use std::alloc::{AllocError, Allocator};
@@ -45,23 +45,16 @@ pub fn shown_again(heap: &Refusing) -> Answer {
     let Ok(mut kept) = String::from_str(heap, "kept") else {
         return Answer::Memory;
     };
-    let Some(validated) = validate(SIGNAL, Limits::specification()) else {
-        return Answer::Wrong;
-    };
-    shown_thrice(heap, &mut kept, &validated)
+    shown_thrice(heap, &mut kept)
 }
 
-fn shown_thrice<'a>(
-    heap: &'a Refusing,
-    kept: &mut String<&'a Refusing>,
-    validated: &Validated,
-) -> Answer {
-    let answer = match shown_in(kept, validated) {
-        Answer::Memory => shown_in(kept, validated).again(),
+fn shown_thrice<'a>(heap: &'a Refusing, kept: &mut String<&'a Refusing>) -> Answer {
+    let answer = match shown_in(kept) {
+        Answer::Memory => shown_in(kept).again(),
         answer => answer,
     };
     let growths = heap.growths();
-    let last = shown_in(kept, validated);
+    let last = shown_in(kept);
     if last == Answer::Right && heap.growths() == growths {
         answer
     } else {
@@ -70,8 +63,11 @@ fn shown_thrice<'a>(
 }
 
 // The string holds the text in place of what it held, or nothing if memory runs out.
-fn shown_in<A: Allocator>(kept: &mut String<A>, validated: &Validated) -> Answer {
-    match show_validated(kept, SIGNAL, Limits::specification(), validated, 1) {
+fn shown_in<A: Allocator>(kept: &mut String<A>) -> Answer {
+    let Some(validated) = validate(SIGNAL, Limits::specification()) else {
+        return Answer::Wrong;
+    };
+    match show_validated(kept, SIGNAL, Limits::specification(), &validated, 1) {
         Ok(()) => Answer::of(kept.as_str() == SIGNAL_TEXT),
         Err(AllocError) if kept.is_empty() => Answer::Memory,
         Err(AllocError) => Answer::Wrong,
