@@ -46,7 +46,7 @@ SHARED = out/$(SONAME)
 # The kit's calls of malloc, realloc and free, which are C: an object that the archive needs, and where the kit has it.
 HEAP_OBJECT = heap.pic.o
 HEAP = $(dir $(firstword $(shell rt doc)))c/liblibc_c.a
-VERSION = $(shell sed -n 's/.*VERSION: &str = "\(.*\)";/\1/p' crates/dbus_command/src/help.rt)
+VERSION = $(shell sed -n 's/.*VERSION: &str = "\(.*\)";/\1/p' crates/cli_options/src/help.rt)
 # The kit that everything was proved with, as README says.
 KIT = $(shell sed -n 's/.*Proved with\*\* \([^ ,]*\),.*/\1/p' README.md)
 

@@ -17,8 +17,8 @@ PAGE = ROOT / "docs" / "API.md"
 
 # What a program names in its line of crates.txt. A call is listed under the first of them that has it.
 CALLERS = """dbus_c dbus_value dbus_message dbus_compose dbus_body dbus_validate dbus_swap dbus_stream dbus_device dbus_match dbus_rule_set dbus_auth dbus_handshake_input
-    dbus_auth_lines dbus_count dbus_show dbus_show_handshake dbus_show_view dbus_json dbus_explain dbus_types dbus_texts dbus_tool dbus_runs
-    dbus_command dbus_report""".split()
+    dbus_auth_lines dbus_count dbus_show dbus_show_handshake dbus_show_view dbus_json dbus_explain dbus_types dbus_texts dbus_tool cli_run
+    cli_options cli_report""".split()
 
 # What tests are made of.
 NOT_CALLED = ("_tests", "case_questions", "refusing_alloc")
@@ -38,7 +38,7 @@ HEADINGS = {
     "Texts and types": "dbus_types dbus_texts",
     "Limits": "dbus_value_model/limits.rt dbus_value_model/fd_rule.rt",
     "From C": "dbus_c",
-    "The program": "dbus_tool dbus_runs dbus_command dbus_report",
+    "The program": "dbus_tool cli_run cli_options cli_report",
 }
 
 # What no crate of CALLERS has, which our crates call of one another.

@@ -1,4 +1,5 @@
-//! Questions that `cases/run.py` asks of engines, and what they reply: a line each, of words with a space between any two.
+//! Questions that `cases/run.py` asks of engines, and what they reply: a line each, of words with a
+//! space between any two.
 //!
 //! A program answers the questions of its input in turn:
 //!

@@ -3,7 +3,8 @@
 use dbus_value_model::{FdRule, Limits, Order};
 use std::alloc::Global;
 
-/// A question: a line of words with a space between any two. The last words may be settings, as `depth=3`.
+/// A question: a line of words with a space between any two. The last words may be settings, as
+/// `depth=3`.
 #[derive(Clone, Copy)]
 pub struct Question<'a> {
     line: &'a str,
@@ -25,8 +26,8 @@ impl<'a> Question<'a> {
         ""
     }
 
-    /// The bytes that the word of this number spells in hexadecimal, or as `-` if there are none. `None` if it spells no bytes, or
-    /// memory ran out.
+    /// The bytes that the word of this number spells in hexadecimal, or as `-` if there are none.
+    /// `None` if it spells no bytes, or memory ran out.
     pub fn bytes(self, alloc: Global, n: usize) -> Option<Vec<u8>> {
         let word = self.word(n);
         if word == "-" {
@@ -68,7 +69,8 @@ impl<'a> Question<'a> {
         }
     }
 
-    /// The limits that `message=`, `array=`, `depth=` and `fds=below-count` say. What is left out is as the specification has it.
+    /// The limits that `message=`, `array=`, `depth=` and `fds=below-count` say. What is left out
+    /// is as the specification has it.
     pub fn limits(self) -> Limits {
         let most = Limits::specification();
         let depth = self.limit("depth", u32::from(most.depth));

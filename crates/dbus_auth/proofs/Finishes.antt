@@ -1,4 +1,5 @@
--- Handing in byte by byte comes to an end: what is said of finished runs is said of some run of any bytes.
+-- Handing in byte by byte comes to an end: what is said of finished runs is said of some run of any
+-- bytes.
 use Rattle.std.proofs.Common.{◌≡◌, ◌≢◌, ◌⊎◌, inl, inr, ℕ, ◌+◌, ◌==◌, Bool, true, false, cond, List, [], ◌∷◌, ◌++◌, length, take, drop, refl, sym, ◌∙◌, arith, length-append}
 use Rattle.std.proofs.lemmas.List.{append-nil}
 use Rattle.dbus_auth_lines.specs.Cut.{Cut, Ends, Bad, More, cut}

@@ -1,4 +1,5 @@
--- The law of the handshake: where the two ends and the bytes between them stand, after every list of events.
+-- The law of the handshake: where the two ends and the bytes between them stand, after every list
+-- of events.
 use Rattle.std.proofs.Common.{◌≡◌, ◌⊎◌, inl, inr, ℕ, ◌+◌, ◌*◌, ◌≤◌, Bool, true, false, List, [], ◌∷◌, ◌++◌, length, take, refl, sym, ◌∙◌, ap, arith, append_assoc}
 use Rattle.std.specs.List.{AllByRecursion}
 use Rattle.std.proofs.lemmas.List.{append-nil}

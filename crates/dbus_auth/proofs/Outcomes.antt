@@ -1,4 +1,5 @@
--- What holds of each outcome of a server's end: it stays, closes, or cuts what it keeps and is handed.
+-- What holds of each outcome of a server's end: it stays, closes, or cuts what it keeps and is
+-- handed.
 use Rattle.std.proofs.Common.{ℕ, ◌==◌, Bool, true, false, cond, List, [], ◌∷◌, ◌++◌}
 use Rattle.dbus_auth_lines.specs.Cut.{cut}
 use Rattle.dbus_auth.specs.Ends.{ServerEndState, EndOutcome, nothing, server_cuts, server_first, server_talks, server_takes_at, server_takes, server_closes}

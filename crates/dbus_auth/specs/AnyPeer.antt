@@ -1,4 +1,5 @@
--- A server's end before any peer: any bytes, in any pieces. D-Bus Specification, "Authentication Protocol".
+-- A server's end before any peer: any bytes, in any pieces. D-Bus Specification, "Authentication
+-- Protocol".
 use Rattle.std.specs.Prelude.{ℕ, ◌≡◌, ◌≢◌, ◌⊎◌, List, [], ◌∷◌, ◌++◌, take, drop, codes}
 use Rattle.std.specs.List.{AllByRecursion}
 use Rattle.dbus_auth_lines.specs.ServerCommands as server

@@ -1,5 +1,6 @@
--- The two ends of a connection: a state machine, and the bytes of an unfinished line. What a call of an end does.
--- D-Bus Specification, "Authentication Protocol", "Special credentials-passing nul byte" and "Protocol Overview".
+-- The two ends of a connection: a state machine, and the bytes of an unfinished line. What a call
+-- of an end does. D-Bus Specification, "Authentication Protocol", "Special credentials-passing nul
+-- byte" and "Protocol Overview".
 use Rattle.std.specs.Prelude.{ℕ, ◌+◌, ◌-◌, ◌==◌, Bool, true, false, List, [], ◌∷◌, ◌++◌, length, take, if◌then◌else◌}
 use Rattle.dbus_auth_lines.specs.Lines.{client_meaning, server_meaning, client_line, server_line, ended}
 use Rattle.dbus_auth_lines.specs.Cut.{Cut, Ends, Bad, More, cut}
@@ -54,7 +55,8 @@ server_answers e taken step = record {
 abbrev pub server_closes : ServerEndState → EndOutcome ServerEndState
 server_closes e = nothing (record e { status = status.Closed })
 
--- by how the kept bytes and the piece begin; `skipped` bytes stood before the piece. A fault closes the end
+-- by how the kept bytes and the piece begin; `skipped` bytes stood before the piece. A fault closes
+-- the end
 abbrev pub server_cuts : ServerEndState → ℕ → List ℕ → Cut → EndOutcome ServerEndState
 server_cuts e skipped bs (Ends size) =
     server_answers e (skipped + (size - length e.kept)) (server_step e.server (client_meaning (take (size - 2) (e.kept ++ bs))))

@@ -1,5 +1,6 @@
--- The two state machines as tables: for each state and each command the one row, with what is sent and the next
--- state. D-Bus Specification, "Authentication Protocol", "Authentication state diagrams".
+-- The two state machines as tables: for each state and each command the one row, with what is sent
+-- and the next state. D-Bus Specification, "Authentication Protocol", "Authentication state
+-- diagrams".
 use Rattle.std.specs.Prelude.{ℕ, ◌&&◌, ◌||◌, Bool, true, false, List, [], ◌∷◌, ◌++◌, Option, Some, None, codes, bytes_eq, decimal, if◌then◌else◌, ◌<◌, ◌^◌, length, IfSome, ◌≡◌}
 use Rattle.hex.specs.Hex.{IsBytes}
 use Rattle.dbus_auth_lines.specs.ClientCommands.{ClientCommand}

@@ -1,4 +1,5 @@
--- The mechanisms that a client may have. D-Bus Specification, "Authentication Protocol", "Authentication mechanisms".
+-- The mechanisms that a client may have. D-Bus Specification, "Authentication Protocol",
+-- "Authentication mechanisms".
 use Rattle.std.specs.Prelude.{◌≤◌, ◌<◌, ◌^◌, Some, None, length}
 use Rattle.hex.specs.Hex.{IsBytes}
 use Rattle.dbus_auth.specs.Machines.{ClientMechanism, External, Anonymous}

@@ -1,5 +1,5 @@
--- Both ends and the bytes between them, over every order of events; and what holds of each handshake. D-Bus
--- Specification, "Authentication Protocol".
+-- Both ends and the bytes between them, over every order of events; and what holds of each
+-- handshake. D-Bus Specification, "Authentication Protocol".
 use Rattle.std.specs.Prelude.{ℕ, ◌+◌, ◌*◌, ◌≤◌, ◌≡◌, ◌⊎◌, ◌==◌, Bool, true, false, List, [], ◌∷◌, ◌++◌, length, take, drop, Some, None, count_by}
 use Rattle.dbus_auth.specs.Machines.{ServerMachine, ClientMechanism}
 use Rattle.dbus_auth.specs.Ends.{ServerEndState, ClientEndState, EndOutcome, server_takes, client_takes, client_starts}

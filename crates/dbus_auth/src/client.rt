@@ -1,5 +1,5 @@
-//! The client's state machine.
-//! D-Bus Specification, "Authentication Protocol", "Authentication state diagrams", "Client states".
+//! The client's state machine. D-Bus Specification, "Authentication Protocol", "Authentication
+//! state diagrams", "Client states".
 
 ghost use Rattle.std.specs.Prelude.{◌≡◌, true, false, IfOk, IfErr, OnErr, map, is_ok, option_map, length, drop, nat_le, None};
 ghost use Rattle.std.specs.List.{list_all, AllByRecursion};
@@ -58,9 +58,10 @@ pub struct ClientTurn<A: Allocator> {
 
 /// The client's state machine.
 ///
-/// "Next" is: it asks for its next mechanism by AUTH, and without one left it is closed. EXTERNAL as a
-/// user sends the user in decimal and waits for OK; EXTERNAL without one sends no response and waits for
-/// DATA; ANONYMOUS sends its trace and waits for OK. The words of REJECTED are not looked at.
+/// "Next" is: it asks for its next mechanism by AUTH, and without one left it is closed. EXTERNAL
+/// as a user sends the user in decimal and waits for OK; EXTERNAL without one sends no response and
+/// waits for DATA; ANONYMOUS sends its trace and waits for OK. The words of REJECTED are not looked
+/// at.
 ///
 /// | state | line | it does |
 /// | --- | --- | --- |
@@ -148,7 +149,8 @@ impl<A: Allocator + Copy> Client<A> {
     /// What the client does on a line, as the one row of its table says, and the state after it.
     /// The state has to be one of the waiting ones.
     ///
-    /// Returns `AllocError` if an allocation failed. The line is lost then, and the client unchanged.
+    /// Returns `AllocError` if an allocation failed. The line is lost then, and the client
+    /// unchanged.
     pub fn receive(&mut self, alloc: A, line: ServerLine<A>) -> Result<ClientAct<A>, AllocError>
         requires { IsListening (client_machine self.old).state }
         ensures row { IfOk result (λ act.

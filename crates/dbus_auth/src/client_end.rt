@@ -142,7 +142,8 @@ impl<A: Allocator + Copy> ClientEnd<A> {
     /// The first bytes to be sent: the byte 0 and the line that asks for the first mechanism. If
     /// there is no mechanism, no bytes, and the end is closed. The end must not have started.
     ///
-    /// Returns `AllocError` if an allocation failed. The end is unchanged then, and is to be started again.
+    /// Returns `AllocError` if an allocation failed. The end is unchanged then, and is to be
+    /// started again.
     #[tactic(auto, unfolding(crate::specs::Ends::client_starts))]
     pub fn start(&mut self) -> Result<Vec<u8, A>, AllocError>
         requires { (client_end_state self.old).started ≡ false }
@@ -172,8 +173,8 @@ impl<A: Allocator + Copy> ClientEnd<A> {
     /// A line with a fault closes the end: nothing is taken and nothing sent. An end that has begun
     /// or is closed takes and sends nothing, so nothing after the line of OK is taken.
     ///
-    /// Returns `AllocError` if an allocation failed. The end is unchanged then, and the same piece is to
-    /// be handed in again whole.
+    /// Returns `AllocError` if an allocation failed. The end is unchanged then, and the same piece
+    /// is to be handed in again whole.
     ///
     /// ```rust
     /// use dbus_auth::{Client, ClientEnd, Mechanism, Status};

@@ -1,5 +1,6 @@
-//! What holds of whole handshakes, and what holds of lines. None of these functions does anything, beyond
-//! comparing: their contracts are the laws, over the definitions that the calls of the crate are specified by.
+//! What holds of whole handshakes, and what holds of lines. None of these functions does anything,
+//! beyond comparing: their contracts are the laws, over the definitions that the calls of the crate
+//! are specified by.
 //!
 //! D-Bus Specification, section "Authentication Protocol".
 
@@ -20,14 +21,15 @@ use crate::server::ServerAct;
 pub use dbus_auth_lines::laws::{first_line_law, line_meaning_law, written_line_law};
 use std::alloc::Allocator;
 
-/// The two ends agree, in whatever order they are called, in whatever pieces their bytes are handed over, and
-/// whatever their callers send once they have begun. Of every server of `Server::new`, every client of
-/// `Client::new` and every list of events it says:
+/// The two ends agree, in whatever order they are called, in whatever pieces their bytes are handed
+/// over, and whatever their callers send once they have begun. Of every server of `Server::new`,
+/// every client of `Client::new` and every list of events it says:
 ///
 /// - a server that has begun has a client that has begun;
 /// - a client that has begun has the server's GUID, and the server waits for BEGIN or has begun;
-/// - once the server has begun, what it has not taken of the bytes sent to it is all that the client's caller
-///   sent after BEGIN; and once the client has begun, what it has not taken is all that the server's caller sent;
+/// - once the server has begun, what it has not taken of the bytes sent to it is all that the
+///   client's caller sent after BEGIN; and once the client has begun, what it has not taken is all
+///   that the server's caller sent;
 /// - the client's end sends at most two lines for each mechanism, and BEGIN.
 ///
 /// The transport has to neither lose, add nor reorder bytes.
@@ -38,9 +40,9 @@ pub fn handshake_law()
         Handshake s mechanisms (run events (at_first s mechanisms)) }
 {}
 
-/// Whoever its peer is and whatever it sends, a server's end that has begun sent OK as its last line other than
-/// ERROR. And the lines that it sends and its last status do not depend on how the bytes are cut, if what a
-/// call leaves is handed in again; some way to cut them comes to an end.
+/// Whoever its peer is and whatever it sends, a server's end that has begun sent OK as its last
+/// line other than ERROR. And the lines that it sends and its last status do not depend on how the
+/// bytes are cut, if what a call leaves is handed in again; some way to cut them comes to an end.
 pub fn any_peer_law()
     ensures last_ok { (s : ServerMachine) (bytes ns : List ℕ) →
         (run_server (server_at_first s) bytes ns).after.status ≡ status.Begun →
@@ -55,8 +57,8 @@ pub fn any_peer_law()
         (ns : List ℕ) × IsFinished (run_server (server_at_first s) bytes ns) }
 {}
 
-/// `==` of two steps of ends: they are equal exactly if they took as many bytes, send the same bytes and
-/// report the same status of the end.
+/// `==` of two steps of ends: they are equal exactly if they took as many bytes, send the same
+/// bytes and report the same status of the end.
 pub fn equal_end_steps<A: Allocator>(a: &EndStep<A>, b: &EndStep<A>) -> bool
     ensures { IsTrue result ↔ (end_answer a.now ≡ end_answer b.now) }
 {
@@ -70,14 +72,16 @@ pub fn equal_mechanisms<A: Allocator>(a: &Mechanism<A>, b: &Mechanism<A>) -> boo
     a == b
 }
 
-/// `==` of two acts of clients: they are equal exactly if they do the same, and send lines that say the same.
+/// `==` of two acts of clients: they are equal exactly if they do the same, and send lines that say
+/// the same.
 pub fn equal_client_acts<A: Allocator>(a: &ClientAct<A>, b: &ClientAct<A>) -> bool
     ensures { IsTrue result ↔ (client_action a.now ≡ client_action b.now) }
 {
     a == b
 }
 
-/// `==` of two acts of servers: they are equal exactly if they do the same, and send lines that say the same.
+/// `==` of two acts of servers: they are equal exactly if they do the same, and send lines that say
+/// the same.
 pub fn equal_server_acts<A: Allocator>(a: &ServerAct<A>, b: &ServerAct<A>) -> bool
     ensures { IsTrue result ↔ (server_action a.now ≡ server_action b.now) }
 {

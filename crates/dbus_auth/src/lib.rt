@@ -1,12 +1,12 @@
 //! The D-Bus authentication handshake: its lines, the state machines of both sides, and the two
 //! ends that run them over bytes as they come.
 //!
-//! Before the first message, client and server say who the client is, in lines of ASCII ended by
-//! CR LF. [`read_client`], [`read_server`], [`client_text`] and [`server_text`] are the lines, and
+//! Before the first message, client and server say who the client is, in lines of ASCII ended by CR
+//! LF. [`read_client`], [`read_server`], [`client_text`] and [`server_text`] are the lines, and
 //! [`LineCutter`] cuts them out of bytes that come in pieces; the crate `dbus_auth_lines` has them
 //! all. [`Server`] and [`Client`] are the state machines, which know no bytes. [`ServerEnd`] and
-//! [`ClientEnd`] are a machine over bytes: what a connection's owner holds until messages begin. They
-//! take nothing after the end of the handshake, so what they leave is the first message.
+//! [`ClientEnd`] are a machine over bytes: what a connection's owner holds until messages begin.
+//! They take nothing after the end of the handshake, so what they leave is the first message.
 //!
 //! # What a caller owes
 //!

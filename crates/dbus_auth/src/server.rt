@@ -1,5 +1,5 @@
-//! The server's state machine.
-//! D-Bus Specification, "Authentication Protocol", "Authentication state diagrams", "Server states".
+//! The server's state machine. D-Bus Specification, "Authentication Protocol", "Authentication
+//! state diagrams", "Server states".
 
 ghost use Rattle.std.specs.Prelude.{◌≡◌, ◌++◌, ◌∷◌, [], ℕ, List, IfOk, OnOk, OnErr, map, codes, bytes_eq, ◌&&◌, if◌then◌else◌};
 ghost use Rattle.dbus_auth.specs.declared.states.ServerState.TheVariants as at;
@@ -44,8 +44,8 @@ pub enum ServerAct<A: Allocator = Global> {
 /// | | CANCEL; ERROR | REJECTED | waiting for AUTH |
 /// | | anything else | ERROR | the same |
 ///
-/// D-Bus Specification, "Server states". That EXTERNAL without a response is asked for DATA, and that
-/// NEGOTIATE_UNIX_FD is answered by ERROR, are choices of this profile.
+/// D-Bus Specification, "Server states". That EXTERNAL without a response is asked for DATA, and
+/// that NEGOTIATE_UNIX_FD is answered by ERROR, are choices of this profile.
 #[derive(Drop)]
 pub struct Server {
     guid: Guid,
@@ -57,9 +57,9 @@ pub struct Server {
 impl Server {
     /// A server in its first state.
     ///
-    /// `user` is the client's user **as the transport reports it** (`SO_PEERCRED` of a Unix socket):
-    /// EXTERNAL is offered if there is one, and lets in who names it in decimal or names nobody.
-    /// `anonymous` says whether ANONYMOUS is offered, which lets in everybody.
+    /// `user` is the client's user **as the transport reports it** (`SO_PEERCRED` of a Unix
+    /// socket): EXTERNAL is offered if there is one, and lets in who names it in decimal or names
+    /// nobody. `anonymous` says whether ANONYMOUS is offered, which lets in everybody.
     pub fn new(guid: Guid, user: Option<u32>, anonymous: bool) -> Self
         ensures machine { server_machine result ≡
             record {
@@ -89,7 +89,8 @@ impl Server {
     /// What the server does on a line, as the one row of its table says, and the state after it.
     /// The state has to be one of the waiting ones.
     ///
-    /// Returns `AllocError` if an allocation failed. The line is lost then, and the server unchanged.
+    /// Returns `AllocError` if an allocation failed. The line is lost then, and the server
+    /// unchanged.
     pub fn receive<A: Allocator + Copy>(
         &mut self,
         alloc: A,

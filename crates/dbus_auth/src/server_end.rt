@@ -36,7 +36,8 @@ pub struct ServerReply<A: Allocator> {
     status: Status,
 }
 
-/// What a server does on the line that ends in this piece: the first `size` bytes of `kept` and the piece, with CR LF.
+/// What a server does on the line that ends in this piece: the first `size` bytes of `kept` and the
+/// piece, with CR LF.
 fn reply_of<A: Allocator + Copy>(
     alloc: A,
     server: &Server,
@@ -95,12 +96,12 @@ impl<A: Allocator + Copy> ServerEnd<A> {
     /// Takes at most one line of the piece, with the byte 0 before the first line, and answers it.
     /// If the piece holds more, the rest is to be handed in again.
     ///
-    /// A first byte other than 0 and a line with a fault close the end: nothing is taken and nothing
-    /// sent. An end that has begun or is closed takes and sends nothing, so nothing after BEGIN is
-    /// taken.
+    /// A first byte other than 0 and a line with a fault close the end: nothing is taken and
+    /// nothing sent. An end that has begun or is closed takes and sends nothing, so nothing after
+    /// BEGIN is taken.
     ///
-    /// Returns `AllocError` if an allocation failed. The end is unchanged then, and the same piece is to
-    /// be handed in again whole.
+    /// Returns `AllocError` if an allocation failed. The end is unchanged then, and the same piece
+    /// is to be handed in again whole.
     ///
     /// ```rust
     /// use dbus_auth::{Guid, Server, ServerEnd, Status};
@@ -155,7 +156,8 @@ impl<A: Allocator + Copy> ServerEnd<A> {
         }
     }
 
-    /// Takes the bytes up to the end of the line, or the whole piece. `skipped` bytes came before it.
+    /// Takes the bytes up to the end of the line, or the whole piece. `skipped` bytes came before
+    /// it.
     #[tactic(auto, using(dbus_auth_lines::proofs::Scans::cut_empty))]
     fn cut_line(&mut self, skipped: usize, piece: &[u8]) -> Result<EndStep<A>, AllocError>
         requires { skipped ≤ 1 }

@@ -1,4 +1,5 @@
--- What the line cutter and first_line answer by their scan is what they answer by how the bytes begin.
+-- What the line cutter and first_line answer by their scan is what they answer by how the bytes
+-- begin.
 use Rattle.std.proofs.Common.{◌≡◌, ℕ, ◌+◌, ◌-◌, List, [], ◌∷◌, ◌++◌, length, take, refl, sym, ◌∙◌, ap, subst, arith, append_assoc}
 use Rattle.std.specs.Prelude.{Option, Vec, Result, Ok, Err}
 use Rattle.std.proofs.lemmas.List.{take_at}

@@ -1,4 +1,5 @@
--- What a line of a client says. D-Bus Specification, "Authentication Protocol", "Protocol Overview".
+-- What a line of a client says. D-Bus Specification, "Authentication Protocol", "Protocol
+-- Overview".
 use Rattle.std.specs.Prelude.{ℕ, List}
 
 pub data ClientCommand : Type 0 where

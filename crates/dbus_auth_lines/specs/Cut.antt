@@ -1,5 +1,6 @@
--- A line, and the scan that finds where the first line of some bytes ends, or which byte has a fault. D-Bus
--- Specification, "Authentication Protocol", "Protocol Overview"; the limit of 16,384 bytes is this profile's.
+-- A line, and the scan that finds where the first line of some bytes ends, or which byte has a
+-- fault. D-Bus Specification, "Authentication Protocol", "Protocol Overview"; the limit of 16,384
+-- bytes is this profile's.
 use Rattle.std.specs.Prelude.{ℕ, ◌+◌, ◌<◌, ◌≤◌, ◌≢◌, ◌==◌, ◌&&◌, ◌||◌, not, nat_lt, Bool, false, List, [], ◌∷◌, length, if◌then◌else◌}
 use Rattle.std.specs.List.{AllByRecursion}
 

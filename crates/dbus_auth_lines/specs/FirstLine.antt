@@ -1,5 +1,6 @@
--- How some bytes begin: with a line, with a fault, or with a prefix of a line. It says of whole lists what the scan
--- of Cut.antt finds byte by byte. D-Bus Specification, "Authentication Protocol", "Protocol Overview".
+-- How some bytes begin: with a line, with a fault, or with a prefix of a line. It says of whole
+-- lists what the scan of Cut.antt finds byte by byte. D-Bus Specification, "Authentication
+-- Protocol", "Protocol Overview".
 use Rattle.std.specs.Prelude.{ℕ, ◌+◌, ◌<◌, ◌≡◌, ◌≢◌, ◌⊎◌, List, [], ◌∷◌, ◌++◌, length}
 use Rattle.dbus_auth_lines.specs.Lines.{ended}
 use Rattle.dbus_auth_lines.specs.Cut.{Fault, TooLong, BadByte, Cut, Ends, Bad, More, IsLine}

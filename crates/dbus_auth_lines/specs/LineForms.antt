@@ -1,5 +1,6 @@
--- A line as its table has it: a name, and words after it. It says of whole lines what Lines.antt computes.
--- D-Bus Specification, "Authentication Protocol", "Protocol Overview" and the section of each command.
+-- A line as its table has it: a name, and words after it. It says of whole lines what Lines.antt
+-- computes. D-Bus Specification, "Authentication Protocol", "Protocol Overview" and the section of
+-- each command.
 use Rattle.std.specs.Prelude.{ℕ, zero, suc, ◌≡◌, ◌≢◌, ◌⊎◌, List, [], ◌∷◌, ◌++◌, length, codes, Ok}
 use Rattle.std.specs.List.{AllByRecursion}
 use Rattle.hex.specs.Hex.{decode_of}
@@ -29,7 +30,8 @@ HasWords text (word ∷ words) = (n : ℕ) × ((rest : List ℕ) × ((text ≡ 3
 abbrev pub HasForm : List ℕ → List ℕ → List (List ℕ) → Type 0
 HasForm line name words = (text : List ℕ) × ((line ≡ name ++ text) × HasWords text words)
 
--- the line is the name and the hexadecimal word of these bytes, which is absent where there are none
+-- the line is the name and the hexadecimal word of these bytes, which is absent where there are
+-- none
 abbrev pub HasHex : List ℕ → List ℕ → List (List ℕ) → List ℕ → Type 0
 HasHex line name words bytes = ((bytes ≡ []) × HasForm line name words) ⊎ ((digits : List ℕ) × ((decode_of digits ≡ Ok bytes) × HasForm line name (words ++ digits ∷ [])))
 

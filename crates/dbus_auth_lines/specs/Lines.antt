@@ -1,5 +1,5 @@
--- Lines without their CR LF: what a line means, and how a command is written. D-Bus Specification, "Authentication
--- Protocol", "Protocol Overview" and the section of each command.
+-- Lines without their CR LF: what a line means, and how a command is written. D-Bus Specification,
+-- "Authentication Protocol", "Protocol Overview" and the section of each command.
 use Rattle.std.specs.Prelude.{ℕ, ◌==◌, Bool, true, List, [], ◌∷◌, ◌++◌, length, drop, codes, bytes_eq, Result, Ok, Err, if◌then◌else◌, flat_map}
 use Rattle.hex.specs.Hex.{decode_of, encode_lower}
 use Rattle.hex.specs.declared.error.FromHexError.{FromHexError}

@@ -1,4 +1,5 @@
--- What a line of a server says. D-Bus Specification, "Authentication Protocol", "Protocol Overview".
+-- What a line of a server says. D-Bus Specification, "Authentication Protocol", "Protocol
+-- Overview".
 use Rattle.std.specs.Prelude.{ℕ, List}
 
 pub data ServerCommand : Type 0 where

@@ -1,5 +1,5 @@
--- What a line says by the places of its words.
--- D-Bus Specification, "Authentication Protocol", "Protocol Overview" and the section of each command.
+-- What a line says by the places of its words. D-Bus Specification, "Authentication Protocol",
+-- "Protocol Overview" and the section of each command.
 use Rattle.std.specs.Prelude.{ℕ, ◌+◌, ◌<◌, ◌≤◌, ◌≡◌, ◌≢◌, ◌⊎◌, min, Bool, true, false, List, [], ◌∷◌, length, take, drop, slice_index, Option, Some, None, Ok}
 use Rattle.hex.specs.Hex.{decode_of}
 use Rattle.dbus_auth_lines.specs.ClientCommands.{ClientCommand}
@@ -57,7 +57,8 @@ SaysToClient line s.Other command = command ≡ server.Other
 abbrev pub AreSpaces : List ℕ → (from to : ℕ) → Type 0
 AreSpaces line from to = (k : ℕ) → from ≤ k → k < to → slice_index line k ≡ 32
 
--- where the next word is, from an offset on: after spaces alone, and up to a space or the line's end
+-- where the next word is, from an offset on: after spaces alone, and up to a space or the line's
+-- end
 pub record IsNextWord (line : List ℕ) (from : ℕ) (p : Place) : Type 0 where
   pub follows : from ≤ p.at
   pub within : IsWithin line p
@@ -75,14 +76,16 @@ pub record HasNoWord (line : List ℕ) (from : ℕ) (p : Place) : Type 0 where
 abbrev pub IsWordOrNone : List ℕ → ℕ → Place → Type 0
 IsWordOrNone line from p = IsWithin line p × (IsNextWord line from p ⊎ HasNoWord line from p)
 
--- all from the next word on up to the line's end, the spaces after the last word too; if no word comes, no bytes at the line's end
+-- all from the next word on up to the line's end, the spaces after the last word too; if no word
+-- comes, no bytes at the line's end
 pub record AreNextWords (line : List ℕ) (from : ℕ) (p : Place) : Type 0 where
   pub follows : from ≤ p.at
   pub to_end : p.at + p.length ≡ length line
   pub after_spaces : AreSpaces line from p.at
   pub begins : 0 < p.length → slice_index line p.at ≢ 32
 
--- what follows ERROR and one space, up to the line's end; nothing, at the line's end, if no space follows
+-- what follows ERROR and one space, up to the line's end; nothing, at the line's end, if no space
+-- follows
 pub record IsErrorText (line : List ℕ) (p : Place) : Type 0 where
   pub at : p.at ≡ min 6 (length line)
   pub to_end : p.at + p.length ≡ length line

@@ -1,5 +1,5 @@
--- Which commands are spelled by a line, and the line. D-Bus Specification, "Authentication Protocol", "Protocol
--- Overview".
+-- Which commands are spelled by a line, and the line. D-Bus Specification, "Authentication
+-- Protocol", "Protocol Overview".
 use Rattle.std.specs.Prelude.{ℕ, ◌≡◌, ◌==◌, ◌&&◌, not, nat_le, nat_lt, Bool, true, false, List, length, Option, Some, None, Result, Ok, Err, if◌then◌else◌}
 use Rattle.std.specs.List.{list_all}
 use Rattle.dbus_auth_lines.specs.ClientCommands.{ClientCommand}

@@ -1,5 +1,5 @@
-//! What holds of lines. None of these functions does anything, beyond comparing: their contracts are the
-//! laws, over the definitions that the calls of the crate are specified by.
+//! What holds of lines. None of these functions does anything, beyond comparing: their contracts
+//! are the laws, over the definitions that the calls of the crate are specified by.
 //!
 //! D-Bus Specification, section "Authentication Protocol".
 
@@ -17,9 +17,9 @@ ghost use Rattle.dbus_auth_lines.specs.RoundTrip.{HasClientBytes, HasServerBytes
 use crate::lines::{ClientLine, ServerLine};
 use std::alloc::Allocator;
 
-/// Any bytes begin with a line, with one fault or with a prefix of a line, and with one of these alone. A
-/// line and a fault stay, whatever follows, so they do not depend on how the bytes are cut. The scan that an
-/// end of a connection is specified by finds them.
+/// Any bytes begin with a line, with one fault or with a prefix of a line, and with one of these
+/// alone. A line and a fault stay, whatever follows, so they do not depend on how the bytes are
+/// cut. The scan that an end of a connection is specified by finds them.
 #[tactic(auto, using(crate::proofs::FirstLines::some_beginning, crate::proofs::FirstLines::one_beginning, crate::proofs::FirstLines::stays_settled, crate::proofs::FirstLines::cut_finds))]
 pub fn first_line_law()
     ensures some { (k : List ℕ) → (b : Beginning) × BeginsAs k b }
@@ -29,8 +29,8 @@ pub fn first_line_law()
     ensures scan { (k : List ℕ) (b : Beginning) → BeginsAs k b → cut k ≡ cut_of b }
 {}
 
-/// What `client_text` and `server_text` write is one line, as `LineCutter` takes it, and `read_client` and
-/// `read_server` give back what was written.
+/// What `client_text` and `server_text` write is one line, as `LineCutter` takes it, and
+/// `read_client` and `read_server` give back what was written.
 #[tactic(auto, using(crate::proofs::RoundTrips::client_reads_back, crate::proofs::RoundTrips::server_reads_back))]
 pub fn written_line_law()
     ensures client { (c : ClientCommand) (text : List ℕ) → HasClientBytes c →
@@ -39,8 +39,8 @@ pub fn written_line_law()
         server_text_of c ≡ Some text → ReadsBack server_meaning c text }
 {}
 
-/// What a line means, as `read_client` and `read_server` answer it, is what the one row of the table says that has
-/// it: a name, and words after spaces. If no row has it, it is Other.
+/// What a line means, as `read_client` and `read_server` answer it, is what the one row of the
+/// table says that has it: a name, and words after spaces. If no row has it, it is Other.
 pub fn line_meaning_law()
     ensures client { (line : List ℕ) (c : ClientCommand) →
         MeansToServer line c ↔ (client_meaning line ≡ c) }

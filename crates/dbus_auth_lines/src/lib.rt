@@ -1,10 +1,11 @@
 //! The lines of the D-Bus authentication handshake.
 //!
-//! Before the first message, client and server say who the client is, in lines of ASCII ended by
-//! CR LF. [`read_client`] and [`read_server`] say what a line means, [`client_text`] and
-//! [`server_text`] write one, and [`LineCutter`] cuts lines out of bytes that come in pieces. A line
-//! has at most 16,384 bytes with its CR LF. Without memory, [`scanning::first_line`] gives the line that
-//! bytes begin with, and [`client_words`] and [`server_words`] say what it means, by places in it.
+//! Before the first message, client and server say who the client is, in lines of ASCII ended by CR
+//! LF. [`read_client`] and [`read_server`] say what a line means, [`client_text`] and
+//! [`server_text`] write one, and [`LineCutter`] cuts lines out of bytes that come in pieces. A
+//! line has at most 16,384 bytes with its CR LF. Without memory, [`scanning::first_line`] gives the
+//! line that bytes begin with, and [`client_words`] and [`server_words`] say what it means, by
+//! places in it.
 //!
 //! [`scanning`] and [`writing`] hold what an end of a connection works with beside these: where the
 //! first line ends of bytes that it keeps itself, and a line's bytes.

@@ -1,5 +1,5 @@
-//! What a line means, by the places of its words. It takes no memory.
-//! D-Bus Specification, "Authentication Protocol", "Protocol Overview" and the sections of each command.
+//! What a line means, by the places of its words. It takes no memory. D-Bus Specification,
+//! "Authentication Protocol", "Protocol Overview" and the sections of each command.
 
 ghost use Rattle.std.specs.Prelude.{◌≡◌, ℕ, ◌≤◌, length, drop, List, codes, bytes_eq};
 ghost use Rattle.std.specs.List.{list_all};
@@ -40,8 +40,8 @@ pub enum ClientWords {
 /// What a line of a server says, by the places of its words in the line.
 #[derive(Clone, Copy, PartialEq, Eq, Debug, Drop)]
 pub enum ServerWords {
-    /// `REJECTED` and the mechanisms that the server offers: from the first one up to the line's end,
-    /// spaces after the last one too. If there are none, no bytes at the line's end.
+    /// `REJECTED` and the mechanisms that the server offers: from the first one up to the line's
+    /// end, spaces after the last one too. If there are none, no bytes at the line's end.
     Rejected(Place),
     /// `OK` and the 32 hexadecimal digits of the server's GUID.
     Accepted(Place),
@@ -85,7 +85,8 @@ pub fn server_words(line: &[u8]) -> ServerWords
     }
 }
 
-/// What a client's line says if those of its words are hexadecimal that have to be; else it is `Other`.
+/// What a client's line says if those of its words are hexadecimal that have to be; else it is
+/// `Other`.
 #[tactic(auto, unfolding(crate::specs::Lines::client_meaning, crate::specs::Lines::arguments), using(crate::proofs::Spaces::take_command_name))]
 pub(crate) fn find_client(line: &[u8]) -> ClientWords
     ensures is { client_found line.now result ≡ client_meaning line.now }
@@ -95,7 +96,8 @@ pub(crate) fn find_client(line: &[u8]) -> ClientWords
     client_line_by(client_name_of(&line[..end]), line, end)
 }
 
-/// What a server's line says if those of its words are hexadecimal that have to be; else it is `Other`.
+/// What a server's line says if those of its words are hexadecimal that have to be; else it is
+/// `Other`.
 #[tactic(auto, unfolding(crate::specs::Lines::server_meaning, crate::specs::Lines::arguments), using(crate::proofs::Spaces::take_command_name))]
 pub(crate) fn find_server(line: &[u8]) -> ServerWords
     ensures is { server_found line.now result ≡ server_meaning line.now }

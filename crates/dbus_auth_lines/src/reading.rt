@@ -1,5 +1,5 @@
-//! What a line means, with its words in memory of their own.
-//! D-Bus Specification, "Authentication Protocol", "Protocol Overview" and the sections of each command.
+//! What a line means, with its words in memory of their own. D-Bus Specification, "Authentication
+//! Protocol", "Protocol Overview" and the sections of each command.
 
 ghost use Rattle.std.specs.Prelude.{◌≡◌, ◌+◌, ◌++◌, Some, None, IfOk, option_map, map, length};
 ghost use Rattle.hex.specs.Hex.{decode_of};

@@ -1,5 +1,5 @@
-//! Where the first line of some bytes ends, for an end of a connection that keeps the bytes of an unfinished line, and for who has
-//! all bytes.
+//! Where the first line of some bytes ends, for an end of a connection that keeps the bytes of an
+//! unfinished line, and for who has all bytes.
 
 ghost use Rattle.std.specs.Prelude.{◌≡◌, ◌++◌, ◌-◌, ◌≤◌, ℕ, length, take, false, IfOk, MatchOption, MatchResult};
 ghost use Rattle.dbus_auth_lines.specs.Cut.{passes_limit, is_bad, scan_from, cut, Ends, More};
@@ -31,8 +31,8 @@ pub enum Found {
     More,
 }
 
-/// Where the line ends that the bytes kept and the piece begin with, or the first fault. In the bytes
-/// kept no line ends, and none has a fault.
+/// Where the line ends that the bytes kept and the piece begin with, or the first fault. In the
+/// bytes kept no line ends, and none has a fault.
 #[tactic(auto, using(crate::proofs::Cuts::kept_within, crate::proofs::Cuts::resumes, crate::proofs::Cuts::is_within))]
 pub fn find(kept: &[u8], piece: &[u8]) -> Found
     requires { cut kept.now ≡ More }
@@ -42,8 +42,9 @@ pub fn find(kept: &[u8], piece: &[u8]) -> Found
     scan_piece(kept.len(), ends_in_cr(kept), piece)
 }
 
-/// The line that the bytes begin with, without its CR LF; `None` if more bytes are wanted, since they are a prefix of a line and not
-/// all of it. Returns the first fault if one comes before any line ends. It takes no memory.
+/// The line that the bytes begin with, without its CR LF; `None` if more bytes are wanted, since
+/// they are a prefix of a line and not all of it. Returns the first fault if one comes before any
+/// line ends. It takes no memory.
 #[tactic(auto, using(crate::proofs::Scans::cut_empty, crate::proofs::CutterAnswers::whole_line, crate::proofs::CutterAnswers::faulty_line, crate::proofs::CutterAnswers::no_line))]
 pub fn first_line(bytes: &[u8]) -> Result<Option<&[u8]>, BadLine>
     ensures { (b : Beginning) → BeginsAs bytes.now b →

@@ -1,5 +1,5 @@
-//! Lines as they are written.
-//! D-Bus Specification, "Authentication Protocol", "Protocol Overview" and the sections of each command.
+//! Lines as they are written. D-Bus Specification, "Authentication Protocol", "Protocol Overview"
+//! and the sections of each command.
 
 ghost use Rattle.std.specs.Prelude.{◌≡◌, ◌++◌, ℕ, IfOk, map, codes};
 ghost use Rattle.std.specs.List.{list_all, flat_map};
@@ -17,9 +17,9 @@ pub enum TextFault {
     /// An allocation failed.
     #[error("allocation failed")]
     Memory,
-    /// No line spells this: it is `Other`; a mechanism is empty or has a byte outside 33 to 126; the
-    /// text of `ERROR` has a byte outside 1 to 127 or has CR or LF; or the line would have more than
-    /// 16,384 bytes with its CR LF.
+    /// No line spells this: it is `Other`; a mechanism is empty or has a byte outside 33 to 126;
+    /// the text of `ERROR` has a byte outside 1 to 127 or has CR or LF; or the line would have more
+    /// than 16,384 bytes with its CR LF.
     #[error("no line spells this")]
     Unspellable,
 }

@@ -1,7 +1,9 @@
-//! `dbus_bench`: how many MB per second values and messages are read and written in, on this machine.
+//! `dbus_bench`: how many MB per second values and messages are read and written in, on this
+//! machine.
 //!
-//! With one argument, a number of MB, it makes each measure over so many and prints its MB/s; with none it makes each once
-//! and prints what it read and wrote. The messages are those of standard input.
+//! With one argument, a number of MB, it makes each measure over so many and prints its MB/s; with
+//! none it makes each once and prints what it read and wrote. The messages are those of standard
+//! input.
 #![tactic(auto)]
 
 mod messages;

@@ -121,7 +121,8 @@ fn bench_encode(rt: &HostRuntime, bytes: &[u8], extent: Extent) -> io::Result<()
     measure.finish(rt, used, 1)
 }
 
-/// Measures `decode`, `encode`, the cutter, the checker, the validator and what stands on it on the messages of standard input.
+/// Measures `decode`, `encode`, the cutter, the checker, the validator and what stands on it on the
+/// messages of standard input.
 pub(crate) fn bench_messages(rt: &HostRuntime, extent: Extent) -> io::Result<()> {
     let mut bytes = Vec::new(rt.alloc());
     rt.stdin().read_to_end(&mut bytes)?;

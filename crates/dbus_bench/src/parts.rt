@@ -117,7 +117,8 @@ fn encoded(alloc: Global) -> io::Result<usize> {
     }
 }
 
-/// Measures a signal from parts to bytes: making its values, the message of them, its encoding, and letting all of it go.
+/// Measures a signal from parts to bytes: making its values, the message of them, its encoding, and
+/// letting all of it go.
 pub(crate) fn bench_parts(rt: &HostRuntime, extent: Extent) -> io::Result<()> {
     let size = encoded(rt.alloc())?;
     let measure = Measure::start(rt, "make and encode", "a signal", extent)?;

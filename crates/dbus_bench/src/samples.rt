@@ -1,7 +1,8 @@
 //! The spellings of the values that are measured.
 use std::alloc::{AllocError, Global};
 
-// A dict entry of a STRING and a variant with a STRING, as in `a{sv}`: no padding stands in it or after it.
+// A dict entry of a STRING and a variant with a STRING, as in `a{sv}`: no padding stands in it or
+// after it.
 const PROPERTY: &[u8; 48] = b"\x0c\0\0\0PropertyName\0\x01s\0\x17\0\0\0value of 23 characters.\0";
 
 // A STRING, as in `as`: no padding stands after it.

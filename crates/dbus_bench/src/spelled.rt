@@ -111,7 +111,8 @@ fn built(alloc: Global) -> io::Result<usize> {
     }
 }
 
-/// Measures a signal from values to bytes: spelling its body, building the message of it, and letting both go.
+/// Measures a signal from values to bytes: spelling its body, building the message of it, and
+/// letting both go.
 pub(crate) fn bench_spelled(rt: &HostRuntime, extent: Extent) -> io::Result<()> {
     let size = built(rt.alloc())?;
     let measure = Measure::start(rt, "spell and build", "a signal", extent)?;

@@ -84,7 +84,8 @@ fn bench_type(
     }
 }
 
-/// Measures `get` and `put` on an array of 16 MB, a dict of 3,000 properties and an array of 4,000 names.
+/// Measures `get` and `put` on an array of 16 MB, a dict of 3,000 properties and an array of 4,000
+/// names.
 pub(crate) fn bench_values(rt: &HostRuntime, extent: Extent) -> io::Result<()> {
     bench_type(rt, "ay", &byte_array(rt.alloc(), 16_000_000)?, extent)?;
     bench_type(rt, "a{sv}", &properties(rt.alloc(), 3_000)?, extent)?;

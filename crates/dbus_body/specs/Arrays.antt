@@ -6,7 +6,8 @@ use Rattle.dbus_value_model.specs.Appending.{with_padding}
 use Rattle.dbus_value_model.specs.Bytes.{num}
 use Rattle.dbus_body.specs.declared.arrays.OpenArray.{OpenArray}
 
--- bytes with what stands before the elements, which are aligned so: four zeros are in the place of the length
+-- bytes with what stands before the elements, which are aligned so: four zeros are in the place of
+-- the length
 abbrev pub opened : (alignment : ℕ) → (front : List ℕ) → List ℕ
 opened alignment front = with_padding alignment (with_padding 4 front ++ replicate 4 0)
 

@@ -1,5 +1,5 @@
--- What the calls spell, one after another, from any bytes on: values as the marshalling relation has them.
--- D-Bus Specification, "Marshaling (Wire Format)".
+-- What the calls spell, one after another, from any bytes on: values as the marshalling relation
+-- has them. D-Bus Specification, "Marshaling (Wire Format)".
 use Rattle.std.specs.Prelude.{◌≡◌, ℕ, List, ◌++◌}
 use Rattle.dbus_texts.specs.Types.{NumberCode, TypeTree, STRING, OBJECT_PATH, SIGNATURE, sig}
 use Rattle.dbus_types.specs.Alignments.{width, alignment_of}
@@ -9,8 +9,9 @@ use Rattle.dbus_value_model.specs.Bytes.{num}
 use Rattle.dbus_value_model.specs.Values.{ValueTree, ValueTrees, NumberValue, TextValue, VariantValue, ArrayValue, StructValue, EntryValue, type_of}
 use Rattle.dbus_body.specs.Arrays.{opened, place_of, closed}
 
--- A number in its width, a path put as a STRING is, the fields of a struct and of a dict entry after the padding, the value of a
--- variant after its signature, and the elements of an array between its opening and its closing.
+-- A number in its width, a path put as a STRING is, the fields of a struct and of a dict entry
+-- after the padding, the value of a variant after its signature, and the elements of an array
+-- between its opening and its closing.
 pub record CallsSpell (order : Order) (front : List ℕ) : Type 0 where
   pub number : (k : NumberCode) (n : ℕ) → with_padding (width k) front ++ num order (width k) n ≡ with_value order (NumberValue k n) front
   pub path : (t : List ℕ) → with_value order (TextValue STRING t) front ≡ with_value order (TextValue OBJECT_PATH t) front

@@ -6,7 +6,8 @@ use Rattle.dbus_body.specs.declared.arrays.OpenArray.{OpenArray}
 use Rattle.dbus_body.specs.declared.put_fault.PutFault.{PutFault}
 use Rattle.dbus_body.specs.declared.put_fault.PutFault.TheVariants.{Memory, TooLong, NotOpen}
 
--- a text of so many bytes, where the length can say fewer than count, or there is less capacity than what it ends at
+-- a text of so many bytes, where the length can say fewer than count, or there is less capacity
+-- than what it ends at
 abbrev pub IsTextRefused : (count size capacity end : ℕ) → PutFault → Type 0
 IsTextRefused count size capacity end Memory = capacity < end
 IsTextRefused count size capacity end TooLong = count ≤ size

@@ -30,11 +30,13 @@ pub(crate) fn put_padding<A: Allocator>(
     out.resize(end, 0)
 }
 
-/// Appends a number of `width` bytes, which is its alignment too, after its padding. `bits` are the bytes of a signed number or a
-/// DOUBLE as those of an unsigned one, and 0 or 1 stand for a BOOLEAN; what has no place in the width is left out.
+/// Appends a number of `width` bytes, which is its alignment too, after its padding. `bits` are the
+/// bytes of a signed number or a DOUBLE as those of an unsigned one, and 0 or 1 stand for a
+/// BOOLEAN; what has no place in the width is left out.
 ///
-/// The width is 1, 2, 4 or 8, that of the type. The error is that an allocation failed, only if the capacity was too small; then the
-/// bytes are as they were. D-Bus Specification, "Marshaling (Wire Format)".
+/// The width is 1, 2, 4 or 8, that of the type. The error is that an allocation failed, only if the
+/// capacity was too small; then the bytes are as they were. D-Bus Specification, "Marshaling (Wire
+/// Format)".
 #[inline]
 #[tactic(auto, using(dbus_marshal::proofs::Written::lengths, dbus_value_model::proofs::Gaps::gap_below), unfolding(dbus_value_model::specs::Appending::with_padding))]
 pub fn put_number<A: Allocator>(
@@ -57,11 +59,12 @@ pub fn put_number<A: Allocator>(
     out.extend_from_slice(&bytes[..end])
 }
 
-/// Appends a STRING or an OBJECT_PATH: padding, the length of the text in four bytes, the text and a zero byte. Whether the text is
-/// one is not looked at.
+/// Appends a STRING or an OBJECT_PATH: padding, the length of the text in four bytes, the text and
+/// a zero byte. Whether the text is one is not looked at.
 ///
-/// `TooLong` exactly if the text has 4,294,967,296 bytes or more. `Memory` if an allocation failed, only if the capacity was too
-/// small. After an error the bytes are as they were. D-Bus Specification, "Marshaling (Wire Format)".
+/// `TooLong` exactly if the text has 4,294,967,296 bytes or more. `Memory` if an allocation failed,
+/// only if the capacity was too small. After an error the bytes are as they were. D-Bus
+/// Specification, "Marshaling (Wire Format)".
 #[tactic(auto, using(dbus_marshal::proofs::Written::texts, dbus_value_model::proofs::Gaps::gap_below))]
 pub fn put_text<A: Allocator>(
     out: &mut Vec<u8, A>,
@@ -85,11 +88,13 @@ pub fn put_text<A: Allocator>(
     Ok(())
 }
 
-/// Appends a SIGNATURE, or what stands before the value in a variant: the length of the text in one byte, the text and a zero byte,
-/// which are the same in either byte order. Whether the text is a signature is not looked at.
+/// Appends a SIGNATURE, or what stands before the value in a variant: the length of the text in one
+/// byte, the text and a zero byte, which are the same in either byte order. Whether the text is a
+/// signature is not looked at.
 ///
-/// `TooLong` exactly if the text has more than 255 bytes. `Memory` if an allocation failed, only if the capacity was too small. After
-/// an error the bytes are as they were. D-Bus Specification, "Marshaling (Wire Format)".
+/// `TooLong` exactly if the text has more than 255 bytes. `Memory` if an allocation failed, only if
+/// the capacity was too small. After an error the bytes are as they were. D-Bus Specification,
+/// "Marshaling (Wire Format)".
 #[tactic(auto, using(dbus_marshal::proofs::Written::texts))]
 pub fn put_signature<A: Allocator>(out: &mut Vec<u8, A>, text: &[u8]) -> Result<(), PutFault>
     ensures written { (order : Order) → OnOk result
@@ -111,8 +116,8 @@ pub fn put_signature<A: Allocator>(out: &mut Vec<u8, A>, text: &[u8]) -> Result<
 
 /// Appends the padding before a struct or a dict entry, whose fields come next.
 ///
-/// The error is that an allocation failed, only if the capacity was too small; then the bytes are as they were. D-Bus Specification,
-/// "Marshaling (Wire Format)".
+/// The error is that an allocation failed, only if the capacity was too small; then the bytes are
+/// as they were. D-Bus Specification, "Marshaling (Wire Format)".
 #[tactic(auto, using(dbus_value_model::proofs::Gaps::gap_below), unfolding(dbus_value_model::specs::Appending::with_padding))]
 pub fn begin_struct<A: Allocator>(out: &mut Vec<u8, A>) -> Result<(), AllocError>
     ensures written { OnOk result (out.new.items ≡ with_padding 8 out.old.items) }

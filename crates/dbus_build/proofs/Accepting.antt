@@ -1,4 +1,5 @@
--- Parts that are valid within limits, and in which each array of bytes is `Bytes`, have no case of fault.
+-- Parts that are valid within limits, and in which each array of bytes is `Bytes`, have no case of
+-- fault.
 use Rattle.std.proofs.Common.{◌≡◌, inl, inr, ℕ, zero, suc, ◌+◌, ◌<◌, List, [], ◌∷◌, ◌++◌, ◌&&◌, Bool, true, false, length, map, None, IsTrue, if◌then◌else◌, eqb, refl, sym, ap, subst, ◌∙◌, arith}
 use Rattle.std.proofs.lemmas.Bool.{ne_eqb, eqb-true, and_parts}
 use Rattle.dbus_texts.specs.Types.{UINT32, NumberType, TextType, VariantType, ArrayType, StructType, EntryType, NoTypes, TypeTrees, AreComplete, sigs}

@@ -1,5 +1,5 @@
--- Why parts make no message: the cases, and which of them is the first that holds.
--- D-Bus Specification, "Message Format", "Header Fields" and "Invalid Protocol and Spec Extensions".
+-- Why parts make no message: the cases, and which of them is the first that holds. D-Bus
+-- Specification, "Message Format", "Header Fields" and "Invalid Protocol and Spec Extensions".
 use Rattle.std.specs.Prelude.{◌≡◌, ◌⊎◌, ℕ, ◌+◌, ◌<◌, List, [], ◌∷◌, ◌++◌, true, false, ◌&&◌, if◌then◌else◌, Option, Some, None, Result, Ok, Err}
 use Rattle.dbus_texts.specs.Types.{UINT32, STRING, TypeTree, NumberType, TextType, sigs}
 use Rattle.dbus_value_model.specs.declared.fault.Reason.TheVariants as reasons
@@ -86,7 +86,8 @@ abbrev pub IsFirstUnsoundField : {A : Type 0} → List (HeaderField A) → Optio
 IsFirstUnsoundField [] r = r ≡ None
 IsFirstUnsoundField (f ∷ fs) r = ((HoldsSound f → ⊥) × (r ≡ Some f.code)) ⊎ (HoldsSound f × IsFirstUnsoundField fs r)
 
--- r is the number of the first value that is not sound, or nothing where all are; n is the number of the first value
+-- r is the number of the first value that is not sound, or nothing where all are; n is the number
+-- of the first value
 abbrev pub IsFirstUnsound : {A : Type 0} → ℕ → List (Value A) → Option ℕ → Type 0
 IsFirstUnsound n [] r = r ≡ None
 IsFirstUnsound n (v ∷ vs) r = ((IsSound v → ⊥) × (r ≡ Some n)) ⊎ (IsSound v × IsFirstUnsound (n + 1) vs r)
@@ -100,7 +101,8 @@ IsSoundness shallow sound ranged Mixed = shallow × (sound → ⊥)
 IsSoundness shallow sound ranged Misnamed = shallow × (sound → ⊥)
 IsSoundness shallow sound ranged Sound = shallow × sound × ranged
 
--- What is found of all: they open more containers than may be open, or the answer is which is the first that is not sound.
+-- What is found of all: they open more containers than may be open, or the answer is which is the
+-- first that is not sound.
 abbrev pub IsFound : Type 0 → (Option ℕ → Type 0) → Type 0 → Result (Option ℕ) BuildFault → Type 0
 IsFound shallow IsFirst ranged (Ok first) = shallow × IsFirst first × (first ≡ None → ranged)
 IsFound shallow IsFirst ranged (Err fault) = (fault ≡ faults.TooDeep) × (shallow → ⊥)
@@ -139,7 +141,8 @@ DepthPasses limits m = NoneIsMissing m × IsShallow limits m
 abbrev pub NamesPass : Limits → MessageTree → Type 0
 NamesPass limits m = DepthPasses limits m × IsFirstWithout HasOwnKind m.fields None
 
--- That an array of bytes is not an `Array` is no matter of trees, so that from here on the parts are spoken of.
+-- That an array of bytes is not an `Array` is no matter of trees, so that from here on the parts
+-- are spoken of.
 abbrev pub FieldValuesPass : {A : Type 0} → Limits → Parts A → Type 0
 FieldValuesPass limits p = NamesPass limits (parts_tree p) × IsFirstUnsoundField p.fields.items None
 
@@ -192,7 +195,8 @@ abbrev pub IsAccepted : {A : Type 0} → Limits → Parts A → Result (Message 
 IsAccepted limits p (Ok message) = Unit {0}
 IsAccepted limits p (Err refused) = NoFault limits p → refused.1 ≡ faults.Memory
 
--- where the parts are valid within the limits, and each array of bytes in them is `Bytes`, nothing is refused but for want of memory
+-- where the parts are valid within the limits, and each array of bytes in them is `Bytes`, nothing
+-- is refused but for want of memory
 abbrev pub IsTaken : {A : Type 0} → Limits → Parts A → Result (Message A) (Parts A × BuildFault) → Type 0
 IsTaken limits p (Ok message) = Unit {0}
 IsTaken limits p (Err refused) = IsValidMessage limits (parts_tree p) → PartsKeepBytes p → refused.1 ≡ faults.Memory

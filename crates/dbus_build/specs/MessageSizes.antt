@@ -8,8 +8,8 @@ use Rattle.dbus_value_model.specs.Spelling.{spellings, AreWithinLimits}
 use Rattle.dbus_value_model.specs.Values.{value_trees}
 use Rattle.dbus_message_model.specs.Messages.{FieldTree, MessageTree, field_struct}
 
--- The end n, where what stands before it keeps the limits on arrays and it is not past the end of the longest field array;
--- else nothing. Both orders spell fields in as many bytes.
+-- The end n, where what stands before it keeps the limits on arrays and it is not past the end of
+-- the longest field array; else nothing. Both orders spell fields in as many bytes.
 abbrev pub IsEnd : Limits → Type 0 → ℕ → Option ℕ → Type 0
 IsEnd limits kept n None = kept → 16 + limits.array < n
 IsEnd limits kept n (Some e) = kept × (e ≡ n) × (n ≤ 16 + limits.array)

@@ -14,9 +14,9 @@ use dbus_message_model::{Message, Parts};
 use dbus_value_model::Limits;
 use std::alloc::Allocator;
 
-/// What makes a [`Message`] of its parts and holds it to limits, as `Message::new(alloc, parts)` and
-/// `message.within(limits)`. It is a trait so that reading messages does not wait for what measures them: bring it into scope
-/// by `use dbus_message::Build`.
+/// What makes a [`Message`] of its parts and holds it to limits, as `Message::new(alloc, parts)`
+/// and `message.within(limits)`. It is a trait so that reading messages does not wait for what
+/// measures them: bring it into scope by `use dbus_message::Build`.
 pub trait Build: Sized {
     /// Where the message keeps what it holds.
     type Allocator;
@@ -24,7 +24,8 @@ pub trait Build: Sized {
     /// What it is made of.
     type Parts;
 
-    /// The message of these parts, as [`Build::new_within`] says under the limits of the specification.
+    /// The message of these parts, as [`Build::new_within`] says under the limits of the
+    /// specification.
     ///
     /// ```rust
     /// use dbus_message::{Build, HeaderField, Message, Parts, field_code, message_type};
@@ -43,11 +44,12 @@ pub trait Build: Sized {
     /// ```
     fn new(alloc: Self::Allocator, parts: Self::Parts) -> Result<Self, (Self::Parts, BuildFault)>;
 
-    /// The message of these parts, which is `Ok` exactly if no case of [`BuildFault`] holds of them under the limits.
+    /// The message of these parts, which is `Ok` exactly if no case of [`BuildFault`] holds of them
+    /// under the limits.
     ///
-    /// The error hands the parts back, with the first case that holds of them. Nothing is allocated, so `Memory` is never
-    /// returned.
-    /// D-Bus Specification, "Message Format", "Header Fields".
+    /// The error hands the parts back, with the first case that holds of them. Nothing is
+    /// allocated, so `Memory` is never returned. D-Bus Specification, "Message Format", "Header
+    /// Fields".
     fn new_within(
         alloc: Self::Allocator,
         parts: Self::Parts,
@@ -57,12 +59,14 @@ pub trait Build: Sized {
 
 /// What holds a [`Message`](dbus_message_model::Message) to limits, as `message.within(limits)`.
 pub trait Within {
-    /// Whether the message keeps the limits. It does if it has no more bytes than their message, no array in it, that of its
-    /// fields among them, more than their array, no more arrays, structs and variants are open at once than their depth, and the
-    /// indexes of descriptors in its body are as their rule asks.
+    /// Whether the message keeps the limits. It does if it has no more bytes than their message, no
+    /// array in it, that of its fields among them, more than their array, no more arrays, structs
+    /// and variants are open at once than their depth, and the indexes of descriptors in its body
+    /// are as their rule asks.
     ///
-    /// These are the cases of [`BuildFault`] that speak of limits: it is true exactly if [`Build::new_within`] finds no fault
-    /// in its parts. D-Bus Specification, "Message Format" and "Marshaling (Wire Format)".
+    /// These are the cases of [`BuildFault`] that speak of limits: it is true exactly if
+    /// [`Build::new_within`] finds no fault in its parts. D-Bus Specification, "Message Format" and
+    /// "Marshaling (Wire Format)".
     fn within(&self, limits: Limits) -> bool;
 }
 

@@ -7,10 +7,11 @@ ghost use Rattle.dbus_build.specs.declared.build_fault.BuildFault.TheVariants.{M
 use std::alloc::AllocError;
 use thiserror::Error;
 
-/// Why parts make no message: the first case of this list, in its order, that holds. `Memory` is outside the order:
-/// making a message allocates nothing, so it is never returned.
+/// Why parts make no message: the first case of this list, in its order, that holds. `Memory` is
+/// outside the order: making a message allocates nothing, so it is never returned.
 ///
-/// D-Bus Specification, "Message Format", "Header Fields" and "Invalid Protocol and Spec Extensions".
+/// D-Bus Specification, "Message Format", "Header Fields" and "Invalid Protocol and Spec
+/// Extensions".
 #[derive(Clone, Copy, PartialEq, Eq, Debug, Error)]
 pub enum BuildFault {
     /// An allocation failed.
@@ -25,7 +26,8 @@ pub enum BuildFault {
     /// A field's code is 0.
     #[error("a field's code is 0")]
     FieldCode,
-    /// A known field of this code occurs twice: the code of the first field that comes after one of the same code.
+    /// A known field of this code occurs twice: the code of the first field that comes after one of
+    /// the same code.
     #[error("field {0} stands twice")]
     FieldTwice(u8),
     /// A known field of this code, the first such field, has another type than its own.
@@ -34,7 +36,8 @@ pub enum BuildFault {
     /// The message type requires a field of this code, the lowest that is missing.
     #[error("field {0} is missing")]
     FieldMissing(u8),
-    /// More containers would be open at once than the limit on depth. A field's value is within three.
+    /// More containers would be open at once than the limit on depth. A field's value is within
+    /// three.
     #[error("more containers are open at once than the limit on depth")]
     TooDeep,
     /// The text of a known field of this code, the first such field, is not of the field's kind.
@@ -46,17 +49,20 @@ pub enum BuildFault {
     /// The body's value of this number, counted from 0, the first such value, is not well formed.
     #[error("value {0} of the body is not well formed")]
     Value(usize),
-    /// The types of the body's values are not those of the SIGNATURE field, which are none if it is absent.
+    /// The types of the body's values are not those of the SIGNATURE field, which are none if it is
+    /// absent.
     #[error("the types of the body's values are not those of the SIGNATURE field")]
     SignatureDiffers,
-    /// The contents of the field array, or of an array in the message, are over the limit on arrays.
+    /// The contents of the field array, or of an array in the message, are over the limit on
+    /// arrays.
     #[error("an array is over the limit on arrays")]
     ArrayTooLong,
     /// The message is over the limit on messages.
     #[error("the message is over the limit on messages")]
     MessageTooLong,
-    /// The body's value of this number, counted from 0, the first such value, holds an index of a descriptor that is not below
-    /// the number of the UNIX_FDS field, which is 0 if there is none. It holds only if the limits' rule asks for that.
+    /// The body's value of this number, counted from 0, the first such value, holds an index of a
+    /// descriptor that is not below the number of the UNIX_FDS field, which is 0 if there is none.
+    /// It holds only if the limits' rule asks for that.
     #[error("value {0} of the body has an index of a descriptor that is not below their number")]
     FdIndex(usize),
 }

@@ -14,8 +14,8 @@ use dbus_marshal::{signature_length, write_type_of};
 use dbus_value_model::{Value, Verdict, check_nested};
 use std::alloc::Allocator;
 
-/// The number of the first value that is not sound, or `TooDeep` if more than `depth_left` arrays, structs and variants are open
-/// at once in any value.
+/// The number of the first value that is not sound, or `TooDeep` if more than `depth_left` arrays,
+/// structs and variants are open at once in any value.
 pub fn first_unsound<A: Allocator>(
     values: &[Value<A>],
     depth_left: u8,

@@ -112,8 +112,9 @@ pub fn first_misnamed<A: Allocator>(fields: &[HeaderField<A>]) -> Option<u8>
     None
 }
 
-/// What is found of a field where `depth_left` arrays, structs and variants may be open at once: those of its struct, its
-/// variant and its value. The value of a known field is sound if its type and its text are the field's own.
+/// What is found of a field where `depth_left` arrays, structs and variants may be open at once:
+/// those of its struct, its variant and its value. The value of a known field is sound if its type
+/// and its text are the field's own.
 fn check_field<A: Allocator>(field: &HeaderField<A>, depth_left: u8) -> Verdict
     ensures { IsSoundness (NestsWithin depth_left (field_struct (field_tree field.now)))
         (HoldsSound field.now) (HoldsTypedNumber field.now) result }
@@ -135,8 +136,9 @@ fn check_field<A: Allocator>(field: &HeaderField<A>, depth_left: u8) -> Verdict
     }
 }
 
-/// The code of the first unknown field whose value is not sound, or `TooDeep` if more than `depth_left` arrays, structs and
-/// variants are open at once in the field array, itself among them.
+/// The code of the first unknown field whose value is not sound, or `TooDeep` if more than
+/// `depth_left` arrays, structs and variants are open at once in the field array, itself among
+/// them.
 pub fn first_unsound_field<A: Allocator>(
     fields: &[HeaderField<A>],
     depth_left: u8,

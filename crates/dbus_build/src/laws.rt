@@ -5,7 +5,8 @@ ghost use Rattle.dbus_build.specs.PartLaws.{KeptParts};
 
 use std::alloc::Allocator;
 
-/// No case of [`BuildFault`](crate::BuildFault) holds of the parts of a message exactly if the message keeps the limits.
+/// No case of [`BuildFault`](crate::BuildFault) holds of the parts of a message exactly if the
+/// message keeps the limits.
 #[tactic(auto, using(crate::proofs::Accepting::kept_parts))]
 pub fn kept_parts<A: Allocator>()
     ensures { KeptParts A }

@@ -1,7 +1,9 @@
-//! Messages of the D-Bus wire format made of their parts, and held to limits. D-Bus Specification, "Message Format".
+//! Messages of the D-Bus wire format made of their parts, and held to limits. D-Bus Specification,
+//! "Message Format".
 //!
-//! [`Build::new`], called as `Message::new`, makes a message of parts, or hands them back with the first [`BuildFault`] that holds.
-//! [`Within::within`] asks whether a message keeps limits that are handed in. An example is at [`Build::new`].
+//! [`Build::new`], called as `Message::new`, makes a message of parts, or hands them back with the
+//! first [`BuildFault`] that holds. [`Within::within`] asks whether a message keeps limits that are
+//! handed in. An example is at [`Build::new`].
 #![tactic(auto)]
 
 mod build;

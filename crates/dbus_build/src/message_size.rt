@@ -13,7 +13,8 @@ use dbus_message_model::HeaderField;
 use dbus_value_model::Limits;
 use std::alloc::Allocator;
 
-/// Where the fields end, the first of which begins at 16, or nothing if the field array or an array in it is too long.
+/// Where the fields end, the first of which begins at 16, or nothing if the field array or an array
+/// in it is too long.
 pub fn fields_end<A: Allocator>(fields: &[HeaderField<A>], limits: Limits) -> Option<u64>
     requires signed { HaveShortSignatures
         (value_trees (map field_struct (field_trees fields.now))) }

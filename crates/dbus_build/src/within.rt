@@ -44,7 +44,8 @@ fn keeps_arrays<A: Allocator>(parts: &Parts<A>, limits: Limits) -> bool
     }
 }
 
-/// Whether every index of a descriptor in the body is below the number that the limits' rule asks for.
+/// Whether every index of a descriptor in the body is below the number that the limits' rule asks
+/// for.
 fn keeps_indexes<A: Allocator>(parts: &Parts<A>, limits: Limits) -> bool
     ensures { IsTrue result ↔ KeepsIndexes limits (parts_tree parts.now) }
 {

@@ -1,4 +1,5 @@
--- The header fields and the body of a message that is validated, as values that stand among its bytes.
+-- The header fields and the body of a message that is validated, as values that stand among its
+-- bytes.
 use Rattle.std.proofs.Common.{◌≡◌, ℕ, ◌≤◌, List, [], ◌++◌, length, codes, take, false, sym, ap, subst, ◌∙◌, arith, append-nil}
 use Rattle.dbus_texts.specs.Types.{sig, IsShaped}
 use Rattle.dbus_value_model.specs.declared.limits.Limits.{Limits}

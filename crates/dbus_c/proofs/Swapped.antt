@@ -14,7 +14,8 @@ use Rattle.dbus_c.specs.Swapping as swaps
 use Rattle.dbus_c.specs.Swapping.{Swaps, IsSwapExact}
 use Rattle.dbus_c.specs.declared.checking.Checked.{Checked}
 
--- the code's test of two orders says whether they are one, and of two that are not each is the other
+-- the code's test of two orders says whether they are one, and of two that are not each is the
+-- other
 pub one_order : (order asked : Order) → not (sameb the_type order asked) ≡ false → order ≡ asked
 one_order Little Little test = refl
 one_order Little Big test = absurd cc

@@ -1,5 +1,5 @@
--- A message built of parts in numbers, or changed by them: what each answer says, and which parts have it.
--- D-Bus Specification, "Message Format" and "Header Fields".
+-- A message built of parts in numbers, or changed by them: what each answer says, and which parts
+-- have it. D-Bus Specification, "Message Format" and "Header Fields".
 use Rattle.std.specs.Prelude.{◌≡◌, ◌⊎◌, ℕ, ◌-◌, ◌<◌, ◌≤◌, List, [], ◌++◌, length, take, drop, Option, Some, None, MatchOption, nat_eq, if◌then◌else◌}
 use Rattle.dbus_value_model.specs.declared.fault.Reason.{Reason}
 use Rattle.dbus_value_model.specs.declared.fault.Reason.TheVariants.{ByteOrder, Overrun, MessageTooLong, Signature}
@@ -74,19 +74,22 @@ refusal_told (refusals.Outside code) = field_told Overrun code
 refusal_told (refusals.TooLong code) = field_told (if nat_eq code 8 then Signature else MessageTooLong) code
 refusal_told (refusals.Format f) = fault_told f
 
--- why numbers stand for no parts: they name no byte order, or not that of the message that is kept; or they do, and a number does not fit
+-- why numbers stand for no parts: they name no byte order, or not that of the message that is kept;
+-- or they do, and a number does not fit
 abbrev pub AreNoParts : Kept → Parts → Reason → Type 0
 AreNoParts k w ByteOrder = (order : Order) → KeepsOrder k order → w.order ≡ order_byte order → ⊥
 AreNoParts k w Overrun = ((order : Order) × KeepsOrder k order × (w.order ≡ order_byte order)) × ((255 < w.kind) ⊎ ((255 < w.flags) ⊎ (w.length < w.body)))
 AreNoParts k w _ = ⊥
 
--- Why the parts are refused, and what is told of it: nothing else may be told. Want of memory is no such reason.
+-- Why the parts are refused, and what is told of it: nothing else may be told. Want of memory is no
+-- such reason.
 pub data IsWhy (limits : Limits) (b : List ℕ) (k : Kept) (w : Parts) (told : Checked) : Type 0 where
   no_parts : (reason : Reason) → AreNoParts k w reason → told ≡ field_told reason 0 → IsWhy limits b k w told
   why : (p : PlacedParts) (reason : Refusal) → StandFor k w p → (reason ≡ refusals.Memory → ⊥) → IsRefusal limits b (fields_kept k) p reason → told ≡ refusal_told reason → IsWhy limits b k w told
 
--- An answer, what is told beside it and the new bytes hold of the parts under the limits. A message is built exactly if one within
--- the limits has these parts, and then it is written if there is room; but memory may run out.
+-- An answer, what is told beside it and the new bytes hold of the parts under the limits. A message
+-- is built exactly if one within the limits has these parts, and then it is written if there is
+-- room; but memory may run out.
 pub data Builds (limits : Limits) (b : List ℕ) (k : Kept) (w : Parts) (answer : ℕ) (told : Checked) (old new : List ℕ) : Type 0 where
   built : (p : PlacedParts) (m : MessageTree) → StandFor k w p → HasParts b (fields_kept k) p m → IsMessage limits p.order m → length (message_bytes p.order m) ≤ length old → answer ≡ WHOLE
       → told ≡ whole_told p.order (length (message_bytes p.order m)) → new ≡ message_bytes p.order m ++ drop (length (message_bytes p.order m)) old → Builds limits b k w answer told old new
@@ -95,12 +98,14 @@ pub data Builds (limits : Limits) (b : List ℕ) (k : Kept) (w : Parts) (answer 
   refused : StandForNone limits b k w → answer ≡ REFUSED → IsWhy limits b k w told → new ≡ old → Builds limits b k w answer told old new
   no_memory : answer ≡ NO_MEMORY → told ≡ nothing_told → new ≡ old → Builds limits b k w answer told old new
 
--- The same if the fields of the message that the bytes begin with are kept. If they begin with none, that is told of them.
+-- The same if the fields of the message that the bytes begin with are kept. If they begin with
+-- none, that is told of them.
 pub data Rebuilds (limits : Limits) (b : List ℕ) (w : Parts) (answer : ℕ) (told : Checked) (old new : List ℕ) : Type 0 where
   rebuilt : (order : Order) (m : MessageTree) (n : ℕ) → IsWhole limits b order m n → Builds limits b (FieldsOf order m) w answer told old new → Rebuilds limits b w answer told old new
   no_message : (BeginsWithMessage limits b → ⊥) → Tells limits b answer told → new ≡ old → Rebuilds limits b w answer told old new
 
--- of parts that are those of the message that the bytes begin with it comes back, byte for byte; they are not refused
+-- of parts that are those of the message that the bytes begin with it comes back, byte for byte;
+-- they are not refused
 pub record ComesBack (b : List ℕ) (w : Parts) (answer : ℕ) (old new : List ℕ) : Type 0 where
   pub same : answer ≡ WHOLE → new ≡ take w.length b ++ drop w.length old
   pub accepted : answer ≡ REFUSED → ⊥

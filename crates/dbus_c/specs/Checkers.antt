@@ -21,7 +21,8 @@ answer_of check.Partial = PARTIAL
 answer_of (check.Done n) = WHOLE
 answer_of (check.Refused f) = REFUSED
 
--- what is told of a piece of m bytes: how many of them were taken, and of a fault its place and reason
+-- what is told of a piece of m bytes: how many of them were taken, and of a fault its place and
+-- reason
 abbrev pub taken_told : Check → ℕ → Taken
 taken_told check.Partial m = record { count = m; offset = 0; reason = 0; field = 0 }
 taken_told (check.Done n) m = record { count = n; offset = 0; reason = 0; field = 0 }

@@ -22,8 +22,8 @@ abbrev pub start_of : Part → Order → MessageTree → ℕ
 start_of Fields order m = 12
 start_of Body order m = body_start order m.fields
 
--- the bytes begin with a message within the limits, the values of whose part make so many items, of which those from a place on are
--- written over those before
+-- the bytes begin with a message within the limits, the values of whose part make so many items, of
+-- which those from a place on are written over those before
 pub record IsPartFlat (part : Part) (limits : Limits) (b : List ℕ) (first : ℕ) (before items : List FlatItem) (count : ℕ) : Type 0 where
   pub order : Order
   pub message : MessageTree

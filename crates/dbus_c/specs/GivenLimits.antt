@@ -1,5 +1,5 @@
--- The limits that numbers stand for.
--- D-Bus Specification, "Message Format", "Marshaling (Wire Format)", "Valid Signatures", "Header Fields".
+-- The limits that numbers stand for. D-Bus Specification, "Message Format", "Marshaling (Wire
+-- Format)", "Valid Signatures", "Header Fields".
 use Rattle.std.specs.Prelude.{ℕ, min, nat_eq, if◌then◌else◌}
 use Rattle.std.proofs.Math.Nat.{min-le_right}
 use Rattle.dbus_value_model.specs.declared.fd_rule.FdRule.{FdRule}
@@ -17,7 +17,8 @@ rule_of number = if nat_eq number ANY_INDEX then Any else BelowCount
 abbrev pub specification_given : WireLimits
 specification_given = record { message = MESSAGE_LIMIT; array = ARRAY_LIMIT; depth = DEPTH_LIMIT; fds = ANY_INDEX }
 
--- the limits that the numbers stand for: one that is over the specification's stands for the specification's
+-- the limits that the numbers stand for: one that is over the specification's stands for the
+-- specification's
 abbrev pub limits_of : WireLimits → Limits
 limits_of given = record {
   message = min given.message MESSAGE_LIMIT;

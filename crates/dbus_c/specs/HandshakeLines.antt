@@ -1,5 +1,5 @@
--- What is told by numbers of the first line of what one side of a handshake sends.
--- D-Bus Specification, "Authentication Protocol", "Protocol Overview" and the section of each command.
+-- What is told by numbers of the first line of what one side of a handshake sends. D-Bus
+-- Specification, "Authentication Protocol", "Protocol Overview" and the section of each command.
 use Rattle.std.specs.Prelude.{◌≡◌, ℕ, ◌+◌, ◌==◌, List, length, if◌then◌else◌}
 use Rattle.dbus_auth_lines.specs.Cut.{Fault, TooLong, BadByte}
 use Rattle.dbus_auth_lines.specs.FirstLine.{Beginning, WholeLine, Faulty, Unfinished}

@@ -41,7 +41,8 @@ fault_number fault.Room = NO_ROOM
 abbrev pub step_told : Step → HandshakeStep
 step_told s = record { count = s.count; reply = s.written }
 
--- what an end answers to a piece is told; or there is none, or nothing was done, and nothing is told
+-- what an end answers to a piece is told; or there is none, or nothing was done, and nothing is
+-- told
 abbrev pub IsStepTold : Option (Result Step TakeFault) → ℕ → HandshakeStep → HandshakeStep → Type 0
 IsStepTold None answer old new = (answer ≡ NO_HANDSHAKE) × (new ≡ old)
 IsStepTold (Some (Err f)) answer old new = (answer ≡ fault_number f) × (new ≡ old)
@@ -58,7 +59,8 @@ pub data IsGuidWritten (guid : List ℕ) (answer : ℕ) (old new : List ℕ) : T
   written : GUID_ROOM ≤ length old → answer ≡ WHOLE → new ≡ encode_lower guid ++ drop GUID_ROOM old → IsGuidWritten guid answer old new
   no_room : length old < GUID_ROOM → answer ≡ NO_ROOM → new ≡ old → IsGuidWritten guid answer old new
 
--- a GUID's digits stand at the start of the room; or there is none, or no room for them, and the room stays
+-- a GUID's digits stand at the start of the room; or there is none, or no room for them, and the
+-- room stays
 abbrev pub IsGuidTold : Option (List ℕ) → ℕ → List ℕ → List ℕ → Type 0
 IsGuidTold None answer old new = (answer ≡ NO_VALUE) × (new ≡ old)
 IsGuidTold (Some guid) answer old new = IsGuidWritten guid answer old new

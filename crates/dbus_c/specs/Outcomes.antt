@@ -1,5 +1,5 @@
--- The answers of the calls that take a message apart: what each says of the bytes, and which bytes have it.
--- D-Bus Specification, "Message Protocol".
+-- The answers of the calls that take a message apart: what each says of the bytes, and which bytes
+-- have it. D-Bus Specification, "Message Protocol".
 use Rattle.std.specs.Prelude.{◌≡◌, ◌↔◌, ℕ, List, length, take, Result, Ok, Err}
 use Rattle.dbus_value_model.specs.declared.limits.Limits.{Limits}
 use Rattle.dbus_value_model.specs.declared.order.Order.{Order}
@@ -18,7 +18,8 @@ BeginsWithMessage limits b = (order : Order) × (m : MessageTree) × (n : ℕ) �
 abbrev pub AreRefused : Limits → List ℕ → Type 0
 AreRefused limits b = (f : Fault) × IsRefused limits b f
 
--- the answer says that more bytes are needed exactly if they are, and that the bytes are refused exactly if they show a fault
+-- the answer says that more bytes are needed exactly if they are, and that the bytes are refused
+-- exactly if they show a fault
 pub record TellsApart (limits : Limits) (b : List ℕ) (answer : ℕ) : Type 0 where
   pub partial : IsPartial limits b ↔ (answer ≡ PARTIAL)
   pub refused : AreRefused limits b ↔ (answer ≡ REFUSED)

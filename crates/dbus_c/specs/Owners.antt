@@ -1,10 +1,11 @@
--- The owners of names that lines of text give, as `name=unique`: 10 ends a line, and 61 is `=`. The form is this project's own.
--- D-Bus Specification, "Bus names".
+-- The owners of names that lines of text give, as `name=unique`: 10 ends a line, and 61 is `=`. The
+-- form is this project's own. D-Bus Specification, "Bus names".
 use Rattle.std.specs.Prelude.{◌≡◌, ℕ, List, [], ◌∷◌, IsUtf8, ◌==◌}
 use Rattle.std.specs.List.{slice_split, before_first, after_first, flat_map}
 use Rattle.dbus_match.specs.Matching.{Ownership}
 
--- a line gives a name its owner's unique name, which has no byte if there is no `=`; an empty line gives no name
+-- a line gives a name its owner's unique name, which has no byte if there is no `=`; an empty line
+-- gives no name
 abbrev pub line_told : List ℕ → List Ownership
 line_told [] = []
 line_told (b ∷ line) = record { name = before_first (λ c. c == 61) (b ∷ line); unique = after_first (λ c. c == 61) (b ∷ line) } ∷ []

@@ -28,7 +28,8 @@ abbrev pub number_of : Option ValueTree → ℕ
 number_of None = 0
 number_of (Some v) = number_in v
 
--- the texts of the known fields stand there, each where its own field has it, and their numbers are these
+-- the texts of the known fields stand there, each where its own field has it, and their numbers are
+-- these
 pub record HasFields (order : Order) (fs : List FieldTree) (b : List ℕ) (p : Parts) : Type 0 where
   pub path : IsFieldPlace order 1 fs b p.path
   pub interface : IsFieldPlace order 2 fs b p.interface
@@ -40,8 +41,9 @@ pub record HasFields (order : Order) (fs : List FieldTree) (b : List ℕ) (p : P
   pub signature : IsFieldPlace order 8 fs b p.signature
   pub unix_fds : p.unix_fds ≡ number_of (field_value 9 fs)
 
--- the bytes begin with a message within the limits that has these parts: its fields stand among its own bytes, and its body begins
--- after the header and the padding to 8, and ends where the message does
+-- the bytes begin with a message within the limits that has these parts: its fields stand among its
+-- own bytes, and its body begins after the header and the padding to 8, and ends where the message
+-- does
 pub record HasParts (limits : Limits) (b : List ℕ) (p : Parts) : Type 0 where
   pub order : Order
   pub message : MessageTree

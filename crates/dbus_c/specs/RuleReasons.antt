@@ -1,6 +1,6 @@
--- The numbers and the names of the reasons why a text spells no match rule: those that the reading of a rule has, and that the text
--- is not UTF-8.
--- D-Bus Specification, "Match Rules"; the reasons are this project's own.
+-- The numbers and the names of the reasons why a text spells no match rule: those that the reading
+-- of a rule has, and that the text is not UTF-8. D-Bus Specification, "Match Rules"; the reasons
+-- are this project's own.
 use Rattle.std.specs.Prelude.{◌≡◌, ℕ, List, [], codes, nat_eq, if◌then◌else◌}
 use Rattle.dbus_match.specs.FaultTexts.{rule_reason_text}
 use Rattle.dbus_match.specs.declared.fault.RuleReason.{RuleReason}

@@ -1,5 +1,5 @@
--- What is told by numbers of match rules: of a rule's text, of a message that they may match, and a rule's canonical text.
--- D-Bus Specification, "Match Rules".
+-- What is told by numbers of match rules: of a rule's text, of a message that they may match, and a
+-- rule's canonical text. D-Bus Specification, "Match Rules".
 use Rattle.std.specs.Prelude.{◌≡◌, ◌⊎◌, ℕ, ◌+◌, ◌<◌, ◌≤◌, List, [], ◌∷◌, ◌++◌, length, drop, Option, Some, None, IsUtf8}
 use Rattle.std.specs.Str.Lossy.{utf8_valid_len}
 use Rattle.std.specs.declared.alloc.Global.{Global}
@@ -28,8 +28,8 @@ use Rattle.dbus_c.specs.declared.rules.RuleRefused.{RuleRefused}
 abbrev pub rule_fault_told : ℕ → ℕ → RuleRefused
 rule_fault_told at reason = record { offset = at; reason = reason; reserved = 0 }
 
--- the rule that the text spells is added, and what stands for it is told; or all that is kept stays, and the text's fault is told, or that
--- it is not UTF-8, or that memory ran out
+-- the rule that the text spells is added, and what stands for it is told; or all that is kept
+-- stays, and the text's fault is told, or that it is not UTF-8, or that memory ran out
 pub data TellsRule (w : List ℕ) (answer : ℕ) (before after : Option Kept) (id_old id_new : RuleHandle) (old new : RuleRefused) : Type 0 where
   added : IsUtf8 w → Adds w before after id_new → answer ≡ WHOLE → new ≡ old → TellsRule w answer before after id_old id_new old new
   faulty : (reason : RuleReason) (at : ℕ) → IsFault w reason at → IsUtf8 w → KeepsAll before after → answer ≡ REFUSED → id_new ≡ id_old
@@ -43,8 +43,9 @@ abbrev pub removal_told : Option (Rule Global) → ℕ
 removal_told None = NO_RULE
 removal_told (Some rule) = WHOLE
 
--- the rules are shared with another handle; or memory ran out, and all that both keep stays, so rules that were not shared are not; or so
--- many handles share the rules that no further one can, and the rules of both stay
+-- the rules are shared with another handle; or memory ran out, and all that both keep stays, so
+-- rules that were not shared are not; or so many handles share the rules that no further one can,
+-- and the rules of both stay
 pub data TellsSharing (before after other_before other_after : Option Kept) (answer : ℕ) : Type 0 where
   shared : SharesRules before after other_after → answer ≡ WHOLE → TellsSharing before after other_before other_after answer
   no_memory : SharesNone Memory before after other_before other_after → answer ≡ NO_MEMORY → TellsSharing before after other_before other_after answer
@@ -63,7 +64,8 @@ TellsFound rules m os answer old new count =
 abbrev pub HasFound : ℕ → Type 0
 HasFound answer = (answer ≡ WHOLE) ⊎ (answer ≡ NO_ROOM)
 
--- what is told of rules, and of the message that bytes begin with, with the owners that other bytes give
+-- what is told of rules, and of the message that bytes begin with, with the owners that other bytes
+-- give
 pub record TellsMatching (rules : List (RuleHandle × Rule Global)) (limits : Limits) (b owners : List ℕ) (answer : ℕ) (old new : List RuleHandle)
     (count_old count_new : ℕ) : Type 0 where
   pub apart : TellsApart limits b answer
@@ -72,7 +74,8 @@ pub record TellsMatching (rules : List (RuleHandle × Rule Global)) (limits : Li
       → TellsFound rules m os answer old new count_new
   pub unchanged : (HasFound answer → ⊥) → (new ≡ old) × (count_new ≡ count_old)
 
--- a text and a 0 after it are written, or there is no room for both, and its length is told; or memory ran out
+-- a text and a 0 after it are written, or there is no room for both, and its length is told; or
+-- memory ran out
 pub data TellsText (w : List ℕ) (answer : ℕ) (old new : List ℕ) (long_old long_new : ℕ) : Type 0 where
   written : length w < length old → answer ≡ WHOLE → new ≡ w ++ 0 ∷ drop (length w + 1) old → long_new ≡ length w → TellsText w answer old new long_old long_new
   no_room : length old ≤ length w → answer ≡ NO_ROOM → new ≡ old → long_new ≡ length w → TellsText w answer old new long_old long_new

@@ -15,14 +15,16 @@ use Rattle.dbus_c.specs.declared.answers.TheConstants.{WHOLE, PARTIAL, REFUSED, 
 abbrev pub order_named : ℕ → Order
 order_named number = if nat_eq number 66 then Big else Little
 
--- an answer, what is told beside it and the new bytes hold of the bytes under the limits, where a message is asked for in this order
+-- an answer, what is told beside it and the new bytes hold of the bytes under the limits, where a
+-- message is asked for in this order
 pub data Swaps (limits : Limits) (b : List ℕ) (asked : Order) (answer : ℕ) (told : Checked) (old new : List ℕ) : Type 0 where
   swapped : (order : Order) (m : MessageTree) (n : ℕ) → IsWhole limits b order m n → n ≤ length old → answer ≡ WHOLE → told ≡ whole_told order n → new ≡ message_bytes asked m ++ drop n old → Swaps limits b asked answer told old new
   no_room : (order : Order) (m : MessageTree) (n : ℕ) → IsWhole limits b order m n → length old < n → answer ≡ NO_ROOM → told ≡ whole_told order n → new ≡ old → Swaps limits b asked answer told old new
   partial : IsPartial limits b → answer ≡ PARTIAL → told ≡ nothing_told → new ≡ old → Swaps limits b asked answer told old new
   refused : (f : Fault) → IsRefused limits b f → answer ≡ REFUSED → told ≡ fault_told f → new ≡ old → Swaps limits b asked answer told old new
 
--- each outcome of the bytes under the limits has one answer for so many old bytes, one thing is told beside it, and one is written
+-- each outcome of the bytes under the limits has one answer for so many old bytes, one thing is
+-- told beside it, and one is written
 pub record IsSwapExact (limits : Limits) (b : List ℕ) (asked : Order) (answer : ℕ) (told : Checked) (old new : List ℕ) : Type 0 where
   pub swapped : (order : Order) (m : MessageTree) (n : ℕ) → IsWhole limits b order m n → n ≤ length old → (answer ≡ WHOLE) × (told ≡ whole_told order n) × (new ≡ message_bytes asked m ++ drop n old)
   pub no_room : (order : Order) (m : MessageTree) (n : ℕ) → IsWhole limits b order m n → length old < n → (answer ≡ NO_ROOM) × (told ≡ whole_told order n) × (new ≡ old)

@@ -6,7 +6,8 @@ use Rattle.dbus_texts.specs.Kinds.{IsKind, IsWithinLimit, IsBreak}
 use Rattle.dbus_c.specs.declared.answers.TheConstants.{WHOLE, REFUSED}
 use Rattle.dbus_c.specs.declared.texts.TextChecked.{TextChecked}
 
--- the text is of the kind; or it is longer than the kind allows; or it is not of the kind, and breaks at the offset that is told
+-- the text is of the kind; or it is longer than the kind allows; or it is not of the kind, and
+-- breaks at the offset that is told
 pub data TellsText (kind : TextKind) (w : List ℕ) (answer : ℕ) (told : TextChecked) : Type 0 where
   accepted : IsKind kind w → answer ≡ WHOLE → told ≡ record { offset = 0; is_too_long = 0; reserved = 0 } → TellsText kind w answer told
   too_long : (IsWithinLimit kind w → ⊥) → answer ≡ REFUSED → told ≡ record { offset = 0; is_too_long = 1; reserved = 0 } → TellsText kind w answer told

@@ -1,4 +1,5 @@
--- What an end sends is short, and it stays an end of the same server or of a client of some mechanisms.
+-- What an end sends is short, and it stays an end of the same server or of a client of some
+-- mechanisms.
 use Rattle.std.proofs.Common.{◌≡◌, ℕ, ◌^◌, ◌<◌, ◌≤◌, ◌&&◌, ◌||◌, Bool, true, false, List, [], ◌∷◌, ◌++◌, length, Option, Some, None, if◌then◌else◌, ◌==◌, refl, sym, ap, ◌∙◌, subst, arith, lit≤, length-append}
 use Rattle.std.specs.Prelude.{codes, bytes_eq, decimal, take, ◌-◌, Result, Ok, Err, IfOk, OnErr}
 use Rattle.std.specs.List.{AllByRecursion}

@@ -18,7 +18,8 @@ use Rattle.dbus_c_auth.specs.declared.handshake.Handshake.TheVariants as end
 abbrev pub server_of : List ℕ → Mechanisms → ServerEndState
 server_of guid m = server_at_first (record { guid = guid; user = user_reported m; anonymous = is_anonymous m; state = at.WaitingForAuth })
 
--- the end of a client that has not started, and asks for these mechanisms; there is none if the trace of ANONYMOUS is too long
+-- the end of a client that has not started, and asks for these mechanisms; there is none if the
+-- trace of ANONYMOUS is too long
 abbrev pub client_of : Mechanisms → List ℕ → Option ClientEndState
 client_of m trace = if nat_le (length trace) 255 then Some (client_at_first (asked_for m trace)) else None
 

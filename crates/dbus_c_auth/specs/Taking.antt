@@ -12,14 +12,16 @@ use Rattle.dbus_c_auth.specs.declared.step.TheConstants.{REPLY_ROOM}
 abbrev pub IsStep : Step → ℕ → List ℕ → Status → Type 0
 IsStep s taken send status = (s.count ≡ taken) × (s.written ≡ length send) × (s.status ≡ status)
 
--- an end did this with its piece, and what it sends stands at the start of the room, whose other bytes stay
+-- an end did this with its piece, and what it sends stands at the start of the room, whose other
+-- bytes stay
 pub record Did {E : Type 0} (s : Step) (new : E) (old_room new_room : List ℕ) (outcome : EndOutcome E) (status_of : E → Status) : Type 0 where
   pub room : REPLY_ROOM ≤ length old_room
   pub step : IsStep s outcome.taken outcome.send (status_of outcome.after)
   pub after : new ≡ outcome.after
   pub written : new_room ≡ outcome.send ++ drop (length outcome.send) old_room
 
--- why nothing was done with so much room: there is too little exactly if it is less than the room for any reply
+-- why nothing was done with so much room: there is too little exactly if it is less than the room
+-- for any reply
 abbrev pub IsFault : TakeFault → ℕ → Type 0
 IsFault fault.Room room = room < REPLY_ROOM
 IsFault fault.Memory room = REPLY_ROOM ≤ room

@@ -44,7 +44,8 @@ impl Model for ClientSide {
 }
 
 impl ClientSide {
-    /// The end of a client that has not started, and asks for these mechanisms, with this trace of ANONYMOUS.
+    /// The end of a client that has not started, and asks for these mechanisms, with this trace of
+    /// ANONYMOUS.
     ///
     /// Returns `None` if the trace has over 255 bytes, and `AllocError` if an allocation failed.
     pub fn new(
@@ -66,10 +67,12 @@ impl ClientSide {
         }
     }
 
-    /// The first call starts the end, as [`ClientEnd::start`] does, and takes nothing. Each further one takes at most one line of
-    /// the piece, as [`ClientEnd::take`] does. What the end sends is written to the start of the room.
+    /// The first call starts the end, as [`ClientEnd::start`] does, and takes nothing. Each further
+    /// one takes at most one line of the piece, as [`ClientEnd::take`] does. What the end sends is
+    /// written to the start of the room.
     ///
-    /// Returns `Room` if there is less room than [`REPLY_ROOM`], and `Memory` if an allocation failed. Nothing is changed then.
+    /// Returns `Room` if there is less room than [`REPLY_ROOM`], and `Memory` if an allocation
+    /// failed. Nothing is changed then.
     pub fn take(&mut self, piece: &[u8], reply: &mut [u8]) -> Result<Step, TakeFault>
         ensures did { IfOk result (λ s.
             Did s self.new reply.old reply.new (client_goes_on self.old piece.now) (λ e. e.status)) }

@@ -12,8 +12,8 @@ use hex::{decode_to_slice, encode_to_slice};
 /// The number of digits of the text of a GUID.
 pub const GUID_ROOM: usize = 32;
 
-/// The GUID that a text of 32 hexadecimal digits spells, in either case. `None` if the text is another one. D-Bus Specification,
-/// "UUIDs".
+/// The GUID that a text of 32 hexadecimal digits spells, in either case. `None` if the text is
+/// another one. D-Bus Specification, "UUIDs".
 pub fn guid_of(text: &[u8]) -> Option<Guid>
     ensures { option_map (λ g. g.0) result ≡ guid_spelled text.now }
 {
@@ -24,8 +24,8 @@ pub fn guid_of(text: &[u8]) -> Option<Guid>
     }
 }
 
-/// Writes the 32 digits of a GUID, in lower case, to the start of the bytes. Whether these have room for them; if not, they stay
-/// as they are.
+/// Writes the 32 digits of a GUID, in lower case, to the start of the bytes. Whether these have
+/// room for them; if not, they stay as they are.
 pub fn write_guid(guid: Guid, out: &mut [u8]) -> bool
     ensures written { result ≡ true →
         (GUID_ROOM ≤ length out.old) × (out.new ≡ encode_lower guid.0 ++ drop GUID_ROOM out.old) }

@@ -19,10 +19,11 @@ pub enum Handshake {
 }
 
 impl Handshake {
-    /// Hands the end a piece, as [`ServerSide::take`] and [`ClientSide::take`] do, and writes what it sends to the start of the room.
+    /// Hands the end a piece, as [`ServerSide::take`] and [`ClientSide::take`] do, and writes what
+    /// it sends to the start of the room.
     ///
-    /// Returns `Room` if there is less room than [`crate::REPLY_ROOM`], and `Memory` if an allocation failed. Nothing is changed
-    /// then.
+    /// Returns `Room` if there is less room than [`crate::REPLY_ROOM`], and `Memory` if an
+    /// allocation failed. Nothing is changed then.
     pub fn take(&mut self, piece: &[u8], reply: &mut [u8]) -> Result<Step, TakeFault>
         ensures { TakesIn self.old self.new piece.now reply.old reply.new result }
     {

@@ -1,5 +1,5 @@
-//! Both ends of the authentication handshake as C keeps them: what they send is written to room of the caller's. D-Bus Specification,
-//! "Authentication Protocol".
+//! Both ends of the authentication handshake as C keeps them: what they send is written to room of
+//! the caller's. D-Bus Specification, "Authentication Protocol".
 #![tactic(auto)]
 
 mod client_side;

@@ -21,7 +21,8 @@ pub const AS_REPORTED: u32 = 2;
 pub struct Mechanisms {
     /// [`AS_USER`], or of a client [`AS_REPORTED`]: EXTERNAL. Any other number: no EXTERNAL.
     pub external: u32,
-    /// Of [`AS_USER`]: the number of the user. A server has to be given the one that the transport reports.
+    /// Of [`AS_USER`]: the number of the user. A server has to be given the one that the transport
+    /// reports.
     pub user: u32,
     /// 1: ANONYMOUS. Any other number: no ANONYMOUS.
     pub anonymous: u32,

@@ -46,9 +46,11 @@ impl ServerSide {
         }
     }
 
-    /// Takes at most one line of the piece, as [`ServerEnd::take`] does, and writes what it sends to the start of the room.
+    /// Takes at most one line of the piece, as [`ServerEnd::take`] does, and writes what it sends
+    /// to the start of the room.
     ///
-    /// Returns `Room` if there is less room than [`REPLY_ROOM`], and `Memory` if an allocation failed. Nothing is changed then.
+    /// Returns `Room` if there is less room than [`REPLY_ROOM`], and `Memory` if an allocation
+    /// failed. Nothing is changed then.
     #[tactic(auto)]
     pub fn take(&mut self, piece: &[u8], reply: &mut [u8]) -> Result<Step, TakeFault>
         ensures did { IfOk result (λ s.

@@ -7,8 +7,8 @@ ghost use Rattle.dbus_c_auth.specs.Taking.{IsStep};
 use dbus_auth::{EndStep, Status};
 use std::alloc::AllocError;
 
-/// The room in bytes that a call has to be given for what it sends: the longest is the byte 0 and `AUTH ANONYMOUS` with a trace of
-/// 255 bytes in hexadecimal.
+/// The room in bytes that a call has to be given for what it sends: the longest is the byte 0 and
+/// `AUTH ANONYMOUS` with a trace of 255 bytes in hexadecimal.
 pub const REPLY_ROOM: usize = 528;
 
 /// Why a call took and wrote nothing.

@@ -1,4 +1,5 @@
--- A struct begins at a multiple of 8, so it is spelled alike wherever it is; and so is each field of a message.
+-- A struct begins at a multiple of 8, so it is spelled alike wherever it is; and so is each field
+-- of a message.
 use Rattle.std.proofs.Common.{◌≡◌, ℕ, zero, suc, ◌+◌, ◌-◌, ◌%◌, ◌<◌, ◌≤◌, List, [], ◌∷◌, ◌++◌, length, take, drop, map, true, refl, sym, ap, subst, ◌∙◌, arith, append_assoc}
 use Rattle.std.proofs.lemmas.List.{length-append, length-drop, length-replicate, take_at, drop_at, drop-drop}
 use Rattle.dbus_texts.specs.Types.{BYTE}

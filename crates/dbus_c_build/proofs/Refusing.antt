@@ -1,4 +1,5 @@
--- Parts that have no bytes, or whose bytes begin with no message, make none; and bytes that are validated are the message built.
+-- Parts that have no bytes, or whose bytes begin with no message, make none; and bytes that are
+-- validated are the message built.
 use Rattle.std.proofs.Common.{◌≡◌, ◌⊎◌, ℕ, ◌+◌, ◌-◌, ◌^◌, ◌<◌, ◌≤◌, ◌||◌, List, [], ◌∷◌, ◌++◌, length, replicate, drop, map, Bool, true, false, if◌then◌else◌, nat_eq, Option, Some, None, inl, inr, refl, sym, ap, subst, ◌∙◌, arith}
 use Rattle.std.specs.List.{flat_map}
 use Rattle.std.proofs.lemmas.Bool.{cases_lt, eqb-true}

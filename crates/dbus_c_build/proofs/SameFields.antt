@@ -1,4 +1,5 @@
--- Fields of a message that are spelled as others are, each of which is plain or spelled at any offset, are these.
+-- Fields of a message that are spelled as others are, each of which is plain or spelled at any
+-- offset, are these.
 use Rattle.std.proofs.Common.{◌≡◌, ◌⊎◌, ℕ, zero, suc, ◌^◌, ◌<◌, List, [], ◌∷◌, ◌++◌, length, map, inl, inr, refl, sym, ap, subst, ◌∙◌, arith, append_assoc}
 use Rattle.dbus_texts.specs.Types.{NumberCode, UINT32, TextCode, TypeTree, NumberType, TextType, sig}
 use Rattle.dbus_types.specs.Alignments.{length_width}

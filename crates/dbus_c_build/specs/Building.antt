@@ -47,8 +47,9 @@ AreGood b p = (code : ℕ) → IsGood b p code
 abbrev pub fields_length : List ℕ → (kept : List FieldTree) → PlacedParts → ℕ
 fields_length b kept p = length (spellings p.order 16 (value_trees (map field_struct (fields_after b p kept))))
 
--- Why parts have no bytes that could be a message: the first place that is outside, or whose text is too long, the body's before those
--- of the fields in the order of their codes; or each is good, and all fields together are too long.
+-- Why parts have no bytes that could be a message: the first place that is outside, or whose text
+-- is too long, the body's before those of the fields in the order of their codes; or each is good,
+-- and all fields together are too long.
 abbrev pub HaveNoBytes : List ℕ → (kept : List FieldTree) → PlacedParts → Refusal → Type 0
 HaveNoBytes b kept p refusals.Memory = Unit {0}
 HaveNoBytes b kept p (refusals.Outside code) = AreGoodBelow b p code × (IsInside b (place_of code p) → ⊥)

@@ -8,7 +8,8 @@ use Rattle.dbus_validate.specs.Validating.{IsValidatedFirst}
 use Rattle.dbus_validate.specs.declared.validating.Validated.{Validated}
 use Rattle.dbus_c_build.specs.declared.given.Given.{Given}
 
--- a message that the bytes begin with was validated by itself; it is in this order, and these are its fields
+-- a message that the bytes begin with was validated by itself; it is in this order, and these are
+-- its fields
 pub record IsKept (limits : Limits) (b : List ℕ) (order : Order) (j : Validated) (fs : List FieldTree) : Type 0 where
   pub first : IsValidatedFirst limits b j
   pub order_is : j.order ≡ order

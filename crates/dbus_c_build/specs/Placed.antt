@@ -1,5 +1,5 @@
--- The parts of a message that is to be built, whose texts and body are places among bytes, and which messages have them.
--- D-Bus Specification, "Message Format" and "Header Fields".
+-- The parts of a message that is to be built, whose texts and body are places among bytes, and
+-- which messages have them. D-Bus Specification, "Message Format" and "Header Fields".
 use Rattle.std.specs.Prelude.{◌≡◌, ℕ, ◌+◌, ◌≤◌, List, [], ◌∷◌, ◌++◌, length, take, drop, Bool, true, ◌&&◌, nat_eq, if◌then◌else◌, Option, Some, None}
 use Rattle.std.specs.List.{flat_map}
 use Rattle.dbus_texts.specs.Types.{TextCode, STRING, OBJECT_PATH, SIGNATURE, UINT32}
@@ -53,8 +53,8 @@ field_of b code None n = number_field code n
 abbrev pub field_given : List ℕ → PlacedParts → (code : ℕ) → List FieldTree
 field_given b p code = field_of b code (place_of code p) (number_of code p)
 
--- Whether a field of a message stays as it is: it does if its code is unknown, or if it is the UNIX_FDS, which may be 0, of the
--- number that the parts have.
+-- Whether a field of a message stays as it is: it does if its code is unknown, or if it is the
+-- UNIX_FDS, which may be 0, of the number that the parts have.
 abbrev pub stays : PlacedParts → (kept : List FieldTree) → (code : ℕ) → Bool
 stays p kept code = if is_known code then nat_eq code 9 && nat_eq p.unix_fds (fd_count kept) else true
 
@@ -69,12 +69,14 @@ added b p kept code = if has_code code kept then [] else field_given b p code
 abbrev pub known_codes : List ℕ
 known_codes = 1 ∷ (2 ∷ (3 ∷ (4 ∷ (5 ∷ (6 ∷ (7 ∷ (8 ∷ (9 ∷ []))))))))
 
--- The fields of a message that has these parts, if it keeps the fields of another, or none: each of these in its place, changed as
--- the parts say, and then those that it did not have, in the order of their codes.
+-- The fields of a message that has these parts, if it keeps the fields of another, or none: each of
+-- these in its place, changed as the parts say, and then those that it did not have, in the order
+-- of their codes.
 abbrev pub fields_after : List ℕ → PlacedParts → (kept : List FieldTree) → List FieldTree
 fields_after b p kept = flat_map (in_place b p kept) kept ++ flat_map (added b p kept) known_codes
 
--- the message has exactly these parts beside what it keeps: no other field, and a body that the bytes at its place spell
+-- the message has exactly these parts beside what it keeps: no other field, and a body that the
+-- bytes at its place spell
 pub record HasParts (b : List ℕ) (kept : List FieldTree) (p : PlacedParts) (m : MessageTree) : Type 0 where
   pub inside : (code : ℕ) → IsInside b (place_of code p)
   pub numbers : (m.kind ≡ p.kind) × (m.flags ≡ p.flags) × (m.serial ≡ p.serial)

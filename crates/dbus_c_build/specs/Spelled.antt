@@ -1,5 +1,5 @@
--- The bytes that a header with these parts and a body of these bytes are, whether or not they are a message.
--- D-Bus Specification, "Message Format".
+-- The bytes that a header with these parts and a body of these bytes are, whether or not they are a
+-- message. D-Bus Specification, "Message Format".
 use Rattle.std.specs.Prelude.{ℕ, List, ◌∷◌, ◌++◌, length, map}
 use Rattle.dbus_value_model.specs.declared.order.Order.{Order}
 use Rattle.dbus_value_model.specs.Appending.{with_values}

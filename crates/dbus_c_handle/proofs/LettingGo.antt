@@ -1,4 +1,5 @@
--- What is kept may be let go: its destructor, which the compiler makes, is the glue that `into_raw` is passed for a type parameter.
+-- What is kept may be let go: its destructor, which the compiler makes, is the glue that `into_raw`
+-- is passed for a type parameter.
 use Rattle.std.proofs.Common.{[], ◌∷◌}
 use seplogic.Ra.Ura.{Ura}
 use mir.Syntax.{method, no_args}

@@ -1,4 +1,5 @@
--- What the walks of a handle share: what is kept and the heap as a call passes them, the handle's machine value, and what it owns.
+-- What the walks of a handle share: what is kept and the heap as a call passes them, the handle's
+-- machine value, and what it owns.
 use Rattle.std.proofs.Common.{◌≡◌, ℕ, List, [], ◌∷◌, ◌++◌, refl, subst}
 use Rattle.std.specs.Prelude.{Option, None, Some}
 use seplogic.Ra.Ura.{Ura}
@@ -68,7 +69,8 @@ module _ {M : Type 1} {𝓤 : Ura M} (𝓛 : Logic 𝓤) where
   tested : (a : heap.the_row.Denot) (p : Ptr) (x : Kept) → ent 𝓤 (sem 𝓛 (box_owns (ghosts.dealloc_token a) kept.the_row p x)) (guard 𝓤 (Testable p) (sem 𝓛 (box_owns (ghosts.dealloc_token a) kept.the_row p x)))
   tested a p x = fact_use 𝓤 (Testable p) (via 𝓤 _ (snd∗ 𝓤 (sem 𝓛 (lies_at kept.the_row full_share p x)) (sem 𝓛 ((ghosts.dealloc_token a) (bare (lone kept.the_row.mir)) p))) (dealloc_token-Testable 𝓛 a (bare (lone kept.the_row.mir)) p)) (guard_i 𝓤 (Testable p) (sem 𝓛 (box_owns (ghosts.dealloc_token a) kept.the_row p x)))
 
--- the tokens that a call of a function of two types is passed, and what it is told of them: what is kept and the heap borrow nothing
+-- the tokens that a call of a function of two types is passed, and what it is told of them: what is
+-- kept and the heap borrow nothing
 abbrev pub tokens : {M : Type 1} {𝓤 : Ura M} → Item 𝓤
 tokens = ‵ (flft [] full_share) ⊛ ‵ (flft [] full_share) ⊛ ‵ ftrue
 

@@ -17,7 +17,8 @@ abbrev pub IsFresh : Limits → Option CheckerState → Type 0
 IsFresh limits None = ⊥
 IsFresh limits (Some x) = Stands x [] × (limits_of x ≡ limits)
 
--- a checker takes a piece, and answers it as its own contract says: of all bytes w that it took since it was made or began again
+-- a checker takes a piece, and answers it as its own contract says: of all bytes w that it took
+-- since it was made or began again
 pub record Answers (old new : CheckerState) (piece : List ℕ) (check : Check) : Type 0 where
   pub answers : (w : List ℕ) → Stands old w → Takes (limits_of old) w piece check
   pub exact : (w : List ℕ) → Stands old w → IsExact (limits_of old) w piece check
@@ -30,7 +31,8 @@ AnswersIn x None piece answer = ⊥
 AnswersIn x (Some y) piece None = ⊥
 AnswersIn x (Some y) piece (Some check) = Answers x y piece check
 
--- a handle is handed a piece: its checker takes it; or it keeps none, stays as it is and answers nothing
+-- a handle is handed a piece: its checker takes it; or it keeps none, stays as it is and answers
+-- nothing
 abbrev pub Handed : Option CheckerState → (old new : Option Kept) → List ℕ → Option Check → Type 0
 Handed (Some x) old new piece answer = AnswersIn x (checker_of new) piece answer
 Handed None old new piece answer = (new ≡ old) × (answer ≡ None)

@@ -24,7 +24,8 @@ GoesOn h None piece old_room new_room answer = ⊥
 GoesOn h (Some k) piece old_room new_room None = ⊥
 GoesOn h (Some k) piece old_room new_room (Some result) = TakesIn h k piece old_room new_room result
 
--- a handle is handed a piece: its end takes it; or it keeps none, and nothing is changed, and nothing answered
+-- a handle is handed a piece: its end takes it; or it keeps none, and nothing is changed, and
+-- nothing answered
 abbrev pub Goes : Option Handshake → (old new : Option Kept) → List ℕ → List ℕ → List ℕ → Option (Result Step TakeFault) → Type 0
 Goes (Some h) old new piece old_room new_room answer = GoesOn h (handshake_of new) piece old_room new_room answer
 Goes None old new piece old_room new_room answer = (new ≡ old) × (new_room ≡ old_room) × (answer ≡ None)

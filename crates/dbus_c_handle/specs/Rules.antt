@@ -72,8 +72,9 @@ IsWritten (Some rule) None = ⊥
 IsWritten (Some rule) (Some (Ok text)) = string_bytes text ≡ canonical (rule_pairs rule)
 IsWritten (Some rule) (Some (Err e)) = Unit {0}
 
--- why rules are not shared with another handle, which stays: for want of memory, and then all stays; or so many handles share them that no
--- further one can, and then the rules stay, and are shared
+-- why rules are not shared with another handle, which stays: for want of memory, and then all
+-- stays; or so many handles share them that no further one can, and then the rules stay, and are
+-- shared
 abbrev pub SharesNone : ShareFault → (old new other_old other_new : Option Kept) → Type 0
 SharesNone Memory old new other_old other_new = KeepsAll old new × (other_new ≡ other_old)
 SharesNone TooMany old new other_old other_new = KeepsRules old new × (is_shared new ≡ true) × (other_new ≡ other_old)

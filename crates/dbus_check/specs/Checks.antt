@@ -29,7 +29,8 @@ abbrev pub StandsAfter : CheckerState → List ℕ → Option Fault → Type 0
 StandsAfter x w None = Holds x.pieces (after_bytes (message_on x.limits 0) w)
 StandsAfter x w (Some f) = (c : List ℕ) → message_on x.limits 0 (w ++ c) ≡ Faulty f
 
--- w is all that the checker took since it was made or began again: the bytes of the message under way
+-- w is all that the checker took since it was made or began again: the bytes of the message under
+-- way
 pub record Stands (x : CheckerState) (w : List ℕ) : Type 0 where
   pub bytes : IsBytes w
   pub after : StandsAfter x w x.refused

@@ -30,7 +30,8 @@ abbrev pub missing : List ℕ → List ℕ → Option Reason
 missing [] codes = None
 missing (c ∷ cs) codes = if has c codes then missing cs codes else Some (reasons.FieldMissing c)
 
--- what is kept of the fields that were read: their codes, the body's signature, and how many descriptors come with the message
+-- what is kept of the fields that were read: their codes, the body's signature, and how many
+-- descriptors come with the message
 pub record Kept : Type 0 where
   pub codes : List ℕ
   pub text : List ℕ

@@ -6,7 +6,8 @@ use Rattle.dbus_check.specs.Progress.{To, Denotes, after_bytes}
 use Rattle.dbus_check.specs.Progress as progress
 use Rattle.dbus_check.specs.declared.pieces.Pieces.{Pieces}
 
--- the message stands for the answers to the bytes that are kept and those after them; the kept ones are not whole
+-- the message stands for the answers to the bytes that are kept and those after them; the kept ones
+-- are not whole
 pub record Holds (x : Pieces) (to : To) : Type 0 where
   pub from : To
   pub denotes : Denotes x.progress from

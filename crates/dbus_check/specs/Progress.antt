@@ -53,8 +53,8 @@ pub record WantsPadding (x : Progress) (to : To) : Type 0 where
   pub near : x.offset + 8 + x.body < 4294967296
   pub same : (c : List ℕ) → onward (padding 8 (x.offset + 8)) (body_on x.limits x.order x.body kept) x.offset c ≡ to c
 
--- Values are under way, and last is read after them: they are of these types and began at the offset start, and these bytes of them
--- were taken.
+-- Values are under way, and last is read after them: they are of these types and began at the
+-- offset start, and these bytes of them were taken.
 pub record Flows (x : Values) (bounds : Bounds) (order : Order) (room end : ℕ) (last : On) (to : To) : Type 0 where
   pub types : TypeTrees
   pub start : ℕ
@@ -95,7 +95,8 @@ Denotes x to = denotes x.stage x to
 abbrev pub after_bytes : To → List ℕ → To
 after_bytes to w = λ c. to (w ++ c)
 
--- a call that was handed the bytes s: it took so many; or they end within what is wanted, and nothing changed; or a fault shows
+-- a call that was handed the bytes s: it took so many; or they end within what is wanted, and
+-- nothing changed; or a fault shows
 abbrev pub Moves : Progress → List ℕ → Result ℕ Stop → Progress → To → Type 0
 Moves old s (Ok n) new to = (n ≤ length s) × Denotes new (after_bytes to (take n s))
 Moves old s (Err stops.Partial) new to = (new ≡ old) × (to s ≡ Partial)
@@ -107,7 +108,8 @@ Turns (Ok x) new to = Denotes new to
 Turns (Err stops.Partial) new to = ⊥
 Turns (Err (stops.Refused f)) new to = (c : List ℕ) → to c ≡ Faulty f
 
--- a step that was handed the bytes s: the same, but where they end within what is wanted, some of what is noted may have changed
+-- a step that was handed the bytes s: the same, but where they end within what is wanted, some of
+-- what is noted may have changed
 abbrev pub Steps : List ℕ → Result ℕ Stop → Progress → To → Type 0
 Steps s (Ok n) new to = (n ≤ length s) × Denotes new (after_bytes to (take n s))
 Steps s (Err stops.Partial) new to = Denotes new to × (to s ≡ Partial)
@@ -131,7 +133,8 @@ rank stage.Padding = 2
 rank stage.Body = 1
 rank stage.Done = 0
 
--- A run over the bytes s: it took so many, and where something is wanted still, it is not whole in the others; or a fault shows.
+-- A run over the bytes s: it took so many, and where something is wanted still, it is not whole in
+-- the others; or a fault shows.
 abbrev pub Runs : List ℕ → Result ℕ Fault → Progress → To → Type 0
 Runs s (Ok n) new to = (n ≤ length s) × Denotes new (after_bytes to (take n s)) × (IsLive new.stage → to s ≡ Partial)
 Runs s (Err f) new to = (c : List ℕ) → to (s ++ c) ≡ Faulty f

@@ -9,12 +9,14 @@ use crate::pieces::Pieces;
 use dbus_value_model::{Fault, Limits};
 use std::marker::Model;
 
-/// A checker of one message after another, whose bytes come in pieces of any length. It has a fixed size, about 40,000 bytes,
-/// allocates nothing, and holds no byte of a message but the signatures of its body and of the variants that are open, and
-/// fewer than 288 bytes of an item that is not whole. The limits of its messages are those that it was made with.
+/// A checker of one message after another, whose bytes come in pieces of any length. It has a fixed
+/// size, about 40,000 bytes, allocates nothing, and holds no byte of a message but the signatures
+/// of its body and of the variants that are open, and fewer than 288 bytes of an item that is not
+/// whole. The limits of its messages are those that it was made with.
 ///
-/// After each piece its answer is that of decoding all bytes that it took since it was made or began again. A checker costs
-/// its size where it is made: hold one, and begin again with [`Checker::restart`].
+/// After each piece its answer is that of decoding all bytes that it took since it was made or
+/// began again. A checker costs its size where it is made: hold one, and begin again with
+/// [`Checker::restart`].
 #[derive(Drop)]
 pub struct Checker {
     limits: Limits,
@@ -60,14 +62,17 @@ impl Checker {
         }
     }
 
-    /// Takes the piece, or its bytes up to the end of the message under way. D-Bus Specification, "Message Protocol".
+    /// Takes the piece, or its bytes up to the end of the message under way. D-Bus Specification,
+    /// "Message Protocol".
     ///
-    /// Of all bytes that it took since it was made or began again, and the piece: `Done` if they begin with a message within
-    /// the limits, with the number of bytes of the piece that end it; those after it are not looked at. `Refused` if the next item of
-    /// the message is at fault, with the fault's place, as soon as the bytes show it. `Partial` if neither holds: more bytes
+    /// Of all bytes that it took since it was made or began again, and the piece: `Done` if they
+    /// begin with a message within the limits, with the number of bytes of the piece that end it;
+    /// those after it are not looked at. `Refused` if the next item of the message is at fault,
+    /// with the fault's place, as soon as the bytes show it. `Partial` if neither holds: more bytes
     /// are wanted.
     ///
-    /// After `Done` each call returns `Done(0)`, after `Refused` the same fault, until [`Checker::restart`].
+    /// After `Done` each call returns `Done(0)`, after `Refused` the same fault, until
+    /// [`Checker::restart`].
     ///
     /// ```rust
     /// use dbus_message::{Check, Checker};

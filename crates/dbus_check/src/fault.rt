@@ -9,8 +9,8 @@ use crate::check::Check;
 use crate::checker::Checker;
 use dbus_value_model::{Fault, Limits, Reason};
 
-/// The fault of bytes that begin with no message, or None if they are not refused, and more are wanted. D-Bus Specification, "Message
-/// Protocol".
+/// The fault of bytes that begin with no message, or None if they are not refused, and more are
+/// wanted. D-Bus Specification, "Message Protocol".
 // A checker is large: a caller that finds a message has no room for one.
 #[inline(never)]
 pub fn fault_of(bytes: &[u8], limits: Limits) -> Option<Fault>
@@ -24,8 +24,8 @@ pub fn fault_of(bytes: &[u8], limits: Limits) -> Option<Fault>
     }
 }
 
-/// The fault of bytes that begin with no message and are all that there is: `Truncated` at their end if they are not refused. D-Bus
-/// Specification, "Message Protocol".
+/// The fault of bytes that begin with no message and are all that there is: `Truncated` at their
+/// end if they are not refused. D-Bus Specification, "Message Protocol".
 pub fn fault_at_end(bytes: &[u8], limits: Limits) -> Fault
     requires { BeginsWithNone limits bytes.now }
     ensures { IsFaultAtEnd limits bytes.now result }

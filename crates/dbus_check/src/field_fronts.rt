@@ -1,7 +1,8 @@
 //! The parts of a header's field at the front of some bytes.
 //!
-//! The bytes begin at the offset `offset` of a message, and more may follow them. Each call says how many bytes the part has;
-//! `Partial` if the bytes end within it; or `Refused` with its fault, as soon as they show it. None takes memory.
+//! The bytes begin at the offset `offset` of a message, and more may follow them. Each call says
+//! how many bytes the part has; `Partial` if the bytes end within it; or `Refused` with its fault,
+//! as soon as they show it. None takes memory.
 #![tactic(auto)]
 
 ghost use Rattle.std.specs.Prelude.{◌&&◌, false, ◌≡◌, ◌+◌, ◌<◌, ◌≤◌, [], ◌∷◌, ℕ, List, length, take, drop, IfOk, IfErr};
@@ -30,8 +31,9 @@ use dbus_value_model::{Limits, Order, Reason, Stop, refuse};
 
 /// A field's padding and code.
 ///
-/// The faults of the padding; `FieldCode` if the code is 0; `FieldTwice` if it is known and was seen; `TooDeep` after the
-/// padding if the field's struct may not be opened, after the code if its variant may not.
+/// The faults of the padding; `FieldCode` if the code is 0; `FieldTwice` if it is known and was
+/// seen; `TooDeep` after the padding if the field's struct may not be opened, after the code if its
+/// variant may not.
 pub fn code_front(
     bytes: &[u8],
     offset: usize,
@@ -74,8 +76,8 @@ pub fn code_front(
     Ok((code, zeros + 1))
 }
 
-/// A text of n bytes that is to be the one byte `wanted`: `FieldType` at the first byte that is another, or at the text's end
-/// if it is empty.
+/// A text of n bytes that is to be the one byte `wanted`: `FieldType` at the first byte that is
+/// another, or at the text's end if it is empty.
 fn only_text(wanted: u8, n: usize, bytes: &[u8], offset: usize) -> Result<(), Stop>
     requires near { offset + n < 4294967296 }
     ensures gives { Fronts (λ _.
@@ -102,7 +104,8 @@ fn only_text(wanted: u8, n: usize, bytes: &[u8], offset: usize) -> Result<(), St
     Ok(())
 }
 
-/// The signature of a known field's value, which is to be the one byte `wanted`: its length, its text and the zero after it.
+/// The signature of a known field's value, which is to be the one byte `wanted`: its length, its
+/// text and the zero after it.
 pub fn only_front(wanted: u8, bytes: &[u8], offset: usize, end: usize) -> Result<(), Stop>
     requires at_most { offset ≤ end }
     requires near { end < 4294967296 }
@@ -144,8 +147,8 @@ fn text_reason(kind: TextKind) -> Reason
 
 /// A name of a kind: how many bytes it has, with its padding, its length and the zero after it.
 ///
-/// The faults of the padding; `NameTooLong` at the length if it is over 255; else `Overrun` there if the name and the
-/// zero after it end past the end; then those of the name and the zero.
+/// The faults of the padding; `NameTooLong` at the length if it is over 255; else `Overrun` there
+/// if the name and the zero after it end past the end; then those of the name and the zero.
 pub fn name_front(
     kind: TextKind,
     bytes: &[u8],
@@ -183,7 +186,8 @@ pub fn name_front(
     }
 }
 
-/// A UINT32, and how many bytes it has with its padding. `ZeroSerial` at the number if it is to be a serial and is 0.
+/// A UINT32, and how many bytes it has with its padding. `ZeroSerial` at the number if it is to be
+/// a serial and is 0.
 pub fn uint32_front(
     serial: bool,
     bytes: &[u8],

@@ -121,7 +121,8 @@ impl Progress {
         }
     }
 
-    /// The value of a field of this code, n bytes further: all of it, or what is read before it goes on by itself.
+    /// The value of a field of this code, n bytes further: all of it, or what is read before it
+    /// goes on by itself.
     fn value(&mut self, code: u8, n: usize, bytes: &[u8]) -> Result<usize, Stop>
         requires valid { (to : To) × WantsValue self.old code n to }
         requires deep { 3 ≤ self.old.limits.depth }

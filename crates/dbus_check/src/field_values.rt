@@ -1,8 +1,8 @@
 //! The values of the known fields at the front of some bytes, each after its signature.
 //!
-//! The bytes begin at the offset `offset` of a message, and more may follow them. Each call says how many bytes the signature and
-//! the value have; `Partial` if the bytes end within them; or `Refused` with their fault, as soon as they show it. None takes
-//! memory.
+//! The bytes begin at the offset `offset` of a message, and more may follow them. Each call says
+//! how many bytes the signature and the value have; `Partial` if the bytes end within them; or
+//! `Refused` with their fault, as soon as they show it. None takes memory.
 #![tactic(auto)]
 
 ghost use Rattle.std.specs.Prelude.{◌≡◌, ◌+◌, ◌<◌, ◌≤◌, length, take, drop, IfOk, IfErr};
@@ -75,7 +75,8 @@ pub fn uint32_field(
     }
 }
 
-/// The body's signature: the number of bytes of its text, which comes after the first four, with a zero after it.
+/// The body's signature: the number of bytes of its text, which comes after the first four, with a
+/// zero after it.
 pub fn text_field(bytes: &[u8], offset: usize, end: usize) -> Result<usize, Stop>
     requires at_most { offset ≤ end }
     requires near { end < 4294967296 }

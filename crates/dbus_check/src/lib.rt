@@ -1,8 +1,8 @@
-//! Messages checked as their bytes come: in pieces of any length, in fixed room, without allocating. D-Bus Specification, "Message
-//! Protocol".
+//! Messages checked as their bytes come: in pieces of any length, in fixed room, without
+//! allocating. D-Bus Specification, "Message Protocol".
 //!
-//! [`Checker::take`] returns after each piece what decoding all bytes so far would: that a message ends, that they are refused and
-//! why, or that more are wanted. An example is there.
+//! [`Checker::take`] returns after each piece what decoding all bytes so far would: that a message
+//! ends, that they are refused and why, or that more are wanted. An example is there.
 #![tactic(auto)]
 
 mod check;

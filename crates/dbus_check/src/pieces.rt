@@ -47,8 +47,8 @@ impl Pieces {
         self.progress.is_live()
     }
 
-    /// Puts as many bytes of the piece after those that are kept as there is room for, and takes what is whole of them: how
-    /// many bytes of the piece are taken or kept.
+    /// Puts as many bytes of the piece after those that are kept as there is room for, and takes
+    /// what is whole of them: how many bytes of the piece are taken or kept.
     fn join(&mut self, piece: &[u8]) -> Result<usize, Fault>
         requires valid { (to : To) × Holds self.old to }
         requires some { 0 < length self.old.kept.items }
@@ -91,7 +91,8 @@ impl Pieces {
         }
     }
 
-    /// Takes what is whole of the piece, and keeps the rest if something is still wanted: how many bytes are taken or kept.
+    /// Takes what is whole of the piece, and keeps the rest if something is still wanted: how many
+    /// bytes are taken or kept.
     fn read(&mut self, piece: &[u8]) -> Result<usize, Fault>
         requires valid { (to : To) × Holds self.old to }
         requires none { self.old.kept.items ≡ [] }

@@ -110,7 +110,8 @@ impl Progress {
         }
     }
 
-    /// That no required field is missing, once the fields are over: `FieldMissing` with the lowest code that is.
+    /// That no required field is missing, once the fields are over: `FieldMissing` with the lowest
+    /// code that is.
     pub(crate) fn missing(&mut self) -> Result<(), Stop>
         requires over { self.old.offset ≡ self.old.end }
         ensures turns { (to : To) → WantsFields self.old to → Turns result self.new to }

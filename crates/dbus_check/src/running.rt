@@ -44,7 +44,8 @@ impl Progress {
         }
     }
 
-    /// Takes all of the bytes at once if they are an array's numbers, of which more are wanted after them: whether they are.
+    /// Takes all of the bytes at once if they are an array's numbers, of which more are wanted
+    /// after them: whether they are.
     pub(crate) fn skip(&mut self, bytes: &[u8]) -> bool
         requires valid { (to : To) × Denotes self.old to }
         ensures runs { result ≡ true → (to : To) → Denotes self.old to →
@@ -59,10 +60,12 @@ impl Progress {
         }
     }
 
-    /// Takes what is wanted as far as it is there whole: how many bytes. If something is still wanted, what is left of the
-    /// bytes, fewer than 288, is the front of an item: they are to be handed again, with more after them.
+    /// Takes what is wanted as far as it is there whole: how many bytes. If something is still
+    /// wanted, what is left of the bytes, fewer than 288, is the front of an item: they are to be
+    /// handed again, with more after them.
     ///
-    /// A fault comes as soon as the bytes show it, whatever bytes follow; then the message is to begin again.
+    /// A fault comes as soon as the bytes show it, whatever bytes follow; then the message is to
+    /// begin again.
     pub(crate) fn run(&mut self, bytes: &[u8]) -> Result<usize, Fault>
         requires valid { (to : To) × Denotes self.old to }
         ensures runs { (to : To) → Denotes self.old to → Runs bytes.now result self.new to }

@@ -1,4 +1,5 @@
-//! The stages of a message under way whose values may have any length: the value of a field, and the body.
+//! The stages of a message under way whose values may have any length: the value of a field, and
+//! the body.
 #![tactic(auto)]
 
 ghost use Rattle.std.specs.Prelude.{◌≡◌, ◌<◌, length, IfOk, IfErr, ◌⊎◌};

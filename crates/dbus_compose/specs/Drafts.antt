@@ -10,8 +10,8 @@ use Rattle.dbus_message_model.specs.Messages.{FieldTree, MessageTree}
 use Rattle.dbus_message_model.specs.PartsViews.{field_trees}
 use Rattle.dbus_message_model.specs.declared.parts.Parts.{Parts}
 
--- The parts of a message, but for its SIGNATURE field. The body's values are themselves, since a tree does not show where an array of
--- bytes is `Bytes`.
+-- The parts of a message, but for its SIGNATURE field. The body's values are themselves, since a
+-- tree does not show where an array of bytes is `Bytes`.
 pub record Draft (A : Type 0) : Type 0 where
   pub kind : ℕ
   pub flags : ℕ
@@ -43,7 +43,8 @@ abbrev pub put : FieldTree → List FieldTree → List FieldTree
 put f [] = f ∷ []
 put f (g ∷ gs) = if nat_eq f.code g.code then f ∷ gs else if nat_lt f.code g.code then f ∷ g ∷ gs else g ∷ put f gs
 
--- the fields of a reply: the serial of the message that is replied to, and the destination, which is its sender if it has one
+-- the fields of a reply: the serial of the message that is replied to, and the destination, which
+-- is its sender if it has one
 abbrev pub reply_fields : MessageTree → List FieldTree
 reply_fields m = field_of 5 (NumberValue UINT32 m.serial) ∷ option_to_list (option_map (field_of 6) (field_value 7 m.fields))
 

@@ -14,9 +14,10 @@ use std::alloc::{AllocError, Allocator, Global};
 
 /// What a message is to be made of, given part by part. D-Bus Specification, "Message Format".
 ///
-/// [`Compose`](crate::Compose) begins one, and [`MessageBuilder::build`] makes the message. The header fields are in the order of
-/// their codes, and one that is set again is replaced. The SIGNATURE field is that of the body's values; there is none if the body
-/// is empty. The serial is 1 unless it is set.
+/// [`Compose`](crate::Compose) begins one, and [`MessageBuilder::build`] makes the message. The
+/// header fields are in the order of their codes, and one that is set again is replaced. The
+/// SIGNATURE field is that of the body's values; there is none if the body is empty. The serial is
+/// 1 unless it is set.
 ///
 /// If an allocation fails, the builder remembers that, and `build` reports it:
 ///
@@ -126,7 +127,8 @@ impl<A: Allocator + Copy> MessageBuilder<A> {
         }
     }
 
-    /// Sets the INTERFACE field: the interface of a call's method. D-Bus Specification, "Header Fields".
+    /// Sets the INTERFACE field: the interface of a call's method. D-Bus Specification, "Header
+    /// Fields".
     pub fn interface(self, name: &str) -> Self
         ensures { Becomes
             (drafted self)
@@ -136,7 +138,8 @@ impl<A: Allocator + Copy> MessageBuilder<A> {
         self.name(INTERFACE, name)
     }
 
-    /// Sets the DESTINATION field: the bus name that the message is for. D-Bus Specification, "Header Fields".
+    /// Sets the DESTINATION field: the bus name that the message is for. D-Bus Specification,
+    /// "Header Fields".
     pub fn destination(self, name: &str) -> Self
         ensures { Becomes
             (drafted self)
@@ -146,8 +149,8 @@ impl<A: Allocator + Copy> MessageBuilder<A> {
         self.name(DESTINATION, name)
     }
 
-    /// Sets the SENDER field: the bus name that the message comes from. A message bus sets it in the messages that it
-    /// passes on. D-Bus Specification, "Header Fields".
+    /// Sets the SENDER field: the bus name that the message comes from. A message bus sets it in
+    /// the messages that it passes on. D-Bus Specification, "Header Fields".
     pub fn sender(self, name: &str) -> Self
         ensures { Becomes
             (drafted self)
@@ -157,7 +160,8 @@ impl<A: Allocator + Copy> MessageBuilder<A> {
         self.name(SENDER, name)
     }
 
-    /// Sets the UNIX_FDS field: the number of file descriptors that come with the message. D-Bus Specification, "Header Fields".
+    /// Sets the UNIX_FDS field: the number of file descriptors that come with the message. D-Bus
+    /// Specification, "Header Fields".
     pub fn unix_fds(self, count: u32) -> Self
         ensures { Becomes
             (drafted self)
@@ -167,7 +171,8 @@ impl<A: Allocator + Copy> MessageBuilder<A> {
         self.field(UNIX_FDS, Value::U32(count))
     }
 
-    /// Sets the flags, as the constants of `flag` name them, in place of all that were set. D-Bus Specification, "Message Format".
+    /// Sets the flags, as the constants of `flag` name them, in place of all that were set. D-Bus
+    /// Specification, "Message Format".
     pub fn flags(mut self, flags: u8) -> Self
         ensures { drafted result ≡ option_map (with_flags flags) (drafted self) }
     {
@@ -209,7 +214,8 @@ impl<A: Allocator + Copy> MessageBuilder<A> {
         }
     }
 
-    /// Sets the body, in place of the values that it has. It allocates nothing. D-Bus Specification, "Message Format".
+    /// Sets the body, in place of the values that it has. It allocates nothing. D-Bus
+    /// Specification, "Message Format".
     pub fn body(mut self, values: Vec<Value<A>, A>) -> Self
         ensures { drafted result ≡ option_map (with_body values.items) (drafted self) }
     {
@@ -219,11 +225,13 @@ impl<A: Allocator + Copy> MessageBuilder<A> {
         self
     }
 
-    /// The message, with the SIGNATURE field of its body's values. D-Bus Specification, "Message Format".
+    /// The message, with the SIGNATURE field of its body's values. D-Bus Specification, "Message
+    /// Format".
     ///
-    /// Else the first case of [`BuildFault`] that holds of these parts, as `Message::new` finds it, or `Memory` if an allocation failed
-    /// in this call or in one before it. `Name(8)` means that the types of the values make no signature: their texts have more than
-    /// 255 bytes together, a struct is empty, a dict entry is outside an array, or a type nests too deep.
+    /// Else the first case of [`BuildFault`] that holds of these parts, as `Message::new` finds it,
+    /// or `Memory` if an allocation failed in this call or in one before it. `Name(8)` means that
+    /// the types of the values make no signature: their texts have more than 255 bytes together, a
+    /// struct is empty, a dict entry is outside an array, or a type nests too deep.
     pub fn build(self) -> Result<Message<A>, BuildFault>
         ensures { IsComposed (drafted self) result }
     {

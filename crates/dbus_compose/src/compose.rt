@@ -13,11 +13,12 @@ use dbus_message_model::flag::NO_REPLY_EXPECTED;
 use dbus_message_model::message_type::{ERROR, METHOD_CALL, METHOD_RETURN, SIGNAL};
 use std::alloc::Allocator;
 
-/// What begins a [`Message`] in a line, as `Message::call(alloc, path, member)`. It is a trait so that reading messages does not
-/// wait for what makes them: bring it into scope by `use dbus_message::Compose`.
+/// What begins a [`Message`] in a line, as `Message::call(alloc, path, member)`. It is a trait so
+/// that reading messages does not wait for what makes them: bring it into scope by
+/// `use dbus_message::Compose`.
 ///
-/// What begins is a [`MessageBuilder`] with the fields that the message type requires. Nothing is checked before its `build`. The
-/// serial is 1 unless it is set.
+/// What begins is a [`MessageBuilder`] with the fields that the message type requires. Nothing is
+/// checked before its `build`. The serial is 1 unless it is set.
 pub trait Compose: Sized {
     /// Where the message keeps what it holds.
     type Allocator;
@@ -25,21 +26,24 @@ pub trait Compose: Sized {
     /// What the message is made by.
     type Builder;
 
-    /// A call of a method. It has no flags, so that a reply is expected. D-Bus Specification, "Message Format", "Header Fields".
+    /// A call of a method. It has no flags, so that a reply is expected. D-Bus Specification,
+    /// "Message Format", "Header Fields".
     fn call(alloc: Self::Allocator, path: &str, member: &str) -> Self::Builder;
 
     /// A signal, which expects no reply. D-Bus Specification, "Message Format", "Header Fields".
     fn signal(alloc: Self::Allocator, path: &str, interface: &str, member: &str) -> Self::Builder;
 
-    /// The reply to a call, which expects no reply itself: its REPLY_SERIAL is the message's serial, and its DESTINATION the message's
-    /// SENDER, if it has one. D-Bus Specification, "Message Format", "Header Fields".
+    /// The reply to a call, which expects no reply itself: its REPLY_SERIAL is the message's
+    /// serial, and its DESTINATION the message's SENDER, if it has one. D-Bus Specification,
+    /// "Message Format", "Header Fields".
     ///
     /// ```text
     /// let reply = Message::reply_to(alloc, &call).serial(serial).text("Hello!").build()?;
     /// ```
     fn reply_to(alloc: Self::Allocator, message: &Self) -> Self::Builder;
 
-    /// The reply to a call that failed, with the error of this name; otherwise as [`Compose::reply_to`] says.
+    /// The reply to a call that failed, with the error of this name; otherwise as
+    /// [`Compose::reply_to`] says.
     fn error_to(alloc: Self::Allocator, message: &Self, name: &str) -> Self::Builder;
 }
 

@@ -1,4 +1,5 @@
--- How many messages have each name, and how many bytes these have. A name is a word for what it names, a space and the name's bytes.
+-- How many messages have each name, and how many bytes these have. A name is a word for what it
+-- names, a space and the name's bytes.
 use Rattle.std.specs.Prelude.{◌≡◌, ℕ, ◌+◌, ◌-◌, ◌^◌, List, [], ◌∷◌, ◌++◌, if◌then◌else◌, min, Option, None, Some}
 use Rattle.std.specs.Option.{unwrap_or}
 use Rattle.std.specs.Str.{bytes_eq}
@@ -32,7 +33,8 @@ abbrev pub with_names : (names : List (List ℕ)) → (size : ℕ) → (other : 
 with_names [] size other c = c
 with_names (name ∷ names) size other c = with_names names size other (with_name name size other c)
 
--- after one message more of this size that is counted under the first of these names, and not under the next one or one after that
+-- after one message more of this size that is counted under the first of these names, and not under
+-- the next one or one after that
 pub record CountsFirst (names : List (List ℕ)) (size : ℕ) (old new : Counting) : Type 0 where
   pub first : List (List ℕ)
   pub next : List ℕ

@@ -24,7 +24,8 @@ row_of p = (string_bytes p.0.now, p.1.now)
 abbrev pub goes_before : Row → Row → Bool
 goes_before a b = is_lt (ordering_then (nat_cmp b.1.messages a.1.messages) (slice_cmp nat_cmp a.0 b.0))
 
--- each name that begins with the word and was counted has one row, with its count, and no row stands behind one that it goes before
+-- each name that begins with the word and was counted has one row, with its count, and no row
+-- stands behind one that it goes before
 pub record AreRows (c : Counting) (word : List ℕ) (rows : List Row) : Type 0 where
   pub counted : All (λ row. (starts_with nat_eq row.0 word ≡ true) × (c row.0 ≡ Some row.1)) rows
   pub all : (name : List ℕ) (count : Count) → starts_with nat_eq name word ≡ true → c name ≡ Some count → Contains rows (name, count)

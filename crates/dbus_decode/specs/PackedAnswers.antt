@@ -1,5 +1,5 @@
--- Where an array of bytes is `Bytes` in an answer: the one thing of its message's values that its tree does not show.
--- D-Bus Specification, "Marshaling (Wire Format)".
+-- Where an array of bytes is `Bytes` in an answer: the one thing of its message's values that its
+-- tree does not show. D-Bus Specification, "Marshaling (Wire Format)".
 use Rattle.dbus_message_model.specs.PackedMessages.{MessageKeepsBytes}
 use Rattle.dbus_decode.specs.declared.answer.Answer.{Answer}
 use Rattle.dbus_decode.specs.declared.answer.Answer.TheVariants.{Whole, Partial}

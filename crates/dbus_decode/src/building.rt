@@ -20,7 +20,8 @@ use std::alloc::{AllocError, Allocator};
 /// For how many fields room is made at the start: most messages have no more.
 const FIELD_ROOM: usize = 8;
 
-/// The header field that begins at `at`, and the offset after it, if `depth_left` containers may be open in the message.
+/// The header field that begins at `at`, and the offset after it, if `depth_left` containers may be
+/// open in the message.
 fn build_field<A: Allocator + Copy>(
     alloc: A,
     source: &Source<'_>,
@@ -62,8 +63,9 @@ fn build_fields<A: Allocator + Copy>(
     Ok(fields)
 }
 
-/// The message that the bytes begin with, which was validated in them under the limits: what it is made of. An array of BYTE in it is
-/// `Bytes`. The one error is that an allocation failed. D-Bus Specification, "Message Format".
+/// The message that the bytes begin with, which was validated in them under the limits: what it is
+/// made of. An array of BYTE in it is `Bytes`. The one error is that an allocation failed. D-Bus
+/// Specification, "Message Format".
 pub fn build_message<A: Allocator + Copy>(
     alloc: A,
     bytes: &[u8],

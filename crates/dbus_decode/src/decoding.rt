@@ -22,8 +22,8 @@ use dbus_validate::{Validated, validate, validate_known};
 use dbus_value_model::{Limits, Order, Refusal};
 use std::alloc::{AllocError, Allocator};
 
-/// Decodes the message that the bytes begin with, within the limits of the specification, as [`decode_within`] says.
-/// D-Bus Specification, "Message Protocol".
+/// Decodes the message that the bytes begin with, within the limits of the specification, as
+/// [`decode_within`] says. D-Bus Specification, "Message Protocol".
 ///
 /// ```rust
 /// use dbus_message::{Answer, decode};
@@ -43,18 +43,22 @@ pub fn decode<A: Allocator + Copy>(alloc: A, bytes: &[u8]) -> Result<Answer<A>, 
     decode_within(alloc, bytes, Limits::specification())
 }
 
-/// Decodes the message that the bytes begin with, under limits. D-Bus Specification, "Message Protocol".
+/// Decodes the message that the bytes begin with, under limits. D-Bus Specification, "Message
+/// Protocol".
 ///
-/// `Whole` if they do: `used` is its number of bytes, and those after it are not looked at. `Partial` if they neither do nor are
-/// refused: more bytes are wanted. `Format` if the next item of the message is at fault, with the fault's place, as soon as the
-/// bytes that are there show it. `Memory` only if an allocation failed, and only of a whole message: nothing is allocated for
-/// bytes that are refused or partial. An array of BYTE comes as `Bytes`, in the values of fields and of the body, also within others.
+/// `Whole` if they do: `used` is its number of bytes, and those after it are not looked at.
+/// `Partial` if they neither do nor are refused: more bytes are wanted. `Format` if the next item
+/// of the message is at fault, with the fault's place, as soon as the bytes that are there show it.
+/// `Memory` only if an allocation failed, and only of a whole message: nothing is allocated for
+/// bytes that are refused or partial. An array of BYTE comes as `Bytes`, in the values of fields
+/// and of the body, also within others.
 ///
-/// Of the limits: `MessageTooLong` at 12 if the header states more bytes than the limits' message, `ArrayTooLong` at its length if
-/// an array has more than their array (the field array at 12), and `TooDeep` if a container is opened while their depth are open:
-/// at 12 for the field array, after a field's padding for its struct, after its code for its variant. If their rule on descriptors
-/// is `BelowCount`: `FdIndex` at an index in the body that is not below the number of the UNIX_FDS field, which is 0 if there is
-/// none. Indexes in header fields are not looked at.
+/// Of the limits: `MessageTooLong` at 12 if the header states more bytes than the limits' message,
+/// `ArrayTooLong` at its length if an array has more than their array (the field array at 12), and
+/// `TooDeep` if a container is opened while their depth are open: at 12 for the field array, after
+/// a field's padding for its struct, after its code for its variant. If their rule on descriptors
+/// is `BelowCount`: `FdIndex` at an index in the body that is not below the number of the UNIX_FDS
+/// field, which is 0 if there is none. Indexes in header fields are not looked at.
 pub fn decode_within<A: Allocator + Copy>(
     alloc: A,
     bytes: &[u8],
@@ -80,9 +84,9 @@ pub fn decode_within<A: Allocator + Copy>(
     }
 }
 
-/// Decodes bytes that are known to be one message within the limits, such as those that a checker passed, and returns its byte
-/// order too. The values of its body are not looked at before they are built. The one error is that an allocation failed.
-/// D-Bus Specification, "Message Protocol".
+/// Decodes bytes that are known to be one message within the limits, such as those that a checker
+/// passed, and returns its byte order too. The values of its body are not looked at before they are
+/// built. The one error is that an allocation failed. D-Bus Specification, "Message Protocol".
 pub fn decode_known<A: Allocator + Copy>(
     alloc: A,
     bytes: &[u8],

@@ -9,8 +9,8 @@ pub record Wrote {W : Type 0} (held : W → Option (List ℕ)) (failures : W →
   pub appended : Appends (held old) (held new) bytes
   pub failed : failures new ≡ failures old
 
--- The first n bytes were written, and then a call failed or took none. One call failed in all: none came after it, since
--- that might have failed too.
+-- The first n bytes were written, and then a call failed or took none. One call failed in all: none
+-- came after it, since that might have failed too.
 pub record Stopped {W : Type 0} (held : W → Option (List ℕ)) (failures : W → ℕ) (old : W) (bytes : List ℕ) (n : ℕ) (new : W) : Type 0 where
   pub within : n ≤ length bytes
   pub appended : Appends (held old) (held new) (take n bytes)

@@ -5,8 +5,8 @@ use crate::device_fault::DeviceFault;
 use crate::source::Source;
 use std::io::Read;
 
-/// A reader of std's as a source. Each call of `read` is one call of the reader, so one that was interrupted counts as
-/// failed and may be made again.
+/// A reader of std's as a source. Each call of `read` is one call of the reader, so one that was
+/// interrupted counts as failed and may be made again.
 #[derive(Drop)]
 pub struct FromRead<R> {
     reader: R,

@@ -5,7 +5,8 @@ use crate::device_fault::DeviceFault;
 use crate::sink::Sink;
 use std::io::Write;
 
-/// A writer of std's as a sink. Each call of `write` is one call of the writer, and nothing is flushed.
+/// A writer of std's as a sink. Each call of `write` is one call of the writer, and nothing is
+/// flushed.
 #[derive(Drop)]
 pub struct FromWrite<W> {
     writer: W,

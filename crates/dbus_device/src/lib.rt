@@ -1,9 +1,10 @@
 //! Devices that bytes come from and go to, such as a file, a socket or a list in memory.
 //!
-//! A [`Source`] is read from and a [`Sink`] is written to. Each counts its calls and its failures, so that contracts can say what a
-//! device did. [`FromRead`] and [`FromWrite`] make them of readers and writers of std's, and [`write_all`] writes all bytes. The
-//! readers of `dbus_stream` use them, and an example is there at `MessageReader::next`. No section of the D-Bus
-//! Specification speaks of them.
+//! A [`Source`] is read from and a [`Sink`] is written to. Each counts its calls and its failures,
+//! so that contracts can say what a device did. [`FromRead`] and [`FromWrite`] make them of readers
+//! and writers of std's, and [`write_all`] writes all bytes. The readers of `dbus_stream` use them,
+//! and an example is there at `MessageReader::next`. No section of the D-Bus Specification speaks
+//! of them.
 #![tactic(auto)]
 
 mod device_fault;

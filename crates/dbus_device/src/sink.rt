@@ -13,8 +13,8 @@ pub trait Sink {
     /// The bytes that it holds, if the device reports them.
     ghost held: { Self → Option (List ℕ) };
 
-    /// How often a call failed or took none of one or more bytes, modulo 2^64. A device failed in a call during
-    /// which this changed.
+    /// How often a call failed or took none of one or more bytes, modulo 2^64. A device failed in a
+    /// call during which this changed.
     ghost failures: { Self → ℕ };
 
     /// Which reference it is, if it is one. No call changes it.
@@ -22,7 +22,8 @@ pub trait Sink {
 
     /// Takes a prefix of the bytes, and returns their number.
     ///
-    /// `DeviceFault`: the device failed. It took none of these bytes, and the call may be made again.
+    /// `DeviceFault`: the device failed. It took none of these bytes, and the call may be made
+    /// again.
     fn write(&mut self, bytes: &[u8]) -> Result<usize, DeviceFault>
         ensures bound { IfOk result (λ n. n ≤ length bytes.now) }
         ensures bytes { WriteAppends (held self.old) (held self.new) result bytes.now }

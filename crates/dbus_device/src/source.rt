@@ -22,8 +22,8 @@ pub trait Source {
     /// Which reference it is, if it is one. No call changes it.
     ghost reference: { Self → Option GName };
 
-    /// Fills a prefix of the buffer with the next bytes, and returns their number. 0 bytes are the end, or the
-    /// buffer has no room.
+    /// Fills a prefix of the buffer with the next bytes, and returns their number. 0 bytes are the
+    /// end, or the buffer has no room.
     ///
     /// `DeviceFault`: the device failed. No byte is lost, and the call may be made again.
     fn read(&mut self, buffer: &mut [u8]) -> Result<usize, DeviceFault>

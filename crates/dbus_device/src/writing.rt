@@ -10,7 +10,8 @@ pub struct WrittenOnly(pub usize);
 
 /// Writes all the bytes, in as many calls as the sink takes.
 ///
-/// `WrittenOnly`: a call failed or took none, and the bytes before it went out. Then the sink is not called again.
+/// `WrittenOnly`: a call failed or took none, and the bytes before it went out. Then the sink is
+/// not called again.
 pub fn write_all<W: Sink>(sink: &mut W, bytes: &[u8]) -> Result<(), WrittenOnly>
     ensures writes { WritesAll W.held W.failures sink.old bytes.now sink.new result }
     ensures same_reference { W.reference sink.new ≡ W.reference sink.old }

@@ -129,8 +129,8 @@ pub fn encode<A: Allocator + Copy>(
 
 /// Encodes a message as [`encode`] does, into a vector in place of what that holds.
 ///
-/// It allocates only if the vector's capacity is too small, and at most once. The error is that this allocation failed; then the
-/// vector holds what it held.
+/// It allocates only if the vector's capacity is too small, and at most once. The error is that
+/// this allocation failed; then the vector holds what it held.
 pub fn encode_into<A: Allocator>(
     out: &mut Vec<u8, A>,
     message: &Message<A>,

@@ -1,12 +1,14 @@
--- The lines that explain why a match rule is refused. Which text says what may be there is not stated.
+-- The lines that explain why a match rule is refused. Which text says what may be there is not
+-- stated.
 use Rattle.std.specs.Prelude.{ℕ, List, [], ◌∷◌, ◌++◌, ◌||◌, ◌&&◌, nat_eq, nat_lt, if◌then◌else◌, take, codes}
 use Rattle.std.specs.List.{flat_map}
 use Rattle.dbus_show.specs.ShownValues.{quoted}
 use Rattle.dbus_explain.specs.Explained.{rule_line}
 use Rattle.dbus_explain.specs.Lines.{AreLines}
 
--- A blank for each character that shows a byte of a text: 34 is a quotation mark and 92 a backslash, which stand after a backslash; the
--- bytes below 32 and 127 stand as four characters. A byte from 128 to 191 is within a character, which has its blank already.
+-- A blank for each character that shows a byte of a text: 34 is a quotation mark and 92 a
+-- backslash, which stand after a backslash; the bytes below 32 and 127 stand as four characters. A
+-- byte from 128 to 191 is within a character, which has its blank already.
 abbrev pub blank_of : ℕ → List ℕ
 blank_of b =
     if nat_eq b 34 || nat_eq b 92 then codes "  "

@@ -12,8 +12,8 @@ use Rattle.dbus_explain.specs.declared.path.Step.TheVariants.{Number, Key, Value
 
 -- ---- paths
 
--- a step from a value to one in it: to the element or the member of a number, counted from 0, to the key or the value of a dict entry, or to
--- the value of a variant
+-- a step from a value to one in it: to the element or the member of a number, counted from 0, to
+-- the key or the value of a dict entry, or to the value of a variant
 abbrev pub step_text : Step → List ℕ
 step_text (Number n) = codes "[" ++ (decimal n ++ codes "]")
 step_text Key = codes ".key"
@@ -46,8 +46,8 @@ pub data IsFieldName (bytes : List ℕ) (at : ℕ) : List ℕ → Type 0 where
   in_field : (code : ℕ) → IsInField bytes at code → IsFieldName bytes at (codes "header field " ++ code_name code)
   behind_fields : IsFieldName bytes at (codes "the header fields")
 
--- the name of a place in the body: the path to the value that it is in, by its number among the values of the body and the steps from there on;
--- or behind the values
+-- the name of a place in the body: the path to the value that it is in, by its number among the
+-- values of the body and the steps from there on; or behind the values
 pub data IsValueName (bytes : List ℕ) (at : ℕ) : List ℕ → Type 0 where
   in_value : (ts : TypeTrees) (number : ℕ) (t : TypeTree) (p : ℕ) (steps : List Step) → AreBodyTypes bytes at ts → IsAmong bytes at ts (body_begin bytes) number t p
       → IsPath bytes at t p steps → IsValueName bytes at (codes "body" ++ path_text (Number number ∷ steps))

@@ -52,7 +52,8 @@ module _ (bytes : List ℕ) (at : ℕ) where
   Pass t zero p q = q ≡ p
   Pass t (suc n) p q = (r : ℕ) × Pass t n p r × Passes t r q
 
-  -- of values of these types, which begin at p, those before number n end there, and the place is in that one, which is of type u and at q
+  -- of values of these types, which begin at p, those before number n end there, and the place is
+  -- in that one, which is of type u and at q
   abbrev pub IsAmong : TypeTrees → (p n : ℕ) → (u : TypeTree) → (q : ℕ) → Type 0
   IsAmong NoTypes p n u q = ⊥
   IsAmong (MoreTypes t ts) p zero u q = (u ≡ t) × (q ≡ p) × IsIn t p
@@ -65,7 +66,8 @@ module _ (bytes : List ℕ) (at : ℕ) where
     pub text_is : w ≡ take (length w) (drop (p + 1) bytes)
     pub after : q ≡ p + 1 + length w + 1
 
-  -- the place is in a value of type t at p, and in it in the value of type u at q, to which the step leads
+  -- the place is in a value of type t at p, and in it in the value of type u at q, to which the
+  -- step leads
   abbrev pub Enters : TypeTree → (p : ℕ) → Step → (u : TypeTree) → (q : ℕ) → Type 0
   Enters (ArrayType t) p (Number n) u q = (u ≡ t) × Pass t n (first_element t p) q × IsIn t q
   Enters (StructType ts) p (Number n) u q = IsAmong ts (p + gap_to 8 p) n u q
@@ -88,7 +90,8 @@ module _ (bytes : List ℕ) (at : ℕ) where
     pub read : p + gap_to 8 p < length bytes
     pub code_is : code ≡ slice_index bytes (p + gap_to 8 p)
 
-  -- a header field at p is a SIGNATURE field, by its code, 8, and its value, a variant of a signature, is the text w
+  -- a header field at p is a SIGNATURE field, by its code, 8, and its value, a variant of a
+  -- signature, is the text w
   pub record IsSignatureField (p : ℕ) (w : List ℕ) : Type 0 where
     pub code_is : slice_index bytes (p + gap_to 8 p) ≡ 8
     pub variant : List ℕ

@@ -7,7 +7,8 @@ use Rattle.dbus_flatten.specs.Flattening.{item, in_word}
 use Rattle.dbus_flatten.specs.declared.flat_item.FlatItem.{FlatItem}
 use Rattle.dbus_flatten.specs.declared.flattener.Flattener.{Flattener}
 
--- the item of a place in the row, put among those that are written, the first of which has another place, if there is room
+-- the item of a place in the row, put among those that are written, the first of which has another
+-- place, if there is room
 abbrev pub put : (first place : ℕ) → List FlatItem → FlatItem → List FlatItem
 put first place out i = if nat_lt place first then out else set out (place - first) i
 

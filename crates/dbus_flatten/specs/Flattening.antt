@@ -11,7 +11,8 @@ use Rattle.dbus_value_model.specs.Values.{ValueTree, ValueTrees, NumberValue, Te
 use Rattle.dbus_walk.specs.Widths.{number_width}
 use Rattle.dbus_flatten.specs.declared.flat_item.FlatItem.{FlatItem}
 
--- the item of a value at an offset that has so many items within it: its number, its bytes, its first code, and its elements' first code
+-- the item of a value at an offset that has so many items within it: its number, its bytes, its
+-- first code, and its elements' first code
 abbrev pub item : Order → (at : ℕ) → ValueTree → (within : ℕ) → FlatItem
 item order at (NumberValue k n) within = record { number = n; offset = at + gap_to (width k) at; length = width k; code = number_code k; element = 0 }
 item order at (TextValue k t) within = record { number = 0; offset = at + gap_to (length_width k) at + length_width k; length = length t; code = text_code k; element = 0 }
@@ -24,7 +25,8 @@ item order at (EntryValue x y) within = record { number = within; offset = at + 
 abbrev pub with_item : Order → (at : ℕ) → ValueTree → (within : List FlatItem) → List FlatItem
 with_item order at v within = item order at v (length within) ∷ within
 
--- the items of a value at an offset: its own, and then those of its parts; an array of numbers has its own alone
+-- the items of a value at an offset: its own, and then those of its parts; an array of numbers has
+-- its own alone
 unfoldable mutual
   pub flat : Order → (at : ℕ) → ValueTree → List FlatItem
   flat order at (NumberValue k n) = with_item order at (NumberValue k n) []
@@ -45,7 +47,8 @@ unfoldable mutual
 abbrev pub in_word : ℕ → ℕ
 in_word n = if nat_lt n (2 ^ 64 - 1) then n else 2 ^ 64 - 1
 
--- items over those before, from the start on, as many as there is room for; what stood after them stays
+-- items over those before, from the start on, as many as there is room for; what stood after them
+-- stays
 abbrev pub over : List FlatItem → (before : List FlatItem) → List FlatItem
 over items before = take (length before) items ++ drop (length items) before
 

@@ -1,4 +1,5 @@
-//! The items of values of any type, gathered from a message's bytes. D-Bus Specification, "Marshaling (Wire Format)".
+//! The items of values of any type, gathered from a message's bytes. D-Bus Specification,
+//! "Marshaling (Wire Format)".
 #![tactic(auto)]
 
 ghost use Rattle.std.specs.Prelude.{◌≡◌, ℕ, ◌+◌, ◌<◌, ◌^◌, nat_lt};

@@ -33,7 +33,8 @@ later_part bytes start end count within =
     ∙ (drop-take count (end - (start + count)) (drop start bytes)
     ∙ ap (take (end - (start + count))) (drop-drop count start bytes)))
 
--- the first bytes of a part, and then what lies after them where they were written, are the part's front
+-- the first bytes of a part, and then what lies after them where they were written, are the part's
+-- front
 pub front_given : (bytes front tail : List ℕ) (start end count : ℕ) → count ≤ length (slice_range bytes start end) → front ≡ take count (slice_range bytes start end)
     → slice_range bytes start end ≡ take count (front ++ tail) ++ slice_range bytes (start + count) end
 front_given bytes front tail start end count within is =

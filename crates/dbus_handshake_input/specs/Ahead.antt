@@ -17,7 +17,8 @@ kept_of s = slice_range s.bytes s.start s.end
 abbrev pub answered_of : {R : Type 0} → ReadAhead R → ℕ
 answered_of s = s.answered
 
--- how often it was called: each call was one of the device below, or was answered by bytes that were kept
+-- how often it was called: each call was one of the device below, or was answered by bytes that
+-- were kept
 abbrev pub calls_of : {R : Type 0} → (R → ℕ) → ReadAhead R → ℕ
 calls_of calls s = (calls (source_of s) + answered_of s) % 2 ^ 64
 
@@ -26,8 +27,9 @@ pub record Rests {R : Type 0} (old new : ReadAhead R) : Type 0 where
   pub source : source_of new ≡ source_of old
   pub answered : answered_of new ≡ answered_of old
 
--- These bytes were taken: what was kept and then read is these bytes and what is kept now. The device below was called for what was
--- read, each time only once nothing was kept; at most so many of these calls gave no byte.
+-- These bytes were taken: what was kept and then read is these bytes and what is kept now. The
+-- device below was called for what was read, each time only once nothing was kept; at most so many
+-- of these calls gave no byte.
 pub record Took {R : Type 0} (left : R → Option (List ℕ)) (calls : R → ℕ) (idle : ℕ) (old new : ReadAhead R) (bytes : List ℕ) : Type 0 where
   pub read : List ℕ
   pub consumed : Consumes (left (source_of old)) (left (source_of new)) read

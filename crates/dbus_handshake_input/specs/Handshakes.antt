@@ -1,5 +1,5 @@
--- The handshake of one side of a connection, up to its messages, and why bytes begin with none. AtEnd says that no byte follows.
--- D-Bus Specification, "Authentication Protocol".
+-- The handshake of one side of a connection, up to its messages, and why bytes begin with none.
+-- AtEnd says that no byte follows. D-Bus Specification, "Authentication Protocol".
 use Rattle.std.specs.Prelude.{ℕ, ◌≡◌, ◌≢◌, ◌<◌, ◌≤◌, ◌+◌, ◌⊎◌, List, [], ◌∷◌, ◌++◌, length}
 use Rattle.std.specs.List.{AllByRecursion, flat_map}
 use Rattle.dbus_auth_lines.specs.ClientCommands.{ClientCommand}
@@ -74,7 +74,8 @@ IsNoLine side bytes AtEnd at reason.NoCommand =
 IsNoLine side bytes AtEnd at reason.Truncated = IsUnfinished bytes × AtEnd × (at ≡ length bytes)
 IsNoLine side bytes AtEnd at reason.TooManyLines = ⊥
 
--- the bytes begin with these lines of the side, and then with what makes them no handshake, for this reason, at this place
+-- the bytes begin with these lines of the side, and then with what makes them no handshake, for
+-- this reason, at this place
 pub data BreaksAfter (side : Side) (lines : List (List ℕ)) (bytes : List ℕ) (AtEnd : Type 0) (at : ℕ) (why : HandshakeReason) : Type 0 where
   first_byte : (b : ℕ) (more : List ℕ) → side ≡ Client → lines ≡ [] → bytes ≡ b ∷ more → b ≢ 0 → at ≡ 0 → why ≡ reason.FirstByte → BreaksAfter side lines bytes AtEnd at why
   nothing : side ≡ Client → lines ≡ [] → bytes ≡ [] → AtEnd → at ≡ 0 → why ≡ reason.Truncated → BreaksAfter side lines bytes AtEnd at why

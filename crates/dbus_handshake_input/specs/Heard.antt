@@ -37,7 +37,8 @@ abbrev pub IsSize : Side → List (List ℕ) → HandshakeSize → Type 0
 IsSize side lines size = (size.lines ≡ length lines) × (size.bytes ≡ length (sent side lines))
 
 module _ {V : Type 0} (hears : V → List HeardLine → V → Type 0) (side : Side) where
-  -- a line was heard if it is a command of the side, and what it says is the answer; or memory was wanted
+  -- a line was heard if it is a command of the side, and what it says is the answer; or memory was
+  -- wanted
   abbrev pub HearsLine : {E : Type 0} → (offset : ℕ) → List ℕ → V → V → Result Said E → Type 0
   HearsLine offset line old new (Ok says.Begin) = Says side line says.Begin × hears old (heard_line side offset line ∷ []) new
   HearsLine offset line old new (Ok (says.GoesOn is_ok)) = Says side line (says.GoesOn is_ok) × hears old (heard_line side offset line ∷ []) new
@@ -51,8 +52,8 @@ module _ {V : Type 0} (hears : V → List HeardLine → V → Type 0) (side : Si
     pub front : (lines ≡ []) ⊎ ((rest : List ℕ) × (bytes ≡ sent side lines ++ rest))
     pub heard_are : hears old (heard side lines) new
 
-  -- a handshake of the side was taken, what is kept then follows it, and each of its lines was heard; or what was read begins with none,
-  -- and each line before the place of that was heard
+  -- a handshake of the side was taken, what is kept then follows it, and each of its lines was
+  -- heard; or what was read begins with none, and each line before the place of that was heard
   abbrev pub Reads : {R : Type 0} → (R → Option (List ℕ)) → (R → ℕ) → ReadAhead R → ReadAhead R → V → V → Result HandshakeSize HandshakeFault → Type 0
   Reads left calls old new before after (Ok size) = (lines : List (List ℕ)) × Took left calls 1 old new (sent side lines)
       × AreAllLines side lines (kept_of new) (IsAtEnd (left (source_of new))) × hears before (heard side lines) after × IsSize side lines size

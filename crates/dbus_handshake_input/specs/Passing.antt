@@ -10,7 +10,8 @@ use Rattle.dbus_handshake_input.specs.declared.side.Side.{Side}
 use Rattle.dbus_handshake_input.specs.declared.fault.HandshakeFault.{HandshakeFault}
 use Rattle.dbus_handshake_input.specs.declared.fault.HandshakeFault.TheVariants.{Memory, Device, Refused}
 
--- a handshake of the side was taken, and what is kept then follows it; or what was read begins with none
+-- a handshake of the side was taken, and what is kept then follows it; or what was read begins with
+-- none
 abbrev pub Passes : {R : Type 0} → (R → Option (List ℕ)) → (R → ℕ) → Side → ReadAhead R → ReadAhead R → Result (Unit {0}) HandshakeFault → Type 0
 Passes left calls side old new (Ok x) = (bytes : List ℕ) × Took left calls 1 old new bytes × IsHandshake side bytes (kept_of new) (IsAtEnd (left (source_of new)))
 Passes left calls side old new (Err Memory) = (bytes : List ℕ) × Took left calls 1 old new bytes

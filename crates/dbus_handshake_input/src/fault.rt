@@ -22,15 +22,17 @@ pub enum HandshakeFault {
     },
 }
 
-/// Why bytes begin with no handshake of a side. D-Bus Specification, "Authentication Protocol"; the limits, the names and the places
-/// are this project's own.
+/// Why bytes begin with no handshake of a side. D-Bus Specification, "Authentication Protocol"; the
+/// limits, the names and the places are this project's own.
 #[derive(Clone, Copy, PartialEq, Eq, Debug)]
 pub enum HandshakeReason {
     /// The first byte of a client is not 0: at that byte.
     FirstByte,
-    /// A line has more than 16,384 bytes with its CR LF: at its byte 16,382, which is neither CR nor the LF of a CR LF.
+    /// A line has more than 16,384 bytes with its CR LF: at its byte 16,382, which is neither CR
+    /// nor the LF of a CR LF.
     LineTooLong,
-    /// A byte that a line may not have: 0, a byte over 127, LF without CR, or a byte after CR that is not LF. At that byte.
+    /// A byte that a line may not have: 0, a byte over 127, LF without CR, or a byte after CR that
+    /// is not LF. At that byte.
     LineByte,
     /// A line is no command of the side: at its first byte.
     NoCommand,

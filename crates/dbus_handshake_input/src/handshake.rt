@@ -18,16 +18,18 @@ use std::alloc::Allocator;
 // How many lines a handshake has at most.
 const MOST_LINES: usize = 1024;
 
-/// Takes the handshake of a side from the source, and no byte after it. It reads ahead at most 512 bytes, and keeps the bytes of one
-/// line beside these. D-Bus Specification, "Authentication Protocol".
+/// Takes the handshake of a side from the source, and no byte after it. It reads ahead at most 512
+/// bytes, and keeps the bytes of one line beside these. D-Bus Specification, "Authentication
+/// Protocol".
 ///
-/// A client's handshake is the byte 0 and then its lines up to `BEGIN`. A server's is its lines, of which one is `OK`, up to the first
-/// byte after such a line that is `l` or `B`, or up to the end of the input. Each line is a command of its side, of at most 16,384
-/// bytes with its CR LF. There are at most 1,024.
+/// A client's handshake is the byte 0 and then its lines up to `BEGIN`. A server's is its lines, of
+/// which one is `OK`, up to the first byte after such a line that is `l` or `B`, or up to the end
+/// of the input. Each line is a command of its side, of at most 16,384 bytes with its CR LF. There
+/// are at most 1,024.
 ///
-/// `Refused`: the bytes begin with no handshake of the side; the place counts from the first byte that was taken. `Device`: a read
-/// failed. `Memory`: an allocation failed. After each of them the bytes before the place that was reached are taken, and the call is
-/// not to be made again.
+/// `Refused`: the bytes begin with no handshake of the side; the place counts from the first byte
+/// that was taken. `Device`: a read failed. `Memory`: an allocation failed. After each of them the
+/// bytes before the place that was reached are taken, and the call is not to be made again.
 ///
 /// ```rust
 /// use dbus_handshake_input::{HandshakeFault, ReadAhead, Side, pass_handshake};
@@ -65,11 +67,13 @@ pub fn pass_handshake<A: Allocator + Copy, R: Source>(
     }
 }
 
-/// Takes the handshake of a side from the source, as [`pass_handshake`] does, hands each line of it to the visitor, and returns how many
-/// lines and bytes it has. The visitor has a line before the next one is sought, but bytes after it
-/// may be read by then: one read of the source takes what it gives, up to 512 bytes.
+/// Takes the handshake of a side from the source, as [`pass_handshake`] does, hands each line of it
+/// to the visitor, and returns how many lines and bytes it has. The visitor has a line before the
+/// next one is sought, but bytes after it may be read by then: one read of the source takes what it
+/// gives, up to 512 bytes.
 ///
-/// `Refused`, `Device`, `Memory`: as [`pass_handshake`] says; the visitor has the lines before that place.
+/// `Refused`, `Device`, `Memory`: as [`pass_handshake`] says; the visitor has the lines before that
+/// place.
 pub fn read_handshake<A: Allocator + Copy, R: Source, V: LineVisitor>(
     alloc: A,
     side: Side,
@@ -144,8 +148,8 @@ fn greeted<R: Source>(side: Side, input: &mut ReadAhead<R>) -> Result<usize, Han
     }
 }
 
-// Whether a server's messages follow a line that was accepted: the input ends, or the next byte is one that begins a message and no
-// line.
+// Whether a server's messages follow a line that was accepted: the input ends, or the next byte is
+// one that begins a message and no line.
 fn sees_messages<R: Source>(accepted: bool, input: &mut ReadAhead<R>) -> Result<bool, DeviceFault>
     ensures sees { SeesMessages R.left accepted input.new result }
     ensures took { Took R.left R.calls (idle_unless false result) input.old input.new [] }

@@ -8,8 +8,9 @@ use dbus_device::{DeviceFault, Source};
 // How many bytes are read ahead at most.
 const ROOM: usize = 512;
 
-/// A source that keeps bytes which it read ahead: at most 512, the first ones that it gives. Each call of `read` is one call of the
-/// source below it, or bytes that are kept answer it; its count of calls is that of the source below, and those that were answered.
+/// A source that keeps bytes which it read ahead: at most 512, the first ones that it gives. Each
+/// call of `read` is one call of the source below it, or bytes that are kept answer it; its count
+/// of calls is that of the source below, and those that were answered.
 #[derive(Drop)]
 pub struct ReadAhead<R> {
     source: R,

@@ -5,6 +5,7 @@
 pub struct HandshakeSize {
     /// The lines, the last one among them.
     pub lines: usize,
-    /// The bytes, with the byte 0 of a client and the CR LF of each line. At this offset its messages begin.
+    /// The bytes, with the byte 0 of a client and the CR LF of each line. At this offset its
+    /// messages begin.
     pub bytes: usize,
 }

@@ -10,8 +10,8 @@ ghost use Rattle.dbus_handshake_input.specs.declared.side.Side.TheVariants.{Clie
 use dbus_auth_lines::{ClientLine, ServerLine};
 use std::alloc::Allocator;
 
-/// What takes the lines of a side, each of them a command of it, one after the other. A line has no CR LF, and its offset counts from the
-/// first byte that the side sent.
+/// What takes the lines of a side, each of them a command of it, one after the other. A line has no
+/// CR LF, and its offset counts from the first byte that the side sent.
 pub trait LineVisitor {
     // What it heard, and after that.
     ghost hears: { Self → List HeardLine → Self → Type 0 };

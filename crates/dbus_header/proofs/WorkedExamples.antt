@@ -1,5 +1,6 @@
--- Worked examples of the wire format, computed by the plain reader that stands beside the definitions: the outcome of each list of bytes.
--- D-Bus Specification, "Message Format"; docs/WIRE-FORMAT.md.
+-- Worked examples of the wire format, computed by the plain reader that stands beside the
+-- definitions: the outcome of each list of bytes. D-Bus Specification, "Message Format";
+-- docs/WIRE-FORMAT.md.
 use Rattle.std.proofs.Common.{◌≡◌, ℕ, List, [], ◌∷◌, map, refl}
 use Rattle.dbus_texts.specs.ComputedKinds as computed
 use Rattle.dbus_texts.specs.ComputedKinds.{type_spelled, types_spelled, parse}
@@ -39,7 +40,8 @@ examples =
     (66 ∷ 2 ∷ 1 ∷ 1 ∷ 0 ∷ 0 ∷ 0 ∷ 0 ∷ 0 ∷ 0 ∷ 0 ∷ 1 ∷ 0 ∷ 0 ∷ 0 ∷ 8 ∷ 5 ∷ 1 ∷ 117 ∷ 0 ∷ 0 ∷ 0 ∷ 0 ∷ 1 ∷ [], Whole Big 24) ∷
     -- A message of type 5, which the specification does not name ("Message Format")
     (108 ∷ 5 ∷ 0 ∷ 1 ∷ 0 ∷ 0 ∷ 0 ∷ 0 ∷ 1 ∷ 0 ∷ 0 ∷ 0 ∷ 0 ∷ 0 ∷ 0 ∷ 0 ∷ [], Whole Little 16) ∷
-    -- A body of UINT32 7 and an empty array of INT64: padding up to the first element that is not there ("Marshalling containers")
+    -- A body of UINT32 7 and an empty array of INT64: padding up to the first element that is not
+    -- there ("Marshalling containers")
     (108 ∷ 2 ∷ 0 ∷ 1 ∷ 8 ∷ 0 ∷ 0 ∷ 0 ∷ 1 ∷ 0 ∷ 0 ∷ 0 ∷ 17 ∷ 0 ∷ 0 ∷ 0 ∷ 5 ∷ 1 ∷ 117 ∷ 0 ∷ 1 ∷ 0 ∷ 0 ∷ 0 ∷ 8 ∷ 1 ∷ 103 ∷ 0 ∷ 3 ∷ 117 ∷ 97 ∷ 120 ∷ 0 ∷ 0 ∷ 0 ∷ 0 ∷ 0 ∷ 0 ∷ 0 ∷ 0 ∷ 7 ∷ 0 ∷ 0 ∷ 0 ∷ 0 ∷ 0 ∷ 0 ∷ 0 ∷ [], Whole Little 48) ∷
     -- A body of an empty array of INT64 alone ("Marshalling containers")
     (108 ∷ 2 ∷ 0 ∷ 1 ∷ 8 ∷ 0 ∷ 0 ∷ 0 ∷ 1 ∷ 0 ∷ 0 ∷ 0 ∷ 16 ∷ 0 ∷ 0 ∷ 0 ∷ 5 ∷ 1 ∷ 117 ∷ 0 ∷ 1 ∷ 0 ∷ 0 ∷ 0 ∷ 8 ∷ 1 ∷ 103 ∷ 0 ∷ 2 ∷ 97 ∷ 120 ∷ 0 ∷ 0 ∷ 0 ∷ 0 ∷ 0 ∷ 0 ∷ 0 ∷ 0 ∷ 0 ∷ [], Whole Little 40) ∷
@@ -65,7 +67,8 @@ examples =
     (108 ∷ 2 ∷ 0 ∷ 1 ∷ 4 ∷ 0 ∷ 0 ∷ 0 ∷ 1 ∷ 0 ∷ 0 ∷ 0 ∷ 15 ∷ 0 ∷ 0 ∷ 0 ∷ 5 ∷ 1 ∷ 117 ∷ 0 ∷ 1 ∷ 0 ∷ 0 ∷ 0 ∷ 8 ∷ 1 ∷ 103 ∷ 0 ∷ 1 ∷ 98 ∷ 0 ∷ 0 ∷ 2 ∷ 0 ∷ 0 ∷ 0 ∷ [], Refused (fault 32 reasons.Bool)) ∷
     -- The same while its last byte is missing ("Marshalling basic types")
     (108 ∷ 2 ∷ 0 ∷ 1 ∷ 4 ∷ 0 ∷ 0 ∷ 0 ∷ 1 ∷ 0 ∷ 0 ∷ 0 ∷ 15 ∷ 0 ∷ 0 ∷ 0 ∷ 5 ∷ 1 ∷ 117 ∷ 0 ∷ 1 ∷ 0 ∷ 0 ∷ 0 ∷ 8 ∷ 1 ∷ 103 ∷ 0 ∷ 1 ∷ 98 ∷ 0 ∷ 0 ∷ 2 ∷ 0 ∷ 0 ∷ [], Wanting) ∷
-    -- An array of UINT32 whose length is 6: its second element passes its end ("Marshalling containers")
+    -- An array of UINT32 whose length is 6: its second element passes its end ("Marshalling
+    -- containers")
     (108 ∷ 2 ∷ 0 ∷ 1 ∷ 10 ∷ 0 ∷ 0 ∷ 0 ∷ 1 ∷ 0 ∷ 0 ∷ 0 ∷ 16 ∷ 0 ∷ 0 ∷ 0 ∷ 5 ∷ 1 ∷ 117 ∷ 0 ∷ 1 ∷ 0 ∷ 0 ∷ 0 ∷ 8 ∷ 1 ∷ 103 ∷ 0 ∷ 2 ∷ 97 ∷ 117 ∷ 0 ∷ 6 ∷ 0 ∷ 0 ∷ 0 ∷ 1 ∷ 0 ∷ 0 ∷ 0 ∷ [], Refused (fault 40 reasons.Overrun)) ∷
     -- 64 variants within one another ("Valid Signatures")
     (108 ∷ 2 ∷ 0 ∷ 1 ∷ 193 ∷ 0 ∷ 0 ∷ 0 ∷ 1 ∷ 0 ∷ 0 ∷ 0 ∷ 15 ∷ 0 ∷ 0 ∷ 0 ∷ 5 ∷ 1 ∷ 117 ∷ 0 ∷ 1 ∷ 0 ∷ 0 ∷ 0 ∷ 8 ∷ 1 ∷ 103 ∷ 0 ∷ 1 ∷ 118 ∷ 0 ∷ 0 ∷ 1 ∷ 118 ∷ 0 ∷ 1 ∷ 118 ∷ 0 ∷ 1 ∷ 118 ∷ 0 ∷ 1 ∷ 118 ∷ 0 ∷ 1 ∷ 118 ∷ 0 ∷ 1 ∷ 118 ∷ 0 ∷ 1 ∷ 118 ∷ 0 ∷ 1 ∷ 118 ∷ 0 ∷ 1 ∷ 118 ∷ 0 ∷ 1 ∷ 118 ∷ 0 ∷ 1 ∷ 118 ∷ 0 ∷ 1 ∷ 118 ∷ 0 ∷ 1 ∷ 118 ∷ 0 ∷ 1 ∷ 118 ∷ 0 ∷ 1 ∷ 118 ∷ 0 ∷ 1 ∷ 118 ∷ 0 ∷ 1 ∷ 118 ∷ 0 ∷ 1 ∷ 118 ∷ 0 ∷ 1 ∷ 118 ∷ 0 ∷ 1 ∷ 118 ∷ 0 ∷ 1 ∷ 118 ∷ 0 ∷ 1 ∷ 118 ∷ 0 ∷ 1 ∷ 118 ∷ 0 ∷ 1 ∷ 118 ∷ 0 ∷ 1 ∷ 118 ∷ 0 ∷ 1 ∷ 118 ∷ 0 ∷ 1 ∷ 118 ∷ 0 ∷ 1 ∷ 118 ∷ 0 ∷ 1 ∷ 118 ∷ 0 ∷ 1 ∷ 118 ∷ 0 ∷ 1 ∷ 118 ∷ 0 ∷ 1 ∷ 118 ∷ 0 ∷ 1 ∷ 118 ∷ 0 ∷ 1 ∷ 118 ∷ 0 ∷ 1 ∷ 118 ∷ 0 ∷ 1 ∷ 118 ∷ 0 ∷ 1 ∷ 118 ∷ 0 ∷ 1 ∷ 118 ∷ 0 ∷ 1 ∷ 118 ∷ 0 ∷ 1 ∷ 118 ∷ 0 ∷ 1 ∷ 118 ∷ 0 ∷ 1 ∷ 118 ∷ 0 ∷ 1 ∷ 118 ∷ 0 ∷ 1 ∷ 118 ∷ 0 ∷ 1 ∷ 118 ∷ 0 ∷ 1 ∷ 118 ∷ 0 ∷ 1 ∷ 118 ∷ 0 ∷ 1 ∷ 118 ∷ 0 ∷ 1 ∷ 118 ∷ 0 ∷ 1 ∷ 118 ∷ 0 ∷ 1 ∷ 118 ∷ 0 ∷ 1 ∷ 118 ∷ 0 ∷ 1 ∷ 118 ∷ 0 ∷ 1 ∷ 118 ∷ 0 ∷ 1 ∷ 118 ∷ 0 ∷ 1 ∷ 118 ∷ 0 ∷ 1 ∷ 118 ∷ 0 ∷ 1 ∷ 118 ∷ 0 ∷ 1 ∷ 118 ∷ 0 ∷ 1 ∷ 118 ∷ 0 ∷ 1 ∷ 118 ∷ 0 ∷ 1 ∷ 118 ∷ 0 ∷ 1 ∷ 118 ∷ 0 ∷ 1 ∷ 121 ∷ 0 ∷ 7 ∷ [], Whole Little 225) ∷
@@ -73,7 +76,8 @@ examples =
     (108 ∷ 2 ∷ 0 ∷ 1 ∷ 196 ∷ 0 ∷ 0 ∷ 0 ∷ 1 ∷ 0 ∷ 0 ∷ 0 ∷ 15 ∷ 0 ∷ 0 ∷ 0 ∷ 5 ∷ 1 ∷ 117 ∷ 0 ∷ 1 ∷ 0 ∷ 0 ∷ 0 ∷ 8 ∷ 1 ∷ 103 ∷ 0 ∷ 1 ∷ 118 ∷ 0 ∷ 0 ∷ 1 ∷ 118 ∷ 0 ∷ 1 ∷ 118 ∷ 0 ∷ 1 ∷ 118 ∷ 0 ∷ 1 ∷ 118 ∷ 0 ∷ 1 ∷ 118 ∷ 0 ∷ 1 ∷ 118 ∷ 0 ∷ 1 ∷ 118 ∷ 0 ∷ 1 ∷ 118 ∷ 0 ∷ 1 ∷ 118 ∷ 0 ∷ 1 ∷ 118 ∷ 0 ∷ 1 ∷ 118 ∷ 0 ∷ 1 ∷ 118 ∷ 0 ∷ 1 ∷ 118 ∷ 0 ∷ 1 ∷ 118 ∷ 0 ∷ 1 ∷ 118 ∷ 0 ∷ 1 ∷ 118 ∷ 0 ∷ 1 ∷ 118 ∷ 0 ∷ 1 ∷ 118 ∷ 0 ∷ 1 ∷ 118 ∷ 0 ∷ 1 ∷ 118 ∷ 0 ∷ 1 ∷ 118 ∷ 0 ∷ 1 ∷ 118 ∷ 0 ∷ 1 ∷ 118 ∷ 0 ∷ 1 ∷ 118 ∷ 0 ∷ 1 ∷ 118 ∷ 0 ∷ 1 ∷ 118 ∷ 0 ∷ 1 ∷ 118 ∷ 0 ∷ 1 ∷ 118 ∷ 0 ∷ 1 ∷ 118 ∷ 0 ∷ 1 ∷ 118 ∷ 0 ∷ 1 ∷ 118 ∷ 0 ∷ 1 ∷ 118 ∷ 0 ∷ 1 ∷ 118 ∷ 0 ∷ 1 ∷ 118 ∷ 0 ∷ 1 ∷ 118 ∷ 0 ∷ 1 ∷ 118 ∷ 0 ∷ 1 ∷ 118 ∷ 0 ∷ 1 ∷ 118 ∷ 0 ∷ 1 ∷ 118 ∷ 0 ∷ 1 ∷ 118 ∷ 0 ∷ 1 ∷ 118 ∷ 0 ∷ 1 ∷ 118 ∷ 0 ∷ 1 ∷ 118 ∷ 0 ∷ 1 ∷ 118 ∷ 0 ∷ 1 ∷ 118 ∷ 0 ∷ 1 ∷ 118 ∷ 0 ∷ 1 ∷ 118 ∷ 0 ∷ 1 ∷ 118 ∷ 0 ∷ 1 ∷ 118 ∷ 0 ∷ 1 ∷ 118 ∷ 0 ∷ 1 ∷ 118 ∷ 0 ∷ 1 ∷ 118 ∷ 0 ∷ 1 ∷ 118 ∷ 0 ∷ 1 ∷ 118 ∷ 0 ∷ 1 ∷ 118 ∷ 0 ∷ 1 ∷ 118 ∷ 0 ∷ 1 ∷ 118 ∷ 0 ∷ 1 ∷ 118 ∷ 0 ∷ 1 ∷ 118 ∷ 0 ∷ 1 ∷ 118 ∷ 0 ∷ 1 ∷ 118 ∷ 0 ∷ 1 ∷ 118 ∷ 0 ∷ 1 ∷ 118 ∷ 0 ∷ 1 ∷ 118 ∷ 0 ∷ 1 ∷ 121 ∷ 0 ∷ 7 ∷ [], Refused (fault 224 reasons.TooDeep)) ∷
     -- A text of two bytes, of which the first begins a character ("Marshalling basic types")
     (108 ∷ 2 ∷ 0 ∷ 1 ∷ 7 ∷ 0 ∷ 0 ∷ 0 ∷ 1 ∷ 0 ∷ 0 ∷ 0 ∷ 15 ∷ 0 ∷ 0 ∷ 0 ∷ 5 ∷ 1 ∷ 117 ∷ 0 ∷ 1 ∷ 0 ∷ 0 ∷ 0 ∷ 8 ∷ 1 ∷ 103 ∷ 0 ∷ 1 ∷ 115 ∷ 0 ∷ 0 ∷ 2 ∷ 0 ∷ 0 ∷ 0 ∷ 226 ∷ [], Wanting) ∷
-    -- The same with a second byte that goes on with that character, for which the text has no room ("Marshalling basic types")
+    -- The same with a second byte that goes on with that character, for which the text has no room
+    -- ("Marshalling basic types")
     (108 ∷ 2 ∷ 0 ∷ 1 ∷ 7 ∷ 0 ∷ 0 ∷ 0 ∷ 1 ∷ 0 ∷ 0 ∷ 0 ∷ 15 ∷ 0 ∷ 0 ∷ 0 ∷ 5 ∷ 1 ∷ 117 ∷ 0 ∷ 1 ∷ 0 ∷ 0 ∷ 0 ∷ 8 ∷ 1 ∷ 103 ∷ 0 ∷ 1 ∷ 115 ∷ 0 ∷ 0 ∷ 2 ∷ 0 ∷ 0 ∷ 0 ∷ 226 ∷ 130 ∷ [], Refused (fault 38 reasons.Text)) ∷
     -- The same with a second byte that cannot follow the first ("Marshalling basic types")
     (108 ∷ 2 ∷ 0 ∷ 1 ∷ 7 ∷ 0 ∷ 0 ∷ 0 ∷ 1 ∷ 0 ∷ 0 ∷ 0 ∷ 15 ∷ 0 ∷ 0 ∷ 0 ∷ 5 ∷ 1 ∷ 117 ∷ 0 ∷ 1 ∷ 0 ∷ 0 ∷ 0 ∷ 8 ∷ 1 ∷ 103 ∷ 0 ∷ 1 ∷ 115 ∷ 0 ∷ 0 ∷ 2 ∷ 0 ∷ 0 ∷ 0 ∷ 226 ∷ 40 ∷ [], Refused (fault 37 reasons.Text)) ∷

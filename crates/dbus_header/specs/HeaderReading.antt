@@ -1,6 +1,6 @@
--- Reading a message in the parts in which the code validates and checks it: the same answers as the relations of MessageItems give,
--- computed, plain and slow. It is the bridge from the relations to the code.
--- D-Bus Specification, "Message Format", "Header Fields".
+-- Reading a message in the parts in which the code validates and checks it: the same answers as the
+-- relations of MessageItems give, computed, plain and slow. It is the bridge from the relations to
+-- the code. D-Bus Specification, "Message Format", "Header Fields".
 use Rattle.std.specs.Prelude.{ℕ, ◌-◌, List, Option}
 use Rattle.dbus_texts.specs.Types.{TypeTree, TypeTrees}
 use Rattle.dbus_texts.specs.ComputedKinds.{types_spelled}

@@ -1,5 +1,5 @@
--- Reading the parts of a message that MessageItems gives names, from left to right; HeaderReading reads a whole message of them.
--- D-Bus Specification, "Message Format".
+-- Reading the parts of a message that MessageItems gives names, from left to right; HeaderReading
+-- reads a whole message of them. D-Bus Specification, "Message Format".
 use Rattle.std.specs.Prelude.{ℕ, ◌+◌, ◌-◌, [], ◌∷◌, if◌then◌else◌, nat_eq}
 use Rattle.dbus_texts.specs.Types.{UINT32, STRING, TypeTree, TypeTrees}
 use Rattle.dbus_value_model.specs.declared.limits.Bounds.{Bounds}

@@ -48,7 +48,8 @@ WholeForGood = (limits : Limits) (b c : List ℕ) (order : Order) (m : MessageTr
 abbrev pub RefusedForGood : Type 0
 RefusedForGood = (limits : Limits) (b c : List ℕ) (f : Fault) → IsRefused limits b f → IsRefused limits (b ++ c) f
 
--- What is whole under limits is whole under wider ones, in the same order, as the same message and of the same length.
+-- What is whole under limits is whole under wider ones, in the same order, as the same message and
+-- of the same length.
 abbrev pub WiderWhole : Type 0
 WiderWhole = (limits wider : Limits) (b : List ℕ) (order : Order) (m : MessageTree) (n : ℕ) → AreWider wider limits → IsWhole limits b order m n → IsWhole wider b order m n
 

@@ -9,7 +9,8 @@ use Rattle.dbus_message_model.specs.Messages.{MessageTree}
 use Rattle.dbus_header.specs.MessageOutcomes.{IsWhole, IsRefused}
 use Rattle.dbus_header.specs.StatedLengths.{StatesLength}
 
--- Whatever follows bytes that state n bytes, a message that they begin with has n bytes, and all are there.
+-- Whatever follows bytes that state n bytes, a message that they begin with has n bytes, and all
+-- are there.
 abbrev pub StatedHolds : Type 0
 StatedHolds = (limits : Limits) (b c : List ℕ) (order : Order) (m : MessageTree) (n k : ℕ) → StatesLength limits b n → IsWhole limits (b ++ c) order m k → (k ≡ n) × (n ≤ length (b ++ c))
 

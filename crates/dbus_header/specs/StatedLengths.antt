@@ -1,5 +1,5 @@
--- How many bytes a message within limits has, by the items that have fixed places: its first sixteen bytes.
--- D-Bus Specification, "Message Format"; docs/WIRE-FORMAT.md, "Messages".
+-- How many bytes a message within limits has, by the items that have fixed places: its first
+-- sixteen bytes. D-Bus Specification, "Message Format"; docs/WIRE-FORMAT.md, "Messages".
 use Rattle.std.specs.Prelude.{◌≡◌, ℕ, ◌+◌, ◌<◌, List, length, Option, Some, None, Result, Ok, Err}
 use Rattle.dbus_value_model.specs.Bytes.{gap_to}
 use Rattle.dbus_value_model.specs.declared.limits.Limits.{Limits}
@@ -8,7 +8,8 @@ use Rattle.dbus_header.specs.MessageItems.{fixed_items}
 use Rattle.dbus_header.specs.declared.fixed_header.FixedHeader.{FixedHeader}
 use Rattle.dbus_header.specs.MessageOutcomes.{IsRefused, IsPartial}
 
--- the message's length by what these items say: sixteen bytes, the fields, the padding after them and the body
+-- the message's length by what these items say: sixteen bytes, the fields, the padding after them
+-- and the body
 abbrev pub length_by : FixedHeader → ℕ
 length_by h = 16 + h.fields + gap_to 8 (16 + h.fields) + h.body
 
@@ -16,7 +17,8 @@ length_by h = 16 + h.fields + gap_to 8 (16 + h.fields) + h.body
 unfoldable pub StatesLength : Limits → List ℕ → ℕ → Type 0
 StatesLength limits b n = (h : FixedHeader) × (rest : List ℕ) × (fixed_items limits).Passed 0 b h 16 rest × (n ≡ length_by h)
 
--- what is answered: the length; or that there are too few bytes, which show no fault; or the fault within the first sixteen
+-- what is answered: the length; or that there are too few bytes, which show no fault; or the fault
+-- within the first sixteen
 abbrev pub Stated : Limits → List ℕ → Result (Option ℕ) Fault → Type 0
 Stated limits b (Ok (Some n)) = StatesLength limits b n
 Stated limits b (Ok None) = (length b < 16) × IsPartial limits b

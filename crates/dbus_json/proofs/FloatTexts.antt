@@ -1,4 +1,5 @@
--- Each finite float has a numeral that reads as it: `0.` with all its decimal digits, and a power of ten.
+-- Each finite float has a numeral that reads as it: `0.` with all its decimal digits, and a power
+-- of ten.
 use Rattle.std.proofs.Common.{◌≡◌, ℕ, zero, suc, ◌+◌, ◌-◌, ◌*◌, ◌/◌, ◌%◌, ◌^◌, ◌<◌, ◌≤◌, Bool, true, false, List, [], ◌∷◌, ◌++◌, length, Some, decimal, from_bits, refl, ap, ◌∙◌, subst, arith, true≢false, length-append, div-add-mod', div-lt_iff_lt-mul, mod-lt, leb}
 use Rattle.std.proofs.lemmas.Fmt.{decimal_is_IsNumeral}
 use Rattle.std.proofs.lemmas.Str.{digit_value_digit}

@@ -14,8 +14,8 @@ use Rattle.dbus_json.specs.JsonValues.{plain, array, member, object, IsJson, Are
 abbrev pub type_text : ℕ → List ℕ
 type_text kind = if nat_lt 0 kind && nat_lt kind 5 then plain (kind_text kind) else decimal kind
 
--- a header field with this code and value: one that is known is a member by its name, and any other an object of its code and its
--- value with the signature of that
+-- a header field with this code and value: one that is known is a member by its name, and any other
+-- an object of its code and its value with the signature of that
 pub record IsField (code : ℕ) (v : ValueTree) (text : List ℕ) : Type 0 where
   pub value : List ℕ
   pub json : IsJson v value
@@ -42,8 +42,8 @@ first_members order size kind flags serial number offset =
     ∷ member (codes "serial") (decimal serial)
     ∷ []
 
--- The line of a message that has this number and begins at this offset: the known fields are members of the object, and all other
--- fields, and the values of the body, stand in two arrays.
+-- The line of a message that has this number and begins at this offset: the known fields are
+-- members of the object, and all other fields, and the values of the body, stand in two arrays.
 pub record IsJsonLine (order : Order) (m : MessageTree) (number offset : ℕ) (text : List ℕ) : Type 0 where
   pub known : List (List ℕ)
   pub knows : AreFields (fields_of true m.fields) known

@@ -19,8 +19,8 @@ use Rattle.dbus_show.specs.ShownValues.{number_text, quoted_by, bytes_in}
 abbrev pub plain : List ℕ → List ℕ
 plain text = codes "\"" ++ (text ++ codes "\"")
 
--- Any string, section 7: `"` and `\` stand after a backslash, and the bytes below 32 and 127 as `\u00` and two hexadecimal digits.
--- Every other byte is itself.
+-- Any string, section 7: `"` and `\` stand after a backslash, and the bytes below 32 and 127 as
+-- `\u00` and two hexadecimal digits. Every other byte is itself.
 abbrev pub string : List ℕ → List ℕ
 string text = quoted_by (codes "\\u00") text
 
@@ -41,8 +41,9 @@ object members = codes "{" ++ (listed members ++ codes "}")
 
 -- ---- values
 
--- A DOUBLE of 64 bits, if it is finite, is a number that reads as the float of these bits: section 6. Infinities and NaNs are no
--- numbers there, so each is a string of its 16 hexadecimal digits, the highest place first.
+-- A DOUBLE of 64 bits, if it is finite, is a number that reads as the float of these bits: section
+-- 6. Infinities and NaNs are no numbers there, so each is a string of its 16 hexadecimal digits,
+-- the highest place first.
 pub record IsDouble (bits : ℕ) (text : List ℕ) : Type 0 where
   pub finite : float_is_finite (from_bits binary64 bits) ≡ true → IsPlainNumber text × (parse_float binary64 text ≡ Some (from_bits binary64 bits))
   pub other : float_is_finite (from_bits binary64 bits) ≡ false → text ≡ plain (encode_lower (num Big 8 bits))
@@ -52,8 +53,9 @@ abbrev pub IsNumber : NumberCode → ℕ → List ℕ → Type 0
 IsNumber DOUBLE n text = IsDouble n text
 IsNumber k n text = text ≡ number_text k n
 
--- An array of BYTE is a string of two hexadecimal digits for each byte. Any other array is one of its elements, a STRUCT one of its
--- fields, and a DICT_ENTRY one of its key and its value. A VARIANT is an object with the signature of the value that it holds.
+-- An array of BYTE is a string of two hexadecimal digits for each byte. Any other array is one of
+-- its elements, a STRUCT one of its fields, and a DICT_ENTRY one of its key and its value. A
+-- VARIANT is an object with the signature of the value that it holds.
 abbrev mutual
   pub IsJson : ValueTree → List ℕ → Type 0
   IsJson (NumberValue k n) text = IsNumber k n text

@@ -132,7 +132,8 @@ module _ (limits : Limits) where
       let b = o + gap_to 4 o + 4 in
       sym (onward-from b p (gap_to (alignment_of t) p) (gap_to (alignment_of t) b) s there (sym (gap-of_type t b p (rest-of b p there))) begins)
 
-  -- contents that begin at a small offset are within the array's limit exactly where their capped end is, which is then exact
+  -- contents that begin at a small offset are within the array's limit exactly where their capped
+  -- end is, which is then exact
   near-end : (m n e : ℕ) → m < 8 → e ≡ capped (m + n) → e ≤ m + limits.array → (n ≤ limits.array) × (e ≡ m + n)
   near-end m n e small is le = elim (dec_lt (m + n) 134217736) [
     | yes h ↦ (omega (arith, capped-near (m + n) h), omega (arith, capped-near (m + n) h))

@@ -24,7 +24,8 @@ taken_over o w at end four before within =
     let fits : length (take at x ++ (w ++ drop (at + 4) x)) ≡ end = simp (length-append, length-take, length-drop) (omega arith) in
     ap (take end) all ∙ take_at (take at x ++ (w ++ drop (at + 4) x)) z end fits
 
--- b is what was there with the first padding, z has a number in the length's place, y the padding to the element's alignment, x the contents
+-- b is what was there with the first padding, z has a number in the length's place, y the padding
+-- to the element's alignment, x the contents
 pub array_patched : (order : Order) (t : TypeTree) (xs : ValueTrees) (front b z y x : List ℕ) (at n m : ℕ) →
     b ≡ with_padding 4 front → at ≡ length b → z ≡ b ++ num order 4 m → y ≡ with_padding (alignment_of t) z → x ≡ with_values order xs y → n + length y ≡ length x →
     take at x ++ (num order 4 n ++ drop (at + 4) x) ≡ with_value order (ArrayValue t xs) front

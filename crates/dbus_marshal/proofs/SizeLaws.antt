@@ -1,4 +1,5 @@
--- A size is where the spelling ends, in both orders, where the limits are kept, and is refused where one is not.
+-- A size is where the spelling ends, in both orders, where the limits are kept, and is refused
+-- where one is not.
 use Rattle.std.proofs.Common.{◌≡◌, ℕ, ◌+◌, ◌≤◌, Bool, true, false, cond, ltb, eqb, List, length, Option, None, Some, Result, Ok, Err, refl, sym, ap, subst, ◌∙◌, arith}
 use Rattle.std.proofs.lemmas.Bool.{ltb-true, ltb-false, eqb-true}
 use Rattle.dbus_texts.specs.Types.{sig}
@@ -17,7 +18,8 @@ use Rattle.dbus_marshal.proofs.Lengths.{length-number, length-ended, length-text
 use Rattle.dbus_marshal.proofs.Written.{value_is, length_value}
 
 module _ (limits : Limits) where
-  -- what is answered at o of what would take n bytes there, and keeps its arrays' limits where kept says so
+  -- what is answered at o of what would take n bytes there, and keeps its arrays' limits where kept
+  -- says so
   abbrev Answers : Option ℕ → ℕ → ℕ → Type 0 → Result ℕ ValueFault → Type 0
   Answers b o n kept (Ok e) = (o + n ≡ e) × kept × Inside limits b e
   Answers b o n kept (Err f) = Stops limits b f (o + n) kept

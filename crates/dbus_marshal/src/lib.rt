@@ -1,7 +1,9 @@
-//! Values of the D-Bus wire format written as bytes, and where they end. D-Bus Specification, "Marshaling (Wire Format)".
+//! Values of the D-Bus wire format written as bytes, and where they end. D-Bus Specification,
+//! "Marshaling (Wire Format)".
 //!
-//! [`put`] appends a value's bytes to a vector, in either byte order, and [`size_after`] returns where they end without writing
-//! them. The other calls are for `dbus_build` and `dbus_encode`. Callers use the crate `dbus_value`.
+//! [`put`] appends a value's bytes to a vector, in either byte order, and [`size_after`] returns
+//! where they end without writing them. The other calls are for `dbus_build` and `dbus_encode`.
+//! Callers use the crate `dbus_value`.
 #![tactic(auto)]
 
 mod marshalling;

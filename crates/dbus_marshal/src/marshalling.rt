@@ -51,12 +51,13 @@ pub fn put<A: Allocator>(
     put_within(out, order, value, Limits::specification())
 }
 
-/// Appends a value's spelling. The vector begins at the message's first byte, so its length is the value's offset, and
-/// is at most the limits' message.
+/// Appends a value's spelling. The vector begins at the message's first byte, so its length is the
+/// value's offset, and is at most the limits' message.
 ///
-/// Each signature in the value has at most 255 bytes, as in every well-formed one. The error is that of `size_after_within` at
-/// this offset, if that returns one; else `Memory`, only if the vector's capacity is too small and an allocation failed. After an
-/// error the vector's bytes are as they were.
+/// Each signature in the value has at most 255 bytes, as in every well-formed one. The error is
+/// that of `size_after_within` at this offset, if that returns one; else `Memory`, only if the
+/// vector's capacity is too small and an allocation failed. After an error the vector's bytes are
+/// as they were.
 #[tactic(auto, using(crate::proofs::SizeLaws::put_needs))]
 pub fn put_within<A: Allocator>(
     out: &mut Vec<u8, A>,
@@ -83,9 +84,11 @@ pub fn put_within<A: Allocator>(
     Ok(())
 }
 
-/// Writes a value's spelling at a place of bytes that have room for it, and gives the place where it ends.
+/// Writes a value's spelling at a place of bytes that have room for it, and gives the place where
+/// it ends.
 ///
-/// The bytes begin at the message's first one, and are fewer than 4,294,967,296, as they are within a message's limit.
+/// The bytes begin at the message's first one, and are fewer than 4,294,967,296, as they are within
+/// a message's limit.
 #[cycle(write)]
 pub fn write_value<A: Allocator>(out: &mut [u8], at: usize, order: Order, value: &Value<A>) -> usize
     requires start { at ≤ length out.old }

@@ -13,11 +13,12 @@ use dbus_types::alignment;
 use dbus_value_model::{Limits, MESSAGE_LIMIT, Value, padding_length};
 use std::alloc::Allocator;
 
-/// Offsets are exact below this, and known modulo 8 from here on: the limit of messages, and a step to a boundary beyond.
+/// Offsets are exact below this, and known modulo 8 from here on: the limit of messages, and a step
+/// to a boundary beyond.
 const CAP: u64 = MESSAGE_LIMIT as u64 + 8;
 
-/// Where a struct ends of a BYTE and a VARIANT that holds `value`, as each field of a message's header is one, as
-/// [`measure`] says.
+/// Where a struct ends of a BYTE and a VARIANT that holds `value`, as each field of a message's
+/// header is one, as [`measure`] says.
 pub fn measure_header_field<A: Allocator>(value: &Value<A>, at: u64, limits: Limits) -> Option<u64>
     requires start { IsCapped at }
     requires signed { HasShortSignatures (VariantValue (value_tree value.now)) }
@@ -68,9 +69,9 @@ fn text(width: u8, len: usize, at: u64) -> u64
     cap(number(width, at) + cap(len as u64) + 1)
 }
 
-/// Where an array ends whose contents begin at `start`, or nothing if they have more bytes than the limits' array. `end` is
-/// where they would end from the remainder of `start` modulo 8 on: there they have the same paddings, and an end that is exact
-/// up to the cap.
+/// Where an array ends whose contents begin at `start`, or nothing if they have more bytes than the
+/// limits' array. `end` is where they would end from the remainder of `start` modulo 8 on: there
+/// they have the same paddings, and an end that is exact up to the cap.
 fn array_end(start: u64, end: u64, limits: Limits) -> Option<u64>
     requires start { IsCapped start }
     requires end { IsCapped end }
@@ -85,12 +86,14 @@ fn array_end(start: u64, end: u64, limits: Limits) -> Option<u64>
     Some(cap(start - origin + end))
 }
 
-/// Where a value ends that begins at `at`, in both byte orders, or nothing if the contents of an array in it have more
-/// bytes than the limits' array. D-Bus Specification, "Marshaling (Wire Format)".
+/// Where a value ends that begins at `at`, in both byte orders, or nothing if the contents of an
+/// array in it have more bytes than the limits' array. D-Bus Specification, "Marshaling (Wire
+/// Format)".
 ///
-/// `at` is an offset from the message's first byte. Offsets from 8 bytes past [`MESSAGE_LIMIT`] on are kept modulo 8, which is all
-/// that padding needs: one there stands for each further out. The end is given in the same form, so one measure goes on from another however long
-/// the whole is, and it is over [`MESSAGE_LIMIT`] exactly if the true end is. Each signature in the value has at
+/// `at` is an offset from the message's first byte. Offsets from 8 bytes past [`MESSAGE_LIMIT`] on
+/// are kept modulo 8, which is all that padding needs: one there stands for each further out. The
+/// end is given in the same form, so one measure goes on from another however long the whole is,
+/// and it is over [`MESSAGE_LIMIT`] exactly if the true end is. Each signature in the value has at
 /// most 255 bytes, as in every well-formed one.
 #[cycle(size)]
 pub fn measure<A: Allocator>(value: &Value<A>, at: u64, limits: Limits) -> Option<u64>

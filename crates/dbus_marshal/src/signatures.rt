@@ -164,8 +164,8 @@ fn write_types_of<A: Allocator>(out: &mut [u8], at: usize, values: &[Value<A>]) 
     place
 }
 
-/// Writes the signature of a value's type as a variant has it: its length in one byte, itself and a zero byte. It is the
-/// same in either byte order.
+/// Writes the signature of a value's type as a variant has it: its length in one byte, itself and a
+/// zero byte. It is the same in either byte order.
 #[tactic(auto, using(crate::proofs::Written::texts))]
 pub fn write_variant_signature<A: Allocator>(out: &mut [u8], at: usize, value: &Value<A>) -> usize
     requires space { at + length (sig (type_of (value_tree value.now))) + 2 ≤ length out.old }

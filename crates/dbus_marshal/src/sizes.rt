@@ -13,8 +13,8 @@ use dbus_types::alignment;
 use dbus_value_model::{Limits, Value, ValueFault, padding_length};
 use std::alloc::Allocator;
 
-/// The offset where a value ends that begins at `offset`, as [`size_after_within`] says under the limits of the
-/// specification.
+/// The offset where a value ends that begins at `offset`, as [`size_after_within`] says under the
+/// limits of the specification.
 pub fn size_after<A: Allocator>(value: &Value<A>, offset: u64) -> Result<u64, ValueFault>
     requires start { offset ≤ MESSAGE_LIMIT }
     requires signed { HasShortSignatures (value_tree value.now) }
@@ -30,9 +30,10 @@ pub fn size_after<A: Allocator>(value: &Value<A>, offset: u64) -> Result<u64, Va
 /// `offset` counts from the message's first byte and is at most the limits' message. Each signature
 /// in the value has at most 255 bytes, as in every well-formed one.
 ///
-/// The first item, in order, whose end passes a bound is refused: `ArrayTooLong` if that is the bound of an open
-/// array, the limits' array from the start of its contents, else `TooLong` if it is the limits' message. A padding, a
-/// number, a length, a text and the byte after a text are an item each.
+/// The first item, in order, whose end passes a bound is refused: `ArrayTooLong` if that is the
+/// bound of an open array, the limits' array from the start of its contents, else `TooLong` if it
+/// is the limits' message. A padding, a number, a length, a text and the byte after a text are an
+/// item each.
 pub fn size_after_within<A: Allocator>(
     value: &Value<A>,
     offset: u64,

@@ -1,7 +1,8 @@
 //! Numbers, padding and texts stored from a place on, in bytes that have room for them.
 //!
-//! The bytes begin at the message's first one. Each function takes the place where what it writes begins, and gives the
-//! place where that ends; what is before the place stays. D-Bus Specification, "Marshaling (Wire Format)".
+//! The bytes begin at the message's first one. Each function takes the place where what it writes
+//! begins, and gives the place where that ends; what is before the place stays. D-Bus
+//! Specification, "Marshaling (Wire Format)".
 #![tactic(auto, using(crate::proofs::Written::lengths))]
 
 ghost use Rattle.std.specs.Prelude.{◌≡◌, ◌+◌, ◌-◌, ◌<◌, ◌≤◌, ◌∷◌, [], ◌++◌, length, replicate, take, drop};
@@ -44,7 +45,8 @@ pub fn write_byte(out: &mut [u8], at: usize, byte: u8) -> usize
     at + 1
 }
 
-/// Writes zeros from `at` up to `end`, eight at once if there is room for them: what is after `end` may change.
+/// Writes zeros from `at` up to `end`, eight at once if there is room for them: what is after `end`
+/// may change.
 #[inline]
 fn write_zeros(out: &mut [u8], at: usize, end: usize)
     requires start { at ≤ end }
@@ -117,7 +119,8 @@ pub fn write_number(out: &mut [u8], at: usize, order: Order, width: u8, n: u64) 
     write_unpadded(out, place, order, width, n)
 }
 
-/// Writes the text of a STRING or an OBJECT_PATH: padding, its length in four bytes, itself and a zero byte.
+/// Writes the text of a STRING or an OBJECT_PATH: padding, its length in four bytes, itself and a
+/// zero byte.
 #[tactic(auto, using(crate::proofs::Written::texts))]
 pub fn write_text(out: &mut [u8], at: usize, order: Order, text: &[u8]) -> usize
     requires start { at ≤ length out.old }
@@ -132,7 +135,8 @@ pub fn write_text(out: &mut [u8], at: usize, order: Order, text: &[u8]) -> usize
     write_byte(out, place, 0)
 }
 
-/// Writes the text of a SIGNATURE: its length in one byte, itself and a zero byte. It is the same in either byte order.
+/// Writes the text of a SIGNATURE: its length in one byte, itself and a zero byte. It is the same
+/// in either byte order.
 #[tactic(auto, using(crate::proofs::Written::texts))]
 pub fn write_signature(out: &mut [u8], at: usize, text: &[u8]) -> usize
     requires space { at + length text.now + 2 ≤ length out.old }

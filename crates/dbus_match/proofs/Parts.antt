@@ -1,4 +1,5 @@
--- What holds of each element of a list, and of its parts; and where a list ends its run of such elements.
+-- What holds of each element of a list, and of its parts; and where a list ends its run of such
+-- elements.
 use Rattle.std.proofs.Common.{◌≡◌, ℕ, zero, suc, Bool, true, List, [], ◌∷◌, ◌++◌, drop, refl, sym, ap, ◌∙◌, subst}
 use Rattle.std.specs.List.{AllByRecursion, list_all}
 use Rattle.std.proofs.lemmas.Bool.{and_parts}

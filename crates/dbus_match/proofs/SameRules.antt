@@ -1,4 +1,5 @@
--- Rules are equal exactly where they have the same keys with the same values, and owners where they have the same names.
+-- Rules are equal exactly where they have the same keys with the same values, and owners where they
+-- have the same names.
 use Rattle.std.proofs.Common.{◌≡◌, Bool, ◌&&◌, nat_eq, ap, subst, arith, string_bytes}
 use Rattle.std.proofs.lemmas.Bool.Decides.{Decides-and}
 use Rattle.std.proofs.lemmas.Grind.{common_steps}

@@ -1,5 +1,5 @@
--- The conditions that a rule keeps, as pairs of a key and a value, and a pair put in its place among others.
--- D-Bus Specification, "Match Rules"; the canonical order is this project's own.
+-- The conditions that a rule keeps, as pairs of a key and a value, and a pair put in its place
+-- among others. D-Bus Specification, "Match Rules"; the canonical order is this project's own.
 use Rattle.std.specs.Prelude.{List, [], ◌∷◌, map, ltb, if◌then◌else◌, string_bytes}
 use Rattle.dbus_match.specs.declared.condition.Condition.{Condition}
 use Rattle.dbus_match.specs.Keys.{rank}

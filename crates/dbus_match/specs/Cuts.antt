@@ -1,5 +1,5 @@
--- What the reading of a value's text answers, as a reading: after the value stands the rest of the text.
--- D-Bus Specification, "Match Rules".
+-- What the reading of a value's text answers, as a reading: after the value stands the rest of the
+-- text. D-Bus Specification, "Match Rules".
 use Rattle.std.specs.Prelude.{ℕ, List, drop}
 use Rattle.dbus_match.specs.declared.value_cut.Cut.{Cut}
 use Rattle.dbus_match.specs.declared.value_cut.Cut.TheVariants.{Closed, Open}

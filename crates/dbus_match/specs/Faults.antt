@@ -1,5 +1,5 @@
--- Why a text spells no rule, and where: the first pair from the left that cannot stand.
--- D-Bus Specification, "Match Rules"; the order of the faults and their places are this project's own.
+-- Why a text spells no rule, and where: the first pair from the left that cannot stand. D-Bus
+-- Specification, "Match Rules"; the order of the faults and their places are this project's own.
 use Rattle.std.specs.Prelude.{◌≡◌, ◌≢◌, ℕ, ◌+◌, List, [], ◌∷◌, ◌++◌, length, replicate}
 use Rattle.std.specs.List.{AllByRecursion}
 use Rattle.dbus_match.specs.declared.key.Key.{Key}

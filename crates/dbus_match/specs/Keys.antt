@@ -1,6 +1,7 @@
--- The keys of a rule: their names, their canonical order, and the values that they take.
--- D-Bus Specification, "Match Rules". By this project's own choice `destination` takes any bus name (there: a
--- unique name), and `arg0namespace` any text (there: like a bus name, with or without a period).
+-- The keys of a rule: their names, their canonical order, and the values that they take. D-Bus
+-- Specification, "Match Rules". By this project's own choice `destination` takes any bus name
+-- (there: a unique name), and `arg0namespace` any text (there: like a bus name, with or without a
+-- period).
 use Rattle.std.specs.Prelude.{◌≡◌, ℕ, ◌+◌, ◌<◌, ◌/◌, ◌%◌, ◌⊎◌, List, [], ◌∷◌, ◌++◌, ltb, if◌then◌else◌, codes}
 use Rattle.dbus_match.specs.declared.key.Key.{Key}
 use Rattle.dbus_match.specs.declared.key.Key.TheVariants.{MessageType, Sender, Interface, Member, Path, PathNamespace, Destination, Arg, ArgPath, Arg0Namespace, Eavesdrop}

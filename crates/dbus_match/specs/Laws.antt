@@ -1,6 +1,6 @@
--- The laws of rules: a text spells one rule or has one fault, and never both; the canonical text of a
--- rule spells it; and of each message it is decided whether a rule matches it.
--- D-Bus Specification, "Match Rules".
+-- The laws of rules: a text spells one rule or has one fault, and never both; the canonical text of
+-- a rule spells it; and of each message it is decided whether a rule matches it. D-Bus
+-- Specification, "Match Rules".
 use Rattle.std.specs.Prelude.{◌≡◌, ◌⊎◌, ℕ, List}
 use Rattle.dbus_message_model.specs.Messages.{MessageTree}
 use Rattle.dbus_match.specs.declared.fault.RuleReason.{RuleReason}

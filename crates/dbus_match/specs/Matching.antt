@@ -1,5 +1,5 @@
--- When a rule matches a message: each of its keys holds.
--- D-Bus Specification, "Match Rules"; the owners of well-known names are a list that the caller hands in.
+-- When a rule matches a message: each of its keys holds. D-Bus Specification, "Match Rules"; the
+-- owners of well-known names are a list that the caller hands in.
 use Rattle.std.specs.Prelude.{◌≡◌, ℕ, ◌⊎◌, Option, Some, None, List, [], ◌∷◌, ◌++◌, map, string_bytes, ◌==◌, ◌&&◌, Bool, true, false, if◌then◌else◌, codes}
 use Rattle.std.specs.List.{AllByRecursion}
 use Rattle.std.specs.Str.{bytes_eq}

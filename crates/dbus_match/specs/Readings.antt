@@ -1,5 +1,5 @@
--- A value's text at the start of a text, by its pieces: it is closed and ends, or an apostrophe is not closed.
--- D-Bus Specification, "Match Rules".
+-- A value's text at the start of a text, by its pieces: it is closed and ends, or an apostrophe is
+-- not closed. D-Bus Specification, "Match Rules".
 use Rattle.std.specs.Prelude.{◌≡◌, ◌≢◌, ℕ, ◌+◌, List, [], ◌∷◌, ◌++◌, length}
 use Rattle.std.specs.List.{AllByRecursion}
 use Rattle.dbus_match.specs.Values.{Piece, pieces_text, pieces_value, ArePieces}

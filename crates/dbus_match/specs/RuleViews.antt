@@ -1,5 +1,5 @@
--- A rule as its list of key and value pairs in canonical order, and what the reading of a text answers.
--- D-Bus Specification, "Match Rules".
+-- A rule as its list of key and value pairs in canonical order, and what the reading of a text
+-- answers. D-Bus Specification, "Match Rules".
 use Rattle.std.specs.Prelude.{◌≡◌, ◌⊎◌, ℕ, List, Result, Ok, Err}
 use Rattle.dbus_match.specs.declared.rule.Rule.{Rule}
 use Rattle.dbus_match.specs.declared.fault.RuleFault.{RuleFault}

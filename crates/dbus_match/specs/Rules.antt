@@ -1,7 +1,7 @@
--- Rules, the relation of a text and the rule that it spells, and canonical texts: 32 is the space, 44 the comma,
--- 61 is `=`.
--- D-Bus Specification, "Match Rules". By this project's own choice each key stands at most once, and spaces stand
--- outside values only before a key and after the last comma.
+-- Rules, the relation of a text and the rule that it spells, and canonical texts: 32 is the space,
+-- 44 the comma, 61 is `=`. D-Bus Specification, "Match Rules". By this project's own choice each
+-- key stands at most once, and spaces stand outside values only before a key and after the last
+-- comma.
 use Rattle.std.specs.Prelude.{◌≡◌, ◌≢◌, ℕ, ◌<◌, ◌⊎◌, ◌↔◌, List, [], ◌∷◌, ◌++◌, replicate, ◌==◌, if◌then◌else◌}
 use Rattle.std.specs.List.{AllByRecursion}
 use Rattle.dbus_match.specs.declared.key.Key.{Key}
@@ -110,7 +110,8 @@ pub record SpellsRule (w : List ℕ) (r : List Pair) : Type 0 where
   pub apart : AreApart pairs
   pub same : (p : Pair) → IsIn p pairs ↔ IsIn p r
 
--- the canonical text: each value in apostrophes, an apostrophe in it as `'\''`, and the pairs joined by commas
+-- the canonical text: each value in apostrophes, an apostrophe in it as `'\''`, and the pairs
+-- joined by commas
 abbrev pub quote_escaped : List ℕ → List ℕ
 quote_escaped [] = []
 quote_escaped (b ∷ c) = if b == 39 then 39 ∷ 92 ∷ 39 ∷ 39 ∷ quote_escaped c else b ∷ quote_escaped c

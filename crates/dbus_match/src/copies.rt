@@ -14,7 +14,8 @@ use std::alloc::{AllocError, Allocator};
 impl<A: Allocator + Clone> Clone for Condition<A> {
     ghost is_clone = { λ condition copy. condition_pair copy ≡ condition_pair condition };
 
-    /// A condition of the same key and the same value, in memory of its own from the same allocator.
+    /// A condition of the same key and the same value, in memory of its own from the same
+    /// allocator.
     ///
     /// Returns `AllocError` if an allocation failed, and nothing of the copy is left then.
     fn clone(&self) -> Result<Condition<A>, AllocError> {

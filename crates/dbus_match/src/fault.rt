@@ -20,16 +20,17 @@ pub enum RuleFault {
 
 /// Why a text spells no rule.
 ///
-/// `Nul` comes before all others. Then the pairs are read from the left, and within a pair the reasons
-/// come in the order of this list. D-Bus Specification, "Match Rules"; the reasons, their order and their
-/// places are this project's own.
+/// `Nul` comes before all others. Then the pairs are read from the left, and within a pair the
+/// reasons come in the order of this list. D-Bus Specification, "Match Rules"; the reasons, their
+/// order and their places are this project's own.
 #[derive(Clone, Copy, PartialEq, Eq, Debug)]
 pub enum RuleReason {
     /// U+0000, at the first of them.
     Nul,
     /// A pair without `=`: at the comma, or the text's end, that comes before one.
     NoEquals,
-    /// What comes before `=` is no key: at its first byte that is no space, or at the `=` if there is none.
+    /// What comes before `=` is no key: at its first byte that is no space, or at the `=` if there
+    /// is none.
     KeyName,
     /// The key is in an earlier pair: at its first byte.
     KeyTwice,

@@ -1,4 +1,5 @@
-//! The laws of rules. None of these functions does anything, beyond comparing: their contracts are the laws.
+//! The laws of rules. None of these functions does anything, beyond comparing: their contracts are
+//! the laws.
 #![tactic(auto)]
 
 ghost use Rattle.std.specs.Prelude.{◌↔◌, IsTrue};

@@ -1,9 +1,11 @@
-//! Match rules of D-Bus: read, written, and matched with messages. D-Bus Specification, "Match Rules".
+//! Match rules of D-Bus: read, written, and matched with messages. D-Bus Specification, "Match
+//! Rules".
 //!
-//! [`parse_rule`] reads a rule's text and [`rule_text`] writes it. [`matches`] asks whether a rule matches a decoded message, and
-//! [`matches_view`] asks the same of a view, and allocates nothing. Both take the [`Owner`]s of well-known names, which a rule's `sender`
-//! needs. For many rules at once there is the crate `dbus_rule_set`. docs/MATCH-RULES.md has the rules in our words, and where
-//! they differ from the specification. Examples are at [`parse_rule`] and [`matches`].
+//! [`parse_rule`] reads a rule's text and [`rule_text`] writes it. [`matches`] asks whether a rule
+//! matches a decoded message, and [`matches_view`] asks the same of a view, and allocates nothing.
+//! Both take the [`Owner`]s of well-known names, which a rule's `sender` needs. For many rules at
+//! once there is the crate `dbus_rule_set`. docs/MATCH-RULES.md has the rules in our words, and
+//! where they differ from the specification. Examples are at [`parse_rule`] and [`matches`].
 #![tactic(auto)]
 
 mod asked;

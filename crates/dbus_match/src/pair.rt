@@ -16,7 +16,8 @@ use crate::key_name::key_of;
 use crate::value_cut::{Cut, cut_value};
 use std::alloc::{AllocError, Allocator};
 
-/// The place of the first `=` from `from` on; if a comma or the text's end comes before one, its place.
+/// The place of the first `=` from `from` on; if a comma or the text's end comes before one, its
+/// place.
 fn find_equals(text: &[u8], from: usize) -> Result<usize, usize>
     requires { from ≤ length text.now }
     ensures cut { name_cut_of result ≡ name_cut from (drop from text.now) }

@@ -36,11 +36,12 @@ fn read_rule<A: Allocator + Copy>(alloc: A, text: &str) -> Result<Rule<A>, RuleF
 
 /// The rule that the text spells. D-Bus Specification, "Match Rules".
 ///
-/// Else `Bad` with the text's one fault, in the order and at the place that `RuleReason` says; `Memory`
-/// comes only if an allocation failed.
+/// Else `Bad` with the text's one fault, in the order and at the place that `RuleReason` says;
+/// `Memory` comes only if an allocation failed.
 ///
-/// This differs from the specification in these points: each key occurs at most once; spaces are allowed only
-/// before a key and after the last comma; `destination` takes any bus name, and `arg0namespace` any text.
+/// This differs from the specification in these points: each key occurs at most once; spaces are
+/// allowed only before a key and after the last comma; `destination` takes any bus name, and
+/// `arg0namespace` any text.
 ///
 /// ```rust
 /// use dbus_match::{RuleFault, parse_rule};

@@ -56,11 +56,12 @@ fn canonical_text<A: Allocator + Copy>(
     Ok(text)
 }
 
-/// The canonical text of the rule: its keys in canonical order, joined by commas without spaces, and
-/// each value in apostrophes, an apostrophe in a value as `'\''`. `parse_rule` reads the rule back.
+/// The canonical text of the rule: its keys in canonical order, joined by commas without spaces,
+/// and each value in apostrophes, an apostrophe in a value as `'\''`. `parse_rule` reads the rule
+/// back.
 ///
-/// `AllocError` comes only if an allocation failed. The specification knows no canonical text; this one
-/// is the project's own.
+/// `AllocError` comes only if an allocation failed. The specification knows no canonical text; this
+/// one is the project's own.
 pub fn rule_text<A: Allocator + Copy>(alloc: A, rule: &Rule<A>) -> Result<String<A>, AllocError>
     ensures exact { IfOk result (λ text. string_bytes text ≡ canonical (rule_pairs rule.now)) }
     ensures spells { IfOk result (λ text.

@@ -35,7 +35,8 @@ fn is_quote_at(text: &[u8], place: usize) -> bool
     place < text.len() && text[place] == b'\''
 }
 
-/// Reads the value whose text begins at `from`, up to a comma outside apostrophes or the text's end.
+/// Reads the value whose text begins at `from`, up to a comma outside apostrophes or the text's
+/// end.
 pub(crate) fn cut_value<A: Allocator + Copy>(
     alloc: A,
     text: &[u8],

@@ -64,8 +64,8 @@ fn holds<A: Allocator>(condition: &Condition<A>, view: &MessageView, owners: &[O
     }
 }
 
-/// Whether each key of the rule holds of the message that the view is of, as [`crate::matches`] says of a message.
-/// D-Bus Specification, "Match Rules".
+/// Whether each key of the rule holds of the message that the view is of, as [`crate::matches`]
+/// says of a message. D-Bus Specification, "Match Rules".
 ///
 /// ```rust
 /// use dbus_match::{matches_view, parse_rule};

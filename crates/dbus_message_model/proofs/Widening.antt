@@ -1,4 +1,5 @@
--- What keeps limits keeps wider ones, and the valid messages that keep limits are those that are valid within them.
+-- What keeps limits keeps wider ones, and the valid messages that keep limits are those that are
+-- valid within them.
 use Rattle.std.proofs.Common.{◌≡◌, ◌⊎◌, ℕ, zero, suc, ◌+◌, ◌≤◌, length, refl, sym, subst, arith, inl, inr}
 use Rattle.dbus_value_model.specs.declared.order.Order.{Order}
 use Rattle.dbus_value_model.specs.declared.order.Order.TheVariants.{Little}

@@ -1,5 +1,5 @@
--- Which limits a message keeps: on open containers, on arrays, on its length, and on indexes of descriptors.
--- D-Bus Specification, "Message Format", "Marshaling (Wire Format)".
+-- Which limits a message keeps: on open containers, on arrays, on its length, and on indexes of
+-- descriptors. D-Bus Specification, "Message Format", "Marshaling (Wire Format)".
 use Rattle.std.specs.Prelude.{◌<◌, length}
 use Rattle.dbus_value_model.specs.declared.order.Order.TheVariants.{Little}
 use Rattle.dbus_value_model.specs.declared.limits.Limits.{Limits}
@@ -7,7 +7,8 @@ use Rattle.dbus_value_model.specs.Forming.{NestsWithin, NestWithin}
 use Rattle.dbus_value_model.specs.Spelling.{IsWithinLimits, AreWithinLimits}
 use Rattle.dbus_message_model.specs.Messages.{MessageTree, field_array, body_start, message_bytes, KeepsIndexes}
 
--- no more arrays, structs and variants are open at once than the limit says, those of the header among them
+-- no more arrays, structs and variants are open at once than the limit says, those of the header
+-- among them
 abbrev pub IsShallow : Limits → MessageTree → Type 0
 IsShallow limits m = NestsWithin limits.depth (field_array m.fields) × NestWithin limits.depth m.body
 

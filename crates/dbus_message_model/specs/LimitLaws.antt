@@ -1,5 +1,5 @@
--- The laws of messages and limits: which limits are wider than others, and which messages keep them.
--- D-Bus Specification, "Message Format" and "Marshaling (Wire Format)".
+-- The laws of messages and limits: which limits are wider than others, and which messages keep
+-- them. D-Bus Specification, "Message Format" and "Marshaling (Wire Format)".
 use Rattle.std.specs.Prelude.{◌≡◌, ◌↔◌, ◌≤◌, ◌⊎◌}
 use Rattle.dbus_value_model.specs.declared.fd_rule.FdRule.TheVariants.{Any}
 use Rattle.dbus_value_model.specs.declared.limits.Limits.{Limits}
@@ -7,7 +7,8 @@ use Rattle.dbus_value_model.specs.Specification.{specification}
 use Rattle.dbus_message_model.specs.KeptLimits.{KeepsLimits}
 use Rattle.dbus_message_model.specs.Messages.{MessageTree, IsValidMessage}
 
--- None of the wider limits is smaller. A rule on indexes of descriptors is not where it is the same, or where any may stand.
+-- None of the wider limits is smaller. A rule on indexes of descriptors is not where it is the
+-- same, or where any may stand.
 abbrev pub AreWider : Limits → Limits → Type 0
 AreWider wider limits = (limits.message ≤ wider.message) × (limits.array ≤ wider.array) × (limits.depth ≤ wider.depth)
     × ((wider.fds ≡ limits.fds) ⊎ (wider.fds ≡ Any))

@@ -1,6 +1,6 @@
 -- Trusted by the headline.
--- Messages as trees, their one spelling in either byte order, and which are valid: the message relation.
--- D-Bus Specification, "Message Format" and "Header Fields".
+-- Trusted by the headline. Messages as trees, their one spelling in either byte order, and which
+-- are valid: the message relation. D-Bus Specification, "Message Format" and "Header Fields".
 use Rattle.std.specs.Prelude.{◌≡◌, ℕ, ◌+◌, ◌^◌, ◌<◌, ◌≤◌, List, [], ◌∷◌, ◌++◌, length, map, Bool, true, false, ◌||◌, ◌&&◌, nat_eq, if◌then◌else◌, Option, Some, None}
 use Rattle.dbus_texts.specs.Types.{BYTE, UINT32, STRING, OBJECT_PATH, SIGNATURE, TypeTree, NumberType, TextType, VariantType, StructType, NoTypes, MoreTypes, sigs}
 use Rattle.dbus_value_model.specs.FdIndexes.{index_limit, AreAllBelow}
@@ -70,7 +70,8 @@ pub data Want : Type 0 where
   Name : WantedText → Want
   Serial : Want
 
--- The table of the known header fields: what is wanted of the value of each. Any other field holds anything.
+-- The table of the known header fields: what is wanted of the value of each. Any other field holds
+-- anything.
 abbrev pub want : ℕ → Want
 want code =
     if nat_eq code field.PATH then OfType (TextType OBJECT_PATH)
@@ -148,7 +149,8 @@ abbrev pub fd_count : List FieldTree → ℕ
 fd_count [] = 0
 fd_count (f ∷ fs) = if nat_eq f.code field.UNIX_FDS then number_in f.value else fd_count fs
 
--- the number that the indexes of descriptors in the body are below, where the limits' rule asks for one
+-- the number that the indexes of descriptors in the body are below, where the limits' rule asks for
+-- one
 abbrev pub body_fds : Limits → List FieldTree → Option ℕ
 body_fds limits fs = index_limit limits.fds (fd_count fs)
 

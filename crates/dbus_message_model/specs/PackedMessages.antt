@@ -1,5 +1,5 @@
--- Where an array of bytes is `Bytes` in a message: the one thing of its values that its tree does not show.
--- D-Bus Specification, "Marshaling (Wire Format)".
+-- Where an array of bytes is `Bytes` in a message: the one thing of its values that its tree does
+-- not show. D-Bus Specification, "Marshaling (Wire Format)".
 use Rattle.dbus_message_model.specs.declared.message.Message.{Message}
 use Rattle.dbus_message_model.specs.PackedParts.{PartsKeepBytes}
 

@@ -1,5 +1,5 @@
--- Where an array of bytes is `Bytes` in a message's parts: the one thing of their values that their tree does not show.
--- D-Bus Specification, "Marshaling (Wire Format)".
+-- Where an array of bytes is `Bytes` in a message's parts: the one thing of their values that their
+-- tree does not show. D-Bus Specification, "Marshaling (Wire Format)".
 use Rattle.std.specs.Prelude.{List, map, IsTrue}
 use Rattle.dbus_value_model.specs.PackedBytes.{keep_bytes}
 use Rattle.dbus_value_model.specs.declared.value.Value.{Value}

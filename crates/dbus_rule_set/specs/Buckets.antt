@@ -1,5 +1,5 @@
--- The index: under which handle a rule stands, so that it is found by the texts of each message that it matches.
--- No public clause speaks of it.
+-- The index: under which handle a rule stands, so that it is found by the texts of each message
+-- that it matches. No public clause speaks of it.
 use Rattle.std.specs.Prelude.{◌≡◌, ℕ, ◌+◌, ◌*◌, ◌/◌, ◌%◌, ◌^◌, ◌<◌, ◌==◌, Bool, true, false, List, slice_index_or, if◌then◌else◌}
 use Rattle.dbus_message_model.specs.Messages.{MessageTree}
 use Rattle.dbus_message_model.specs.Lookups.{field_value, body_value}

@@ -1,4 +1,5 @@
--- Numbers of texts: texts of two numbers are two. They decide nothing alone; a rule that they lead to is asked.
+-- Numbers of texts: texts of two numbers are two. They decide nothing alone; a rule that they lead
+-- to is asked.
 use Rattle.std.specs.Prelude.{ℕ, ◌*◌, ◌%◌, ◌^◌, List, [], ◌∷◌, Option, Some, None, bit_xor}
 
 abbrev pub number_from : ℕ → List ℕ → ℕ

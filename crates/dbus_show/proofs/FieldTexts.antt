@@ -1,4 +1,5 @@
--- The header's line of a valid message, and its whole text, have no other line feeds than those at the ends of lines.
+-- The header's line of a valid message, and its whole text, have no other line feeds than those at
+-- the ends of lines.
 use Rattle.std.proofs.Common.{◌≡◌, ◌≢◌, ℕ, suc, Bool, true, false, eqb, cond, IsTrue, List, [], ◌∷◌, ◌++◌, ⊎_elim, length, map, codes, decimal, refl, sym, subst, arith}
 use Rattle.std.specs.List.{flat_map, AllByRecursion}
 use Rattle.hex.specs.Hex.{encode_lower}

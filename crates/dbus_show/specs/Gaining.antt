@@ -7,7 +7,8 @@ not_refused : (b c : Bool) → (b ≡ true → c ≡ true) → c ≡ false → b
 not_refused true c h e = let t = h refl in cc
 not_refused false c h e = refl
 
--- where the capacity x does not do for the second text, or for the first: x and n of the draft before, y and m after the first
+-- where the capacity x does not do for the second text, or for the first: x and n of the draft
+-- before, y and m after the first
 small_then : (b : Bool) (x y n m s t : ℕ) → (b ≡ true → x < n + s) → (b ≡ false → y < m + t) → (b ≡ false → m ≡ n + s) → x ≤ y → x < n + (s + t)
 small_then true x y n m s t h k e le = let l = h refl in omega arith
 small_then false x y n m s t h k e le = let l = k refl in let f = e refl in omega arith

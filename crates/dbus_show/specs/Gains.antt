@@ -3,7 +3,8 @@ use Rattle.std.specs.Prelude.{◌≡◌, ℕ, ◌+◌, ◌<◌, ◌≤◌, List,
 use Rattle.dbus_show.specs.declared.string_draft.StringDraft.{StringDraft}
 
 module _ {A : Type 0} where
-  -- the text that a draft has so far: what the string has, and then what the string has still to get
+  -- the text that a draft has so far: what the string has, and then what the string has still to
+  -- get
   unfoldable pub text_so_far : StringDraft A → List ℕ
   text_so_far d = string_bytes d.out.now ++ d.kept.bytes
 
@@ -17,8 +18,9 @@ module _ {A : Type 0} where
     pub whole : d.refused ≡ false
     pub room : string_capacity d.out.now ≡ capacity
 
-  -- A draft gains a text: it is appended, or a growth is refused, which is only where the capacity does not do for it. A draft
-  -- whose growth was refused stays so. The string that is written to is the same.
+  -- A draft gains a text: it is appended, or a growth is refused, which is only where the capacity
+  -- does not do for it. A draft whose growth was refused stays so. The string that is written to is
+  -- the same.
   pub record Gains (before : StringDraft A) (text : List ℕ) (after : StringDraft A) : Type 0 where
     pub same : after.out.ghost_name ≡ before.out.ghost_name
     pub written : after.refused ≡ false → text_so_far after ≡ text_so_far before ++ text

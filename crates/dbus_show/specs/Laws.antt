@@ -16,6 +16,7 @@ line_feeds text = count_by (λ b. b == 10) text
 abbrev pub NoneInValues : Type 0
 NoneInValues = (v : ValueTree) → line_feeds (value_text v) ≡ 0
 
--- A message's text has a line for its header and one for each value of its body, so that no value can pass for a line.
+-- A message's text has a line for its header and one for each value of its body, so that no value
+-- can pass for a line.
 abbrev pub OneForEachLine : Type 0
 OneForEachLine = (limits : Limits) (order : Order) (m : MessageTree) (number : ℕ) → IsValidMessage limits m → line_feeds (message_text order m number) ≡ 1 + length (value_texts m.body)

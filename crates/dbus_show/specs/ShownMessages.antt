@@ -1,5 +1,6 @@
--- The text of a message: a line for its header, and after two spaces a line for each value of its body.
--- The names are those of the D-Bus Specification, "Message Format" and "Header Fields", in lower case.
+-- The text of a message: a line for its header, and after two spaces a line for each value of its
+-- body. The names are those of the D-Bus Specification, "Message Format" and "Header Fields", in
+-- lower case.
 use Rattle.std.specs.Prelude.{ℕ, List, [], ◌∷◌, ◌++◌, codes, decimal, nat_eq, if◌then◌else◌}
 use Rattle.std.specs.List.{concat, flat_map}
 use Rattle.hex.specs.Hex.{encode_lower}
@@ -25,8 +26,8 @@ field_name code =
     else if nat_eq code 7 then codes "sender" else if nat_eq code 8 then codes "signature"
     else if nat_eq code 9 then codes "unix_fds" else codes "field" ++ decimal code
 
--- A known field's value, which is a text or a UINT32, stands alone. A value of another type, which no known field of a
--- message has, is shown as any value is.
+-- A known field's value, which is a text or a UINT32, stands alone. A value of another type, which
+-- no known field of a message has, is shown as any value is.
 abbrev pub bare : ValueTree → List ℕ
 bare (TextValue k t) = t
 bare (NumberValue UINT32 n) = decimal n

@@ -1,6 +1,6 @@
--- The text of a value: the code of its type, a colon and its number or text; an array after its signature; the other
--- containers in brackets of their own.
--- The codes and signatures are those of the D-Bus Specification, "Type System", "Summary of types".
+-- The text of a value: the code of its type, a colon and its number or text; an array after its
+-- signature; the other containers in brackets of their own. The codes and signatures are those of
+-- the D-Bus Specification, "Type System", "Summary of types".
 use Rattle.std.specs.Prelude.{ℕ, List, [], ◌∷◌, ◌++◌, Bool, codes, decimal, ◌||◌, nat_eq, nat_lt, if◌then◌else◌}
 use Rattle.std.specs.Fmt.{signed_decimal}
 use Rattle.std.specs.Int.{cast_signed, w16, w32, w64}
@@ -12,8 +12,8 @@ use Rattle.dbus_value_model.specs.declared.order.Order.TheVariants.{Big}
 use Rattle.dbus_value_model.specs.Values.{ValueTree, ValueTrees, NumberValue, TextValue, VariantValue, ArrayValue, StructValue, EntryValue, NoValues, MoreValues}
 use Rattle.dbus_value_model.specs.Bytes.{num}
 
--- A number in decimal, a signed one read back from its two's complement; a DOUBLE's eight bytes, the highest place first,
--- two hexadecimal digits for each.
+-- A number in decimal, a signed one read back from its two's complement; a DOUBLE's eight bytes,
+-- the highest place first, two hexadecimal digits for each.
 abbrev pub number_text : NumberCode → ℕ → List ℕ
 number_text BYTE n = decimal n
 number_text BOOLEAN n = if nat_eq n 0 then codes "false" else codes "true"
@@ -26,8 +26,9 @@ number_text UINT64 n = decimal n
 number_text DOUBLE n = encode_lower (num Big 8 n)
 number_text UNIX_FD n = decimal n
 
--- A byte of a text: 34 is a quotation mark and 92 a backslash, which stand after a backslash; the bytes below 32 and 127
--- have no sign of their own and stand as a mark and two hexadecimal digits. Every other byte is itself.
+-- A byte of a text: 34 is a quotation mark and 92 a backslash, which stand after a backslash; the
+-- bytes below 32 and 127 have no sign of their own and stand as a mark and two hexadecimal digits.
+-- Every other byte is itself.
 abbrev pub escape_by : (mark : List ℕ) → ℕ → List ℕ
 escape_by mark b =
     if nat_eq b 34 then codes "\\\""
@@ -35,7 +36,8 @@ escape_by mark b =
     else if nat_lt b 32 || nat_eq b 127 then mark ++ encode_lower (b ∷ [])
     else b ∷ []
 
--- whether a byte is shown as something other than itself, as in each case of `escape_by` but the last
+-- whether a byte is shown as something other than itself, as in each case of `escape_by` but the
+-- last
 abbrev pub is_escaped : ℕ → Bool
 is_escaped b = nat_lt b 32 || nat_eq b 34 || nat_eq b 92 || nat_eq b 127
 

@@ -1,4 +1,5 @@
--- What a line of a handshake says, in words. D-Bus Specification, "Authentication Protocol", "Protocol Overview".
+-- What a line of a handshake says, in words. D-Bus Specification, "Authentication Protocol",
+-- "Protocol Overview".
 use Rattle.std.specs.Prelude.{ℕ, List, [], ◌∷◌, ◌++◌, Bool, codes, nat_lt, if◌then◌else◌}
 use Rattle.std.specs.List.{flat_map, list_any}
 use Rattle.hex.specs.Hex.{encode_lower}
@@ -12,7 +13,8 @@ use Rattle.dbus_show.specs.ShownValues.{quoted}
 abbrev pub has_other : List ℕ → Bool
 has_other bytes = list_any (λ b. nat_lt 127 b) bytes
 
--- bytes as they are shown: a text between quotation marks, with its escapes, if all are ASCII; else in hexadecimal
+-- bytes as they are shown: a text between quotation marks, with its escapes, if all are ASCII; else
+-- in hexadecimal
 abbrev pub shown : List ℕ → List ℕ
 shown bytes = if has_other bytes then encode_lower bytes else quoted bytes
 

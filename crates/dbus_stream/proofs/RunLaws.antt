@@ -1,4 +1,5 @@
--- A run of a cutter gives the messages of the one cut of the bytes that it is handed, in whatever pieces they come.
+-- A run of a cutter gives the messages of the one cut of the bytes that it is handed, in whatever
+-- pieces they come.
 use Rattle.std.proofs.Common.{◌≡◌, ℕ, ◌+◌, ◌≤◌, List, [], ◌∷◌, ◌++◌, length, drop, Option, None, Some, Ok, Err, refl, sym, ap, ◌∙◌, subst, arith, append_assoc, append-nil, length-append, inl, inr}
 use Rattle.std.specs.List.{concat}
 use Rattle.std.proofs.lemmas.List.{drop-append-le}

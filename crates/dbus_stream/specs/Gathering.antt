@@ -35,7 +35,8 @@ under_way false held = held
 abbrev pub begun : GathererState → GathererState
 begun g = record { limits = g.limits; held = under_way g.whole g.held; whole = false; lent = 0 }
 
--- its checker was handed the bytes of the message under way, and what it holds as whole is a message
+-- its checker was handed the bytes of the message under way, and what it holds as whole is a
+-- message
 pub record IsGathering (limits : Limits) (held : List ℕ) (whole : Bool) (checker : Checker) : Type 0 where
   pub partial : IsPartial limits (under_way whole held)
   pub stands : checks.Stands checker (under_way whole held)

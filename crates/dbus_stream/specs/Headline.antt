@@ -1,6 +1,6 @@
 -- Trusted by the headline.
--- What reading and writing promise under limits, as one law over `decode_within`, `encode` and the cutter.
--- D-Bus Specification, "Message Protocol".
+-- Trusted by the headline. What reading and writing promise under limits, as one law over
+-- `decode_within`, `encode` and the cutter. D-Bus Specification, "Message Protocol".
 use Rattle.std.specs.Prelude.{◌≡◌, ◌≢◌, ◌↔◌, ℕ, List, [], ◌∷◌, ◌++◌, length, take, Some, Vec, Result, Ok, Err, IfOk}
 use Rattle.std.specs.List.{concat}
 use Rattle.std.specs.declared.alloc.AllocError.{AllocError}
@@ -21,7 +21,8 @@ use Rattle.dbus_stream.specs.CutterState.{CutterState, fresh}
 use Rattle.dbus_stream.specs.Cutting.{TakeAnswer}
 use Rattle.dbus_stream.specs.Runs.{Feeds, given_by, IsSettled, CutsInto}
 
--- the first n bytes are those that the marshalling relation spells the message as, which is valid and within the limits
+-- the first n bytes are those that the marshalling relation spells the message as, which is valid
+-- and within the limits
 pub record BeginsWithMessage (limits : Limits) (bytes : List ℕ) (order : Order) (m : MessageTree) (n : ℕ) : Type 0 where
   pub valid : IsValidMessage limits m
   pub spelled : take n bytes ≡ message_bytes order m
@@ -49,8 +50,8 @@ stream_bytes (item ∷ items) = message_bytes item.order item.message ++ stream_
 
 -- Want of memory aside, for every list of bytes and every message within the limits.
 pub record Headline (limits : Limits) (A : Type 0) : Type 0 where
-  -- Bytes are accepted exactly where they begin with a message that the marshalling relation spells within the limits,
-  -- and that message comes out.
+  -- Bytes are accepted exactly where they begin with a message that the marshalling relation spells
+  -- within the limits, and that message comes out.
   pub accepted : (bytes : List ℕ) (answer : Result (Answer A) Refusal) → Decodes limits bytes answer → answer ≢ Err Memory
       → (order : Order) (m : MessageTree) (n : ℕ) → Accepts answer order m n ↔ BeginsWithMessage limits bytes order m n
   -- Encoding it in its order gives those bytes back.
@@ -76,7 +77,8 @@ pub record Headline (limits : Limits) (A : Type 0) : Type 0 where
       → concat pieces ≡ concat others → Feeds (fresh limits) pieces answers here left → IsSettled here (concat left)
       → Feeds (fresh limits) others replies there suffix → IsSettled there (concat suffix)
       → (given_by 0 answers ≡ given_by 0 replies) × (here.fault ≡ there.fault)
-  -- And however the bytes of messages are cut, it gives exactly these messages, and holds nothing after them.
+  -- And however the bytes of messages are cut, it gives exactly these messages, and holds nothing
+  -- after them.
   pub all_arrive : (items : List CutMessage) (pieces left : List (List ℕ)) (answers : List (TakeAnswer A)) (now : CutterState) → AreMessages limits items
       → concat pieces ≡ stream_bytes items → Feeds (fresh limits) pieces answers now left → IsSettled now (concat left)
       → (given_by 0 answers ≡ items) × (now ≡ fresh limits) × (concat left ≡ [])

@@ -1,4 +1,5 @@
--- A reader that gives messages: what it keeps, and what it answers. D-Bus Specification, "Message Protocol".
+-- A reader that gives messages: what it keeps, and what it answers. D-Bus Specification, "Message
+-- Protocol".
 use Rattle.std.specs.Prelude.{◌≡◌, ◌++◌, ℕ, List, [], slice_range, false, Option, None, Result}
 use Rattle.dbus_value_model.specs.declared.limits.Limits.{Limits}
 use Rattle.dbus_value_model.specs.declared.order.Order.{Order}
@@ -29,7 +30,8 @@ module _ {R A : Type 0} where
   abbrev pub stopped_of : MessageReader R A → Option ReadFault
   stopped_of r = r.reader.stopped
 
-  -- a reader of the device, which may make so many reads in all, keeps to the limits, and read nothing yet
+  -- a reader of the device, which may make so many reads in all, keeps to the limits, and read
+  -- nothing yet
   pub record IsNewReader (device : R) (most : ℕ) (within : Limits) (r : MessageReader R A) : Type 0 where
     pub source : source_of r ≡ device
     pub most_reads : r.reader.most_reads ≡ most
@@ -48,7 +50,8 @@ module _ {R A : Type 0} where
   abbrev pub ReadsNothing : MessageReader R A → MessageReader R A → Type 0
   ReadsNothing old new = next.ReadsNothing (cutting A) old.reader new.reader
 
-  -- what it answers by its limits, where it was not stopped before. w is what was kept and then what was read
+  -- what it answers by its limits, where it was not stopped before. w is what was kept and then
+  -- what was read
   abbrev pub NextAnswers : List ℕ → MessageReader R A → MessageReader R A → Result (Option (Order × Message A)) ReadFault → Type 0
   NextAnswers w old new answer = next.NextAnswers (cutting A) w old.reader new.reader answer
 

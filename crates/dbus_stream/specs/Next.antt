@@ -1,5 +1,5 @@
--- What a reader answers by its limits, where it was not stopped before. k is what is known of its taker, and w is what was kept
--- and then what was read. D-Bus Specification, "Message Protocol".
+-- What a reader answers by its limits, where it was not stopped before. k is what is known of its
+-- taker, and w is what was kept and then what was read. D-Bus Specification, "Message Protocol".
 use Rattle.std.specs.Prelude.{◌≡◌, ◌≢◌, ◌⊎◌, ℕ, ◌+◌, ◌-◌, ◌^◌, ◌%◌, ◌<◌, ◌≤◌, List, [], ◌++◌, true, false, length, take, drop, slice_range, Option, None, Some, Result, Ok, Err}
 use Rattle.std.specs.Io.KnownBytes.{Consumes, IsAtEnd}
 use Rattle.dbus_value_model.specs.declared.order.Order.{Order}
@@ -34,7 +34,8 @@ module _ {R T B G : Type 0} {b : Ghosts B} (k : Taking T G) where
     pub bytes : List ℕ
     pub count : ℕ
     pub consumed : Consumes (left (source_of old)) (left (source_of new)) bytes
-    -- the last read gave these, at most a buffer's: one call of the device as it stood after the reads before
+    -- the last read gave these, at most a buffer's: one call of the device as it stood after the
+    -- reads before
     pub last : List ℕ
     pub before : List ℕ
     pub joined : bytes ≡ before ++ last

@@ -1,5 +1,5 @@
--- How a reader passes over a refused message, by the length that its first sixteen bytes state. w is what was kept and then what
--- was read. D-Bus Specification, "Message Format".
+-- How a reader passes over a refused message, by the length that its first sixteen bytes state. w
+-- is what was kept and then what was read. D-Bus Specification, "Message Format".
 use Rattle.std.specs.Prelude.{◌≡◌, ◌⊎◌, ℕ, ◌+◌, ◌<◌, ◌≤◌, List, [], ◌++◌, true, false, Bool, length, take, drop, slice_range, Option, None, Some, Result, Ok, Err}
 use Rattle.dbus_value_model.specs.declared.fault.Fault.{Fault}
 use Rattle.dbus_value_model.specs.declared.limits.Limits.{Limits}
@@ -21,7 +21,8 @@ use Rattle.dbus_stream.specs.declared.read_fault.ReadFault.TheVariants.{Memory, 
 abbrev pub IsRefusal : Option ReadFault → Fault → Type 0
 IsRefusal stopped fault = (stopped ≡ Some (Format fault)) × (is_truncated fault.reason ≡ false)
 
--- the first sixteen bytes state that a message has n bytes, and once these are there no more are wanted of it
+-- the first sixteen bytes state that a message has n bytes, and once these are there no more are
+-- wanted of it
 abbrev pub StatesAll : Limits → List ℕ → ℕ → Type 0
 StatesAll limits w n = StatesLength limits (take 16 w) n × ((m : ℕ) → n ≤ m → IsPartial limits (take m w) → ⊥)
 
@@ -69,7 +70,8 @@ module _ {R A : Type 0} where
     pub lent : raw.lent_of new ≡ []
     pub stopped : raw.stopped_of new ≡ None
 
-  -- there are fewer, and all are passed over. The fault stays, and the others are still to be dropped
+  -- there are fewer, and all are passed over. The fault stays, and the others are still to be
+  -- dropped
   pub record FallsShort (n : ℕ) (w : List ℕ) (old new : RawReader R A) : Type 0 where
     pub short : length w < n
     pub kept : raw.kept new ≡ []
@@ -100,8 +102,8 @@ module _ {R A : Type 0} where
   abbrev pub IsNoneDue : RawReader R A → Type 0
   IsNoneDue r = (fault : Fault) (n : ℕ) → IsRefusal (raw.stopped_of r) fault → StatesAll (raw.limits_of r) (raw.kept r) n ⊎ Owes r n → ⊥
 
-  -- A call that passes over the message that was refused: the n bytes that its first sixteen state, or those that are left of them; or none
-  -- was, or they state no length, and nothing is done.
+  -- A call that passes over the message that was refused: the n bytes that its first sixteen state,
+  -- or those that are left of them; or none was, or they state no length, and nothing is done.
   abbrev pub Passing : (R → Option (List ℕ)) → (R → ℕ) → RawReader R A → RawReader R A → Result Bool ReadFault → Type 0
   Passing left calls old new result =
       ((fault : Fault) × (n : ℕ) × IsRefusal (raw.stopped_of old) fault × IsDue old n × (r : ReadsUpTo n left calls old new) × PassAnswers n (raw.kept old ++ r.bytes) old new result)

@@ -1,5 +1,5 @@
--- What a reader of raw messages answers by its limits, where it was not stopped before. w is what was kept and then what was
--- read. D-Bus Specification, "Message Protocol".
+-- What a reader of raw messages answers by its limits, where it was not stopped before. w is what
+-- was kept and then what was read. D-Bus Specification, "Message Protocol".
 use Rattle.std.specs.Prelude.{◌≡◌, ◌⊎◌, ℕ, ◌+◌, List, [], ◌++◌, true, false, length, take, drop, Option, None, Some, Vec, Result, Ok, Err}
 use Rattle.dbus_value_model.specs.declared.order.Order.{Order}
 use Rattle.dbus_message_model.specs.Messages.{MessageTree}

@@ -31,7 +31,8 @@ module _ {R A : Type 0} where
   abbrev pub done_of : RawReader R A → ℕ
   done_of r = r.reader.done
 
-  -- how many bytes of a refused message are still to be dropped, after a call that could not drop all of them
+  -- how many bytes of a refused message are still to be dropped, after a call that could not drop
+  -- all of them
   abbrev pub owed_of : RawReader R A → ℕ
   owed_of r = r.owed
 
@@ -50,7 +51,8 @@ module _ {R A : Type 0} where
   abbrev pub stopped_of : RawReader R A → Option ReadFault
   stopped_of r = r.reader.stopped
 
-  -- a reader of the device, which may make so many reads in all, keeps to the limits, and read nothing yet
+  -- a reader of the device, which may make so many reads in all, keeps to the limits, and read
+  -- nothing yet
   pub record IsNewReader (device : R) (most : ℕ) (within : Limits) (r : RawReader R A) : Type 0 where
     pub source : source_of r ≡ device
     pub most_reads : most_reads_of r ≡ most

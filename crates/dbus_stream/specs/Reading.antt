@@ -46,7 +46,8 @@ module _ {R T B : Type 0} {b : Ghosts B} where
       pub size : r.held ≡ length held
       pub bytes : w ≡ held ++ slice_range (b.room.bytes r.buffer) r.start r.end
 
-    -- a reader of the device, which may make so many reads in all, keeps to the limits, and read nothing yet
+    -- a reader of the device, which may make so many reads in all, keeps to the limits, and read
+    -- nothing yet
     pub record IsNewReader (device : R) (most : ℕ) (within : Limits) (r : Reader R T B b) : Type 0 where
       pub source : source_of r ≡ device
       pub most_reads : most_reads_of r ≡ most

@@ -18,16 +18,16 @@ abbrev pub again : List ℕ → List (List ℕ) → List (List ℕ)
 again [] pieces = pieces
 again (x ∷ xs) pieces = (x ∷ xs) ∷ pieces
 
--- A cutter is handed pieces one after another, and again what a call leaves of one. Its calls answer these, one after
--- the other; then it is now as said, and these pieces are left to hand in.
+-- A cutter is handed pieces one after another, and again what a call leaves of one. Its calls
+-- answer these, one after the other; then it is now as said, and these pieces are left to hand in.
 abbrev pub Feeds : {A : Type 0} → CutterState → List (List ℕ) → List (TakeAnswer A) → CutterState → List (List ℕ) → Type 0
 Feeds old pieces [] now left = (now ≡ old) × (left ≡ pieces)
 Feeds old [] (answer ∷ answers) now left = ⊥
 Feeds old (piece ∷ pieces) (answer ∷ answers) now left =
     (new : CutterState) × Takes old piece new answer × Feeds new (again (drop (taken answer) piece) pieces) answers now left
 
--- the messages that calls gave, each with its length: the bytes that were taken since the one before, where so many were
--- held at first
+-- the messages that calls gave, each with its length: the bytes that were taken since the one
+-- before, where so many were held at first
 abbrev pub given_by : {A : Type 0} → ℕ → List (TakeAnswer A) → List CutMessage
 given_by held [] = []
 given_by held (Ok (n, Some given) ∷ answers) = record { order = given.0; message = message_tree given.1; size = held + n } ∷ given_by 0 answers
@@ -44,9 +44,11 @@ outcome_of (x ∷ xs) None = Unfinished
 abbrev pub IsSettled : CutterState → List ℕ → Type 0
 IsSettled now left = (left ≡ []) ⊎ ((f : Fault) × (now.fault ≡ Some f))
 
--- the messages that were given of the bytes by a cutter under these limits, where it is now as said and these bytes are left
+-- the messages that were given of the bytes by a cutter under these limits, where it is now as said
+-- and these bytes are left
 pub record CutsInto (limits : Limits) (bytes : List ℕ) (given : List CutMessage) (now : CutterState) (left : List ℕ) : Type 0 where
-  -- the bytes are those of the messages, then those that it holds and then those that are left: none is lost
+  -- the bytes are those of the messages, then those that it holds and then those that are left:
+  -- none is lost
   pub messages : BeginWith limits bytes given (now.held ++ left)
   -- its limits are as they were
   pub limits_stay : now.limits ≡ limits

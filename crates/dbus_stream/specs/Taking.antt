@@ -1,5 +1,5 @@
--- What is known of a taker of messages, and what it makes of a piece where it holds the bytes w of the message under way.
--- D-Bus Specification, "Message Protocol".
+-- What is known of a taker of messages, and what it makes of a piece where it holds the bytes w of
+-- the message under way. D-Bus Specification, "Message Protocol".
 use Rattle.std.specs.Prelude.{◌≡◌, ℕ, ◌+◌, ◌<◌, List, [], ◌++◌, length, Option, None, Some, Result, Ok, Err}
 use Rattle.dbus_value_model.specs.declared.order.Order.{Order}
 use Rattle.dbus_value_model.specs.declared.limits.Limits.{Limits}
@@ -19,7 +19,8 @@ pub record Taking (T G : Type 0) : Type 1 where
   pub grows : Type 0
   -- what it gives of the message of so many bytes that bytes begin with, and is then
   pub gives : T → List ℕ → ℕ → G → Type 0
-  -- how many bytes of its last piece it still lends: the message that it gave, where that lay there whole
+  -- how many bytes of its last piece it still lends: the message that it gave, where that lay there
+  -- whole
   pub lent : T → ℕ
   -- it lends no message
   pub rests : T → Type 0

@@ -49,7 +49,8 @@ module _ (order : Order) (at q : ℕ) (f : FieldTree) (before now : List ℕ) (b
       rw (field_spelled order at q f begins, field_spelled (other order) at q f begins_other)
       (then_put at x y (spelling order q f.value) (spelling (other order) q f.value) before before now q (field_long order at q f begins) (ap length same) (nothing_put at x y before before same refl) value)
 
--- These fields are byteswapped, after what stands before all fields, and the next one begins at `place`.
+-- These fields are byteswapped, after what stands before all fields, and the next one begins at
+-- `place`.
 pub record FieldsByteswapped (order : Order) (fs : List FieldTree) (before now : List ℕ) (place : ℕ) (done : List FieldTree) : Type 0 where
   pub between : List ℕ
   pub opened : Replaces 12 (front order 12 (field_array fs)) (front (other order) 12 (field_array fs)) before between

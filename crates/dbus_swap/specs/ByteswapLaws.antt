@@ -31,7 +31,8 @@ then_put at own put own' put' before between now q place long first second = λ 
     let within : q ≤ length between = omega (arith, here, h, ap length one, length-append (take at before) (put ++ (own' ++ rest)), length-append put (own' ++ rest), length-take at before) in
     put_more at put (own' ++ rest) before between h one q here put' rest now (second rest within left)
 
--- Of values that stand one after another from `at` on, these are byteswapped, and the next one begins at `place`.
+-- Of values that stand one after another from `at` on, these are byteswapped, and the next one
+-- begins at `place`.
 pub record ByteswappedTo (order : Order) (at : ℕ) (before now : List ℕ) (place : ℕ) (done : List ValueTree) : Type 0 where
   pub here : place ≡ at + length (spellings order at (value_trees done))
   pub replaced : Replaces at (spellings order at (value_trees done)) (spellings (other order) at (value_trees done)) before now

@@ -1,5 +1,5 @@
--- What becomes of a message's bytes when the values that stand there are byteswapped into the other order.
--- D-Bus Specification, "Marshaling (Wire Format)".
+-- What becomes of a message's bytes when the values that stand there are byteswapped into the other
+-- order. D-Bus Specification, "Marshaling (Wire Format)".
 use Rattle.std.specs.Prelude.{◌≡◌, ℕ, ◌≤◌, List, ◌++◌, length, take, drop}
 use Rattle.dbus_value_model.specs.declared.order.Order.{Order}
 use Rattle.dbus_value_model.specs.declared.order.Order.TheVariants.{Little, Big}
@@ -12,6 +12,7 @@ other Big = Little
 abbrev pub IsPut : (at : ℕ) → (put rest before now : List ℕ) → Type 0
 IsPut at put rest before now = now ≡ take at before ++ (put ++ rest)
 
--- if these bytes stood there from an offset on, then others stand there now, with the same rest after them
+-- if these bytes stood there from an offset on, then others stand there now, with the same rest
+-- after them
 abbrev pub Replaces : (at : ℕ) → (own put before now : List ℕ) → Type 0
 Replaces at own put before now = (rest : List ℕ) → at ≤ length before → drop at before ≡ own ++ rest → IsPut at put rest before now

@@ -1,4 +1,5 @@
--- Lanes of eight bits: what the operations give in one lane, and masks in which each lane is marked.
+-- Lanes of eight bits: what the operations give in one lane, and masks in which each lane is
+-- marked.
 use Rattle.std.proofs.Common.{◌≡◌, ℕ, zero, suc, ◌+◌, ◌-◌, ◌*◌, ◌%◌, ◌^◌, ◌<◌, Bool, true, false, not, ◌&&◌, cond, eqb, ltb, List, ⊎_elim, length, refl, sym, subst, arith}
 use Rattle.std.proofs.lemmas.Bool.{and_parts, cases_lt, eqb-true}
 use Rattle.std.proofs.lemmas.Simd.{mask_l-mod}

@@ -1,4 +1,5 @@
--- Two blocks, the second of which stands one byte after the first: each of its bytes may stand after the one before it.
+-- Two blocks, the second of which stands one byte after the first: each of its bytes may stand
+-- after the one before it.
 use Rattle.std.proofs.Common.{◌≡◌, ℕ, zero, suc, ◌+◌, ◌-◌, ◌*◌, ◌%◌, ◌^◌, ◌<◌, ◌≤◌, Bool, true, false, not, ◌&&◌, ◌||◌, cond, eqb, List, [], ◌∷◌, ⊎_elim, map, length, get_or, replicate, bit_and, bit_or, refl, sym, ap, ap₂, ◌∙◌, subst, arith, w8, Fits, IsTrue}
 use Rattle.std.proofs.lemmas.Bool.{cases_lt, eqb-true}
 use Rattle.std.proofs.lemmas.Simd.{get_or-chunk, length-chunk}

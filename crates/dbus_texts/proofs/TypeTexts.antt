@@ -38,7 +38,8 @@ text_letter : (k : TextCode) → (40 ≤ text_code k) × (text_code k < 126)
 text_letter STRING = (lit≤ tt, lit< tt)
 text_letter _ = (lit≤ tt, lit< tt)
 
--- what holds of the empty text, of each of the bytes 40 to 125, and of two texts one after the other, holds of every type's text
+-- what holds of the empty text, of each of the bytes 40 to 125, and of two texts one after the
+-- other, holds of every type's text
 module _ (P : List ℕ → Type 0) (none : P []) (one : (c : ℕ) → 40 ≤ c → c < 126 → P (c ∷ [])) (join : (s t : List ℕ) → P s → P t → P (s ++ t)) where
   mutual
     pub sig_holds : (t : TypeTree) → P (sig t)

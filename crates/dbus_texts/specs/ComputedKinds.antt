@@ -1,6 +1,6 @@
--- The kinds of text, and the types that a text spells, as slow functions for definitions that compute. That they agree with
--- the sets of Kinds and with the texts of Types is proved.
--- D-Bus Specification, "Basic types", "Valid Object Paths", "Valid Names" and "Valid Signatures".
+-- The kinds of text, and the types that a text spells, as slow functions for definitions that
+-- compute. That they agree with the sets of Kinds and with the texts of Types is proved. D-Bus
+-- Specification, "Basic types", "Valid Object Paths", "Valid Names" and "Valid Signatures".
 use Rattle.std.specs.Prelude.{ℕ, zero, suc, List, [], ◌∷◌, ◌++◌, length, Bool, true, false, ◌&&◌, nat_eq, nat_lt, Option, Some, None, if◌then◌else◌}
 use Rattle.dbus_texts.specs.declared.text_kind.TextKind.{TextKind}
 use Rattle.dbus_texts.specs.declared.text_kind.TextKind.TheVariants.{Text, Path, Interface, Member, ErrorName, BusName, Signature, Single}
@@ -95,7 +95,8 @@ abbrev pub closed : ℕ → TypeTree → List ℕ → Option (TypeTree × List �
 closed c t [] = None
 closed c t (b ∷ s) = if nat_eq b c then Some (t, s) else None
 
--- the type at the start of a text, and what is left; types up to `)`: with as many turns as the text has bytes
+-- the type at the start of a text, and what is left; types up to `)`: with as many turns as the
+-- text has bytes
 unfoldable mutual
   pub parse : ℕ → List ℕ → Option (TypeTree × List ℕ)
   parse zero s = None

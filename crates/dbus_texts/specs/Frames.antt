@@ -1,5 +1,5 @@
--- The frames that a signature's scan keeps are few, since arrays and structs are nested 32 deep at most.
--- D-Bus Specification, "Type System" ("Valid Signatures").
+-- The frames that a signature's scan keeps are few, since arrays and structs are nested 32 deep at
+-- most. D-Bus Specification, "Type System" ("Valid Signatures").
 use Rattle.std.specs.Prelude.{ℕ, ◌+◌, ◌<◌, ◌≤◌, List, [], ◌∷◌, ⊤}
 use Rattle.std.specs.Coded.{×_prop, Unit-prop, le_prop}
 use Rattle.dbus_texts.specs.declared.signature.Frame.{Frame}

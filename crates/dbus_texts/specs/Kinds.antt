@@ -30,6 +30,7 @@ IsWithinLimit _ w = length w ≤ 255
 abbrev pub IsKind : TextKind → List ℕ → Type 0
 IsKind kind w = IsOfKind kind w × IsWithinLimit kind w
 
--- the length of the longest prefix of w with which some text of the kind begins, limits on length lifted
+-- the length of the longest prefix of w with which some text of the kind begins, limits on length
+-- lifted
 abbrev pub IsBreak : TextKind → List ℕ → ℕ → Type 0
 IsBreak kind w n = IsBreakIn (IsOfKind kind) w n

@@ -1,5 +1,6 @@
--- What may follow bytes in the texts of a set, how that changes by a byte, and where a text that is not of the set breaks.
--- The sets are those of the D-Bus Specification, "Basic types", "Valid Object Paths", "Valid Names" and "Valid Signatures".
+-- What may follow bytes in the texts of a set, how that changes by a byte, and where a text that is
+-- not of the set breaks. The sets are those of the D-Bus Specification, "Basic types", "Valid
+-- Object Paths", "Valid Names" and "Valid Signatures".
 use Rattle.std.specs.Prelude.{◌≡◌, ℕ, Bool, true, false, Option, Some, None, List, ◌∷◌, ◌++◌}
 use Rattle.dbus_texts.specs.Prefixes.{IsBreakIn}
 

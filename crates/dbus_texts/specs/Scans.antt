@@ -21,8 +21,8 @@ state_rest (InSignature s) c = sig_rest (sig_view s) c
 abbrev pub kind_of : TextScan → TextKind
 kind_of x = x.kind
 
--- the bytes w are what the scan was handed: what may follow them in its kind is what it still takes, and it counts them
--- as far as 256
+-- the bytes w are what the scan was handed: what may follow them in its kind is what it still
+-- takes, and it counts them as far as 256
 pub record Stands (x : TextScan) (w : List ℕ) : Type 0 where
   pub quotient : IsQuotient (IsOfKind x.kind) w (state_rest x.state)
   pub counted : x.length ≡ min (length w) 256

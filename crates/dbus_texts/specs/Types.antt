@@ -81,8 +81,8 @@ abbrev pub AreSome : TypeTrees → Type 0
 AreSome NoTypes = ⊥
 AreSome (MoreTypes t ts) = Unit {0}
 
--- A complete type, with so many arrays and structs open around it, of which there may be 32 each. Only where `inside` says
--- that it is an array's element may it be a dict entry.
+-- A complete type, with so many arrays and structs open around it, of which there may be 32 each.
+-- Only where `inside` says that it is an array's element may it be a dict entry.
 abbrev mutual
   pub IsComplete : TypeTree → Bool → ℕ → ℕ → Type 0
   IsComplete (NumberType n) inside arrays structs = Unit {0}

@@ -18,7 +18,8 @@ abbrev pub IsTextBreak : TextKind → List ℕ → Option ℕ → Type 0
 IsTextBreak kind w None = IsKind kind w
 IsTextBreak kind w (Some at) = (IsKind kind w → ⊥) × IsBreak kind w at
 
--- of a kind with a limit of 255 bytes: the text is of the kind; or it is too long, which comes first; or it breaks there
+-- of a kind with a limit of 255 bytes: the text is of the kind; or it is too long, which comes
+-- first; or it breaks there
 abbrev pub IsVerdict : TextKind → List ℕ → Result (Unit {0}) NameFault → Type 0
 IsVerdict kind w (Ok x) = IsKind kind w
 IsVerdict kind w (Err names.TooLong) = 255 < length w

@@ -57,7 +57,8 @@ fn plain_short_blocks(text: &[u8]) -> usize
     at
 }
 
-/// The length of a prefix in which each byte is from 1 to 127: of the whole text, if all its bytes are.
+/// The length of a prefix in which each byte is from 1 to 127: of the whole text, if all its bytes
+/// are.
 pub fn plain_prefix(text: &[u8]) -> usize
     ensures within { result ≤ length text.now }
     ensures plain { AllByRecursion (IsInRange 1 127) (take result text.now) }

@@ -21,7 +21,8 @@ pub enum NameFault {
     /// It has more than 255 bytes. This comes before `Bad`.
     #[error("the name has more than 255 bytes")]
     TooLong,
-    /// It breaks at `at`, which is the length of its longest prefix with which some such name begins, limits on length lifted.
+    /// It breaks at `at`, which is the length of its longest prefix with which some such name
+    /// begins, limits on length lifted.
     #[error("no such name: it breaks at offset {at}")]
     Bad { at: usize },
 }
@@ -35,7 +36,8 @@ pub enum SigFault {
     /// It has more than 255 bytes. This comes before `Bad`.
     #[error("the signature has more than 255 bytes")]
     TooLong,
-    /// It breaks at `at`, which is the length of its longest prefix with which some signature begins, limits on length lifted.
+    /// It breaks at `at`, which is the length of its longest prefix with which some signature
+    /// begins, limits on length lifted.
     #[error("no signature: it breaks at offset {at}")]
     Bad { at: usize },
 }
@@ -59,7 +61,8 @@ impl<T: Drop> From<AllocFailed<T>> for SigFault {
 /// The most bytes of a name or a signature.
 const LONGEST: usize = 255;
 
-/// Whether one byte is there, for a signature, and spells a type: so are most signatures of variants.
+/// Whether one byte is there, for a signature, and spells a type: so are most signatures of
+/// variants.
 #[tactic(auto, using(crate::proofs::Codes::coded_signature, crate::proofs::Codes::coded_single))]
 fn is_one_code(kind: TextKind, text: &[u8]) -> bool
     ensures { IsTrue result → IsOfKind kind text.now }
@@ -70,8 +73,8 @@ fn is_one_code(kind: TextKind, text: &[u8]) -> bool
     }
 }
 
-/// Whether the text is of the kind, limits on length aside, as far as a quick look shows: it knows each STRING, path and name, and
-/// signatures of one byte.
+/// Whether the text is of the kind, limits on length aside, as far as a quick look shows: it knows
+/// each STRING, path and name, and signatures of one byte.
 #[inline(always)]
 fn is_seen_at_once(kind: TextKind, text: &[u8]) -> bool
     ensures { IsTrue result → IsOfKind kind text.now }
@@ -83,8 +86,8 @@ fn is_seen_at_once(kind: TextKind, text: &[u8]) -> bool
     }
 }
 
-/// Where a text breaks that is not of the kind, limits on length aside, by its scan. A function of its own, so that the
-/// quick look before it makes no room for a scan.
+/// Where a text breaks that is not of the kind, limits on length aside, by its scan. A function of
+/// its own, so that the quick look before it makes no room for a scan.
 #[inline(never)]
 fn scanned_break(kind: TextKind, text: &[u8]) -> Option<usize>
     ensures { IsBreakOf kind text.now result }
@@ -102,8 +105,8 @@ fn break_of(kind: TextKind, text: &[u8]) -> Option<usize>
     scanned_break(kind, text)
 }
 
-/// The length of the text's longest prefix with which some text of the kind begins, limits on length
-/// lifted. This is the text's length if all of it begins some text of the kind.
+/// The length of the text's longest prefix with which some text of the kind begins, limits on
+/// length lifted. This is the text's length if all of it begins some text of the kind.
 pub fn first_break(kind: TextKind, text: &[u8]) -> usize
     ensures { IsBreak kind text.now result }
 {
@@ -113,8 +116,8 @@ pub fn first_break(kind: TextKind, text: &[u8]) -> usize
     }
 }
 
-/// Where a text breaks that is not of the kind: at the length of its longest prefix with which some text of
-/// the kind begins, limits on length lifted. `None` if the text is of the kind.
+/// Where a text breaks that is not of the kind: at the length of its longest prefix with which some
+/// text of the kind begins, limits on length lifted. `None` if the text is of the kind.
 pub fn text_break(kind: TextKind, text: &[u8]) -> Option<usize>
     ensures { IsTextBreak kind text.now result }
 {
@@ -211,8 +214,8 @@ pub fn check_bus_name(text: &[u8]) -> Result<(), NameFault>
 
 /// Whether the text is a signature: zero or more complete types.
 ///
-/// Else `TooLong` over 255 bytes, else `Bad` at its break; `Memory` never comes. D-Bus Specification,
-/// "Valid Signatures".
+/// Else `TooLong` over 255 bytes, else `Bad` at its break; `Memory` never comes. D-Bus
+/// Specification, "Valid Signatures".
 pub fn check_signature(text: &[u8]) -> Result<(), SigFault>
     ensures { IsSigVerdict Signature text.now result }
 {
@@ -221,8 +224,8 @@ pub fn check_signature(text: &[u8]) -> Result<(), SigFault>
 
 /// Whether the text is a signature of exactly one complete type.
 ///
-/// Else `TooLong` over 255 bytes, else `Bad` at its break; `Memory` never comes. D-Bus Specification,
-/// "Valid Signatures".
+/// Else `TooLong` over 255 bytes, else `Bad` at its break; `Memory` never comes. D-Bus
+/// Specification, "Valid Signatures".
 pub fn check_single(text: &[u8]) -> Result<(), SigFault>
     ensures { IsSigVerdict Single text.now result }
 {

@@ -1,9 +1,9 @@
-//! Texts, names and signatures of the D-Bus wire format: which bytes are of each kind, and where others break. D-Bus Specification,
-//! "Valid Object Paths", "Valid Names" and "Valid Signatures".
+//! Texts, names and signatures of the D-Bus wire format: which bytes are of each kind, and where
+//! others break. D-Bus Specification, "Valid Object Paths", "Valid Names" and "Valid Signatures".
 //!
-//! [`check_path`], [`check_bus_name`], [`check_signature`] and their like say whether a text is of a kind, or at which place it
-//! breaks. [`TextScan`] does the same of a text that comes in pieces. None allocates. `dbus_match` reads the
-//! values of rules by them.
+//! [`check_path`], [`check_bus_name`], [`check_signature`] and their like say whether a text is of
+//! a kind, or at which place it breaks. [`TextScan`] does the same of a text that comes in pieces.
+//! None allocates. `dbus_match` reads the values of rules by them.
 #![tactic(auto)]
 
 mod ascii;

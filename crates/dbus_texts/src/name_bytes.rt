@@ -1,4 +1,5 @@
-//! Texts in which each byte may be where it is in a name, by what the byte is and the one before it.
+//! Texts in which each byte may be where it is in a name, by what the byte is and the one before
+//! it.
 //!
 //! D-Bus Specification, "Valid Object Paths" and "Valid Names".
 #![tactic(auto)]
@@ -22,7 +23,8 @@ fn has_words_alone(text: &[u8]) -> bool
     true
 }
 
-/// Whether each byte of the text is `[A-Za-z0-9_]`. The last block overlaps the one before it, so that no byte is left.
+/// Whether each byte of the text is `[A-Za-z0-9_]`. The last block overlaps the one before it, so
+/// that no byte is left.
 pub fn is_of_words(text: &[u8]) -> bool
     ensures { IsTrue result → AreWords text.now }
 {
@@ -65,8 +67,8 @@ fn has_links_alone(letters: Letters, text: &[u8]) -> bool
     true
 }
 
-/// Whether each byte of the text may follow the one before it. The last block overlaps the one before it, so that no
-/// byte is left.
+/// Whether each byte of the text may follow the one before it. The last block overlaps the one
+/// before it, so that no byte is left.
 #[inline(always)]
 pub fn is_linked(letters: Letters, text: &[u8]) -> bool
     ensures { IsTrue result → AreLinked letters text.now }

@@ -121,8 +121,8 @@ impl TextScan {
 
     /// Takes one byte more, if some text of the kind begins with the text so far and this byte.
     ///
-    /// The limit of 255 bytes that some kinds have is left to [`TextScan::end`]. On `false` the scan
-    /// is unchanged.
+    /// The limit of 255 bytes that some kinds have is left to [`TextScan::end`]. On `false` the
+    /// scan is unchanged.
     pub fn step(&mut self, byte: u8) -> bool
         ensures kind { kind_of self.new ≡ kind_of self.old }
         ensures prefix { (w : List ℕ) → Stands self.old w →
@@ -140,8 +140,8 @@ impl TextScan {
         true
     }
 
-    /// Takes as many of the bytes as the text may go on with, and returns their number: all of them, or those before the first
-    /// byte that [`TextScan::step`] rejects.
+    /// Takes as many of the bytes as the text may go on with, and returns their number: all of
+    /// them, or those before the first byte that [`TextScan::step`] rejects.
     ///
     /// As there, the limit of 255 bytes is left to [`TextScan::end`].
     pub fn take(&mut self, bytes: &[u8]) -> usize
@@ -162,7 +162,8 @@ impl TextScan {
         count
     }
 
-    /// Takes the ASCII that the bytes begin with, if the scan is between the characters of a text; else no byte.
+    /// Takes the ASCII that the bytes begin with, if the scan is between the characters of a text;
+    /// else no byte.
     fn take_plain(&mut self, bytes: &[u8]) -> usize
         ensures within { result ≤ length bytes.now }
         ensures kind { kind_of self.new ≡ kind_of self.old }

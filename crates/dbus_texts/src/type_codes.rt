@@ -1,4 +1,5 @@
-//! Which bytes of a signature are codes of types without parts. D-Bus Specification, "Summary of types".
+//! Which bytes of a signature are codes of types without parts. D-Bus Specification, "Summary of
+//! types".
 #![tactic(auto)]
 
 ghost use Rattle.std.specs.Prelude.{◌≡◌};

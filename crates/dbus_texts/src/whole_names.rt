@@ -1,4 +1,5 @@
-//! Names validated whole and fast. Only a yes says something: if the answer is no, the scan of `names` finds out.
+//! Names validated whole and fast. Only a yes says something: if the answer is no, the scan of
+//! `names` finds out.
 #![tactic(auto)]
 
 ghost use Rattle.std.specs.Prelude.{IsTrue};
@@ -57,7 +58,8 @@ fn is_path(text: &[u8]) -> bool
     text.len() == 1 || (text[text.len() - 1] != b'/' && is_linked(Letters::Word, text))
 }
 
-/// Whether the text is of the kind, its length aside, if the kind is one of paths or names; of other kinds never.
+/// Whether the text is of the kind, its length aside, if the kind is one of paths or names; of
+/// other kinds never.
 pub fn is_name(kind: TextKind, text: &[u8]) -> bool
     ensures { IsTrue result → IsOfKind kind text.now }
 {

@@ -9,13 +9,13 @@ use Rattle.dbus_handshake_input.specs.declared.side.Side.{Side}
 use Rattle.dbus_handshake_input.specs.declared.size.HandshakeSize.{HandshakeSize}
 use Rattle.dbus_show_handshake.specs.ShownHandshakes.{line_text, size_line}
 use Rattle.dbus_show_handshake.specs.declared.lines.ShownLines.{ShownLines}
-use Rattle.dbus_report.specs.Devices.{writing}
-use Rattle.dbus_report.specs.Gathering.{Gathers, Passes, Breaks}
+use Rattle.cli_report.specs.Devices.{writing}
+use Rattle.cli_report.specs.Gathering.{Gathers, Passes, Breaks}
 use Rattle.dbus_tool.specs.Listing.{GathersLines, IsListed, PutsLines, WritesLines, last_line}
-use Rattle.dbus_report.specs.PageLaws.{breaks_after, joins, passes_both}
-use Rattle.dbus_report.specs.Pages.{Goes}
-use Rattle.dbus_report.specs.declared.gathering.Unwritten.{Unwritten}
-use Rattle.dbus_report.specs.declared.page.Page.{Page}
+use Rattle.cli_report.specs.PageLaws.{breaks_after, joins, passes_both}
+use Rattle.cli_report.specs.Pages.{Goes}
+use Rattle.cli_report.specs.declared.gathering.Unwritten.{Unwritten}
+use Rattle.cli_report.specs.declared.page.Page.{Page}
 
 module _ {R W : Type 0} (left : R → Option (List ℕ)) (calls : R → ℕ) (held : W → Option (List ℕ)) (failures : W → ℕ) (side : Side) (r0 r1 : ReadAhead R) where
   abbrev pub Heard : ShownLines (Page W) → List HeardLine → ShownLines (Page W) → Type 0

@@ -11,20 +11,21 @@ use Rattle.dbus_handshake_input.specs.declared.fault.HandshakeFault.TheVariants 
 use Rattle.dbus_handshake_input.specs.declared.fault.HandshakeReason.{HandshakeReason}
 use Rattle.dbus_handshake_input.specs.declared.read_ahead.ReadAhead.{ReadAhead}
 use Rattle.dbus_handshake_input.specs.declared.side.Side.{Side}
-use Rattle.dbus_report.specs.Devices.{Reading, reading}
-use Rattle.dbus_report.specs.Failing.{Told}
-use Rattle.dbus_report.specs.declared.ending.ExitStatus.{ExitStatus}
-use Rattle.dbus_report.specs.declared.ending.ExitStatus.TheVariants as status
-use Rattle.dbus_report.specs.declared.ending.Cause.{Cause}
-use Rattle.dbus_report.specs.declared.ending.Cause.TheVariants as cause
+use Rattle.cli_report.specs.Devices.{Reading, reading}
+use Rattle.cli_report.specs.Failing.{Told}
+use Rattle.cli_report.specs.declared.ending.ExitStatus.{ExitStatus}
+use Rattle.cli_report.specs.declared.ending.ExitStatus.TheVariants as status
+use Rattle.cli_report.specs.declared.ending.Cause.{Cause}
+use Rattle.cli_report.specs.declared.ending.Cause.TheVariants as cause
 
 module _ {R : Type 0} (left : R → Option (List ℕ)) (calls failures : R → ℕ) where
-  -- a source before and after: what is left in it is what it keeps, and then what the source below has; its calls are those of the source
-  -- below, and those that the bytes it kept answered
+  -- a source before and after: what is left in it is what it keeps, and then what the source below
+  -- has; its calls are those of the source below, and those that the bytes it kept answered
   abbrev pub ahead : ReadAhead R → ReadAhead R → Reading (ReadAhead R)
   ahead old new = reading (λ s. prepend_known (kept_of s) (left (source_of s))) (calls_of calls) (λ s. failures (source_of s)) old new
 
-  -- the handshake of the side was taken, or what was read begins with none; the reads that failed count
+  -- the handshake of the side was taken, or what was read begins with none; the reads that failed
+  -- count
   abbrev pub ReadsHandshake : Side → ReadAhead R → ReadAhead R → Result (Unit {0}) HandshakeFault → Type 0
   ReadsHandshake side old new result = Passes left calls side old new result × Counts (failures (source_of old)) (failures (source_of new)) result
 

@@ -1,4 +1,5 @@
--- The lines of a handshake, listed: a function of those that were read. r0 and r1 are the source before and after.
+-- The lines of a handshake, listed: a function of those that were read. r0 and r1 are the source
+-- before and after.
 use Rattle.std.specs.Prelude.{◌≡◌, ℕ, List, [], ◌++◌, Option, Result, Ok, Err}
 use Rattle.std.specs.List.{flat_map}
 use Rattle.dbus_handshake_input.specs.Ahead.{source_of}
@@ -9,15 +10,15 @@ use Rattle.dbus_handshake_input.specs.declared.read_ahead.ReadAhead.{ReadAhead}
 use Rattle.dbus_handshake_input.specs.declared.side.Side.{Side}
 use Rattle.dbus_handshake_input.specs.declared.size.HandshakeSize.{HandshakeSize}
 use Rattle.dbus_show_handshake.specs.ShownHandshakes.{line_text, size_line}
-use Rattle.dbus_report.specs.Devices.{Writing}
-use Rattle.dbus_report.specs.Gathering.{Gathers}
+use Rattle.cli_report.specs.Devices.{Writing}
+use Rattle.cli_report.specs.Gathering.{Gathers}
 use Rattle.dbus_tool.specs.Handshaking.{StopsBy, TellsHandshake}
-use Rattle.dbus_report.specs.Pages.{Goes}
-use Rattle.dbus_report.specs.declared.ending.ExitStatus.{ExitStatus}
-use Rattle.dbus_report.specs.declared.ending.ExitStatus.TheVariants as status
-use Rattle.dbus_report.specs.declared.ending.Cause.TheVariants as cause
-use Rattle.dbus_report.specs.declared.gathering.Unwritten.{Unwritten}
-use Rattle.dbus_report.specs.declared.page.Page.{Page}
+use Rattle.cli_report.specs.Pages.{Goes}
+use Rattle.cli_report.specs.declared.ending.ExitStatus.{ExitStatus}
+use Rattle.cli_report.specs.declared.ending.ExitStatus.TheVariants as status
+use Rattle.cli_report.specs.declared.ending.Cause.TheVariants as cause
+use Rattle.cli_report.specs.declared.gathering.Unwritten.{Unwritten}
+use Rattle.cli_report.specs.declared.page.Page.{Page}
 
 -- a text with a line more for each line that is heard
 abbrev pub Lengthens : List ℕ → List HeardLine → List ℕ → Type 0
@@ -29,7 +30,8 @@ last_line (Ok size) = size_line size
 last_line (Err fault) = []
 
 module _ {R : Type 0} (left : R → Option (List ℕ)) (calls : R → ℕ) (r0 r1 : ReadAhead R) where
-  -- the handshake was read, or none, and this is the text of its lines, or of those before the place that was reached
+  -- the handshake was read, or none, and this is the text of its lines, or of those before the
+  -- place that was reached
   abbrev pub IsListed : Side → Result HandshakeSize HandshakeFault → List ℕ → Type 0
   IsListed side read text = Reads Lengthens side left calls r0 r1 [] text read
 
@@ -45,7 +47,8 @@ module _ {R : Type 0} (left : R → Option (List ℕ)) (calls : R → ℕ) (r0 r
   abbrev pub WritesLines : {W : Type 0} → Writing W → Side → Result HandshakeSize HandshakeFault → Result (Unit {0}) Unwritten → Type 0
   WritesLines w side read put = GathersLines w side [] [] read put
 
--- the handshake was listed; or why there is none was told, after the lines before that; or a write failed, which was told
+-- the handshake was listed; or why there is none was told, after the lines before that; or a write
+-- failed, which was told
 abbrev pub EndsList : {E : Type 0} → Writing E → Result HandshakeSize HandshakeFault → Result (Unit {0}) Unwritten → ExitStatus → Type 0
 EndsList e read (Err u) end = StopsBy e.held e.failures e.old e.new cause.WriteFailed end
 EndsList e (Ok size) (Ok x) end = (end ≡ status.Done) × (e.new ≡ e.old)

@@ -2,7 +2,7 @@
 use Rattle.std.specs.Prelude.{◌≡◌, ℕ, List, ◌++◌, Bool, true, false, codes, decimal, string_bytes}
 use Rattle.dbus_match.specs.declared.fault.RuleReason.{RuleReason}
 use Rattle.dbus_match.specs.FaultTexts.{rule_reason_text}
-use Rattle.dbus_command.specs.declared.usage_fault.RefusedRule.{RefusedRule}
+use Rattle.cli_options.specs.declared.usage_fault.RefusedRule.{RefusedRule}
 use Rattle.dbus_explain.specs.ExplainedRules.{IsExplainedRule}
 
 -- the offset of a rule's fault and its reason

@@ -2,34 +2,34 @@
 use Rattle.std.specs.Prelude.{◌≡◌, ◌⊎◌, ℕ, ◌^◌, Bool, true, false, ◌&&◌, codes, List, Option, Some, None, Result, Ok, Err, IfOk, string_bytes}
 use Rattle.clap.specs.Words.{Text}
 use Rattle.dbus_device.specs.Write.{Wrote, Stopped}
-use Rattle.dbus_command.specs.Named.{IsNamedBy}
-use Rattle.dbus_command.specs.Told.{TellsFault}
-use Rattle.dbus_command.specs.Unowned.{lacks_owner}
-use Rattle.dbus_command.specs.Windows.{ask_more}
-use Rattle.dbus_runs.specs.ByName.{CountsByName}
-use Rattle.dbus_report.specs.Devices.{Reading, Writing, writing}
+use Rattle.cli_options.specs.Named.{IsNamedBy}
+use Rattle.cli_options.specs.Told.{TellsFault}
+use Rattle.cli_options.specs.Unowned.{lacks_owner}
+use Rattle.cli_options.specs.Windows.{ask_more}
+use Rattle.cli_run.specs.ByName.{CountsByName}
+use Rattle.cli_report.specs.Devices.{Reading, Writing, writing}
 use Rattle.dbus_tool.specs.Handshaking.{ReadsHandshake, Shows, StopsBy, TellsHandshake, ahead}
 use Rattle.dbus_tool.specs.Listing.{Lists}
 use Rattle.dbus_tool.specs.RuleLines.{IsRuleTold}
-use Rattle.dbus_runs.specs.Running.{Runs, RunsWith}
-use Rattle.dbus_report.specs.Failing.{Told}
+use Rattle.cli_run.specs.Running.{Runs, RunsWith}
+use Rattle.cli_report.specs.Failing.{Told}
 use Rattle.dbus_handshake_input.specs.declared.fault.HandshakeFault.{HandshakeFault}
 use Rattle.dbus_handshake_input.specs.declared.read_ahead.ReadAhead.{ReadAhead}
 use Rattle.dbus_handshake_input.specs.declared.side.Side.{Side}
-use Rattle.dbus_command.specs.declared.asked.Asked.{Asked}
-use Rattle.dbus_command.specs.declared.asked.Asked.TheVariants.{Messages, Count, Handshake}
-use Rattle.dbus_command.specs.declared.command.Command.{Command}
-use Rattle.dbus_command.specs.declared.form.Form.{Form}
-use Rattle.dbus_command.specs.declared.form.Form.TheVariants as asked
+use Rattle.cli_options.specs.declared.asked.Asked.{Asked}
+use Rattle.cli_options.specs.declared.asked.Asked.TheVariants.{Messages, Count, Handshake}
+use Rattle.cli_options.specs.declared.command.Command.{Command}
+use Rattle.cli_options.specs.declared.form.Form.{Form}
+use Rattle.cli_options.specs.declared.form.Form.TheVariants as asked
 use Rattle.dbus_count.specs.declared.form.Form as tables
 use Rattle.dbus_count.specs.declared.form.Form.TheVariants as written
-use Rattle.dbus_command.specs.declared.settings.Settings.{Settings}
-use Rattle.dbus_command.specs.declared.usage_fault.RefusedRule.{RefusedRule}
-use Rattle.dbus_command.specs.declared.usage_fault.UsageFault.{UsageFault}
-use Rattle.dbus_command.specs.declared.usage_fault.UsageFault.TheVariants.{Memory, Help, Version, Usage, Rule}
-use Rattle.dbus_report.specs.declared.ending.ExitStatus.{ExitStatus}
-use Rattle.dbus_report.specs.declared.ending.ExitStatus.TheVariants as status
-use Rattle.dbus_report.specs.declared.ending.Cause.TheVariants as cause
+use Rattle.cli_options.specs.declared.settings.Settings.{Settings}
+use Rattle.cli_options.specs.declared.usage_fault.RefusedRule.{RefusedRule}
+use Rattle.cli_options.specs.declared.usage_fault.UsageFault.{UsageFault}
+use Rattle.cli_options.specs.declared.usage_fault.UsageFault.TheVariants.{Memory, Help, Version, Usage, Rule}
+use Rattle.cli_report.specs.declared.ending.ExitStatus.{ExitStatus}
+use Rattle.cli_report.specs.declared.ending.ExitStatus.TheVariants as status
+use Rattle.cli_report.specs.declared.ending.Cause.TheVariants as cause
 use Rattle.dbus_tool.specs.declared.words.Task.{Task}
 use Rattle.dbus_tool.specs.declared.words.Task.TheVariants.{Run, CountAll}
 
@@ -63,7 +63,8 @@ abbrev pub owner_note : List ℕ
 owner_note = codes "note: no owner is known for a rule's sender; --owner NAME=UNIQUE gives one, and --learn-owners takes them from the bus's signals\n"
 
 module _ {R W E : Type 0} (left : R → Option (List ℕ)) (calls failures : R → ℕ) (old new : ReadAhead R) (w : Writing W) (e : Writing E) where
-  -- the handshake of the side was read, and this was done with what follows; or none was read, which was told
+  -- the handshake of the side was read, and this was done with what follows; or none was read,
+  -- which was told
   abbrev pub FollowsHandshake : Side → (Reading (ReadAhead R) → Type 0) → ExitStatus → Type 0
   FollowsHandshake side Done end =
       ((begun : ReadAhead R) × ReadsHandshake left calls failures side old begun (Ok tt) × Done (ahead left calls failures begun new))
@@ -83,7 +84,8 @@ module _ {R W E : Type 0} (left : R → Option (List ℕ)) (calls failures : R �
       × DoesFrom left calls failures old new w (writing e.held e.failures begun e.new) settings.handshake settings (Run command) end)
       ⊎ ((new ≡ old) × (w.new ≡ w.old) × (end ≡ status.Failed) × (n : ℕ) × Stopped e.held e.failures e.old owner_note n e.new)
 
-  -- what is done for a command by its settings, for `count`, for the side whose handshake is listed, or for words that name nothing
+  -- what is done for a command by its settings, for `count`, for the side whose handshake is
+  -- listed, or for words that name nothing
   abbrev pub Does : Result Asked UsageFault → ExitStatus → Type 0
   Does (Ok (Messages command settings)) end = RunsNoted (settings.explains && lacks_owner command) settings command end
   Does (Ok (Count settings form)) end = DoesFrom left calls failures old new w e settings.handshake settings (CountAll form) end

@@ -1,6 +1,6 @@
 //! The program `dbus-wire` over the words of its command line, with any reader and two writers.
 //!
-//! [`run_words`] does what the words name, and returns the exit status. `dbus_runs` has the
+//! [`run_words`] does what the words name, and returns the exit status. `cli_run` has the
 //! commands over messages, which are here too. `dbus_wire` is the program.
 #![tactic(auto)]
 
@@ -9,10 +9,10 @@ mod listing;
 mod rule_lines;
 mod words;
 
-pub use dbus_command::{
+pub use cli_options::{
     Asked, Command, Form, RefusedRule, Selection, Settings, Side, UsageFault, Window, command_of,
 };
+pub use cli_report::ExitStatus;
+pub use cli_run::{run, run_reads, run_with, run_within};
 pub use dbus_handshake_input::ReadAhead;
-pub use dbus_report::ExitStatus;
-pub use dbus_runs::{run, run_reads, run_with, run_within};
 pub use words::run_words;

@@ -2,12 +2,12 @@
 ghost use Rattle.std.specs.Prelude.{◌≡◌, []};
 ghost use Rattle.dbus_handshake_input.specs.Ahead.{source_of};
 ghost use Rattle.dbus_handshake_input.specs.Passing.{Counts};
-ghost use Rattle.dbus_report.specs.Devices.{writing};
-ghost use Rattle.dbus_report.specs.Gathering.{gathered_bytes};
+ghost use Rattle.cli_report.specs.Devices.{writing};
+ghost use Rattle.cli_report.specs.Gathering.{gathered_bytes};
 ghost use Rattle.dbus_tool.specs.Listing.{GathersLines, PutsLines, WritesLines};
 
+use cli_report::{Gathered, Page, Unwritten, write_out};
 use dbus_handshake_input::{HandshakeFault, HandshakeSize, ReadAhead, Side, read_handshake};
-use dbus_report::{Gathered, Page, Unwritten, write_out};
 use dbus_show_handshake::{ShownLines, write_size};
 use dbus_stream::{Sink, Source};
 use std::alloc::Global;

@@ -3,7 +3,7 @@ ghost use Rattle.std.specs.Prelude.{◌≡◌, IfOk, OnOk, List, string_bytes};
 ghost use Rattle.dbus_explain.specs.ExplainedRules.{IsExplainedRule};
 ghost use Rattle.dbus_tool.specs.RuleLines.{IsRuleTold, IsRuleToldBy, rule_line};
 
-use dbus_command::RefusedRule;
+use cli_options::RefusedRule;
 use dbus_explain::explain_rule;
 use dbus_match::RuleReason;
 use dbus_show::StringDraft;

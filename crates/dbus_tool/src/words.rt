@@ -1,7 +1,7 @@
 //! The program over the words of its command line.
 ghost use Rattle.std.specs.Prelude.{◌≡◌, ◌≤◌, ◌^◌, ◌&&◌, map, string_bytes};
-ghost use Rattle.dbus_command.specs.Unowned.{lacks_owner};
-ghost use Rattle.dbus_report.specs.Devices.{reading, writing};
+ghost use Rattle.cli_options.specs.Unowned.{lacks_owner};
+ghost use Rattle.cli_report.specs.Devices.{reading, writing};
 ghost use Rattle.dbus_tool.specs.Handshaking.{Shows, TellsHandshake};
 ghost use Rattle.dbus_tool.specs.Listing.{Lists};
 ghost use Rattle.dbus_tool.specs.Words.{DoesBy, DoesFrom, RefusesRule, RunsNoted, RunsWords, ShowsText, table_form};
@@ -9,10 +9,10 @@ ghost use Rattle.dbus_tool.specs.Words.{DoesBy, DoesFrom, RefusesRule, RunsNoted
 use crate::lines::handshake_line;
 use crate::listing::write_lines;
 use crate::rule_lines::rule_text;
-use dbus_command::{Asked, Command, Form, RefusedRule, Settings, UsageFault, command_of};
+use cli_options::{Asked, Command, Form, RefusedRule, Settings, UsageFault, command_of};
+use cli_report::{Cause, ExitStatus, Unwritten, give_up};
+use cli_run::{count_by_name, run_with, run_within};
 use dbus_handshake_input::{HandshakeFault, ReadAhead, Side, pass_handshake};
-use dbus_report::{Cause, ExitStatus, Unwritten, give_up};
-use dbus_runs::{count_by_name, run_with, run_within};
 use dbus_stream::{MOST_READS, Sink, Source, WrittenOnly, write_all};
 use std::alloc::Global;
 
@@ -29,7 +29,7 @@ const OWNER_NOTE: &str =
 /// explain it, if they ask for explanations.
 ///
 /// If they ask for explanations, and a rule of `filter` asks for a well-known sender of which no
-/// owner is known, as `dbus_command::Command::lacks_owner` says, a line on the second writer says
+/// owner is known, as `cli_options::Command::lacks_owner` says, a line on the second writer says
 /// so first, and how to give owners.
 ///
 /// If they name the side of a handshake, that is taken first, as

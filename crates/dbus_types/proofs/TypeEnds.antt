@@ -1,4 +1,5 @@
--- Where a type's text ends, as the code counts brackets, and that this is where the text itself does.
+-- Where a type's text ends, as the code counts brackets, and that this is where the text itself
+-- does.
 use Rattle.std.proofs.Common.{◌≡◌, ℕ, zero, suc, pred, ◌+◌, ◌||◌, ◌==◌, if◌then◌else◌, List, [], ◌∷◌, ◌++◌, length, drop, refl, ap, ◌∙◌, arith, append_assoc}
 use Rattle.std.proofs.lemmas.List.{length-append}
 use Rattle.dbus_texts.specs.Types.{NumberCode, BYTE, TextCode, STRING, TypeTree, NumberType, TextType, VariantType, ArrayType, StructType, EntryType, TypeTrees, NoTypes, MoreTypes, number_code, text_code, sig, sigs}

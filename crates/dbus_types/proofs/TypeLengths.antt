@@ -28,7 +28,8 @@ first_there types pos t more lt e =
 first_of_text : (types : List ℕ) (pos : ℕ) (t : TypeTree) (more : List ℕ) → pos < length types → drop pos types ≡ sig t ++ more → get_or types pos 0 ≡ get_or (sig t) 0 0
 first_of_text types pos t more lt e = sym (first_there types pos t more lt e) ∙ code_is t (sig t) refl
 
--- Of what stands between the brackets of the type t, which begins at `at`, some types are left from a place on.
+-- Of what stands between the brackets of the type t, which begins at `at`, some types are left from
+-- a place on.
 pub record Enclosed (types : List ℕ) (at : ℕ) (t : TypeTree) (more : List ℕ) (place : ℕ) : Type 0 where
   pub us : TypeTrees
   pub close : ℕ

@@ -1,5 +1,5 @@
--- Types as the bytes of a signature: which byte each begins with, where it ends, and which numbers need no look.
--- D-Bus Specification, "Basic types", "Valid Signatures", "Summary of types".
+-- Types as the bytes of a signature: which byte each begins with, where it ends, and which numbers
+-- need no look. D-Bus Specification, "Basic types", "Valid Signatures", "Summary of types".
 use Rattle.std.specs.Prelude.{◌≡◌, ℕ, ◌+◌, List, ◌++◌, length, drop}
 use Rattle.dbus_texts.specs.Types.{BOOLEAN, UNIX_FD, TypeTree, NumberType, TextType, VariantType, ArrayType, StructType, EntryType, number_code, text_code, sig}
 use Rattle.dbus_types.specs.Alignments.{width}
@@ -17,8 +17,8 @@ first_code (EntryType k v) = 123
 abbrev pub IsTypeEnd : List ℕ → ℕ → ℕ → Type 0
 IsTypeEnd types pos end = (t : TypeTree) (more : List ℕ) → drop pos types ≡ sig t ++ more → end ≡ pos + length (sig t)
 
--- How many bytes a number of the type has, if these bytes may be any; else 0. A BOOLEAN is 0 or 1, and a UNIX_FD is the index
--- of a descriptor. The other types have no numbers.
+-- How many bytes a number of the type has, if these bytes may be any; else 0. A BOOLEAN is 0 or 1,
+-- and a UNIX_FD is the index of a descriptor. The other types have no numbers.
 abbrev pub free_width_of : TypeTree → ℕ
 free_width_of (NumberType BOOLEAN) = 0
 free_width_of (NumberType UNIX_FD) = 0

@@ -1,5 +1,5 @@
-//! Laws of types and the texts that spell them, and those of texts that `dbus_texts` has: each function does nothing, and its
-//! contract is the law.
+//! Laws of types and the texts that spell them, and those of texts that `dbus_texts` has: each
+//! function does nothing, and its contract is the law.
 #![tactic(auto)]
 
 ghost use Rattle.dbus_types.specs.Laws.{SinglesSpellTypes, SignaturesSpellTypes, NoTypeBeginsAnother};

@@ -1,8 +1,9 @@
-//! Types and signatures of the D-Bus wire format, and under the same name the kinds of text of `dbus_texts`. D-Bus Specification,
-//! "Type System" and "Valid Signatures".
+//! Types and signatures of the D-Bus wire format, and under the same name the kinds of text of
+//! `dbus_texts`. D-Bus Specification, "Type System" and "Valid Signatures".
 //!
-//! [`parse_signature`] returns the types that a signature spells, as [`SigType`]s, and [`signature_text`] writes them. With no type
-//! at hand, [`type_end`], [`boundary`] and [`free_width`] say of a signature's bytes what the types there need.
+//! [`parse_signature`] returns the types that a signature spells, as [`SigType`]s, and
+//! [`signature_text`] writes them. With no type at hand, [`type_end`], [`boundary`] and
+//! [`free_width`] say of a signature's bytes what the types there need.
 #![tactic(auto)]
 
 mod copy;

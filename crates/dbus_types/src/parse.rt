@@ -70,8 +70,8 @@ fn parse_fields<A: Allocator + Copy>(
     Ok((types, &rest[1..]))
 }
 
-/// The types that a text spells, as a signature or a part of one, one for each complete type in it. The text is known to spell
-/// types: it is not validated.
+/// The types that a text spells, as a signature or a part of one, one for each complete type in it.
+/// The text is known to spell types: it is not validated.
 ///
 /// The one error is that an allocation failed. D-Bus Specification, "Valid Signatures".
 pub fn spelled_types<A: Allocator + Copy>(
@@ -125,8 +125,8 @@ pub fn parse_signature<A: Allocator + Copy>(
 
 /// The type that a signature of exactly one complete type spells.
 ///
-/// Else `TooLong` over 255 bytes, else `Bad` at its break, which after one complete type is its end;
-/// `Memory` if an allocation failed. D-Bus Specification, "Valid Signatures".
+/// Else `TooLong` over 255 bytes, else `Bad` at its break, which after one complete type is its
+/// end; `Memory` if an allocation failed. D-Bus Specification, "Valid Signatures".
 pub fn parse_single<A: Allocator + Copy>(alloc: A, text: &[u8]) -> Result<SigType<A>, SigFault>
     ensures { IsSingleParse text.now result }
 {

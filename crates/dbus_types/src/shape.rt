@@ -49,8 +49,9 @@ fn is_basic_type<A: Allocator>(ty: &SigType<A>) -> bool
     }
 }
 
-/// The number of bytes that are left of `left` after the type's text, or nothing if the type is not complete or its text has
-/// more bytes. `arrays` arrays and `structs` structs are open around it, and `inside` says that it is an array's element.
+/// The number of bytes that are left of `left` after the type's text, or nothing if the type is not
+/// complete or its text has more bytes. `arrays` arrays and `structs` structs are open around it,
+/// and `inside` says that it is an array's element.
 ///
 /// D-Bus Specification, "Valid Signatures".
 #[cycle(text_left)]

@@ -6,10 +6,11 @@ use std::sync::Arc;
 
 /// A type, as a signature spells it. D-Bus Specification, "Type System".
 ///
-/// Not every value of it spells a signature: a struct needs a field, and a dict entry occurs only as an
-/// array's element, with a basic key.
+/// Not every value of it spells a signature: a struct needs a field, and a dict entry occurs only
+/// as an array's element, with a basic key.
 ///
-/// The types inside it are shared with its clones, so a clone allocates nothing, however long its signature is.
+/// The types inside it are shared with its clones, so a clone allocates nothing, however long its
+/// signature is.
 #[derive(Debug, Drop)]
 pub enum SigType<A: Allocator = Global> {
     /// `y`, one byte.

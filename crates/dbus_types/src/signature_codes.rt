@@ -1,5 +1,5 @@
-//! Types as bytes of a signature: where one ends, where its values begin, and which numbers need no look.
-//! D-Bus Specification, "Valid Signatures", "Summary of D-Bus marshaling".
+//! Types as bytes of a signature: where one ends, where its values begin, and which numbers need no
+//! look. D-Bus Specification, "Valid Signatures", "Summary of D-Bus marshaling".
 #![tactic(auto)]
 
 ghost use Rattle.std.specs.Prelude.{◌≡◌, suc, pred, ◌+◌, ◌<◌, ◌≤◌, ◌^◌, ◌||◌, ◌==◌, if◌then◌else◌, length};
@@ -22,8 +22,8 @@ fn open_after(deep: usize, code: u8) -> usize
     }
 }
 
-/// Where the complete type that begins at `pos` ends, whatever follows it. If none begins there, it is some place after
-/// `pos`. D-Bus Specification, "Valid Signatures", "Container types".
+/// Where the complete type that begins at `pos` ends, whatever follows it. If none begins there, it
+/// is some place after `pos`. D-Bus Specification, "Valid Signatures", "Container types".
 #[inline]
 pub fn type_end(types: &[u8], pos: usize) -> usize
     requires { pos < length types.now }
@@ -46,7 +46,8 @@ pub fn type_end(types: &[u8], pos: usize) -> usize
     at
 }
 
-/// The boundary of a type that begins with this byte. D-Bus Specification, "Summary of D-Bus marshaling".
+/// The boundary of a type that begins with this byte. D-Bus Specification, "Summary of D-Bus
+/// marshaling".
 #[tactic(auto, using(crate::proofs::TypeCodes::boundary_by))]
 #[inline]
 pub fn boundary(code: u8) -> u8
@@ -62,8 +63,8 @@ pub fn boundary(code: u8) -> u8
     }
 }
 
-/// The number of bytes of a number of the type that begins with this byte, if any bytes are valid for it; else 0.
-/// D-Bus Specification, "Basic types", "Summary of D-Bus marshaling".
+/// The number of bytes of a number of the type that begins with this byte, if any bytes are valid
+/// for it; else 0. D-Bus Specification, "Basic types", "Summary of D-Bus marshaling".
 #[tactic(auto, using(crate::proofs::TypeCodes::free_width_by))]
 #[inline]
 pub fn free_width(code: u8) -> u8

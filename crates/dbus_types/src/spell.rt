@@ -23,8 +23,8 @@ fn push_code<A: Allocator + Copy>(out: &mut String<A>, code: u8) -> Result<(), A
 
 /// Appends the text of a type, one code for each basic type. D-Bus Specification, "Type System".
 ///
-/// `AllocError` comes only if an allocation failed: then a prefix of the text comes after what was there, which may be
-/// none of it. Types that spell no signature have a text too.
+/// `AllocError` comes only if an allocation failed: then a prefix of the text comes after what was
+/// there, which may be none of it. Types that spell no signature have a text too.
 #[cycle(spell)]
 pub fn push_type<A: Allocator + Copy>(
     out: &mut String<A>,
@@ -75,8 +75,8 @@ fn push_types<A: Allocator + Copy>(
 
 /// The signature that spells these types.
 ///
-/// If their joined texts are no signature: `TooLong` over 255 bytes, else `Bad` at the break of that text;
-/// `Memory` if an allocation failed. D-Bus Specification, "Valid Signatures".
+/// If their joined texts are no signature: `TooLong` over 255 bytes, else `Bad` at the break of
+/// that text; `Memory` if an allocation failed. D-Bus Specification, "Valid Signatures".
 pub fn signature_text<A: Allocator + Copy>(
     alloc: A,
     types: &[SigType<A>],

@@ -1,9 +1,11 @@
 //! The codes of types in a signature. D-Bus Specification, "Summary of types".
 //!
-//! Which code each type has, and which type each code spells. Other tables follow the codes: in `dbus_texts` which bytes
-//! are codes, in `signature_codes` what a code says of boundaries and widths, and in the crates that go along a signature's
-//! bytes (`dbus_value_checker`, `dbus_value_validator`, `dbus_walk`) what they do with a value of the type.
-//! The codes of the containers, `a`, `(` with `)` and `{` with `}`, are also in the code that reads and writes these.
+//! Which code each type has, and which type each code spells. Other tables follow the codes: in
+//! `dbus_texts` which bytes are codes, in `signature_codes` what a code says of boundaries and
+//! widths, and in the crates that go along a signature's bytes (`dbus_value_checker`,
+//! `dbus_value_validator`, `dbus_walk`) what they do with a value of the type. The codes of the
+//! containers, `a`, `(` with `)` and `{` with `}`, are also in the code that reads and writes
+//! these.
 #![tactic(auto)]
 
 ghost use Rattle.std.specs.Prelude.{◌≡◌, ◌∷◌, [], get_or, MatchOption, false};
@@ -14,7 +16,8 @@ ghost use Rattle.dbus_texts.specs.SignatureScans.{is_type_code};
 use crate::sig_type::SigType;
 use std::alloc::Allocator;
 
-/// The code that the type's signature begins with; of a type without parts it is the whole signature.
+/// The code that the type's signature begins with; of a type without parts it is the whole
+/// signature.
 ///
 /// D-Bus Specification, "Summary of types".
 pub fn type_code<A: Allocator>(ty: &SigType<A>) -> u8

@@ -1,11 +1,13 @@
-//! How long each type of a signature is, noted once. D-Bus Specification, "Valid Signatures", "Container types".
+//! How long each type of a signature is, noted once. D-Bus Specification, "Valid Signatures",
+//! "Container types".
 #![tactic(auto)]
 
 ghost use Rattle.std.specs.Prelude.{◌≡◌, ◌+◌, ◌<◌, ◌≤◌, ◌⊎◌, ℕ, List, ◌++◌, length, drop, slice_index};
 ghost use Rattle.dbus_texts.specs.Types.{TypeTree, sig};
 ghost use Rattle.dbus_types.specs.TypeLengths.{AreLengths, AreNoted};
 
-/// Notes for each place of a signature the length of the complete type that begins there, so that none is looked for again.
+/// Notes for each place of a signature the length of the complete type that begins there, so that
+/// none is looked for again.
 ///
 /// If no type begins it notes some length, of 1 byte or more, and no more than are left.
 /// D-Bus Specification, "Valid Signatures".
@@ -21,7 +23,8 @@ pub fn note_lengths(types: &[u8], lengths: &mut [u8])
     }
 }
 
-/// The lengths of the types of a signature, as [`note_lengths`] says, noted in a table, which has room for those of any signature.
+/// The lengths of the types of a signature, as [`note_lengths`] says, noted in a table, which has
+/// room for those of any signature.
 ///
 /// D-Bus Specification, "Valid Signatures".
 pub fn lengths_in<'t>(types: &[u8], table: &'t mut [u8; 255]) -> &'t [u8]

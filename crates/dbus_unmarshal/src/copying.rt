@@ -14,8 +14,9 @@ use dbus_values::Values;
 use dbus_walk::{Spot, lengths_of};
 use std::alloc::{AllocError, Allocator};
 
-/// The first of the values as a tree, as decoding gives it: the value that `next` sees. `None` if there are no values. An array of
-/// BYTE comes as `Bytes`, also within the value. The values stay what they are.
+/// The first of the values as a tree, as decoding gives it: the value that `next` sees. `None` if
+/// there are no values. An array of BYTE comes as `Bytes`, also within the value. The values stay
+/// what they are.
 ///
 /// `AllocError` if an allocation failed. D-Bus Specification, "Marshaling (Wire Format)".
 ///

@@ -13,8 +13,9 @@ pub(crate) struct Builder<A: Allocator> {
     pub(crate) alloc: A,
 }
 
-/// What is gathered of the parts of a container, as the container takes it. The types of the parts that are to come stand with them,
-/// so that an array shares the type of its elements with the type of the array around it.
+/// What is gathered of the parts of a container, as the container takes it. The types of the parts
+/// that are to come stand with them, so that an array shares the type of its elements with the type
+/// of the array around it.
 #[derive(Drop)]
 pub(crate) enum Gathered<A: Allocator> {
     /// Of a variant, no value yet: the type of the value.
@@ -25,7 +26,8 @@ pub(crate) enum Gathered<A: Allocator> {
     Entry(SigType<A>, SigType<A>),
     /// The type of the value of a dict entry, and its key.
     Key(SigType<A>, Value<A>),
-    /// The key and the value of a dict entry, on the heap as the value takes them: so what is moved stays small.
+    /// The key and the value of a dict entry, on the heap as the value takes them: so what is moved
+    /// stays small.
     Both(Box<DictEntry<A>, A>),
     /// The types of a struct's fields, and the fields.
     Fields(Arc<Vec<SigType<A>, A>, A>, Vec<Value<A>, A>),

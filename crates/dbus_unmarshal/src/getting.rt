@@ -21,8 +21,8 @@ use dbus_value_model::{Bounds, Fault, Got, Limits, Order, Refusal};
 use dbus_walk::{Source, Spot, lengths_of};
 use std::alloc::Allocator;
 
-/// The value of a type at a place, and the place after it, as [`get_within`] says under the limits of the
-/// specification.
+/// The value of a type at a place, and the place after it, as [`get_within`] says under the limits
+/// of the specification.
 ///
 /// ```rust
 /// use dbus_types::SigType;
@@ -69,15 +69,16 @@ pub fn get<A: Allocator + Copy>(
 
 /// The value of a type at a place, and the place after it.
 ///
-/// `bytes` begin at the message's first byte, from which padding counts; the value begins at `at` and ends at or
-/// before `end`, and `depth` containers are open around it, at most the limits' depth. Every index of a file descriptor in it
-/// is below `fds`, or any if that is nothing: the limits' own rule is not used. An array of BYTE comes as `Bytes`, also
-/// within the value.
+/// `bytes` begin at the message's first byte, from which padding counts; the value begins at `at`
+/// and ends at or before `end`, and `depth` containers are open around it, at most the limits'
+/// depth. Every index of a file descriptor in it is below `fds`, or any if that is nothing: the
+/// limits' own rule is not used. An array of BYTE comes as `Bytes`, also within the value.
 ///
-/// `Partial` comes if the bytes end within the value and show no fault. A refusal is `Format` with the first fault of the
-/// bytes, which is `FdIndex` at an index that is not below `fds`, or `Memory` if an allocation failed. Nothing is allocated
-/// until all of the value is validated: `Memory` comes only if the bytes spell it.
-/// D-Bus Specification, "Marshaling (Wire Format)", "Basic types".
+/// `Partial` comes if the bytes end within the value and show no fault. A refusal is `Format` with
+/// the first fault of the bytes, which is `FdIndex` at an index that is not below `fds`, or
+/// `Memory` if an allocation failed. Nothing is allocated until all of the value is validated:
+/// `Memory` comes only if the bytes spell it. D-Bus Specification, "Marshaling (Wire Format)",
+/// "Basic types".
 pub fn get_within<A: Allocator + Copy>(
     alloc: A,
     bytes: &[u8],
@@ -121,8 +122,9 @@ pub fn get_within<A: Allocator + Copy>(
     }
 }
 
-/// Whether the value that is wanted at a spot is there whole, up to `end` at the latest. If it is not, the bytes end within
-/// it and show no fault. The checker is large: it is here, so that it is gone when the value is built.
+/// Whether the value that is wanted at a spot is there whole, up to `end` at the latest. If it is
+/// not, the bytes end within it and show no fault. The checker is large: it is here, so that it is
+/// gone when the value is built.
 ///
 /// `Err` with the first fault that it shows. D-Bus Specification, "Marshaling (Wire Format)".
 #[inline(never)]

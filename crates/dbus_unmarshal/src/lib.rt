@@ -1,7 +1,8 @@
-//! Values as trees: built of bytes that were validated, and read from any bytes, which are checked first.
+//! Values as trees: built of bytes that were validated, and read from any bytes, which are checked
+//! first.
 //!
-//! One walk goes along validated bytes, and a value is made of each part where it is. Nothing is validated again: the one error is
-//! that an allocation failed.
+//! One walk goes along validated bytes, and a value is made of each part where it is. Nothing is
+//! validated again: the one error is that an allocation failed.
 #![tactic(auto)]
 
 mod building;

@@ -44,7 +44,8 @@ pub(crate) fn number_at<A: Allocator>(source: &Source<'_>, start: usize, code: u
     }
 }
 
-/// The numbers of `size` bytes each that follow one another from a spot on up to `end`. Room is made for all of them at once.
+/// The numbers of `size` bytes each that follow one another from a spot on up to `end`. Room is
+/// made for all of them at once.
 pub(crate) fn numbers_up_to<A: Allocator + Copy>(
     alloc: A,
     source: &Source<'_>,

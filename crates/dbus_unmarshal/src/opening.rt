@@ -1,4 +1,5 @@
-//! Containers that open: which types their parts have, and room for these. D-Bus Specification, "Type System".
+//! Containers that open: which types their parts have, and room for these. D-Bus Specification,
+//! "Type System".
 #![tactic(auto)]
 
 ghost use Rattle.std.specs.Prelude.{◌≡◌, false, List, [], IfOk, MatchOption};

@@ -1,4 +1,5 @@
-//! Values placed among the parts of a container, and containers built of their parts. D-Bus Specification, "Container types".
+//! Values placed among the parts of a container, and containers built of their parts. D-Bus
+//! Specification, "Container types".
 #![tactic(auto)]
 
 ghost use Rattle.std.specs.Prelude.{◌≡◌, List, ◌∷◌, [], ◌++◌, IfOk};

@@ -9,7 +9,8 @@ use arrayvec::ArrayVec;
 use dbus_types::{SigType, type_code};
 use std::alloc::Allocator;
 
-/// Appends the text of a type, which has room there: one code for each basic type. D-Bus Specification, "Type System".
+/// Appends the text of a type, which has room there: one code for each basic type. D-Bus
+/// Specification, "Type System".
 #[cycle(text)]
 pub(crate) fn put_type<A: Allocator + Copy>(out: &mut ArrayVec<u8, 255>, ty: &SigType<A>)
     requires fits { length out.old.items + length (sig (type_tree ty.now)) ≤ 255 }

@@ -1,4 +1,5 @@
-//! Values of any type as trees, from a message's bytes. D-Bus Specification, "Marshaling (Wire Format)".
+//! Values of any type as trees, from a message's bytes. D-Bus Specification, "Marshaling (Wire
+//! Format)".
 #![tactic(auto)]
 
 ghost use Rattle.std.specs.Prelude.{◌≡◌, ℕ, ◌+◌, ◌≤◌, List, length, IsTrue, IfOk};
@@ -21,7 +22,8 @@ use dbus_walk::{Layout, Source, Spot, layout, lengths_of, walk_value, walk_value
 use std::alloc::{AllocError, Allocator};
 use std::sync::Arc;
 
-/// The value at a spot as a tree, and the offset after it. An array of BYTE comes as `Bytes`, also within the value.
+/// The value at a spot as a tree, and the offset after it. An array of BYTE comes as `Bytes`, also
+/// within the value.
 ///
 /// `AllocError` if an allocation failed. D-Bus Specification, "Marshaling (Wire Format)".
 pub fn build_value<A: Allocator + Copy>(
@@ -43,8 +45,8 @@ pub fn build_value<A: Allocator + Copy>(
     Ok((held_value(gathered), after))
 }
 
-/// The values that follow one another at a spot, one of each type that the text there spells. They take one block of
-/// memory besides what each takes.
+/// The values that follow one another at a spot, one of each type that the text there spells. They
+/// take one block of memory besides what each takes.
 ///
 /// `AllocError` if an allocation failed. D-Bus Specification, "Marshaling (Wire Format)".
 pub fn build_values<A: Allocator + Copy>(
@@ -66,8 +68,8 @@ pub fn build_values<A: Allocator + Copy>(
     Ok(fields_of(gathered))
 }
 
-/// The value at `at`, whose one type these bytes spell, as a tree, and the offset after it. So many containers may be open in it.
-/// How long the types in it are is noted first.
+/// The value at `at`, whose one type these bytes spell, as a tree, and the offset after it. So many
+/// containers may be open in it. How long the types in it are is noted first.
 ///
 /// `AllocError` if an allocation failed. D-Bus Specification, "Marshaling (Wire Format)".
 pub fn build_typed<A: Allocator + Copy>(
@@ -96,7 +98,8 @@ pub fn build_typed<A: Allocator + Copy>(
     build_at(alloc, source, &spot)
 }
 
-/// The value at a spot as a tree, and the offset after it. A number or a text is built at once, without its type and without a walk.
+/// The value at a spot as a tree, and the offset after it. A number or a text is built at once,
+/// without its type and without a walk.
 fn build_at<A: Allocator + Copy>(
     alloc: A,
     source: &Source<'_>,

@@ -48,7 +48,8 @@ next_start : (order : Order) (fs : List FieldTree) (f : FieldTree) (place after 
 next_start order fs f place after here ends = ends ∙ ap (λ (k : ℕ). k + length (spelling order k (field_struct f))) here ∙ (let whole = longer order 16 fs f in omega (arith, whole))
 
 module _ (limits : Limits) (order : Order) (bytes : List ℕ) (at n : ℕ) where
-  -- these fields were read up to a place and noted, and what is read from there on, in so many turns, comes after them
+  -- these fields were read up to a place and noted, and what is read from there on, in so many
+  -- turns, comes after them
   pub record Left (turns place : ℕ) (seen : Seen) : Type 0 where
     pub front : List FieldTree
     pub noted : AreNoted front bytes seen

@@ -11,7 +11,8 @@ use Rattle.dbus_validate.specs.declared.validating.Validated.{Validated}
 use Rattle.dbus_validate.specs.declared.seen.Seen.{Seen}
 use Rattle.dbus_validate.specs.Seen.{AreNoted, ArePlaced}
 
--- the bytes begin with what stands before a message's body, and as many bytes follow as the body has: of its values nothing is said
+-- the bytes begin with what stands before a message's body, and as many bytes follow as the body
+-- has: of its values nothing is said
 pub record IsHeaded (limits : Limits) (bytes : List ℕ) (x : Head) (seen : Seen) : Type 0 where
   pub fields : List FieldTree
   pub opened : 0 < limits.depth

@@ -18,7 +18,8 @@ IsNoted (OfType t) v bytes h = (text_in v ≡ take h.length (drop h.start bytes)
 IsNoted (Name k) v bytes h = (text_in v ≡ take h.length (drop h.start bytes)) × (number_in v ≡ h.number)
 IsNoted Serial v bytes h = (text_in v ≡ take h.length (drop h.start bytes)) × (number_in v ≡ h.number)
 
--- of a known field whose value's signature begins at an offset: its text begins there, after a signature of three bytes
+-- of a known field whose value's signature begins at an offset: its text begins there, after a
+-- signature of three bytes
 abbrev pub IsPlaced : Want → (at : ℕ) → ValueTree → Held → Type 0
 IsPlaced w at v h = is_particular w ≡ true → h.start ≡ text_start (at + 3) v
 
@@ -38,7 +39,8 @@ IsHeldField limits order end before at bytes code h =
     (v : ValueTree) × (field_read limits order end before at (drop at bytes) ≡ Done (record { code = code; value = v }) h.after (drop h.after bytes)) × IsNoted (want code) v bytes h
     × (is_known code ≡ true → h.start ≡ text_start (known_start at) v)
 
--- what a call says of a field: which it is, where its code is unknown or not among those before it, and else that none is read whole
+-- what a call says of a field: which it is, where its code is unknown or not among those before it,
+-- and else that none is read whole
 abbrev pub HoldsField : Limits → Order → (end : ℕ) → (before : List FieldTree) → (at : ℕ) → List ℕ → Option (ℕ × Held) → Type 0
 HoldsField limits order end before at bytes None = IsNotRead (field_read limits order end before at (drop at bytes))
 HoldsField limits order end before at bytes (Some f) =

@@ -24,7 +24,8 @@ IsNotedOf None bytes (Some p) = ⊥
 IsNotedOf (Some v) bytes None = ⊥
 IsNotedOf (Some v) bytes (Some p) = StandsAt v bytes p
 
--- of each known code the value of the first field is noted, and nothing where there is no field of it
+-- of each known code the value of the first field is noted, and nothing where there is no field of
+-- it
 abbrev pub AreNoted : List FieldTree → List ℕ → Seen → Type 0
 AreNoted fs bytes seen = (c : ℕ) → is_known c ≡ true → IsNotedOf (field_value c fs) bytes (slice_index_or seen.places c None)
 
@@ -35,15 +36,18 @@ abbrev pub fields_before : ℕ → List FieldTree → List FieldTree
 fields_before c [] = []
 fields_before c (f ∷ fs) = if nat_eq f.code c then [] else f ∷ fields_before c fs
 
--- where a message's field ends that comes after others, and the next one begins with its padding: the first begins at 16
+-- where a message's field ends that comes after others, and the next one begins with its padding:
+-- the first begins at 16
 abbrev pub field_start : Order → (before : List FieldTree) → ℕ
 field_start order before = 16 + length (spellings order 16 (value_trees (map field_struct before)))
 
--- where the value of a known field begins: after the field's padding to 8, its code, and the signature of one letter that its variant has
+-- where the value of a known field begins: after the field's padding to 8, its code, and the
+-- signature of one letter that its variant has
 abbrev pub known_start : (field : ℕ) → ℕ
 known_start field = field + gap_to 8 field + 1 + 3
 
--- where the text of a value begins that itself begins at an offset: after its padding and its length; of a value that is no text, 0
+-- where the text of a value begins that itself begins at an offset: after its padding and its
+-- length; of a value that is no text, 0
 abbrev pub text_start : (at : ℕ) → ValueTree → ℕ
 text_start at (TextValue k t) = at + gap_to (length_width k) at + length_width k
 text_start at v = 0

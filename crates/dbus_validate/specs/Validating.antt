@@ -7,8 +7,8 @@ use Rattle.dbus_header.specs.MessageOutcomes.{IsWhole}
 use Rattle.dbus_validate.specs.declared.validating.Validated.{Validated}
 use Rattle.dbus_validate.specs.Seen.{AreNoted, ArePlaced}
 
--- they begin with a message: its length and order, its parts, where the values of its known fields stand, each where its own field
--- has it, and where its body does
+-- they begin with a message: its length and order, its parts, where the values of its known fields
+-- stand, each where its own field has it, and where its body does
 pub record IsValidated (limits : Limits) (bytes : List ℕ) (j : Validated) : Type 0 where
   pub message : MessageTree
   pub whole : IsWhole limits bytes j.order message j.length

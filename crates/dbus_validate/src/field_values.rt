@@ -1,8 +1,8 @@
 //! Values of header fields. D-Bus Specification, "Header Fields".
 //!
-//! `bytes` begin at the message's first byte, from which offsets count. A field's value begins at `at` with its variant's
-//! signature, and is to end at or before `end`, up to which the bytes are there. None says that no such value begins there, or
-//! that it does not end at or before `end`.
+//! `bytes` begin at the message's first byte, from which offsets count. A field's value begins at
+//! `at` with its variant's signature, and is to end at or before `end`, up to which the bytes are
+//! there. None says that no such value begins there, or that it does not end at or before `end`.
 #![tactic(auto)]
 
 ghost use Rattle.std.specs.Prelude.{◌≡◌, ℕ, ◌+◌, ◌≤◌, ◌<◌, List, [], ◌∷◌, length, drop, None, IfSome};
@@ -217,10 +217,11 @@ fn anything(bytes: &[u8], at: usize, end: usize, order: Order, limits: Limits) -
 
 /// The value of a field of a code: of its own type and kind if the code is known.
 ///
-/// Some says that the bytes from `at` on are the signature and the value that such a field has, up to `after`, and where its
-/// text is or what its number is, if the code is known. None says that no such signature and value begin at `at`: the bytes
-/// there are at fault, or the value does not end at or before `end`. The field array, the field and its variant are open around
-/// it. D-Bus Specification, "Header Fields".
+/// Some says that the bytes from `at` on are the signature and the value that such a field has, up
+/// to `after`, and where its text is or what its number is, if the code is known. None says that no
+/// such signature and value begin at `at`: the bytes there are at fault, or the value does not end
+/// at or before `end`. The field array, the field and its variant are open around it. D-Bus
+/// Specification, "Header Fields".
 pub(crate) fn validate_field_value(
     bytes: &[u8],
     at: usize,

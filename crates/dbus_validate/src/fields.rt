@@ -18,11 +18,12 @@ use dbus_value_validator::padding;
 
 /// A header field: its code, and where its value is.
 ///
-/// `bytes` begin at the message's first byte, from which offsets count; the field begins at `at` and ends at or before `end`, up
-/// to which the bytes are there. Some says that the bytes from `at` on are a field of that code, after any fields among which the
-/// code does not occur, or any at all if it is not known. None says that no field begins at `at`, whichever come before it:
-/// the bytes there are at fault, or the field does not end at or before `end`, or the limits' depth is below [`FIELD_DEPTH`]. The
-/// field array is open around it. D-Bus Specification, "Header Fields".
+/// `bytes` begin at the message's first byte, from which offsets count; the field begins at `at`
+/// and ends at or before `end`, up to which the bytes are there. Some says that the bytes from `at`
+/// on are a field of that code, after any fields among which the code does not occur, or any at all
+/// if it is not known. None says that no field begins at `at`, whichever come before it: the bytes
+/// there are at fault, or the field does not end at or before `end`, or the limits' depth is below
+/// [`FIELD_DEPTH`]. The field array is open around it. D-Bus Specification, "Header Fields".
 pub(crate) fn validate_field(
     bytes: &[u8],
     at: usize,
@@ -53,12 +54,14 @@ pub(crate) fn validate_field(
     Some((code, held))
 }
 
-/// Whether the n bytes from `at` on are fields, and where the values of the known ones are, of which none was seen before.
+/// Whether the n bytes from `at` on are fields, and where the values of the known ones are, of
+/// which none was seen before.
 ///
-/// `bytes` begin at the message's first byte, from which offsets count, and they are there up to the fields' end. True says that
-/// these n bytes are fields, none of a code 0 and no two of one known code. False says that they are not: they are at fault, or
-/// there are some and the limits' depth is below [`FIELD_DEPTH`]. The field array is open around them.
-/// D-Bus Specification, "Header Fields".
+/// `bytes` begin at the message's first byte, from which offsets count, and they are there up to
+/// the fields' end. True says that these n bytes are fields, none of a code 0 and no two of one
+/// known code. False says that they are not: they are at fault, or there are some and the limits'
+/// depth is below [`FIELD_DEPTH`]. The field array is open around them. D-Bus Specification,
+/// "Header Fields".
 pub(crate) fn validate_fields(
     bytes: &[u8],
     at: usize,

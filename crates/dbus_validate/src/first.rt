@@ -7,11 +7,13 @@ use crate::validating::{Validated, validate};
 use dbus_header::stated_length_within;
 use dbus_value_model::Limits;
 
-/// The message within the limits that the bytes begin with, validated by itself, and where its parts are.
+/// The message within the limits that the bytes begin with, validated by itself, and where its
+/// parts are.
 ///
-/// It is what [`validate`] returns for the message's own bytes, as many as the first 16 state; so each of its parts lies among these,
-/// whatever follows them. None says that the bytes begin with no message within the limits: they are at fault or too few. No
-/// allocation is made. D-Bus Specification, "Message Format".
+/// It is what [`validate`] returns for the message's own bytes, as many as the first 16 state; so
+/// each of its parts lies among these, whatever follows them. None says that the bytes begin with
+/// no message within the limits: they are at fault or too few. No allocation is made. D-Bus
+/// Specification, "Message Format".
 pub fn validate_first(bytes: &[u8], limits: Limits) -> Option<Validated>
     ensures validated { IfSome result (λ j. IsValidatedFirst limits bytes.now j) }
     ensures none { result ≡ None → BeginsWithNone limits bytes.now }

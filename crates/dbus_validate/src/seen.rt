@@ -1,4 +1,5 @@
-//! The known fields that were seen, and where their values are. D-Bus Specification, "Header Fields".
+//! The known fields that were seen, and where their values are. D-Bus Specification, "Header
+//! Fields".
 #![tactic(auto)]
 
 ghost use Rattle.std.specs.Prelude.{◌≡◌, ◌+◌, ◌≤◌, ◌<◌, ◌^◌, ◌++◌, ◌∷◌, [], ◌&&◌, ℕ, List, length, take, drop, true, false, None, slice_index_or};
@@ -38,10 +39,12 @@ impl Place {
     }
 }
 
-/// Where the values of the known fields are, each by its code. D-Bus Specification, "Header Fields".
+/// Where the values of the known fields are, each by its code. D-Bus Specification, "Header
+/// Fields".
 #[derive(Clone, Copy)]
 pub struct Seen {
-    /// Of each code the value of the field that was seen, if one was: the codes of the known fields are 1 to 9.
+    /// Of each code the value of the field that was seen, if one was: the codes of the known fields
+    /// are 1 to 9.
     pub places: [Option<Place>; 10],
 }
 
@@ -114,7 +117,8 @@ impl Seen {
         true
     }
 
-    /// The types of the body's values: the text of the SIGNATURE field in the bytes, or nothing if that was not seen.
+    /// The types of the body's values: the text of the SIGNATURE field in the bytes, or nothing if
+    /// that was not seen.
     pub fn signature<'a>(&self, bytes: &'a [u8]) -> &'a [u8]
         requires noted { (fs : List FieldTree) × AreNoted fs bytes.now self.now }
         ensures { (fs : List FieldTree) → AreNoted fs bytes.now self.now →
@@ -126,7 +130,8 @@ impl Seen {
         }
     }
 
-    /// The number of file descriptors that come with the message: the number of the UNIX_FDS field, or 0 if that was not seen.
+    /// The number of file descriptors that come with the message: the number of the UNIX_FDS field,
+    /// or 0 if that was not seen.
     pub fn fd_count(&self) -> u32
         ensures { (bytes : List ℕ) (fs : List FieldTree) → AreNoted fs bytes self.now →
             result ≡ fd_count fs }

@@ -93,8 +93,9 @@ impl Head {
     }
 }
 
-/// What comes before the body of a message within the limits that the bytes begin with, if all bytes of the body are there;
-/// its values are not looked at. `seen`, which had none, gets the places of the values of its known fields.
+/// What comes before the body of a message within the limits that the bytes begin with, if all
+/// bytes of the body are there; its values are not looked at. `seen`, which had none, gets the
+/// places of the values of its known fields.
 #[inline(always)]
 fn read_head(bytes: &[u8], limits: Limits, seen: &mut Seen) -> Option<Head>
     requires unseen { AreNoted [] bytes.now seen.old }
@@ -129,11 +130,12 @@ fn read_head(bytes: &[u8], limits: Limits, seen: &mut Seen) -> Option<Head>
 
 /// The message within the limits that the bytes begin with, and where its parts are.
 ///
-/// Some says that the bytes begin with a whole message within the limits, of the length that is returned: its order, type, flags
-/// and serial, where the value of each of its known fields is, and where its body begins. Offsets count from the first of the
-/// bytes. None says that they begin with no message within the limits: they are at fault or too few. Which of the two, and the
-/// place and the reason of a fault, a reader or a checker says. Nothing is allocated.
-/// D-Bus Specification, "Message Format".
+/// Some says that the bytes begin with a whole message within the limits, of the length that is
+/// returned: its order, type, flags and serial, where the value of each of its known fields is, and
+/// where its body begins. Offsets count from the first of the bytes. None says that they begin with
+/// no message within the limits: they are at fault or too few. Which of the two, and the place and
+/// the reason of a fault, a reader or a checker says. Nothing is allocated. D-Bus Specification,
+/// "Message Format".
 pub fn validate(bytes: &[u8], limits: Limits) -> Option<Validated>
     ensures validated { IfSome result (λ j. IsValidated limits bytes.now j) }
     ensures none { result ≡ None → BeginsWithNone limits bytes.now }
@@ -153,8 +155,9 @@ pub fn validate(bytes: &[u8], limits: Limits) -> Option<Validated>
     Some(head.validated(seen))
 }
 
-/// What is validated of bytes that are known to be one message within the limits, all of them, as a checker says it. The values of
-/// its body are not looked at again. Nothing is allocated. D-Bus Specification, "Message Format".
+/// What is validated of bytes that are known to be one message within the limits, all of them, as a
+/// checker says it. The values of its body are not looked at again. Nothing is allocated. D-Bus
+/// Specification, "Message Format".
 pub fn validate_known(bytes: &[u8], limits: Limits) -> Validated
     requires known { (order : Order) × (m : MessageTree) ×
         IsWhole limits bytes.now order m (length bytes.now) }

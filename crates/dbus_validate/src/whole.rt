@@ -1,4 +1,5 @@
-//! The message that was validated in bytes, and where its parts are for a walk. D-Bus Specification, "Message Format".
+//! The message that was validated in bytes, and where its parts are for a walk. D-Bus
+//! Specification, "Message Format".
 #![tactic(auto)]
 
 ghost use Rattle.std.specs.Prelude.{◌≡◌, ℕ, List, []};

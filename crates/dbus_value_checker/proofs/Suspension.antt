@@ -75,7 +75,8 @@ module _ (bounds : Bounds) (order : Order) (end : ℕ) (next : On) where
       simp after_after (same_after (padding 4 end o s) _ _ (λ x p u. same_after (number order 4 end (array_row bounds t end) p u) _ _ (λ n q v. same_after (padding (alignment_of t) end q v) _ _ (λ x q v.
       elements_up_to n (q + n) (value bounds order inner (q + n) t) [] next q v))))
 
-  -- The law of a value: it begins with its padding, or is a variant, and goes on with its own item and the containers that it opens.
+  -- The law of a value: it begins with its padding, or is a variant, and goes on with its own item
+  -- and the containers that it opens.
   begins : (depth_left : ℕ) (t : TypeTree) (o : ℕ) (s : List ℕ) → (t ≡ VariantType → ⊥) → onward (value bounds order depth_left end t) next o s ≡ after (padding (alignment_of t) end o s) (λ x. own bounds order end (own_of t depth_left) (works bounds order next (opened_by t depth_left end)))
   unfolding value
   begins zero (NumberType k) o s h = simp after_after

@@ -58,7 +58,8 @@ module _ (x : Values) (pos stop : ℕ) (answer : Answer) (w : Wants x pos stop a
 pub types_are : (text : List ℕ) (pos stop : ℕ) → pos ≤ stop → slice text pos stop ≡ take (stop - pos) (drop pos text)
 types_are text pos stop le = ap (λ k. drop pos (take k text)) (let e : stop ≡ pos + (stop - pos) = omega arith in e) ∙ drop-take pos (stop - pos) text
 
--- The same, of what the validator reads in bytes that begin at a multiple of 8: one value, or some of an array, one after another.
+-- The same, of what the validator reads in bytes that begin at a multiple of 8: one value, or some
+-- of an array, one after another.
 module _ (x : Values) (answer : Answer) (bytes : List ℕ) (n : ℕ) (are : (i : ℕ) → get_or bytes i 0 < 256) where
   abbrev before : ℕ
   before = x.offset % 8

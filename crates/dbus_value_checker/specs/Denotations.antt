@@ -90,8 +90,8 @@ pub record Nuls (x : Values) (answer : Answer) : Type 0 where
   pub near : x.inner.end < 18446744073709551616
   pub same : (c : List ℕ) → onward nul (rest_of answer x ws) x.offset c ≡ answer.to c
 
--- so many bytes of an array's elements are wanted: after these, which began at the offset start, they are so many whole numbers, any of
--- which may stand there
+-- so many bytes of an array's elements are wanted: after these, which began at the offset start,
+-- they are so many whole numbers, any of which may stand there
 pub record Numbers (x : Values) (left : ℕ) (answer : Answer) : Type 0 where
   pub ws : List Work
   pub code : NumberCode

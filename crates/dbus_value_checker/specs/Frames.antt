@@ -38,13 +38,15 @@ abbrev pub IsFrame : ℕ → List ℕ → Frame → Work → Type 0
 IsFrame reach text f (Parts depth_left end ts) = IsParts text f depth_left end ts
 IsFrame reach text f (Elements turns depth_left end t) = IsElements reach text f turns depth_left end t
 
--- an array may have one frame more within it than its room says: that of a dict entry, which takes no room
+-- an array may have one frame more within it than its room says: that of a dict entry, which takes
+-- no room
 abbrev pub extra : Bool → ℕ
 extra true = 1
 extra false = 0
 
--- A frame with count frames around it. It ends at low or later, its types end at high or earlier, and for all that may still be
--- opened in it there is room: 128 frames, and 255 bytes for the signature of each of 65 nested values.
+-- A frame with count frames around it. It ends at low or later, its types end at high or earlier,
+-- and for all that may still be opened in it there is room: 128 frames, and 255 bytes for the
+-- signature of each of 65 nested values.
 pub record Framed (reach low high count : ℕ) (text : List ℕ) (f : Frame) (w : Work) : Type 0 where
   pub low_is : low ≤ f.end
   pub high_is : f.top ≤ high

@@ -7,13 +7,15 @@ use Rattle.dbus_value_model.specs.declared.stop.Stop.TheVariants as stops
 use Rattle.dbus_value_model.specs.Items.{fault}
 use Rattle.dbus_value_model.specs.Reading.{Reader, Done, Faulty, Partial, number_of}
 
--- a reader does not pass the front of the bytes s at the offset o: they end within it; or a fault shows, whatever bytes follow them
+-- a reader does not pass the front of the bytes s at the offset o: they end within it; or a fault
+-- shows, whatever bytes follow them
 abbrev pub Halts : {A : Type 0} → ℕ → List ℕ → Stop → Reader A → Type 0
 Halts o s stops.Partial run = run o s ≡ Partial
 Halts o s (stops.Refused f) run = (c : List ℕ) → run o (s ++ c) ≡ Faulty f
 
--- What a reader makes of the front of the bytes s at the offset o, whatever bytes follow them: it takes so many; or it does not pass
--- it. `view` says of an answer what was read, and how many bytes were taken.
+-- What a reader makes of the front of the bytes s at the offset o, whatever bytes follow them: it
+-- takes so many; or it does not pass it. `view` says of an answer what was read, and how many bytes
+-- were taken.
 abbrev pub Fronts : {X A : Type 0} → (X → A × ℕ) → ℕ → List ℕ → Result X Stop → Reader A → Type 0
 Fronts view o s (Ok x) run = ((view x).1 ≤ length s) × ((c : List ℕ) → run o (take (view x).1 s ++ c) ≡ Done (view x).0 (o + (view x).1) c)
 Fronts view o s (Err e) run = Halts o s e run

@@ -15,7 +15,8 @@ use Rattle.dbus_types.specs.SignatureCodes.{IsTypeEnd}
 use Rattle.dbus_value_checker.specs.Suspended.{On, onward}
 use Rattle.dbus_value_checker.specs.Denotations.{Answer, after_piece, Wants, Denotes}
 
--- a call that was handed the bytes s: it took so many; or they end within what is wanted, and nothing changed; or a fault shows
+-- a call that was handed the bytes s: it took so many; or they end within what is wanted, and
+-- nothing changed; or a fault shows
 abbrev pub Moves : Values → List ℕ → Result ℕ Stop → Values → Answer → Type 0
 Moves old s (Ok n) new answer = (n ≤ length s) × Denotes new (after_piece answer (take n s))
 Moves old s (Err stops.Partial) new answer = (new ≡ old) × (answer.to s ≡ Partial)
@@ -38,7 +39,8 @@ pub record Pushed (x y : Values) (f : Frame) : Type 0 where
   pub inner : y.inner ≡ f
   pub frames : y.frames.items ≡ x.frames.items ++ x.inner ∷ []
 
--- once a frame is pushed for what stands within the brackets at pos, n bytes further, its first part is wanted
+-- once a frame is pushed for what stands within the brackets at pos, n bytes further, its first
+-- part is wanted
 abbrev pub Enters : Values → (pos stop n depth_left : ℕ) → Answer → Type 0
 Enters x pos stop n depth_left answer =
     (y : Values) → Pushed (record x { offset = x.offset + n }) y (record { array = false; pos = pos + 1; stop = stop - 1; top = x.inner.top; end = x.inner.end; depth_left = depth_left })
@@ -72,7 +74,8 @@ wide (doing.Numbers left) = 0
 wide doing.Nul = 0
 wide doing.Over = 0
 
--- A run over the bytes s: it took so many, and where something is wanted still, it is not whole in the others; or a fault shows.
+-- A run over the bytes s: it took so many, and where something is wanted still, it is not whole in
+-- the others; or a fault shows.
 abbrev pub Runs : List ℕ → Result ℕ Fault → Values → Answer → Type 0
 Runs s (Ok n) new answer = (n ≤ length s) × Denotes new (after_piece answer (take n s)) × (IsLive new.doing → answer.to s ≡ Partial)
 Runs s (Err f) new answer = (c : List ℕ) → answer.to (s ++ c) ≡ Faulty f

@@ -1,5 +1,5 @@
--- A reading that is suspended: what is wanted from here on, and what it answers to the bytes that come.
--- D-Bus Specification, "Marshaling (Wire Format)".
+-- A reading that is suspended: what is wanted from here on, and what it answers to the bytes that
+-- come. D-Bus Specification, "Marshaling (Wire Format)".
 use Rattle.std.specs.Prelude.{ℕ, zero, suc, ◌+◌, List, [], ◌∷◌, Option, nat_lt, nat_eq, if◌then◌else◌}
 use Rattle.dbus_texts.specs.Types.{NumberCode, TextCode, TypeTree, NumberType, TextType, VariantType, ArrayType, StructType, EntryType, TypeTrees, NoTypes, MoreTypes}
 use Rattle.dbus_types.specs.Alignments.{width, length_width, alignment_of}
@@ -29,7 +29,8 @@ done o s = Done tt o s
 
 -- ---- containers
 
--- one that is open: the types of the parts that are still wanted, or an array with at most so many elements to come
+-- one that is open: the types of the parts that are still wanted, or an array with at most so many
+-- elements to come
 pub data Work : Type 0 where
   Parts : (depth_left end : ℕ) → TypeTrees → Work
   Elements : (turns depth_left end : ℕ) → TypeTree → Work
@@ -99,7 +100,8 @@ tail bounds order end (AVariant inner) next n = λ p u. after (text (Of kinds.Si
 abbrev pub head : Bounds → Order → ℕ → Head → On → On
 head bounds order end h next o s = after (number order (head_width h) end (head_row bounds end h) o s) (tail bounds order end h next)
 
--- what stands after a padding: such an item; nothing, and the containers go on; or a container too many
+-- what stands after a padding: such an item; nothing, and the containers go on; or a container too
+-- many
 pub data Own : Type 0 where
   AHead : Head → Own
   Opened : Own

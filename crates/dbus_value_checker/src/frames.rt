@@ -1,4 +1,5 @@
-//! The containers that are open: which value is wanted next, and how a container is entered and left.
+//! The containers that are open: which value is wanted next, and how a container is entered and
+//! left.
 #![tactic(auto)]
 
 ghost use Rattle.std.specs.Prelude.{◌≡◌, ◌≢◌, ◌+◌, ◌-◌, ◌<◌, ◌≤◌, ◌^◌, length, take, slice_index, true, IfOk, IfErr};
@@ -31,7 +32,8 @@ impl Values {
         stop
     }
 
-    /// Next in an array: the bytes of all of its whole numbers, if none need be looked at; else one element.
+    /// Next in an array: the bytes of all of its whole numbers, if none need be looked at; else one
+    /// element.
     fn element(&self) -> Doing
         requires valid { (answer : Answer) × Goes self.now answer }
         requires array { self.now.inner.array ≡ true }

@@ -1,10 +1,11 @@
 //! Fronts: items at the front of some bytes, each of them short.
 //! D-Bus Specification, "Marshaling (Wire Format)".
 //!
-//! `bytes` are those of a message from `offset` on, as far as they are there; `offset` counts from the message's first byte,
-//! and an item is to end at or before `end`. Each call gives what the item says and how many bytes it has, once all of them
-//! are there; `Partial` if the bytes end within it and show no fault; `Refused` with its first fault, whatever bytes
-//! follow. None takes memory.
+//! `bytes` are those of a message from `offset` on, as far as they are there; `offset` counts from
+//! the message's first byte, and an item is to end at or before `end`. Each call gives what the
+//! item says and how many bytes it has, once all of them are there; `Partial` if the bytes end
+//! within it and show no fault; `Refused` with its first fault, whatever bytes follow. None takes
+//! memory.
 #![tactic(auto)]
 
 ghost use Rattle.std.specs.Prelude.{◌≡◌, ◌+◌, ◌<◌, ◌≤◌, ◌^◌, ℕ, length, take, drop, IfOk, IfErr};
@@ -113,7 +114,8 @@ pub fn byte(bytes: &[u8], offset: usize, end: usize) -> Result<u8, Stop>
     }
 }
 
-/// The row of the fault table that a number of the type that has this code meets: that of BOOLEAN or of UNIX_FD.
+/// The row of the fault table that a number of the type that has this code meets: that of BOOLEAN
+/// or of UNIX_FD.
 fn row_of(code: u8, n: u32, index_limit: Option<u32>) -> Option<Reason>
     ensures { (k : NumberCode) (p : ℕ) → number_code k ≡ code → result ≡ number_row index_limit k p n }
 {
@@ -131,8 +133,9 @@ fn row_of(code: u8, n: u32, index_limit: Option<u32>) -> Option<Reason>
 
 /// A number of the type that has this code: how many bytes it has. Its padding is taken already.
 ///
-/// `Overrun` at `offset` if it ends past the end; `Bool` there if it is a BOOLEAN and neither 0 nor 1; `FdIndex` there
-/// if it is a UNIX_FD and not below `index_limit`, if that is something. D-Bus Specification, "Basic types".
+/// `Overrun` at `offset` if it ends past the end; `Bool` there if it is a BOOLEAN and neither 0 nor
+/// 1; `FdIndex` there if it is a UNIX_FD and not below `index_limit`, if that is something. D-Bus
+/// Specification, "Basic types".
 pub fn number_front(
     code: u8,
     bytes: &[u8],
@@ -186,8 +189,8 @@ pub fn short_length_front(bytes: &[u8], offset: usize, end: usize) -> Result<usi
     Ok(n)
 }
 
-/// The length of a text of the type that has this code, and how many bytes the length has: one for a SIGNATURE, else four.
-/// Its padding is taken already.
+/// The length of a text of the type that has this code, and how many bytes the length has: one for
+/// a SIGNATURE, else four. Its padding is taken already.
 ///
 /// `Overrun` at `offset` if the length, the text or the zero after it ends past the end.
 pub fn length_front(
@@ -223,11 +226,12 @@ pub fn length_front(
     }
 }
 
-/// How many bytes the elements of an array have, whose type begins with this code, and how many bytes come before them: those
-/// of the length and of the padding after it. The padding before the length is taken already.
+/// How many bytes the elements of an array have, whose type begins with this code, and how many
+/// bytes come before them: those of the length and of the padding after it. The padding before the
+/// length is taken already.
 ///
-/// `ArrayTooLong` at `offset` if they are over the bounds' array; else `Overrun` there if they end past the end; else
-/// the faults of the padding.
+/// `ArrayTooLong` at `offset` if they are over the bounds' array; else `Overrun` there if they end
+/// past the end; else the faults of the padding.
 pub fn array_front(
     code: u8,
     bytes: &[u8],
@@ -263,8 +267,8 @@ pub fn array_front(
 
 /// A text of n bytes of a kind, whose length is taken already.
 ///
-/// The fault `reason` where the text breaks: at the first byte that no text of the kind goes on with, or after its last byte
-/// if it may not end there.
+/// The fault `reason` where the text breaks: at the first byte that no text of the kind goes on
+/// with, or after its last byte if it may not end there.
 pub fn text_front(
     kind: TextKind,
     n: usize,
@@ -304,8 +308,8 @@ pub fn nul_front(bytes: &[u8], offset: usize) -> Result<(), Stop>
     Ok(())
 }
 
-/// A text of n bytes of a kind and the zero after it, whose length is taken already: the faults of [`text_front`], then that of
-/// [`nul_front`].
+/// A text of n bytes of a kind and the zero after it, whose length is taken already: the faults of
+/// [`text_front`], then that of [`nul_front`].
 pub fn ended_front(
     kind: TextKind,
     n: usize,
@@ -362,10 +366,12 @@ pub fn signature_front(
     }
 }
 
-/// The signature of a variant's value, with its length before it and the zero after it: how many bytes the signature has.
+/// The signature of a variant's value, with its length before it and the zero after it: how many
+/// bytes the signature has.
 ///
-/// `Overrun` at `offset` if the length, the signature or the zero ends past the end; else `Signature` if the signature
-/// breaks, or is not of one complete type; else `Nul` at the byte after it that is not 0. D-Bus Specification, "Variant".
+/// `Overrun` at `offset` if the length, the signature or the zero ends past the end; else
+/// `Signature` if the signature breaks, or is not of one complete type; else `Nul` at the byte
+/// after it that is not 0. D-Bus Specification, "Variant".
 pub fn variant_front(bytes: &[u8], offset: usize, end: usize) -> Result<usize, Stop>
     requires at_most { offset ≤ end }
     ensures gives { (order : Order) →

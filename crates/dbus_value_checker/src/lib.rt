@@ -1,7 +1,8 @@
-//! Values of given types, checked as their bytes come: in pieces of any length, in fixed room, without allocating.
+//! Values of given types, checked as their bytes come: in pieces of any length, in fixed room,
+//! without allocating.
 //!
-//! Values are a chain of fronts: pieces of few bytes, each of which is read in one go once all of its bytes are there. A text
-//! alone may be long: it is scanned as its bytes come.
+//! Values are a chain of fronts: pieces of few bytes, each of which is read in one go once all of
+//! its bytes are there. A text alone may be long: it is scanned as its bytes come.
 #![tactic(auto)]
 
 mod frames;

@@ -39,7 +39,8 @@ impl Values {
     ghost use Rattle.dbus_value_checker.specs.Moves.{Moves, Opens};
     ghost use Rattle.dbus_value_model.specs.declared.stop.Stop.TheVariants.{Partial};
 
-    /// The number of bytes of a text that are still wanted. If none are, the text is validated whole.
+    /// The number of bytes of a text that are still wanted. If none are, the text is validated
+    /// whole.
     fn text_on(&mut self, code: u8, left: usize) -> Result<(), Stop>
         requires valid { (answer : Answer) × Texts self.old code left answer }
         ensures opens { (answer : Answer) → Texts self.old code left answer →

@@ -30,7 +30,8 @@ pub(crate) struct Frame {
 pub(crate) enum Doing {
     /// A value of the type that is there in the signatures, from the first place up to the second.
     Wanted(usize, usize),
-    /// Bytes of an array's numbers, any of which are valid there: their number, to the end of the last whole one.
+    /// Bytes of an array's numbers, any of which are valid there: their number, to the end of the
+    /// last whole one.
     Numbers(usize),
     /// Bytes of a text of the type that has this code: their number.
     Text(u8, usize),
@@ -40,12 +41,12 @@ pub(crate) enum Doing {
     Over,
 }
 
-/// Values that are checked as their bytes come, up to an end. It has a fixed size, about 40,000 bytes, allocates nothing, and
-/// holds no byte of what it took but signatures of variants: of those that are open and, until the next variant begins, of
-/// some that are over.
+/// Values that are checked as their bytes come, up to an end. It has a fixed size, about 40,000
+/// bytes, allocates nothing, and holds no byte of what it took but signatures of variants: of those
+/// that are open and, until the next variant begins, of some that are over.
 ///
-/// [`Values::begin`] says which values are wanted, [`Values::run`] takes their bytes in pieces of any length, and
-/// [`Values::is_live`] says whether more of them are wanted.
+/// [`Values::begin`] says which values are wanted, [`Values::run`] takes their bytes in pieces of
+/// any length, and [`Values::is_live`] says whether more of them are wanted.
 #[derive(Drop)]
 pub struct Values {
     pub(crate) bounds: Bounds,
@@ -56,10 +57,11 @@ pub struct Values {
     pub(crate) offset: usize,
     /// The innermost container, or the values themselves.
     pub(crate) inner: Frame,
-    /// Those around it, the outermost first: 64 containers, and in each array a dict entry, which takes no room.
+    /// Those around it, the outermost first: 64 containers, and in each array a dict entry, which
+    /// takes no room.
     pub(crate) frames: ArrayVec<Frame, 128>,
-    /// The signatures: that of the values, then those of the variants that are open, each at most 255 bytes. After them may
-    /// be what is left of variants that are over.
+    /// The signatures: that of the values, then those of the variants that are open, each at most
+    /// 255 bytes. After them may be what is left of variants that are over.
     pub(crate) text: ArrayVec<u8, 16640>,
     /// Of each byte of the signatures in use how many the type has that begins there.
     pub(crate) lengths: ArrayVec<u8, 16640>,
@@ -93,8 +95,9 @@ impl Values {
         }
     }
 
-    /// Wants values of the types that a signature spells, from an offset of a message up to an end. `depth_left` containers may be
-    /// open at once in them, and they keep the bounds. Whatever was wanted before is forgotten.
+    /// Wants values of the types that a signature spells, from an offset of a message up to an end.
+    /// `depth_left` containers may be open at once in them, and they keep the bounds. Whatever was
+    /// wanted before is forgotten.
     pub fn begin(
         &mut self,
         bounds: Bounds,
@@ -161,8 +164,9 @@ impl Values {
         self.offset
     }
 
-    /// Takes all of the bytes at once if they are an array's numbers, of which more are wanted after them: whether they are.
-    /// It says no less than [`Values::run`], and is quicker if the bytes come one by one.
+    /// Takes all of the bytes at once if they are an array's numbers, of which more are wanted
+    /// after them: whether they are. It says no less than [`Values::run`], and is quicker if the
+    /// bytes come one by one.
     pub fn skip(&mut self, bytes: &[u8]) -> bool
         requires valid { (answer : Answer) × Denotes self.old answer }
         ensures runs { result ≡ true → (answer : Answer) → Denotes self.old answer →
@@ -180,11 +184,13 @@ impl Values {
         }
     }
 
-    /// Takes what is wanted as far as it is there whole: how many bytes. If something is still wanted, what is left of the
-    /// bytes, fewer than 257, is the front of an item: they are to be handed again, with more after them.
+    /// Takes what is wanted as far as it is there whole: how many bytes. If something is still
+    /// wanted, what is left of the bytes, fewer than 257, is the front of an item: they are to be
+    /// handed again, with more after them.
     ///
-    /// A fault comes as soon as the bytes show it, whatever bytes follow; nothing is said of the values after it, and they are
-    /// to begin again. D-Bus Specification, "Marshaling (Wire Format)".
+    /// A fault comes as soon as the bytes show it, whatever bytes follow; nothing is said of the
+    /// values after it, and they are to begin again. D-Bus Specification, "Marshaling (Wire
+    /// Format)".
     pub fn run(&mut self, bytes: &[u8]) -> Result<usize, Fault>
         requires valid { (answer : Answer) × Denotes self.old answer }
         ensures runs { (answer : Answer) → Denotes self.old answer →

@@ -19,8 +19,8 @@ impl Values {
     ghost use Rattle.dbus_value_checker.specs.Moves.{Moves, IsLive, wide};
     ghost use Rattle.dbus_value_model.specs.declared.stop.Stop.TheVariants.{Partial};
 
-    /// How many bytes the wanted value has, and in an array the elements after it, as far as all of their bytes are among those after
-    /// the first n, and they are valid.
+    /// How many bytes the wanted value has, and in an array the elements after it, as far as all of
+    /// their bytes are among those after the first n, and they are valid.
     fn whole(&self, bytes: &[u8], n: usize) -> Option<usize>
         requires valid { (answer : Answer) × Denotes self.now answer }
         requires within { n ≤ length bytes.now }
@@ -70,8 +70,9 @@ impl Values {
         Some(after - before)
     }
 
-    /// Whether what is wanted is worth trying at once: elements of arrays and, of the values around all others, those whose type is
-    /// longer than one code, so that what is tried in vain because the bytes end is tried once.
+    /// Whether what is wanted is worth trying at once: elements of arrays and, of the values around
+    /// all others, those whose type is longer than one code, so that what is tried in vain because
+    /// the bytes end is tried once.
     fn is_tried(&self, bytes: &[u8], n: usize) -> bool
         requires within { n ≤ length bytes.now }
     {
@@ -83,7 +84,8 @@ impl Values {
             && (FEW <= left || self.inner.end <= self.offset.saturating_add(left))
     }
 
-    /// Takes what is wanted from the bytes after the first n: whole values at once, or what the next step takes.
+    /// Takes what is wanted from the bytes after the first n: whole values at once, or what the
+    /// next step takes.
     pub(crate) fn advance(&mut self, bytes: &[u8], n: usize, misses: &mut u8) -> Result<usize, Stop>
         requires valid { (answer : Answer) × Denotes self.old answer }
         requires live { IsLive self.old.doing }

@@ -1,4 +1,5 @@
--- Steps of reading: the bytes of a slice, padding, numbers, an array's length, and the zero after a text.
+-- Steps of reading: the bytes of a slice, padding, numbers, an array's length, and the zero after a
+-- text.
 use Rattle.std.proofs.Common.{◌≡◌, ℕ, zero, suc, ◌+◌, ◌-◌, ◌<◌, ◌≤◌, List, ◌∷◌, length, get_or, take, drop, Option, Some, None, ◌%◌, Bool, true, false, cond, ltb, refl, ap, ◌∙◌, arith, []}
 use Rattle.std.proofs.lemmas.Bool.{lt-ltb, le-ltb}
 use Rattle.std.proofs.lemmas.List.{drop_more, drop-drop, length-drop, get_or-drop}

@@ -1,16 +1,17 @@
-//! Laws over the definitions: what a function here ensures is a fact about the marshalling relation, and it does nothing
-//! when it runs. D-Bus Specification, "Marshaling (Wire Format)".
+//! Laws over the definitions: what a function here ensures is a fact about the marshalling
+//! relation, and it does nothing when it runs. D-Bus Specification, "Marshaling (Wire Format)".
 #![tactic(auto, using(crate::proofs::ValueOutcomes::laws))]
 
 ghost use Rattle.dbus_value_model.specs.Laws.{OneValue, OneOutcome, NotBoth, OneFault, RefusedForGood, DoneForGood, LeastPadding, NumberIsPlaceSum, ReadsSpelled, ReadsFaults};
 
-/// At one order, depth and offset a value has one spelling, and of two values of one type neither's spelling begins the
-/// other's.
+/// At one order, depth and offset a value has one spelling, and of two values of one type neither's
+/// spelling begins the other's.
 pub fn one_value()
     ensures { OneValue }
 {}
 
-/// Wherever some types are wanted, every list of bytes spells values of them, or shows a fault, or is partial.
+/// Wherever some types are wanted, every list of bytes spells values of them, or shows a fault, or
+/// is partial.
 pub fn one_outcome()
     ensures { OneOutcome }
 {}

@@ -133,7 +133,8 @@ mutual
       let rest = values-period order xs (o + m) (p + n) (rest-more o p m n e (ap length first.0)) in
       (both (spelling order o x) (spelling order p x) (spellings order (o + m) xs) (spellings order (p + n) xs) first.0 rest.0, λ array w. (first.1 array w.0, rest.1 array w.1))
 
--- what is spelled at an offset up to an end is spelled at one that is as far from a multiple of 8, and up to a later end
+-- what is spelled at an offset up to an end is spelled at one that is as far from a multiple of 8,
+-- and up to a later end
 pub spelled-period : {bounds : Bounds} {order : Order} {depth_left : ℕ} {t : TypeTree} {s r : List ℕ} {v : ValueTree} (o p e f n : ℕ) → o % 8 ≡ p % 8 → p + n ≤ f
     → Spelled bounds order depth_left e t o s v (o + n) r → Spelled bounds order depth_left f t p s v (p + n) r
 spelled-period {bounds} {order} {depth_left} {t} {s} {r} {v} o p e f n same le d =

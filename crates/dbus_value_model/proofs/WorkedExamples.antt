@@ -1,5 +1,5 @@
--- Worked examples of values: their spellings by the definitions, and the outcome of some bytes by the plain reader beside them.
--- D-Bus Specification, "Marshaling (Wire Format)".
+-- Worked examples of values: their spellings by the definitions, and the outcome of some bytes by
+-- the plain reader beside them. D-Bus Specification, "Marshaling (Wire Format)".
 use Rattle.std.proofs.Common.{◌≡◌, ℕ, List, [], ◌∷◌, map, Option, None, Some, refl}
 use Rattle.dbus_texts.specs.Types.{NumberType, EntryType, BYTE, UINT16, INT64, UINT64, UNIX_FD, ArrayType}
 use Rattle.dbus_value_model.specs.declared.order.Order.TheVariants.{Little, Big}
@@ -27,7 +27,8 @@ abbrev spelled : List (List ℕ × List ℕ)
 spelled =
     -- An array of UINT64 5, from offset 0 ("Marshalling containers")
     (spelling Little 0 five, 8 ∷ 0 ∷ 0 ∷ 0 ∷ 0 ∷ 0 ∷ 0 ∷ 0 ∷ 5 ∷ 0 ∷ 0 ∷ 0 ∷ 0 ∷ 0 ∷ 0 ∷ 0 ∷ []) ∷
-    -- The same from offset 4: the padding before its first element is none ("Marshalling containers")
+    -- The same from offset 4: the padding before its first element is none ("Marshalling
+    -- containers")
     (spelling Little 4 five, 8 ∷ 0 ∷ 0 ∷ 0 ∷ 5 ∷ 0 ∷ 0 ∷ 0 ∷ 0 ∷ 0 ∷ 0 ∷ 0 ∷ []) ∷
     -- A dictionary of BYTE 1 to 2 and 1 to 3, from offset 0 ("Marshalling containers")
     (spelling Little 0 (ArrayValue (EntryType (NumberType BYTE) (NumberType BYTE)) (MoreValues (pair 1 2) (MoreValues (pair 1 3) NoValues))), 10 ∷ 0 ∷ 0 ∷ 0 ∷ 0 ∷ 0 ∷ 0 ∷ 0 ∷ 1 ∷ 2 ∷ 0 ∷ 0 ∷ 0 ∷ 0 ∷ 0 ∷ 0 ∷ 1 ∷ 3 ∷ []) ∷

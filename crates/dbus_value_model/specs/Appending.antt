@@ -1,5 +1,5 @@
--- Bytes from the message's first byte on, with something more after them, which stands at the offset where they end.
--- D-Bus Specification, "Marshaling (Wire Format)".
+-- Bytes from the message's first byte on, with something more after them, which stands at the
+-- offset where they end. D-Bus Specification, "Marshaling (Wire Format)".
 use Rattle.std.specs.Prelude.{ℕ, List, ◌++◌, length}
 use Rattle.dbus_value_model.specs.declared.order.Order.{Order}
 use Rattle.dbus_value_model.specs.Values.{ValueTree, ValueTrees}

@@ -1,5 +1,5 @@
--- Which values are well formed, and which case is answered where one is not.
--- D-Bus Specification, "Type System", "Valid Signatures", "Message Protocol" for the limit on nesting.
+-- Which values are well formed, and which case is answered where one is not. D-Bus Specification,
+-- "Type System", "Valid Signatures", "Message Protocol" for the limit on nesting.
 use Rattle.std.specs.Prelude.{ℕ, ◌-◌, Result, Ok, Err, IsTrue}
 use Rattle.dbus_texts.specs.Types.{IsSingleType}
 use Rattle.dbus_value_model.specs.Values.{type_of}
@@ -11,16 +11,17 @@ use Rattle.dbus_value_model.specs.declared.value.Value.{Value}
 use Rattle.dbus_value_model.specs.declared.value_fault.ValueFault.{ValueFault}
 use Rattle.dbus_value_model.specs.declared.value_fault.ValueFault.TheVariants.{Memory, TooDeep, Mixed, Name, ArrayTooLong, TooLong}
 
--- Every part has a type that fits its place. The type of a part that is within no variant is a part of the whole's type, so
--- that the whole's type and those of variants' values speak for all: of the limits, of structs that are empty, and of dict
--- entries and their keys. The law `WholesSpeakForParts` says so part by part.
+-- Every part has a type that fits its place. The type of a part that is within no variant is a part
+-- of the whole's type, so that the whole's type and those of variants' values speak for all: of the
+-- limits, of structs that are empty, and of dict entries and their keys. The law
+-- `WholesSpeakForParts` says so part by part.
 pub record IsTyped {A : Type 0} (v : Value A) : Type 0 where
   pub single : IsSingleType (type_of (value_tree v))
   pub uniform : IsUniform (value_tree v)
   pub packed : IsTrue (keeps_bytes v)
 
--- What is answered of a value within so many open containers: the first case that holds of any part. No memory is taken, so
--- that Memory is never answered.
+-- What is answered of a value within so many open containers: the first case that holds of any
+-- part. No memory is taken, so that Memory is never answered.
 abbrev pub Refuses : {A : Type 0} → ValueFault → ℕ → Value A → Type 0
 Refuses Memory depth_left v = ⊥
 Refuses TooDeep depth_left v = NestsWithin depth_left (value_tree v) → ⊥

@@ -7,7 +7,8 @@ use Rattle.dbus_value_model.specs.Values.{ValueTree, ValueTrees, NumberValue, Te
 use Rattle.dbus_value_model.specs.declared.fd_rule.FdRule.{FdRule}
 use Rattle.dbus_value_model.specs.declared.fd_rule.FdRule.TheVariants.{Any, BelowCount}
 
--- the number that indexes are to be below where so many descriptors come with a message, or nothing where any index may stand
+-- the number that indexes are to be below where so many descriptors come with a message, or nothing
+-- where any index may stand
 abbrev pub index_limit : FdRule → ℕ → Option ℕ
 index_limit Any count = None
 index_limit BelowCount count = Some count

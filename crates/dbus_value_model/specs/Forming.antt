@@ -1,5 +1,6 @@
--- When a value is well formed, by its parts: how deep it nests, whether its types fit together, its texts, and its numbers.
--- D-Bus Specification, "Type System", "Valid Signatures", "Message Protocol" for the limit on nesting.
+-- When a value is well formed, by its parts: how deep it nests, whether its types fit together, its
+-- texts, and its numbers. D-Bus Specification, "Type System", "Valid Signatures", "Message
+-- Protocol" for the limit on nesting.
 use Rattle.std.specs.Prelude.{ℕ, zero, suc, ◌^◌, ◌<◌, length, ◌↔◌}
 use Rattle.dbus_texts.specs.Types.{TypeTree, NumberType, TextType, VariantType, ArrayType, StructType, EntryType, IsBasic, IsSingleType}
 use Rattle.dbus_types.specs.Alignments.{length_width}
@@ -69,8 +70,8 @@ abbrev mutual
 abbrev pub FormedByParts : Type 0
 FormedByParts = (depth_left : ℕ) (v : ValueTree) → IsWellFormed depth_left v ↔ (NestsWithin depth_left v × IsUniform v × IsNamed v × IsRanged v)
 
--- The same, part by part: each part, but for a dict entry in an array, has a type that a signature spells; such an entry's
--- key is basic.
+-- The same, part by part: each part, but for a dict entry in an array, has a type that a signature
+-- spells; such an entry's key is basic.
 abbrev pub IsItemType : TypeTree → Type 0
 IsItemType (NumberType n) = Unit {0}
 IsItemType (TextType t) = Unit {0}

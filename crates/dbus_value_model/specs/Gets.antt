@@ -19,7 +19,8 @@ pub record IsValuePartial (bounds : Bounds) (order : Order) (depth_left end : �
   pub not_spelled : (v : ValueTree) (q : ℕ) (r : List ℕ) → Spelled bounds order depth_left end t at s v q r → ⊥
   pub not_refused : (f : Fault) → (value bounds order depth_left end t).Refused at s f → ⊥
 
--- Bytes from the message's first byte on; the value begins at `at`, and there is room for so many more open containers.
+-- Bytes from the message's first byte on; the value begins at `at`, and there is room for so many
+-- more open containers.
 abbrev pub Gets : {A : Type 0} → Bounds → Order → ℕ → ℕ → TypeTree → ℕ → List ℕ → Result (Got A) Refusal → Type 0
 Gets bounds order depth_left end t at bytes (Ok (Done v q)) = Spelled bounds order depth_left end t at (drop at bytes) (value_tree v) q (drop q bytes)
 Gets bounds order depth_left end t at bytes (Ok Partial) = IsValuePartial bounds order depth_left end t at (drop at bytes)

@@ -1,7 +1,8 @@
 -- Trusted by the headline.
--- The items that a message is read as: how each is passed, and which faults it shows. Every row of the fault table that speaks of
--- one item alone stands here; a row says which bytes are there, as the prefix of all that are.
--- D-Bus Specification, "Marshaling (Wire Format)"; docs/WIRE-FORMAT.md, "Faults".
+-- Trusted by the headline. The items that a message is read as: how each is passed, and which
+-- faults it shows. Every row of the fault table that speaks of one item alone stands here; a row
+-- says which bytes are there, as the prefix of all that are. D-Bus Specification, "Marshaling (Wire
+-- Format)"; docs/WIRE-FORMAT.md, "Faults".
 use Rattle.std.specs.Prelude.{◌≡◌, ℕ, suc, ◌+◌, ◌<◌, ◌≤◌, ◌^◌, ◌⊎◌, List, [], ◌∷◌, ◌++◌, length, replicate, Option, Some, None}
 use Rattle.dbus_texts.specs.Types.{TypeTree, sig, IsSingleType}
 use Rattle.dbus_value_model.specs.WantedTexts.{WantedText, IsWanted, IsBreakOf, Of, Only}
@@ -15,8 +16,8 @@ use Rattle.dbus_texts.specs.declared.text_kind.TextKind.TheVariants as kinds
 abbrev pub fault : ℕ → Reason → Fault
 fault p r = record { at = p; reason = r }
 
--- An item: from a place, and the bytes that are there from it on, it is passed with a value, the place after it and
--- the bytes from there on; or it shows a fault.
+-- An item: from a place, and the bytes that are there from it on, it is passed with a value, the
+-- place after it and the bytes from there on; or it shows a fault.
 pub record Item (A : Type 0) : Type 1 where
   pub Passed : ℕ → List ℕ → A → ℕ → List ℕ → Type 0
   pub Refused : ℕ → List ℕ → Fault → Type 0
@@ -124,12 +125,14 @@ signature k n = record {
   Refused = TextFault k n;
 }
 
--- Parts passed one after another, each where the one before ended. A part may look at those before it, the last first.
+-- Parts passed one after another, each where the one before ended. A part may look at those before
+-- it, the last first.
 abbrev pub Sequence : {A : Type 0} → (List A → Item A) → List A → List A → ℕ → List ℕ → ℕ → List ℕ → Type 0
 Sequence part before [] o s q r = (q ≡ o) × (r ≡ s)
 Sequence part before (v ∷ vs) o s q r = (p : ℕ) × (t : List ℕ) × (part before).Passed o s v p t × Sequence part (v ∷ before) vs p t q r
 
--- After some passed parts the end is not reached, and one more, which is wanted there, shows the fault.
+-- After some passed parts the end is not reached, and one more, which is wanted there, shows the
+-- fault.
 abbrev pub StopsIn : {A : Type 0} → (List A → Item A) → ℕ → List A → List A → ℕ → List ℕ → Fault → Type 0
 StopsIn part end before [] o s f = (o < end) × (part before).Refused o s f
 StopsIn part end before (v ∷ vs) o s f = (p : ℕ) × (t : List ℕ) × (part before).Passed o s v p t × StopsIn part end (v ∷ before) vs p t f

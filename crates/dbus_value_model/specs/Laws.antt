@@ -65,6 +65,7 @@ IsLeastGap a o k = ((o + k) % a ≡ 0) × ((j : ℕ) → (o + j) % a ≡ 0 → k
 abbrev pub LeastPadding : Type 0
 LeastPadding = (o : ℕ) → IsLeastGap 1 o (gap_to 1 o) × IsLeastGap 2 o (gap_to 2 o) × IsLeastGap 4 o (gap_to 4 o) × IsLeastGap 8 o (gap_to 8 o)
 
--- A number in w bytes is the sum of its places, the lowest place first in little order and last in big.
+-- A number in w bytes is the sum of its places, the lowest place first in little order and last in
+-- big.
 abbrev pub NumberIsPlaceSum : Type 0
 NumberIsPlaceSum = (order : Order) (w n : ℕ) → n < 256 ^ w → (length (num order w n) ≡ w) × (reading.number_of order (num order w n) ≡ n)

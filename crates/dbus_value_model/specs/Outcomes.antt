@@ -1,5 +1,5 @@
--- The three outcomes where values of some types are wanted: they are spelled, or a fault shows, or neither.
--- D-Bus Specification, "Marshaling (Wire Format)".
+-- The three outcomes where values of some types are wanted: they are spelled, or a fault shows, or
+-- neither. D-Bus Specification, "Marshaling (Wire Format)".
 use Rattle.std.specs.Prelude.{◌≡◌, ℕ, ◌≤◌, ◌⊎◌, List}
 use Rattle.dbus_texts.specs.Types.{TypeTrees}
 use Rattle.dbus_value_model.specs.declared.limits.Bounds.{Bounds}

@@ -44,7 +44,8 @@ abbrev pub joined : List (List Bool) → List Bool
 joined [] = []
 joined (bs ∷ more) = bs ++ joined more
 
--- for each array in it, an outer one before those within it and else from left to right: whether it is `Bytes`
+-- for each array in it, an outer one before those within it and else from left to right: whether it
+-- is `Bytes`
 abbrev pub packing_step : {A : Type 0} → Value-F A (List Bool) (List Bool) → List Bool
 packing_step (Value-F.Bytes bytes) = true ∷ []
 packing_step (Value-F.Array t vs) = false ∷ joined vs.items

@@ -1,7 +1,8 @@
--- Reading from left to right: the same answers as the relations of Items and ValueItems give, computed, plain and slow. It is the bridge
--- from the relations to the code. Of public contracts only those of `Order`, of the fixed header and of the parts that values and
--- messages are validated and checked by name it; what validators, checks and reads them whole says the relations.
--- D-Bus Specification, "Marshaling (Wire Format)".
+-- Reading from left to right: the same answers as the relations of Items and ValueItems give,
+-- computed, plain and slow. It is the bridge from the relations to the code. Of public contracts
+-- only those of `Order`, of the fixed header and of the parts that values and messages are
+-- validated and checked by name it; what validators, checks and reads them whole says the
+-- relations. D-Bus Specification, "Marshaling (Wire Format)".
 use Rattle.std.specs.Prelude.{ℕ, zero, suc, ◌+◌, ◌*◌, List, [], ◌∷◌, length, take, drop, reverse, if◌then◌else◌, nat_lt, nat_eq, Option, Some, None}
 use Rattle.dbus_texts.specs.Types.{TypeTree, NumberType, TextType, VariantType, ArrayType, StructType, EntryType, TypeTrees, NoTypes, MoreTypes}
 use Rattle.dbus_types.specs.Alignments.{width, length_width, alignment_of}

@@ -18,8 +18,9 @@ use Rattle.dbus_value_model.specs.Spelling.{spelling}
 use Rattle.dbus_value_model.specs.Values.{ValueTree, type_of}
 use Rattle.dbus_value_model.specs.ValueViews.{value_tree}
 
--- What passes a check where room more containers may be opened, as `check_value_within` says by its clauses `checks` and
--- `numbers`; and its indexes of descriptors are below fds, where that is something, which no check asks.
+-- What passes a check where room more containers may be opened, as `check_value_within` says by its
+-- clauses `checks` and `numbers`; and its indexes of descriptors are below fds, where that is
+-- something, which no check asks.
 pub record PassesCheck (depth_left : ℕ) (fds : Option ℕ) (v : ValueTree) : Type 0 where
   pub single : IsSingleType (type_of v)
   pub nests : NestsWithin depth_left v
@@ -35,7 +36,8 @@ GivesBack v e (Ok Partial) = ⊥
 GivesBack v e (Err Memory) = Unit {0}
 GivesBack v e (Err (Format f)) = ⊥
 
--- After any bytes, in either order and whatever follows: getting a value of its type where one was put gives it back.
+-- After any bytes, in either order and whatever follows: getting a value of its type where one was
+-- put gives it back.
 abbrev pub WrittenIsRead : Type 0 → Type 0
 WrittenIsRead A = (limits : Limits) (fds : Option ℕ) (order : Order) (depth_left end e : ℕ) (v : ValueTree) (front more : List ℕ) (read : Result (Got A) Refusal)
     → PassesCheck depth_left fds v → length front ≤ limits.message → sized limits v None (length front) ≡ Ok e → e ≤ end

@@ -1,6 +1,5 @@
--- Values whose signatures have at most 255 bytes each, so that one byte gives the length: those in SIGNATURE texts, and
--- those of the types of variants.
--- D-Bus Specification, "Valid Signatures".
+-- Values whose signatures have at most 255 bytes each, so that one byte gives the length: those in
+-- SIGNATURE texts, and those of the types of variants. D-Bus Specification, "Valid Signatures".
 use Rattle.std.specs.Prelude.{ℕ, ◌<◌, length}
 use Rattle.dbus_texts.specs.Types.{TextCode, STRING, OBJECT_PATH, SIGNATURE, sig}
 use Rattle.dbus_value_model.specs.Values.{ValueTree, ValueTrees, NoValues, MoreValues, NumberValue, TextValue, VariantValue, ArrayValue, StructValue, EntryValue, type_of}

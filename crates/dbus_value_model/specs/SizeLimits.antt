@@ -1,5 +1,5 @@
--- What a size, or its refusal, says of a value's limits.
--- D-Bus Specification, "Marshaling (Wire Format)" for the arrays' limit, "Message Protocol" for the message's.
+-- What a size, or its refusal, says of a value's limits. D-Bus Specification, "Marshaling (Wire
+-- Format)" for the arrays' limit, "Message Protocol" for the message's.
 use Rattle.std.specs.Prelude.{◌≡◌, ℕ, ◌+◌, ◌<◌, ◌≤◌, ◌↔◌, length, Option, Some, None, Ok, Err, IfSome}
 use Rattle.dbus_value_model.specs.declared.order.Order.{Order}
 use Rattle.dbus_value_model.specs.declared.limits.Limits.{Limits}
@@ -19,7 +19,8 @@ abbrev pub Past : Option ℕ → ℕ → Type 0
 Past None e = ⊥
 Past (Some b) e = b < e
 
--- what is refused, and would end at e: the message's limit is passed, or, where the arrays within keep theirs, an open array's
+-- what is refused, and would end at e: the message's limit is passed, or, where the arrays within
+-- keep theirs, an open array's
 abbrev pub Stops : Limits → Option ℕ → ValueFault → ℕ → Type 0 → Type 0
 Stops limits bound TooLong e kept = limits.message < e
 Stops limits bound ArrayTooLong e kept = kept → Past bound e
@@ -28,7 +29,8 @@ Stops limits bound TooDeep e kept = ⊥
 Stops limits bound Mixed e kept = ⊥
 Stops limits bound Name e kept = ⊥
 
--- A size is given exactly where every array and the message keep their limits, and is where the spelling ends.
+-- A size is given exactly where every array and the message keep their limits, and is where the
+-- spelling ends.
 abbrev pub SizeEnds : Type 0
 SizeEnds = (limits : Limits) (order : Order) (v : ValueTree) (o e : ℕ) → o ≤ limits.message
     → (sized limits v None o ≡ Ok e) ↔ (IsWithinLimits limits.array order o v × (o + length (spelling order o v) ≡ e) × (e ≤ limits.message))

@@ -1,6 +1,7 @@
--- Where a value ends, and the first item, in order, whose end passes a bound: that of an open array, so many bytes from the start
--- of its contents, or that of the message, so many from its first byte.
--- D-Bus Specification, "Marshaling (Wire Format)" for the items and the arrays' limit, "Message Protocol" for the message's.
+-- Where a value ends, and the first item, in order, whose end passes a bound: that of an open
+-- array, so many bytes from the start of its contents, or that of the message, so many from its
+-- first byte. D-Bus Specification, "Marshaling (Wire Format)" for the items and the arrays' limit,
+-- "Message Protocol" for the message's.
 use Rattle.std.specs.Prelude.{ℕ, ◌+◌, min, Bool, false, length, Option, Some, None, Result, Ok, Err, nat_eq, nat_lt, if◌then◌else◌}
 use Rattle.dbus_texts.specs.Types.{sig}
 use Rattle.dbus_types.specs.Alignments.{width, length_width, alignment_of}

@@ -49,8 +49,8 @@ abbrev mutual
   AreWithinLimits array order o NoValues = Unit {0}
   AreWithinLimits array order o (MoreValues x xs) = IsWithinLimits array order o x × AreWithinLimits array order (o + length (spelling order o x)) xs
 
--- A value of type t, well formed, is spelled at o by the prefix of the bytes s that stand there. It ends at q, which is
--- not past the end, and r are the bytes from there on.
+-- A value of type t, well formed, is spelled at o by the prefix of the bytes s that stand there. It
+-- ends at q, which is not past the end, and r are the bytes from there on.
 pub record Spelled (bounds : Bounds) (order : Order) (depth_left end : ℕ) (t : TypeTree) (o : ℕ) (s : List ℕ) (v : ValueTree) (q : ℕ) (r : List ℕ) : Type 0 where
   pub has_type : type_of v ≡ t
   pub formed : IsWellFormed depth_left v

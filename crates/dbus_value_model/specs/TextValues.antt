@@ -11,7 +11,8 @@ use Rattle.dbus_value_model.specs.declared.text_value.StringFault.{StringFault}
 use Rattle.dbus_value_model.specs.declared.text_value.StringFault.TheVariants.{Memory, Bad}
 use Rattle.dbus_value_model.specs.declared.value.Value.{Value}
 
--- the text is a STRING's and the value is that STRING; or the text is a STRING's, and an allocation failed; or it is none, and breaks there
+-- the text is a STRING's and the value is that STRING; or the text is a STRING's, and an allocation
+-- failed; or it is none, and breaks there
 abbrev pub IsString : {A : Type 0} → List ℕ → Result (Value A) StringFault → Type 0
 IsString t (Ok v) = IsKind Text t × (value_tree v ≡ TextValue STRING t)
 IsString t (Err Memory) = IsKind Text t

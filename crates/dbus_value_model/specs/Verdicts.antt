@@ -1,5 +1,5 @@
--- What is found of the parts of a value, in one walk over it. The type of the whole is no matter of a part.
--- D-Bus Specification, "Type System", "Message Protocol" for the limit on nesting.
+-- What is found of the parts of a value, in one walk over it. The type of the whole is no matter of
+-- a part. D-Bus Specification, "Type System", "Message Protocol" for the limit on nesting.
 use Rattle.std.specs.Prelude.{ℕ, List, IsTrue}
 use Rattle.dbus_value_model.specs.Forming.{NestsWithin, NestWithin, IsUniform, AreUniform, IsNamed, AreNamed}
 use Rattle.dbus_value_model.specs.PackedBytes.{keeps_bytes, keep_bytes}

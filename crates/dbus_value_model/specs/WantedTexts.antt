@@ -1,6 +1,7 @@
 -- Trusted by the headline.
--- The texts that may stand at a place: those of a kind, or one alone.
--- D-Bus Specification, "Valid Signatures", "Valid Object Paths", "Valid Names"; "Header Fields" for the one signature of a field.
+-- Trusted by the headline. The texts that may stand at a place: those of a kind, or one alone.
+-- D-Bus Specification, "Valid Signatures", "Valid Object Paths", "Valid Names"; "Header Fields" for
+-- the one signature of a field.
 use Rattle.std.specs.Prelude.{◌≡◌, ℕ, List}
 use Rattle.dbus_texts.specs.Types.{TextCode, STRING, OBJECT_PATH, SIGNATURE}
 use Rattle.dbus_texts.specs.declared.text_kind.TextKind.{TextKind}
@@ -22,7 +23,8 @@ abbrev pub IsWanted : WantedText → List ℕ → Type 0
 IsWanted (Of k) t = IsKind k t
 IsWanted (Only u) t = t ≡ u
 
--- n is the length of the longest prefix of the text with which one of those wanted begins, limits on length lifted
+-- n is the length of the longest prefix of the text with which one of those wanted begins, limits
+-- on length lifted
 abbrev pub IsBreakOf : WantedText → List ℕ → ℕ → Type 0
 IsBreakOf (Of k) t n = IsBreak k t n
 IsBreakOf (Only u) t n = IsBreakIn (λ v. v ≡ u) t n

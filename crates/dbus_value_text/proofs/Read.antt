@@ -1,4 +1,5 @@
--- Values that stand in the bytes, taken apart as they are written: numbers, texts, arrays and other containers.
+-- Values that stand in the bytes, taken apart as they are written: numbers, texts, arrays and other
+-- containers.
 use Rattle.std.proofs.Common.{◌≡◌, ℕ, ◌+◌, ◌-◌, ◌<◌, List, get_or, take, drop, length, true, false, refl, sym, ap, subst, ◌∙◌, arith}
 use Rattle.std.specs.Prelude.{◌==◌}
 use Rattle.std.proofs.lemmas.Bool.{eqb-true}

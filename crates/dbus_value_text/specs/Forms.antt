@@ -28,7 +28,8 @@ abbrev pub part_text : (separator : List ℕ) → Bool → List ℕ
 part_text separator true = []
 part_text separator false = separator
 
--- it is a container whose parts are written one by one: no array of BYTE, which is written at one stroke
+-- it is a container whose parts are written one by one: no array of BYTE, which is written at one
+-- stroke
 abbrev pub IsListed : ValueTree → Type 0
 IsListed (NumberValue k n) = ⊥
 IsListed (TextValue k t) = ⊥

@@ -1,4 +1,5 @@
--- Numbers, texts and the lengths of arrays: what is said of them where one of their parts is read, or is not.
+-- Numbers, texts and the lengths of arrays: what is said of them where one of their parts is read,
+-- or is not.
 use Rattle.std.proofs.Common.{◌≡◌, ℕ, ◌+◌, ◌<◌, ◌≤◌, List, length, take, drop, get_or, Option, Some, None, false, ltb, refl, ap, subst, ◌∙◌, arith}
 use Rattle.std.proofs.lemmas.Bool.{lt-ltb, le-ltb}
 use Rattle.std.proofs.lemmas.List.{length-take, length-drop}

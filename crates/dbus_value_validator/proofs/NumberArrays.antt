@@ -73,7 +73,8 @@ number_ends bounds order depth_left end k w p bytes wide free aligned fits insid
     let run = value_number bounds order depth_left end k p (drop p bytes) ∙ is_number bounds.fds order end k w p (drop p bytes) wide in
     (NumberValue k n, free_ends order end w (number_row bounds.fds k) k p bytes _ run p (padding_is w end p 0 (drop p bytes) aligned (omega arith)) n fits inside refl free)
 
--- the elements of an array of n bytes, which are numbers that may all stand, end with them where these are those of whole numbers, and else are not read
+-- the elements of an array of n bytes, which are numbers that may all stand, end with them where
+-- these are those of whole numbers, and else are not read
 pub number_elements : (bounds : Bounds) (order : Order) (depth_left : ℕ) (k : NumberCode) (w n first : ℕ) (bytes : List ℕ) (even : Bool) → 0 < w → width k ≡ w
     → ((p : ℕ) → first ≤ p → gap_to w p ≡ 0 → p + w ≤ first + n → number_row bounds.fds k (p + w) (number_of order (take w (drop p bytes))) ≡ None)
     → eqb (n % w) 0 ≡ even → gap_to w first ≡ 0 → first + n ≤ length bytes

@@ -1,4 +1,5 @@
--- Values along the bytes of a signature, in which structs are open: what is said of what is left is said of all.
+-- Values along the bytes of a signature, in which structs are open: what is said of what is left is
+-- said of all.
 use Rattle.std.proofs.Common.{◌≡◌, ℕ, zero, suc, ◌+◌, ◌-◌, ◌<◌, ◌≤◌, List, [], ◌∷◌, ◌++◌, Option, Some, None, length, take, drop, get_or, true, false, refl, sym, ap, subst, ◌∙◌, arith, append_assoc}
 use Rattle.std.proofs.lemmas.List.{length-append, length-drop, append-nil, take_at, drop_at, drop-drop, drop_more}
 use Rattle.dbus_texts.specs.Types.{BYTE, STRING, TypeTree, NumberType, TextType, VariantType, ArrayType, StructType, EntryType, TypeTrees, NoTypes, MoreTypes, sig, sigs, IsShaped, AreShaped, IsBasic}
@@ -55,7 +56,8 @@ closing_over part room (us ∷ outer) o s le =
 
 -- ---- along the types
 
--- of these types us are left, within the structs outer, and what is said of what is left is said of values of all
+-- of these types us are left, within the structs outer, and what is said of what is left is said of
+-- values of all
 pub record Left (source : Source) (end : ℕ) (types : List ℕ) (ts : TypeTrees) (at depth_left place pos depth : ℕ) : Type 0 where
   pub us : TypeTrees
   pub outer : List TypeTrees

@@ -12,8 +12,8 @@ ghost use Rattle.dbus_value_validator.specs.Endings.{IsNotRead};
 use crate::items::{padding, word};
 use dbus_value_model::{Bounds, Order};
 
-/// How many bytes the elements of an array have, whose type has this boundary, and the offset of the first one. The padding
-/// before the length is passed over already.
+/// How many bytes the elements of an array have, whose type has this boundary, and the offset of
+/// the first one. The padding before the length is passed over already.
 pub(crate) fn frame(
     bytes: &[u8],
     at: usize,

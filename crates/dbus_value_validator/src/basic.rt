@@ -24,7 +24,8 @@ pub(crate) fn is_basic(code: u8) -> bool
     )
 }
 
-/// A value of the basic type that has this code: the offset after it. Of all other codes None says nothing.
+/// A value of the basic type that has this code: the offset after it. Of all other codes None says
+/// nothing.
 pub(crate) fn basic_value(source: &Source<'_>, at: usize, end: usize, code: u8) -> Option<usize>
     requires at_most { at ≤ end }
     requires inside { end ≤ length source.now.bytes.now }

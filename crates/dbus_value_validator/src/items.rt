@@ -1,8 +1,9 @@
 //! Items of values, passed over.
 //!
-//! `bytes` begin at the message's first byte, from which offsets count. An item begins at `at` and is to end at or before `end`,
-//! up to which the bytes are there. None says that no such item begins there, or that it does not end at or before `end`.
-//! D-Bus Specification, "Marshaling (Wire Format)".
+//! `bytes` begin at the message's first byte, from which offsets count. An item begins at `at` and
+//! is to end at or before `end`, up to which the bytes are there. None says that no such item
+//! begins there, or that it does not end at or before `end`. D-Bus Specification, "Marshaling (Wire
+//! Format)".
 #![tactic(auto)]
 
 ghost use Rattle.std.specs.Prelude.{◌≡◌, ℕ, ◌+◌, ◌<◌, ◌≤◌, length, take, drop, None, IfSome, IsTrue, false};

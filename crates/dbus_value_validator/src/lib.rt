@@ -1,8 +1,9 @@
 //! Values validated fast: whether bytes spell values of given types, and where these end.
 //!
-//! A yes says that they do, and a no that they do not: the bytes are at fault, or they are too few. Who wants to know which, and
-//! the place and the reason of a fault, asks a reader or a checker. So nothing is noted on the way, nothing is allocated, and a
-//! signature's bytes are followed in place.
+//! A yes says that they do, and a no that they do not: the bytes are at fault, or they are too few.
+//! Who wants to know which, and the place and the reason of a fault, asks a reader or a checker. So
+//! nothing is noted on the way, nothing is allocated, and a signature's bytes are followed in
+//! place.
 #![tactic(auto)]
 
 mod arrays;

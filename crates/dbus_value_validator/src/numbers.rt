@@ -50,8 +50,9 @@ pub(crate) fn boolean(bytes: &[u8], at: usize, end: usize, order: Order) -> Opti
     Some(start + 4)
 }
 
-/// Where an array's BOOLEANs end, which begin at a boundary: the offset after the words that are each 0 or 1, as many as end at or
-/// before `end`, up to which the bytes are there. D-Bus Specification, "Marshaling (Wire Format)".
+/// Where an array's BOOLEANs end, which begin at a boundary: the offset after the words that are
+/// each 0 or 1, as many as end at or before `end`, up to which the bytes are there. D-Bus
+/// Specification, "Marshaling (Wire Format)".
 pub fn booleans_end(bytes: &[u8], at: usize, end: usize, order: Order) -> usize
     requires at_most { at ≤ end }
     requires inside { end ≤ length bytes.now }

@@ -25,8 +25,8 @@ fn is_plain_from(block: u8x16, lane: usize) -> bool
     others >> lane == 0
 }
 
-/// Whether each of n bytes is from 1 to 127, as far as a quick look shows: a no says nothing. The last block ends with them, so that
-/// no byte after them is looked at.
+/// Whether each of n bytes is from 1 to 127, as far as a quick look shows: a no says nothing. The
+/// last block ends with them, so that no byte after them is looked at.
 fn is_plain(bytes: &[u8], start: usize, n: usize) -> bool
     requires { start + n ≤ length bytes.now }
     ensures { IsTrue result → AllByRecursion (IsInRange 1 127) (take n (drop start bytes.now)) }
@@ -46,8 +46,8 @@ fn is_plain(bytes: &[u8], start: usize, n: usize) -> bool
     is_plain_from(u8x16::from_slice(&bytes[last..]), at - last)
 }
 
-/// Whether n bytes are a text of the kind, as far as a quick look shows: it knows most texts of ASCII, and signatures of one
-/// basic type. A no says nothing.
+/// Whether n bytes are a text of the kind, as far as a quick look shows: it knows most texts of
+/// ASCII, and signatures of one basic type. A no says nothing.
 #[inline]
 pub(crate) fn is_seen_at_once(kind: TextKind, bytes: &[u8], start: usize, n: usize) -> bool
     requires { start + n ≤ length bytes.now }

@@ -1,4 +1,5 @@
-//! Values that are one text, and the signatures of variants. D-Bus Specification, "Marshaling (Wire Format)".
+//! Values that are one text, and the signatures of variants. D-Bus Specification, "Marshaling (Wire
+//! Format)".
 #![tactic(auto)]
 
 ghost use Rattle.std.specs.Prelude.{◌≡◌, ℕ, ◌+◌, ◌<◌, ◌≤◌, length, drop, None, IfSome};

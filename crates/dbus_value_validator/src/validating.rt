@@ -12,12 +12,13 @@ use dbus_value_model::{Bounds, Order};
 
 /// The offset after values of the types that a signature spells, if the bytes spell such values.
 ///
-/// `bytes` begin at the message's first byte, from which padding counts; the values begin at `at` and end at or before `end`,
-/// and `depth_left` containers may be open at once in them. Some(after) says that from `at` up to `after` the bytes spell values of
-/// exactly those types, within the bounds: no array has more bytes than they allow, and each index of a file descriptor is
-/// below their number, if there is one. None says that no such values begin at `at`: the bytes there are at fault, or the values
-/// do not end at or before `end`. Of `types` that are no complete types nothing is said. Nothing is allocated.
-/// D-Bus Specification, "Marshaling (Wire Format)".
+/// `bytes` begin at the message's first byte, from which padding counts; the values begin at `at`
+/// and end at or before `end`, and `depth_left` containers may be open at once in them. Some(after)
+/// says that from `at` up to `after` the bytes spell values of exactly those types, within the
+/// bounds: no array has more bytes than they allow, and each index of a file descriptor is below
+/// their number, if there is one. None says that no such values begin at `at`: the bytes there are
+/// at fault, or the values do not end at or before `end`. Of `types` that are no complete types
+/// nothing is said. Nothing is allocated. D-Bus Specification, "Marshaling (Wire Format)".
 pub fn validate_values(
     bytes: &[u8],
     at: usize,
@@ -48,9 +49,9 @@ pub fn validate_values(
     all_values(&source, at, end, types, 0, depth_left)
 }
 
-/// The offset after a value of the one type that a signature spells, if the bytes spell one: as [`validate_values`] says of several.
-/// It may be a dict entry, as an array's element is.
-/// D-Bus Specification, "Marshaling (Wire Format)".
+/// The offset after a value of the one type that a signature spells, if the bytes spell one: as
+/// [`validate_values`] says of several. It may be a dict entry, as an array's element is. D-Bus
+/// Specification, "Marshaling (Wire Format)".
 pub fn validate_value(
     bytes: &[u8],
     at: usize,

@@ -1,9 +1,10 @@
 //! Values of any type, along the bytes of their signature.
 //!
-//! A value begins at `at` and is to end at or before `end`, up to which the bytes are there; `depth_left` containers may be opened in
-//! it. `types` are the bytes of its type, or of several, and begin at `pos` of the signature of which lengths may be noted. Each
-//! call gives the offset after what it validated, or None if the bytes do not begin with it.
-//! D-Bus Specification, "Marshaling (Wire Format)".
+//! A value begins at `at` and is to end at or before `end`, up to which the bytes are there;
+//! `depth_left` containers may be opened in it. `types` are the bytes of its type, or of several,
+//! and begin at `pos` of the signature of which lengths may be noted. Each call gives the offset
+//! after what it validated, or None if the bytes do not begin with it. D-Bus Specification,
+//! "Marshaling (Wire Format)".
 #![tactic(auto)]
 
 ghost use Rattle.std.specs.Prelude.{◌≡◌, ℕ, ◌+◌, ◌<◌, ◌≤◌, ◌^◌, length, drop, true, IfSome};
@@ -22,8 +23,9 @@ use crate::source::Source;
 use crate::texts::short_text;
 use dbus_types::{TextKind, boundary, free_width, lengths_in};
 
-/// A value of the one type that `types` spell, which begin at `pos` of a signature whose lengths are noted: what
-/// [`validate_value`](crate::validate_value) says, for a caller that has noted them. Nothing is allocated.
+/// A value of the one type that `types` spell, which begin at `pos` of a signature whose lengths
+/// are noted: what [`validate_value`](crate::validate_value) says, for a caller that has noted
+/// them. Nothing is allocated.
 #[cycle(values)]
 pub fn one_value(
     source: &Source<'_>,
@@ -277,7 +279,8 @@ fn array(
     elements(source, first, n, types, pos, depth_left - 1)
 }
 
-/// Elements, up to the end of the next n bytes, with the lengths of the types in theirs noted first.
+/// Elements, up to the end of the next n bytes, with the lengths of the types in theirs noted
+/// first.
 #[cycle(values)]
 fn noted_elements(
     source: &Source<'_>,

@@ -13,8 +13,9 @@ use Rattle.dbus_values.specs.States.{ValuesState, AreLeft, AreFewer, IsAfter, El
 use Rattle.dbus_values.specs.declared.view.ValueView.{ValueView}
 use Rattle.dbus_values.specs.declared.view.ValueView.TheVariants as view
 
--- The tree that a value seen so is: a number, a signed one as its two's complement and a DOUBLE as its 64 bits; a text; the bytes
--- of an array of BYTE; or another container, whose parts are left where they stand.
+-- The tree that a value seen so is: a number, a signed one as its two's complement and a DOUBLE as
+-- its 64 bits; a text; the bytes of an array of BYTE; or another container, whose parts are left
+-- where they stand.
 abbrev pub IsSeen : ValueView → ValueTree → Type 0
 IsSeen (view.Byte n) v = v ≡ NumberValue BYTE n
 IsSeen (view.Bool b) v = v ≡ NumberValue BOOLEAN (if b then 1 else 0)
@@ -35,11 +36,13 @@ IsSeen (view.Struct s) v = (xs : ValueTrees) × (rest : List ℕ) × (v ≡ Stru
 IsSeen (view.Entry s) v = (x : ValueTree) × (y : ValueTree) × (rest : List ℕ) × (v ≡ EntryValue x y) × AreLeft s (MoreValues x (MoreValues y NoValues)) rest
 IsSeen (view.Variant s) v = (x : ValueTree) × (rest : List ℕ) × (v ≡ VariantValue x) × AreLeft s (MoreValues x NoValues) rest
 
--- the parts of a value that stands at an offset are seen where the value has them, in the same bytes
+-- the parts of a value that stands at an offset are seen where the value has them, in the same
+-- bytes
 abbrev pub AreInside : Order → List ℕ → (at : ℕ) → ValueTree → ValuesState → Type 0
 AreInside order bytes at v s = (s.order ≡ order) × (s.bytes ≡ bytes) × (s.at ≡ inside order at v)
 
--- the same of the elements of an array, which end where the array does; what has no parts is seen by itself
+-- the same of the elements of an array, which end where the array does; what has no parts is seen
+-- by itself
 abbrev pub AreSeenInside : Order → List ℕ → (at : ℕ) → ValueTree → ValueView → Type 0
 AreSeenInside order bytes at v (view.Array e) = (e.order ≡ order) × (e.bytes ≡ bytes) × (e.at ≡ inside order at v) × (e.end ≡ at + length (spelling order at v))
 AreSeenInside order bytes at v (view.Struct s) = AreInside order bytes at v s
@@ -66,9 +69,9 @@ weight_in (view.Entry s) = weight s.depth_left s.types
 weight_in (view.Variant s) = weight s.depth_left s.types
 weight_in _ = 0
 
--- A call of `next`: what is left before it, what it answers, and what is left after it. The first of the trees is seen, its parts
--- where it has them, and the others are left; or there are none, and nothing moves. The others begin where the first ends, and
--- both are less than what was left.
+-- A call of `next`: what is left before it, what it answers, and what is left after it. The first
+-- of the trees is seen, its parts where it has them, and the others are left; or there are none,
+-- and nothing moves. The others begin where the first ends, and both are less than what was left.
 pub record PassesValue (before : ValuesState) (result : Option ValueView) (left : ValuesState) : Type 0 where
   pub first : (xs : ValueTrees) (rest : List ℕ) → AreLeft before xs rest → MatchOption result ((xs ≡ NoValues) × AreLeft left xs rest) (λ seen. IsFirst left xs rest seen)
   pub parts : (x : ValueTree) (us : ValueTrees) (rest : List ℕ) → AreLeft before (MoreValues x us) rest → IfSome result (λ seen. AreSeenInside before.order before.bytes before.at x seen)

@@ -12,8 +12,8 @@ use Rattle.dbus_walk.specs.Standing.{AllStand, ElementsStand}
 use Rattle.dbus_walk.specs.declared.spot.Source.{Source}
 use Rattle.dbus_walk.specs.declared.spot.Spot.{Spot}
 
--- several values: the bytes of the message and their order, where the first value begins, the types that are left, and how many
--- containers may be open in each value
+-- several values: the bytes of the message and their order, where the first value begins, the types
+-- that are left, and how many containers may be open in each value
 pub record ValuesState : Type 0 where
   pub order : Order
   pub bytes : List ℕ
@@ -52,7 +52,8 @@ ElementsAreLeft s xs rest = ElementsStand s.order s.depth_left s.type s.at s.end
 abbrev pub SomeElementsAreLeft : ElementsState → Type 0
 SomeElementsAreLeft s = (length s.type ≤ 255) × (xs : ValueTrees) × (rest : List ℕ) × ElementsAreLeft s xs rest
 
--- the elements after one are left, in the same bytes up to the same end: they begin where its spelling ends
+-- the elements after one are left, in the same bytes up to the same end: they begin where its
+-- spelling ends
 abbrev pub IsAfterElement : ElementsState → ValueTree → ElementsState → Type 0
 IsAfterElement before x left = (left.order ≡ before.order) × (left.bytes ≡ before.bytes) × (left.end ≡ before.end) × (left.at ≡ before.at + length (spelling before.order before.at x))
 
@@ -68,8 +69,8 @@ pub record AreNumbersIn (order : Order) (type : List ℕ) (xs : ValueTrees) (byt
   pub are : xs ≡ value_trees (map (NumberValue code) numbers)
   pub spelled : bytes ≡ flat_map (num order (width code)) numbers
 
--- An array, a struct or a variant takes one of the room for the values in it, and what is in a dict entry has a shorter signature.
--- So this number is less for what is in a value than for the value.
+-- An array, a struct or a variant takes one of the room for the values in it, and what is in a dict
+-- entry has a shorter signature. So this number is less for what is in a value than for the value.
 abbrev pub weight : (depth_left : ℕ) (types : List ℕ) → ℕ
 weight depth_left types = 256 * depth_left + length types
 

@@ -41,11 +41,13 @@ first_values zero xs = NoValues
 first_values (suc n) NoValues = NoValues
 first_values (suc n) (MoreValues x xs) = MoreValues x (first_values n xs)
 
--- where value n of some begins, which begin at an offset: where the spelling of those before it ends
+-- where value n of some begins, which begin at an offset: where the spelling of those before it
+-- ends
 abbrev pub value_start : Order → (at n : ℕ) → ValueTrees → ℕ
 value_start order at n xs = at + length (spellings order at (first_values n xs))
 
--- the text of a value that begins at an offset stands at a place: after the value's padding and its length, in so many bytes
+-- the text of a value that begins at an offset stands at a place: after the value's padding and its
+-- length, in so many bytes
 pub record IsTextAt (bytes : List ℕ) (width from : ℕ) (t : List ℕ) (p : ArgPlace) : Type 0 where
   pub begins : p.start ≡ from + gap_to width from + width
   pub spans : p.length ≡ length t
@@ -57,18 +59,20 @@ abbrev pub IsTextPlace : List ℕ → (from : ℕ) → ValueTree → ArgPlace �
 IsTextPlace bytes from (TextValue k t) p = IsTextAt bytes (length_width k) from t p
 IsTextPlace bytes from v p = (p.start ≡ 0) × (p.length ≡ 0)
 
--- what is told of value n of a message's body, which is there: the first code of its type, and where it stands if it is a text
+-- what is told of value n of a message's body, which is there: the first code of its type, and
+-- where it stands if it is a text
 abbrev pub IsPlaceThere : Order → MessageTree → (n : ℕ) → List ℕ → ArgPlace → Type 0
 IsPlaceThere order m n bytes p =
     (x : ValueTree) × (body_value n m.body ≡ Some x) × (first_code (type_of x) ≡ p.code)
     × IsTextPlace bytes (value_start order (body_start order m.fields) n m.body) x p
 
--- the values of a message's body, none of them seen yet: they begin after the header, have the types of the body's signature, and
--- as many containers may be open in each as the limits allow
+-- the values of a message's body, none of them seen yet: they begin after the header, have the
+-- types of the body's signature, and as many containers may be open in each as the limits allow
 abbrev pub all_values : ViewState → Order → MessageTree → ValuesState
 all_values v order m = record { order = order; bytes = v.bytes; at = body_start order m.fields; types = body_signature m.fields; depth_left = v.limits.depth }
 
--- it is what was found of a value that stands at an offset: how it is seen, the first code of its type, and the offset after it
+-- it is what was found of a value that stands at an offset: how it is seen, the first code of its
+-- type, and the offset after it
 pub record IsFound (order : Order) (bytes : List ℕ) (from : ℕ) (x : ValueTree) (a : Arg) : Type 0 where
   pub depth_left : ℕ
   pub rest : List ℕ

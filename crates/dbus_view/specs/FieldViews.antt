@@ -18,7 +18,8 @@ pub record IsFieldSeen (field : FieldView) (f : FieldTree) : Type 0 where
   pub after : List ℕ
   pub value : AreLeft field.value (MoreValues f.value NoValues) after
 
--- where the variant of a field begins that itself begins at an offset: after its padding to 8 and its code
+-- where the variant of a field begins that itself begins at an offset: after its padding to 8 and
+-- its code
 abbrev pub variant_start : (at : ℕ) → ℕ
 variant_start at = at + gap_to 8 at + 1
 
@@ -26,8 +27,9 @@ variant_start at = at + gap_to 8 at + 1
 abbrev pub IsFirstField : ElementsState → List FieldTree → FieldView → Type 0
 IsFirstField left fs field = (f : FieldTree) × (others : List FieldTree) × (fs ≡ f ∷ others) × IsFieldSeen field f × FieldsAreLeft left others
 
--- A call of `next`: what is left before it, what it answers, and what is left after it. The first field is seen, its value where its
--- variant holds it, and the others are left in the same bytes; or there is none, and nothing moves.
+-- A call of `next`: what is left before it, what it answers, and what is left after it. The first
+-- field is seen, its value where its variant holds it, and the others are left in the same bytes;
+-- or there is none, and nothing moves.
 pub record PassesField (before : ElementsState) (result : Option FieldView) (left : ElementsState) : Type 0 where
   pub first : (fs : List FieldTree) → FieldsAreLeft before fs → MatchOption result ((fs ≡ []) × FieldsAreLeft left fs) (λ field. IsFirstField left fs field)
   pub value : (f : FieldTree) (others : List FieldTree) → FieldsAreLeft before (f ∷ others) → IfSome result (λ field. AreInside before.order before.bytes (variant_start before.at) (VariantValue f.value) field.value)

@@ -10,8 +10,8 @@ use Rattle.dbus_message_model.specs.Messages.{MessageTree}
 use Rattle.dbus_header.specs.MessageOutcomes.{IsWhole}
 use Rattle.dbus_header.specs.NoMessage.{IsFaultAtEnd}
 
--- they are refused with the fault, or end too soon; or they begin with a message after which others stand, the first of them at the
--- message's end
+-- they are refused with the fault, or end too soon; or they begin with a message after which others
+-- stand, the first of them at the message's end
 abbrev pub IsViewFault : Limits → List ℕ → Fault → Type 0
 IsViewFault limits bytes f =
     IsFaultAtEnd limits bytes f

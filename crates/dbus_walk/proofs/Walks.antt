@@ -30,7 +30,8 @@ front_all : (xs : List ValueTree) → in_front xs NoValues ≡ value_trees xs
 front_all [] = refl
 front_all (x ∷ xs) = ap (λ (u : ValueTrees). MoreValues x u) (front_all xs)
 
--- Of the values vs, which stand from `at` on, us are left, from `place` on, of which P holds; of those before them Q holds.
+-- Of the values vs, which stand from `at` on, us are left, from `place` on, of which P holds; of
+-- those before them Q holds.
 pub record Left (order : Order) (at : ℕ) (vs : ValueTrees) (P : ℕ → ValueTrees → Type 0) (Q : List ValueTree → Type 0) (place : ℕ) : Type 0 where
   pub us : ValueTrees
   pub keeps : P place us

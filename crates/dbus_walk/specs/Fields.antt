@@ -15,7 +15,8 @@ use Rattle.dbus_walk.specs.declared.spot.Source.{Source}
 abbrev pub field_types : List ℕ
 field_types = codes "(yv)"
 
--- A message's header fields stand in it: an array of the type a(yv), at offset 12. So many containers may be open in the message.
+-- A message's header fields stand in it: an array of the type a(yv), at offset 12. So many
+-- containers may be open in the message.
 abbrev pub FieldsStand : Source → (depth_left : ℕ) → List FieldTree → (rest : List ℕ) → Type 0
 FieldsStand source depth_left fs rest = Stands source.order depth_left (array_code ∷ field_types) 12 source.bytes.now (field_array fs) rest
 
@@ -33,7 +34,8 @@ pub record FieldStands (source : Source) (depth_left at : ℕ) (f : FieldTree) (
 abbrev pub field_end : Source → ℕ → FieldTree → ℕ
 field_end source at f = at + length (spelling source.order at (field_struct f))
 
--- the field that stands at an offset has this code, and its value, of a single complete type, stands here: the variant after the code holds it
+-- the field that stands at an offset has this code, and its value, of a single complete type,
+-- stands here: the variant after the code holds it
 pub record IsFieldAt (source : Source) (at : ℕ) (f : FieldTree) (rest : List ℕ) (spot : FieldSpot) : Type 0 where
   pub code : f.code ≡ spot.code
   pub few : length spot.types.now ≤ 255

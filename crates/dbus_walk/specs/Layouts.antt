@@ -38,7 +38,8 @@ pub record IsNumberAt (source : Source) (spot : Spot) (v : ValueTree) (start siz
   pub read : number_of source.order (take size (drop start source.bytes.now)) ≡ n
   pub ends : start + size ≡ end_of source spot v
 
--- a text of n bytes stands after its length, which has so many bytes and begins at an offset; one byte more follows it
+-- a text of n bytes stands after its length, which has so many bytes and begins at an offset; one
+-- byte more follows it
 pub record IsTextAt (source : Source) (spot : Spot) (v : ValueTree) (size start n : ℕ) : Type 0 where
   pub code : TextCode
   pub text : List ℕ
@@ -61,7 +62,8 @@ pub record IsVariantAt (source : Source) (spot : Spot) (v : ValueTree) (rest : L
   pub held : Stands source.order (spot.depth_left - 1) types at source.bytes.now x rest
   pub ends : at + length (spelling source.order at x) ≡ end_of source spot v
 
--- the bytes of an array begin at the spot, and of its elements, as its type and its length say, the places and the width are these
+-- the bytes of an array begin at the spot, and of its elements, as its type and its length say, the
+-- places and the width are these
 pub record IsRunAt (source : Source) (spot : Spot) (run : Run) : Type 0 where
   pub code : slice_index spot.types.now 0 ≡ 97
   pub long : 2 ≤ length spot.types.now
@@ -70,7 +72,8 @@ pub record IsRunAt (source : Source) (spot : Spot) (run : Run) : Type 0 where
   pub parts : (t : TypeTree) → first_code t ≡ slice_index spot.types.now 1 → run.first ≡ run.start + 4 + gap_to (alignment_of t) (run.start + 4)
   pub ends : run.end ≡ run.first + number_of source.order (take 4 (drop run.start source.bytes.now))
 
--- an array's elements stand from an offset up to another, and each that is a number has so many bytes
+-- an array's elements stand from an offset up to another, and each that is a number has so many
+-- bytes
 pub record IsArrayAt (source : Source) (spot : Spot) (v : ValueTree) (rest : List ℕ) (run : Run) : Type 0 where
   pub type : TypeTree
   pub xs : ValueTrees

@@ -10,7 +10,8 @@ use Rattle.dbus_walk.specs.declared.spot.Spot.{Spot}
 abbrev pub between : ℕ → List ℕ → List ℕ
 between n types = take (length types - n - n) (drop n types)
 
--- so many structs, whose types have these lengths, open where a type begins, and close where it ends
+-- so many structs, whose types have these lengths, open where a type begins, and close where it
+-- ends
 pub record IsRow (types lengths : List ℕ) (row : ℕ) : Type 0 where
   pub opens : (k : ℕ) → k < row → get_or types k 0 ≡ 40
   pub ends : (k : ℕ) → k < row → get_or lengths k 0 ≡ length types - k - k

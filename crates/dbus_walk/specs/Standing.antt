@@ -8,8 +8,9 @@ use Rattle.dbus_value_model.specs.Values.{ValueTree, ValueTrees, type_of, types_
 use Rattle.dbus_walk.specs.declared.spot.Source.{Source}
 use Rattle.dbus_walk.specs.declared.spot.Spot.{Spot}
 
--- A value whose type has this text stands in the bytes from an offset on, and rest are the bytes after it. So many containers may
--- be open in it, and the length of each array in it fits into its four bytes.
+-- A value whose type has this text stands in the bytes from an offset on, and rest are the bytes
+-- after it. So many containers may be open in it, and the length of each array in it fits into its
+-- four bytes.
 pub record Stands (order : Order) (depth_left : ℕ) (types : List ℕ) (at : ℕ) (bytes : List ℕ) (v : ValueTree) (rest : List ℕ) : Type 0 where
   pub text : sig (type_of v) ≡ types
   pub shaped : IsShaped true (type_of v)

@@ -37,8 +37,9 @@ pub fn fields_end(source: &Source<'_>) -> usize
     FIELDS_START + source.order.u32_at(source.bytes, 12) as usize
 }
 
-/// The header field that begins at `at`, with its padding, if `depth_left` containers may be open in the message. The next one begins
-/// at the end of its value. D-Bus Specification, "Header Fields".
+/// The header field that begins at `at`, with its padding, if `depth_left` containers may be open
+/// in the message. The next one begins at the end of its value. D-Bus Specification, "Header
+/// Fields".
 #[inline]
 pub fn field_at<'a>(source: &Source<'a>, at: usize, depth_left: u8) -> FieldSpot<'a>
     requires stands { (f : FieldTree) × (rest : List ℕ) × FieldStands source.now depth_left at f rest }

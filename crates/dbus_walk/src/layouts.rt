@@ -12,7 +12,8 @@ use crate::spot::{Layout, Run, Source, Spot};
 use dbus_types::boundary;
 use dbus_value_model::gap;
 
-/// How the value at a spot is laid out. Nothing in it is gone through. D-Bus Specification, "Marshaling (Wire Format)".
+/// How the value at a spot is laid out. Nothing in it is gone through. D-Bus Specification,
+/// "Marshaling (Wire Format)".
 #[inline(always)]
 pub fn layout<'a>(source: &Source<'a>, spot: &Spot<'_>) -> Layout<'a>
     requires stands { StandsThere source.now spot.now }
@@ -44,8 +45,8 @@ pub fn layout<'a>(source: &Source<'a>, spot: &Spot<'_>) -> Layout<'a>
     }
 }
 
-/// How far it is to where a number of so many bytes begins: [`gap`], asked so that the compiler leaves out what the code that says
-/// the width rules out.
+/// How far it is to where a number of so many bytes begins: [`gap`], asked so that the compiler
+/// leaves out what the code that says the width rules out.
 #[inline(always)]
 fn number_gap(size: u8, at: usize) -> usize
     requires some { 0 < size }
@@ -60,7 +61,8 @@ fn number_gap(size: u8, at: usize) -> usize
     gap(size, at)
 }
 
-/// How far it is to where the parts of a struct or a dict entry begin: [`gap`], in three instructions.
+/// How far it is to where the parts of a struct or a dict entry begin: [`gap`], in three
+/// instructions.
 #[inline(always)]
 #[tactic(auto, unfolding(dbus_value_model::specs::Bytes::gap_to))]
 fn parts_gap(at: usize) -> usize

@@ -6,7 +6,8 @@ ghost use Rattle.dbus_types.specs.TypeLengths.{AreLengths};
 
 use dbus_types::lengths_in;
 
-/// How long each type of a signature is, for a [`Spot`](crate::Spot): noted in the table, unless the signature has one byte.
+/// How long each type of a signature is, for a [`Spot`](crate::Spot): noted in the table, unless
+/// the signature has one byte.
 #[inline]
 pub fn lengths_of<'t>(types: &[u8], table: &'t mut [u8; 255]) -> &'t [u8]
     requires few { length types.now ≤ 255 }

@@ -1,7 +1,8 @@
 //! Values walked in bytes that were validated.
 //!
-//! One walk goes along the bytes and hands what is there to a visitor: a number, a text, the opening and the closing of a
-//! container. The visitor says what it makes of each. The walk itself allocates nothing and rejects nothing.
+//! One walk goes along the bytes and hands what is there to a visitor: a number, a text, the
+//! opening and the closing of a container. The visitor says what it makes of each. The walk itself
+//! allocates nothing and rejects nothing.
 #![tactic(auto)]
 
 mod container;

@@ -8,8 +8,8 @@ ghost use Rattle.dbus_walk.specs.Widths.{number_width};
 
 use dbus_types::free_width;
 
-/// The number of bytes of a number of a type that begins with this byte, or 0 if a type that begins with it is no type of numbers.
-/// D-Bus Specification, "Summary of D-Bus marshaling".
+/// The number of bytes of a number of a type that begins with this byte, or 0 if a type that begins
+/// with it is no type of numbers. D-Bus Specification, "Summary of D-Bus marshaling".
 #[inline]
 pub fn number_width(code: u8) -> u8
     ensures value { (t : TypeTree) → first_code t ≡ code → result ≡ number_width t }

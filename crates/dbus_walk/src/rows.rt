@@ -5,8 +5,8 @@ ghost use Rattle.std.specs.Prelude.{◌≤◌, length};
 ghost use Rattle.dbus_types.specs.TypeLengths.{AreLengths};
 ghost use Rattle.dbus_walk.specs.Rows.{IsRow};
 
-/// How many structs open where a type begins, if each but the first is the only field of the one around it: 0 if the type is no
-/// struct. `lengths` are those of the types in it.
+/// How many structs open where a type begins, if each but the first is the only field of the one
+/// around it: 0 if the type is no struct. `lengths` are those of the types in it.
 pub(crate) fn row_of(types: &[u8], lengths: &[u8]) -> usize
     requires noted { AreLengths types.now lengths.now }
     ensures { IsRow types.now lengths.now result }
@@ -21,7 +21,8 @@ pub(crate) fn row_of(types: &[u8], lengths: &[u8]) -> usize
     n
 }
 
-/// The same of a struct's type, of which so many are known already, or 0 if they were not looked for.
+/// The same of a struct's type, of which so many are known already, or 0 if they were not looked
+/// for.
 #[inline(always)]
 pub(crate) fn known_row(types: &[u8], lengths: &[u8], known: usize) -> usize
     requires noted { AreLengths types.now lengths.now }

@@ -5,7 +5,8 @@ ghost use Rattle.std.specs.Prelude.{◌≡◌, ◌+◌, ◌≤◌, length, take,
 
 use std::str;
 
-/// The text of `size` bytes that begins at `first`. They are UTF-8, so this is not looked for again.
+/// The text of `size` bytes that begins at `first`. They are UTF-8, so this is not looked for
+/// again.
 #[inline]
 pub fn text_in(bytes: &[u8], first: usize, size: usize) -> &str
     requires inside { first + size ≤ length bytes.now }

@@ -24,9 +24,9 @@ use dbus_value_model::Order;
 
 /// What takes the values that a walk comes to, and gathers something of them.
 ///
-/// Each method is handed a value in its bytes, and what was gathered of those before it, or is told what is around values. Its
-/// relations say what each of them gathers, and its three laws say that this adds up: to what is gathered of several values, and of
-/// a container.
+/// Each method is handed a value in its bytes, and what was gathered of those before it, or is told
+/// what is around values. Its relations say what each of them gathers, and its three laws say that
+/// this adds up: to what is gathered of several values, and of a container.
 pub trait Visitor {
     /// What it gathers of values.
     type Many: Drop;
@@ -37,8 +37,9 @@ pub trait Visitor {
     // It can take the values of a message of this number of bytes.
     ghost ready: { Self → ℕ → Type 0 };
 
-    // It takes arrays at one stroke, and not element by element, if their elements' type begins with this code, and the elements
-    // have this number of bytes each if they are numbers, or else 0.
+    // It takes arrays at one stroke, and not element by element, if their elements' type begins
+    // with this code, and the elements have this number of bytes each if they are numbers, or else
+    // 0.
     ghost strokes: { ℕ → ℕ → Bool };
 
     // What it gathers of a value at an offset: what was gathered before it, and after.
@@ -50,14 +51,16 @@ pub trait Visitor {
     // A container opens: what was gathered before it, and what is gathered of its parts at first.
     ghost opens: { Self → Self.Many → Order → ℕ → ValueTree → Self.Many → Self → Type 0 };
 
-    // A container closes: what was gathered before it, what was gathered of its parts, and what is gathered after it.
+    // A container closes: what was gathered before it, what was gathered of its parts, and what is
+    // gathered after it.
     ghost closes: { Self → Self.Many → Self.Many → ValueTree → Self.Many → Self → Type 0 };
 
     // A part comes next, the first one or a later one.
     ghost parted: { Self → Bool → Self → Type 0 };
 
-    /// Whether it takes an array at one stroke, by `whole_array`, and not element by element: by the first code of its elements'
-    /// type, and by how many bytes each number has, or 0 if the elements are no numbers.
+    /// Whether it takes an array at one stroke, by `whole_array`, and not element by element: by
+    /// the first code of its elements' type, and by how many bytes each number has, or 0 if the
+    /// elements are no numbers.
     fn at_one_stroke(code: u8, size: u8) -> bool
         ensures { result ≡ strokes code size };
 
@@ -155,8 +158,8 @@ pub trait Visitor {
         ensures takes { (v : ValueTree) (rest : List ℕ) → StandsAt source.now spot.now v rest →
             IfOk result (λ r. opens self.old gathered.now source.now.order spot.now.at v r self.new) };
 
-    /// Opens a variant, a struct or a dict entry of a message of `length` bytes. `types` are those of its parts. A variant's signature
-    /// begins at `start`, or the first part of another.
+    /// Opens a variant, a struct or a dict entry of a message of `length` bytes. `types` are those
+    /// of its parts. A variant's signature begins at `start`, or the first part of another.
     fn open(
         &mut self,
         gathered: &Self::Many,

@@ -1,7 +1,8 @@
 //! Values of any type, along the bytes of their signature, handed to a visitor in place.
 //!
-//! A value is there, so nothing is validated: each call hands what begins at its spot to the visitor, which adds to what it gathered
-//! before, and gives the offset after it. A visitor that stops ends the walk. D-Bus Specification, "Marshaling (Wire Format)".
+//! A value is there, so nothing is validated: each call hands what begins at its spot to the
+//! visitor, which adds to what it gathered before, and gives the offset after it. A visitor that
+//! stops ends the walk. D-Bus Specification, "Marshaling (Wire Format)".
 #![tactic(auto)]
 
 ghost use Rattle.std.specs.Prelude.{◌≡◌, ℕ, ◌+◌, ◌<◌, ◌≤◌, ◌⊎◌, List, length, IfOk};
@@ -25,7 +26,8 @@ use dbus_types::lengths_in;
 
 /// Walks over the value at a spot, of which the visitor gathers something: the offset after it.
 ///
-/// `Err` if the visitor stops, with the reason that it gives. D-Bus Specification, "Marshaling (Wire Format)".
+/// `Err` if the visitor stops, with the reason that it gives. D-Bus Specification, "Marshaling
+/// (Wire Format)".
 #[inline(always)]
 #[tactic(auto, using(crate::proofs::Together::no_row))]
 pub fn walk_value<V: Visitor>(
@@ -47,7 +49,8 @@ pub fn walk_value<V: Visitor>(
     Ok(here.at)
 }
 
-/// The value at a spot, which moves to its end. `row` is what [`row_of`] finds of its type, or 0 if that was not looked for.
+/// The value at a spot, which moves to its end. `row` is what [`row_of`] finds of its type, or 0 if
+/// that was not looked for.
 #[cycle(walk)]
 #[inline(always)]
 fn value<V: Visitor>(
@@ -129,7 +132,8 @@ fn variant<V: Visitor>(
     walked
 }
 
-/// A variant that begins at `start`, whose type has several bytes. How long the types in it are is noted first, in room that no other variant takes.
+/// A variant that begins at `start`, whose type has several bytes. How long the types in it are is
+/// noted first, in room that no other variant takes.
 #[cycle(walk)]
 #[inline(never)]
 fn noted_variant<V: Visitor>(
@@ -333,7 +337,8 @@ fn structure<V: Visitor>(
     together(visitor, gathered, source, spot, start, row)
 }
 
-/// A struct that is not walked as one of several that open together, by where its first field begins. The spot moves to its end.
+/// A struct that is not walked as one of several that open together, by where its first field
+/// begins. The spot moves to its end.
 #[cycle(walk)]
 #[inline(always)]
 fn alone<V: Visitor>(
@@ -367,7 +372,8 @@ fn alone<V: Visitor>(
     walked
 }
 
-/// The outermost of `row` structs that open together, by where the first field of each begins. The spot moves to their end.
+/// The outermost of `row` structs that open together, by where the first field of each begins. The
+/// spot moves to their end.
 #[cycle(walk)]
 #[inline(always)]
 fn together<V: Visitor>(
@@ -455,7 +461,8 @@ fn listed<V: Visitor>(
     Ok(())
 }
 
-/// A struct around which `outer` others are open that [`row_of`] counts. The spot, at the first field of each, moves to their end.
+/// A struct around which `outer` others are open that [`row_of`] counts. The spot, at the first
+/// field of each, moves to their end.
 #[cycle(walk)]
 fn nested<V: Visitor>(
     visitor: &mut V,
@@ -555,10 +562,11 @@ fn fields<V: Visitor>(
     Ok(())
 }
 
-/// Walks over values one after another, one of each type that the signature at the spot has, of which the visitor gathers something:
-/// the offset after them.
+/// Walks over values one after another, one of each type that the signature at the spot has, of
+/// which the visitor gathers something: the offset after them.
 ///
-/// `Err` if the visitor stops, with the reason that it gives. D-Bus Specification, "Marshaling (Wire Format)".
+/// `Err` if the visitor stops, with the reason that it gives. D-Bus Specification, "Marshaling
+/// (Wire Format)".
 #[cycle(walk)]
 #[inline(always)]
 pub fn walk_values<V: Visitor>(

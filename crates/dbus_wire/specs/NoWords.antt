@@ -2,8 +2,8 @@
 use Rattle.std.specs.Prelude.{◌≡◌, ◌≢◌, ◌⊎◌, ℕ, codes, List, Option}
 use Rattle.std.specs.declared.io.ErrorKind.{ErrorKind}
 use Rattle.std.specs.declared.io.ErrorKind.TheVariants.{OutOfMemory}
-use Rattle.dbus_report.specs.declared.ending.ExitStatus.{ExitStatus}
-use Rattle.dbus_report.specs.declared.ending.ExitStatus.TheVariants as status
+use Rattle.cli_report.specs.declared.ending.ExitStatus.{ExitStatus}
+use Rattle.cli_report.specs.declared.ending.ExitStatus.TheVariants as status
 use Rattle.dbus_tool.specs.Handshaking.{Shows}
 
 -- memory ran out, or one of them is not text; or a write failed

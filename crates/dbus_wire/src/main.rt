@@ -12,7 +12,7 @@
 
 ghost use Rattle.std.specs.Prelude.{◌≡◌, map, string_bytes, IfErr, IfOk};
 ghost use Rattle.std.specs.IoError.{error_kind};
-ghost use Rattle.dbus_report.specs.Devices.{writing};
+ghost use Rattle.cli_report.specs.Devices.{writing};
 ghost use Rattle.dbus_tool.specs.Handshaking.{Shows};
 ghost use Rattle.dbus_tool.specs.Words.{RunsWords};
 ghost use Rattle.dbus_wire.specs.NoWords.{TellsNoWords};

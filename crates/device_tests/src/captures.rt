@@ -46,7 +46,8 @@ pub(crate) const SIGNAL: &[u8] =
 pub(crate) const SIGNAL_AS_SECOND: &[u8] =
     b"#2 l signal serial=2 flags=00 path=/a interface=a.b member=C signature=sv\n  s:\"hi\"\n  <au:[u:1, u:2]>\n";
 
-/// The header of a method return with a body of 5,000 bytes in an array, and the length of that array.
+/// The header of a method return with a body of 5,000 bytes in an array, and the length of that
+/// array.
 pub(crate) const LONG_HEADER: &[u8] =
     b"\x6c\x02\x00\x01\x8c\x13\x00\x00\x01\x00\x00\x00\x10\x00\x00\x00\x05\x01\x75\x00\x01\x00\x00\x00\x08\x01\x67\x00\x02\x61\x79\x00\x88\x13\x00\x00";
 

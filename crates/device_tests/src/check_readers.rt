@@ -16,8 +16,8 @@ const TOO_MANY: Given = Err(ReadFault::TooManyReads);
 
 const FAILED: Given = Err(ReadFault::Device);
 
-// How many reads may be made of a reply that comes byte by byte; what the calls give, one after another; and how many bytes
-// the messages have, and how many reads were made and failed.
+// How many reads may be made of a reply that comes byte by byte; what the calls give, one after
+// another; and how many bytes the messages have, and how many reads were made and failed.
 const READ: &[(u32, &[Given], [u64; 3])] = &[
     (0, &[TOO_MANY, TOO_MANY], [0, 0, 0]),
     (2, &[TOO_MANY, TOO_MANY], [0, 2, 0]),
@@ -26,7 +26,8 @@ const READ: &[(u32, &[Given], [u64; 3])] = &[
     (25, &[WHOLE, ENDS, ENDS], [24, 25, 0]),
 ];
 
-// Whether the calls of the reader give this; the messages have so many bytes then, and so many reads were made and failed.
+// Whether the calls of the reader give this; the messages have so many bytes then, and so many
+// reads were made and failed.
 fn is_read(reader: CheckReader<Pieces>, script: &[Given], counts: [u64; 3]) -> bool {
     let mut reader = reader;
     for given in script {

@@ -8,8 +8,8 @@ use refusing_alloc::Refusing;
 use std::alloc::{Allocator, Global};
 use std::test::Fail;
 
-// Whether of this piece the cutter takes so many bytes, gives the message that these bytes spell in its order, or none if they
-// are none, and holds so many bytes then.
+// Whether of this piece the cutter takes so many bytes, gives the message that these bytes spell in
+// its order, or none if they are none, and holds so many bytes then.
 fn takes<A: Allocator + Copy>(
     alloc: A,
     cutter: &mut Cutter<A>,
@@ -26,8 +26,8 @@ fn takes<A: Allocator + Copy>(
     }
 }
 
-// Whether the cutter gives a message of the rest of the signal; whether it is refused memory; and whether it then holds what
-// it held.
+// Whether the cutter gives a message of the rest of the signal; whether it is refused memory; and
+// whether it then holds what it held.
 fn answer_of<A: Allocator + Copy>(cutter: &mut Cutter<A>, rest: &[u8]) -> [bool; 3] {
     let [gives, refused] = match cutter.take(rest) {
         Ok((46, Some(_))) => [true, false],
@@ -37,8 +37,8 @@ fn answer_of<A: Allocator + Copy>(cutter: &mut Cutter<A>, rest: &[u8]) -> [bool;
     [gives, refused, cutter.held() == 50]
 }
 
-// The signal in two pieces. Whether the allocation of this number fails: then the cutter is as it was, and answers the same piece as if
-// nothing had happened. Nothing if it is not so.
+// The signal in two pieces. Whether the allocation of this number fails: then the cutter is as it
+// was, and answers the same piece as if nothing had happened. Nothing if it is not so.
 fn take_refused<'a>(heap: &'a Refusing, n: u64) -> Option<bool> {
     let (front, rest) = SIGNAL.split_at(50);
     let mut cutter = Cutter::new(heap);
@@ -77,7 +77,8 @@ fn take_with_each_growth_refused(rt: HostRuntime) {
     assert!(rt; growths_of_take(rt.alloc()) > Some(5));
 }
 
-// Whether of this piece the cutter takes all and gives no message; it holds so many bytes then, and asked for one allocation at most.
+// Whether of this piece the cutter takes all and gives no message; it holds so many bytes then, and
+// asked for one allocation at most.
 fn takes_by_one_growth<'a>(
     heap: &'a Refusing,
     cutter: &mut Cutter<&'a Refusing>,
@@ -105,8 +106,9 @@ fn a_piece_within_a_message_takes_one_growth(rt: HostRuntime) {
     }
 }
 
-// The call with this piece, made again and again, each time with its next allocation failing: whether each is refused memory and changes
-// nothing that is held, and the one that meets no refusal takes so many bytes and gives this message, or none.
+// The call with this piece, made again and again, each time with its next allocation failing:
+// whether each is refused memory and changes nothing that is held, and the one that meets no
+// refusal takes so many bytes and gives this message, or none.
 fn takes_in_the_end<'a>(
     heap: &'a Refusing,
     cutter: &mut Cutter<&'a Refusing>,
@@ -147,7 +149,8 @@ fn comes_in<'a>(heap: &'a Refusing, size: usize) -> bool {
     cutter.held() == 0
 }
 
-// The signal in pieces of each size, with each allocation of each call failing, also those that decode it at its end.
+// The signal in pieces of each size, with each allocation of each call failing, also those that
+// decode it at its end.
 #[test]
 fn a_call_that_is_refused_memory_is_made_again(rt: HostRuntime) {
     for size in 1..97 {
@@ -200,7 +203,8 @@ fn is_cut<'a>(heap: &'a Refusing, piece: &[u8]) -> bool {
         && cutter.finish() == Err(truncated)
 }
 
-// A reply followed by its first bytes, as one piece and then what was left of it, with each allocation of each call failing.
+// A reply followed by its first bytes, as one piece and then what was left of it, with each
+// allocation of each call failing.
 #[test]
 fn a_message_and_a_prefix_with_each_growth_refused(rt: HostRuntime) -> Result<(), Fail> {
     let heap = Refusing::none(rt.alloc());

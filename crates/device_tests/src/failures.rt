@@ -1,4 +1,5 @@
-//! Runs over devices that fail: what came before is written, and the failure is told where that can be.
+//! Runs over devices that fail: what came before is written, and the failure is told where that can
+//! be.
 
 use crate::captures::*;
 use crate::growths::{RUNS, Whole};
@@ -101,7 +102,8 @@ enum Place {
     Second,
 }
 
-// Devices that move one byte a call, of which one fails in its call of this number; and how often each fails then.
+// Devices that move one byte a call, of which one fails in its call of this number; and how often
+// each fails then.
 fn failing_at(place: Place, n: u64) -> ([Device; 3], [u64; 3]) {
     match place {
         Place::Reader => ([(1, n), BY_ONE, BY_ONE], [1, 0, 0]),
@@ -115,8 +117,9 @@ fn front(bytes: &[u8], n: usize) -> &[u8] {
     &bytes[..n.min(bytes.len())]
 }
 
-// Whether the run failed in the nth call of a device: what the writers then hold, of what they would hold. A write that failed wrote
-// nothing, and those before it one byte each; of a read that failed, what was written came before.
+// Whether the run failed in the nth call of a device: what the writers then hold, of what they
+// would hold. A write that failed wrote nothing, and those before it one byte each; of a read that
+// failed, what was written came before.
 fn failed(n: usize, end: &End, place: Place, whole: (&[u8], &[u8])) -> bool {
     let before = n.saturating_sub(1);
     let (first, second) = match place {
@@ -169,8 +172,8 @@ fn calls_of(
     None
 }
 
-// Whether each read and each write of a run that ends so fails in turn. A reader of one byte a read has a read for each byte, and one that
-// finds the end; a writer has a write for each byte.
+// Whether each read and each write of a run that ends so fails in turn. A reader of one byte a read
+// has a read for each byte, and one that finds the end; a writer has a write for each byte.
 fn each_fails(alloc: Global, words: &[&str], bytes: &[u8], whole: Whole) -> bool {
     let (_, first, second) = whole;
     let reads = Some(bytes.len().saturating_add(1));

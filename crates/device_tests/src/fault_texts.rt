@@ -1,4 +1,5 @@
-//! The texts of the faults of streams, of handshakes before them and of bodies that are spelled, as people read them.
+//! The texts of the faults of streams, of handshakes before them and of bodies that are spelled, as
+//! people read them.
 
 use dbus_body::PutFault;
 use dbus_handshake_input::{HandshakeFault, HandshakeReason};

@@ -24,8 +24,9 @@ const OTHERS: &[&str] = &["filter", "type='error'", "type='signal'", "--invert"]
 /// How a run ends, and what it writes on both writers.
 pub(crate) type Whole<'a> = (ExitStatus, &'a [u8], &'a [u8]);
 
-// Whether the allocation of this number fails: then the run has failed and says so, what it wrote is a front of the whole, and
-// all that was taken is given back. Else the run ends as it should. Nothing if it is not so.
+// Whether the allocation of this number fails: then the run has failed and says so, what it wrote
+// is a front of the whole, and all that was taken is given back. Else the run ends as it should.
+// Nothing if it is not so.
 fn growth_refused(
     alloc: Global,
     words: &[&str],
@@ -64,8 +65,9 @@ fn growths_met(alloc: Global, words: &[&str], bytes: &[u8], whole: Whole) -> Opt
     None
 }
 
-/// Words, the input, how the run ends, and what is written on the first writer and on the second. The run meets more
-/// allocations than this; `check` takes memory for its line alone. The line of a refusal takes memory too, on either writer.
+/// Words, the input, how the run ends, and what is written on the first writer and on the second.
+/// The run meets more allocations than this; `check` takes memory for its line alone. The line of a
+/// refusal takes memory too, on either writer.
 pub(crate) const RUNS: &[(&[&str], &[&[u8]], ExitStatus, &[&[u8]], &[u8], u64)] = &[
     (SHOW, ALL, DONE, TEXTS, b"", 2),
     (CHECK, ALL, DONE, &[b"ok 3 messages 144 bytes\n"], b"", 0),
@@ -152,8 +154,8 @@ fn further_messages_take_no_more_memory(rt: HostRuntime) {
     }
 }
 
-// Of messages that come whole with one read, `show`, `json`, `filter` and a `swap` into their own order take no memory, and a `swap`
-// that byteswaps them takes it once.
+// Of messages that come whole with one read, `show`, `json`, `filter` and a `swap` into their own
+// order take no memory, and a `swap` that byteswaps them takes it once.
 #[test]
 fn messages_in_the_buffer_take_no_memory(rt: HostRuntime) {
     for words in [SHOW, JSON, TO_LITTLE, EACH, ERRORS, OTHERS] {

@@ -1,4 +1,5 @@
-//! Handshakes before the messages of one side, over sources of a few bytes a read that fail, and with allocations that fail.
+//! Handshakes before the messages of one side, over sources of a few bytes a read that fail, and
+//! with allocations that fail.
 
 use crate::pieces::Pieces;
 use dbus_handshake_input::{HandshakeFault, ReadAhead, Side, pass_handshake};
@@ -25,7 +26,8 @@ fn each_read_fails(rt: HostRuntime) {
     }
 }
 
-// Whether the allocation of this number fails, and the handshake then. Nothing if it does not end so, or a block is left.
+// Whether the allocation of this number fails, and the handshake then. Nothing if it does not end
+// so, or a block is left.
 fn is_refused(alloc: Global, n: u64) -> Option<bool> {
     let bytes = b"\0AUTH EXTERNAL 30\r\nDATA 00\r\nERROR x\r\nBEGIN\r\nl";
     let heap = Refusing::nth(alloc, n);

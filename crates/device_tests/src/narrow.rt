@@ -20,7 +20,8 @@ pub(crate) struct Narrow {
 }
 
 impl Narrow {
-    /// A sink that holds nothing yet, takes `size` bytes a write, and whose write of this number fails.
+    /// A sink that holds nothing yet, takes `size` bytes a write, and whose write of this number
+    /// fails.
     pub(crate) fn new(alloc: Global, size: usize, fails_at: u64) -> Self {
         Narrow {
             held: Vec::new(alloc),

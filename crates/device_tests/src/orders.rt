@@ -61,8 +61,8 @@ impl Sink for Counting<'_> {
     }
 }
 
-// Whether a run goes through over these bytes, of which this number come with each read, and so many bytes are written before
-// each read and in the end.
+// Whether a run goes through over these bytes, of which this number come with each read, and so
+// many bytes are written before each read and in the end.
 fn goes_out(
     alloc: Global,
     words: &[&str],
@@ -94,14 +94,16 @@ fn goes_out(
     Ok(status == ExitStatus::Done && seen.as_slice() == expected)
 }
 
-// Over three method returns of 24 bytes, of which this number of bytes come with each read, the words write so many bytes before
-// each read and in the end.
+// Over three method returns of 24 bytes, of which this number of bytes come with each read, the
+// words write so many bytes before each read and in the end.
 const ORDERS: &[(&[&str], usize, &[usize])] = &[
-    // What a command makes of a message is written before the read after it. The text of each has 52 bytes.
+    // What a command makes of a message is written before the read after it. The text of each has
+    // 52 bytes.
     (SHOW, 24, &[0, 52, 104, 156, 156]),
     (TO_BIG, 24, &[0, 24, 48, 72, 72]),
     (CHECK, 24, &[0, 0, 0, 0, 23]),
-    // Of a read with two messages and a prefix of the third, what is made of the two is written before the next read.
+    // Of a read with two messages and a prefix of the third, what is made of the two is written
+    // before the next read.
     (TO_LITTLE, 60, &[0, 48, 72, 72]),
 ];
 

@@ -3,7 +3,8 @@ ghost use Rattle.std.specs.Prelude.{None};
 
 use dbus_stream::{DeviceFault, Source};
 
-/// Gives this number of bytes a read, or those that are left. The read of this number, counted from 1, fails.
+/// Gives this number of bytes a read, or those that are left. The read of this number, counted from
+/// 1, fails.
 #[derive(Drop)]
 pub(crate) struct Pieces<'a> {
     /// The bytes that are left.

@@ -1,5 +1,5 @@
-//! Readers of raw messages whose bytes come in pieces, over sources that fail at each read and that may make few reads, and
-//! with each allocation failing.
+//! Readers of raw messages whose bytes come in pieces, over sources that fail at each read and that
+//! may make few reads, and with each allocation failing.
 
 use crate::captures::*;
 use crate::pieces::Pieces;
@@ -21,7 +21,8 @@ enum Call {
 
 use Call::{Advance, AdvanceKept, Next, PassOver};
 
-// What a call gives: the bytes of a message, none where it gives none; whether it passed over one; or a fault.
+// What a call gives: the bytes of a message, none where it gives none; whether it passed over one;
+// or a fault.
 #[derive(Clone, Copy)]
 enum Given<'a> {
     Gives(&'a [u8]),
@@ -97,7 +98,8 @@ fn calls_give<A: Allocator + Copy>(
     true
 }
 
-// The same, and whether the messages have so many bytes in the end, and so many reads were made and failed.
+// The same, and whether the messages have so many bytes in the end, and so many reads were made and
+// failed.
 fn is_read<A: Allocator + Copy>(
     reader: RawReader<Pieces, A>,
     script: &[(Call, Given)],
@@ -245,7 +247,8 @@ fn messages_and_faults(rt: HostRuntime) -> Result<(), Fail> {
     Ok(())
 }
 
-// The one message of these bytes, of one byte a read, where the read of this number fails, the last of which finds their end.
+// The one message of these bytes, of one byte a read, where the read of this number fails, the last
+// of which finds their end.
 fn read_fails(alloc: Global, bytes: &[u8], n: u64) -> bool {
     let size = bytes.len() as u64;
     let within = [
@@ -277,7 +280,8 @@ fn each_read_fails_once(rt: HostRuntime) {
 // So many messages that the last of them is cut by the end of the reader's buffer.
 const MANY: usize = 10_923;
 
-// Whether a reader gives the messages of these bytes, which come with one read. What lies in the buffer takes no memory.
+// Whether a reader gives the messages of these bytes, which come with one read. What lies in the
+// buffer takes no memory.
 fn gives_many<'a>(heap: &'a Refusing, bytes: &[u8]) -> bool {
     let mut reader = RawReader::new(heap, Pieces::new(bytes, bytes.len(), 0));
     for _ in 1..MANY {
@@ -299,8 +303,8 @@ fn a_message_that_two_reads_give(rt: HostRuntime) -> Result<(), Fail> {
     Ok(())
 }
 
-// Whether the allocation of this number fails in the call that gives a second message: the call made again gives it, and nothing is
-// lost. Nothing if it is not so.
+// Whether the allocation of this number fails in the call that gives a second message: the call
+// made again gives it, and nothing is lost. Nothing if it is not so.
 fn growth_refused<'a>(heap: &'a Refusing, bytes: &[u8], size: usize, n: u64) -> Option<bool> {
     let mut reader = RawReader::new(heap, Pieces::new(bytes, size, 0));
     let is_begun = call_gives(&mut reader, Advance, Gives(RETURN));
@@ -318,7 +322,8 @@ fn growth_refused<'a>(heap: &'a Refusing, bytes: &[u8], size: usize, n: u64) -> 
     }
 }
 
-// How many allocations that call meets, with so many bytes a read. Nothing if one of the runs goes wrong.
+// How many allocations that call meets, with so many bytes a read. Nothing if one of the runs goes
+// wrong.
 fn growths_of(alloc: Global, bytes: &[u8], size: usize) -> Option<u64> {
     for n in 1..100 {
         let heap = Refusing::none(alloc);

@@ -1,4 +1,5 @@
-//! Readers of messages whose bytes come in pieces, over sources that fail at each read, and with each allocation failing.
+//! Readers of messages whose bytes come in pieces, over sources that fail at each read, and with
+//! each allocation failing.
 
 use crate::captures::*;
 use crate::pieces::Pieces;
@@ -19,7 +20,8 @@ enum Call {
 
 use Call::{Next, NextKept};
 
-// What a call gives: the message that these bytes spell in its order, or none if they are none; or a fault.
+// What a call gives: the message that these bytes spell in its order, or none if they are none; or
+// a fault.
 #[derive(Clone, Copy)]
 enum Given<'a> {
     Gives(&'a [u8]),
@@ -100,7 +102,8 @@ fn a_message_and_a_prefix_of_it(rt: HostRuntime) -> Result<(), Fail> {
     Ok(())
 }
 
-// Whether calls of a reader give this, one after another; the messages have so many bytes in all, and so many reads were made and failed.
+// Whether calls of a reader give this, one after another; the messages have so many bytes in all,
+// and so many reads were made and failed.
 fn gives<A: Allocator + Copy>(
     alloc: A,
     reader: MessageReader<Pieces, A>,
@@ -139,8 +142,8 @@ const ENOUGH: &[(Call, Given<'static>)] = &[
     (Next, NOTHING),
 ];
 
-// How many reads a reader may make, and what its calls give where a method return comes one byte a read; how many bytes the
-// messages have, and how many reads were made and failed.
+// How many reads a reader may make, and what its calls give where a method return comes one byte a
+// read; how many bytes the messages have, and how many reads were made and failed.
 const FEW_READS: &[(u32, &[(Call, Given<'static>)], [u64; 3])] = &[
     (0, KEEPS_NONE, [0, 0, 0]),
     (2, TOO_FEW, [0, 2, 0]),
@@ -211,10 +214,11 @@ fn each_read_fails_once(rt: HostRuntime) {
     assert!(rt; each_read_fails(rt.alloc(), SIGNAL));
 }
 
-// A reader that finds a failing allocation: its input, and how many bytes of it come with each read; the calls before, and how
-// many bytes the messages have that they gave; the call that finds it, which asks for more allocations than this, and the message
-// that it gives if none is refused; what the calls after it give; how many bytes the messages have in the end, and how many
-// reads there were.
+// A reader that finds a failing allocation: its input, and how many bytes of it come with each
+// read; the calls before, and how many bytes the messages have that they gave; the call that finds
+// it, which asks for more allocations than this, and the message that it gives if none is refused;
+// what the calls after it give; how many bytes the messages have in the end, and how many reads
+// there were.
 type Refused = (
     &'static [&'static [u8]],
     usize,
@@ -249,7 +253,8 @@ const REFUSED: &[Refused] = &[
     (CUT, 999, &[], 0, Next, 0, RETURN, AT_5, [24, 2]),
 ];
 
-// Whether the reader, that found a failing allocation, kept all that was read: the call made again gives the message.
+// Whether the reader, that found a failing allocation, kept all that was read: the call made again
+// gives the message.
 fn goes_on<A: Allocator + Copy>(alloc: A, reader: MessageReader<Pieces, A>, row: &Refused) -> bool {
     let mut reader = reader;
     let (_, _, _, done_before, call, _, message, after, counts) = *row;
@@ -272,7 +277,8 @@ fn answer_of<R: Source, A: Allocator + Copy>(
     }
 }
 
-// Whether the allocation of this number fails: then the reader goes on as if nothing had happened. Nothing if it is not so.
+// Whether the allocation of this number fails: then the reader goes on as if nothing had happened.
+// Nothing if it is not so.
 fn growth_refused<'a>(heap: &'a Refusing, row: &Refused, bytes: &[u8], n: u64) -> Option<bool> {
     let (_, size, before, _, call, ..) = *row;
     let mut reader = MessageReader::new(heap, Pieces::new(bytes, size, 0));

@@ -66,8 +66,8 @@ pub(crate) fn ended(status: ExitStatus, first: Written, second: Written) -> End 
     }
 }
 
-/// How the command that the words name ends over this reader, by the settings that they name. The run alone takes memory of the
-/// heap.
+/// How the command that the words name ends over this reader, by the settings that they name. The
+/// run alone takes memory of the heap.
 pub(crate) fn ran<A: Allocator + Copy, R: Source + Drop>(
     alloc: Global,
     heap: A,

@@ -1,4 +1,5 @@
-//! Readers and writers of std's as devices: a call of the device is one call of what is below, and a failure is told at once.
+//! Readers and writers of std's as devices: a call of the device is one call of what is below, and
+//! a failure is told at once.
 
 ghost use Rattle.std.specs.Prelude.{◌≤◌, IfOk};
 

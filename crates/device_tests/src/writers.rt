@@ -51,7 +51,8 @@ fn a_writer_that_fails_at_each_byte(rt: HostRuntime) {
     assert!(rt; sink.calls == 96 && sink.failures == 0);
 }
 
-// Whether the first write of this message is refused memory, with no call of the sink, and the second is not.
+// Whether the first write of this message is refused memory, with no call of the sink, and the
+// second is not.
 fn is_written_at_last<'a>(
     heap: &'a Refusing,
     message: &Message<&'a Refusing>,

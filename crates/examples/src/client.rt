@@ -1,10 +1,11 @@
 //! A client of a message bus, whose connection to it is standard input and output.
 //!
-//! It does the client's side of the handshake, calls `Hello` and then `ListNames`, reports on standard error the name that it
-//! got and the names that are on the bus, and ends.
+//! It does the client's side of the handshake, calls `Hello` and then `ListNames`, reports on
+//! standard error the name that it got and the names that are on the bus, and ends.
 //!
-//! It authenticates by EXTERNAL, and by ANONYMOUS if the bus rejects that. It comes as the user that is given, or else as the
-//! one that the transport reports. If an answer did not come, standard error says why, and the exit status is 1.
+//! It authenticates by EXTERNAL, and by ANONYMOUS if the bus rejects that. It comes as the user
+//! that is given, or else as the one that the transport reports. If an answer did not come,
+//! standard error says why, and the exit status is 1.
 
 use crate::session::Session;
 use anyhow::{Result, bail};

@@ -26,7 +26,8 @@ pub(crate) struct Connection {
 }
 
 impl Connection {
-    /// A connection on which nothing came yet. EXTERNAL is offered if there is a user, and otherwise ANONYMOUS.
+    /// A connection on which nothing came yet. EXTERNAL is offered if there is a user, and
+    /// otherwise ANONYMOUS.
     pub(crate) fn new(alloc: Global, user: Option<u32>) -> Self {
         Connection {
             alloc,
@@ -39,9 +40,10 @@ impl Connection {
 
     /// Takes all bytes of the piece, and appends those that are to be sent.
     ///
-    /// A line or a message may end anywhere in a piece. So one call of an end or of a cutter takes at most one of them, and
-    /// says how many bytes it took: the others are handed in again. The last lines of the handshake and the first messages
-    /// may come in one piece, and an end takes nothing after the handshake.
+    /// A line or a message may end anywhere in a piece. So one call of an end or of a cutter takes
+    /// at most one of them, and says how many bytes it took: the others are handed in again. The
+    /// last lines of the handshake and the first messages may come in one piece, and an end takes
+    /// nothing after the handshake.
     pub(crate) fn take(&mut self, piece: &[u8], send: &mut Vec<u8>) -> Result<()> {
         let mut rest = piece;
         // Each round takes a byte at least.

@@ -1,8 +1,8 @@
 //! Reads a message from standard input, and writes a call to its sender to standard output.
 //!
-//! The call is of `org.example.Greeter.Greet`, on the path that the message was for, with the message's member as its
-//! argument, and in the message's byte order. If there is none to be made, standard error says why, and the exit status
-//! is 1.
+//! The call is of `org.example.Greeter.Greet`, on the path that the message was for, with the
+//! message's member as its argument, and in the message's byte order. If there is none to be made,
+//! standard error says why, and the exit status is 1.
 
 use anyhow::{Context, Result, bail};
 use dbus_message::{Answer, Compose, Message, decode, encode};

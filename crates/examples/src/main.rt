@@ -1,7 +1,8 @@
-//! `examples WORD [USER]`: four programs that use the libraries as another program would, each in a file of its own.
+//! `examples WORD [USER]`: four programs that use the libraries as another program would, each in a
+//! file of its own.
 //!
-//! The word is `greet`, `values`, `service` or `client`; these files say what each does. The user of a service or a client is the
-//! number of one.
+//! The word is `greet`, `values`, `service` or `client`; these files say what each does. The user
+//! of a service or a client is the number of one.
 #![tactic(auto)]
 
 mod client;

@@ -40,8 +40,8 @@ fn greet(alloc: Global, call: &Message) -> Result<Outcome, AllocError> {
     }
 }
 
-/// Does what a call asks for. A call may leave out the interface, and then its member alone says which method is called.
-/// D-Bus Specification, "Standard Interfaces" and "Message Bus Messages".
+/// Does what a call asks for. A call may leave out the interface, and then its member alone says
+/// which method is called. D-Bus Specification, "Standard Interfaces" and "Message Bus Messages".
 pub(crate) fn run(alloc: Global, call: &Message) -> Result<Outcome, AllocError> {
     let interface = call.interface().unwrap_or("");
     let member = call.member().unwrap_or("");

@@ -1,11 +1,13 @@
 //! A D-Bus peer whose connection to its one client is standard input and output.
 //!
-//! It does the server's side of the handshake and then answers calls, in the byte order of each: `Hello` as a message bus
-//! does, `Ping`, `Introspect`, its own method `org.example.Greeter.Greet`, and any other by the error `UnknownMethod`.
+//! It does the server's side of the handshake and then answers calls, in the byte order of each:
+//! `Hello` as a message bus does, `Ping`, `Introspect`, its own method `org.example.Greeter.Greet`,
+//! and any other by the error `UnknownMethod`.
 //!
-//! The user is the client's, as the transport reports it: the client has to authenticate as that user, by EXTERNAL. Without
-//! one anybody may come, by ANONYMOUS. If the client left between two messages, the exit status is 0; if it did not, or sent
-//! what is no handshake or no message, standard error says so, and it is 1.
+//! The user is the client's, as the transport reports it: the client has to authenticate as that
+//! user, by EXTERNAL. Without one anybody may come, by ANONYMOUS. If the client left between two
+//! messages, the exit status is 0; if it did not, or sent what is no handshake or no message,
+//! standard error says so, and it is 1.
 use crate::connection::Connection;
 use anyhow::Result;
 use std::io::{Read, Write};

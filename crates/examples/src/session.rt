@@ -46,11 +46,11 @@ impl Session {
         })
     }
 
-    /// Takes the bytes of the piece, and appends those that are to be sent. If the reply to `ListNames` is among them, it
-    /// gives that, and the session is over.
+    /// Takes the bytes of the piece, and appends those that are to be sent. If the reply to
+    /// `ListNames` is among them, it gives that, and the session is over.
     ///
-    /// A line or a message may end anywhere in a piece. So one call of an end or of a cutter takes at most one of them, and
-    /// says how many bytes it took: the others are handed in again.
+    /// A line or a message may end anywhere in a piece. So one call of an end or of a cutter takes
+    /// at most one of them, and says how many bytes it took: the others are handed in again.
     pub(crate) fn take(&mut self, piece: &[u8], send: &mut Vec<u8>) -> Result<Option<Message>> {
         let mut rest = piece;
         // Each round takes a byte at least.
@@ -72,7 +72,8 @@ impl Session {
         Ok(None)
     }
 
-    // Takes at most one line of the handshake, after whose last line `Hello` is called, and says how many bytes that were.
+    // Takes at most one line of the handshake, after whose last line `Hello` is called, and says
+    // how many bytes that were.
     fn take_line(&mut self, bytes: &[u8], send: &mut Vec<u8>) -> Result<usize> {
         let step = self.end.take(bytes)?;
         send.extend_from_slice(&step.send)?;
@@ -87,8 +88,9 @@ impl Session {
         Ok(step.taken)
     }
 
-    // Takes at most one message, and says how many bytes that were. It gives the message if it is the reply to
-    // `ListNames`, which is called after the reply to `Hello`. Others, as the signal that the client has a name, are ignored.
+    // Takes at most one message, and says how many bytes that were. It gives the message if it is
+    // the reply to `ListNames`, which is called after the reply to `Hello`. Others, as the signal
+    // that the client has a name, are ignored.
     fn take_message(
         &mut self,
         bytes: &[u8],
@@ -108,7 +110,8 @@ impl Session {
         }
     }
 
-    // Appends a call of a method of the bus, which takes nothing. D-Bus Specification, "Message Bus Messages".
+    // Appends a call of a method of the bus, which takes nothing. D-Bus Specification, "Message Bus
+    // Messages".
     fn append_call(&self, serial: u32, member: &str, send: &mut Vec<u8>) -> Result<()> {
         let message = Message::call(self.alloc, "/org/freedesktop/DBus", member)
             .interface("org.freedesktop.DBus")
@@ -120,7 +123,8 @@ impl Session {
     }
 }
 
-// The serial of the call that the message replies to, if it is a reply. The fault is that it replies by an error.
+// The serial of the call that the message replies to, if it is a reply. The fault is that it
+// replies by an error.
 fn call_of(message: &Message) -> Result<Option<u32>> {
     let Some(Value::U32(serial)) = field(message, field_code::REPLY_SERIAL) else {
         return Ok(None);

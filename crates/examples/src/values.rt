@@ -1,8 +1,8 @@
-//! Prints the values of the messages on standard input, in place. No tree is built but of a property that is a
-//! container.
+//! Prints the values of the messages on standard input, in place. No tree is built but of a
+//! property that is a container.
 //!
-//! Of `NameOwnerChanged` it prints the name and its owners, of `PropertiesChanged` each property and its new value, and of any
-//! other message the numbers of each array of UINT32 in its body.
+//! Of `NameOwnerChanged` it prints the name and its owners, of `PropertiesChanged` each property
+//! and its new value, and of any other message the numbers of each array of UINT32 in its body.
 
 use anyhow::{Result, bail};
 use dbus_message::{
@@ -33,7 +33,8 @@ fn print_plain(rt: &HostRuntime, name: &str, value: &ValueView) -> Result<()> {
     Ok(())
 }
 
-// A property's value, as a variant holds it. A struct is copied, as to keep it when the bytes are gone.
+// A property's value, as a variant holds it. A struct is copied, as to keep it when the bytes are
+// gone.
 fn print_property(rt: &HostRuntime, alloc: Global, name: &str, held: Values) -> Result<()> {
     if held.first_code() == Some(b'(') {
         if let Some(Value::Struct(fields)) = copy_value(alloc, &held)? {

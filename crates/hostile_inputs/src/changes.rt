@@ -1,7 +1,8 @@
-//! Five messages, of which each byte is changed to each other value, as all readers of messages answer them.
+//! Five messages, of which each byte is changed to each other value, as all readers of messages
+//! answer them.
 //!
-//! Of each message it prints how many of its prefixes are partial, how many of the changed messages decoding finds whole,
-//! refused and partial, and how often a reader answers otherwise.
+//! Of each message it prints how many of its prefixes are partial, how many of the changed messages
+//! decoding finds whole, refused and partial, and how often a reader answers otherwise.
 
 ghost use Rattle.std.specs.Prelude.{◌<◌, ◌≡◌, length};
 
@@ -14,7 +15,8 @@ use std::io;
 // Of a changed message every so many splits are tried; which, changes with the byte's value.
 const STEP: usize = 4;
 
-// The messages that differ from these bytes in the byte at one offset, which has each other value in turn.
+// The messages that differ from these bytes in the byte at one offset, which has each other value
+// in turn.
 fn change_byte(readers: &mut Readers, bytes: &mut [u8], at: usize, tally: &mut Tally)
     requires { at < length bytes.old }
     ensures { length bytes.new ≡ length bytes.old }

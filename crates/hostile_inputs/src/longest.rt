@@ -1,6 +1,7 @@
 //! A message of 2^27 bytes, the most that one may have, and one that states a byte more.
 //!
-//! Both are replies to serial 1. The body is two arrays of BYTE, the first of 2^26 bytes, the most that an array may have.
+//! Both are replies to serial 1. The body is two arrays of BYTE, the first of 2^26 bytes, the most
+//! that an array may have.
 
 use crate::parts::{Part, Parts};
 use crate::reading::{built, checked};

@@ -1,5 +1,6 @@
-//! `hostile_inputs`: messages of which each byte is changed, a message as long as any may be and one that is longer, and a million
-//! messages one after the other, as the readers of messages answer them.
+//! `hostile_inputs`: messages of which each byte is changed, a message as long as any may be and
+//! one that is longer, and a million messages one after the other, as the readers of messages
+//! answer them.
 //!
 //! It prints what came of each. It reads no input.
 #![tactic(auto)]

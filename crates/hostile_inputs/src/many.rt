@@ -1,4 +1,5 @@
-//! A million messages of 24 bytes, of which each read gives the second half of one and the first of the next.
+//! A million messages of 24 bytes, of which each read gives the second half of one and the first of
+//! the next.
 
 use crate::parts::{Part, Parts};
 use crate::reading::{Answer, built, checked};
@@ -21,7 +22,8 @@ const MESSAGES: &[Part] = &[
     (b"\x08\0\0\0\x05\x01u\0\x01\0\0\0", 1),
 ];
 
-// What a round came to: how many messages were given, how many allocations they took, and how many blocks are out.
+// What a round came to: how many messages were given, how many allocations they took, and how many
+// blocks are out.
 #[derive(Clone, Copy, PartialEq, Eq)]
 struct Round {
     given: u64,

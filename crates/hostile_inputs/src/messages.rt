@@ -6,7 +6,8 @@ const REPLY: &[u8] = b"l\x02\x01\x01\0\0\0\0\x01\0\0\0\x08\0\0\0\x05\x01u\0\x01\
 // The same in the other order.
 const BIG_REPLY: &[u8] = b"B\x02\x01\x01\0\0\0\0\0\0\0\x01\0\0\0\x08\x05\x01u\0\0\0\0\x01";
 
-// Replies with an empty array of INT64 in the body, after the number 7 and alone. The last 4 bytes of the second are padding.
+// Replies with an empty array of INT64 in the body, after the number 7 and alone. The last 4 bytes
+// of the second are padding.
 const NUMBER_AND_ARRAY: &[u8] =
     b"l\x02\0\x01\x08\0\0\0\x01\0\0\0\x11\0\0\0\x05\x01u\0\x01\0\0\0\x08\x01g\0\x03uax\0\0\0\0\0\0\0\0\x07\0\0\0\0\0\0\0";
 

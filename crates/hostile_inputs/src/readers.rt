@@ -27,7 +27,8 @@ fn checked(checker: &mut Checker, before: usize, piece: &[u8]) -> Answer {
     }
 }
 
-// What a cutter answers of a piece, before which it was handed this number of bytes. If more are wanted it holds all of them.
+// What a cutter answers of a piece, before which it was handed this number of bytes. If more are
+// wanted it holds all of them.
 fn cut(cutter: &mut Cutter, before: usize, piece: &[u8]) -> Answer {
     match cutter.take(piece) {
         Ok((count, Some(_))) => Answer::Whole(before.saturating_add(count)),
@@ -52,7 +53,8 @@ fn unseen(bytes: &[u8], right: Answer) -> Option<Fault> {
     })
 }
 
-// What a checker answers of the first bytes, and then of all. An answer other than that more are wanted stands.
+// What a checker answers of the first bytes, and then of all. An answer other than that more are
+// wanted stands.
 fn checked_in_two(checker: &mut Checker, front: &[u8], rest: &[u8]) -> [Answer; 2] {
     checker.restart();
     match checked(checker, 0, front) {
@@ -90,8 +92,8 @@ pub(crate) struct Readers {
 }
 
 impl Readers {
-    // How many answers of a checker and of a cutter are another in these splits in two: of the first piece, which decoding of that
-    // piece tells, and of both.
+    // How many answers of a checker and of a cutter are another in these splits in two: of the
+    // first piece, which decoding of that piece tells, and of both.
     fn in_two_differs(&mut self, bytes: &[u8], right: Answer, splits: Splits) -> u64 {
         let mut count = 0u64;
         for n in (splits.first..bytes.len() + 1).step_by(splits.step.max(1)) {

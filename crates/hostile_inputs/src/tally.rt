@@ -23,7 +23,8 @@ impl Tally {
         }
     }
 
-    /// Counts what decoding answers of a changed message. Any answer but the three is a disagreement.
+    /// Counts what decoding answers of a changed message. Any answer but the three is a
+    /// disagreement.
     pub(crate) fn count(&mut self, answer: Answer) {
         let count = match answer {
             Answer::Whole(_) => &mut self.whole,

@@ -48,7 +48,8 @@ impl<'a> Asked<'a> {
         Asked { end, ..self }
     }
 
-    /// The same value if no container is open, under the limits of the specification and with any index.
+    /// The same value if no container is open, under the limits of the specification and with any
+    /// index.
     pub(crate) fn alone(self) -> Asked<'a> {
         Asked {
             open: 0,

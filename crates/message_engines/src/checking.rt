@@ -73,7 +73,8 @@ pub(crate) fn check_in_two(
     }
 }
 
-/// With which byte, handed over one by one, a checker says something else than that more are wanted, and what.
+/// With which byte, handed over one by one, a checker says something else than that more are
+/// wanted, and what.
 pub(crate) fn check_by_bytes(asked: Asked<'_>, bytes: &[u8]) -> (usize, Outcome) {
     let mut values = Values::new();
     if !begin(&mut values, asked) {

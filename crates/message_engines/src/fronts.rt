@@ -150,7 +150,8 @@ fn say_fronts(reply: &mut Reply, alloc: Global, kind: Kind, bytes: &[u8], limits
     say_places(reply, &mut fronts, 0, bytes.len());
 }
 
-/// Answers what a message is that bytes begin with, or what each engine says of their fronts. False says that the question is another.
+/// Answers what a message is that bytes begin with, or what each engine says of their fronts. False
+/// says that the question is another.
 pub(crate) fn answer(reply: &mut Reply, alloc: Global, question: Question<'_>) -> bool {
     let limits = question.limits();
     match (question.word(0), kind_of(question.word(1))) {

@@ -45,7 +45,8 @@ fn say_value(reply: &mut Reply, view: &MessageView, n: usize) {
     }
 }
 
-/// Adds what a view gives of the header, of each value of the body, and of values that are not there.
+/// Adds what a view gives of the header, of each value of the body, and of values that are not
+/// there.
 pub(crate) fn say_header(reply: &mut Reply, view: &MessageView) {
     reply.word(order_word(view.order()));
     reply.number(u64::from(view.kind()));

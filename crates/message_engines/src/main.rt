@@ -1,7 +1,9 @@
-//! `message_engines`: answers questions on texts, values and messages, of which `cases/run.py` has the right answers.
+//! `message_engines`: answers questions on texts, values and messages, of which `cases/run.py` has
+//! the right answers.
 //!
-//! Each line of its input is a question (`case_questions`), and each line that it prints the answer to one. cases/README.md says which
-//! questions any implementation can answer; the others ask each call of the libraries that reads or writes such bytes.
+//! Each line of its input is a question (`case_questions`), and each line that it prints the answer
+//! to one. cases/README.md says which questions any implementation can answer; the others ask each
+//! call of the libraries that reads or writes such bytes.
 #![tactic(auto)]
 
 mod asked;

@@ -9,7 +9,8 @@ pub(crate) trait Engine {
     fn outcome(&mut self, place: usize) -> Outcome;
 }
 
-/// Adds the outcomes from the first place to the last: each with the place from which on it is the outcome.
+/// Adds the outcomes from the first place to the last: each with the place from which on it is the
+/// outcome.
 pub(crate) fn say_places<E: Engine>(reply: &mut Reply, engine: &mut E, first: usize, last: usize) {
     let mut before = None;
     for place in first..=last {

@@ -42,7 +42,8 @@ pub(crate) fn read(alloc: Global, asked: Asked<'_>, bytes: &[u8]) -> Outcome {
     }
 }
 
-/// The value of a message's bytes, if no container is open and under the limits of the specification, if there is one.
+/// The value of a message's bytes, if no container is open and under the limits of the
+/// specification, if there is one.
 pub(crate) fn value_of(alloc: Global, asked: Asked<'_>, bytes: &[u8]) -> Option<Value> {
     match read_value(alloc, asked.alone(), bytes) {
         Ok((value, _)) => Some(value),

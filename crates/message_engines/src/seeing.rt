@@ -24,7 +24,8 @@ fn number_of(seen: &ValueView) -> Option<(&'static str, u64)> {
     }
 }
 
-// A value that is no container but an array of bytes: the code of its type, and its number, its text or its bytes.
+// A value that is no container but an array of bytes: the code of its type, and its number, its
+// text or its bytes.
 fn say_plain(reply: &mut Reply, seen: &ValueView) {
     match seen {
         ValueView::Str(text) => reply.spelled("s", text.as_bytes()),

@@ -70,7 +70,8 @@ fn reply_of(alloc: Global, value: Value, signature: String) -> Result<Parts, All
     })
 }
 
-/// The text of a reply with a value as its body, which has this signature, or the empty text if there is none.
+/// The text of a reply with a value as its body, which has this signature, or the empty text if
+/// there is none.
 pub(crate) fn reply_text(
     alloc: Global,
     value: Value,

@@ -1,4 +1,5 @@
-//! What is made of a whole message: its encodings, its other order, its parts, its text, and the message of its parts.
+//! What is made of a whole message: its encodings, its other order, its parts, its text, and the
+//! message of its parts.
 
 use crate::headers::say_header;
 use crate::seeing::say_seen;

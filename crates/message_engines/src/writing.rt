@@ -27,7 +27,8 @@ fn word_of(outcome: Result<bool, ValueFault>) -> &'static str {
     }
 }
 
-// Whether a value is written as the message's bytes from `asked.at` on. A writer that refuses leaves what there was.
+// Whether a value is written as the message's bytes from `asked.at` on. A writer that refuses
+// leaves what there was.
 fn is_put_within(
     alloc: Global,
     value: &Value,
@@ -71,7 +72,8 @@ fn is_sized(value: &Value, asked: Asked<'_>, bytes: &[u8]) -> Result<bool, Value
     Ok(end == bytes.len() as u64)
 }
 
-// The same by a measure, which knows no limit on messages, and by a size under the limits of the specification.
+// The same by a measure, which knows no limit on messages, and by a size under the limits of the
+// specification.
 fn is_measured(value: &Value, asked: Asked<'_>, bytes: &[u8]) -> bool
     requires { HasShortSignatures (value_tree value.now) }
 {
@@ -91,8 +93,9 @@ fn say_written(reply: &mut Reply, alloc: Global, value: &Value, asked: Asked<'_>
     reply.word(word_of(Ok(is_measured(value, asked, bytes))));
 }
 
-/// Adds whether the value has an index of a descriptor that is too great, what checks say of it, the second one under the limits of the
-/// specification, and, if the first one accepts it, what writers do.
+/// Adds whether the value has an index of a descriptor that is too great, what checks say of it,
+/// the second one under the limits of the specification, and, if the first one accepts it, what
+/// writers do.
 pub(crate) fn say_writing(
     reply: &mut Reply,
     alloc: Global,

@@ -5,7 +5,8 @@ use dbus_message::{Answer, Message, decode, encode};
 use dbus_value::Order;
 use std::alloc::Global;
 
-/// The message that the bytes are, in this order and with none left over, if encoding it gives them back.
+/// The message that the bytes are, in this order and with none left over, if encoding it gives them
+/// back.
 pub fn whole(alloc: Global, bytes: &[u8], in_order: Order) -> Option<Message> {
     match decode(alloc, bytes) {
         Ok(

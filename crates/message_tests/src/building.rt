@@ -45,8 +45,8 @@ const MESSAGES: &[(Row, Option<&[u8]>)] = &[
     ((5, 1, &[(8, Item::Sig("v"))], &[Item::Nested(64)]), None),
 ];
 
-// The longest field array: before its bytes, its contents have 12, the field's code, its signature, a padding and a
-// length.
+// The longest field array: before its bytes, its contents have 12, the field's code, its signature,
+// a padding and a length.
 const LONGEST: Row = (5, 1, &[(10, Item::Zeros(67_108_852))], &[]);
 
 const REFUSED: &[(Row, BuildFault)] = &[
@@ -167,10 +167,12 @@ const REFUSED: &[(Row, BuildFault)] = &[
     ),
 ];
 
-// The parts of a message of 24 bytes, whose field array has 8 and whose field's value stands within three containers.
+// The parts of a message of 24 bytes, whose field array has 8 and whose field's value stands within
+// three containers.
 const SHORT: Row = (2, 1, &[(5, Item::U32(1))], &[]);
 
-// Limits on messages, arrays and open containers, and the first case that holds of those parts under them.
+// Limits on messages, arrays and open containers, and the first case that holds of those parts
+// under them.
 const LIMITED: &[(u32, u32, u8, Option<BuildFault>)] = &[
     (24, 8, 3, None),
     (23, 67_108_864, 64, Some(BuildFault::MessageTooLong)),
@@ -243,7 +245,8 @@ fn refused(alloc: Global, parts: Parts) -> Option<(BuildFault, usize, usize)> {
     }
 }
 
-// Whether parts are a message, which comes back from its bytes in both orders, and these are its bytes in one.
+// Whether parts are a message, which comes back from its bytes in both orders, and these are its
+// bytes in one.
 fn is_message(alloc: Global, parts: Parts, wanted: Option<&[u8]>) -> bool {
     let Ok(message) = Message::new(alloc, parts) else {
         return false;
@@ -299,8 +302,8 @@ fn keeps(alloc: Global, parts: Parts, limits: Limits) -> Option<bool> {
     }
 }
 
-// Whether a row's parts have this fault under limits, or none. The message keeps the limits exactly where its parts are a message under
-// them.
+// Whether a row's parts have this fault under limits, or none. The message keeps the limits exactly
+// where its parts are a message under them.
 fn is_judged(
     alloc: Global,
     row: &Row,
@@ -321,7 +324,8 @@ fn parts_under_limits(rt: HostRuntime) -> Result<(), Fail> {
     Ok(())
 }
 
-// The index 0 in a body, of which no descriptors come, one does, and one is said by a field of another code.
+// The index 0 in a body, of which no descriptors come, one does, and one is said by a field of
+// another code.
 const INDEXED: &[(Row, Option<BuildFault>)] = &[
     (
         (

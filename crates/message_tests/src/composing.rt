@@ -240,7 +240,8 @@ fn chained<'h>(heap: &'h Refusing, spare: &'h Refusing, row: &Row) -> Ending {
     }
 }
 
-// Whether the nth allocation of a row failed. Nothing if it ended otherwise than it should, or a block is left.
+// Whether the nth allocation of a row failed. Nothing if it ended otherwise than it should, or a
+// block is left.
 fn is_refused(alloc: Global, n: u64, row: &Row) -> Option<bool> {
     let heap = Refusing::nth(alloc, n);
     let spare = Refusing::none(alloc);
@@ -270,8 +271,9 @@ fn growths_of(alloc: Global, row: &Row) -> Option<u64> {
     None
 }
 
-// If an allocation fails, the chain goes on to its end, which reports it, and all that was taken is given back. If none is, the message is
-// made, or the fault is reported. The path alone takes memory.
+// If an allocation fails, the chain goes on to its end, which reports it, and all that was taken is
+// given back. If none is, the message is made, or the fault is reported. The path alone takes
+// memory.
 #[test]
 fn composed_with_each_growth_refused(rt: HostRuntime) {
     for (n, row) in COMPOSED.iter().enumerate() {

@@ -1,4 +1,5 @@
-//! Each allocation of decoding, of copying values, of encoding and of making a message of its parts failing in turn.
+//! Each allocation of decoding, of copying values, of encoding and of making a message of its parts
+//! failing in turn.
 #![tactic(auto)]
 
 use dbus_message::{
@@ -65,7 +66,8 @@ fn decoded<A: Allocator + Copy>(alloc: A, bytes: &[u8], limits: Limits) -> Endin
     }
 }
 
-// A call over the bytes of a message: it is decoded, or the first value of its body is copied, or all of them.
+// A call over the bytes of a message: it is decoded, or the first value of its body is copied, or
+// all of them.
 #[derive(Clone, Copy)]
 enum Call {
     Decode,
@@ -92,8 +94,8 @@ fn called<A: Allocator + Copy>(alloc: A, asked: Asked<'_>) -> Ending {
     }
 }
 
-// What is called, over which bytes, under which limits, how that ends, and a number of allocations that it takes at least, or exactly if it
-// is 0.
+// What is called, over which bytes, under which limits, how that ends, and a number of allocations
+// that it takes at least, or exactly if it is 0.
 const CALLED: &[(Call, &[u8], Numbers, Ending, u64)] = &[
     (Call::Decode, SIGNAL, SPECIFICATION, Ending::Done, 6),
     (Call::CopyFirst, SIGNAL, SPECIFICATION, Ending::Done, 1),
@@ -115,7 +117,8 @@ const CALLED: &[(Call, &[u8], Numbers, Ending, u64)] = &[
 // How many allocations a call takes, with the nth failing and then again: nothing if that failed.
 type Growths = Option<u64>;
 
-// What a call takes with the nth allocation failing, and then again. No answer if it ends otherwise than it should, or a block is left.
+// What a call takes with the nth allocation failing, and then again. No answer if it ends otherwise
+// than it should, or a block is left.
 fn call_refused(alloc: Global, n: u64, asked: Asked<'_>, right: Ending) -> Option<Growths> {
     let heap = Refusing::nth(alloc, n);
     let ending = called(&heap, asked);
@@ -142,8 +145,9 @@ fn growths_of(alloc: Global, asked: Asked<'_>, right: Ending) -> Option<u64> {
     None
 }
 
-// If an allocation fails the answer is out of memory, all that was taken is given back, and the same call made again
-// answers the message, or the values. Bytes that are refused take no memory, and neither does copying no value.
+// If an allocation fails the answer is out of memory, all that was taken is given back, and the
+// same call made again answers the message, or the values. Bytes that are refused take no memory,
+// and neither does copying no value.
 #[test]
 fn calls_with_each_growth_refused(rt: HostRuntime) {
     for (row, (call, bytes, numbers, right, least)) in CALLED.iter().enumerate() {
@@ -205,7 +209,8 @@ fn encoded_into<A: Allocator>(out: &mut Vec<u8, A>, message: &Message<A>, wanted
 // How many bytes a vector holds that the signal is encoded into.
 const HELD: &[usize] = &[0, 1, 7, 95];
 
-// Whether encoding into a vector that holds these bytes ends as it should: with its allocation failing, again, and if there is room.
+// Whether encoding into a vector that holds these bytes ends as it should: with its allocation
+// failing, again, and if there is room.
 fn encodes_into<'h>(
     heap: &'h Refusing,
     out: &mut Vec<u8, &'h Refusing>,
@@ -229,8 +234,8 @@ fn encodes_into_held<'h>(heap: &'h Refusing, message: &Message<&'h Refusing>, he
     }
 }
 
-// If the vector has too little room one allocation is asked for. If that fails the vector holds what it held, and
-// the same call made again encodes. If there is room no allocation is asked for.
+// If the vector has too little room one allocation is asked for. If that fails the vector holds
+// what it held, and the same call made again encodes. If there is room no allocation is asked for.
 #[test]
 fn encode_into_with_its_growth_refused(rt: HostRuntime) {
     let heap = Refusing::none(rt.alloc());
@@ -244,8 +249,8 @@ fn encode_into_with_its_growth_refused(rt: HostRuntime) {
     }
 }
 
-// Parts of a message of type 5: a field of an unknown code, the signature `ayv`, and two values, whose types have to be
-// made out.
+// Parts of a message of type 5: a field of an unknown code, the signature `ayv`, and two values,
+// whose types have to be made out.
 const PARTS: &[u8] =
     b"l\x05\0\x01\x08\0\0\0\x01\0\0\0\x19\0\0\0\x0a\x03(u)\0\0\0\x01\0\0\0\0\0\0\0\x08\x01g\0\x03ayv\0\0\0\0\0\0\0\0\0\0\0\0\x01y\0\x01";
 
@@ -269,7 +274,8 @@ enum Change {
     Variants(usize),
 }
 
-// The bytes of a message, what is changed in its parts, the limits under which a message is made of them, and how that ends.
+// The bytes of a message, what is changed in its parts, the limits under which a message is made of
+// them, and how that ends.
 const BUILT: &[(&[u8], Change, Numbers, Ending)] = &[
     (PARTS, Change::Nothing, SPECIFICATION, Ending::Done),
     (
@@ -376,7 +382,8 @@ fn parts_of<A: Allocator + Copy>(alloc: A, bytes: &[u8], change: Change) -> Opti
     }
 }
 
-// A message made of its parts under limits, by the call without them if they are the specification's.
+// A message made of its parts under limits, by the call without them if they are the
+// specification's.
 fn made<A: Allocator + Copy>(
     alloc: A,
     parts: Parts<A>,
@@ -407,7 +414,8 @@ fn making_ended<A: Allocator + Copy>(
     }
 }
 
-// How making a message of changed parts ended with its first allocation failing, and how many it asked for.
+// How making a message of changed parts ended with its first allocation failing, and how many it
+// asked for.
 fn new_refused<'h>(
     heap: &'h Refusing,
     bytes: &[u8],
@@ -424,7 +432,8 @@ fn new_refused<'h>(
     Some((making_ended(heap, &made, bytes), growths))
 }
 
-// Making a message of its parts takes no memory, however it ends: with the first allocation failing none is asked for.
+// Making a message of its parts takes no memory, however it ends: with the first allocation failing
+// none is asked for.
 #[test]
 fn new_takes_no_memory(rt: HostRuntime) {
     for (n, (bytes, change, numbers, right)) in BUILT.iter().enumerate() {

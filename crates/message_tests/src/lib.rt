@@ -1,5 +1,6 @@
-//! Tests of `dbus_message` and `dbus_check`: messages built of their parts, looked up and encoded into what held others, stated
-//! lengths, checkers that begin again, counts by names, and each allocation failing. The bytes of messages are cases of `cases/data`.
+//! Tests of `dbus_message` and `dbus_check`: messages built of their parts, looked up and encoded
+//! into what held others, stated lengths, checkers that begin again, counts by names, and each
+//! allocation failing. The bytes of messages are cases of `cases/data`.
 #![tactic(auto)]
 
 #[cfg(test)]

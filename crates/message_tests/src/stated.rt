@@ -4,7 +4,8 @@
 use dbus_message::stated_length;
 use dbus_value::{Fault, Reason};
 
-// Bytes; how many the message has that they begin with, or where and why they are refused; and how many of them tell it.
+// Bytes; how many the message has that they begin with, or where and why they are refused; and how
+// many of them tell it.
 const STATED: &[(&[u8], Result<u64, (u64, Reason)>, usize)] = &[
     (b"\x6c\x02\0\x01\0\0\0\0\x01\0\0\0\x08\0\0\0", Ok(24), 16),
     (b"\x42\x02\0\x01\0\0\0\0\0\0\0\x01\0\0\0\x08", Ok(24), 16),

@@ -1,4 +1,5 @@
--- Calls of the methods of `Plan` that take a `&` to it alone, have no clauses and answer a value of R.
+-- Calls of the methods of `Plan` that take a `&` to it alone, have no clauses and answer a value of
+-- R.
 --     Asks             the contract of such a method
 --     asked            a call of it: a `&` at lifetime κ to the plan at p, and the share q of κ's token
 --     goes_in, comes_out      what the call is handed, and what the caller has after it

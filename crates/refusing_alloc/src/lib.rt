@@ -5,8 +5,8 @@
 //! a call fail in turn, and see that the error came back and that no block leaked.
 //!
 //! The code under test is generic over its allocator, as `A: Allocator + Copy`, and the test hands
-//! it `&heap`. Below, `copy_of` is the call under test. What it works on is made first, with nothing
-//! refused, and `refuse_nth` then starts the counts anew:
+//! it `&heap`. Below, `copy_of` is the call under test. What it works on is made first, with
+//! nothing refused, and `refuse_nth` then starts the counts anew:
 //!
 //! ```text
 //! let mut met = 0;
@@ -35,9 +35,9 @@
 //!   [`Refusing::growths`], and writes no such number down.
 //! - The counts are cells, so one thread uses an allocator.
 //!
-//! It is proved that this is an allocator: a block has the size and alignment that was asked for and
-//! goes back to where it came from, and a `grow` or `shrink` keeps the items. No contract says what a
-//! cell holds, so the counts, and which growth is refused, are only tested.
+//! It is proved that this is an allocator: a block has the size and alignment that was asked for
+//! and goes back to where it came from, and a `grow` or `shrink` keeps the items. No contract says
+//! what a cell holds, so the counts, and which growth is refused, are only tested.
 #![tactic(auto)]
 
 ghost use Rattle.std.specs.Prelude.{◌<◌, ◌^◌};
@@ -115,8 +115,8 @@ impl<A: Allocator> Refusing<A> {
         self.plan.refusals()
     }
 
-    /// How many blocks are out: growths passed on, less blocks given back. It is 0 once all that was
-    /// allocated here is dropped.
+    /// How many blocks are out: growths passed on, less blocks given back. It is 0 once all that
+    /// was allocated here is dropped.
     ///
     /// A growth that `inner` itself refuses stays counted, as one of more than `isize::MAX` bytes.
     pub fn blocks(&self) -> u64

@@ -58,7 +58,8 @@ fn say_of_rule(reply: &mut Reply, alloc: Global, question: Question) -> Option<(
     say_match(reply, alloc, text.as_str(), &bytes, question)
 }
 
-// Of bytes of the handshake: the lines that they are cut into, what a line means, and what ends make of them.
+// Of bytes of the handshake: the lines that they are cut into, what a line means, and what ends
+// make of them.
 fn say_of_handshake(reply: &mut Reply, alloc: Global, question: Question) -> Option<()> {
     let bytes = question.bytes(alloc, 2)?;
     match (question.word(0), question.word(1)) {

@@ -51,7 +51,8 @@ impl<'a> Cutting<'a> {
         self.rest = Rest::Wrong("no end of the piece");
     }
 
-    // What comes after the messages if a call gave none, and left this number of bytes of its piece.
+    // What comes after the messages if a call gave none, and left this number of bytes of its
+    // piece.
     fn held(&self, left: usize) -> Rest {
         let held = self.cutter.held();
         if left > 0 || self.trail.done.checked_add(held) != Some(self.handed) {

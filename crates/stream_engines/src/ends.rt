@@ -74,7 +74,8 @@ impl Led {
         }
     }
 
-    /// Hands a piece over, and again what a call leaves, until nothing is left or the end no longer talks.
+    /// Hands a piece over, and again what a call leaves, until nothing is left or the end no longer
+    /// talks.
     pub(crate) fn hand_over(&mut self, piece: &[u8]) {
         let mut rest = piece;
         for _ in 0..piece.len() + 1 {
@@ -90,8 +91,8 @@ impl Led {
         }
     }
 
-    /// Hands bytes over as one piece; or with `way=bytes` in pieces of one byte, and with `way=empty` so that an empty piece comes
-    /// after each.
+    /// Hands bytes over as one piece; or with `way=bytes` in pieces of one byte, and with
+    /// `way=empty` so that an empty piece comes after each.
     pub(crate) fn hand_over_so(&mut self, bytes: &[u8], question: Question) {
         let way = question.setting("way");
         if way != Some("bytes") && way != Some("empty") {

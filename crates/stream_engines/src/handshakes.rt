@@ -30,7 +30,8 @@ impl Side {
         }
     }
 
-    // Appends what the end sent since the last time and, once it has begun, the message of its caller.
+    // Appends what the end sent since the last time and, once it has begun, the message of its
+    // caller.
     fn fetch(&mut self, message: &[u8], incoming: &mut Vec<u8>) -> Result<(), AllocError> {
         let (_, sent) = split(&self.led.outcome.sent, self.fetched);
         incoming.extend_from_slice(sent)?;
@@ -72,7 +73,8 @@ fn talk(
     Ok(())
 }
 
-/// Adds what a client and a server do with one another, of which each sends a message once it has begun, and what each has not taken.
+/// Adds what a client and a server do with one another, of which each sends a message once it has
+/// begun, and what each has not taken.
 pub(crate) fn say_handshake(
     reply: &mut Reply,
     alloc: Global,

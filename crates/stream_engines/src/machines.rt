@@ -99,7 +99,8 @@ fn client_machine(alloc: Global, question: Question) -> Option<(Machine, Outcome
     Some((Machine::Client(client), Outcome::new(alloc, sent, status)))
 }
 
-// Hands a machine the lines that `lines=` says, in hexadecimal digits with a comma between any two, until it hears no more.
+// Hands a machine the lines that `lines=` says, in hexadecimal digits with a comma between any two,
+// until it hears no more.
 fn hear_lines(alloc: Global, machine: &mut Machine, question: Question, outcome: &mut Outcome) {
     let Some(lines) = question.setting("lines") else {
         return;

@@ -1,8 +1,8 @@
-//! `stream_engines`: answers questions on streams of messages, match rules, the handshake and the program dbus-wire, of which
-//! `cases/run.py` has the right answers.
+//! `stream_engines`: answers questions on streams of messages, match rules, the handshake and the
+//! program dbus-wire, of which `cases/run.py` has the right answers.
 //!
-//! Each line of its input is a question (`case_questions`), and each line that it prints the answer to one. cases/README.md says which
-//! questions any implementation can answer.
+//! Each line of its input is a question (`case_questions`), and each line that it prints the answer
+//! to one. cases/README.md says which questions any implementation can answer.
 #![tactic(auto)]
 
 mod answering;

@@ -62,7 +62,8 @@ fn owners_of(alloc: Global, question: Question) -> Option<Vec<Owner>> {
     Some(owners)
 }
 
-/// Adds whether the rule of a text matches the message of these bytes: for `match` the message, and for `match-view` its view.
+/// Adds whether the rule of a text matches the message of these bytes: for `match` the message, and
+/// for `match-view` its view.
 pub(crate) fn say_match(
     reply: &mut Reply,
     alloc: Global,

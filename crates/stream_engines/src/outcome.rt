@@ -45,8 +45,8 @@ impl Outcome {
         self.status = status;
     }
 
-    /// Adds what it sent; how many bytes each call took, or with `taken=all` all calls, or with `taken=untold` neither; its status;
-    /// and the GUID that a client has.
+    /// Adds what it sent; how many bytes each call took, or with `taken=all` all calls, or with
+    /// `taken=untold` neither; its status; and the GUID that a client has.
     pub(crate) fn say(&self, reply: &mut Reply, question: Question, guid: Option<Guid>) {
         reply.bytes(&self.sent);
         match question.setting("taken") {

@@ -9,7 +9,8 @@ pub(crate) trait Engine {
     fn say(&mut self, reply: &mut Reply, place: usize);
 }
 
-/// Adds the replies at the places `from=` up to `to=`, `step=` apart: each with the place from which on it is the reply.
+/// Adds the replies at the places `from=` up to `to=`, `step=` apart: each with the place from
+/// which on it is the reply.
 pub(crate) fn say_places<E: Engine>(
     reply: &mut Reply,
     alloc: Global,

@@ -1,7 +1,7 @@
 //! The readers of streams, over a source of a few bytes a read.
 //!
-//! Each is asked so many times, also once it has said that no message is left or why there is none. Then come how many bytes it says
-//! that the messages have, and how many reads it made.
+//! Each is asked so many times, also once it has said that no message is left or why there is none.
+//! Then come how many bytes it says that the messages have, and how many reads it made.
 
 use crate::devices::Giver;
 use crate::stream::Stream;
@@ -17,7 +17,8 @@ struct Asking {
     size: usize,
 }
 
-/// Adds what a reader gives that `reader=` says, asked `asks=` times, over a source of `size=` bytes a read.
+/// Adds what a reader gives that `reader=` says, asked `asks=` times, over a source of `size=`
+/// bytes a read.
 pub(crate) fn say_read(reply: &mut Reply, stream: Stream, question: Question) {
     let asking = Asking {
         times: question.count("asks", 1),
@@ -48,7 +49,8 @@ fn note_fault(trail: &mut Trail, fault: ReadFault) {
     });
 }
 
-// Adds what a reader gave, how many bytes it says that the messages have, and how many reads it made.
+// Adds what a reader gave, how many bytes it says that the messages have, and how many reads it
+// made.
 fn say(reply: &mut Reply, trail: &Trail, done: u64, reads: u64) {
     trail.say(reply);
     reply.number(done);

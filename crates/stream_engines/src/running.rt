@@ -14,8 +14,8 @@ struct End {
     second: Vec<u8>,
 }
 
-// How the program ends for these words over an input, of which its reader gives this number of bytes a read, with writers that take
-// as many a write.
+// How the program ends for these words over an input, of which its reader gives this number of
+// bytes a read, with writers that take as many a write.
 fn run(alloc: Global, words: &[String], input: &[u8], size: usize) -> End {
     let mut reader = Giver::new(input, size);
     let mut first = Taker::new(alloc, size);
@@ -45,7 +45,8 @@ fn words_of(alloc: Global, digits: &str) -> Option<Vec<String>> {
     Some(words)
 }
 
-/// Adds how the program ends for the words of a question over an input; or over what it makes of that for the words of `before=`.
+/// Adds how the program ends for the words of a question over an input; or over what it makes of
+/// that for the words of `before=`.
 pub(crate) fn say_run(
     reply: &mut Reply,
     alloc: Global,

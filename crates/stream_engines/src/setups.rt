@@ -27,7 +27,8 @@ pub(crate) fn server_of(question: Question) -> Option<ServerSetup> {
     })
 }
 
-/// The mechanisms of a client that `mechanisms=` says, with a comma between any two: `external`, `external:1000` and `anonymous:78`.
+/// The mechanisms of a client that `mechanisms=` says, with a comma between any two: `external`,
+/// `external:1000` and `anonymous:78`.
 pub(crate) fn mechanisms_of(alloc: Global, question: Question) -> Option<Vec<Mechanism>> {
     let mut mechanisms = Vec::new(alloc);
     let Some(words) = question.setting("mechanisms") else {

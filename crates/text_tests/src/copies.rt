@@ -1,4 +1,5 @@
-//! Copies, where memory is there: each says the same as what it was made of, and other values do not.
+//! Copies, where memory is there: each says the same as what it was made of, and other values do
+//! not.
 
 use dbus_auth::{EndStep, Mechanism, Status};
 use dbus_auth_lines::{ClientLine, ServerLine};

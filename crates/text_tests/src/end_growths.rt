@@ -1,4 +1,5 @@
-//! The ends of a connection, with a failing allocation: the end is unchanged, and takes the same piece as if nothing had been.
+//! The ends of a connection, with a failing allocation: the end is unchanged, and takes the same
+//! piece as if nothing had been.
 
 ghost use Rattle.std.specs.Prelude.{◌≡◌, true, false};
 ghost use Rattle.dbus_auth.specs.ClientEndViews.{client_end_state};
@@ -72,8 +73,8 @@ fn greeted(sent: &[u8]) -> Answer {
     Answer::of(sent == b"\0AUTH EXTERNAL 31303030\r\n".as_slice())
 }
 
-/// How the end of a client as user 1000 and then, with a trace, by ANONYMOUS starts and takes these pieces in turn. What it is made of
-/// takes its memory from `spare`.
+/// How the end of a client as user 1000 and then, with a trace, by ANONYMOUS starts and takes these
+/// pieces in turn. What it is made of takes its memory from `spare`.
 pub fn client_takes<A: Allocator + Copy>(
     alloc: A,
     spare: A,

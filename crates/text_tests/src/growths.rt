@@ -1,5 +1,5 @@
-//! Each allocation failing in turn: the call reports out of memory, no block leaks, and what is changed by calls answers the
-//! same call made again as if nothing had been.
+//! Each allocation failing in turn: the call reports out of memory, no block leaks, and what is
+//! changed by calls answers the same call made again as if nothing had been.
 
 use crate::answer::Answer;
 use crate::end_growths::{EndTurn, client_takes, server_takes};
@@ -27,7 +27,8 @@ enum Call {
     Cuts(&'static [CutTurn]),
     /// A server's machine, which offers ANONYMOUS or not, receives lines.
     ServerHears(bool, &'static [ServerTurn]),
-    /// A client's machine, which tries ANONYMOUS with a trace as its second mechanism or not, starts and receives lines.
+    /// A client's machine, which tries ANONYMOUS with a trace as its second mechanism or not,
+    /// starts and receives lines.
     ClientHears(Option<&'static [u8]>, &'static [ClientTurn]),
     /// A server's end takes pieces.
     ServerTakes(&'static [EndTurn]),
@@ -400,8 +401,9 @@ fn all_refused(rt: &(impl Abort + AllocGlobal), calls: &[(Call, u64)]) -> Result
     Ok(())
 }
 
-/// How many allocations the call asks for and one more: it is made with its first allocation failing, with its second and so on, up to
-/// the run in which none is. Nothing if one of the runs goes wrong.
+/// How many allocations the call asks for and one more: it is made with its first allocation
+/// failing, with its second and so on, up to the run in which none is. Nothing if one of the runs
+/// goes wrong.
 fn growths_of(alloc: Global, call: Call) -> Option<u64> {
     for n in 1..100 {
         match is_refused(alloc, n, call) {
@@ -413,8 +415,8 @@ fn growths_of(alloc: Global, call: Call) -> Option<u64> {
     None
 }
 
-/// Whether the `n`th allocation of the call failed. Nothing if it does not tell that, or if the same call made again does not answer as if
-/// nothing had been, or if a block is left.
+/// Whether the `n`th allocation of the call failed. Nothing if it does not tell that, or if the
+/// same call made again does not answer as if nothing had been, or if a block is left.
 fn is_refused(alloc: Global, n: u64, call: Call) -> Option<bool> {
     let heap = Refusing::nth(alloc, n);
     let spare = Refusing::none(alloc);

@@ -1,4 +1,5 @@
-//! Tests of the handshake's lines and ends; of rules and printed texts with allocations that fail; of copies, and of the texts of faults.
+//! Tests of the handshake's lines and ends; of rules and printed texts with allocations that fail;
+//! of copies, and of the texts of faults.
 #![tactic(auto)]
 
 #[cfg(test)]

@@ -1,4 +1,5 @@
-//! Lines that are read, written and cut, with a failing allocation: the call made again answers as if nothing had been.
+//! Lines that are read, written and cut, with a failing allocation: the call made again answers as
+//! if nothing had been.
 
 use crate::answer::Answer;
 use crate::samples::long_text;

@@ -1,4 +1,5 @@
-//! The state machines, with a failing allocation: the machine is unchanged, and answers an equal line as if nothing had been.
+//! The state machines, with a failing allocation: the machine is unchanged, and answers an equal
+//! line as if nothing had been.
 
 use crate::answer::Answer;
 use crate::samples::{GUID, client_of};
@@ -6,10 +7,12 @@ use dbus_auth::{Client, ClientAct, ClientState, Server, ServerAct, ServerState};
 use dbus_auth_lines::{client_text, read_client, read_server, server_text};
 use std::alloc::Allocator;
 
-/// A line, what a server sends on it, which is nothing where it begins or is closed, and where it stands then.
+/// A line, what a server sends on it, which is nothing where it begins or is closed, and where it
+/// stands then.
 pub type ServerTurn = (&'static [u8], &'static [u8], ServerState);
 
-/// How a server as user 1000 receives these lines in turn. They and their texts take their memory from `spare`.
+/// How a server as user 1000 receives these lines in turn. They and their texts take their memory
+/// from `spare`.
 pub fn server_hears<A: Allocator + Copy>(
     alloc: A,
     spare: A,
@@ -72,11 +75,12 @@ fn server_sends<A: Allocator + Copy>(spare: A, act: ServerAct<A>, sent: &[u8]) -
     }
 }
 
-/// A line, or none where the client starts, what it sends, which is nothing where it begins or is closed, and where it stands then.
+/// A line, or none where the client starts, what it sends, which is nothing where it begins or is
+/// closed, and where it stands then.
 pub type ClientTurn = (Option<&'static [u8]>, &'static [u8], ClientState);
 
-/// How a client as user 1000 and then, with a trace, by ANONYMOUS receives these lines in turn. They, their texts and what it is made of
-/// take their memory from `spare`.
+/// How a client as user 1000 and then, with a trace, by ANONYMOUS receives these lines in turn.
+/// They, their texts and what it is made of take their memory from `spare`.
 pub fn client_hears<A: Allocator + Copy>(
     alloc: A,
     spare: A,

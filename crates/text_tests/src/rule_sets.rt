@@ -1,4 +1,5 @@
-//! A set of rules, with each allocation failing: what is refused leaves the set and the list of what it found as they were.
+//! A set of rules, with each allocation failing: what is refused leaves the set and the list of
+//! what it found as they were.
 
 use crate::answer::Answer;
 use crate::signal::SIGNAL;
@@ -20,7 +21,8 @@ const RULES: &[(&str, bool)] = &[
     ("arg0='hi',path='/a',member='C',interface='a.c'", false),
 ];
 
-// The handle of a rule that is added, and how that went: if memory runs out the set holds what it held, and is given the rule that came back.
+// The handle of a rule that is added, and how that went: if memory runs out the set holds what it
+// held, and is given the rule that came back.
 fn added<A: Allocator + Copy>(
     rules: &mut RuleSet<A>,
     rule: Rule<A>,
@@ -91,7 +93,8 @@ fn remove_found<A: Allocator + Copy>(
     found.len() == wanted.len() && rules.len() == RULES.len().saturating_sub(wanted.len())
 }
 
-/// Adds the rules, finds those that match, and removes them again. The rules take their memory from `spare`.
+/// Adds the rules, finds those that match, and removes them again. The rules take their memory from
+/// `spare`.
 pub(crate) fn rules_found<'a>(heap: &'a Refusing, spare: &'a Refusing) -> Answer {
     let Ok(view) = MessageView::of(SIGNAL) else {
         return Answer::Wrong;

@@ -36,7 +36,8 @@ fn push_after<A: Allocator>(heap: &Refusing<A>, n: u64) -> Result<Pushes, AllocE
     })
 }
 
-// Whether the pushes with allocation `n` failing went as they should, and no block is left. Those that are not refused told how many they ask for.
+// Whether the pushes with allocation `n` failing went as they should, and no block is left. Those
+// that are not refused told how many they ask for.
 fn growths_of_pushes(alloc: Global, n: u64) -> Result<(bool, Option<u64>), AllocError> {
     let heap = Refusing::none(alloc);
     let pushes = push_after(&heap, n)?;
@@ -51,7 +52,8 @@ fn growths_of_pushes(alloc: Global, n: u64) -> Result<(bool, Option<u64>), Alloc
     }
 }
 
-// Each allocation of the pushes failing in turn: the items that were there stay, and no block leaks.
+// Each allocation of the pushes failing in turn: the items that were there stay, and no block
+// leaks.
 #[test]
 fn each_growth_refused(rt: HostRuntime) -> Result<(), Fail> {
     let mut met = None;
@@ -77,8 +79,9 @@ enum Step {
     RefuseNone,
 }
 
-// What is done one after another with a vector that has a room of 50, if the second allocation fails, and how many
-// allocations, refusals and blocks are counted then. A shrink passes and is no allocation.
+// What is done one after another with a vector that has a room of 50, if the second allocation
+// fails, and how many allocations, refusals and blocks are counted then. A shrink passes and is no
+// allocation.
 const STEPS: &[(Step, (u64, u64, u64))] = &[
     (Step::Push(7), (1, 0, 1)),
     (Step::Shrink, (1, 0, 1)),

@@ -1,5 +1,6 @@
-//! The calls on types and values that take memory, with each allocation failing in turn: out of memory is returned exactly
-//! if an allocation failed, the same call made again answers what it should, and no block is left.
+//! The calls on types and values that take memory, with each allocation failing in turn: out of
+//! memory is returned exactly if an allocation failed, the same call made again answers what it
+//! should, and no block is left.
 
 use crate::made::{Made, NUMBERS, NUMBERS_BYTES, PAIRS, PAIRS_BYTES, make};
 use crate::reading::{self, read};
@@ -65,7 +66,8 @@ const NUMBERS_FRONT: &[u8] = b"\x08\0\0\0\0\0\0\0\x05\0\0\0\0\0\0";
 // A variant, which holds 1.
 const VARIANT: Made = Made::Read("v", b"\x01y\0\x01");
 
-// Each call, a number of allocations that it takes at least, and what it answers if none is refused.
+// Each call, a number of allocations that it takes at least, and what it answers if none is
+// refused.
 const CALLS: &[(Call, u64, Answer)] = &[
     (Call::ParseSignature(b"a{sv}(ua(yv))"), 4, Answer::Done),
     (Call::ParseSignature(b"(ua(yv))a{vs}"), 0, Answer::Bad(10)),
@@ -277,7 +279,8 @@ fn answer_of_value<A: Allocator + Copy>(alloc: A, call: Call, value: &Value<A>) 
     }
 }
 
-// What a call answers. Values and types that it is made of take their memory from `spare`, and what it made is given back.
+// What a call answers. Values and types that it is made of take their memory from `spare`, and what
+// it made is given back.
 fn answer_of<A: Allocator + Copy>(alloc: A, spare: A, call: Call) -> Answer {
     match call {
         Call::ParseSignature(text) => of_signature(parse_signature(alloc, text)),
@@ -300,8 +303,8 @@ fn answer_of<A: Allocator + Copy>(alloc: A, spare: A, call: Call) -> Answer {
     }
 }
 
-// Whether allocation `n` of a call failed: then it is out of memory, and never else. Nothing if it answers otherwise, if the same call
-// after it does, or if a block is left.
+// Whether allocation `n` of a call failed: then it is out of memory, and never else. Nothing if it
+// answers otherwise, if the same call after it does, or if a block is left.
 fn is_refused(alloc: Global, call: Call, n: u64, right: Answer) -> Option<bool> {
     let heap = Refusing::nth(alloc, n);
     let spare = Refusing::none(alloc);
@@ -317,7 +320,8 @@ fn is_refused(alloc: Global, call: Call, n: u64, right: Answer) -> Option<bool> 
     }
 }
 
-// How many allocations a call asks for, with each of them failing in turn. Nothing if one of the runs goes wrong.
+// How many allocations a call asks for, with each of them failing in turn. Nothing if one of the
+// runs goes wrong.
 fn growths_of(alloc: Global, call: Call, right: Answer) -> Option<u64> {
     for n in 1..100 {
         match is_refused(alloc, call, n, right) {

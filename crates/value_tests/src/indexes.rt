@@ -1,4 +1,5 @@
-//! Which of some values has an index of a file descriptor that is not below a number; limits out of range, and their rules.
+//! Which of some values has an index of a file descriptor that is not below a number; limits out of
+//! range, and their rules.
 
 use crate::made::value_of;
 use dbus_value_model::{FdRule, Limits, Value, first_past};
@@ -35,8 +36,8 @@ const NO_LIMITS: &[(u32, u32, u8)] = &[
     (134_217_728, 67_108_864, 65),
 ];
 
-// Whether the first of three values that has an index not below a number is found: a value without indexes, the one that is read, and
-// an index of 7.
+// Whether the first of three values that has an index not below a number is found: a value without
+// indexes, the one that is read, and an index of 7.
 fn are_found(alloc: Global, signature: &str, bytes: &[u8]) -> Result<bool, AllocError> {
     let value = value_of(alloc, signature, bytes)?;
     let values = [Value::U32(9), value, Value::Fd(7)];

@@ -1,5 +1,6 @@
-//! Tests of types and values that no bytes spell, of the memory that types and values take, and of the allocator that refuses
-//! allocations. What texts and bytes come to is in the files of `cases/data`.
+//! Tests of types and values that no bytes spell, of the memory that types and values take, and of
+//! the allocator that refuses allocations. What texts and bytes come to is in the files of
+//! `cases/data`.
 #![tactic(auto)]
 
 #[cfg(test)]

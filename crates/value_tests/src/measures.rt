@@ -1,4 +1,5 @@
-//! What a measure answers of values at the limit of messages and of arrays, beside a size if both answer.
+//! What a measure answers of values at the limit of messages and of arrays, beside a size if both
+//! answer.
 
 ghost use Rattle.std.specs.Prelude.{IfOk};
 ghost use Rattle.dbus_value_model.specs.ShortSignatures.{HasShortSignatures};
@@ -10,8 +11,8 @@ use dbus_value_model::{Limits, Value, ValueFault};
 use std::alloc::{AllocError, Allocator, Global};
 use std::test::*;
 
-// Where 67,108,864 bytes begin, the most that an array may have, and where they end. Past the limit of messages an end is
-// one of eight.
+// Where 67,108,864 bytes begin, the most that an array may have, and where they end. Past the limit
+// of messages an end is one of eight.
 const LONGEST: &[(u64, u64)] = &[
     (16, 67_108_884),
     (67_108_857, 134_217_728),

@@ -1,5 +1,5 @@
-//! What values take of memory: how many bytes a value has, how many times the bytes that it was read from a tree has, and how
-//! many allocations reading it takes.
+//! What values take of memory: how many bytes a value has, how many times the bytes that it was
+//! read from a tree has, and how many allocations reading it takes.
 
 use crate::reading::growths_of_reading;
 use dbus_types::parse_single;
@@ -11,8 +11,8 @@ use std::test::*;
 // How many elements after the first an array has.
 const COUNT: u32 = 1025;
 
-// Trees take at most so many times the bytes that they are read from, if nothing is as dense as BYTEs in structs; and
-// those of texts of ordinary length.
+// Trees take at most so many times the bytes that they are read from, if nothing is as dense as
+// BYTEs in structs; and those of texts of ordinary length.
 const MOST: usize = 48;
 
 const ORDINARY: usize = 12;
@@ -20,11 +20,12 @@ const ORDINARY: usize = 12;
 // Eight BYTEs have the bytes of one struct, and the tree has a value for each of these nine.
 const DENSE: usize = 64;
 
-// A struct has no bytes of its own: 32 structs, one within the other, stand over the 8 bytes of one.
+// A struct has no bytes of its own: 32 structs, one within the other, stand over the 8 bytes of
+// one.
 const NESTED: usize = 240;
 
-// An array: its signature; the padding after its length; its first element; each other one, with the padding before it; and
-// how many times its bytes its tree takes at most.
+// An array: its signature; the padding after its length; its first element; each other one, with
+// the padding before it; and how many times its bytes its tree takes at most.
 type Shape = (
     &'static str,
     &'static [u8],

@@ -1,5 +1,5 @@
-//! Putting a value with its allocation failing: the vector holds what it held, and the same call made again answers what it should. A
-//! value that is not put for its size takes no memory.
+//! Putting a value with its allocation failing: the vector holds what it held, and the same call
+//! made again answers what it should. A value that is not put for its size takes no memory.
 
 ghost use Rattle.dbus_value_model.specs.ShortSignatures.{HasShortSignatures};
 ghost use Rattle.dbus_value_model.specs.ValueViews.{value_tree};
@@ -11,8 +11,9 @@ use refusing_alloc::Refusing;
 use std::alloc::{AllocError, Allocator, Global};
 use std::test::*;
 
-// A type and a value's bytes; what the vector holds before; limits on messages, arrays and open containers; and what the vector
-// holds then, or why it holds no more. A value's padding counts from the vector's first byte.
+// A type and a value's bytes; what the vector holds before; limits on messages, arrays and open
+// containers; and what the vector holds then, or why it holds no more. A value's padding counts
+// from the vector's first byte.
 type Row = (
     &'static str,
     &'static [u8],
@@ -65,8 +66,8 @@ const ROWS: &[Row] = &[
     ),
 ];
 
-// What putting a value into a vector answers, that holds few bytes. The call without limits is asked if they are those of the
-// specification.
+// What putting a value into a vector answers, that holds few bytes. The call without limits is
+// asked if they are those of the specification.
 fn put_short<A: Allocator>(
     out: &mut Vec<u8, A>,
     value: &Value<A>,
@@ -86,8 +87,9 @@ fn put_short<A: Allocator>(
     put_within(out, Order::Little, value, limits)
 }
 
-// What putting answers with its first allocation failing, whether the vector holds then what it held, and how many allocations were refused;
-// and what the same call answers after it, how many allocations it asked for, and whether the vector holds what it should.
+// What putting answers with its first allocation failing, whether the vector holds then what it
+// held, and how many allocations were refused; and what the same call answers after it, how many
+// allocations it asked for, and whether the vector holds what it should.
 type Run = (
     (Result<(), ValueFault>, bool, u64),
     (Result<(), ValueFault>, u64, bool),
@@ -111,7 +113,8 @@ fn put_twice<'a>(
     (first, (again, heap.growths(), right))
 }
 
-// The run of a row, whose value takes its memory from the same heap. Nothing if there is no such value.
+// The run of a row, whose value takes its memory from the same heap. Nothing if there is no such
+// value.
 fn run_of<'a>(heap: &'a Refusing, row: &Row) -> Option<Run> {
     let Ok(value) = value_of(heap, row.0, row.1) else {
         return None;

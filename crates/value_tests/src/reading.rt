@@ -30,8 +30,9 @@ fn answer_of<A: Allocator>(outcome: Result<Got<A>, Refusal>) -> Answer {
     }
 }
 
-/// What reading answers of bytes that begin with a value, which ends at `end` at the latest, under limits on messages, arrays and
-/// open containers; the call without limits is asked if they are those of the specification.
+/// What reading answers of bytes that begin with a value, which ends at `end` at the latest, under
+/// limits on messages, arrays and open containers; the call without limits is asked if they are
+/// those of the specification.
 pub fn read<A: Allocator + Copy>(
     alloc: A,
     signature: &str,
@@ -76,7 +77,8 @@ fn is_read<A: Allocator + Copy>(
     }
 }
 
-/// The allocations that reading a value takes, its type being read already; nothing if the bytes are refused.
+/// The allocations that reading a value takes, its type being read already; nothing if the bytes
+/// are refused.
 pub fn growths_of_reading(alloc: Global, signature: &str, bytes: &[u8], end: usize) -> Option<u64> {
     let heap = Refusing::none(alloc);
     let spare = Refusing::none(alloc);

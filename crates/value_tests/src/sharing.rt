@@ -1,4 +1,5 @@
-//! Types take no memory where they are carried: in clones, in copies of values and in the arrays that are read.
+//! Types take no memory where they are carried: in clones, in copies of values and in the arrays
+//! that are read.
 
 use crate::reading::growths_of_reading;
 use dbus_types::{SigType, parse_signature};

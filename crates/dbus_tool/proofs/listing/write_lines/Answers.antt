@@ -1,4 +1,4 @@
-use Rattle.dbus_report.specs.Gathering.{gathered_bytes}
+use Rattle.cli_report.specs.Gathering.{gathered_bytes}
 use Rattle.dbus_tool.proofs.ListSteps.{written_out}
 use Rattle.dbus_tool.proofs.listing.write_lines.Goals as goal
 

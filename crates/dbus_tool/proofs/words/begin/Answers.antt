@@ -1,6 +1,6 @@
 use Rattle.std.proofs.Common.{Option, inl, subst, sym}
 use Rattle.dbus_handshake_input.specs.declared.side.Side.{Side}
-use Rattle.dbus_report.specs.Devices.{writing}
+use Rattle.cli_report.specs.Devices.{writing}
 use Rattle.dbus_tool.specs.Words.{DoesFrom}
 use Rattle.dbus_tool.proofs.words.begin.Goals as goal
 

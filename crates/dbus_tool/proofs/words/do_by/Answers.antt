@@ -1,7 +1,7 @@
 use Rattle.std.proofs.Common.{◌^◌, subst, sym}
 use Rattle.dbus_count.specs.declared.form.Form.{Form}
-use Rattle.dbus_report.specs.Devices.{reading, writing}
-use Rattle.dbus_runs.specs.ByName.{CountsByName}
+use Rattle.cli_report.specs.Devices.{reading, writing}
+use Rattle.cli_run.specs.ByName.{CountsByName}
 use Rattle.dbus_tool.specs.Words.{DoesBy}
 use Rattle.dbus_tool.specs.declared.words.Task.{Task}
 use Rattle.dbus_tool.proofs.words.do_by.Goals as goal

@@ -1,6 +1,6 @@
 use Rattle.std.proofs.Common.{List, ℕ, inl, string_bytes, subst}
 use Rattle.dbus_tool.specs.Handshaking.{Shows}
-use Rattle.dbus_report.specs.declared.ending.ExitStatus.TheVariants.{Usage}
+use Rattle.cli_report.specs.declared.ending.ExitStatus.TheVariants.{Usage}
 use Rattle.dbus_tool.proofs.words.refuse_rule.Goals as goal
 
 pub returns-in-Ok : goal.returns-in-Ok

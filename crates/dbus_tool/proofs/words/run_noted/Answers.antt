@@ -1,6 +1,6 @@
 use Rattle.std.proofs.Common.{rules, ◌≡◌, ◌&&◌, true, inl, inr, refl}
 use Rattle.dbus_device.specs.Write.{Wrote, Stopped}
-use Rattle.dbus_command.specs.Unowned.{lacks_owner}
+use Rattle.cli_options.specs.Unowned.{lacks_owner}
 use Rattle.dbus_tool.specs.Words.{owner_note}
 use Rattle.dbus_tool.proofs.words.run_noted.Goals as goal
 

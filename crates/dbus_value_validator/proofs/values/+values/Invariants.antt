@@ -5,7 +5,8 @@ use Rattle.dbus_value_validator.proofs.ValueSteps.{LeadsTo}
 use Rattle.dbus_value_validator.proofs.OpenStructs.{Left}
 use Rattle.dbus_value_validator.proofs.values.+values.Given as goal
 
--- a container takes one of the room, or bytes of its type, and a variant's own type has at most 255 bytes
+-- a container takes one of the room, or bytes of its type, and a variant's own type has at most 255
+-- bytes
 
 abbrev pub decreases-one_value : goal.decreases-one_value
 decreases-one_value l = 4 * (256 * l.depth_left + length l.types.now) + 1

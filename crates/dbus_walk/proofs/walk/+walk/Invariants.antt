@@ -6,7 +6,8 @@ use Rattle.dbus_walk.specs.Rows.{between}
 use Rattle.dbus_walk.proofs.Walks.{Left, Taken}
 use Rattle.dbus_walk.proofs.walk.+walk.Given as goal
 
--- a container takes one of the room, or bytes of its type, and a variant's own type has at most 255 bytes
+-- a container takes one of the room, or bytes of its type, and a variant's own type has at most 255
+-- bytes
 
 abbrev pub decreases-value : goal.decreases-value
 decreases-value g l = 4 * (256 * l.spot.now.depth_left + length l.spot.now.types.now)

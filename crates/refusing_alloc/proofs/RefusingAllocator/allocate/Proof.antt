@@ -1,5 +1,6 @@
--- `allocate`: the plan is asked. A refused growth answers `Err`, and any other answers what the inner allocator answers.
--- κ is the lifetime of `&self`, τ the type that the block is for, and h the inner allocator's value.
+-- `allocate`: the plan is asked. A refused growth answers `Err`, and any other answers what the
+-- inner allocator answers. κ is the lifetime of `&self`, τ the type that the block is for, and h
+-- the inner allocator's value.
 use Rattle.std.proofs.VecSteps.Shapes.{after}
 use Rattle.std.proofs.alloc.Calls.{Takes, at_takes, Answered, Takes-goes, Takes-gives, answers as taken}
 use Rattle.std.specs.Allocator.{block_if_ok}

@@ -1,5 +1,5 @@
--- `deallocate`: the plan counts the block, and the block goes back to the inner allocator.
--- κ is the lifetime of `&self`, τ the type that the block was for, and h the inner allocator's value.
+-- `deallocate`: the plan counts the block, and the block goes back to the inner allocator. κ is the
+-- lifetime of `&self`, τ the type that the block was for, and h the inner allocator's value.
 use base.Logic.{never, fst∗}
 use denote.RawPtr.{in_a_block}
 use types.Kit.{regoal, group}

@@ -44,7 +44,8 @@ shrink_spec 𝓤 𝓛 𝓜 𝓡 wired A X laws item_laws ghosts table drops met 
     let left : Answer.Denot → Fml = left_by Z X (Shrinks X) 𝓛 𝓜.mem 𝓡.returns κ κT q qT (inner_at Z r.ref_ptr) h b o len old new items in
     move ! (1 ∷ []) $ split ! $ split ! $ move ! (1 ∷ []) $ split ! $ move ! (1 ∷ []) $ split ! $
     move ! (4 ∷ []) $ fsplit ! $ fsplit ! $ keep ! (1 ∷ 3 ∷ 4 ∷ 5 ∷ 6 ∷ 7 ∷ []) $ fields Z ! κ r.now r.ref_ptr $ drop ! $
-    -- [a `&` to the inner allocator; the items' token; nothing; the inner allocator's token; κ's; the block]
+    -- [a `&` to the inner allocator; the items' token; nothing; the inner allocator's token; κ's;
+    -- the block]
     move ! (5 ∷ 0 ∷ 4 ∷ 1 ∷ []) $ group ! 4 $
     use1 𝓛 (raw (Inner.pre w))
     (Resizes-goes Z X (Shrinks X) 𝓛 𝓜.mem 𝓡.returns κ κT q qT (inner_at Z r.ref_ptr) h b o len old new items (⊑_trans κ κs.1.0 A.lives bounds.0 within) items_within sizes are.1.1.0.1 are.1.1.1.0.1 are.1.1.1.1.0.1) $
@@ -59,5 +60,6 @@ shrink_spec 𝓤 𝓛 𝓜 𝓡 wired A X laws item_laws ghosts table drops met 
     suffices ! _ (ends_at 𝓛 ended stayed c (y (block_ptr b o)) value result (tt, (tt, (tt, (tt, (tt, tt))))) (tt, (tt, (tt, (tt, (tt, tt)))))) $
     use0 𝓛 (‵ (Answer.own_val result (value ∷ []))) (result_own 𝓛 x.0 x.1.0 x.1.1) $
     nothing ! $ nothing ! $ fjoin ! $ nothing ! $ fjoin ! $ nothing ! $ fjoin ! $ nothing ! $ fjoin ! $ nothing ! $ fjoin ! $ join ! $
-    -- [the parameters and the result; the block; κ's token; the items'; nothing; the inner allocator's]
+    -- [the parameters and the result; the block; κ's token; the items'; nothing; the inner
+    -- allocator's]
     move ! (2 ∷ 5 ∷ 3 ∷ 4 ∷ []) $ group ! 4 $ join ! $ done !)))))))

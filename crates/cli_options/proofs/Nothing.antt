@@ -1,0 +1,101 @@
+-- Subcommands and words after them that name nothing.
+use Rattle.std.proofs.Common.{◌≡◌, ℕ, List, Some, None, sym, ap, ◌∙◌, codes, slice_index, arith}
+use Rattle.std.specs.List.{AllByRecursion}
+use Rattle.clap.specs.Words.{Row, Text, all_of, first_of}
+use Rattle.dbus_value_model.specs.declared.order.Order.{Order}
+use Rattle.dbus_match.specs.Matching.{Ownership, ownership}
+use Rattle.cli_options.specs.Named.{HasSettings, Names, NamesCommand, IsSelectionGiven, order_word, side_word, words_of}
+use Rattle.cli_options.specs.Owners.{IsOwnerWord}
+use Rattle.cli_options.proofs.WordLists.{each_can}
+use Rattle.cli_options.specs.Told.{IsNoCommand, NamesNothing}
+use Rattle.dbus_handshake_input.specs.declared.side.Side.{Side}
+use Rattle.cli_options.specs.declared.asked.Asked.{Asked}
+use Rattle.cli_options.specs.declared.asked.Asked.TheVariants.{Messages, Count, Handshake}
+use Rattle.cli_options.specs.declared.command.Command.{Command}
+use Rattle.cli_options.specs.declared.command.Command.TheVariants.{Show, Json, Check, Swap, Filter}
+use Rattle.cli_options.specs.declared.selection.Selection.{Selection}
+use Rattle.cli_options.specs.declared.settings.Settings.{Settings}
+
+-- a name other than `handshake`
+module _ (sub : Text × List Row) (other : sub.0 ≡ codes "handshake" → ⊥) where
+  unset : ((settings : Settings) → HasSettings sub.1 settings → ⊥) → (asked : Asked) → Names (Some sub) asked → ⊥
+  unset none (Messages command settings) named = none settings named.1
+  unset none (Count settings form) named = none settings named.1
+  unset none (Handshake side) named = other named.0
+
+  -- with options that name no settings
+  pub unset_names_nothing : ((settings : Settings) → HasSettings sub.1 settings → ⊥) → NamesNothing (Some sub)
+  unset_names_nothing none = record { none_asked = unset none; no_rule = λ refused found. none found.1.0 found.1.1 }
+
+  -- and than `count`
+  module _ (uncounted : sub.0 ≡ codes "count" → ⊥) where
+    unnamed : IsNoCommand sub.0 sub.1 → (asked : Asked) → Names (Some sub) asked → ⊥
+    unnamed none (Messages command settings) named = none.no_command command named.0
+    unnamed none (Count settings form) named = uncounted named.0
+    unnamed none (Handshake side) named = other named.0
+
+    -- of a command, with words that name none
+    pub no_command_names_nothing : IsNoCommand sub.0 sub.1 → NamesNothing (Some sub)
+    no_command_names_nothing none = record { none_asked = unnamed none; no_rule = λ refused found. none.no_fault refused found.0 }
+
+-- `handshake` with no side
+module _ (rows : List Row) (no_side : (side : Side) → first_of (codes "side") rows ≡ Some (side_word side) → ⊥) where
+  no_messages : (command : Command) → NamesCommand (codes "handshake") rows command → ⊥
+  no_messages Show named = let bad : ◌≡◌ {A = ℕ} 104 115 = ap (λ t. slice_index t 0) named in absurd (omega arith)
+  no_messages Json named = let bad : ◌≡◌ {A = ℕ} 104 106 = ap (λ t. slice_index t 0) named in absurd (omega arith)
+  no_messages Check named = let bad : ◌≡◌ {A = ℕ} 104 99 = ap (λ t. slice_index t 0) named in absurd (omega arith)
+  no_messages (Swap order) named = let bad : ◌≡◌ {A = ℕ} 104 115 = ap (λ t. slice_index t 0) named.0 in absurd (omega arith)
+  no_messages (Filter selection) named = let bad : ◌≡◌ {A = ℕ} 104 102 = ap (λ t. slice_index t 0) named.0 in absurd (omega arith)
+
+  unsided : (asked : Asked) → Names (Some (codes "handshake", rows)) asked → ⊥
+  unsided (Messages command settings) named = no_messages command named.0
+  unsided (Count settings form) named = let bad : ◌≡◌ {A = ℕ} 104 99 = ap (λ t. slice_index t 0) named.0 in absurd (omega arith)
+  unsided (Handshake side) named = no_side side named.1
+
+  pub unsided_names_nothing : NamesNothing (Some (codes "handshake", rows))
+  unsided_names_nothing = record {
+    none_asked = unsided;
+    no_rule = λ refused found. let bad : ◌≡◌ {A = ℕ} 104 102 = ap (λ t. slice_index t 0) found.0.named in absurd (omega arith);
+  }
+
+module _ (rows : List Row) (no_order : (order : Order) → first_of (codes "to") rows ≡ Some (order_word order) → ⊥) where
+  unordered_command : (command : Command) → NamesCommand (codes "swap") rows command → ⊥
+  unordered_command Show named = let bad : ◌≡◌ {A = ℕ} 119 104 = ap (λ t. slice_index t 1) named in absurd (omega arith)
+  unordered_command Json named = let bad : ◌≡◌ {A = ℕ} 115 106 = ap (λ t. slice_index t 0) named in absurd (omega arith)
+  unordered_command Check named = let bad : ◌≡◌ {A = ℕ} 115 99 = ap (λ t. slice_index t 0) named in absurd (omega arith)
+  unordered_command (Swap order) named = no_order order named.1
+  unordered_command (Filter selection) named = let bad : ◌≡◌ {A = ℕ} 115 102 = ap (λ t. slice_index t 0) named.0 in absurd (omega arith)
+
+  -- `swap` with no order
+  pub unordered_is_no_command : IsNoCommand (codes "swap") rows
+  unordered_is_no_command = record {
+    no_command = unordered_command;
+    no_fault = λ refused found. let bad : ◌≡◌ {A = ℕ} 115 102 = ap (λ t. slice_index t 0) found.named in absurd (omega arith);
+  }
+
+-- `filter`, of whose words there are no selection and no fault
+module _ (rows : List Row) (no_selection : (selection : Selection) → IsSelectionGiven rows selection → ⊥) where
+  unselected_command : (command : Command) → NamesCommand (codes "filter") rows command → ⊥
+  unselected_command Show named = let bad : ◌≡◌ {A = ℕ} 102 115 = ap (λ t. slice_index t 0) named in absurd (omega arith)
+  unselected_command Json named = let bad : ◌≡◌ {A = ℕ} 102 106 = ap (λ t. slice_index t 0) named in absurd (omega arith)
+  unselected_command Check named = let bad : ◌≡◌ {A = ℕ} 102 99 = ap (λ t. slice_index t 0) named in absurd (omega arith)
+  unselected_command (Swap order) named = let bad : ◌≡◌ {A = ℕ} 102 115 = ap (λ t. slice_index t 0) named.0 in absurd (omega arith)
+  unselected_command (Filter selection) named = no_selection selection named.1
+
+none_given : (rows : List Row) (texts : List Text) → all_of (codes "rule") rows ≡ None → all_of (codes "rule") rows ≡ Some texts → ⊥
+none_given rows texts no_text given = let bad : None ≡ Some texts = sym no_text ∙ given in cc
+
+-- with no text
+pub bare_is_no_command : (rows : List Row) → all_of (codes "rule") rows ≡ None → IsNoCommand (codes "filter") rows
+bare_is_no_command rows no_text = record {
+  no_command = unselected_command rows (λ selection given. none_given rows given.texts no_text given.given);
+  no_fault = λ refused found. none_given rows found.texts no_text found.given;
+}
+
+-- with a word that gives no owner
+pub unowned_is_no_command : (rows : List Row) → (AllByRecursion (λ word. (o : Ownership) × IsOwnerWord word o) (words_of (codes "owner") rows) → ⊥) → IsNoCommand (codes "filter") rows
+unowned_is_no_command rows no_owners = record {
+  no_command = unselected_command rows (λ selection given. no_owners
+      (each_can _ _ (λ word owner is. (ownership owner, is)) (words_of (codes "owner") rows) selection.owners.items given.owners));
+  no_fault = λ refused found. no_owners found.owners;
+}

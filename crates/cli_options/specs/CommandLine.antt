@@ -1,0 +1,107 @@
+-- The command line of the program, as `clap` reads it: its name and then a subcommand with its
+-- words.
+use Rattle.std.specs.Prelude.{◌≡◌, ℕ, Some, true, false, codes, pos}
+use Rattle.clap.specs.Words.{App, Rule, Text, app_of, new_app, new_rule, with_rule, with_subcommand}
+use Rattle.clap.specs.Simple.{on_top}
+use Rattle.clap.specs.declared.builder.action.ArgAction.TheVariants.{SetTrue, Append}
+use Rattle.clap.specs.declared.builder.command.Command.{Command}
+use Rattle.clap.specs.declared.builder.command.Command.TheViews.{out-Command}
+use Rattle.clap.specs.declared.builder.value_parser.ValueParser.TheVariants.{Signed}
+use Rattle.dbus_value_model.specs.declared.limits.TheConstants.{ARRAY_LIMIT, DEPTH_LIMIT, MESSAGE_LIMIT}
+
+-- the option `--to`, which must be there, with one value
+abbrev pub to_rule : Rule
+to_rule = record (new_rule (codes "to")) { long = Some (codes "to"); value_names = 1; required = true }
+
+-- the option `--side`, which must be there, with one value
+abbrev pub side_rule : Rule
+side_rule = record (new_rule (codes "side")) { long = Some (codes "side"); value_names = 1; required = true }
+
+-- the rules' texts, each one word, of which one must be there
+abbrev pub text_rule : Rule
+text_rule = record (new_rule (codes "rule")) { value_names = 1; required = true; action = Some Append }
+
+-- a flag, which takes no value
+abbrev pub flag_rule : Text → Rule
+flag_rule name = record (new_rule name) { long = Some name; action = Some SetTrue }
+
+-- the option `--owner`, with one value each time
+abbrev pub owner_rule : Rule
+owner_rule = record (new_rule (codes "owner")) { long = Some (codes "owner"); value_names = 1; action = Some Append }
+
+-- an option with one value, a number from 0 up to this one
+abbrev pub limit_rule : Text → ℕ → Rule
+limit_rule name most = record (new_rule name) { long = Some name; value_names = 1; parser = Some (Signed (pos 0) (pos most)) }
+
+-- the most messages that `--skip` and `--limit` name: the greatest number of 32 bits
+abbrev pub most_messages : ℕ
+most_messages = 4294967295
+
+-- the option `--fds`, with one value
+abbrev pub fds_rule : Rule
+fds_rule = record (new_rule (codes "fds")) { long = Some (codes "fds"); value_names = 1 }
+
+-- the option `--handshake`, with one value
+abbrev pub handshake_rule : Rule
+handshake_rule = record (new_rule (codes "handshake")) { long = Some (codes "handshake"); value_names = 1 }
+
+-- the command with the options that each has: `--explain`, four for limits, and `--handshake`
+abbrev pub with_options : App → App
+with_options app = with_rule
+    (with_rule
+    (with_rule
+    (with_rule
+    (with_rule (with_rule app (flag_rule (codes "explain"))) (limit_rule (codes "max-message") MESSAGE_LIMIT))
+    (limit_rule (codes "max-array") ARRAY_LIMIT))
+    (limit_rule (codes "max-depth") DEPTH_LIMIT)) fds_rule) handshake_rule
+
+-- and with `--keep-going`, which all but `swap` have
+abbrev pub with_keep_going : App → App
+with_keep_going app = with_options (with_rule app (flag_rule (codes "keep-going")))
+
+-- and with `--skip` and `--limit`, which `show`, `json` and `filter` have
+abbrev pub with_window : App → App
+with_window app = with_keep_going (with_rule (with_rule app (limit_rule (codes "skip") most_messages)) (limit_rule (codes "limit") most_messages))
+
+abbrev pub show_app : App
+show_app = with_window (new_app (codes "show"))
+
+abbrev pub json_app : App
+json_app = with_window (new_app (codes "json"))
+
+abbrev pub check_app : App
+check_app = with_keep_going (new_app (codes "check"))
+
+abbrev pub swap_app : App
+swap_app = with_options (with_rule (new_app (codes "swap")) to_rule)
+
+abbrev pub filter_app : App
+filter_app = with_window (with_rule (with_rule (with_rule (with_rule (new_app (codes "filter")) text_rule) (flag_rule (codes "invert"))) owner_rule) (flag_rule (codes "learn-owners")))
+
+abbrev pub count_app : App
+count_app = with_keep_going (with_rule (new_app (codes "count")) (flag_rule (codes "json")))
+
+abbrev pub handshake_app : App
+handshake_app = with_rule (new_app (codes "handshake")) side_rule
+
+-- the program has a version, and one of the subcommands must be named
+abbrev pub bare_app : App
+bare_app = on_top (λ s. record s { subcommand_required = true; has_version = true }) (new_app (codes "dbus-wire"))
+
+-- the program, with its seven subcommands
+abbrev pub wire_app : App
+wire_app = with_subcommand
+    (with_subcommand
+    (with_subcommand
+    (with_subcommand (with_subcommand (with_subcommand (with_subcommand bare_app show_app.top) json_app.top) check_app.top) count_app.top)
+    swap_app.top) filter_app.top) handshake_app.top
+
+-- clap reads this of the command, and it has no argument that its subcommands share
+pub record IsLocal (app : App) (command : Command) : Type 0 where
+  pub app_is : app_of command ≡ app
+  pub local : (out-Command command).has_globals ≡ false
+
+-- the command has more options after its own, and nothing else is new
+pub record Adds (more : App → App) (old new : Command) : Type 0 where
+  pub app_is : app_of new ≡ more (app_of old)
+  pub as_local : (out-Command new).has_globals ≡ (out-Command old).has_globals

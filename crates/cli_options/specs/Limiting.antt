@@ -1,0 +1,86 @@
+-- The limits and the window that the options of a command name.
+use Rattle.std.specs.Prelude.{◌≡◌, ◌≤◌, ◌<◌, ◌^◌, ℕ, List, Option, Some, None, Result, Ok, Err, codes}
+use Rattle.std.specs.Str.Parse.{IsNumeral, digits_value, without_leading_plus}
+use Rattle.clap.specs.Words.{Row, Text, first_of, one_of}
+use Rattle.dbus_value_model.specs.Specification.{specification}
+use Rattle.dbus_value_model.specs.declared.fd_rule.FdRule.{FdRule}
+use Rattle.dbus_value_model.specs.declared.fd_rule.FdRule.TheVariants.{Any, BelowCount}
+use Rattle.dbus_value_model.specs.declared.limits.Limits.{Limits}
+use Rattle.cli_options.specs.declared.usage_fault.UsageFault.{UsageFault}
+use Rattle.cli_options.specs.declared.usage_fault.UsageFault.TheVariants.{Memory, Help, Version, Usage, Rule}
+use Rattle.cli_options.specs.declared.window.Window.{Window}
+
+-- the number that the digits of an option's text write; of an option that is not there, the default
+abbrev pub IsNumberOf : Option Text → ℕ → ℕ → Type 0
+IsNumberOf None default number = number ≡ default
+IsNumberOf (Some text) default number = IsNumeral 10 (without_leading_plus text) × (number ≡ digits_value 10 (without_leading_plus text))
+
+-- the number that the digits of an option's text write, if it is there, is one of 32 bits
+abbrev pub IsGivenNumber : Option Text → Option ℕ → Type 0
+IsGivenNumber None None = Unit {0}
+IsGivenNumber None (Some number) = ⊥
+IsGivenNumber (Some text) None = ⊥
+IsGivenNumber (Some text) (Some number) = IsNumberOf (Some text) 0 number × (number < 2 ^ 32)
+
+-- the word that stands for a rule on the indexes of descriptors
+abbrev pub fds_word : FdRule → Text
+fds_word Any = codes "any"
+fds_word BelowCount = codes "below-count"
+
+-- the word stands for the rule, or for none
+abbrev pub IsFdsOf : Text → Option FdRule → Type 0
+IsFdsOf word (Some rule) = word ≡ fds_word rule
+IsFdsOf word None = (rule : FdRule) → word ≡ fds_word rule → ⊥
+
+-- the rule that an option's word stands for; of an option that is not there, the default
+abbrev pub IsRuleOf : Option Text → FdRule → FdRule → Type 0
+IsRuleOf None default rule = rule ≡ default
+IsRuleOf (Some word) default rule = word ≡ fds_word rule
+
+-- each number among the limits is the one that its option is given, else that of the specification
+pub record HasNumbers (rows : List Row) (limits : Limits) : Type 0 where
+  pub message : IsNumberOf (one_of (codes "max-message") rows) specification.message limits.message
+  pub array : IsNumberOf (one_of (codes "max-array") rows) specification.array limits.array
+  pub depth : IsNumberOf (one_of (codes "max-depth") rows) specification.depth limits.depth
+
+-- so are the numbers of the limits, and their rule on the indexes of descriptors is the one that
+-- its option is given
+pub record HasLimits (rows : List Row) (limits : Limits) : Type 0 where
+  pub numbers : HasNumbers rows limits
+  pub fds : IsRuleOf (first_of (codes "fds") rows) specification.fds limits.fds
+
+-- as many are skipped as one option says, else none, and at most as many written as the other says,
+-- if it is there
+pub record HasWindow (rows : List Row) (window : Window) : Type 0 where
+  pub skip : IsNumberOf (one_of (codes "skip") rows) 0 window.skip
+  pub few : window.skip < 2 ^ 32
+  pub limit : IsGivenNumber (one_of (codes "limit") rows) window.limit
+
+abbrev pub GivesWindow : List Row → Option Window → Type 0
+GivesWindow rows (Some window) = HasWindow rows window
+GivesWindow rows None = (window : Window) → HasWindow rows window → ⊥
+
+-- limits of these numbers and the default rule, or nothing where the options name no numbers
+abbrev pub GivesNumbers : List Row → Option Limits → Type 0
+GivesNumbers rows (Some limits) = HasNumbers rows limits × (limits.fds ≡ specification.fds)
+GivesNumbers rows None = (limits : Limits) → HasNumbers rows limits → ⊥
+
+-- the number of an option, or nothing where it is not below 2^32
+abbrev pub GivesNumber : Option Text → ℕ → Option ℕ → Type 0
+GivesNumber given default (Some number) = IsNumberOf given default number
+GivesNumber given default None = (number : ℕ) → IsNumberOf given default number → 2 ^ 32 ≤ number
+
+-- the number of an option, if it is there, or nothing where it is not below 2^32
+abbrev pub GivesGiven : Option Text → Option (Option ℕ) → Type 0
+GivesGiven given (Some number) = IsGivenNumber given number
+GivesGiven given None = (number : Option ℕ) → IsGivenNumber given number → ⊥
+
+module _ {A : Type 0} (Is : A → Type 0) where
+  -- what options name, of which Is holds; or a fault of usage if it holds of nothing
+  abbrev pub TellsNamed : Result A UsageFault → Type 0
+  TellsNamed (Ok x) = Is x
+  TellsNamed (Err Memory) = Unit {0}
+  TellsNamed (Err (Help text)) = ⊥
+  TellsNamed (Err (Version text)) = ⊥
+  TellsNamed (Err (Usage text)) = (x : A) → Is x → ⊥
+  TellsNamed (Err (Rule refused)) = ⊥

@@ -1,0 +1,129 @@
+-- The command and the settings that words name, and the rule among them that is refused.
+use Rattle.std.specs.Prelude.{◌≡◌, ◌↔◌, true, List, [], ◌∷◌, ◌++◌, Option, Some, None, option_map, unwrap_or, codes, string_bytes}
+use Rattle.std.specs.List.{AllByRecursion, AllZip}
+use Rattle.std.specs.declared.alloc.Global.{Global}
+use Rattle.clap.specs.Words.{Row, Text, all_of, first_of, subcommand_of}
+use Rattle.dbus_value_model.specs.declared.order.Order.{Order}
+use Rattle.dbus_value_model.specs.declared.order.Order.TheVariants.{Little, Big}
+use Rattle.dbus_match.specs.declared.rule.Rule.{Rule}
+use Rattle.dbus_match.specs.Faults.{IsFault}
+use Rattle.dbus_match.specs.Matching.{Ownership}
+use Rattle.dbus_match.specs.Rules.{Pair, SpellsRule}
+use Rattle.dbus_match.specs.RuleViews.{rule_pairs}
+use Rattle.cli_options.specs.declared.form.Form.{Form}
+use Rattle.cli_options.specs.declared.form.Form.TheVariants as written
+use Rattle.dbus_handshake_input.specs.declared.side.Side.{Side}
+use Rattle.dbus_handshake_input.specs.declared.side.Side.TheVariants.{Client, Server}
+use Rattle.cli_options.specs.CommandLine.{wire_app}
+use Rattle.cli_options.specs.Limiting.{HasLimits, HasWindow}
+use Rattle.cli_options.specs.Owners.{AreOwnersOf, IsOwnerWord}
+use Rattle.cli_options.specs.declared.asked.Asked.{Asked}
+use Rattle.cli_options.specs.declared.asked.Asked.TheVariants.{Messages, Count, Handshake}
+use Rattle.cli_options.specs.declared.command.Command.{Command}
+use Rattle.cli_options.specs.declared.command.Command.TheVariants.{Show, Json, Check, Swap, Filter}
+use Rattle.cli_options.specs.declared.selection.Selection.{Selection}
+use Rattle.cli_options.specs.declared.settings.Settings.{Settings}
+use Rattle.cli_options.specs.declared.usage_fault.RefusedRule.{RefusedRule}
+
+-- the word that stands for a byte order
+abbrev pub order_word : Order → Text
+order_word Little = codes "l"
+order_word Big = codes "B"
+
+-- the word stands for the order, or for none
+abbrev pub IsOrderOf : Text → Option Order → Type 0
+IsOrderOf word (Some order) = word ≡ order_word order
+IsOrderOf word None = (order : Order) → word ≡ order_word order → ⊥
+
+-- the word that stands for a side of a connection
+abbrev pub side_word : Side → Text
+side_word Client = codes "client"
+side_word Server = codes "server"
+
+-- the word stands for the side, or for none
+abbrev pub IsSideOf : Text → Option Side → Type 0
+IsSideOf word (Some side) = word ≡ side_word side
+IsSideOf word None = (side : Side) → word ≡ side_word side → ⊥
+
+-- the side whose handshake comes first is the one that its option is given; without that option
+-- there is none
+abbrev pub HasSide : List Row → Option Side → Type 0
+HasSide rows side = first_of (codes "handshake") rows ≡ option_map side_word side
+
+-- the words that an option is given, each time that it stands there
+abbrev pub words_of : Text → List Row → List Text
+words_of id rows = unwrap_or (all_of id rows) []
+
+-- the texts spell the rules, one each
+abbrev pub AreRulesOf : List Text → List (Rule Global) → Type 0
+AreRulesOf texts rules = AllZip (λ text rule. SpellsRule text (rule_pairs rule)) texts rules
+
+-- the flag of this name is one of the words
+abbrev pub IsGiven : Text → List Row → Type 0
+IsGiven name rows = first_of name rows ≡ Some (codes "true")
+
+-- the words after `filter` are texts that spell the rules, in their order; and so are the owners
+-- given, and it learns others if it is to
+pub record IsSelectionGiven (rows : List Row) (selection : Selection) : Type 0 where
+  pub texts : List Text
+  pub given : all_of (codes "rule") rows ≡ Some texts
+  pub rules : AreRulesOf texts selection.rules.items
+  pub inverted : (selection.is_inverted ≡ true) ↔ IsGiven (codes "invert") rows
+  pub owners : AreOwnersOf (words_of (codes "owner") rows) selection.owners.items
+  pub learns : (selection.learns ≡ true) ↔ IsGiven (codes "learn-owners") rows
+
+-- the name of a subcommand and the words after it name the command
+abbrev pub NamesCommand : Text → List Row → Command → Type 0
+NamesCommand name rows Show = name ≡ codes "show"
+NamesCommand name rows Json = name ≡ codes "json"
+NamesCommand name rows Check = name ≡ codes "check"
+NamesCommand name rows (Swap order) = (name ≡ codes "swap") × (first_of (codes "to") rows ≡ Some (order_word order))
+NamesCommand name rows (Filter selection) = (name ≡ codes "filter") × IsSelectionGiven rows selection
+
+-- the words after a subcommand name the limits, the side and the window, and have each flag that is
+-- set and no other
+pub record HasSettings (rows : List Row) (settings : Settings) : Type 0 where
+  pub limits : HasLimits rows settings.limits
+  pub explains : (settings.explains ≡ true) ↔ IsGiven (codes "explain") rows
+  pub keeps_going : (settings.keeps_going ≡ true) ↔ IsGiven (codes "keep-going") rows
+  pub handshake : HasSide rows settings.handshake
+  pub window : HasWindow rows settings.window
+
+-- the form of tables is JSON if its flag is given
+abbrev pub HasForm : List Row → Form → Type 0
+HasForm rows form = (form ≡ written.Json) ↔ IsGiven (codes "json") rows
+
+-- the subcommand and the words after it name a command and its settings, the settings and the form
+-- of `count`, or the side whose handshake is listed
+abbrev pub Names : Option (Text × List Row) → Asked → Type 0
+Names None asked = ⊥
+Names (Some sub) (Messages command settings) = NamesCommand sub.0 sub.1 command × HasSettings sub.1 settings
+Names (Some sub) (Count settings form) = (sub.0 ≡ codes "count") × HasSettings sub.1 settings × HasForm sub.1 form
+Names (Some sub) (Handshake side) = (sub.0 ≡ codes "handshake") × (first_of (codes "side") sub.1 ≡ Some (side_word side))
+
+-- it is what the words name
+abbrev pub IsNamedBy : List Text → Asked → Type 0
+IsNamedBy words asked = Names (subcommand_of wire_app words) asked
+
+-- the first of the texts that spells no rule is this one, with its fault
+pub record HasFirstFault (texts : List Text) (refused : RefusedRule) : Type 0 where
+  pub before : List Text
+  pub after : List Text
+  pub texts_are : texts ≡ before ++ string_bytes refused.text ∷ after
+  pub rules : AllByRecursion (λ t. (pairs : List Pair) × SpellsRule t pairs) before
+  pub fault : IsFault (string_bytes refused.text) refused.reason refused.at
+
+-- the words after `filter` are texts, of which this one is refused, and options that give owners;
+-- it is to be explained exactly if `--explain` is one of them
+pub record HasFault (name : Text) (rows : List Row) (refused : RefusedRule) : Type 0 where
+  pub named : name ≡ codes "filter"
+  pub texts : List Text
+  pub given : all_of (codes "rule") rows ≡ Some texts
+  pub first : HasFirstFault texts refused
+  pub explains : (refused.explains ≡ true) ↔ IsGiven (codes "explain") rows
+  pub owners : AllByRecursion (λ word. (o : Ownership) × IsOwnerWord word o) (words_of (codes "owner") rows)
+
+-- the same, among options that name settings
+abbrev pub HasRuleFault : Option (Text × List Row) → RefusedRule → Type 0
+HasRuleFault None refused = ⊥
+HasRuleFault (Some sub) refused = HasFault sub.0 sub.1 refused × ((settings : Settings) × HasSettings sub.1 settings)

@@ -1,0 +1,43 @@
+-- Which messages a selection selects.
+-- D-Bus Specification, "Match Rules".
+use Rattle.std.specs.Prelude.{◌≡◌, ◌⊎◌, Bool, true, false, List, [], ◌∷◌, map}
+use Rattle.std.specs.declared.alloc.Global.{Global}
+use Rattle.dbus_message_model.specs.Messages.{MessageTree}
+use Rattle.dbus_match.specs.declared.rule.Rule.{Rule}
+use Rattle.dbus_match.specs.Matching.{Matches, Ownership, ownerships}
+use Rattle.dbus_match.specs.RuleViews.{rule_pairs}
+use Rattle.cli_options.specs.declared.selection.Selection.{Selection}
+
+-- some rule of the list matches the message with these owners
+abbrev pub SomeMatches : List (Rule Global) → MessageTree → List Ownership → Type 0
+SomeMatches [] m os = ⊥
+SomeMatches (rule ∷ rules) m os = Matches (rule_pairs rule) m os ⊎ SomeMatches rules m os
+
+-- what holds of a message where it is selected: this, or, inverted, that it does not
+abbrev pub OrInverted : Bool → Type 0 → Type 0
+OrInverted false P = P
+OrInverted true P = P → ⊥
+
+-- the selection selects the message with these owners: some rule of it matches; or, inverted, none
+-- does
+abbrev pub SelectsBy : Selection → List Ownership → MessageTree → Type 0
+SelectsBy selection os m = OrInverted selection.is_inverted (SomeMatches selection.rules.items m os)
+
+-- with its own owners
+abbrev pub Selects : Selection → MessageTree → Type 0
+Selects selection m = SelectsBy selection (ownerships selection.owners.items) m
+
+-- it is by this rule alone, with no owners, and learns none
+pub record IsByRule (rule : Rule Global) (selection : Selection) : Type 0 where
+  pub rules : map rule_pairs selection.rules.items ≡ rule_pairs rule ∷ []
+  pub straight : selection.is_inverted ≡ false
+  pub owners : selection.owners.items ≡ []
+  pub fixed : selection.learns ≡ false
+
+-- both have the same rules and owners, each in the same order, and both are inverted, or neither
+-- is, and both learn, or neither does
+pub record AreSameSelection (a b : Selection) : Type 0 where
+  pub rules : map rule_pairs a.rules.items ≡ map rule_pairs b.rules.items
+  pub inverted : a.is_inverted ≡ b.is_inverted
+  pub owners : ownerships a.owners.items ≡ ownerships b.owners.items
+  pub learns : a.learns ≡ b.learns

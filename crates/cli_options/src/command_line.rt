@@ -1,0 +1,246 @@
+//! The command that the words of a command line name.
+ghost use Rattle.std.specs.Prelude.{◌≡◌, ◌↔◌, true, List, Some, IfOk, MatchOption, map, string_bytes, codes};
+ghost use Rattle.clap.specs.Words.{found_of, kind_of, rows_of, subcommand_rows_of};
+ghost use Rattle.cli_options.specs.Named.{HasForm, HasSettings, HasSide, IsGiven, IsNamedBy, IsOrderOf, IsSideOf, words_of};
+ghost use Rattle.cli_options.specs.Limiting.{TellsNamed};
+ghost use Rattle.cli_options.specs.Told.{TellsKind, Tells, TellsCommand, TellsFault, TellsOwners};
+
+use crate::asked::Asked;
+use crate::command::Command;
+use crate::form::Form;
+use crate::limits_named::{limits_named, window_named};
+use crate::owners::owners_given;
+use crate::rules::rules_spelled;
+use crate::selection::Selection;
+use crate::settings::Settings;
+use crate::usage_fault::{UsageFault, bad_value, usage};
+use crate::wire::wire;
+use clap::ArgMatches;
+use clap::error::ErrorKind;
+use dbus_handshake_input::Side;
+use dbus_match::Owner;
+use dbus_value_model::Order;
+use std::alloc::Global;
+
+/// What the words ask for: the command that they name, and its settings; or of `handshake` the side
+/// that `--side` names. The first of the words is the program's name. `--max-message` and
+/// `--max-array`, in bytes, `--max-depth`, in open containers, and `--fds`, a rule on indexes of
+/// descriptors, name the limits; one that they do not name is that of the specification. The flags
+/// `--explain`, and `--keep-going` of all commands but `swap`, are set if they are among the words,
+/// and `--json` of `count` is its form. `--handshake` names the side whose handshake comes before
+/// the messages. `--skip` and `--limit`, of `show`, `json` and `filter`, are the numbers of the
+/// window; without them it leaves no message out.
+///
+/// `Usage`: the words name no command of the program, or have what it does not take, a limit over
+/// that of the specification, a number of messages over 4294967295 and an owner that is no
+/// NAME=UNIQUE of two bus names among it. `Rule`: they name `filter`, with a text that spells no
+/// rule; it is the first such text. `Help`, `Version`: they ask for help, or for the version.
+/// `Memory`: an allocation failed.
+pub fn command_of(alloc: Global, words: &[String]) -> Result<Asked, UsageFault>
+    // What is returned is what the words name: a command and its settings, or a side.
+    ensures named { IfOk result (IsNamedBy (map string_bytes words.now)) }
+    // Help or the version is returned if the words ask for it, a fault of usage if they have one,
+    // and a rule if it is refused.
+    ensures faults { TellsFault (map string_bytes words.now) result }
+{
+    let Ok(command) = wire(alloc) else {
+        return Err(UsageFault::Memory);
+    };
+    match command.try_get_matches_from(words) {
+        Ok(matches) => command_named(alloc, &matches),
+        Err(error) => Err(fault_told(alloc, &error)),
+    }
+}
+
+// What matches name.
+fn command_named(alloc: Global, matches: &ArgMatches) -> Result<Asked, UsageFault>
+    ensures { Tells (subcommand_rows_of matches.now) result }
+{
+    let Some((name, inner)) = matches.subcommand() else {
+        return Err(usage(alloc, "error: no command\n"));
+    };
+    if name == "handshake" {
+        return handshake_named(alloc, inner);
+    }
+    let settings = settings_named(alloc, inner)?;
+    if name == "count" {
+        return Ok(Asked::Count(settings, form_named(inner)));
+    }
+    let command = command_with(alloc, name, inner)?;
+    Ok(Asked::Messages(command, settings))
+}
+
+// The side that `handshake` is given.
+fn handshake_named(alloc: Global, inner: &ArgMatches) -> Result<Asked, UsageFault>
+    ensures { Tells (Some (codes "handshake", rows_of (found_of inner.now))) result }
+{
+    let Some(word) = inner.get_str("side") else {
+        return Err(usage(alloc, "error: no side\n"));
+    };
+    match side_of(word) {
+        Some(side) => Ok(Asked::Handshake(side)),
+        None => Err(bad_value(alloc, word, "--side <SIDE>", "client, server")),
+    }
+}
+
+// The form of the tables of `count`.
+fn form_named(inner: &ArgMatches) -> Form
+    ensures { HasForm (rows_of (found_of inner.now)) result }
+{
+    if is_given(inner, "json") {
+        Form::Json
+    } else {
+        Form::Text
+    }
+}
+
+// The settings that the options name.
+fn settings_named(alloc: Global, inner: &ArgMatches) -> Result<Settings, UsageFault>
+    ensures { TellsNamed (HasSettings (rows_of (found_of inner.now))) result }
+{
+    let limits = limits_named(alloc, inner)?;
+    let handshake = side_named(alloc, inner)?;
+    let window = window_named(alloc, inner)?;
+    Ok(Settings {
+        limits,
+        explains: is_given(inner, "explain"),
+        keeps_going: is_given(inner, "keep-going"),
+        handshake,
+        window,
+    })
+}
+
+// The side that `--handshake` is given.
+fn side_named(alloc: Global, inner: &ArgMatches) -> Result<Option<Side>, UsageFault>
+    ensures { TellsNamed (HasSide (rows_of (found_of inner.now))) result }
+{
+    let Some(word) = inner.get_str("handshake") else {
+        return Ok(None);
+    };
+    match side_of(word) {
+        Some(side) => Ok(Some(side)),
+        None => Err(bad_value(alloc, word, "--handshake <SIDE>", "client, server")),
+    }
+}
+
+// The side that a word stands for.
+fn side_of(word: &str) -> Option<Side>
+    ensures { IsSideOf word.now result }
+{
+    if word == "client" {
+        return Some(Side::Client);
+    }
+    if word == "server" {
+        return Some(Side::Server);
+    }
+    None
+}
+
+// The command of this name, with what comes after it.
+fn command_with(alloc: Global, name: &str, inner: &ArgMatches) -> Result<Command, UsageFault>
+    ensures { TellsCommand name.now (rows_of (found_of inner.now)) result }
+{
+    if name == "show" {
+        return Ok(Command::Show);
+    }
+    if name == "json" {
+        return Ok(Command::Json);
+    }
+    if name == "check" {
+        return Ok(Command::Check);
+    }
+    if name == "swap" {
+        return order_named(alloc, inner);
+    }
+    if name == "filter" {
+        return selection_named(alloc, inner);
+    }
+    Err(usage(alloc, "error: no such command\n"))
+}
+
+// The order that `swap` is given.
+fn order_named(alloc: Global, inner: &ArgMatches) -> Result<Command, UsageFault>
+    ensures { TellsCommand (codes "swap") (rows_of (found_of inner.now)) result }
+{
+    let Some(word) = inner.get_str("to") else {
+        return Err(usage(alloc, "error: no order\n"));
+    };
+    match order_of(word) {
+        Some(order) => Ok(Command::Swap(order)),
+        None => Err(bad_value(alloc, word, "--to <ORDER>", "l, B")),
+    }
+}
+
+// The order that a word stands for.
+fn order_of(word: &str) -> Option<Order>
+    ensures { IsOrderOf word.now result }
+{
+    if word == "l" {
+        return Some(Order::Little);
+    }
+    if word == "B" {
+        return Some(Order::Big);
+    }
+    None
+}
+
+// The messages that `filter` is to select.
+fn selection_named(alloc: Global, inner: &ArgMatches) -> Result<Command, UsageFault>
+    ensures { TellsCommand (codes "filter") (rows_of (found_of inner.now)) result }
+{
+    let Some(texts) = inner.get_strs("rule") else {
+        return Err(usage(alloc, "error: no rule\n"));
+    };
+    let owners = owners_named(alloc, inner)?;
+    let rules = rules_spelled(alloc, texts, is_given(inner, "explain"))?;
+    Ok(Command::Filter(Selection {
+        rules,
+        is_inverted: is_given(inner, "invert"),
+        owners,
+        learns: is_given(inner, "learn-owners"),
+    }))
+}
+
+// The owners that `--owner` gives.
+fn owners_named(alloc: Global, inner: &ArgMatches) -> Result<Vec<Owner>, UsageFault>
+    ensures { TellsOwners (words_of (codes "owner") (rows_of (found_of inner.now))) result }
+{
+    match inner.get_strs("owner") {
+        Some(words) => owners_given(alloc, words),
+        None => Ok(Vec::new(alloc)),
+    }
+}
+
+// Whether the flag of this name is given.
+fn is_given(inner: &ArgMatches, name: &str) -> bool
+    ensures { (result ≡ true) ↔ IsGiven name.now (rows_of (found_of inner.now)) }
+{
+    is_true(inner.get_str(name))
+}
+
+// Whether the word is there and is `true`.
+fn is_true(word: Option<&str>) -> bool
+    ensures { (result ≡ true) ↔ MatchOption word.entry ⊥ (λ w. w.now ≡ codes "true") }
+{
+    match word {
+        Some(word) => word == "true",
+        None => false,
+    }
+}
+
+// What is reported of words that clap rejects: its own text.
+fn fault_told(alloc: Global, error: &clap::Error) -> UsageFault
+    ensures { TellsKind (kind_of error.now) result }
+{
+    if error.kind() == ErrorKind::OutOfMemory {
+        return UsageFault::Memory;
+    }
+    let Ok(text) = error.to_string(alloc) else {
+        return UsageFault::Memory;
+    };
+    match error.kind() {
+        ErrorKind::DisplayHelp => UsageFault::Help(text),
+        ErrorKind::DisplayVersion => UsageFault::Version(text),
+        _ => UsageFault::Usage(text),
+    }
+}

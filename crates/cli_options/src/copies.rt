@@ -1,0 +1,42 @@
+//! Copies of commands and selections.
+#![tactic(auto)]
+
+ghost use Rattle.cli_options.specs.SameCommands.{AreSameCommand};
+ghost use Rattle.cli_options.specs.Selections.{AreSameSelection};
+
+use crate::command::Command;
+use crate::selection::Selection;
+use std::alloc::AllocError;
+
+impl Clone for Command {
+    ghost is_clone = { λ command copy. AreSameCommand copy command };
+
+    /// The same command; the selection of `Filter` in memory of its own.
+    ///
+    /// Returns `AllocError` if an allocation failed, and nothing of the copy is left then.
+    fn clone(&self) -> Result<Command, AllocError> {
+        match self {
+            Command::Show => Ok(Command::Show),
+            Command::Json => Ok(Command::Json),
+            Command::Check => Ok(Command::Check),
+            Command::Swap(order) => Ok(Command::Swap(*order)),
+            Command::Filter(selection) => Ok(Command::Filter(selection.clone()?)),
+        }
+    }
+}
+
+impl Clone for Selection {
+    ghost is_clone = { λ selection copy. AreSameSelection copy selection };
+
+    /// The same selection, in memory of its own.
+    ///
+    /// Returns `AllocError` if an allocation failed, and nothing of the copy is left then.
+    fn clone(&self) -> Result<Selection, AllocError> {
+        Ok(Selection {
+            rules: self.rules.clone()?,
+            is_inverted: self.is_inverted,
+            owners: self.owners.clone()?,
+            learns: self.learns,
+        })
+    }
+}

@@ -1,0 +1,161 @@
+//! The owners of names that a stream itself tells.
+ghost use Rattle.std.specs.Prelude.{◌≡◌, ◌↔◌, None, Some, IfOk, IsTrue, OnErr, option_map};
+ghost use Rattle.dbus_value_model.specs.declared.order.Order.{Order};
+ghost use Rattle.dbus_message_model.specs.Lookups.{body_value};
+ghost use Rattle.dbus_message_model.specs.Messages.{MessageTree};
+ghost use Rattle.dbus_view.specs.Views.{Views};
+ghost use Rattle.dbus_match.specs.Matching.{ownerships, string_of};
+ghost use Rattle.cli_options.specs.Learning.{ask_sender, change_of, changed, is_change, is_text, known, known_after, others};
+ghost use Rattle.cli_options.specs.Selections.{SelectsBy};
+
+use crate::selection::Selection;
+use dbus_match::{Owner, Rule};
+use dbus_message_model::message_type::SIGNAL;
+use dbus_view::{ArgView, MessageView};
+use std::alloc::AllocError;
+
+// The name of the bus itself, and of its interface.
+pub(crate) const BUS: &str = "org.freedesktop.DBus";
+
+// A name, and the unique name of its owner from now on, which is empty if it has none.
+#[derive(Clone, Copy)]
+struct Change<'a> {
+    name: &'a str,
+    unique: &'a str,
+}
+
+impl Selection {
+    /// Whether the message is selected where `learned` are the owners that the selection has known
+    /// since it learned some; `None` stands for its own owners. Nothing is allocated.
+    pub fn selects_knowing(&self, view: &MessageView, learned: &Option<Vec<Owner>>) -> bool
+        ensures { (order : Order) (m : MessageTree) → Views view.now order m →
+            IsTrue result ↔ SelectsBy self.now (known self.now learned.now) m }
+    {
+        match learned {
+            Some(owners) => self.selects_by(view, owners),
+            None => self.selects(view),
+        }
+    }
+
+    /// Learns what the message tells of the owner of a name that a rule's `sender` is, if the
+    /// selection learns: a signal `NameOwnerChanged` of the bus. `learned` is what
+    /// [`Selection::selects_knowing`] asks of the messages after it; at first it is `None`. D-Bus
+    /// Specification, "Message Bus Messages".
+    ///
+    /// `AllocError`: an allocation failed. Then `learned` is `None`.
+    pub fn learn(
+        &self,
+        view: &MessageView,
+        learned: &mut Option<Vec<Owner>>,
+    ) -> Result<(), AllocError>
+        ensures learns { (order : Order) (m : MessageTree) → Views view.now order m →
+            IfOk result (λ _. known self.now learned.new ≡ known_after self.now (known self.now learned.old) m) }
+        ensures lost { OnErr result (learned.new ≡ None) }
+    {
+        if !self.learns {
+            return Ok(());
+        }
+        let Some(change) = change_told(view) else {
+            return Ok(());
+        };
+        // So no more names are kept than the rules have.
+        if !ask_sender(&self.rules, change.name) {
+            return Ok(());
+        }
+        let mut owners = self.take_known(learned)?;
+        set_owner(&mut owners, change.name, change.unique)?;
+        *learned = Some(owners);
+        Ok(())
+    }
+
+    // The owners that are known, with `None` in their place.
+    fn take_known(&self, learned: &mut Option<Vec<Owner>>) -> Result<Vec<Owner>, AllocError>
+        ensures owners { IfOk result (λ owners. ownerships owners.items ≡ known self.now learned.old) }
+        ensures taken { learned.new ≡ None }
+    {
+        match learned.take() {
+            Some(owners) => Ok(owners),
+            None => Ok(self.owners.clone()?),
+        }
+    }
+}
+
+// Gives the name this owner, or none if that is empty.
+fn set_owner(owners: &mut Vec<Owner>, name: &str, unique: &str) -> Result<(), AllocError>
+    ensures { IfOk result (λ _. ownerships owners.new.items ≡
+        changed (Some (record { name = name.now; unique = unique.now })) (ownerships owners.old.items)) }
+{
+    forget(owners, name);
+    if unique.is_empty() {
+        return Ok(());
+    }
+    let alloc = *owners.allocator();
+    let owner = Owner {
+        name: String::from_str(alloc, name)?,
+        unique: String::from_str(alloc, unique)?,
+    };
+    owners.push(owner)?;
+    Ok(())
+}
+
+// Takes the owners of this name away.
+fn forget(owners: &mut Vec<Owner>, name: &str)
+    ensures { ownerships owners.new.items ≡ others name.now (ownerships owners.old.items) }
+{
+    owners.retain(|owner| owner.name.as_str() != name);
+}
+
+// The change that the message tells, if it tells one.
+fn change_told<'a>(view: &MessageView<'a>) -> Option<Change<'a>>
+    ensures { (order : Order) (m : MessageTree) → Views view.now order m →
+        option_map (λ c. record { name = c.name.now; unique = c.unique.now }) result ≡ change_of m }
+{
+    if !is_change(view) {
+        return None;
+    }
+    let name = string_seen(view, 0)?;
+    string_seen(view, 1)?;
+    let unique = string_seen(view, 2)?;
+    if view.arg(3).is_some() {
+        return None;
+    }
+    Some(Change { name, unique })
+}
+
+// Whether one of the rules asks for messages from this name.
+fn ask_sender(rules: &[Rule], name: &str) -> bool
+    ensures { result ≡ ask_sender rules.now name.now }
+{
+    rules.iter().any(|rule| is_text(rule.sender(), name))
+}
+
+// The text of argument `n`, if that is a STRING.
+fn string_seen<'a>(view: &MessageView<'a>, n: usize) -> Option<&'a str>
+    ensures { (order : Order) (m : MessageTree) → Views view.now order m →
+        option_map (λ s. s.now) result ≡ string_of (body_value n m.body) }
+{
+    match view.arg(n) {
+        Some(ArgView::Str(text)) => Some(text),
+        _ => None,
+    }
+}
+
+// Whether it is the signal by which the bus tells that a name has another owner.
+fn is_change(view: &MessageView) -> bool
+    ensures { (order : Order) (m : MessageTree) → Views view.now order m → result ≡ is_change m }
+{
+    view.kind() == SIGNAL
+        && is_text(view.sender(), BUS)
+        && is_text(view.interface(), BUS)
+        && is_text(view.member(), "NameOwnerChanged")
+}
+
+// Whether the text is there, and it is this.
+fn is_text(text: Option<&str>, value: &str) -> bool
+    ensures { result ≡ is_text (option_map (λ t. t.now) text.entry) value.now }
+{
+    match text {
+        Some(text) => text == value,
+        None => false,
+    }
+}

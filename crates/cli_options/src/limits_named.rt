@@ -1,0 +1,92 @@
+//! The limits and the window that the options of a command name.
+ghost use Rattle.clap.specs.Words.{found_of, one_of, rows_of};
+ghost use Rattle.cli_options.specs.Limiting.{GivesGiven, GivesNumber, GivesNumbers, GivesWindow, HasLimits, HasWindow, IsFdsOf, TellsNamed};
+
+use crate::usage_fault::{UsageFault, bad_value, usage};
+use crate::window::Window;
+use clap::ArgMatches;
+use dbus_value_model::{ARRAY_LIMIT, DEPTH_LIMIT, FdRule, Limits, MESSAGE_LIMIT};
+use std::alloc::Global;
+
+/// The limits that the options name. `Usage`: one of them is given what it may not be. `Memory`: an
+/// allocation failed.
+pub(crate) fn limits_named(alloc: Global, inner: &ArgMatches) -> Result<Limits, UsageFault>
+    ensures { TellsNamed (HasLimits (rows_of (found_of inner.now))) result }
+{
+    let Some(limits) = numbers_named(inner) else {
+        return Err(usage(alloc, "error: no limits\n"));
+    };
+    let Some(word) = inner.get_str("fds") else {
+        return Ok(limits);
+    };
+    match fds_of(word) {
+        Some(fds) => Ok(limits.with_fds(fds)),
+        None => Err(bad_value(alloc, word, "--fds <RULE>", "any, below-count")),
+    }
+}
+
+// Limits of the numbers that the options name, or nothing if one of them is given no number that it
+// may be.
+fn numbers_named(inner: &ArgMatches) -> Option<Limits>
+    ensures { GivesNumbers (rows_of (found_of inner.now)) result }
+{
+    let message = number_named(inner, "max-message", MESSAGE_LIMIT)?;
+    let array = number_named(inner, "max-array", ARRAY_LIMIT)?;
+    let depth = number_named(inner, "max-depth", u32::from(DEPTH_LIMIT))?;
+    Limits::new(message, array, u8::try_from(depth).ok()?)
+}
+
+// The number that an option is given, or `most` if it is not given. Nothing, if its text is no
+// number of 32 bits.
+fn number_named(inner: &ArgMatches, name: &str, most: u32) -> Option<u32>
+    ensures { GivesNumber (one_of name.now (rows_of (found_of inner.now))) most result }
+{
+    match given_named(inner, name) {
+        Some(given) => Some(given.unwrap_or(most)),
+        None => None,
+    }
+}
+
+// The number that an option is given, if it is given. Nothing, if its text is no number of 32 bits.
+fn given_named(inner: &ArgMatches, name: &str) -> Option<Option<u32>>
+    ensures { GivesGiven (one_of name.now (rows_of (found_of inner.now))) result }
+{
+    match inner.try_get_one::<u32>(name) {
+        Ok(given) => Some(given),
+        Err(_) => None,
+    }
+}
+
+/// The window that the options name. `Usage`: one of them is given what it may not be. `Memory`: an
+/// allocation failed.
+pub(crate) fn window_named(alloc: Global, inner: &ArgMatches) -> Result<Window, UsageFault>
+    ensures { TellsNamed (HasWindow (rows_of (found_of inner.now))) result }
+{
+    match window_of(inner) {
+        Some(window) => Ok(window),
+        None => Err(usage(alloc, "error: no window\n")),
+    }
+}
+
+// The window of the numbers that the options name, or nothing if one of them is given no number
+// that it may be.
+fn window_of(inner: &ArgMatches) -> Option<Window>
+    ensures { GivesWindow (rows_of (found_of inner.now)) result }
+{
+    let skip = number_named(inner, "skip", 0)?;
+    let limit = given_named(inner, "limit")?;
+    Some(Window { skip, limit })
+}
+
+// The rule on indexes of file descriptors that a word stands for.
+fn fds_of(word: &str) -> Option<FdRule>
+    ensures { IsFdsOf word.now result }
+{
+    if word == "any" {
+        return Some(FdRule::Any);
+    }
+    if word == "below-count" {
+        return Some(FdRule::BelowCount);
+    }
+    None
+}

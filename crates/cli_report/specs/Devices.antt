@@ -1,0 +1,48 @@
+-- A source and a writer before and after a call, with what is known of it, so that a relation takes
+-- each as one argument.
+use Rattle.std.specs.Prelude.{◌≤◌, ℕ, List, Option}
+use Rattle.dbus_device.specs.Device.{RisesBy}
+
+-- a count, modulo 2^64, rises by at most so many
+abbrev pub RisesAtMost : ℕ → ℕ → ℕ → Type 0
+RisesAtMost most old new = (n : ℕ) × (n ≤ most) × RisesBy n old new
+
+-- the bytes that are left in a source, the calls that it had, and those that failed
+pub record Reading (R : Type 0) : Type 0 where
+  pub left : R → Option (List ℕ)
+  pub calls : R → ℕ
+  pub failures : R → ℕ
+  pub old : R
+  pub new : R
+
+abbrev pub reading : {R : Type 0} → (R → Option (List ℕ)) → (R → ℕ) → (R → ℕ) → R → R → Reading R
+reading left calls failures old new = record { left = left; calls = calls; failures = failures; old = old; new = new }
+
+-- the bytes that a writer holds, and the calls that failed
+pub record Writing (W : Type 0) : Type 0 where
+  pub held : W → Option (List ℕ)
+  pub failures : W → ℕ
+  pub old : W
+  pub new : W
+
+abbrev pub writing : {W : Type 0} → (W → Option (List ℕ)) → (W → ℕ) → W → W → Writing W
+writing held failures old new = record { held = held; failures = failures; old = old; new = new }
+
+-- a source before and after: the bytes that are left, the calls that it had, and those that failed
+pub record Taken : Type 0 where
+  pub left0 : Option (List ℕ)
+  pub left1 : Option (List ℕ)
+  pub calls0 : ℕ
+  pub calls1 : ℕ
+  pub failures0 : ℕ
+  pub failures1 : ℕ
+
+abbrev pub taken : {R : Type 0} → Reading R → Taken
+taken r = record {
+  left0 = r.left r.old;
+  left1 = r.left r.new;
+  calls0 = r.calls r.old;
+  calls1 = r.calls r.new;
+  failures0 = r.failures r.old;
+  failures1 = r.failures r.new;
+}

@@ -1,0 +1,50 @@
+-- Bytes that are gathered before they are written. g0 and g1 are what is gathered before and after.
+use Rattle.std.specs.Prelude.{◌≡◌, ℕ, List, [], ◌++◌, take, Option, Result, Ok, Err}
+use Rattle.std.specs.Io.KnownBytes.{Appends}
+use Rattle.dbus_device.specs.Device.{one_more}
+use Rattle.cli_report.specs.declared.gathered.Gathered.{Gathered}
+use Rattle.cli_report.specs.declared.gathering.Unwritten.{Unwritten}
+use Rattle.cli_report.specs.declared.ending.Cause.{Cause}
+use Rattle.cli_report.specs.declared.ending.Cause.TheVariants.{Memory, ReadFailed, WriteFailed, TooManyReads}
+
+-- the first list is a prefix of the second
+abbrev pub IsPrefixTo : List ℕ → List ℕ → Type 0
+IsPrefixTo front all = (more : List ℕ) × (all ≡ front ++ more)
+
+-- the bytes that are gathered
+unfoldable pub gathered_bytes : Gathered → List ℕ
+gathered_bytes g = take g.len g.bytes
+
+module _ {W : Type 0} (held : W → Option (List ℕ)) (failures : W → ℕ) where
+  -- what was gathered and then these bytes were written, but for what is gathered now
+  pub record Passes (bytes g0 g1 : List ℕ) (old new : W) : Type 0 where
+    pub written : List ℕ
+    pub appended : Appends (held old) (held new) written
+    pub joined : g0 ++ bytes ≡ written ++ g1
+    pub failed : failures new ≡ failures old
+
+  -- a prefix of what was gathered and then these bytes was written, and then a write failed
+  pub record Breaks (bytes g0 : List ℕ) (old new : W) : Type 0 where
+    pub written : List ℕ
+    pub appended : Appends (held old) (held new) written
+    pub front : IsPrefixTo written (g0 ++ bytes)
+    pub failed : failures new ≡ one_more (failures old)
+
+  abbrev pub Gathers : List ℕ → List ℕ → List ℕ → W → W → Result (Unit {0}) Unwritten → Type 0
+  Gathers bytes g0 g1 old new (Ok x) = Passes bytes g0 g1 old new
+  Gathers bytes g0 g1 old new (Err e) = Breaks bytes g0 old new
+
+  -- the same, or for want of memory nothing
+  abbrev pub GathersOrNot : List ℕ → List ℕ → List ℕ → W → W → Result (Unit {0}) Cause → Type 0
+  GathersOrNot bytes g0 g1 old new (Ok x) = Passes bytes g0 g1 old new
+  GathersOrNot bytes g0 g1 old new (Err Memory) = Passes [] g0 g1 old new
+  GathersOrNot bytes g0 g1 old new (Err ReadFailed) = ⊥
+  GathersOrNot bytes g0 g1 old new (Err WriteFailed) = Breaks bytes g0 old new
+  GathersOrNot bytes g0 g1 old new (Err TooManyReads) = ⊥
+
+  -- what was done with bytes where this is why no more follow: before a read all was written
+  abbrev pub Leaves : Cause → List ℕ → List ℕ → List ℕ → W → W → Type 0
+  Leaves Memory bytes g0 g1 old new = Passes bytes g0 g1 old new
+  Leaves ReadFailed bytes g0 g1 old new = Passes bytes g0 [] old new
+  Leaves WriteFailed bytes g0 g1 old new = Breaks bytes g0 old new
+  Leaves TooManyReads bytes g0 g1 old new = Passes bytes g0 [] old new

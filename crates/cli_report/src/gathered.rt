@@ -1,0 +1,58 @@
+//! Room for bytes that are gathered before they are written.
+#![tactic(auto, unfolding(crate::specs::Gathering::gathered_bytes))]
+
+ghost use Rattle.std.specs.Prelude.{◌≤◌};
+
+/// What is gathered: up to 16,384 bytes, in the value itself. An `ArrayVec` blanks what it gives
+/// up, which costs as much as writing it.
+#[derive(Drop)]
+pub struct Gathered {
+    bytes: [u8; 16_384],
+    len: usize,
+    ghost fits: { len ≤ 16384 },
+}
+
+impl Gathered {
+    ghost use Rattle.std.specs.Prelude.{◌≡◌, [], ◌++◌, true, false};
+    ghost use Rattle.cli_report.specs.Gathering.{gathered_bytes};
+
+    /// Nothing is gathered.
+    pub fn new() -> Self
+        ensures { gathered_bytes result ≡ [] }
+    {
+        Gathered {
+            bytes: [0; 16_384],
+            len: 0,
+        }
+    }
+
+    /// Appends the bytes if there is room for them, and says whether there was.
+    #[inline]
+    pub(crate) fn push(&mut self, bytes: &[u8]) -> bool
+        ensures took { result ≡ true →
+            gathered_bytes self.new ≡ gathered_bytes self.old ++ bytes.now }
+        ensures full { result ≡ false → self.new ≡ self.old }
+    {
+        if bytes.len() > 16_384 - self.len {
+            return false;
+        }
+        let end = self.len + bytes.len();
+        self.bytes[self.len..end].copy_from_slice(bytes);
+        self.len = end;
+        true
+    }
+
+    /// The bytes.
+    pub(crate) fn as_slice(&self) -> &[u8]
+        ensures { result.now ≡ gathered_bytes self.now }
+    {
+        &self.bytes[..self.len]
+    }
+
+    /// Nothing is gathered any more.
+    pub(crate) fn clear(&mut self)
+        ensures { gathered_bytes self.new ≡ [] }
+    {
+        self.len = 0;
+    }
+}

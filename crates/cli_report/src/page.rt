@@ -1,0 +1,49 @@
+//! A text that is gathered and written as it comes.
+#![tactic(auto)]
+
+ghost use Rattle.cli_report.specs.Pages.{Goes};
+ghost use Rattle.cli_report.specs.PageLaws as laws;
+
+use crate::gathered::Gathered;
+use crate::gathering::write_after;
+use dbus_show::Draft;
+use dbus_stream::Sink;
+
+/// A text that goes to a writer by what is gathered for it. Once a write failed, nothing more is
+/// written.
+#[derive(Drop)]
+pub struct Page<'a, W> {
+    /// What is gathered for the writer.
+    pub gathered: &'a mut Gathered,
+    /// The writer.
+    pub first: &'a mut W,
+    /// Whether a write failed.
+    pub failed: bool,
+}
+
+impl<W: Sink> Page<'_, W> {
+    /// Writes what is gathered and then a text, which has no room beside it.
+    #[inline(never)]
+    fn push_past(&mut self, text: &str)
+        ensures { Goes W.held W.failures self.old text.now self.new }
+    {
+        if !self.failed {
+            self.failed = write_after(text.as_bytes(), self.gathered, self.first).is_err();
+        }
+    }
+}
+
+impl<W: Sink> Draft for Page<'_, W> {
+    ghost gains = { Goes W.held W.failures };
+
+    #[inline]
+    fn push_str(&mut self, text: &str) {
+        if !self.gathered.push(text.as_bytes()) {
+            self.push_past(text);
+        }
+    }
+
+    ghost nothing = { laws.nothing W.held W.failures };
+
+    ghost joins = { laws.joins W.held W.failures };
+}

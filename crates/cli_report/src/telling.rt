@@ -1,0 +1,113 @@
+//! What is told of a message that is refused.
+ghost use Rattle.std.specs.Prelude.{◌≡◌, IfOk, OnOk, string_bytes};
+ghost use Rattle.dbus_explain.specs.Explained.{IsExplained};
+ghost use Rattle.dbus_stream.specs.RawReading.{kept};
+ghost use Rattle.cli_report.specs.Telling.{Explains, IsToldBy, line_of};
+
+use crate::lines::refused_line;
+use dbus_explain::{Refused, explain_message};
+use dbus_show::StringDraft;
+use dbus_stream::{RawReader, Source};
+use dbus_value_model::Fault;
+use std::alloc::{AllocError, Allocator};
+
+/// A message that is refused.
+#[derive(Clone, Copy, Debug, PartialEq, Eq)]
+pub struct Refusal {
+    /// Its number among the messages of its input, from 1.
+    pub number: u64,
+    /// Where it begins, in bytes from the start of the input.
+    pub offset: u64,
+    /// Its fault, whose place counts from its first byte.
+    pub fault: Fault,
+}
+
+/// What is told of a message that is refused: its line, which says which one it is if the run goes
+/// on after it, and, if that is wanted, the lines that explain it by the bytes that the reader
+/// keeps.
+///
+/// `AllocError`: an allocation failed.
+pub fn refusal_text<R: Source, A: Allocator + Copy>(
+    alloc: A,
+    goes_on: bool,
+    explains: bool,
+    refusal: Refusal,
+    messages: &RawReader<R, A>,
+) -> Result<String<A>, AllocError>
+    ensures { IfOk result (λ text.
+        IsToldBy goes_on explains refusal (kept messages.now) (string_bytes text)) }
+{
+    let mut text = line_of(alloc, goes_on, refusal)?;
+    if explains {
+        let explained = explanation(alloc, refusal, messages)?;
+        text.push_str(explained.as_str())?;
+    }
+    Ok(text)
+}
+
+// The line of a message that is refused.
+fn line_of<A: Allocator + Copy>(
+    alloc: A,
+    goes_on: bool,
+    refusal: Refusal,
+) -> Result<String<A>, AllocError>
+    ensures { IfOk result (λ line. string_bytes line ≡ line_of goes_on refusal) }
+{
+    let Refusal {
+        number,
+        offset,
+        fault,
+    } = refusal;
+    if !goes_on {
+        return refused_line(alloc, offset, fault);
+    }
+    let place = offset as u128 + fault.at as u128;
+    let reason = fault.reason;
+    format!(in alloc; "refused at {place}: {reason} in message {number} at {offset}\n")
+}
+
+// The lines that explain a message that is refused, by the bytes that the reader keeps.
+fn explanation<R: Source, A: Allocator + Copy>(
+    alloc: A,
+    refusal: Refusal,
+    messages: &RawReader<R, A>,
+) -> Result<String<A>, AllocError>
+    ensures { IfOk result (λ text. Explains refusal (kept messages.now) (string_bytes text)) }
+{
+    let (held, part) = messages.kept();
+    if held.is_empty() {
+        return explained_by(alloc, refusal, part);
+    }
+    let mut joined = Vec::new(alloc);
+    joined.extend_from_slice(held)?;
+    joined.extend_from_slice(part)?;
+    explained_by(alloc, refusal, joined.as_slice())
+}
+
+// The lines that explain a message that is refused, by its bytes.
+fn explained_by<A: Allocator + Copy>(
+    alloc: A,
+    refusal: Refusal,
+    bytes: &[u8],
+) -> Result<String<A>, AllocError>
+    ensures { IfOk result (λ text. Explains refusal bytes.now (string_bytes text)) }
+{
+    let refused = Refused {
+        bytes,
+        fault: refusal.fault,
+        number: refusal.number,
+        offset: refusal.offset,
+    };
+    let mut text = String::new(alloc);
+    explain_into(&mut text, &refused)?;
+    Ok(text)
+}
+
+// Writes the lines that explain a message that is refused into a string.
+fn explain_into<A: Allocator>(out: &mut String<A>, refused: &Refused) -> Result<(), AllocError>
+    ensures { OnOk result (IsExplained refused.now (string_bytes out.new)) }
+{
+    let mut draft = StringDraft::new(out);
+    explain_message(&mut draft, refused);
+    draft.finish()
+}

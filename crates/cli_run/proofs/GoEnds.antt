@@ -1,0 +1,290 @@
+-- How a turn of a run that passes over refused messages ends: the input ends, or a message is
+-- refused.
+use Rattle.std.proofs.Common.{◌≡◌, ℕ, ◌+◌, ◌-◌, ◌<◌, List, [], ◌∷◌, ◌++◌, Bool, true, false, None, Some, Ok, Err, length, refl, sym, ap, ◌∙◌, subst, arith, inl, inr, append-nil, length-append}
+use Rattle.std.specs.Io.KnownBytes.{IsAtEnd}
+use Rattle.std.proofs.KnownBytes.{Consumes-trans}
+use Rattle.std.proofs.lemmas.Bool.{false≢true}
+use Rattle.dbus_value_model.specs.declared.fault.Fault.{Fault}
+use Rattle.dbus_value_model.specs.declared.limits.Limits.{Limits}
+use Rattle.dbus_header.specs.MessageOutcomes.{IsRefused, IsPartial}
+use Rattle.dbus_header.specs.StatedLengths.{StatesLength}
+use Rattle.dbus_header.proofs.OutcomeLaws.{one_outcome, nothing_partial}
+use Rattle.dbus_device.specs.Device.{one_more}
+use Rattle.dbus_stream.specs.Cut.{CutOutcome, Ended, Unfinished, Refused, IsOutcome}
+use Rattle.dbus_stream.specs.CutEnds.{fault_at_end}
+use Rattle.dbus_stream.specs.Gathering.{gathering}
+use Rattle.dbus_stream.specs.Lasting.{is_truncated}
+use Rattle.dbus_stream.specs.Next.{DeviceCounts}
+use Rattle.dbus_stream.specs.Passing.{Passing, ReadsUpTo, IsDue, IsRefusal, StatesAll, FallsShort, PassesOver}
+use Rattle.dbus_stream.specs.RawReading.{done_of, is_ended, kept, limits_of, most_reads_of, source_of, stopped_of}
+use Rattle.dbus_stream.specs.declared.raw_reader.RawReader.{RawReader}
+use Rattle.dbus_stream.specs.declared.read_fault.ReadFault.{ReadFault}
+use Rattle.dbus_stream.specs.declared.read_fault.ReadFault.TheVariants as read
+use Rattle.cli_run.specs.Going.{IsAllOf, cause_of}
+use Rattle.cli_run.specs.Inputs.{BeginWithParts, IsCutOff, IsLast, IsTellable, PassedOver, Placed, placed, sizes_of}
+use Rattle.cli_run.specs.Onward.{HasRead, stop_of}
+use Rattle.cli_run.specs.Parts.{AreTold, IsTold, passed_count, passed_sizes}
+use Rattle.cli_run.specs.Visiting.{AddsUp, Tells}
+use Rattle.cli_report.specs.declared.ending.Cause.{Cause}
+use Rattle.cli_report.specs.declared.ending.Cause.TheVariants.{Memory, ReadFailed, WriteFailed, TooManyReads}
+use Rattle.cli_run.specs.declared.counted.Counted.{Counted}
+use Rattle.cli_run.specs.declared.tally.Tally.{Tally}
+use Rattle.cli_run.specs.declared.visitor.Stop.{Stop}
+use Rattle.cli_run.specs.declared.visitor.Stop.TheVariants.{Cause as ByCause, Untold}
+use Rattle.cli_run.proofs.PartLaws.{parts_more, placed_past, sizes-both, passed-both, passed_sizes-both}
+use Rattle.cli_run.proofs.ReadSteps.{read_none, read_on}
+use Rattle.cli_run.proofs.GoSteps.{Begun, HasCovered, HasEnded, HasGone, HasReached, refused_is, none_is, covers_read, covers, Took, Within, Through, Stopped, More, stops_plain, all_called}
+
+module _ {R A S : Type 0} {takes : S → S → List Placed → (told : List ℕ) → Type 0} {leaves : S → S → List Placed → (told : List ℕ) → Stop → Type 0} {settled : S → Type 0} (laws : AddsUp takes leaves settled)
+    {run : Begun R A S} {mid : RawReader R A} {counted : Counted} {tally : Tally} {s1 : S} (h : HasReached run takes mid counted tally s1) where
+  abbrev items : List Placed
+  items = placed 1 0 h.gone.parts
+
+  -- it ends after a message
+  pub finished : counted.fault ≡ None → HasEnded run takes mid tally None s1
+  finished none =
+      let g = h.gone in
+      let no_fault : None ≡ fault_at_end (kept mid) h.outcome = sym none ∙ h.fault_is in
+      let ended : h.outcome ≡ Ended = none_is (kept mid) h.outcome no_fault in
+      let at_end : IsAtEnd (run.left (source_of mid)) = g.covered.at_end (h.ended (λ f is. absurd (let both = sym ended ∙ is in cc))) in
+      record {
+        told = g.told;
+        text = [];
+        through = record {
+          parts = g.parts;
+          rest = kept mid;
+          covers = covers run mid g.parts (kept mid) g.told g.covered;
+          tally_is = g.tally_is;
+          kept = kept mid;
+          tells = record { outcome = h.outcome; outcome_is = h.outcome_is; fault_is = no_fault; told = refl };
+          last = subst (λ o. IsLast run.settings.keeps_going run.settings.limits (kept mid) (kept mid) o (IsAtEnd (run.left (source_of mid)))) (sym ended) (refl, at_end);
+          read_failed = g.failed;
+        };
+        came = subst (λ (l : List ℕ). takes run.s0 s1 items l) (sym (append-nil g.told)) g.came;
+      }
+
+  -- ---- the fault is told
+
+  module _ {fault : Fault} (faulty : counted.fault ≡ Some fault) where
+    -- this is told of it
+    abbrev Due : List ℕ → Type 0
+    Due text = IsTold run.settings (record { number = counted.count + 1; offset = counted.size; fault = fault }) (kept mid) text
+
+    -- by its place among the parts
+    told_at : (n : ℕ) (text : List ℕ) → n ≡ length h.gone.parts + 1 → Due text → IsTold run.settings (record { number = n; offset = sizes_of h.gone.parts; fault = fault }) (kept mid) text
+    told_at n text e told =
+        let number : counted.count + 1 ≡ n = omega (arith, h.count_is, ap (λ (t : Tally). t.count) h.gone.tally_is, e) in
+        let offset : counted.size ≡ sizes_of h.gone.parts = sym h.size_is ∙ ap (λ (t : Tally). t.size) h.gone.tally_is in
+        subst (λ (k : ℕ). IsTold run.settings (record { number = k; offset = sizes_of h.gone.parts; fault = fault }) (kept mid) text) number
+        (subst (λ (o : ℕ). IsTold run.settings (record { number = counted.count + 1; offset = o; fault = fault }) (kept mid) text) offset told)
+
+    fault_last : Some fault ≡ fault_at_end (kept mid) h.outcome
+    fault_last = sym faulty ∙ h.fault_is
+
+    stopped_last : stopped_of mid ≡ Some (read.Format fault)
+    stopped_last = h.stopped ∙ ap stop_of faulty
+
+    -- all was read up to the rest
+    abbrev through : (new : RawReader R A) (text rest : List ℕ) (outcome : CutOutcome) → Due text → IsOutcome run.settings.limits (kept mid) outcome → Some fault ≡ fault_at_end (kept mid) outcome
+        → HasCovered run new h.gone.parts rest h.gone.told → IsLast run.settings.keeps_going run.settings.limits (kept mid) rest outcome (IsAtEnd (run.left (source_of new)))
+        → run.failures (source_of new) ≡ run.failures (source_of mid) → Through run new tally (Some fault) h.gone.told text
+    through new text rest outcome told outcome_is fault_is covered last same = record {
+      parts = h.gone.parts;
+      rest = rest;
+      covers = covers run new h.gone.parts rest h.gone.told covered;
+      tally_is = h.gone.tally_is;
+      kept = kept mid;
+      tells = record { outcome = outcome; outcome_is = outcome_is; fault_is = fault_is; told = told_at (length h.gone.parts + 1) text refl told };
+      last = last;
+      read_failed = same ∙ h.gone.failed;
+    }
+
+    -- why nothing follows if nothing was passed over
+    last_is : (outcome : CutOutcome) → Some fault ≡ fault_at_end (kept mid) outcome → (((f : Fault) → outcome ≡ Refused f → ⊥) → IsAtEnd (run.left (source_of mid)))
+        → (run.settings.keeps_going ≡ true → (other : Fault) (n : ℕ) → IsRefusal (stopped_of mid) other → StatesAll (limits_of mid) (kept mid) n → ⊥)
+        → IsLast run.settings.keeps_going run.settings.limits (kept mid) (kept mid) outcome (IsAtEnd (run.left (source_of mid)))
+    last_is Ended e at_end none = (refl, at_end (λ f is. absurd cc))
+    last_is Unfinished e at_end none = (refl, at_end (λ f is. absurd cc))
+    last_is (Refused other) e at_end none =
+        let same : fault ≡ other = cc in
+        inl (
+          refl,
+          λ goes whole n all. none goes other n (stopped_last ∙ ap (λ (f : Fault). Some (read.Format f)) same, whole)
+              (subst (λ (l : Limits). StatesAll l (kept mid) n) (sym h.gone.covered.limits_are) all),
+        )
+
+    -- nothing was passed over, if the run is not to go on, or could not
+    abbrev through_there : (text : List ℕ) → Due text → (run.settings.keeps_going ≡ true → (other : Fault) (n : ℕ) → IsRefusal (stopped_of mid) other → StatesAll (limits_of mid) (kept mid) n → ⊥)
+        → Through run mid tally (Some fault) h.gone.told text
+    through_there text told none =
+        through mid text (kept mid) h.outcome told h.outcome_is fault_last h.gone.covered (last_is h.outcome fault_last (λ not. h.gone.covered.at_end (h.ended not)) none) refl
+
+    -- the fault shows
+    tellable : (outcome : CutOutcome) → Some fault ≡ fault_at_end (kept mid) outcome → (((f : Fault) → outcome ≡ Refused f → ⊥) → IsAtEnd (run.left (source_of mid)))
+        → IsTellable (kept mid) (kept mid) outcome (IsAtEnd (run.left (source_of mid)))
+    tellable Ended e at_end = (refl, at_end (λ f is. absurd cc))
+    tellable Unfinished e at_end = (refl, at_end (λ f is. absurd cc))
+    tellable (Refused other) e at_end = refl
+
+    pub not_told : settled s1 → (s2 : S) (stop : Stop) → Tells takes leaves Due s1 s2 (Err stop) → Within run leaves mid stop s2
+    not_told rests s2 (ByCause Memory) same =
+        let came = (laws.rests run.s0 s1 items h.gone.told h.gone.came rests).0 in
+        stops_plain run leaves Memory mid h.gone.parts (kept mid) h.gone.told s2 h.gone.covered (inl refl) h.gone.failed (subst (λ (s : S). leaves run.s0 s items h.gone.told (ByCause Memory)) (sym same) came)
+    not_told rests s2 (ByCause ReadFailed) never = absurd never
+    not_told rests s2 (ByCause WriteFailed) never = absurd never
+    not_told rests s2 (ByCause TooManyReads) never = absurd never
+    not_told rests s2 Untold half = record {
+      parts = h.gone.parts;
+      rest = kept mid;
+      told = h.gone.told;
+      covers = covers run mid h.gone.parts (kept mid) h.gone.told h.gone.covered;
+      more = half.0;
+      all = (
+        kept mid,
+        Some fault,
+        half.0,
+        record { outcome = h.outcome; outcome_is = h.outcome_is; fault_is = fault_last; told = told_at (length h.gone.parts + 1) half.0 refl half.1 },
+        inl (tellable h.outcome fault_last (λ not. h.gone.covered.at_end (h.ended not)), refl),
+      );
+      caused = h.gone.failed;
+      came = subst (λ (l : List Placed). leaves run.s0 s2 l (h.gone.told ++ half.0) Untold) (append-nil items) (laws.leaves_after run.s0 s1 s2 items [] h.gone.told half.0 Untold h.gone.came half.2);
+    }
+
+    -- ---- and the message is passed over, or not
+
+    module _ (text : List ℕ) (told : Due text) {s2 : S} (took : takes s1 s2 [] text) where
+      came_told : takes run.s0 s2 items (h.gone.told ++ text)
+      came_told = subst (λ (l : List Placed). takes run.s0 s2 l (h.gone.told ++ text)) (append-nil items) (laws.joins run.s0 s1 s2 items [] h.gone.told text h.gone.came took)
+
+      pub halts : run.settings.keeps_going ≡ false → HasEnded run takes mid tally (Some fault) s2
+      halts halt = record { told = h.gone.told; text = text; through = through_there text told (λ goes. absurd (false≢true (sym halt ∙ goes))); came = came_told }
+
+      module _ (new : RawReader R A) where
+        met : (other : Fault) → IsRefusal (stopped_of mid) other → IsRefused run.settings.limits (kept mid) fault
+        met other refusal =
+            let same : other ≡ fault = (let both = sym refusal.0 ∙ stopped_last in cc) in
+            refused_is run.settings.limits (kept mid) fault h.outcome h.outcome_is fault_last (subst (λ (f : Fault). is_truncated f.reason ≡ false) same refusal.1)
+
+        states : (n : ℕ) → StatesLength (limits_of mid) (kept mid) n → StatesLength run.settings.limits (kept mid) n
+        states n s = subst (λ (l : Limits). StatesLength l (kept mid) n) h.gone.covered.limits_are s
+
+        -- no byte of it was dropped before
+        stated : (other : Fault) (n : ℕ) → IsRefusal (stopped_of mid) other → IsDue mid n → StatesLength (limits_of mid) (kept mid) n
+        stated other n refusal (inl s) = s
+        stated other n refusal (inr o) = absurd ((one_outcome run.settings.limits (kept mid)).2 fault (met other refusal) (subst (λ l. IsPartial run.settings.limits l) (sym o.kept) (nothing_partial run.settings.limits)))
+
+        -- what was read to pass over it
+        abbrev passing : (n : ℕ) (r : ReadsUpTo n run.left run.calls mid new) → HasRead gathering run.left run.calls run.settings.limits (kept mid) mid.reader new.reader [] (kept mid ++ r.bytes)
+        passing n r =
+            read_on gathering run.left run.calls run.settings.limits (kept mid) (λ before. length (kept mid ++ before) < n) mid.reader mid.reader new.reader [] (kept mid)
+            (read_none gathering run.left run.calls run.settings.limits (kept mid) mid.reader h.gone.covered.limits_are) r
+
+        short_covered : (n : ℕ) (r : ReadsUpTo n run.left run.calls mid new) → HasCovered run new h.gone.parts (kept mid ++ r.bytes) h.gone.told
+        short_covered n r =
+            let c = h.gone.covered in
+            let p = passing n r in
+            record {
+              bytes = c.bytes ++ r.bytes;
+              consumed = Consumes-trans _ _ _ _ _ c.consumed r.consumed;
+              called = omega (arith, c.called, r.called, r.reads);
+              most_reads = r.most_reads ∙ c.most_reads;
+              limits_are = r.limits ∙ c.limits_are;
+              at_end = p.at_end c.at_end;
+              begin = parts_more run.settings.limits c.bytes h.gone.parts (kept mid) r.bytes c.begin;
+              tells = c.tells;
+            }
+
+        cut_off : (n : ℕ) (bytes : List ℕ) → StatesLength (limits_of mid) (kept mid) n → FallsShort n (kept mid ++ bytes) mid new → IsCutOff run.settings.limits (kept mid) (kept mid ++ bytes)
+        cut_off n bytes s f = record { size = n; front = (bytes, refl); states = states n s; short = f.short }
+
+        -- the input ends within it
+        ends_short : (goes : run.settings.keeps_going ≡ true) (n : ℕ) (r : ReadsUpTo n run.left run.calls mid new) (other : Fault) → IsRefusal (stopped_of mid) other → StatesLength (limits_of mid) (kept mid) n
+            → FallsShort n (kept mid ++ r.bytes) mid new → is_ended new ≡ true → run.failures (source_of new) ≡ run.failures (source_of mid) → HasEnded run takes new tally (Some fault) s2
+        ends_short goes n r other refusal s short ended same =
+            let covered = short_covered n r in
+            record {
+              told = h.gone.told;
+              text = text;
+              through = through new text (kept mid ++ r.bytes) (Refused fault) told (met other refusal) refl covered (inr (cut_off n r.bytes s short, covered.at_end ended, goes)) same;
+              came = came_told;
+            }
+
+        pub stays : run.settings.keeps_going ≡ true → Passing run.left run.calls mid new (Ok false) → run.failures (source_of new) ≡ run.failures (source_of mid) → HasEnded run takes new tally (Some fault) s2
+        stays goes passing same = elim passing [
+          | inl p ↦ ends_short goes p.1 p.4 p.0 p.2 (stated p.0 p.1 p.2 p.3) p.5.0 p.5.1 same
+          | inr none ↦ subst (λ (x : RawReader R A). HasEnded run takes x tally (Some fault) s2) (sym none.2) (record {
+            told = h.gone.told;
+            text = text;
+            through = through_there text told (λ goes other n refusal all. none.0 other n refusal (inl all));
+            came = came_told;
+          })
+        ]
+
+        module _ (rests : settled s2) where
+          -- it was not passed over, since reading was given up
+          torn : (goes : run.settings.keeps_going ≡ true) (cause : Cause) (n : ℕ) (r : ReadsUpTo n run.left run.calls mid new) (other : Fault) → IsRefusal (stopped_of mid) other
+              → StatesLength (limits_of mid) (kept mid) n → FallsShort n (kept mid ++ r.bytes) mid new
+              → (IsAllOf (Took run new) run.settings (most_reads_of run.old) run.is_check h.gone.parts (kept mid ++ r.bytes) text → More run new (ByCause cause) h.gone.parts (kept mid ++ r.bytes) text)
+              → Stopped run new (ByCause cause) → leaves run.s0 s2 items (h.gone.told ++ text) (ByCause cause) → Within run leaves new (ByCause cause) s2
+          torn goes cause n r other refusal s short all caused came = record {
+            parts = h.gone.parts;
+            rest = kept mid ++ r.bytes;
+            told = h.gone.told;
+            covers = covers run new h.gone.parts (kept mid ++ r.bytes) h.gone.told (short_covered n r);
+            more = text;
+            all = all (inr (kept mid, fault, met other refusal, cut_off n r.bytes s short, goes, told_at (length h.gone.parts + 1) text refl told));
+            caused = caused;
+            came = came;
+          }
+
+          pub breaks : (goes : run.settings.keeps_going ≡ true) (broken : ReadFault) → Passing run.left run.calls mid new (Err broken)
+              → DeviceCounts {T = Bool} (run.failures (source_of mid)) (run.failures (source_of new)) (Err broken) → Within run leaves new (ByCause (cause_of broken)) s2
+          breaks goes read.Memory passing counts = elim passing [ inl p ↦ absurd p.5 | inr none ↦ absurd (let e = none.1 in cc) ]
+          breaks goes (read.Format f) passing counts = elim passing [ inl p ↦ absurd p.5 | inr none ↦ absurd (let e = none.1 in cc) ]
+          breaks goes read.Device passing counts = elim passing [
+            | inl p ↦ torn goes ReadFailed p.1 p.4 p.0 p.2 (stated p.0 p.1 p.2 p.3) p.5 (λ all. all) (counts.0 ∙ ap one_more h.gone.failed)
+                (laws.rests run.s0 s2 items (h.gone.told ++ text) came_told rests).1
+            | inr none ↦ absurd (let e = none.1 in cc)
+          ]
+          breaks goes read.TooManyReads passing counts = elim passing [
+            | inl p ↦ torn goes TooManyReads p.1 p.4 p.0 p.2 (stated p.0 p.1 p.2 p.3) p.5.0 (λ all. all)
+                (counts ∙ h.gone.failed, all_called run new h.gone.parts (kept mid ++ p.4.bytes) h.gone.told (short_covered p.1 p.4) p.5.1)
+                (laws.rests run.s0 s2 items (h.gone.told ++ text) came_told rests).2
+            | inr none ↦ absurd (let e = none.1 in cc)
+          ]
+
+        -- the message was passed over
+        over : (past : Tally) (end : ℕ) → end ≡ done_of new → past ≡ record { count = tally.count + 1; size = end; passed = tally.passed + 1; passed_size = tally.passed_size + (end - tally.size) }
+            → run.settings.keeps_going ≡ true → (n : ℕ) (r : ReadsUpTo n run.left run.calls mid new) (other : Fault) → IsRefusal (stopped_of mid) other → StatesLength (limits_of mid) (kept mid) n
+            → PassesOver n (kept mid ++ r.bytes) mid new → run.failures (source_of new) ≡ run.failures (source_of mid) → HasGone run takes new past s2
+        over past end there past_is goes n r other refusal s p same =
+            let parts = h.gone.parts in
+            let is = h.gone.tally_is in
+            let part = PassedOver (kept mid) fault n in
+            let read = passing n r in
+            let begin : BeginWithParts run.settings.limits (kept mid ++ read.bytes) (part ∷ []) (kept new) = (((r.bytes, refl), met other refusal, states n s, p.there), sym p.kept) in
+            let number : 1 + length parts ≡ length parts + 1 = omega arith in
+            let offset : sizes_of parts ≡ 0 + sizes_of parts = omega arith in
+            let told_next = subst (λ (o : ℕ). IsTold run.settings (record { number = 1 + length parts; offset = o; fault = fault }) (kept mid) text) offset (told_at (1 + length parts) text number told) in
+            let told_is : AreTold run.settings (1 + length parts) (0 + sizes_of parts) (part ∷ []) text = (text, [], sym (append-nil text), (goes, told_next), refl) in
+            let count_is : tally.count + 1 ≡ length (parts ++ part ∷ []) = omega (arith, ap (λ (t : Tally). t.count) is, length-append parts (part ∷ [])) in
+            let size_is : done_of new ≡ sizes_of (parts ++ part ∷ []) = omega (arith, p.done, h.gone.done, sizes-both parts (part ∷ [])) in
+            let passed_is : tally.passed + 1 ≡ passed_count (parts ++ part ∷ []) = omega (arith, ap (λ (t : Tally). t.passed) is, passed-both parts (part ∷ [])) in
+            let passed_size_is : tally.passed_size + (end - tally.size) ≡ passed_sizes (parts ++ part ∷ [])
+            = omega (arith, there, ap (λ (t : Tally). t.passed_size) is, ap (λ (t : Tally). t.size) is, p.done, h.gone.done, passed_sizes-both parts (part ∷ [])) in
+            record {
+              parts = parts ++ part ∷ [];
+              told = h.gone.told ++ text;
+              covered = covers_read run mid new parts (part ∷ []) (kept mid) (kept new) h.gone.told text (kept mid ++ r.bytes) [] h.gone.covered read begin told_is;
+              tally_is = past_is ∙ (λ i. record { count = count_is i; size = (there ∙ size_is) i; passed = passed_is i; passed_size = passed_size_is i });
+              done = size_is;
+              failed = same ∙ h.gone.failed;
+              came = subst (λ (l : List Placed). takes run.s0 s2 l (h.gone.told ++ text)) (placed_past 1 0 parts (kept mid) fault n) came_told;
+            }
+
+        pub goes_on : (past : Tally) (end : ℕ) → end ≡ done_of new → past ≡ record { count = tally.count + 1; size = end; passed = tally.passed + 1; passed_size = tally.passed_size + (end - tally.size) }
+            → run.settings.keeps_going ≡ true → Passing run.left run.calls mid new (Ok true) → run.failures (source_of new) ≡ run.failures (source_of mid) → HasGone run takes new past s2
+        goes_on past end there past_is goes answer same = elim answer [
+          | inl p ↦ over past end there past_is goes p.1 p.4 p.0 p.2 (stated p.0 p.1 p.2 p.3) p.5 same
+          | inr none ↦ absurd (let e = none.1 in cc)
+        ]

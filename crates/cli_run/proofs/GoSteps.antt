@@ -1,0 +1,309 @@
+-- The turns of a run that passes over refused messages. Each hands on the messages up to the next
+-- fault, tells it, and passes over that message.
+use Rattle.std.proofs.Common.{◌≡◌, ℕ, ◌+◌, ◌^◌, ◌<◌, ◌≤◌, Bool, List, [], ◌++◌, true, false, None, Some, Ok, Option, length, refl, sym, ap, ◌∙◌, subst, arith, inl, inr, append-nil, length-append}
+use Rattle.std.specs.Io.KnownBytes.{Consumes}
+use Rattle.std.proofs.KnownBytes.{Consumes-nil, Consumes-trans}
+use Rattle.std.proofs.lemmas.Bool.{false≢true}
+use Rattle.dbus_value_model.specs.declared.fault.Fault.{Fault}
+use Rattle.dbus_value_model.specs.declared.limits.Limits.{Limits}
+use Rattle.dbus_header.specs.MessageOutcomes.{IsRefused}
+use Rattle.dbus_device.specs.Device.{one_more, RisesBy}
+use Rattle.dbus_stream.specs.Cut.{CutMessage, CutOutcome, Ended, Unfinished, Refused, IsOutcome}
+use Rattle.dbus_stream.specs.CutEnds.{fault_at_end, truncated, sizes}
+use Rattle.dbus_stream.specs.Gathering.{gathering}
+use Rattle.dbus_stream.specs.Lasting.{is_truncated}
+use Rattle.dbus_stream.specs.Passing.{IsDue, Passing}
+use Rattle.dbus_stream.specs.RawReading.{IsNewReader, done_of, is_ended, kept, limits_of, most_reads_of, reads_of, source_of, stopped_of}
+use Rattle.dbus_stream.specs.declared.raw_reader.RawReader.{RawReader}
+use Rattle.cli_options.specs.declared.settings.Settings.{Settings}
+use Rattle.cli_report.specs.Devices.{reading, taken, Taken}
+use Rattle.cli_run.specs.Going.{Covers, IsMore, IsStopOf, IsThrough, StopsWithin}
+use Rattle.cli_run.specs.Inputs.{BeginWithParts, Part, Placed, placed, sizes_of, wholes}
+use Rattle.cli_run.specs.Onward.{HasRead, HandsRawOn, HandsSomeOn, IsTrueEnd, stop_of}
+use Rattle.cli_run.specs.Parts.{AreTold, passed_count, passed_sizes, tally_of}
+use Rattle.cli_run.specs.Visiting.{AddsUp}
+use Rattle.cli_report.specs.declared.ending.Cause.{Cause}
+use Rattle.cli_report.specs.declared.ending.Cause.TheVariants.{Memory, ReadFailed, WriteFailed, TooManyReads}
+use Rattle.cli_run.specs.declared.counted.Counted.{Counted}
+use Rattle.cli_run.specs.declared.tally.Tally.{Tally}
+use Rattle.cli_run.specs.declared.visitor.Stop.{Stop}
+use Rattle.cli_run.specs.declared.visitor.Stop.TheVariants.{Cause as ByCause}
+use Rattle.cli_run.proofs.PartLaws.{parts_more, parts_both, parts_of, few_parts, few_passed, few_passed_sizes, stated_bytes, sizes-both, passed-both, passed_sizes-both, length-wholes, sizes-wholes, passed-wholes, passed_sizes-wholes, placed_both, told_both, told_of}
+
+-- a new reader of a source is one of its own
+pub is_new : {R A : Type 0} (source : R) (most : ℕ) (limits : Limits) (r : RawReader R A) → IsNewReader source most limits r → IsNewReader (source_of r) (most_reads_of r) limits r
+is_new source most limits r is = record {
+  source = refl;
+  most_reads = refl;
+  limits = is.limits;
+  kept = is.kept;
+  lent = is.lent;
+  done = is.done;
+  reads = is.reads;
+  ended = is.ended;
+  stopped = is.stopped;
+}
+
+-- a refusal is no end of the input
+pub refused_is : (limits : Limits) (w : List ℕ) (fault : Fault) (outcome : CutOutcome) → IsOutcome limits w outcome → Some fault ≡ fault_at_end w outcome → is_truncated fault.reason ≡ false
+    → IsRefused limits w fault
+refused_is limits w fault Ended o e not = absurd cc
+refused_is limits w fault Unfinished o e not =
+    let same : fault ≡ truncated w = cc in
+    absurd (false≢true (sym not ∙ ap (λ (f : Fault). is_truncated f.reason) same))
+refused_is limits w fault (Refused other) o e not = let same : other ≡ fault = cc in subst (λ f. IsRefused limits w f) same o
+
+pub none_is : (w : List ℕ) (outcome : CutOutcome) → None ≡ fault_at_end w outcome → outcome ≡ Ended
+none_is w Ended e = refl
+none_is w Unfinished e = absurd cc
+none_is w (Refused fault) e = absurd cc
+
+due_bytes : {R A : Type 0} (mid : RawReader R A) (n : ℕ) → IsDue mid n → 0 < n
+due_bytes mid n (inl s) = stated_bytes (limits_of mid) (kept mid) n s
+due_bytes mid n (inr o) = o.some
+
+-- a message that is passed over has bytes
+pub grows : {R A : Type 0} (left : R → Option (List ℕ)) (calls : R → ℕ) (mid new : RawReader R A) → Passing left calls mid new (Ok true) → (stopped_of new ≡ None) × (done_of mid < done_of new)
+grows left calls mid new passing = elim passing [
+  | inl p ↦ (p.5.stopped, omega (arith, p.5.done, due_bytes mid p.1 p.3))
+  | inr none ↦ absurd (let e = none.1 in cc)
+]
+
+pub done_small : {R A : Type 0} (r : RawReader R A) → done_of r ≤ 2 ^ 50
+done_small r = omega (arith, r.reader.counted, r.reader.few_reads, r.reader.low_most)
+
+-- how far a turn is
+pub record IsWithin (tally : Tally) (done : ℕ) : Type 0 where
+  pub count : tally.count ≤ done
+  pub size : tally.size ≡ done
+  pub passed : tally.passed ≤ tally.count
+  pub passed_size : tally.passed_size ≤ tally.size
+  pub small : done ≤ 2 ^ 50
+
+-- messages that were handed on are all of a stretch
+wholes_tally : (parts : List Part) (items : List CutMessage) (count size : ℕ) (tally : Tally) → tally ≡ tally_of parts → count ≡ tally.count + length items → size ≡ sizes_of parts + sizes items
+    → record tally { count = count; size = size } ≡ tally_of (parts ++ wholes items)
+wholes_tally parts items count size tally is number bytes =
+    let count_is : count ≡ length (parts ++ wholes items)
+    = omega (arith, number, ap (λ (t : Tally). t.count) is, length-append parts (wholes items), length-wholes items) in
+    let size_is : size ≡ sizes_of (parts ++ wholes items) = omega (arith, bytes, sizes-both parts (wholes items), sizes-wholes items) in
+    let passed_is : tally.passed ≡ passed_count (parts ++ wholes items)
+    = omega (arith, ap (λ (t : Tally). t.passed) is, passed-both parts (wholes items), passed-wholes items) in
+    let passed_size_is : tally.passed_size ≡ passed_sizes (parts ++ wholes items)
+    = omega (arith, ap (λ (t : Tally). t.passed_size) is, passed_sizes-both parts (wholes items), passed_sizes-wholes items) in
+    λ i. record { count = count_is i; size = size_is i; passed = passed_is i; passed_size = passed_size_is i }
+
+-- what a run begins with: the source, and where it and the visitor stand
+pub record Begun (R A S : Type 0) : Type 0 where
+  pub left : R → Option (List ℕ)
+  pub calls : R → ℕ
+  pub failures : R → ℕ
+  pub settings : Settings
+  pub is_check : Bool
+  pub old : RawReader R A
+  pub s0 : S
+
+module _ {R A S : Type 0} (run : Begun R A S) where
+  -- the source before and after
+  abbrev pub Took : RawReader R A → Taken
+  Took new = taken (reading run.left run.calls run.failures (source_of run.old) (source_of new))
+
+  -- what was read is these parts and then the rest
+  pub record HasCovered (new : RawReader R A) (parts : List Part) (rest told : List ℕ) : Type 0 where
+    pub bytes : List ℕ
+    pub consumed : Consumes (run.left (source_of run.old)) (run.left (source_of new)) bytes
+    pub called : RisesBy (reads_of new) (run.calls (source_of run.old)) (run.calls (source_of new))
+    pub most_reads : most_reads_of new ≡ most_reads_of run.old
+    pub limits_are : limits_of new ≡ run.settings.limits
+    pub at_end : IsTrueEnd run.left new.reader
+    pub begin : BeginWithParts run.settings.limits bytes parts rest
+    pub tells : AreTold run.settings 1 0 parts told
+
+  -- more was read, and begins with more parts
+  pub covers_read : (mid new : RawReader R A) (parts more : List Part) (from rest told t w : List ℕ) (items : List CutMessage) → HasCovered mid parts from told
+      → (r : HasRead gathering run.left run.calls run.settings.limits from mid.reader new.reader items w) → BeginWithParts run.settings.limits (from ++ r.bytes) more rest
+      → AreTold run.settings (1 + length parts) (0 + sizes_of parts) more t → HasCovered new (parts ++ more) rest (told ++ t)
+  covers_read mid new parts more from rest told t w items h r begin tells = record {
+    bytes = h.bytes ++ r.bytes;
+    consumed = Consumes-trans _ _ _ _ _ h.consumed r.consumed;
+    called = omega (arith, h.called, r.called, r.reads);
+    most_reads = r.most_reads ∙ h.most_reads;
+    limits_are = r.limits_are;
+    at_end = r.at_end h.at_end;
+    begin = parts_both run.settings.limits (h.bytes ++ r.bytes) parts more (from ++ r.bytes) rest (parts_more run.settings.limits h.bytes parts from r.bytes h.begin) begin;
+    tells = told_both run.settings 1 0 parts more told t h.tells tells;
+  }
+
+  -- as a clause says it
+  pub covers : (new : RawReader R A) (parts : List Part) (rest told : List ℕ) → HasCovered new parts rest told → Covers (Took new) run.settings (most_reads_of run.old) run.is_check parts rest told
+  covers new parts rest told h = record {
+    bytes = h.bytes;
+    consumed = h.consumed;
+    called = (reads_of new, subst (λ (n : ℕ). reads_of new ≤ n) h.most_reads new.reader.few_reads, h.called);
+    begin = h.begin;
+    tells = h.tells;
+  }
+
+  pub all_called : (new : RawReader R A) (parts : List Part) (rest told : List ℕ) → HasCovered new parts rest told → reads_of new ≡ most_reads_of new
+      → RisesBy (most_reads_of run.old) (run.calls (source_of run.old)) (run.calls (source_of new))
+  all_called new parts rest told h e = subst (λ n. RisesBy n (run.calls (source_of run.old)) (run.calls (source_of new))) (e ∙ h.most_reads) h.called
+
+  -- ---- what a clause says
+
+  abbrev pub Through : RawReader R A → Tally → Option Fault → (told text : List ℕ) → Type 0
+  Through new tally fault told text = IsThrough (Took new) run.settings (most_reads_of run.old) run.is_check tally fault told text
+
+  abbrev pub Stopped : RawReader R A → Stop → Type 0
+  Stopped new stop = IsStopOf (Took new) run.settings (most_reads_of run.old) run.is_check stop
+
+  abbrev pub More : RawReader R A → Stop → List Part → List ℕ → List ℕ → Type 0
+  More new stop parts rest more = IsMore (Took new) run.settings (most_reads_of run.old) run.is_check stop parts rest more
+
+  module _ (takes : S → S → List Placed → (told : List ℕ) → Type 0) where
+    -- where a turn stands
+    pub record HasGone (new : RawReader R A) (tally : Tally) (s : S) : Type 0 where
+      pub parts : List Part
+      pub told : List ℕ
+      pub covered : HasCovered new parts (kept new) told
+      pub tally_is : tally ≡ tally_of parts
+      pub done : done_of new ≡ sizes_of parts
+      pub failed : run.failures (source_of new) ≡ run.failures (source_of run.old)
+      pub came : takes run.s0 s (placed 1 0 parts) told
+
+    pub gone_none : ((a : S) → takes a a [] []) → IsNewReader (source_of run.old) (most_reads_of run.old) run.settings.limits run.old
+        → HasGone run.old (record { count = 0; size = 0; passed = 0; passed_size = 0 }) run.s0
+    gone_none nothing new_reader = record {
+      parts = [];
+      told = [];
+      covered = record {
+        bytes = [];
+        consumed = Consumes-nil (run.left (source_of run.old));
+        called = omega (arith, new_reader.reads);
+        most_reads = new_reader.most_reads;
+        limits_are = new_reader.limits;
+        at_end = λ e. absurd (false≢true (sym new_reader.ended ∙ e));
+        begin = sym new_reader.kept;
+        tells = refl;
+      };
+      tally_is = refl;
+      done = new_reader.done;
+      failed = refl;
+      came = nothing run.s0;
+    }
+
+    -- the messages up to a fault, or up to the end, were handed on
+    pub record HasReached (new : RawReader R A) (counted : Counted) (tally : Tally) (s : S) : Type 0 where
+      pub gone : HasGone new tally s
+      pub count_is : tally.count ≡ counted.count
+      pub size_is : tally.size ≡ counted.size
+      pub outcome : CutOutcome
+      pub outcome_is : IsOutcome run.settings.limits (kept new) outcome
+      pub fault_is : counted.fault ≡ fault_at_end (kept new) outcome
+      pub stopped : stopped_of new ≡ stop_of counted.fault
+      pub ended : ((f : Fault) → outcome ≡ Refused f → ⊥) → is_ended new ≡ true
+
+    -- nothing follows, and all is told but the last line
+    pub record HasEnded (new : RawReader R A) (tally : Tally) (fault : Option Fault) (s : S) : Type 0 where
+      pub told : List ℕ
+      pub text : List ℕ
+      pub through : Through new tally fault told text
+      pub came : takes run.s0 s (placed 1 0 through.parts) (told ++ text)
+
+  module _ (leaves : S → S → List Placed → (told : List ℕ) → Stop → Type 0) where
+    abbrev pub Within : RawReader R A → Stop → S → Type 0
+    Within new stop s = StopsWithin (Took new) run.settings (most_reads_of run.old) run.is_check (leaves run.s0 s) stop
+
+    -- nothing is told of the rest
+    pub stops_plain : (cause : Cause) (new : RawReader R A) (parts : List Part) (rest told : List ℕ) (s : S) → HasCovered new parts rest told → More new (ByCause cause) parts rest [] → Stopped new (ByCause cause)
+        → leaves run.s0 s (placed 1 0 parts) told (ByCause cause) → Within new (ByCause cause) s
+    stops_plain cause new parts rest told s h all caused came = record {
+      parts = parts;
+      rest = rest;
+      told = told;
+      covers = covers new parts rest told h;
+      more = [];
+      all = all;
+      caused = caused;
+      came = subst (λ (l : List ℕ). leaves run.s0 s (placed 1 0 parts) l (ByCause cause)) (sym (append-nil told)) came;
+    }
+
+-- ---- messages are handed on
+
+module _ {R A S : Type 0} {takes : S → S → List Placed → (told : List ℕ) → Type 0} {run : Begun R A S} {mid : RawReader R A} {tally : Tally} {s1 : S} (h : HasGone run takes mid tally s1) where
+  count_parts : tally.count ≡ length h.parts
+  count_parts = ap (λ (t : Tally). t.count) h.tally_is
+
+  size_parts : tally.size ≡ sizes_of h.parts
+  size_parts = ap (λ (t : Tally). t.size) h.tally_is
+
+  pub within : IsWithin tally (done_of mid)
+  within = record {
+    count = omega (arith, count_parts, few_parts run.settings.limits h.covered.bytes h.parts (kept mid) h.covered.begin, h.done);
+    size = size_parts ∙ sym h.done;
+    passed = omega (arith, count_parts, ap (λ (t : Tally). t.passed) h.tally_is, few_passed h.parts);
+    passed_size = omega (arith, size_parts, ap (λ (t : Tally). t.passed_size) h.tally_is, few_passed_sizes h.parts);
+    small = done_small mid;
+  }
+
+  -- they are the next parts
+  placed_next : (items : List CutMessage) → placed 1 0 h.parts ++ placed (tally.count + 1) (done_of mid) (wholes items) ≡ placed 1 0 (h.parts ++ wholes items)
+  placed_next items =
+      let n : tally.count + 1 ≡ 1 + length h.parts = omega (arith, count_parts) in
+      let at : done_of mid ≡ 0 + sizes_of h.parts = omega (arith, h.done) in
+      (λ i. placed 1 0 h.parts ++ placed (n i) (at i) (wholes items)) ∙ sym (placed_both 1 0 h.parts (wholes items))
+
+  module _ {leaves : S → S → List Placed → (told : List ℕ) → Stop → Type 0} {settled : S → Type 0} (laws : AddsUp takes leaves settled) (new : RawReader R A) (s2 : S) where
+    covered_next : (items : List CutMessage) (rest last : List ℕ) → rest ≡ last → HasRead gathering run.left run.calls run.settings.limits (kept mid) mid.reader new.reader items rest
+        → HasCovered run new (h.parts ++ wholes items) last h.told
+    covered_next items rest last e r =
+        subst (λ (l : List ℕ). HasCovered run new (h.parts ++ wholes items) last l) (append-nil h.told)
+        (covers_read run mid new h.parts (wholes items) (kept mid) last h.told [] rest items h.covered r
+        (subst (λ (l : List ℕ). BeginWithParts run.settings.limits (kept mid ++ r.bytes) (wholes items) l) e (parts_of run.settings.limits (kept mid ++ r.bytes) items rest r.messages))
+        (told_of run.settings (1 + length h.parts) (0 + sizes_of h.parts) items))
+
+    -- up to a fault, or up to the end
+    pub reach : (counted : Counted) (up : Tally) → up ≡ record tally { count = counted.count; size = counted.size }
+        → HandsRawOn run.left run.calls run.failures takes leaves run.settings.limits tally.count counted mid new s1 s2 → HasReached run takes new counted up s2
+    reach counted up is a =
+        let items = a.all.items in
+        let more = placed (tally.count + 1) (done_of mid) (wholes items) in
+        let size : counted.size ≡ sizes_of h.parts + sizes items = omega (arith, a.all.size_is, h.done) in
+        let came = subst (λ (l : List ℕ). takes run.s0 s2 (placed 1 0 h.parts ++ more) l) (append-nil h.told) (laws.joins run.s0 s1 s2 (placed 1 0 h.parts) more h.told [] h.came a.all.taken) in
+        record {
+          gone = record {
+            parts = h.parts ++ wholes items;
+            told = h.told;
+            covered = covered_next items a.all.rest (kept new) (sym a.kept) a.all.read;
+            tally_is = is ∙ wholes_tally h.parts items counted.count counted.size tally h.tally_is a.all.count_is size;
+            done = omega (arith, a.all.done, size, sizes-both h.parts (wholes items), sizes-wholes items);
+            failed = a.all.failed ∙ h.failed;
+            came = subst (λ (l : List Placed). takes run.s0 s2 l h.told) (placed_next items) came;
+          };
+          count_is = ap (λ (t : Tally). t.count) is;
+          size_is = ap (λ (t : Tally). t.size) is;
+          outcome = a.all.outcome;
+          outcome_is = subst (λ (l : List ℕ). IsOutcome run.settings.limits l a.all.outcome) (sym a.kept) a.all.outcome_is;
+          fault_is = a.all.fault_is ∙ ap (λ (l : List ℕ). fault_at_end l a.all.outcome) (sym a.kept);
+          stopped = a.stopped;
+          ended = a.all.ended;
+        }
+
+    -- not all
+    abbrev Handing : Cause → Type 0
+    Handing cause = HandsSomeOn gathering run.left run.calls run.settings.limits (kept mid) run.failures takes leaves tally.count cause mid.reader new.reader s1 s2
+
+    stops_some : (cause : Cause) (s : Handing cause) → More run new (ByCause cause) (h.parts ++ wholes s.items) s.rest [] → Stopped run new (ByCause cause) → Within run leaves new (ByCause cause) s2
+    stops_some cause s all caused =
+        let more = placed (tally.count + 1) (done_of mid) (wholes s.items) in
+        let came = subst (λ (l : List ℕ). leaves run.s0 s2 (placed 1 0 h.parts ++ more) l (ByCause cause)) (append-nil h.told)
+        (laws.leaves_after run.s0 s1 s2 (placed 1 0 h.parts) more h.told [] (ByCause cause) h.came s.given_up) in
+        stops_plain run leaves cause new (h.parts ++ wholes s.items) s.rest h.told s2 (covered_next s.items s.rest s.rest refl s.read) all caused
+        (subst (λ (l : List Placed). leaves run.s0 s2 l h.told (ByCause cause)) (placed_next s.items) came)
+
+    pub stop_hand : (cause : Cause) → Handing cause → Within run leaves new (ByCause cause) s2
+    stop_hand Memory s = stops_some Memory s (inl refl) (s.caused ∙ h.failed)
+    stop_hand ReadFailed s = stops_some ReadFailed s (inl (s.all, refl)) (s.caused ∙ ap one_more h.failed)
+    stop_hand WriteFailed s = stops_some WriteFailed s refl (s.caused ∙ h.failed)
+    stop_hand TooManyReads s =
+        let covered = covered_next s.items s.rest s.rest refl s.read in
+        stops_some TooManyReads s (inl (s.all, refl)) (s.caused.0 ∙ h.failed, all_called run new (h.parts ++ wholes s.items) s.rest h.told covered s.caused.1)

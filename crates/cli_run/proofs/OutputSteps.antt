@@ -1,0 +1,181 @@
+-- What becomes of a writer of an output by one message, if it writes what is gathered, and by a
+-- text that it tells.
+use Rattle.std.proofs.Common.{◌≡◌, ℕ, Bool, true, false, List, [], Option, Result, Ok, Err, inl, inr, refl, sym, ap, ◌∙◌, subst, append-nil}
+use Rattle.dbus_value_model.specs.declared.order.Order.{Order}
+use Rattle.dbus_message_model.specs.Messages.{MessageTree}
+use Rattle.dbus_device.specs.Write.{Wrote}
+use Rattle.dbus_match.specs.Matching.{Ownership}
+use Rattle.cli_options.specs.declared.command.Command.{Command}
+use Rattle.cli_options.specs.declared.command.Command.TheVariants.{Check}
+use Rattle.cli_options.specs.declared.window.Window.{Window}
+use Rattle.cli_report.specs.Devices.{writing}
+use Rattle.cli_report.specs.Gathering.{Breaks, Gathers, GathersOrNot, Passes, gathered_bytes}
+use Rattle.cli_report.specs.PageLaws.{passes_none}
+use Rattle.cli_report.proofs.GatherSteps.{breaks_before, breaks_nothing, breaks_through, passes_nothing, passes_through}
+use Rattle.cli_report.specs.declared.ending.Cause.{Cause}
+use Rattle.cli_report.specs.declared.ending.Cause.TheVariants.{Memory, ReadFailed, WriteFailed, TooManyReads}
+use Rattle.cli_report.specs.declared.gathering.Unwritten.{Unwritten}
+use Rattle.cli_run.specs.Commands.{command_of}
+use Rattle.cli_run.specs.Handing.{HandsOne}
+use Rattle.cli_run.specs.Output.{IsOutputOf, is_check, owners_known}
+use Rattle.cli_run.specs.OutputLaws.{lets_out, nothing_first}
+use Rattle.cli_run.specs.OutputWriting.{FailsBy, LeavesUntold, LeavesWritten, WritesAll}
+use Rattle.cli_run.specs.Told.{UntoldSecond, WroteOrNot, first_of, second_of}
+use Rattle.cli_run.specs.ToldLaws.{told_nothing, wrote_nothing}
+use Rattle.cli_run.specs.Visiting.{LetsGo, TakesOne, TellsOne}
+use Rattle.cli_run.specs.WindowLaws.{after_none, written_none}
+use Rattle.cli_run.specs.Windows.{written}
+use Rattle.cli_run.specs.declared.output_writer.OutputWriter.{OutputWriter}
+use Rattle.cli_run.specs.declared.place.Carried.{Carried}
+use Rattle.cli_run.specs.declared.place.Place.{Place}
+
+-- what the first writer gets of texts: all of them, since `check` makes none
+first_made : (command : Command) (os : List Ownership) (order : Order) (m : MessageTree) (n offset : ℕ) (window : Window) (texts : List (List ℕ)) → IsOutputOf command os order m n offset texts
+    → written window texts ≡ first_of (is_check command) (written window texts) []
+first_made Check os order m n offset window texts made =
+    let none : texts ≡ [] = elim made [ inl picked ↦ absurd picked.0 | inr not ↦ not.1 ] in
+    ap (λ l. written window l) none ∙ written_none window
+first_made command os order m n offset window texts made = refl
+
+module _ {A W E : Type 0} (held : W → Option (List ℕ)) (failures : W → ℕ) (second_held : E → Option (List ℕ)) (second_failures : E → ℕ) (a b : OutputWriter A W E)
+    (same_first : b.first.ghost_name ≡ a.first.ghost_name) (same_second : b.second.ghost_name ≡ a.second.ghost_name) (same_output : b.output ≡ a.output) where
+  abbrev own : Command
+  own = command_of a.output
+
+  -- what is gathered is written
+  pub lets_go : b.carried ≡ a.carried → b.second.now ≡ a.second.now → (res : Result (Unit {0}) Unwritten)
+      → Gathers held failures [] (gathered_bytes a.gathered) (gathered_bytes b.gathered) a.first.now b.first.now res
+      → LetsGo (WritesAll held failures second_held second_failures) (LeavesWritten held failures second_held second_failures) a b res
+  lets_go carried same (Ok x) p = lets_out held failures second_held second_failures a b same_first same_second same_output carried same p
+  lets_go carried same (Err e) p = record {
+    same_first = same_first;
+    same_second = same_second;
+    texts = [];
+    made = refl;
+    leaves = subst (λ (l : List ℕ). Breaks held failures l (gathered_bytes a.gathered) a.first.now b.first.now) (nothing_first held failures second_held second_failures a) p;
+    tells = told_nothing second_held second_failures (is_check own) a.second.now b.second.now same;
+  }
+
+  module _ (order : Order) (m : MessageTree) (place : Place) (size : ℕ) (same : b.second.now ≡ a.second.now) where
+    abbrev Takes : Result (Unit {0}) Cause → Type 0
+    Takes res = TakesOne (WritesAll held failures second_held second_failures) (LeavesWritten held failures second_held second_failures) a b
+        (record { place = place; item = record { order = order; message = m; size = size } }) res
+
+    -- a message is handed to it
+    pub takes_one : HandsOne (writing held failures a.first.now b.first.now) own a.carried b.carried order m place (gathered_bytes a.gathered) (gathered_bytes b.gathered) (Ok tt) → Takes (Ok tt)
+    takes_one p = record {
+      same_first = same_first;
+      same_second = same_second;
+      same_output = same_output;
+      texts = p.0;
+      made = (p.0, [], sym (append-nil p.0), p.1, refl);
+      window = p.2.window;
+      owners = p.2.owners;
+      passes = subst (λ (l : List ℕ). Passes held failures l (gathered_bytes a.gathered) (gathered_bytes b.gathered) a.first.now b.first.now)
+          (first_made own (owners_known own a.carried.owners) order m place.number place.offset a.carried.window p.0 p.1) p.3;
+      tells = told_nothing second_held second_failures (is_check own) a.second.now b.second.now same;
+    }
+
+    broken : (texts : List (List ℕ)) → IsOutputOf own (owners_known own a.carried.owners) order m place.number place.offset texts
+        → Breaks held failures (written a.carried.window texts) (gathered_bytes a.gathered) a.first.now b.first.now → Takes (Err WriteFailed)
+    broken texts made p = record {
+      same_first = same_first;
+      same_second = same_second;
+      texts = texts;
+      made = (texts, [], sym (append-nil texts), made, refl);
+      leaves = subst (λ (l : List ℕ). Breaks held failures l (gathered_bytes a.gathered) a.first.now b.first.now)
+          (first_made own (owners_known own a.carried.owners) order m place.number place.offset a.carried.window texts made) p;
+      tells = told_nothing second_held second_failures (is_check own) a.second.now b.second.now same;
+    }
+
+    -- memory ran out, and then what is gathered is written, or not
+    runs_out : (cause : Cause) (now : Carried) (g : List ℕ) (w : W) → HandsOne (writing held failures a.first.now w) own a.carried now order m place (gathered_bytes a.gathered) g (Err Memory)
+        → GathersOrNot held failures [] g (gathered_bytes b.gathered) w b.first.now (Err cause) → gathered_bytes b.gathered ≡ [] → Takes (Err cause)
+    runs_out Memory now g w p q none =
+        let all = subst (λ (l : List ℕ). Passes held failures [] (gathered_bytes a.gathered) l a.first.now b.first.now) none
+        (passes_nothing held failures [] (gathered_bytes a.gathered) g (gathered_bytes b.gathered) a.first.now w b.first.now p.3 q) in
+        record {
+          same_first = same_first;
+          same_second = same_second;
+          texts = [];
+          made = refl;
+          leaves = subst (λ (l : List ℕ). Passes held failures l (gathered_bytes a.gathered) [] a.first.now b.first.now) (nothing_first held failures second_held second_failures a) all;
+          tells = told_nothing second_held second_failures (is_check own) a.second.now b.second.now same;
+        }
+    runs_out ReadFailed now g w p q none = q
+    runs_out WriteFailed now g w p q none =
+        broken p.0 p.1 (breaks_before held failures (written a.carried.window p.0) (gathered_bytes a.gathered) a.first.now b.first.now
+        (breaks_nothing held failures [] (gathered_bytes a.gathered) g a.first.now w b.first.now p.3 q))
+    runs_out TooManyReads now g w p q none = q
+
+    -- the run fails
+    pub fails : (why cause : Cause) (now : Carried) (g : List ℕ) (w : W) → HandsOne (writing held failures a.first.now w) own a.carried now order m place (gathered_bytes a.gathered) g (Err why)
+        → FailsBy held failures why g (gathered_bytes b.gathered) w b.first.now cause → Takes (Err cause)
+    fails Memory cause now g w p q = runs_out cause now g w p q.0 q.1
+    fails ReadFailed cause now g w p q = absurd p.3
+    fails WriteFailed cause now g w p q =
+        subst (λ (c : Cause). Takes (Err c)) (sym q.0)
+        (broken p.0 p.1 (subst (λ (x : W). Breaks held failures (written a.carried.window p.0) (gathered_bytes a.gathered) a.first.now x) (sym q.1) p.3))
+    fails TooManyReads cause now g w p q = absurd p.3
+
+  -- ---- a text is told
+
+  module _ (carried : b.carried ≡ a.carried) (same : gathered_bytes b.gathered ≡ gathered_bytes a.gathered) (none : gathered_bytes a.gathered ≡ []) (text : List ℕ) where
+    abbrev Told : Result (Unit {0}) Unwritten → Type 0
+    Told res = TellsOne (WritesAll held failures second_held second_failures) (LeavesWritten held failures second_held second_failures) a b text res
+
+    abbrev line : (is_check : Bool) → List ℕ
+    line is_check = first_of is_check (written a.carried.window []) text
+
+    told_all : Passes held failures (line (is_check own)) (gathered_bytes a.gathered) (gathered_bytes b.gathered) a.first.now b.first.now
+        → Wrote second_held second_failures a.second.now (second_of (is_check own) text) b.second.now → Told (Ok tt)
+    told_all passes tells = record {
+      same_first = same_first;
+      same_second = same_second;
+      same_output = same_output;
+      texts = [];
+      made = refl;
+      window = ap (λ (c : Carried). c.window) carried ∙ sym (after_none a.carried.window);
+      owners = ap (λ (c : Carried). owners_known own c.owners) carried;
+      passes = passes;
+      tells = tells;
+    }
+
+    told_some : LeavesUntold held failures (is_check own) (line (is_check own)) (gathered_bytes a.gathered) a.first.now b.first.now
+        → UntoldSecond second_held second_failures (is_check own) (second_of (is_check own) text) a.second.now b.second.now → (e : Unwritten) → Told (Err e)
+    told_some leaves tells e = record { same_first = same_first; same_second = same_second; texts = []; made = refl; leaves = leaves; tells = tells }
+
+    -- what is gathered, which is nothing, stays so
+    stays : Passes held failures [] (gathered_bytes a.gathered) (gathered_bytes b.gathered) a.first.now a.first.now
+    stays = subst (λ (l : List ℕ). Passes held failures [] (gathered_bytes a.gathered) l a.first.now a.first.now) (sym same) (passes_none held failures (gathered_bytes a.gathered) a.first.now)
+
+    -- to the first writer
+    module _ (check : is_check own ≡ true) (kept : b.second.now ≡ a.second.now) where
+      nothing_second : Wrote second_held second_failures a.second.now [] b.second.now
+      nothing_second = subst (λ (x : E). Wrote second_held second_failures a.second.now [] x) (sym kept) (wrote_nothing second_held second_failures a.second.now)
+
+      pub tells_first : (res : Result (Unit {0}) Unwritten) → WroteOrNot held failures text a.first.now b.first.now res → Told res
+      tells_first (Ok x) wrote =
+          told_all (subst (λ (c : Bool). Passes held failures (line c) (gathered_bytes a.gathered) (gathered_bytes b.gathered) a.first.now b.first.now) (sym check)
+          (passes_through held failures text (gathered_bytes a.gathered) (gathered_bytes b.gathered) a.first.now a.first.now b.first.now (same ∙ none) stays wrote))
+          (subst (λ (c : Bool). Wrote second_held second_failures a.second.now (second_of c text) b.second.now) (sym check) nothing_second)
+      tells_first (Err e) half =
+          told_some (subst (λ (c : Bool). LeavesUntold held failures c (line c) (gathered_bytes a.gathered) a.first.now b.first.now) (sym check)
+          (breaks_through held failures text (gathered_bytes a.gathered) (gathered_bytes b.gathered) half.0 a.first.now a.first.now b.first.now (same ∙ none) stays half.1))
+          (subst (λ (c : Bool). UntoldSecond second_held second_failures c (second_of c text) a.second.now b.second.now) (sym check) nothing_second) e
+
+    -- to the second
+    module _ (check : is_check own ≡ false) (kept : b.first.now ≡ a.first.now) where
+      nothing_first_of : Passes held failures (written a.carried.window []) (gathered_bytes a.gathered) (gathered_bytes b.gathered) a.first.now b.first.now
+      nothing_first_of =
+          subst (λ (l : List ℕ). Passes held failures l (gathered_bytes a.gathered) (gathered_bytes b.gathered) a.first.now b.first.now) (sym (written_none a.carried.window))
+          (subst (λ (x : W). Passes held failures [] (gathered_bytes a.gathered) (gathered_bytes b.gathered) a.first.now x) (sym kept) stays)
+
+      pub tells_second : (res : Result (Unit {0}) Unwritten) → WroteOrNot second_held second_failures text a.second.now b.second.now res → Told res
+      tells_second (Ok x) wrote =
+          told_all (subst (λ (c : Bool). Passes held failures (line c) (gathered_bytes a.gathered) (gathered_bytes b.gathered) a.first.now b.first.now) (sym check) nothing_first_of)
+          (subst (λ (c : Bool). Wrote second_held second_failures a.second.now (second_of c text) b.second.now) (sym check) wrote)
+      tells_second (Err e) half =
+          let all = subst (λ (l : List ℕ). Passes held failures (written a.carried.window []) (gathered_bytes a.gathered) l a.first.now b.first.now) (same ∙ none) nothing_first_of in
+          told_some (subst (λ (c : Bool). LeavesUntold held failures c (line c) (gathered_bytes a.gathered) a.first.now b.first.now) (sym check) all)
+          (subst (λ (c : Bool). UntoldSecond second_held second_failures c (second_of c text) a.second.now b.second.now) (sym check) half) e

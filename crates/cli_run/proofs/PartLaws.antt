@@ -1,0 +1,166 @@
+-- Parts of an input that follow one another, what is told of them, and the messages among them.
+use Rattle.std.proofs.Common.{◌≡◌, ℕ, suc, ◌+◌, ◌<◌, ◌≤◌, List, [], ◌∷◌, ◌++◌, length, drop, refl, sym, ap, ◌∙◌, subst, arith, append_assoc, length-append}
+use Rattle.std.proofs.lemmas.List.{drop-append-le}
+use Rattle.dbus_value_model.specs.declared.fault.Fault.{Fault}
+use Rattle.dbus_value_model.specs.declared.limits.Limits.{Limits}
+use Rattle.dbus_header.specs.StatedLengths.{StatesLength}
+use Rattle.dbus_header.proofs.OutcomeLaws.{whole_for_good, whole_inside}
+use Rattle.dbus_stream.specs.Cut.{CutMessage, BeginWith}
+use Rattle.dbus_stream.specs.CutEnds.{sizes}
+use Rattle.cli_options.specs.declared.settings.Settings.{Settings}
+use Rattle.cli_run.specs.Inputs.{Part, Whole, PassedOver, Placed, placed, placed_at, size_of, sizes_of, wholes, IsPart, BeginWithParts}
+use Rattle.cli_run.specs.Parts.{AreTold, passed_count, passed_sizes}
+use Rattle.cli_run.specs.declared.place.Place.{Place}
+
+-- ---- the input
+
+module _ (limits : Limits) where
+  part_more : (bytes more : List ℕ) (part : Part) → IsPart limits bytes part → IsPart limits (bytes ++ more) part × (size_of part ≤ length bytes)
+  part_more bytes more (Whole item) p = (whole_for_good limits bytes more item.order item.message item.size p, (whole_inside limits bytes item.order item.message item.size p).1)
+  part_more bytes more (PassedOver kept fault size) p = (
+    (
+      (p.0.0 ++ more, ap (λ l. l ++ more) p.0.1 ∙ append_assoc kept p.0.0 more),
+      p.1,
+      p.2,
+      omega (arith, p.3, length-append bytes more),
+    ),
+    p.3,
+  )
+
+  -- more bytes after
+  pub parts_more : (bytes : List ℕ) (parts : List Part) (rest more : List ℕ) → BeginWithParts limits bytes parts rest → BeginWithParts limits (bytes ++ more) parts (rest ++ more)
+  parts_more bytes [] rest more b = ap (λ l. l ++ more) b
+  parts_more bytes (part ∷ parts) rest more b =
+      let p = part_more bytes more part b.0 in
+      let joined : drop (size_of part) (bytes ++ more) ≡ drop (size_of part) bytes ++ more = drop-append-le (size_of part) bytes more p.1 in
+      (p.0, subst (λ l. BeginWithParts limits l parts (rest ++ more)) (sym joined) (parts_more (drop (size_of part) bytes) parts rest more b.1))
+
+  -- parts after others
+  pub parts_both : (bytes : List ℕ) (parts more : List Part) (mid rest : List ℕ) → BeginWithParts limits bytes parts mid → BeginWithParts limits mid more rest → BeginWithParts limits bytes (parts ++ more) rest
+  parts_both bytes [] more mid rest b c = subst (λ l. BeginWithParts limits l more rest) (sym b) c
+  parts_both bytes (part ∷ parts) more mid rest b c = (b.0, parts_both (drop (size_of part) bytes) parts more mid rest b.1 c)
+
+  pub parts_of : (bytes : List ℕ) (items : List CutMessage) (rest : List ℕ) → BeginWith limits bytes items rest → BeginWithParts limits bytes (wholes items) rest
+  parts_of bytes [] rest b = b
+  parts_of bytes (item ∷ items) rest b = (b.0, parts_of (drop item.size bytes) items rest b.1)
+
+  stated_some : (kept : List ℕ) (n : ℕ) → StatesLength limits kept n → 0 < n
+  unfolding StatesLength
+  stated_some kept n s = omega (arith, s.3)
+
+  some_bytes : (bytes : List ℕ) (part : Part) → IsPart limits bytes part → 0 < size_of part
+  some_bytes bytes (Whole item) p = (whole_inside limits bytes item.order item.message item.size p).0
+  some_bytes bytes (PassedOver kept fault size) p = stated_some kept size p.2
+
+  -- no more parts than bytes
+  pub few_parts : (bytes : List ℕ) (parts : List Part) (rest : List ℕ) → BeginWithParts limits bytes parts rest → length parts ≤ sizes_of parts
+  few_parts bytes [] rest b = omega arith
+  few_parts bytes (part ∷ parts) rest b = omega (arith, some_bytes bytes part b.0, few_parts (drop (size_of part) bytes) parts rest b.1)
+
+  pub stated_bytes : (kept : List ℕ) (n : ℕ) → StatesLength limits kept n → 0 < n
+  stated_bytes kept n s = stated_some kept n s
+
+-- ---- counts
+
+pub sizes-both : (parts more : List Part) → sizes_of (parts ++ more) ≡ sizes_of parts + sizes_of more
+sizes-both [] more = omega arith
+sizes-both (part ∷ parts) more = omega (arith, sizes-both parts more)
+
+pub passed-both : (parts more : List Part) → passed_count (parts ++ more) ≡ passed_count parts + passed_count more
+passed-both [] more = omega arith
+passed-both (Whole item ∷ parts) more = passed-both parts more
+passed-both (PassedOver kept fault size ∷ parts) more = omega (arith, passed-both parts more)
+
+pub passed_sizes-both : (parts more : List Part) → passed_sizes (parts ++ more) ≡ passed_sizes parts + passed_sizes more
+passed_sizes-both [] more = omega arith
+passed_sizes-both (Whole item ∷ parts) more = passed_sizes-both parts more
+passed_sizes-both (PassedOver kept fault size ∷ parts) more = omega (arith, passed_sizes-both parts more)
+
+pub length-wholes : (items : List CutMessage) → length (wholes items) ≡ length items
+length-wholes [] = refl
+length-wholes (item ∷ items) = ap (λ n. suc n) (length-wholes items)
+
+pub sizes-wholes : (items : List CutMessage) → sizes_of (wholes items) ≡ sizes items
+sizes-wholes [] = refl
+sizes-wholes (item ∷ items) = ap (λ n. item.size + n) (sizes-wholes items)
+
+pub passed-wholes : (items : List CutMessage) → passed_count (wholes items) ≡ 0
+passed-wholes [] = refl
+passed-wholes (item ∷ items) = passed-wholes items
+
+pub passed_sizes-wholes : (items : List CutMessage) → passed_sizes (wholes items) ≡ 0
+passed_sizes-wholes [] = refl
+passed_sizes-wholes (item ∷ items) = passed_sizes-wholes items
+
+-- no more are passed over than there are
+pub few_passed : (parts : List Part) → passed_count parts ≤ length parts
+few_passed [] = omega arith
+few_passed (Whole item ∷ parts) = omega (arith, few_passed parts)
+few_passed (PassedOver kept fault size ∷ parts) = omega (arith, few_passed parts)
+
+pub few_passed_sizes : (parts : List Part) → passed_sizes parts ≤ sizes_of parts
+few_passed_sizes [] = omega arith
+few_passed_sizes (Whole item ∷ parts) = omega (arith, few_passed_sizes parts)
+few_passed_sizes (PassedOver kept fault size ∷ parts) = omega (arith, few_passed_sizes parts)
+
+-- ---- texts
+
+-- those of parts after others
+pub told_both : (settings : Settings) (n offset : ℕ) (parts more : List Part) (a b : List ℕ) → AreTold settings n offset parts a
+    → AreTold settings (n + length parts) (offset + sizes_of parts) more b → AreTold settings n offset (parts ++ more) (a ++ b)
+told_both settings n offset [] more a b p q =
+    let number : n + 0 ≡ n = omega arith in
+    let place : offset + 0 ≡ offset = omega arith in
+    let first : [] ≡ a = sym p in
+    subst (λ l. AreTold settings n offset more (l ++ b)) first
+    (subst (λ k. AreTold settings k offset more b) number (subst (λ k. AreTold settings (n + 0) k more b) place q))
+told_both settings n offset (part ∷ parts) more a b p q =
+    let number : n + suc (length parts) ≡ n + 1 + length parts = omega arith in
+    let place : offset + (size_of part + sizes_of parts) ≡ offset + size_of part + sizes_of parts = omega arith in
+    let rest : AreTold settings (n + 1 + length parts) (offset + size_of part + sizes_of parts) more b
+    = subst (λ k. AreTold settings k (offset + size_of part + sizes_of parts) more b) number (subst (λ k. AreTold settings (n + suc (length parts)) k more b) place q) in
+    (p.0, p.1 ++ b, ap (λ l. l ++ b) p.2 ∙ append_assoc p.0 p.1 b, p.3, told_both settings (n + 1) (offset + size_of part) parts more p.1 b p.4 rest)
+
+pub told_of : (settings : Settings) (n offset : ℕ) (items : List CutMessage) → AreTold settings n offset (wholes items) []
+told_of settings n offset [] = refl
+told_of settings n offset (item ∷ items) = ([], [], refl, refl, told_of settings (n + 1) (offset + item.size) items)
+
+-- ---- the messages among them
+
+n_is : (n : ℕ) → n + 0 ≡ n
+n_is n = omega arith
+
+moved : (n offset : ℕ) (first : List Placed) (parts : List Part) (size : ℕ) (more : List Part) → first ++ placed (n + 1 + length parts) (offset + size + sizes_of parts) more
+    ≡ first ++ placed (n + suc (length parts)) (offset + (size + sizes_of parts)) more
+moved n offset first parts size more =
+    let number : n + 1 + length parts ≡ n + suc (length parts) = omega arith in
+    let place : offset + size + sizes_of parts ≡ offset + (size + sizes_of parts) = omega arith in
+    λ i. first ++ placed (number i) (place i) more
+
+-- those of parts after others
+pub placed_both : (n offset : ℕ) (parts more : List Part) → placed n offset (parts ++ more) ≡ placed n offset parts ++ placed (n + length parts) (offset + sizes_of parts) more
+placed_both n offset [] more = λ i. placed (sym (n_is n) i) (sym (n_is offset) i) more
+placed_both n offset (Whole item ∷ parts) more =
+    ap (λ l. placed_at n offset item ∷ l) (placed_both (n + 1) (offset + item.size) parts more ∙ moved n offset (placed (n + 1) (offset + item.size) parts) parts item.size more)
+placed_both n offset (PassedOver kept fault size ∷ parts) more =
+    placed_both (n + 1) (offset + size) parts more ∙ moved n offset (placed (n + 1) (offset + size) parts) parts size more
+
+pub wholes_both : (items more : List CutMessage) → wholes (items ++ more) ≡ wholes items ++ wholes more
+wholes_both [] more = refl
+wholes_both (item ∷ items) more = ap (λ l. Whole item ∷ l) (wholes_both items more)
+
+-- one message more
+pub placed_last : (n offset : ℕ) (items : List CutMessage) (item : CutMessage) (place : Place) → place.number ≡ n + length items → place.offset ≡ offset + sizes items
+    → placed n offset (wholes items) ++ record { place = place; item = item } ∷ [] ≡ placed n offset (wholes (items ++ item ∷ []))
+placed_last n offset [] item place number at =
+    let same_number : place.number ≡ n = omega (arith, number) in
+    let same_offset : place.offset ≡ offset = omega (arith, at) in
+    λ i. record { place = record { number = same_number i; offset = same_offset i }; item = item } ∷ []
+placed_last n offset (x ∷ items) item place number at =
+    ap (λ l. placed_at n offset x ∷ l) (placed_last (n + 1) (offset + x.size) items item place (omega (arith, number)) (omega (arith, at)))
+
+-- one more is passed over
+pub placed_past : (n offset : ℕ) (parts : List Part) (kept : List ℕ) (fault : Fault) (size : ℕ) → placed n offset parts ≡ placed n offset (parts ++ PassedOver kept fault size ∷ [])
+placed_past n offset [] kept fault size = refl
+placed_past n offset (Whole item ∷ parts) kept fault size = ap (λ l. placed_at n offset item ∷ l) (placed_past (n + 1) (offset + item.size) parts kept fault size)
+placed_past n offset (PassedOver other why long ∷ parts) kept fault size = placed_past (n + 1) (offset + long) parts kept fault size

@@ -1,0 +1,85 @@
+-- What a reader read and gave so far, from where it stood. k is what is known of its taker, and
+-- kept is what it kept there.
+use Rattle.std.proofs.Common.{◌≡◌, ℕ, ◌+◌, ◌≤◌, List, [], ◌∷◌, ◌++◌, Bool, true, false, Option, length, drop, sym, ◌∙◌, subst, refl, arith, append_assoc, append-nil}
+use Rattle.std.specs.Io.KnownBytes.{IsAtEnd}
+use Rattle.std.proofs.KnownBytes.{Consumes-nil, Consumes-trans}
+use Rattle.dbus_value_model.specs.declared.limits.Limits.{Limits}
+use Rattle.dbus_header.specs.MessageOutcomes.{IsWhole, IsPartial}
+use Rattle.dbus_header.proofs.OutcomeLaws.{whole_inside}
+use Rattle.dbus_stream.specs.Cut.{CutMessage, BeginWith}
+use Rattle.dbus_stream.specs.CutEnds.{sizes}
+use Rattle.dbus_stream.specs.Next.{Reads, ReadsWhile}
+use Rattle.dbus_stream.specs.Reading.{limits_of, source_of, is_ended}
+use Rattle.dbus_stream.specs.Taking.{Taking}
+use Rattle.dbus_stream.specs.declared.buffer.Buffer.{Ghosts}
+use Rattle.dbus_stream.specs.declared.reader.Reader.{Reader}
+use Rattle.dbus_stream.proofs.CutLaws.{BeginWith-last, BeginWith-more}
+use Rattle.cli_run.specs.Onward.{HasRead, IsTrueEnd}
+
+pub sizes-last : (items : List CutMessage) (item : CutMessage) → sizes (items ++ item ∷ []) ≡ sizes items + item.size
+sizes-last [] item = omega arith
+sizes-last (x ∷ items) item = omega (arith, sizes-last items item)
+
+pub length-last : (items : List CutMessage) (item : CutMessage) → length (items ++ item ∷ []) ≡ length items + 1
+length-last [] item = omega arith
+length-last (x ∷ items) item = omega (arith, length-last items item)
+
+-- no more messages than bytes
+pub length-sizes : (limits : Limits) (bytes : List ℕ) (items : List CutMessage) (rest : List ℕ) → BeginWith limits bytes items rest → length items ≤ sizes items
+length-sizes limits bytes [] rest f = omega arith
+length-sizes limits bytes (item ∷ items) rest f =
+    omega (arith, length-sizes limits (drop item.size bytes) items rest f.1, (whole_inside limits bytes item.order item.message item.size f.0).0)
+
+module _ {R T B G : Type 0} {b : Ghosts B} (k : Taking T G) (left : R → Option (List ℕ)) (calls : R → ℕ) (limits : Limits) (kept : List ℕ) where
+  -- before the first read
+  abbrev pub read_none : (reader : Reader R T B b) → limits_of k reader ≡ limits → HasRead k left calls limits kept reader reader [] kept
+  read_none reader within = record {
+    bytes = [];
+    count = 0;
+    consumed = Consumes-nil (left (source_of reader));
+    messages = append-nil kept;
+    reads = omega arith;
+    called = omega arith;
+    most_reads = refl;
+    limits_are = within;
+    at_end = λ e. e;
+  }
+
+  module _ (Needed : List ℕ → Type 0) where
+    pub still_at_end : (mid new : Reader R T B b) (ended : Bool) → is_ended mid ≡ ended → IsTrueEnd left mid → ReadsWhile k Needed left calls mid new → IsTrueEnd left new
+    still_at_end mid new true e before r t = subst (λ s. IsAtEnd (left s)) (sym (r.settled e).3) (before e)
+    still_at_end mid new false e before r t = r.at_end e t
+
+    -- more was read
+    abbrev pub read_on : (old mid new : Reader R T B b) (items : List CutMessage) (rest : List ℕ) → HasRead k left calls limits kept old mid items rest → (r : ReadsWhile k Needed left calls mid new)
+        → HasRead k left calls limits kept old new items (rest ++ r.bytes)
+    read_on old mid new items rest h r = record {
+      bytes = h.bytes ++ r.bytes;
+      count = h.count + r.count;
+      consumed = Consumes-trans _ _ _ _ _ h.consumed r.consumed;
+      messages = subst (λ (l : List ℕ). BeginWith limits l items (rest ++ r.bytes)) (append_assoc kept h.bytes r.bytes) (BeginWith-more limits (kept ++ h.bytes) items rest r.bytes h.messages);
+      reads = omega (arith, h.reads, r.reads);
+      called = omega (arith, h.called, r.called);
+      most_reads = r.most_reads ∙ h.most_reads;
+      limits_are = r.limits ∙ h.limits_are;
+      at_end = λ e. still_at_end mid new (is_ended mid) refl (h.at_end e) r;
+    }
+
+  pub read_more : (old mid new : Reader R T B b) (items : List CutMessage) (rest : List ℕ) → HasRead k left calls limits kept old mid items rest → (r : Reads k left calls rest mid new)
+      → HasRead k left calls limits kept old new items (rest ++ r.bytes)
+  read_more old mid new items rest h r = read_on (λ before. IsPartial (limits_of k mid) (rest ++ before)) old mid new items rest h r
+
+  -- the rest begins with a message
+  pub read_message : (old new : Reader R T B b) (items : List CutMessage) (item : CutMessage) (w : List ℕ) → HasRead k left calls limits kept old new items w
+      → IsWhole limits w item.order item.message item.size → HasRead k left calls limits kept old new (items ++ item ∷ []) (drop item.size w)
+  read_message old new items item w h whole = record {
+    bytes = h.bytes;
+    count = h.count;
+    consumed = h.consumed;
+    messages = BeginWith-last limits (kept ++ h.bytes) items w item h.messages whole;
+    reads = h.reads;
+    called = h.called;
+    most_reads = h.most_reads;
+    limits_are = h.limits_are;
+    at_end = h.at_end;
+  }

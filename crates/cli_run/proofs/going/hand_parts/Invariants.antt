@@ -1,0 +1,20 @@
+use Rattle.std.proofs.Common.{◌≡◌, ◌-◌, ◌^◌, None}
+use Rattle.dbus_stream.specs.RawReading.{done_of, source_of, stopped_of}
+use Rattle.cli_run.proofs.GoSteps.{HasGone}
+use Rattle.cli_run.proofs.going.hand_parts.Given as goal
+
+abbrev pub invariant-parts : goal.invariant-parts
+invariant-parts g l =
+    HasGone (record {
+      left = g.R.Source.left;
+      calls = g.R.Source.calls;
+      failures = g.R.Source.failures;
+      settings = l.settings;
+      is_check = l.is_check;
+      old = l.fn.messages;
+      s0 = l.fn.visitor;
+    }) g.V.MessageVisitor.takes l.messages l.tally l.visitor
+    × (stopped_of l.messages ≡ None) × g.V.MessageVisitor.settled l.visitor × (g.R.Source.reference (source_of l.messages) ≡ g.R.Source.reference (source_of l.fn.messages))
+
+abbrev pub decreases-parts : goal.decreases-parts
+decreases-parts g l = 2 ^ 50 - done_of l.messages

@@ -1,0 +1,23 @@
+use Rattle.cli_run.proofs.GivenSteps.{gives_kept, gives_kept_fault, gives_unwritten, looked}
+use Rattle.cli_run.proofs.handing.next_message.Goals as goal
+
+pub returns-in-Ok-Some-clause-gives : goal.returns-in-Ok-Some-clause-gives
+returns-in-Ok-Some-clause-gives g c =
+    let kept = rw c.in-Ok-Some.field-0-is at c.in-Ok-Some.ensures.kept in
+    gives_kept g.R.Source.left g.R.Source.calls g.R.Source.failures g.met.V.MessageVisitor.adds_up c.args.messages.now c.advance_kept.new.self c.requires c.in-Ok-Some.ensures.unread c.in-Ok-Some.validated c.args.visitor.now (kept c.requires)
+
+pub returns-in-Ok-None-clause-gives : goal.returns-in-Ok-None-clause-gives
+returns-in-Ok-None-clause-gives g c =
+    let kept = rw c.in-Ok-None.field-0-is at c.in-Ok-None.ensures.kept in
+    let gives = c.read_message.ensures.gives in
+    (gives.0, looked c.args.messages.now c.advance_kept.new.self gives.0 c.in-Ok-None.ensures.unread (kept c.requires) gives.1, gives.2)
+
+pub returns-in-Ok-clause-gives : goal.returns-in-Ok-clause-gives
+returns-in-Ok-clause-gives g c =
+    gives_kept_fault g.R.Source.left g.R.Source.calls g.R.Source.failures g.met.V.MessageVisitor.adds_up c.args.messages.now c.advance_kept.new.self c.requires c.in-Err.ensures.unread c.in-Err.fault
+    c.args.visitor.now c.settle.new.self (c.in-Err.ensures.kept c.requires) c.in-Err.ensures.failed c.in-Ok.ensures.lets_go c.in-Ok.ensures.settled
+
+pub returns-in-Err-settle-clause-gives : goal.returns-in-Err-settle-clause-gives
+returns-in-Err-settle-clause-gives g c =
+    gives_unwritten g.R.Source.left g.R.Source.calls g.R.Source.failures g.met.V.MessageVisitor.adds_up c.args.messages.now c.advance_kept.new.self c.requires c.in-Err.ensures.unread
+    c.args.visitor.now c.settle.new.self c.in-Err-settle.ensures.lets_go

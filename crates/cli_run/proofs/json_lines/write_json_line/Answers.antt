@@ -1,0 +1,35 @@
+use Rattle.std.proofs.Common.{◌≡◌, rules, refl, subst}
+use Rattle.dbus_value_model.specs.declared.order.Order.{Order}
+use Rattle.dbus_json.specs.JsonMessages.{IsJsonLine}
+use Rattle.cli_report.specs.Gathering.{Breaks, Passes, gathered_bytes}
+use Rattle.cli_run.proofs.LentSteps.{validated_whole}
+use Rattle.cli_run.proofs.json_lines.write_json_line.Goals as goal
+
+pub returns-then-page : goal.returns-then-page
+returns-then-page g c = λ order m whole.
+    let own = validated_whole c.args.limits c.args.bytes.now c.args.validated.now order m c.requires whole in
+    let written = c.write_json.ensures.written m own.1 in
+    let text = written.0 in
+    let goes = written.2 in
+    let same = goes.same_first in
+    let back : c.write_json.new.draft.first.now ≡ c.first-1.given.0 = search rules in (
+      text,
+      subst (λ (o : Order). IsJsonLine o m c.args.place.number c.args.place.offset text) own.0 written.1,
+      subst (λ (w : g.row.W.Denot). Breaks g.W.Sink.held g.W.Sink.failures text (gathered_bytes c.args.gathered.now) c.args.first.now w) back (goes.breaks refl c.if-page.true),
+    )
+
+pub returns-else-page : goal.returns-else-page
+returns-else-page g c = λ order m whole.
+    let own = validated_whole c.args.limits c.args.bytes.now c.args.validated.now order m c.requires whole in
+    let written = c.write_json.ensures.written m own.1 in
+    let text = written.0 in
+    let goes = written.2 in
+    let same = goes.same_first in
+    let too = goes.same_gathered in
+    let back : c.write_json.new.draft.first.now ≡ c.first-1.given.0 = search rules in
+    let kept : c.write_json.new.draft.gathered.now ≡ c.gathered-1.given.0 = search rules in (
+      text,
+      subst (λ (o : Order). IsJsonLine o m c.args.place.number c.args.place.offset text) own.0 written.1,
+      subst (λ x. Passes g.W.Sink.held g.W.Sink.failures text (gathered_bytes c.args.gathered.now) (gathered_bytes x) c.args.first.now c.first-1.given.0) kept
+          (subst (λ (w : g.row.W.Denot). Passes g.W.Sink.held g.W.Sink.failures text (gathered_bytes c.args.gathered.now) (gathered_bytes c.write_json.new.draft.gathered.now) c.args.first.now w) back (goes.passes refl c.if-page.false)),
+    )

@@ -1,0 +1,78 @@
+-- What `count` writes: the tables of the names of the messages of an input, and what is told of
+-- those that are refused.
+use Rattle.std.specs.Prelude.{◌≡◌, ◌⊎◌, ℕ, false, List, [], ◌∷◌, Option, None, Result, Ok, Err}
+use Rattle.dbus_device.specs.Write.{Wrote, Stopped}
+use Rattle.dbus_count.specs.Counting.{Counting, with_names}
+use Rattle.dbus_count.specs.Kept.{counting_of}
+use Rattle.dbus_count.specs.Names.{names_of}
+use Rattle.dbus_count.specs.Tables.{AreTables, words}
+use Rattle.dbus_count.specs.declared.count.Count.{Count}
+use Rattle.dbus_count.specs.declared.form.Form.{Form}
+use Rattle.cli_options.specs.declared.settings.Settings.{Settings}
+use Rattle.cli_report.specs.Devices.{Reading, Writing, taken, writing}
+use Rattle.cli_report.specs.Failing.{Told}
+use Rattle.cli_report.specs.declared.ending.Cause.{Cause}
+use Rattle.cli_report.specs.declared.ending.Cause.TheVariants.{Memory, ReadFailed, WriteFailed, TooManyReads}
+use Rattle.cli_report.specs.declared.ending.ExitStatus.{ExitStatus}
+use Rattle.cli_report.specs.declared.ending.ExitStatus.TheVariants as status
+use Rattle.cli_run.specs.Going.{GivesUp, GoesThrough}
+use Rattle.cli_run.specs.Inputs.{Placed}
+use Rattle.cli_run.specs.Told.{GotSecond}
+use Rattle.cli_run.specs.declared.by_name.Counter.{Counter}
+use Rattle.cli_run.specs.declared.visitor.Stop.{Stop}
+use Rattle.cli_run.specs.declared.visitor.Stop.TheVariants.{Cause as ByCause, Untold}
+
+-- the count of a name after more messages
+abbrev pub after_messages : List Placed → (name : List ℕ) → Option Count → Option Count
+after_messages [] name c = c
+after_messages (m ∷ items) name c = after_messages items name (with_names (names_of m.item.message) m.item.size name c)
+
+-- the count of each name that one of the messages has
+abbrev pub counting : List Placed → Counting
+counting items name = after_messages items name None
+
+-- no write to the first writer failed
+abbrev pub IsUnwritten : Stop → Type 0
+IsUnwritten (ByCause Memory) = Unit {0}
+IsUnwritten (ByCause ReadFailed) = Unit {0}
+IsUnwritten (ByCause WriteFailed) = ⊥
+IsUnwritten (ByCause TooManyReads) = Unit {0}
+IsUnwritten Untold = Unit {0}
+
+module _ {E : Type 0} (held : E → Option (List ℕ)) (failures : E → ℕ) where
+  -- messages were counted by their names, and this was told
+  pub record CountsMessages (old new : Counter E) (items : List Placed) (told : List ℕ) : Type 0 where
+    pub same_second : new.second.ghost_name ≡ old.second.ghost_name
+    pub counts : (name : List ℕ) → counting_of new.counts name ≡ after_messages items name (counting_of old.counts name)
+    pub tells : Wrote held failures old.second.now told new.second.now
+
+  -- this was told, as far as this stop let it
+  pub record LeavesCounted (old new : Counter E) (items : List Placed) (told : List ℕ) (stop : Stop) : Type 0 where
+    pub same_second : new.second.ghost_name ≡ old.second.ghost_name
+    pub unwritten : IsUnwritten stop
+    pub tells : GotSecond held failures false stop told old.second.now new.second.now
+
+-- the tables were written, or a write failed within them; or for want of memory nothing was written
+abbrev pub WritesTables : {W : Type 0} → Writing W → Form → Counting → Result (Unit {0}) Cause → Type 0
+WritesTables w form c (Ok x) = (text : List ℕ) × AreTables form c words text × Wrote w.held w.failures w.old text w.new
+WritesTables w form c (Err Memory) = w.new ≡ w.old
+WritesTables w form c (Err ReadFailed) = ⊥
+WritesTables w form c (Err WriteFailed) = (text : List ℕ) × AreTables form c words text × (n : ℕ) × Stopped w.held w.failures w.old text n w.new
+WritesTables w form c (Err TooManyReads) = ⊥
+
+-- the tables were written, and this is how the run ends; or they were not, which was told
+abbrev pub EndsCount : {W E : Type 0} → Writing W → Writing E → Form → Counting → (due end : ExitStatus) → Type 0
+EndsCount w e form c due end = (WritesTables w form c (Ok tt) × (e.new ≡ e.old) × (end ≡ due))
+    ⊎ ((cause : Cause) × WritesTables w form c (Err cause) × Told e.held e.failures e.old e.new cause × (end ≡ status.Failed))
+
+-- all was told, and then the tables of all messages were written
+pub record CountsThrough {R W E : Type 0} (r : Reading R) (w : Writing W) (e : Writing E) (settings : Settings) (form : Form) (most : ℕ) (end : ExitStatus) : Type 0 where
+  pub due : ExitStatus
+  pub before : E
+  pub through : GoesThrough (taken r) settings most false
+      (λ items told. Wrote e.held e.failures e.old told before × EndsCount w (writing e.held e.failures before e.new) form (counting items) due end) due
+
+-- or reading or telling was given up, and no table is written
+abbrev pub CountsByName : {R W E : Type 0} → Reading R → Writing W → Writing E → Settings → Form → (most : ℕ) → ExitStatus → Type 0
+CountsByName r w e settings form most end = CountsThrough r w e settings form most end
+    ⊎ (GivesUp (taken r) settings most false e (λ before items told stop. IsUnwritten stop × GotSecond e.held e.failures false stop told e.old before) end × (w.new ≡ w.old))

@@ -1,0 +1,138 @@
+-- What is read and told of an input by settings, whatever takes its messages: whether refused
+-- messages are explained, and whether they are passed over. most is how many reads may be made, and
+-- is_check says whether an input without fault has a last line.
+use Rattle.std.specs.Prelude.{◌≡◌, ◌⊎◌, ℕ, ◌+◌, Bool, true, List, [], ◌++◌, length, Option, Some, Result, Ok, Err}
+use Rattle.std.specs.Io.KnownBytes.{Consumes, IsAtEnd}
+use Rattle.dbus_value_model.specs.declared.fault.Fault.{Fault}
+use Rattle.dbus_header.specs.MessageOutcomes.{IsRefused, IsPartial}
+use Rattle.dbus_device.specs.Device.{one_more, RisesBy}
+use Rattle.dbus_stream.specs.Cut.{CutOutcome, IsOutcome}
+use Rattle.dbus_stream.specs.CutEnds.{fault_at_end}
+use Rattle.dbus_stream.specs.declared.read_fault.ReadFault.{ReadFault}
+use Rattle.dbus_stream.specs.declared.read_fault.ReadFault.TheVariants as read
+use Rattle.cli_options.specs.declared.settings.Settings.{Settings}
+use Rattle.cli_report.specs.Devices.{RisesAtMost, Taken, Writing}
+use Rattle.cli_run.specs.Inputs.{BeginWithParts, IsCutOff, IsLast, IsTellable, Part, Placed, placed, sizes_of}
+use Rattle.cli_run.specs.Parts.{AreTold, HasLastLine, IsToldLast, closing_line, passed_count, status_at, tally_of}
+use Rattle.cli_run.specs.Told.{TellsStop}
+use Rattle.cli_report.specs.declared.ending.Cause.{Cause}
+use Rattle.cli_report.specs.declared.ending.Cause.TheVariants.{Memory, ReadFailed, WriteFailed, TooManyReads}
+use Rattle.cli_report.specs.declared.ending.ExitStatus.{ExitStatus}
+use Rattle.cli_report.specs.declared.ending.ExitStatus.TheVariants as status
+use Rattle.cli_run.specs.declared.tally.Tally.{Tally}
+use Rattle.cli_run.specs.declared.visitor.Stop.{Stop}
+use Rattle.cli_run.specs.declared.visitor.Stop.TheVariants.{Cause as ByCause, Untold}
+
+-- why a run is given up by which a refused message is not passed over
+abbrev pub cause_of : ReadFault → Cause
+cause_of read.Memory = Memory
+cause_of (read.Format fault) = ReadFailed
+cause_of read.Device = ReadFailed
+cause_of read.TooManyReads = TooManyReads
+
+module _ (t : Taken) (settings : Settings) (most : ℕ) (is_check : Bool) where
+  -- what was read is these parts and then the rest, and this is told of the parts
+  pub record Covers (parts : List Part) (rest told : List ℕ) : Type 0 where
+    pub bytes : List ℕ
+    pub consumed : Consumes t.left0 t.left1 bytes
+    pub called : RisesAtMost most t.calls0 t.calls1
+    pub begin : BeginWithParts settings.limits bytes parts rest
+    pub tells : AreTold settings 1 0 parts told
+
+  -- this is told of the fault of the rest, if it has one
+  pub record TellsRest (parts : List Part) (kept : List ℕ) (fault : Option Fault) (text : List ℕ) : Type 0 where
+    pub outcome : CutOutcome
+    pub outcome_is : IsOutcome settings.limits kept outcome
+    pub fault_is : fault ≡ fault_at_end kept outcome
+    pub told : IsToldLast settings (length parts + 1) (sizes_of parts) kept fault text
+
+  -- all of the input was read, or all up to a message that is not passed over: this is told of its
+  -- parts, and of the rest
+  pub record IsThrough (tally : Tally) (fault : Option Fault) (told text : List ℕ) : Type 0 where
+    pub parts : List Part
+    pub rest : List ℕ
+    pub covers : Covers parts rest told
+    pub tally_is : tally ≡ tally_of parts
+    pub kept : List ℕ
+    pub tells : TellsRest parts kept fault text
+    pub last : IsLast settings.keeps_going settings.limits kept rest tells.outcome (IsAtEnd t.left1)
+    pub read_failed : t.failures1 ≡ t.failures0
+
+  -- the source shows why it stopped
+  abbrev pub IsStopOf : Stop → Type 0
+  IsStopOf (ByCause Memory) = t.failures1 ≡ t.failures0
+  IsStopOf (ByCause ReadFailed) = t.failures1 ≡ one_more t.failures0
+  IsStopOf (ByCause WriteFailed) = t.failures1 ≡ t.failures0
+  IsStopOf (ByCause TooManyReads) = (t.failures1 ≡ t.failures0) × RisesBy most t.calls0 t.calls1
+  IsStopOf Untold = t.failures1 ≡ t.failures0
+
+  -- these texts are due after the parts: what is told of the fault of the rest, once it shows; and
+  -- then the last line, if nothing follows
+  abbrev pub AreDue : List Part → (rest more : List ℕ) → Type 0
+  AreDue parts rest more = (kept : List ℕ) × (fault : Option Fault) × (text : List ℕ) × (tells : TellsRest parts kept fault text)
+      × ((IsTellable kept rest tells.outcome (IsAtEnd t.left1) × (more ≡ text))
+      ⊎ (IsLast settings.keeps_going settings.limits kept rest tells.outcome (IsAtEnd t.left1) × (more ≡ text ++ closing_line is_check (tally_of parts) (passed_count parts) fault)))
+
+  -- all is told but the last line
+  abbrev pub LacksLast : List Part → (rest more : List ℕ) → Type 0
+  LacksLast parts rest more = (kept : List ℕ) × (fault : Option Fault) × (tells : TellsRest parts kept fault more)
+      × IsLast settings.keeps_going settings.limits kept rest tells.outcome (IsAtEnd t.left1) × HasLastLine is_check (passed_count parts) fault
+
+  -- all that was read was taken and told: the rest is neither a message nor refused, or a refused
+  -- message was told of which not all bytes came
+  abbrev pub IsAllOf : List Part → (rest more : List ℕ) → Type 0
+  IsAllOf parts rest more = (IsPartial settings.limits rest × (more ≡ [])) ⊎ ((kept : List ℕ) × (fault : Fault) × IsRefused settings.limits kept fault × IsCutOff settings.limits kept rest
+      × (settings.keeps_going ≡ true) × IsToldLast settings (length parts + 1) (sizes_of parts) kept (Some fault) more)
+
+  -- this was told after the parts, or was to be told if a write of it failed
+  abbrev pub IsMore : Stop → List Part → (rest more : List ℕ) → Type 0
+  IsMore (ByCause Memory) parts rest more = (more ≡ []) ⊎ LacksLast parts rest more
+  IsMore (ByCause ReadFailed) parts rest more = IsAllOf parts rest more
+  IsMore (ByCause WriteFailed) parts rest more = more ≡ []
+  IsMore (ByCause TooManyReads) parts rest more = IsAllOf parts rest more
+  IsMore Untold parts rest more = AreDue parts rest more
+
+  -- some of the first parts were taken, and told. left says what became of them
+  pub record StopsWithin (left : List Placed → (told : List ℕ) → Stop → Type 0) (stop : Stop) : Type 0 where
+    pub parts : List Part
+    pub rest : List ℕ
+    pub told : List ℕ
+    pub covers : Covers parts rest told
+    pub more : List ℕ
+    pub all : IsMore stop parts rest more
+    pub caused : IsStopOf stop
+    pub came : left (placed 1 0 parts) (told ++ more) stop
+
+  -- all was taken and told, and then the last line. done says what became of it
+  pub record GoesThrough (done : List Placed → (told : List ℕ) → Type 0) (end : ExitStatus) : Type 0 where
+    pub tally : Tally
+    pub fault : Option Fault
+    pub told : List ℕ
+    pub text : List ℕ
+    pub through : IsThrough tally fault told text
+    pub came : done (placed 1 0 through.parts) (told ++ text ++ closing_line is_check tally tally.passed fault)
+    pub end_is : end ≡ status_at tally.passed fault
+
+  -- it was given up, and the second writer was told why
+  pub record GivesUp {E : Type 0} (e : Writing E) (left : E → List Placed → (told : List ℕ) → Stop → Type 0) (end : ExitStatus) : Type 0 where
+    pub failed : end ≡ status.Failed
+    pub stop : Stop
+    pub before : E
+    pub within : StopsWithin (left before) stop
+    pub tells : TellsStop e.held e.failures is_check stop before e.new
+
+  module _ {S : Type 0} (takes : S → S → List Placed → (told : List ℕ) → Type 0) (leaves : S → S → List Placed → (told : List ℕ) → Stop → Type 0) (s0 s1 : S) where
+    abbrev pub PassesAll : Result ExitStatus Stop → Type 0
+    PassesAll (Ok end) = GoesThrough (takes s0 s1) end
+    PassesAll (Err stop) = StopsWithin (leaves s0 s1) stop
+
+module _ {S : Type 0} (takes : S → S → List Placed → (told : List ℕ) → Type 0) (leaves : S → S → List Placed → (told : List ℕ) → Stop → Type 0) where
+  -- the last line was told, if there is one, and this is the status; or a write of it failed; or
+  -- for want of memory it was not told
+  abbrev pub Closes : (is_check : Bool) → Tally → Option Fault → S → S → Result ExitStatus Stop → Type 0
+  Closes is_check tally fault a b (Ok end) = takes a b [] (closing_line is_check tally tally.passed fault) × (end ≡ status_at tally.passed fault)
+  Closes is_check tally fault a b (Err (ByCause Memory)) = (b ≡ a) × HasLastLine is_check tally.passed fault
+  Closes is_check tally fault a b (Err (ByCause ReadFailed)) = ⊥
+  Closes is_check tally fault a b (Err (ByCause WriteFailed)) = ⊥
+  Closes is_check tally fault a b (Err (ByCause TooManyReads)) = ⊥
+  Closes is_check tally fault a b (Err Untold) = leaves a b [] (closing_line is_check tally tally.passed fault) Untold

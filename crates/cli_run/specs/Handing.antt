@@ -1,0 +1,76 @@
+-- What is written of one message, and what is read of the next one. g0 and g1 are what is gathered
+-- before and after.
+use Rattle.std.specs.Prelude.{◌≡◌, ◌↔◌, ℕ, Bool, IsTrue, Vec, List, [], ◌++◌, length, Option, None, Result, Ok, Err, IfOk}
+use Rattle.std.specs.declared.alloc.Global.{Global}
+use Rattle.dbus_value_model.specs.declared.order.Order.{Order}
+use Rattle.dbus_message_model.specs.Messages.{MessageTree}
+use Rattle.dbus_validate.specs.declared.validating.Validated.{Validated}
+use Rattle.dbus_stream.specs.Next.{DeviceCounts}
+use Rattle.dbus_stream.specs.RawNext.{Reads, Advances, ReadsNothing}
+use Rattle.dbus_stream.specs.RawReading.{done_of, kept, source_of, stopped_of}
+use Rattle.dbus_stream.specs.declared.raw_reader.RawReader.{RawReader}
+use Rattle.dbus_json.specs.JsonMessages.{IsJsonLine}
+use Rattle.dbus_match.specs.declared.owner.Owner.{Owner}
+use Rattle.cli_options.specs.declared.command.Command.{Command}
+use Rattle.cli_report.specs.Devices.{Writing}
+use Rattle.cli_run.specs.Windows.{after, written}
+use Rattle.cli_run.specs.Output.{IsOutputOf, IsTextOf, Picks, owners_after, owners_known}
+use Rattle.cli_report.specs.Gathering.{GathersOrNot}
+use Rattle.cli_report.specs.declared.ending.Cause.{Cause}
+use Rattle.cli_report.specs.declared.ending.Cause.TheVariants.{WriteFailed}
+use Rattle.cli_run.specs.Inputs.{Placed}
+use Rattle.cli_run.specs.declared.counted.NoMessage.{NoMessage}
+use Rattle.cli_run.specs.declared.counted.NoMessage.TheVariants.{Reader, Writer}
+use Rattle.cli_run.specs.declared.place.Carried.{Carried}
+use Rattle.cli_run.specs.declared.place.Place.{Place}
+use Rattle.cli_run.specs.declared.visitor.Stop.{Stop}
+use Rattle.cli_run.specs.declared.visitor.Stop.TheVariants.{Cause as ByCause}
+
+-- a line of JSON of one message was written or gathered, which has this place in its input
+abbrev pub WritesJson : {W : Type 0} → Writing W → Order → MessageTree → Place → List ℕ → List ℕ → Result (Unit {0}) Cause → Type 0
+WritesJson w order message place g0 g1 result =
+    (out : List ℕ) × IsJsonLine order message place.number place.offset out × GathersOrNot w.held w.failures out g0 g1 w.old w.new result
+
+-- the text that a command makes of one message, which has this place in its input, was written or
+-- gathered
+abbrev pub WritesOne : {W : Type 0} → Writing W → Command → Order → MessageTree → Place → List ℕ → List ℕ → Result (Unit {0}) Cause → Type 0
+WritesOne w command order message place g0 g1 result =
+    (text : List ℕ) × IsTextOf command order message place.number place.offset text × GathersOrNot w.held w.failures text g0 g1 w.old w.new result
+
+-- whether the command makes a text of a message, and the owners that it has learned before and
+-- after it
+pub record IsPicked (command : Command) (message : MessageTree) (old new : Option (Vec (Owner Global) Global)) (picked : Bool) : Type 0 where
+  pub picks : IsTrue picked ↔ Picks command (owners_known command old) message
+  pub owners : owners_known command new ≡ owners_after command (owners_known command old) message
+
+-- the window and the owners for what follows such texts of a message
+pub record GoesOnAfter (command : Command) (message : MessageTree) (texts : List (List ℕ)) (old new : Carried) : Type 0 where
+  pub window : new.window ≡ after old.window (length texts)
+  pub owners : owners_known command new.owners ≡ owners_after command (owners_known command old.owners) message
+
+-- what the window lets through of the texts that a command makes of one message was written or
+-- gathered
+abbrev pub HandsOne : {W : Type 0} → Writing W → Command → (old new : Carried) → Order → MessageTree → Place → List ℕ → List ℕ → Result (Unit {0}) Cause → Type 0
+HandsOne w command old new order message place g0 g1 result = (texts : List (List ℕ)) × IsOutputOf command (owners_known command old.owners) order message place.number place.offset texts
+    × IfOk result (λ _. GoesOnAfter command message texts old new) × GathersOrNot w.held w.failures (written old.window texts) g0 g1 w.old w.new result
+
+-- a reader stands where it stood, and may have looked at what it keeps
+pub record Stays {R A : Type 0} (old now : RawReader R A) : Type 0 where
+  pub unread : ReadsNothing old now
+  pub kept_is : kept now ≡ kept old
+  pub done : done_of now ≡ done_of old
+  pub unstopped : stopped_of now ≡ None
+
+module _ {R S : Type 0} (left : R → Option (List ℕ)) (calls failures : R → ℕ) (takes : S → S → List Placed → (told : List ℕ) → Type 0)
+    (leaves : S → S → List Placed → (told : List ℕ) → Stop → Type 0) (settled : S → Type 0) where
+  -- what a reader validates of its next message, which it lends. A visitor let go of what it held
+  -- back before a read, and if there is no next message
+  abbrev pub GivesFrom : {A : Type 0} → RawReader R A → RawReader R A → S → S → Result (Option Validated) NoMessage → Type 0
+  GivesFrom from new s0 s1 (Ok validated) = (r : Reads left calls from new) × Advances (kept from ++ r.bytes) from new (Ok validated)
+      × (failures (source_of new) ≡ failures (source_of from)) × takes s0 s1 [] [] × (validated ≡ None → settled s1)
+  GivesFrom from new s0 s1 (Err (Reader fault)) = (r : Reads left calls from new) × Advances (kept from ++ r.bytes) from new (Err fault)
+      × DeviceCounts {T = Option Validated} (failures (source_of from)) (failures (source_of new)) (Err fault) × takes s0 s1 [] [] × settled s1
+  GivesFrom from new s0 s1 (Err Writer) = Reads left calls from new × leaves s0 s1 [] [] (ByCause WriteFailed) × (failures (source_of new) ≡ failures (source_of from))
+
+  abbrev pub GivesNext : {A : Type 0} → RawReader R A → RawReader R A → S → S → Result (Option Validated) NoMessage → Type 0
+  GivesNext {A} old new s0 s1 result = (from : RawReader R A) × Stays old from × GivesFrom from new s0 s1 result

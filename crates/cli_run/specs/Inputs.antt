@@ -1,0 +1,81 @@
+-- What an input is made of: messages, and others that are refused and passed over, by the length
+-- that their first sixteen bytes state. D-Bus Specification, "Message Format".
+use Rattle.std.specs.Prelude.{◌≡◌, ◌⊎◌, ℕ, ◌+◌, ◌<◌, ◌≤◌, Bool, true, false, List, [], ◌∷◌, length, drop}
+use Rattle.dbus_value_model.specs.declared.fault.Fault.{Fault}
+use Rattle.dbus_value_model.specs.declared.limits.Limits.{Limits}
+use Rattle.dbus_header.specs.MessageOutcomes.{IsWhole, IsRefused}
+use Rattle.dbus_header.specs.StatedLengths.{StatesLength}
+use Rattle.dbus_stream.specs.Cut.{CutMessage, CutOutcome, Ended, Unfinished, Refused}
+use Rattle.dbus_stream.specs.Lasting.{is_truncated}
+use Rattle.dbus_stream.specs.Passing.{StatesAll}
+use Rattle.cli_report.specs.Gathering.{IsPrefixTo}
+use Rattle.cli_run.specs.declared.place.Place.{Place}
+
+-- a part of an input: a message; or one that is refused and passed over, which has so many bytes,
+-- with those that were kept of the input from there on when it was refused
+pub data Part : Type 0 where
+  Whole : CutMessage → Part
+  PassedOver : List ℕ → Fault → ℕ → Part
+
+abbrev pub size_of : Part → ℕ
+size_of (Whole item) = item.size
+size_of (PassedOver kept fault size) = size
+
+abbrev pub sizes_of : List Part → ℕ
+sizes_of [] = 0
+sizes_of (part ∷ parts) = size_of part + sizes_of parts
+
+-- the bytes begin with this part: a refused message states its length, and so many bytes are there
+abbrev pub IsPart : Limits → List ℕ → Part → Type 0
+IsPart limits bytes (Whole item) = IsWhole limits bytes item.order item.message item.size
+IsPart limits bytes (PassedOver kept fault size) =
+    IsPrefixTo kept bytes × IsRefused limits kept fault × StatesLength limits kept size × (size ≤ length bytes)
+
+-- the bytes are these parts, one after the other, and then the rest
+abbrev pub BeginWithParts : Limits → List ℕ → List Part → List ℕ → Type 0
+BeginWithParts limits bytes [] rest = bytes ≡ rest
+BeginWithParts limits bytes (part ∷ parts) rest = IsPart limits bytes part × BeginWithParts limits (drop (size_of part) bytes) parts rest
+
+-- a refused message states more bytes than there are
+pub record IsCutOff (limits : Limits) (kept rest : List ℕ) : Type 0 where
+  pub size : ℕ
+  pub front : IsPrefixTo kept rest
+  pub states : StatesLength limits kept size
+  pub short : length rest < size
+
+-- the fault of the rest shows by what is kept of it: the rest is refused, or the input ends there
+abbrev pub IsTellable : (kept rest : List ℕ) → CutOutcome → Type 0 → Type 0
+IsTellable kept rest Ended at_end = (rest ≡ kept) × at_end
+IsTellable kept rest Unfinished at_end = (rest ≡ kept) × at_end
+IsTellable kept rest (Refused fault) at_end = rest ≡ kept
+
+-- why nothing follows the parts but the rest: the input ends there, or within a message; or a
+-- message is refused, and the run is not to go on, or it states no length within the limits, or the
+-- input ends within it. kept is what was kept of the rest when that was found
+abbrev pub IsLast : (goes_on : Bool) → Limits → List ℕ → List ℕ → CutOutcome → Type 0 → Type 0
+IsLast goes_on limits kept rest Ended at_end = (rest ≡ kept) × at_end
+IsLast goes_on limits kept rest Unfinished at_end = (rest ≡ kept) × at_end
+IsLast goes_on limits kept rest (Refused fault) at_end =
+    ((rest ≡ kept) × (goes_on ≡ true → is_truncated fault.reason ≡ false → (n : ℕ) → StatesAll limits kept n → ⊥))
+    ⊎ (IsCutOff limits kept rest × at_end × (goes_on ≡ true))
+
+-- ---- the messages among the parts
+
+-- a message of an input, and its place there
+pub record Placed : Type 0 where
+  pub place : Place
+  pub item : CutMessage
+
+abbrev pub placed_at : (n offset : ℕ) → CutMessage → Placed
+placed_at n offset item = record { place = record { number = n; offset = offset }; item = item }
+
+-- the messages among parts, of which the first is the n-th of its input and begins at this offset
+abbrev pub placed : (n offset : ℕ) → List Part → List Placed
+placed n offset [] = []
+placed n offset (Whole item ∷ parts) = placed_at n offset item ∷ placed (n + 1) (offset + item.size) parts
+placed n offset (PassedOver kept fault size ∷ parts) = placed (n + 1) (offset + size) parts
+
+-- messages alone, as parts
+abbrev pub wholes : List CutMessage → List Part
+wholes [] = []
+wholes (item ∷ items) = Whole item ∷ wholes items

@@ -1,0 +1,108 @@
+-- What a command writes of the messages of its input and the fault after them.
+use Rattle.std.specs.Prelude.{◌≡◌, ℕ, ◌+◌, ◌⊎◌, Bool, true, false, List, [], ◌∷◌, ◌++◌, length, Option, None, Some, Vec}
+use Rattle.std.specs.List.{concat}
+use Rattle.std.specs.declared.alloc.Global.{Global}
+use Rattle.dbus_value_model.specs.declared.fault.Fault.{Fault}
+use Rattle.dbus_value_model.specs.declared.order.Order.{Order}
+use Rattle.dbus_message_model.specs.Messages.{MessageTree, message_bytes}
+use Rattle.dbus_stream.specs.Cut.{CutMessage}
+use Rattle.dbus_stream.specs.CutEnds.{sizes}
+use Rattle.dbus_show.specs.ShownMessages.{message_text}
+use Rattle.dbus_json.specs.JsonMessages.{IsJsonLine}
+use Rattle.dbus_match.specs.declared.owner.Owner.{Owner}
+use Rattle.dbus_match.specs.Matching.{Ownership}
+use Rattle.cli_options.specs.Learning.{known, known_after}
+use Rattle.cli_options.specs.Selections.{SelectsBy}
+use Rattle.cli_options.specs.declared.command.Command.{Command}
+use Rattle.cli_options.specs.declared.command.Command.TheVariants.{Show, Json, Check, Swap, Filter}
+use Rattle.cli_report.specs.Gathering.{IsPrefixTo}
+use Rattle.cli_run.specs.CountLines.{ok_line}
+use Rattle.cli_run.specs.Inputs.{Placed, placed, wholes}
+use Rattle.cli_report.specs.Lines.{refused_line}
+use Rattle.cli_report.specs.declared.ending.ExitStatus.{ExitStatus}
+use Rattle.cli_report.specs.declared.ending.ExitStatus.TheVariants as status
+
+-- the command is `check`, which writes nothing of a message, and tells the first writer of a fault
+abbrev pub is_check : Command → Bool
+is_check Check = true
+is_check command = false
+
+-- the owners of names that a command knows: its own, or those that it has learned since
+abbrev pub owners_known : Command → Option (Vec (Owner Global) Global) → List Ownership
+owners_known (Filter selection) learned = known selection learned
+owners_known command learned = []
+
+-- the owners that it knows after a message, if it knew these before
+abbrev pub owners_after : Command → List Ownership → MessageTree → List Ownership
+owners_after (Filter selection) os message = known_after selection os message
+owners_after command os message = os
+
+-- the owners that a command knows after messages, if it knew these before
+abbrev pub owners_after_all : Command → List Ownership → List Placed → List Ownership
+owners_after_all command os [] = os
+owners_after_all command os (m ∷ items) = owners_after_all command (owners_after command os m.item.message) items
+
+-- a command makes a text of the message, if it knows these owners
+abbrev pub Picks : Command → List Ownership → MessageTree → Type 0
+Picks Check os message = ⊥
+Picks (Filter selection) os message = SelectsBy selection os message
+Picks command os message = Unit {0}
+
+-- that text, if the message is the n-th of its input and begins at this offset there
+abbrev pub IsTextOf : Command → Order → MessageTree → (n offset : ℕ) → List ℕ → Type 0
+IsTextOf Show order message n offset text = text ≡ message_text order message n
+IsTextOf Json order message n offset text = IsJsonLine order message n offset text
+IsTextOf Check order message n offset text = text ≡ []
+IsTextOf (Swap wanted) order message n offset text = text ≡ message_bytes wanted message
+IsTextOf (Filter selection) order message n offset text = text ≡ message_bytes order message
+
+-- the texts that it makes of one message: one if it picks it, else none
+abbrev pub IsOutputOf : Command → List Ownership → Order → MessageTree → (n offset : ℕ) → List (List ℕ) → Type 0
+IsOutputOf command os order message n offset texts =
+    (Picks command os message × (text : List ℕ) × IsTextOf command order message n offset text × (texts ≡ text ∷ []))
+    ⊎ ((Picks command os message → ⊥) × (texts ≡ []))
+
+-- those that it makes of several, one after the other, if it knows these owners before
+abbrev pub IsOutputOfAll : Command → List Ownership → List Placed → List (List ℕ) → Type 0
+IsOutputOfAll command os [] texts = texts ≡ []
+IsOutputOfAll command os (m ∷ items) texts = (one : List (List ℕ)) × (more : List (List ℕ)) × (texts ≡ one ++ more)
+    × IsOutputOf command os m.item.order m.item.message m.place.number m.place.offset one × IsOutputOfAll command (owners_after command os m.item.message) items more
+
+-- the messages and the fault after them determine each byte that the command writes. `json` may
+-- write a DOUBLE by any digits that read back as its bits.
+abbrev pub IsExact : Command → Type 0
+IsExact Json = ⊥
+IsExact command = Unit {0}
+
+-- how many messages of how many bytes, or the fault, whose place counts from the start of the input
+abbrev pub check_line : ℕ → ℕ → Option Fault → List ℕ
+check_line count size None = ok_line count size
+check_line count size (Some fault) = refused_line (size + fault.at) fault.reason
+
+-- what is written after so many messages of so many bytes: only `check` writes a line there
+abbrev pub last_line : Command → ℕ → ℕ → Option Fault → List ℕ
+last_line Check count size fault = check_line count size fault
+last_line command count size fault = []
+
+-- what the first writer gets
+pub record IsFirstOutput (command : Command) (items : List CutMessage) (fault : Option Fault) (out : List ℕ) : Type 0 where
+  pub texts : List (List ℕ)
+  pub each : IsOutputOfAll command (owners_known command None) (placed 1 0 (wholes items)) texts
+  pub joined : out ≡ concat texts ++ last_line command (length items) (sizes items) fault
+
+-- a prefix of what the first writer gets
+abbrev pub IsFront : Command → List CutMessage → Option Fault → List ℕ → Type 0
+IsFront command items fault front = (out : List ℕ) × IsFirstOutput command items fault out × IsPrefixTo front out
+
+abbrev pub fault_line : ℕ → Option Fault → List ℕ
+fault_line size None = []
+fault_line size (Some fault) = refused_line (size + fault.at) fault.reason
+
+-- what the second writer gets: the fault, which `check` tells the first
+abbrev pub second_output : Command → ℕ → Option Fault → List ℕ
+second_output Check size fault = []
+second_output command size fault = fault_line size fault
+
+abbrev pub status_of : Option Fault → ExitStatus
+status_of None = status.Done
+status_of (Some fault) = status.Refused

@@ -1,0 +1,50 @@
+//! What is written after the messages of an input.
+ghost use Rattle.std.specs.Prelude.{◌≡◌, IfOk, string_bytes};
+ghost use Rattle.cli_run.specs.Closing.{WritesLine};
+ghost use Rattle.cli_run.specs.Output.{check_line, status_of};
+
+use crate::count_lines::ok_line;
+use crate::counted::Counted;
+use cli_report::{Cause, ExitStatus, refused_line};
+use dbus_stream::{Sink, WrittenOnly, write_all};
+use dbus_value_model::Fault;
+use std::alloc::{AllocError, Allocator};
+
+/// Writes the line of what was counted.
+pub(crate) fn write_count<A: Allocator + Copy, W: Sink>(
+    alloc: A,
+    counted: Counted,
+    first: &mut W,
+) -> Result<(), Cause>
+    ensures { WritesLine W.held W.failures (check_line counted.count counted.size counted.fault)
+        first.old first.new result }
+{
+    match check_line(alloc, counted) {
+        Ok(line) => match write_all(first, line.as_bytes()) {
+            Ok(()) => Ok(()),
+            Err(WrittenOnly(_)) => Err(Cause::WriteFailed),
+        },
+        Err(_) => Err(Cause::Memory),
+    }
+}
+
+// The line of what was counted.
+fn check_line<A: Allocator + Copy>(alloc: A, counted: Counted) -> Result<String<A>, AllocError>
+    ensures { IfOk result (λ line.
+        string_bytes line ≡ check_line counted.count counted.size counted.fault) }
+{
+    match counted.fault {
+        None => ok_line(alloc, counted.count, counted.size),
+        Some(fault) => refused_line(alloc, counted.size, fault),
+    }
+}
+
+/// How a run ends that read to the end of the input, or to a fault.
+pub(crate) fn status_of(fault: Option<Fault>) -> ExitStatus
+    ensures { result ≡ status_of fault }
+{
+    match fault {
+        None => ExitStatus::Done,
+        Some(_) => ExitStatus::Refused,
+    }
+}

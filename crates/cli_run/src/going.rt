@@ -1,0 +1,174 @@
+//! The messages of an input, handed on by settings: those that are refused are told, and may be
+//! passed over.
+ghost use Rattle.std.specs.Prelude.{◌≡◌, ◌≤◌, ◌^◌, IfOk};
+ghost use Rattle.dbus_stream.specs.RawReading.{IsNewReader, kept, most_reads_of, source_of};
+ghost use Rattle.cli_report.specs.Devices.{reading, taken};
+ghost use Rattle.cli_run.specs.Going.{Closes, PassesAll, cause_of};
+ghost use Rattle.cli_run.specs.Parts.{IsTold};
+ghost use Rattle.cli_run.specs.Told.{TellsStop};
+ghost use Rattle.cli_run.specs.Visiting.{Tells};
+
+use crate::handing::hand_all;
+use crate::tally::{Tally, closing_line};
+use crate::visitor::{MessageVisitor, Stop};
+use cli_options::Settings;
+use cli_report::{Cause, ExitStatus, Refusal, Unwritten, give_up, refusal_text};
+use dbus_stream::{RawReader, ReadFault, Sink, Source};
+use dbus_value_model::Fault;
+use std::alloc::Allocator;
+
+/// Hands the messages of a source to the visitor, up to its end, a message that is refused and not
+/// passed over, or this number of reads. The visitor tells each refusal, and then the last line, if
+/// there is one: what was passed over, or, of `check`, that nothing is refused.
+///
+/// Returns the status that is due, or why the run is given up; and the source.
+pub(crate) fn pass_through<R: Source + Drop, A: Allocator + Copy, V: MessageVisitor>(
+    alloc: A,
+    settings: Settings,
+    is_check: bool,
+    reads: u64,
+    source: R,
+    visitor: &mut V,
+) -> (Result<ExitStatus, Stop>, R)
+    requires few { reads ≤ 2 ^ 32 }
+    requires settled { V.settled visitor.old }
+    ensures passes { PassesAll (taken (reading R.left R.calls R.failures source result.1)) settings reads is_check
+        V.takes V.leaves visitor.old visitor.new result.0 }
+    ensures settled { IfOk result.0 (λ _. V.settled visitor.new) }
+    ensures same_reference { R.reference result.1 ≡ R.reference source }
+{
+    let mut messages = RawReader::within(alloc, source, reads, settings.limits);
+    let ended = hand_parts(alloc, settings, is_check, &mut messages, visitor);
+    (ended, messages.into_source())
+}
+
+// The same of a new reader.
+fn hand_parts<R: Source, A: Allocator + Copy, V: MessageVisitor>(
+    alloc: A,
+    settings: Settings,
+    is_check: bool,
+    messages: &mut RawReader<R, A>,
+    visitor: &mut V,
+) -> Result<ExitStatus, Stop>
+    requires new { IsNewReader (source_of messages.old) (most_reads_of messages.old) settings.limits
+        messages.old }
+    requires settled { V.settled visitor.old }
+    ensures passes { PassesAll (taken (reading R.left R.calls R.failures (source_of messages.old) (source_of messages.new)))
+        settings (most_reads_of messages.old) is_check V.takes V.leaves visitor.old visitor.new result }
+    ensures settled { IfOk result (λ _. V.settled visitor.new) }
+    ensures same_reference { R.reference (source_of messages.new) ≡
+        R.reference (source_of messages.old) }
+{
+    let mut tally = Tally {
+        count: 0,
+        size: 0,
+        passed: 0,
+        passed_size: 0,
+    };
+    'parts: loop {
+        let counted = match hand_all(settings.limits, tally.count, messages, visitor) {
+            Ok(counted) => counted,
+            Err(cause) => return Err(Stop::Cause(cause)),
+        };
+        tally = tally.up_to(counted);
+        let fault = match counted.fault {
+            Some(fault) => fault,
+            None => return close(alloc, is_check, tally, None, visitor),
+        };
+        let refusal = Refusal {
+            number: counted.count + 1,
+            offset: counted.size,
+            fault,
+        };
+        match tell(alloc, settings, refusal, messages, visitor) {
+            Ok(()) => {}
+            Err(stop) => return Err(stop),
+        }
+        if !settings.keeps_going {
+            return close(alloc, is_check, tally, Some(fault), visitor);
+        }
+        match messages.pass_over() {
+            Ok(true) => tally = tally.past(messages.done()),
+            Ok(false) => return close(alloc, is_check, tally, Some(fault), visitor),
+            Err(fault) => return Err(Stop::Cause(cause_of(fault))),
+        }
+    }
+}
+
+// Has the visitor tell a refusal.
+fn tell<R: Source, A: Allocator + Copy, V: MessageVisitor>(
+    alloc: A,
+    settings: Settings,
+    refusal: Refusal,
+    messages: &RawReader<R, A>,
+    visitor: &mut V,
+) -> Result<(), Stop>
+    requires { V.settled visitor.old }
+    ensures tells { Tells V.takes V.leaves (IsTold settings refusal (kept messages.now)) visitor.old visitor.new result }
+    ensures settled { IfOk result (λ _. V.settled visitor.new) }
+{
+    let Settings {
+        explains,
+        keeps_going,
+        ..
+    } = settings;
+    let Ok(text) = refusal_text(alloc, keeps_going, explains, refusal, messages) else {
+        return Err(Stop::Cause(Cause::Memory));
+    };
+    match visitor.tell(text.as_str()) {
+        Ok(()) => Ok(()),
+        Err(Unwritten) => Err(Stop::Untold),
+    }
+}
+
+// Has the visitor tell the last line. Returns the status that is due then.
+fn close<A: Allocator + Copy, V: MessageVisitor>(
+    alloc: A,
+    is_check: bool,
+    tally: Tally,
+    fault: Option<Fault>,
+    visitor: &mut V,
+) -> Result<ExitStatus, Stop>
+    requires settled { V.settled visitor.old }
+    requires few { tally.passed ≤ tally.count }
+    requires few_bytes { tally.passed_size ≤ tally.size }
+    ensures closes { Closes V.takes V.leaves is_check tally fault visitor.old visitor.new result }
+    ensures settled { IfOk result (λ _. V.settled visitor.new) }
+{
+    let Ok(line) = closing_line(alloc, is_check, tally, fault) else {
+        return Err(Stop::Cause(Cause::Memory));
+    };
+    match visitor.tell(line.as_str()) {
+        Ok(()) => Ok(tally.status(fault)),
+        Err(Unwritten) => Err(Stop::Untold),
+    }
+}
+
+// Why the run is given up if a refused message was not passed over.
+fn cause_of(fault: ReadFault) -> Cause
+    ensures { result ≡ cause_of fault }
+{
+    match fault {
+        ReadFault::Memory => Cause::Memory,
+        ReadFault::Format(_) => Cause::ReadFailed,
+        ReadFault::Device => Cause::ReadFailed,
+        ReadFault::TooManyReads => Cause::TooManyReads,
+    }
+}
+
+/// Tells the second writer why a run is given up, unless a write to it failed.
+pub(crate) fn tell_stop<E: Sink>(stop: Stop, is_check: bool, second: &mut E) -> ExitStatus
+    ensures failed { result ≡ ExitStatus.Failed }
+    ensures tells { TellsStop E.held E.failures is_check stop second.old second.new }
+{
+    match stop {
+        Stop::Cause(cause) => give_up(cause, second),
+        Stop::Untold => {
+            if is_check {
+                give_up(Cause::WriteFailed, second)
+            } else {
+                ExitStatus::Failed
+            }
+        }
+    }
+}

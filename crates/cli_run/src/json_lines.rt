@@ -1,0 +1,51 @@
+//! A message as a line of JSON.
+ghost use Rattle.std.specs.Prelude.{◌≡◌, ℕ, List, length};
+ghost use Rattle.dbus_value_model.specs.declared.order.Order.{Order};
+ghost use Rattle.dbus_message_model.specs.Messages.{MessageTree};
+ghost use Rattle.dbus_header.specs.MessageOutcomes.{IsWhole};
+ghost use Rattle.dbus_validate.specs.Validating.{IsValidatedWhole};
+ghost use Rattle.cli_report.specs.Devices.{writing};
+ghost use Rattle.cli_report.specs.Gathering.{gathered_bytes};
+ghost use Rattle.cli_run.specs.Handing.{WritesJson};
+
+use crate::place::Place;
+use cli_report::{Cause, Gathered, Page};
+use dbus_json::write_json;
+use dbus_stream::Sink;
+use dbus_validate::Validated;
+use dbus_value_model::Limits;
+
+/// Writes or gathers the line of JSON of the message that the bytes are.
+pub(crate) fn write_json_line<W: Sink>(
+    bytes: &[u8],
+    validated: &Validated,
+    limits: Limits,
+    place: Place,
+    gathered: &mut Gathered,
+    first: &mut W,
+) -> Result<(), Cause>
+    requires { IsValidatedWhole limits bytes.now validated.now }
+    ensures { (order : Order) (m : MessageTree) →
+        IsWhole limits bytes.now order m (length bytes.now) →
+        WritesJson (writing W.held W.failures first.old first.new) order m place
+        (gathered_bytes gathered.old) (gathered_bytes gathered.new) result }
+{
+    let mut page = Page {
+        gathered,
+        first,
+        failed: false,
+    };
+    write_json(
+        &mut page,
+        bytes,
+        limits,
+        validated,
+        place.number,
+        place.offset,
+    );
+    if page.failed {
+        Err(Cause::WriteFailed)
+    } else {
+        Ok(())
+    }
+}

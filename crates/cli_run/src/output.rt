@@ -1,0 +1,138 @@
+//! What is written of each message.
+ghost use Rattle.std.specs.Prelude.{◌≡◌, ℕ, IfOk, List, length};
+ghost use Rattle.dbus_value_model.specs.declared.order.Order.{Order};
+ghost use Rattle.dbus_message_model.specs.Messages.{MessageTree};
+ghost use Rattle.dbus_header.specs.MessageOutcomes.{IsWhole};
+ghost use Rattle.dbus_validate.specs.Validating.{IsValidatedWhole};
+ghost use Rattle.cli_report.specs.Gathering.{gathered_bytes};
+ghost use Rattle.cli_report.specs.Devices.{writing};
+ghost use Rattle.cli_run.specs.Handing.{HandsOne, IsPicked, WritesOne};
+ghost use Rattle.cli_run.specs.Commands.{command_of};
+ghost use Rattle.cli_run.specs.Output.{is_check};
+
+use crate::filtering::select;
+use crate::json_lines::write_json_line;
+use crate::place::{Carried, Lent};
+use crate::showing::show;
+use crate::swapping::swap;
+use crate::window::lets_through;
+use cli_options::{Command, Selection};
+use cli_report::{Cause, Gathered, put_out};
+use dbus_match::Owner;
+use dbus_stream::Sink;
+use dbus_value_model::Order;
+use std::alloc::{AllocError, Allocator};
+
+/// What a command writes of each message.
+#[derive(Clone, Copy)]
+pub(crate) enum Output<'a> {
+    /// Nothing.
+    Nothing,
+    /// Its text.
+    Text,
+    /// Its line of JSON.
+    JsonLine,
+    /// Its bytes in this order.
+    InOrder(Order),
+    /// Its bytes as they are, if it is selected.
+    Matching(&'a Selection),
+}
+
+/// What the command writes of each message.
+pub(crate) fn output_of(command: &Command) -> Output<'_>
+    ensures { command_of result ≡ command.now }
+{
+    match command {
+        Command::Check => Output::Nothing,
+        Command::Show => Output::Text,
+        Command::Json => Output::JsonLine,
+        Command::Swap(order) => Output::InOrder(*order),
+        Command::Filter(selection) => Output::Matching(selection),
+    }
+}
+
+/// Whether the command is `check`, of which what is told goes to the first writer.
+pub(crate) fn is_check(output: Output) -> bool
+    ensures { result ≡ is_check (command_of output.entry) }
+{
+    match output {
+        Output::Nothing => true,
+        Output::Text => false,
+        Output::JsonLine => false,
+        Output::InOrder(_) => false,
+        Output::Matching(_) => false,
+    }
+}
+
+// Whether the command makes a text of the message. It learns from the message after that.
+fn picks(output: Output, lent: &Lent, owners: &mut Option<Vec<Owner>>) -> Result<bool, AllocError>
+    requires { IsValidatedWhole lent.now.limits lent.now.bytes.now lent.now.validated }
+    ensures { (order : Order) (m : MessageTree) →
+        IsWhole lent.now.limits lent.now.bytes.now order m (length lent.now.bytes.now) →
+        IfOk result (IsPicked (command_of output.entry) m owners.old owners.new) }
+{
+    match output {
+        Output::Nothing => Ok(false),
+        Output::Text => Ok(true),
+        Output::JsonLine => Ok(true),
+        Output::InOrder(_) => Ok(true),
+        Output::Matching(selection) => select(selection, lent, owners),
+    }
+}
+
+// Writes or gathers the text that the command makes of the message. A message is byteswapped in
+// `spare`, so that only a longer one than those before takes memory.
+fn write_one<A: Allocator + Copy, W: Sink>(
+    output: Output,
+    lent: &Lent,
+    spare: &mut Vec<u8, A>,
+    gathered: &mut Gathered,
+    first: &mut W,
+) -> Result<(), Cause>
+    requires { IsValidatedWhole lent.now.limits lent.now.bytes.now lent.now.validated }
+    ensures { (order : Order) (m : MessageTree) →
+        IsWhole lent.now.limits lent.now.bytes.now order m (length lent.now.bytes.now) →
+        WritesOne (writing W.held W.failures first.old first.new) (command_of output.entry) order m lent.now.place
+        (gathered_bytes gathered.old) (gathered_bytes gathered.new) result }
+{
+    let bytes = lent.bytes;
+    let validated = &lent.validated;
+    let limits = lent.limits;
+    let place = lent.place;
+    match output {
+        Output::Nothing => Ok(()),
+        Output::Text => show(bytes, validated, limits, place.number, gathered, first),
+        Output::JsonLine => write_json_line(bytes, validated, limits, place, gathered, first),
+        Output::InOrder(wanted) => swap(wanted, bytes, validated, limits, spare, gathered, first),
+        Output::Matching(_) => put_out(bytes, gathered, first),
+    }
+}
+
+/// Writes or gathers what the window lets through of what the command makes of the message, and
+/// carries on what the next one needs.
+pub(crate) fn hand_one<A: Allocator + Copy, W: Sink>(
+    output: Output,
+    lent: &Lent,
+    carried: &mut Carried,
+    spare: &mut Vec<u8, A>,
+    gathered: &mut Gathered,
+    first: &mut W,
+) -> Result<(), Cause>
+    requires { IsValidatedWhole lent.now.limits lent.now.bytes.now lent.now.validated }
+    ensures { (order : Order) (m : MessageTree) →
+        IsWhole lent.now.limits lent.now.bytes.now order m (length lent.now.bytes.now) →
+        HandsOne (writing W.held W.failures first.old first.new) (command_of output.entry) carried.old carried.new order m
+        lent.now.place (gathered_bytes gathered.old) (gathered_bytes gathered.new) result }
+{
+    let Ok(picked) = picks(output, lent, &mut carried.owners) else {
+        return Err(Cause::Memory);
+    };
+    if !picked {
+        return Ok(());
+    }
+    if lets_through(&mut carried.window) {
+        write_one(output, lent, spare, gathered, first)
+    } else {
+        Ok(())
+    }
+}

@@ -1,0 +1,33 @@
+//! A message of an input, and which of its messages it is.
+use cli_options::Window;
+use dbus_match::Owner;
+use dbus_validate::Validated;
+use dbus_value_model::Limits;
+
+/// The place of a message among the messages of its input.
+#[derive(Clone, Copy, Debug, PartialEq, Eq)]
+pub(crate) struct Place {
+    /// Its number, counted from 1.
+    pub(crate) number: u64,
+    /// Where it begins, in bytes from the start of the input.
+    pub(crate) offset: u64,
+}
+
+/// What is carried from message to message.
+#[derive(Drop)]
+pub(crate) struct Carried {
+    /// The window for the messages that follow.
+    pub(crate) window: Window,
+    /// The owners of names, once a message changed those of the command.
+    pub(crate) owners: Option<Vec<Owner>>,
+}
+
+/// A message of an input.
+#[derive(Clone, Copy)]
+pub(crate) struct Lent<'a> {
+    /// Its bytes, and what is known of them since they were validated under these limits.
+    pub(crate) bytes: &'a [u8],
+    pub(crate) validated: Validated,
+    pub(crate) limits: Limits,
+    pub(crate) place: Place,
+}

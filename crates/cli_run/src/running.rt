@@ -1,0 +1,198 @@
+//! A command, over any reader and two writers, by its settings.
+ghost use Rattle.std.specs.Prelude.{◌≤◌, ◌^◌, false};
+ghost use Rattle.dbus_value_model.specs.Specification.{specification};
+ghost use Rattle.cli_report.specs.Devices.{reading, writing};
+ghost use Rattle.cli_run.specs.Running.{Runs, RunsWith};
+
+use crate::closing::{status_of, write_count};
+use crate::counting::count_over;
+use crate::going::{pass_through, tell_stop};
+use crate::output::{is_check, output_of};
+use crate::output_writer::OutputWriter;
+use crate::place::Carried;
+use cli_options::{Command, Settings, Window};
+use cli_report::{ExitStatus, Gathered, give_up};
+use dbus_stream::{MOST_READS, Sink, Source};
+use dbus_value_model::Limits;
+use std::alloc::Allocator;
+
+/// Does what [`run_within`] does, with at most 2^32 reads and under the limits of the
+/// specification.
+pub fn run<A: Allocator + Copy, R: Source, W: Sink, E: Sink>(
+    alloc: A,
+    command: Command,
+    reader: &mut R,
+    first: &mut W,
+    second: &mut E,
+) -> ExitStatus
+    ensures { Runs (reading R.left R.calls R.failures reader.old reader.new)
+        (writing W.held W.failures first.old first.new)
+        (writing E.held E.failures second.old second.new)
+        specification (2 ^ 32) command result }
+{
+    run_reads(alloc, command, MOST_READS, reader, first, second)
+}
+
+/// Does what [`run_within`] does, under the limits of the specification.
+pub fn run_reads<A: Allocator + Copy, R: Source, W: Sink, E: Sink>(
+    alloc: A,
+    command: Command,
+    reads: u64,
+    reader: &mut R,
+    first: &mut W,
+    second: &mut E,
+) -> ExitStatus
+    requires { reads ≤ 2 ^ 32 }
+    ensures { Runs (reading R.left R.calls R.failures reader.old reader.new)
+        (writing W.held W.failures first.old first.new)
+        (writing E.held E.failures second.old second.new)
+        specification reads command result }
+{
+    run_within(
+        alloc,
+        command,
+        Limits::specification(),
+        reads,
+        reader,
+        first,
+        second,
+    )
+}
+
+/// Does what the command says with all that the reader gives, in messages that keep these limits,
+/// each by itself. Its output goes to the first writer. At most `reads` reads are made, the one
+/// that finds the end of the input among them.
+///
+/// `Show` writes each message as text, numbered from 1. `Json` writes each message as one line, an
+/// object of JSON, with that number and the offset at which the message begins in the input. `Swap`
+/// writes each message in the order that it names. `Filter` writes each message that is selected,
+/// in its own order. Where the bytes after the messages are none within the limits or too few, each
+/// of these writes `refused at P: NAME` on the second writer, with the place from the start of the
+/// input and the name of the reason. `Check` writes that line on the first writer; or, if the input
+/// is messages alone, `ok N messages B bytes`, how many they are and of how many bytes.
+///
+/// If the run fails, it stops at the first cause that it meets, and writes `read failed`, `write
+/// failed`, `too many reads` or `out of memory` on the second writer. Each line ends in LF. What is
+/// written is gathered up to 16,384 bytes, and goes out before each read and before the status is
+/// given, also if memory ran out; if it does not go out then, the line is `write failed`. A writer
+/// gets no more after a write to it failed.
+///
+/// The run holds at most the bytes of one message and of one read, what is gathered, and for `Swap`
+/// room for the longest message so far that it byteswaps. `Check` builds no message, and allocates
+/// nothing for messages.
+///
+/// `Done`, `Refused`: all was written, no read and no write failed, and the status says which.
+/// `Failed`: a read failed, a write to either writer failed or took none of its bytes, as many
+/// reads were made as may be, or an allocation failed. It is never `Usage`.
+pub fn run_within<A: Allocator + Copy, R: Source, W: Sink, E: Sink>(
+    alloc: A,
+    command: Command,
+    limits: Limits,
+    reads: u64,
+    reader: &mut R,
+    first: &mut W,
+    second: &mut E,
+) -> ExitStatus
+    requires { reads ≤ 2 ^ 32 }
+    ensures { Runs (reading R.left R.calls R.failures reader.old reader.new)
+        (writing W.held W.failures first.old first.new)
+        (writing E.held E.failures second.old second.new)
+        limits reads command result }
+{
+    match command {
+        Command::Check => check(alloc, limits, reads, reader, first, second),
+        _ => {
+            let settings = Settings {
+                limits,
+                explains: false,
+                keeps_going: false,
+                handshake: None,
+                window: Window {
+                    skip: 0,
+                    limit: None,
+                },
+            };
+            run_with(alloc, command, settings, reads, reader, first, second)
+        }
+    }
+}
+
+/// Does what [`run_within`] does, by more settings.
+///
+/// If they explain, the line of a message that is refused is followed by the three lines of
+/// `dbus_explain::explain_message`, by the bytes that were read from the message's start on.
+///
+/// If they keep going, a message that is refused is passed over if its first 16 bytes state a
+/// length within the limits. What came before it is written, and then the line `refused at P: NAME
+/// in message N at O`: the place of the fault, and where the message begins, from the start of the
+/// input, and its number among all messages of the input. The numbers and offsets of those after it
+/// count it. A message that states no such length, or that the input ends within, is told by that
+/// line too, and ends the run. If any was passed over, the last line is `N messages B bytes, K
+/// passed over C bytes`.
+///
+/// These lines go to the second writer, but of `Check` to the first. `Check` of an input without
+/// fault writes `ok N messages B bytes`, and holds the bytes of a message as the other commands do.
+///
+/// `Done`: nothing was refused. `Refused`: something was, and all was told. `Failed`: as
+/// [`run_within`] says; if it was not a write to the second writer that failed, the line of the
+/// cause is its last.
+pub fn run_with<A: Allocator + Copy, R: Source, W: Sink, E: Sink>(
+    alloc: A,
+    command: Command,
+    settings: Settings,
+    reads: u64,
+    reader: &mut R,
+    first: &mut W,
+    second: &mut E,
+) -> ExitStatus
+    requires { reads ≤ 2 ^ 32 }
+    ensures { RunsWith (reading R.left R.calls R.failures reader.old reader.new)
+        (writing W.held W.failures first.old first.new)
+        (writing E.held E.failures second.old second.new)
+        settings reads command result }
+{
+    let output = output_of(&command);
+    let is_check = is_check(output);
+    let mut writer = OutputWriter {
+        output,
+        carried: Carried {
+            window: settings.window,
+            owners: None,
+        },
+        spare: Vec::new(alloc),
+        gathered: Gathered::new(),
+        first,
+        second: &mut *second,
+    };
+    let (ended, _source) = pass_through(alloc, settings, is_check, reads, reader, &mut writer);
+    let (first_writer, _second) = writer.into_writers();
+    let _first = first_writer.into_inner();
+    match ended {
+        Ok(status) => status,
+        Err(stop) => tell_stop(stop, is_check, second),
+    }
+}
+
+// Counts the messages, and writes how many they are, or the fault, on the first writer.
+fn check<A: Allocator + Copy, R: Source, W: Sink, E: Sink>(
+    alloc: A,
+    limits: Limits,
+    reads: u64,
+    reader: &mut R,
+    first: &mut W,
+    second: &mut E,
+) -> ExitStatus
+    requires { reads ≤ 2 ^ 32 }
+    ensures { Runs (reading R.left R.calls R.failures reader.old reader.new)
+        (writing W.held W.failures first.old first.new)
+        (writing E.held E.failures second.old second.new)
+        limits reads Command.Check result }
+{
+    match count_over(limits, reads, reader) {
+        Ok(counted) => match write_count(alloc, counted, first) {
+            Ok(()) => status_of(counted.fault),
+            Err(cause) => give_up(cause, second),
+        },
+        Err(cause) => give_up(cause, second),
+    }
+}

@@ -1,0 +1,42 @@
+//! A message as text.
+ghost use Rattle.std.specs.Prelude.{◌≡◌, ℕ, List, length};
+ghost use Rattle.dbus_value_model.specs.declared.order.Order.{Order};
+ghost use Rattle.dbus_message_model.specs.Messages.{MessageTree};
+ghost use Rattle.dbus_header.specs.MessageOutcomes.{IsWhole};
+ghost use Rattle.dbus_validate.specs.Validating.{IsValidatedWhole};
+ghost use Rattle.dbus_show.specs.ShownMessages.{message_text};
+ghost use Rattle.cli_report.specs.Gathering.{GathersOrNot, gathered_bytes};
+
+use cli_report::{Cause, Gathered, Page};
+use dbus_show_view::write_message;
+use dbus_stream::Sink;
+use dbus_validate::Validated;
+use dbus_value_model::Limits;
+
+/// Writes or gathers the text of the message that the bytes are.
+pub(crate) fn show<W: Sink>(
+    bytes: &[u8],
+    validated: &Validated,
+    limits: Limits,
+    number: u64,
+    gathered: &mut Gathered,
+    first: &mut W,
+) -> Result<(), Cause>
+    requires { IsValidatedWhole limits bytes.now validated.now }
+    ensures { (order : Order) (m : MessageTree) →
+        IsWhole limits bytes.now order m (length bytes.now) →
+        GathersOrNot W.held W.failures (message_text order m number) (gathered_bytes gathered.old)
+        (gathered_bytes gathered.new) first.old first.new result }
+{
+    let mut page = Page {
+        gathered,
+        first,
+        failed: false,
+    };
+    write_message(&mut page, bytes, limits, validated, number);
+    if page.failed {
+        Err(Cause::WriteFailed)
+    } else {
+        Ok(())
+    }
+}

@@ -1,0 +1,91 @@
+//! What was handed on and passed over of an input, and the last line that tells it.
+ghost use Rattle.std.specs.Prelude.{◌≡◌, ◌≤◌, ◌<◌, ◌+◌, ◌-◌, ◌^◌, IfErr, IfOk, string_bytes, true};
+ghost use Rattle.cli_run.specs.Parts.{HasLastLine, closing_line, status_at};
+
+use crate::count_lines::{counts_line, ok_line};
+use crate::counted::Counted;
+use cli_report::ExitStatus;
+use dbus_value_model::Fault;
+use std::alloc::{AllocError, Allocator};
+
+/// What was handed on and passed over of an input.
+#[derive(Clone, Copy, Debug, PartialEq, Eq)]
+pub(crate) struct Tally {
+    /// How many messages there are, those that were passed over among them, and how many bytes they
+    /// have.
+    pub(crate) count: u64,
+    pub(crate) size: u64,
+    /// How many of them were passed over, and how many bytes these have.
+    pub(crate) passed: u64,
+    pub(crate) passed_size: u64,
+}
+
+impl Tally {
+    /// The tally up to the end of these messages.
+    pub(crate) fn up_to(self, counted: Counted) -> Tally
+        ensures { result ≡ record self { count = counted.count; size = counted.size } }
+    {
+        Tally {
+            count: counted.count,
+            size: counted.size,
+            ..self
+        }
+    }
+
+    /// The tally after one more message, which is passed over up to this place.
+    pub(crate) fn past(self, end: u64) -> Tally
+        requires few { self.count < 2 ^ 60 }
+        requires few_passed { self.passed ≤ self.count }
+        requires after { self.size ≤ end }
+        requires low { self.passed_size + (end - self.size) < 2 ^ 60 }
+        ensures { result ≡ record {
+          count = self.count + 1;
+          size = end;
+          passed = self.passed + 1;
+          passed_size = self.passed_size + (end - self.size);
+        } }
+    {
+        Tally {
+            count: self.count + 1,
+            size: end,
+            passed: self.passed + 1,
+            passed_size: self.passed_size + (end - self.size),
+        }
+    }
+
+    /// How a run ends that came to the end of its input, or to a message that is not passed over.
+    pub(crate) fn status(self, fault: Option<Fault>) -> ExitStatus
+        ensures { result ≡ status_at self.passed fault }
+    {
+        if self.passed > 0 || fault.is_some() {
+            ExitStatus::Refused
+        } else {
+            ExitStatus::Done
+        }
+    }
+}
+
+/// The last line, if there is one: what was passed over; or of `check` that of an input without
+/// fault.
+pub(crate) fn closing_line<A: Allocator + Copy>(
+    alloc: A,
+    is_check: bool,
+    tally: Tally,
+    fault: Option<Fault>,
+) -> Result<String<A>, AllocError>
+    requires few { tally.passed ≤ tally.count }
+    requires few_bytes { tally.passed_size ≤ tally.size }
+    ensures line { IfOk result (λ line. string_bytes line ≡
+        closing_line is_check tally tally.passed fault) }
+    ensures due { IfErr result (λ _. HasLastLine is_check tally.passed fault) }
+{
+    if tally.passed > 0 {
+        let count = tally.count - tally.passed;
+        let size = tally.size - tally.passed_size;
+        return counts_line(alloc, count, size, tally.passed, tally.passed_size);
+    }
+    if fault.is_none() && is_check {
+        return ok_line(alloc, tally.count, tally.size);
+    }
+    Ok(String::new(alloc))
+}

@@ -1,7 +1,0 @@
-use Rattle.dbus_command.proofs.SameCommands.{commands_equal}
-use Rattle.dbus_command.proofs.laws.equal_commands.Goals as goal
-
-pub returns : goal.returns
-returns c =
-    let e = c.eq.ensures in
-    rw e (commands_equal c.args.a.now c.args.b.now)

@@ -1,7 +1,0 @@
-use Rattle.std.proofs.Common.{map, take}
-use Rattle.dbus_command.specs.Owners.{AreOwnersOf}
-use Rattle.dbus_command.proofs.owners.owners_given.Given as goal
-
--- the owners so far are those of the words so far
-abbrev pub invariant-loop-word : goal.invariant-loop-word
-invariant-loop-word l = AreOwnersOf (map (λ w. w.now) (take l.word-index l.words)) l.owners.items

@@ -1,7 +1,0 @@
-use Rattle.std.proofs.Common.{map, take}
-use Rattle.dbus_command.specs.Named.{AreRulesOf}
-use Rattle.dbus_command.proofs.rules.rules_spelled.Given as goal
-
--- the rules so far are those of the texts so far
-abbrev pub invariant-loop-text : goal.invariant-loop-text
-invariant-loop-text l = AreRulesOf (map (λ t. t.now) (take l.text-index l.texts)) l.rules.items
