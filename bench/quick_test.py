@@ -1,15 +1,17 @@
 #!/usr/bin/env python3
-"""quick_test.py [NAME..]: runs the tests and the programs with stored output, or the crates named, without proofs.
+"""quick_test.py [--all] [NAME..]: runs the tests and the programs with stored output, or the crates named, without proofs.
 
 A crate with tests is run by `rt try --test`. A program beside whose src/ is a file stdout is run by `rt try` with its files args and stdin
 and the files of its folder data/, and has to write what stdout has and to end with the status of its file status. A program that answers
-questions is asked on all cases (cases/run.py), and what is stored in a program's runs/ is run too (stored_runs.py). As many runs go side by side as there are processors.
-The exit status is 1 if one failed, or did not end within the time limit: the last line names those.
+questions is asked on some of the cases (cases/run.py), which the commit's hash draws, since unproved programs run some 300 times slower; with
+--all on all of them, which takes an hour. What is stored in a program's runs/ is run too (stored_runs.py). As many runs go side by side as there are
+processors. The exit status is 1 if one failed, or did not end within the time limit: the last line names those, and says how many questions were asked.
 """
 
 import collections
 import concurrent.futures as futures
 import difflib
+import random
 import re
 import subprocess
 import sys
@@ -18,6 +20,7 @@ import time
 from pathlib import Path
 
 from crate_list import ROOT, asked_programs, folder_of, lanes, read_crates
+from trying import head
 
 sys.dont_write_bytecode = True
 sys.path.insert(0, str(ROOT / "cases"))
@@ -30,6 +33,8 @@ LINES_SHOWN = 20
 NO_ANSWER = 6
 # `rt try` hands over at most 1 MiB of what a run writes, and a share has to end within the time limit, on a busy machine too.
 MOST_ANSWERED = 50_000
+# How many shares a program is asked that is not asked all.
+SHARES_DRAWN = 3
 
 
 def stored(folder, name):
@@ -94,9 +99,16 @@ def shares_of(asked):
     return shares
 
 
-def try_questions(folder):
-    """Whether the program gave right answers on all cases, and what is to be said. Each share of them is an input of its own."""
-    shares = shares_of(asked_of(folder.name))
+def count_questions(shares):
+    return sum(len(it.questions) for share in shares for it in share)
+
+
+def try_questions(folder, is_whole):
+    """Whether the program gave right answers on the cases, or on some of them, and what is to be said. Each share of them is an input of its own."""
+    asked = [*asked_of(folder.name)]
+    random.Random(head()).shuffle(asked)
+    every = shares_of(asked)
+    shares = every if is_whole else every[:SHARES_DRAWN]
     with tempfile.TemporaryDirectory() as room:
         for n, share in enumerate(shares):
             Path(room, f"{n:03}").write_text(lines_of(share))
@@ -110,7 +122,7 @@ def try_questions(folder):
     told = [line for share, output in zip(shares, outputs) for line in differences(share, output.split("\n")[:-1])]
     if told:
         return "failed", "\n".join(told[:LINES_SHOWN])
-    return "passed", f"{sum(len(it.questions) for share in shares for it in share)} questions"
+    return "passed", f"{count_questions(shares)} of {count_questions(every)} questions"
 
 
 def try_runs(folder):
@@ -120,31 +132,34 @@ def try_runs(folder):
     return ("failed", ran.stdout + ran.stderr) if ran.returncode else ("passed", "its stored runs too")
 
 
-def run(name):
+def run(name, is_whole):
     folder, began = folder_of(name), time.monotonic()
     if name in asked_programs():
-        way = try_questions
+        how, said = try_questions(folder, is_whole)
     else:
-        way = try_whole if (folder / "src" / "main.rt").exists() else try_tests
-    how, said = way(folder)
+        how, said = (try_whole if (folder / "src" / "main.rt").exists() else try_tests)(folder)
     if how == "passed" and (folder / "runs").exists():
         how, said = try_runs(folder)
     print(f"{name} {how} in {time.monotonic() - began:.0f} s: {said}", flush=True)
-    return how
+    return how, said if name in asked_programs() else ""
 
 
-def main(*names):
+def main(*words):
+    is_whole = words[:1] == ("--all",)
+    names = words[is_whole:]
     if unknown := [it for it in names if it not in read_crates()]:
         print(f"crates.txt has no {', '.join(unknown)}", file=sys.stderr)
         return 2
     names = names or [it for it in read_crates() if (folder_of(it) / "stdout").exists() or has_tests(folder_of(it))]
     with futures.ThreadPoolExecutor(lanes()) as pool:
-        outcomes = [*zip(names, pool.map(run, names))]
-    counts = collections.Counter(how for _, how in outcomes)
-    not_run = [name for name, how in outcomes if how == "too long"]
+        outcomes = [*zip(names, pool.map(run, names, [is_whole] * len(names)))]
+    counts = collections.Counter(how for _, (how, _) in outcomes)
+    not_run = [name for name, (how, _) in outcomes if how == "too long"]
+    asked = [f"{name} {said}" for name, (how, said) in outcomes if how == "passed" and said]
     print(
         f"nothing proved; {counts['passed']} passed, {counts['failed']} failed, {len(not_run)} too long"
         + (f" and so not run to the end: {', '.join(not_run)}" if not_run else "")
+        + (f"; asked: {', '.join(asked)}" if asked else "")
     )
     return 1 if counts["failed"] or not_run else 0
 

@@ -44,13 +44,17 @@ def due_edits():
     return [edit for crate in due_crates() for edit in edits_in(crate, "wrong")]
 
 
+def head():
+    """The commit's hash, by which what is not always tried is drawn."""
+    words = ["git", "-C", str(ROOT), "rev-parse", "HEAD"]
+    return subprocess.run(words, capture_output=True, text=True).stdout.strip()
+
+
 def drawn_edits(number):
     """At most so many of those that are not always tried, as the commit's hash draws them: of one crate, since the first wrong body of a crate
     costs the crate's proof. Each crate is as likely as it has wrong bodies."""
-    words = ["git", "-C", str(ROOT), "rev-parse", "HEAD"]
-    ran = subprocess.run(words, capture_output=True, text=True)
     edits = [it for it in all_edits() if it.path.parent.name == "wrong"]
-    random.Random(ran.stdout.strip()).shuffle(edits)
+    random.Random(head()).shuffle(edits)
     return [it for it in edits if it.crate == edits[0].crate][:number]
 
 
