@@ -1,7 +1,7 @@
 -- Types whose lengths are noted, and parts of them.
-use Rattle.std.proofs.Common.{◌≡◌, ℕ, ◌+◌, ◌-◌, ◌<◌, ◌≤◌, ◌⊎◌, ⊎_elim, List, ◌++◌, length, take, drop, get_or, true, refl, sym, ap, subst, ◌∙◌, arith, append_assoc}
+use Rattle.std.proofs.Common.{◌≡◌, ℕ, ◌+◌, ◌-◌, ◌<◌, ◌≤◌, ◌⊎◌, ⊎_elim, List, ◌++◌, length, take, drop, get_or, true, sym, ap, subst, ◌∙◌, arith, append_assoc}
 use Rattle.std.proofs.lemmas.List.{length-append, length-drop, length-take, drop-drop, drop-take, take-append-drop}
-use Rattle.dbus_texts.specs.Types.{TypeTree, NumberType, TextType, VariantType, ArrayType, StructType, EntryType, sig, IsBasic}
+use Rattle.dbus_texts.specs.Types.{TypeTree, sig}
 use Rattle.dbus_texts.specs.SignatureScans.{is_basic_code}
 use Rattle.dbus_texts.specs.Kinds.{IsKind}
 use Rattle.dbus_texts.specs.declared.text_kind.TextKind.{TextKind}
@@ -10,7 +10,6 @@ use Rattle.dbus_texts.proofs.Codes.{basic_is_code, coded_signature, coded_single
 use Rattle.dbus_texts.proofs.TypeTexts.{sig_positive}
 use Rattle.dbus_types.specs.SignatureCodes.{IsTypeEnd, first_code}
 use Rattle.dbus_types.proofs.TypeLengths.{one_byte, first_there}
-use Rattle.dbus_types.proofs.Rooms.{basic_length}
 use Rattle.dbus_value_validator.specs.NotedTypes.{AreNoted}
 
 module _ (types lengths : List ℕ) where

@@ -47,7 +47,7 @@ fn is_plain(bytes: &[u8], start: usize, n: usize) -> bool
 }
 
 /// Whether n bytes are a text of the kind, as far as a quick look shows: it knows most texts of
-/// ASCII, and signatures of one basic type. A no says nothing.
+/// ASCII, and signatures of no type or of one basic type. A no says nothing.
 #[inline]
 pub(crate) fn is_seen_at_once(kind: TextKind, bytes: &[u8], start: usize, n: usize) -> bool
     requires { start + n ≤ length bytes.now }
@@ -55,7 +55,8 @@ pub(crate) fn is_seen_at_once(kind: TextKind, bytes: &[u8], start: usize, n: usi
 {
     match kind {
         TextKind::Text => is_plain(bytes, start, n),
-        TextKind::Signature | TextKind::Single => n == 1 && is_basic(bytes[start]),
+        TextKind::Signature => n == 0 || n == 1 && is_basic(bytes[start]),
+        TextKind::Single => n == 1 && is_basic(bytes[start]),
         _ => false,
     }
 }
