@@ -83,16 +83,36 @@ impl Error for BuildError {}
 
 /// The bytes of the message within the limits that has exactly these parts, its header fields in the order of their codes.
 ///
-/// So of the parts of a message at hand it makes that message only if its fields are in this order, and none is of another code;
-/// [`rebuild`] changes a message and keeps its fields.
+/// So of the parts of a message at hand it makes that message only if its fields are in this order,
+/// and none is of another code; [`rebuild`] changes a message and keeps its fields.
+///
+/// This replies to a call with a dictionary:
 ///
 /// ```
-/// use dbus_wire::{build, BuildError, Kind, Limits, Message, Parts};
+/// use dbus_wire::{build, Body, Kind, Limits, Message, Order, Parts};
+/// use std::num::NonZeroU32;
 ///
-/// let signal = Parts { path: Some("/"), interface: Some("a.b"), member: Some("C"), ..Parts::new(Kind::Signal, 1) };
-/// let bytes = build(&signal, &Limits::default())?;
-/// assert_eq!(Message::parse(&bytes).unwrap().member(), Some("C"));
-/// # Ok::<(), BuildError>(())
+/// # let get = Parts { path: Some("/"), member: Some("Get"), sender: Some(":1.7"), ..Parts::new(Kind::MethodCall, 5) };
+/// # let get = build(&get, &Limits::default())?;
+/// # let call = Message::parse(&get)?;
+/// let mut body = Body::new(Order::Little);
+/// body.array(8, |body| {
+///     body.begin_struct();
+///     body.text("Volume")?;
+///     body.signature("d")?;
+///     body.double(0.5);
+///     Ok(())
+/// })?;
+/// let reply = Parts {
+///     reply_serial: NonZeroU32::new(call.serial()),
+///     destination: call.sender(),
+///     signature: Some("a{sv}"),
+///     body: body.bytes(),
+///     ..Parts::new(Kind::MethodReturn, 1)
+/// };
+/// let bytes = build(&reply, &Limits::default())?;
+/// assert_eq!(Message::parse(&bytes)?.reply_serial(), NonZeroU32::new(5));
+/// # Ok::<(), Box<dyn std::error::Error>>(())
 /// ```
 pub fn build(parts: &Parts<'_>, limits: &Limits) -> Result<Vec<u8>, BuildError> {
     built(sys::dbus_wire_build, Vec::new(), parts, limits)
