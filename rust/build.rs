@@ -1,4 +1,5 @@
-//! Links the library: `DBUS_WIRE_LIBRARY` names the folder of `libdbus_wire.a` or `libdbus_wire.so`, if the linker does not look there.
+//! Links the library: `DBUS_WIRE_LIBRARY` names the folder of `libdbus_wire.a` or
+//! `libdbus_wire.so`, if the linker does not look there.
 
 fn main() {
     println!("cargo:rerun-if-env-changed=DBUS_WIRE_LIBRARY");

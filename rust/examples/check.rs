@@ -1,11 +1,13 @@
-//! Checks the D-Bus messages on standard input, one after another, and prints what `dbus-wire check` prints of them.
+//! Checks the D-Bus messages on standard input, one after another, and prints what
+//! `dbus-wire check` prints of them.
 
 use std::io::{self, Read};
 use std::process::ExitCode;
 
 use dbus_wire::{check, wanted, Answer, Fault, Limits, Reason};
 
-// The fault of the first bytes that are no message, counted from the start of the input; or how many messages there are.
+// The fault of the first bytes that are no message, counted from the start of the input; or how
+// many messages there are.
 fn count_messages(bytes: &[u8]) -> Result<usize, Fault> {
     let limits = Limits::default();
     let (mut at, mut messages) = (0, 0);

@@ -1,5 +1,6 @@
-//! Writes those D-Bus messages on standard input that a match rule matches, as `dbus-wire filter RULE` does: the first argument is
-//! the rule, and each further one an owner of a name, as org.a.B=:1.7.
+//! Writes those D-Bus messages on standard input that a match rule matches, as
+//! `dbus-wire filter RULE` does: the first argument is the rule, and each further one an owner of a
+//! name, as org.a.B=:1.7.
 
 use std::error::Error;
 use std::io::{self, Read, Write};

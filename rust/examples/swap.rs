@@ -1,4 +1,5 @@
-//! Writes the D-Bus messages on standard input in the byte order that the argument says, `l` or `B`, as `dbus-wire swap --to` does.
+//! Writes the D-Bus messages on standard input in the byte order that the argument says, `l` or
+//! `B`, as `dbus-wire swap --to` does.
 
 use std::error::Error;
 use std::io::{self, Read, Write};

@@ -5,7 +5,8 @@ use std::fmt;
 
 use crate::{sys, Order};
 
-/// A text or an array has more bytes than the bytes of its length can say: a signature 255, each other 4,294,967,295.
+/// A text or an array has more bytes than the bytes of its length can say: a signature 255, each
+/// other 4,294,967,295.
 #[derive(Clone, Copy, Debug, PartialEq, Eq)]
 pub struct TooLong;
 
@@ -17,9 +18,11 @@ impl fmt::Display for TooLong {
 
 impl Error for TooLong {}
 
-/// A body of a message, to which values are put one after another. A struct or a dict entry is [`begin_struct`](Self::begin_struct) and
-/// its fields; a variant is [`signature`](Self::signature), with the type of its value, and that value. What stands within what is not
-/// looked at: [`build`](crate::build) takes exactly the bodies that their signature spells.
+/// A body of a message, to which values are put one after another. A struct or a dict entry is
+/// [`begin_struct`](Self::begin_struct) and its fields; a variant is
+/// [`signature`](Self::signature), with the type of its value, and that value. The calls do not
+/// check what is within what: [`build`](crate::build) accepts exactly the bodies that their
+/// signature spells.
 ///
 /// ```
 /// use dbus_wire::{build, Body, Kind, Limits, Message, Order, Parts};
@@ -131,8 +134,8 @@ impl Body {
         put.expect("padding is never too long");
     }
 
-    /// Puts an array, whose elements the function puts: 1, 2, 4 or 8 is their alignment. After an error of the function the array has
-    /// the length 0, and what was put in it stands behind.
+    /// Puts an array, whose elements the function puts: 1, 2, 4 or 8 is their alignment. After an
+    /// error of the function the array has the length 0, and what was put in it follows.
     ///
     /// # Panics
     ///

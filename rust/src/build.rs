@@ -6,7 +6,8 @@ use std::num::NonZeroU32;
 
 use crate::{sys, Fault, Kind, Limits, Message, Order};
 
-/// The parts of a message, of which [`build`] makes it, and by which [`rebuild`] changes one. Those of one at hand are [`Message::parts`](crate::Message::parts).
+/// The parts of a message, of which [`build`] makes it, and by which [`rebuild`] changes one. Those
+/// of one at hand are [`Message::parts`](crate::Message::parts).
 #[derive(Clone, Copy, Debug, PartialEq, Eq)]
 pub struct Parts<'a> {
     /// The byte order, which is also that of the body.
@@ -40,7 +41,8 @@ pub struct Parts<'a> {
 }
 
 impl<'a> Parts<'a> {
-    /// The parts of a little-endian message of this type and serial, with no flags, no fields and no body.
+    /// The parts of a little-endian message of this type and serial, with no flags, no fields and
+    /// no body.
     pub fn new(kind: Kind, serial: u32) -> Self {
         Self {
             order: Order::Little,
@@ -64,7 +66,8 @@ impl<'a> Parts<'a> {
 /// Why [`build`] or [`rebuild`] built nothing.
 #[derive(Clone, Copy, Debug, PartialEq, Eq)]
 pub enum BuildError {
-    /// No message within the limits has these parts. The fault is at an offset from the first byte that the parts spell, or at 0.
+    /// No message within the limits has these parts. The fault is at an offset from the first byte
+    /// that the parts spell, or at 0.
     Refused(Fault),
     /// There is no memory for it in the library.
     OutOfMemory,
@@ -81,7 +84,8 @@ impl fmt::Display for BuildError {
 
 impl Error for BuildError {}
 
-/// The bytes of the message within the limits that has exactly these parts, its header fields in the order of their codes.
+/// The bytes of the message within the limits that has exactly these parts, its header fields in
+/// the order of their codes.
 ///
 /// So of the parts of a message at hand it makes that message only if its fields are in this order,
 /// and none is of another code; [`rebuild`] changes a message and keeps its fields.
@@ -118,9 +122,10 @@ pub fn build(parts: &Parts<'_>, limits: &Limits) -> Result<Vec<u8>, BuildError> 
     built(sys::dbus_wire_build, Vec::new(), parts, limits)
 }
 
-/// The bytes of the message, changed as the parts say. Each header field stays in its place, as the parts have it, and so does each of
-/// a code that the specification does not name. Fields that the message does not have come last, in the order of their codes. Its own
-/// parts leave it as it is, byte for byte. A message keeps its byte order: parts of the other one are refused.
+/// The bytes of the message, changed as the parts say. Each header field stays in its place, as the
+/// parts have it, and so does each of a code that the specification does not name. Fields that the
+/// message does not have come last, in the order of their codes. Its own parts leave it as it is,
+/// byte for byte. A message keeps its byte order: parts of the other one are refused.
 ///
 /// ```
 /// use dbus_wire::{build, rebuild, BuildError, Kind, Limits, Message, Parts};
@@ -151,7 +156,8 @@ type Build = unsafe extern "C" fn(
 // What the call makes of the parts, whose texts and body come after the bytes.
 fn built(call: Build, mut bytes: Vec<u8>, parts: &Parts<'_>, limits: &Limits) -> Result<Vec<u8>, BuildError> {
     let given = placed(parts, &mut bytes);
-    // Each of seven texts has 16 bytes beside its own at most, and so has each number, the fixed header and the body.
+    // Each of seven texts has 16 bytes beside its own at most, and so has each number, the fixed
+    // header and the body.
     let mut out = vec![0; bytes.len() + 11 * 16];
     let mut told = sys::dbus_wire_checked::default();
     // SAFETY: two slices, of which `out` is mutable, and references, as `sys` says.

@@ -64,8 +64,9 @@ pub fn check(bytes: &[u8], limits: &Limits) -> Answer {
     }
 }
 
-/// The number of bytes of the message that the bytes begin with, as soon as 16 of them are there and none of these is at fault:
-/// 16 at least and `limits.message` at most. `None` with fewer than 16 bytes, or if no message begins so, and [`check`] then says why.
+/// The number of bytes of the message that the bytes begin with, as soon as 16 of them are there
+/// and none of these is at fault: 16 at least and `limits.message` at most. `None` with fewer than
+/// 16 bytes, or if no message begins so, and [`check`] then says why.
 ///
 /// ```
 /// use dbus_wire::{wanted, Limits};

@@ -18,12 +18,13 @@ impl fmt::Display for OutOfMemory {
 
 impl Error for OutOfMemory {}
 
-/// What [`Checker::take`] says of a piece.
+/// What [`Checker::take`] returns of a piece.
 #[derive(Clone, Copy, Debug, PartialEq, Eq)]
 pub enum Taken {
     /// The bytes so far are a message.
     Whole {
-        /// How many bytes of the piece belong to it, which may be 0. Those after it are not looked at.
+        /// The number of bytes of the piece that belong to it, which may be 0. Those after it are
+        /// not looked at.
         count: usize,
     },
     /// All of the piece was taken, and more bytes are needed.
@@ -32,7 +33,8 @@ pub enum Taken {
     Refused(Fault),
 }
 
-/// Checks messages whose bytes come in pieces, and keeps none of them. It takes one block of memory, of some 40,000 bytes.
+/// Checks messages whose bytes come in pieces, and keeps none of them. It takes some 40,000 bytes
+/// of memory, whatever the messages have.
 ///
 /// ```
 /// use dbus_wire::{Checker, Limits, Taken};
@@ -51,8 +53,8 @@ pub struct Checker {
     raw: sys::dbus_wire_checker,
 }
 
-// SAFETY: the header allows calls on a checker from any thread, if one returns before the next begins. Each takes the checker by a
-// mutable reference, which sees to that.
+// SAFETY: the header allows calls on a checker from any thread, if one returns before the next
+// begins. Each takes the checker by a mutable reference, which sees to that.
 unsafe impl Send for Checker {}
 
 impl Checker {
@@ -66,8 +68,9 @@ impl Checker {
         }
     }
 
-    /// Takes a piece, of any length: the bytes that follow those that it has taken. After [`Taken::Whole`] it takes no more bytes,
-    /// and after [`Taken::Refused`] it returns the same fault, until it is restarted.
+    /// Takes a piece, of any length: the bytes that follow those that it has taken. After
+    /// [`Taken::Whole`] it takes no more bytes, and after [`Taken::Refused`] it returns the same
+    /// fault, until it is restarted.
     pub fn take(&mut self, piece: &[u8]) -> Taken {
         let mut told = sys::dbus_wire_taken::default();
         // SAFETY: a slice and references, as `sys` says; only calls write `raw` from `new` on.
@@ -89,7 +92,8 @@ impl Checker {
 
 impl Drop for Checker {
     fn drop(&mut self) {
-        // SAFETY: a reference, as `sys` says; only calls write `raw` from `new` on, and nothing uses it after its drop.
+        // SAFETY: a reference, as `sys` says; only calls write `raw` from `new` on, and nothing
+        // uses it after its drop.
         unsafe { sys::dbus_wire_checker_free(&mut self.raw) };
     }
 }

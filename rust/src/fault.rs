@@ -43,8 +43,8 @@ macro_rules! reasons {
 }
 
 reasons! {
-    /// Why bytes are refused. Its text is a sentence in English without its full stop; `dbus-wire check` prints it as its
-    /// `Debug` does.
+    /// Why bytes are refused. Its text is a sentence in English without its full stop;
+    /// `dbus-wire check` prints it as its `Debug` does.
     Reason:
     ByteOrder = 1, "the first byte is neither 'l' nor 'B'";
     Kind = 2, "the message type is 0";
@@ -75,8 +75,8 @@ reasons! {
 }
 
 reasons! {
-    /// Why a text spells no match rule. Its text is a sentence in English without its full stop; `dbus-wire filter` prints it as its
-    /// `Debug` does.
+    /// Why a text spells no match rule. Its text is a sentence in English without its full stop;
+    /// `dbus-wire filter` prints it as its `Debug` does.
     RuleReason:
     Nul = 1, "the text has U+0000";
     NoEquals = 2, "a comma, or the end, comes before the '=' of a key";
@@ -109,7 +109,8 @@ impl fmt::Display for RuleReason {
     }
 }
 
-/// Where and why bytes are refused: no message begins with those up to the fault's place, whatever follows.
+/// Where and why bytes are refused: no message begins with those up to the fault's place, whatever
+/// follows.
 ///
 /// ```
 /// use dbus_wire::{Message, ParseError};

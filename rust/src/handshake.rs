@@ -10,7 +10,7 @@ use crate::{sys, OutOfMemory};
 const REPLY_ROOM: usize = 528;
 const GUID_LENGTH: usize = 32;
 
-/// Where a handshake stands.
+/// The status of a handshake.
 #[derive(Clone, Copy, Debug, PartialEq, Eq, Hash)]
 pub enum Status {
     /// It goes on.
@@ -24,11 +24,12 @@ pub enum Status {
 /// What an end did with a piece.
 #[derive(Clone, Copy, Debug, PartialEq, Eq)]
 pub struct Step<'a> {
-    /// How many bytes of the piece were taken, at most those of one line. The others are to be handed in again.
+    /// The number of bytes of the piece that were taken, at most those of one line. Pass the others
+    /// again.
     pub count: usize,
-    /// The bytes that are to be sent to the peer, which may be none.
+    /// The bytes to send to the peer, which may be none.
     pub reply: &'a [u8],
-    /// Where the handshake stands now.
+    /// The status of the handshake now.
     pub status: Status,
 }
 
@@ -62,8 +63,8 @@ struct Handshake {
     room: [u8; REPLY_ROOM],
 }
 
-// SAFETY: the header allows calls on an end from any thread, if one returns before the next begins. Each takes the end by a mutable
-// reference, which sees to that.
+// SAFETY: the header allows calls on an end from any thread, if one returns before the next begins.
+// Each takes the end by a mutable reference, which sees to that.
 unsafe impl Send for Handshake {}
 
 impl Handshake {
@@ -90,7 +91,8 @@ impl Handshake {
 
 impl Drop for Handshake {
     fn drop(&mut self) {
-        // SAFETY: a reference, as `sys` says; only calls write `raw`, and nothing uses it after its drop.
+        // SAFETY: a reference, as `sys` says; only calls write `raw`, and nothing uses it after its
+        // drop.
         unsafe { sys::dbus_wire_handshake_free(&mut self.raw) };
     }
 }
@@ -117,11 +119,12 @@ fn mechanisms(external: u32, user: u32, anonymous: bool) -> sys::dbus_wire_mecha
 pub struct Server(Handshake);
 
 impl Server {
-    /// The end of a server of the GUID whose 32 hexadecimal digits are given. It offers EXTERNAL if it is given the client's user, and
-    /// ANONYMOUS, which lets everybody in, if that is said.
+    /// The end of a server of the GUID whose 32 hexadecimal digits are given. It offers EXTERNAL if
+    /// it is given the client's user, and ANONYMOUS, which lets everybody in, if `anonymous` is
+    /// true.
     ///
-    /// **The user has to be the one that the transport reports**, as `SO_PEERCRED` of a Unix socket does, and not the one that is
-    /// expected: a client that names no user is let in as that one.
+    /// **The user has to be the one that the transport reports**, as `SO_PEERCRED` of a Unix socket
+    /// does, and not the one that is expected: a client that names no user is let in as that one.
     pub fn new(guid: &str, user: Option<u32>, anonymous: bool) -> Result<Self, HandshakeError> {
         let external = if user.is_some() { sys::DBUS_WIRE_EXTERNAL_AS_USER } else { 0 };
         let mechanisms = mechanisms(external, user.unwrap_or(0), anonymous);
@@ -134,8 +137,9 @@ impl Server {
         }
     }
 
-    /// Takes at most one line of the piece, with the byte 0 before the first, and answers it. Once the handshake succeeded or failed it
-    /// takes nothing. Out of memory, nothing is changed: the same piece may be handed in again.
+    /// Takes at most one line of the piece, with the byte 0 before the first, and answers it. Once
+    /// the handshake succeeded or failed it takes nothing. Out of memory changes nothing: pass the
+    /// same piece again.
     pub fn take(&mut self, piece: &[u8]) -> Result<Step<'_>, OutOfMemory> {
         self.0.take(piece)
     }
@@ -166,8 +170,8 @@ pub enum External {
 pub struct Client(Handshake);
 
 impl Client {
-    /// The end of a client that asks for EXTERNAL, if that is given, and then for ANONYMOUS, if its trace is given, which may be empty
-    /// and has at most 255 bytes.
+    /// The end of a client that asks for EXTERNAL, if that is given, and then for ANONYMOUS, if its
+    /// trace is given, which may be empty and has at most 255 bytes.
     pub fn new(external: Option<External>, trace: Option<&[u8]>) -> Result<Self, HandshakeError> {
         let (external, user) = match external {
             None => (0, 0),
@@ -185,9 +189,10 @@ impl Client {
         }
     }
 
-    /// The first call starts the handshake: it takes nothing, and its reply is the byte 0 and the first line. Each further one takes at
-    /// most one line of the piece, and answers it. Once the handshake succeeded or failed it takes nothing. Out of memory, nothing is
-    /// changed: the same piece may be handed in again.
+    /// The first call starts the handshake: it takes nothing, and its reply is the byte 0 and the
+    /// first line. Each further one takes at most one line of the piece, and answers it. Once the
+    /// handshake succeeded or failed it takes nothing. Out of memory changes nothing: pass the same
+    /// piece again.
     pub fn take(&mut self, piece: &[u8]) -> Result<Step<'_>, OutOfMemory> {
         self.0.take(piece)
     }

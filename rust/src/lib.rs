@@ -1,7 +1,7 @@
-//! Checks, takes apart, builds, byteswaps and matches D-Bus messages, checks texts, and is both ends of the authentication handshake, as the
-//! [D-Bus Specification] has them. The calls are those of a C library, `libdbus_wire`, whose results are proved for all bytes and all
-//! limits; this crate makes them safe. What is in
-//! this crate itself is tested, and not proved.
+//! Checks, takes apart, builds, byteswaps and matches D-Bus messages, checks texts, and is both
+//! ends of the authentication handshake, as the [D-Bus Specification] says. The calls are those of
+//! a C library, `libdbus_wire`, whose results are proved for all bytes and all limits; this crate
+//! makes them safe. What is in this crate itself is tested, and not proved.
 //!
 //! ```
 //! use dbus_wire::{Message, Value};
@@ -18,30 +18,35 @@
 //! # Ok::<(), dbus_wire::ParseError>(())
 //! ```
 //!
-//! * [`check`] says whether bytes begin with a message; [`Checker`] says it of bytes that come in pieces; [`wanted`] says how long
-//!   a message is by its first 16 bytes.
+//! * [`check`] says whether bytes begin with a message; [`Checker`] says it of bytes that come in
+//!   pieces; [`wanted`] says how long a message is by its first 16 bytes.
 //! * [`Message`] has the parts of a message, and allocates nothing. [`Values`] goes over the values
-//!   of its body, and [`Fields`] over its header fields; [`Message::flatten`] gives all values as one
-//!   row. They borrow the bytes, so no text is copied.
-//! * [`build`] makes a message of its [`Parts`], whose [`Body`] is spelled value by value; [`rebuild`] changes one, and keeps its header
-//!   fields in their places.
-//! * [`byteswap`] writes a message in the other byte order, and [`check_text`] checks names, signatures and other texts.
-//! * A match [`Rule`], or a [`RuleSet`] of many, says which messages a program wants; [`Owners`] says who owns the names that they
-//!   ask for. Threads ask [`SharedRules`] at the same time.
-//! * [`Server`] and [`Client`] are the ends of the authentication handshake, and [`client_line`] and [`server_line`] give the lines of one
-//!   between others.
-//! * [`Limits`] are those that a message has to keep, and a [`Fault`] says where and why bytes are no message.
+//!   of its body, and [`Fields`] over its header fields; [`Message::flatten`] gives all values as
+//!   one row. They borrow the bytes, so no text is copied.
+//! * [`build`] makes a message of its [`Parts`], whose [`Body`] is spelled value by value;
+//!   [`rebuild`] changes one, and keeps its header fields in their places.
+//! * [`byteswap`] writes a message in the other byte order, and [`check_text`] checks names,
+//!   signatures and other texts.
+//! * A match [`Rule`], or a [`RuleSet`] of many, says which messages a program wants; [`Owners`]
+//!   says who owns the names that they ask for. Threads ask [`SharedRules`] at the same time.
+//! * [`Server`] and [`Client`] are the ends of the authentication handshake, and [`client_line`]
+//!   and [`server_line`] give the lines of one between others.
+//! * [`Limits`] are those that a message has to keep, and a [`Fault`] says where and why bytes are
+//!   no message.
 //! * [`sys`] has the C calls themselves.
 //!
 //! # Linking
 //!
-//! The crate links `-ldbus_wire`. If the linker does not find it by itself, the environment variable `DBUS_WIRE_LIBRARY` of
-//! `cargo build` names the folder of `libdbus_wire.a` or `libdbus_wire.so`, for instance what `pkg-config --variable=libdir dbus-wire`
-//! prints. The library runs on Linux, on x86-64 processors of level v2. The crate needs no other, and is tried with rustc 1.95.
+//! The crate links `-ldbus_wire`. If the linker does not find it by itself, the environment
+//! variable `DBUS_WIRE_LIBRARY` of `cargo build` names the folder of `libdbus_wire.a` or
+//! `libdbus_wire.so`, for instance what `pkg-config --variable=libdir dbus-wire` prints. The
+//! library runs on Linux, on x86-64 processors of level v2. The crate needs no other, and is tried
+//! with rustc 1.95.
 //!
 //! # Stack
 //!
-//! A call needs at most 131,072 bytes of stack, which is less than a thread has unless it is given less.
+//! A call needs at most 131,072 bytes of stack, which is less than a thread has unless it is given
+//! less.
 //!
 //! [D-Bus Specification]: https://dbus.freedesktop.org/doc/dbus-specification.html
 

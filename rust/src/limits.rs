@@ -12,8 +12,8 @@ pub enum Descriptors {
     BelowCount,
 }
 
-/// Limits that a message has to keep. A number over the specification's stands for the specification's; every other one, 0 too,
-/// is itself the limit.
+/// Limits that a message has to keep. A number over the specification's stands for the
+/// specification's; every other one, 0 too, is itself the limit.
 ///
 /// ```
 /// use dbus_wire::Limits;
@@ -27,8 +27,8 @@ pub struct Limits {
     pub message: u32,
     /// The greatest number of bytes of an array's contents; the specification's is 67,108,864.
     pub array: u32,
-    /// The greatest number of containers (arrays, structs, variants) open at once, three of the header among them; the
-    /// specification's is 64.
+    /// The greatest number of containers (arrays, structs, variants) open at once, three of the
+    /// header among them; the specification's is 64.
     pub depth: u32,
     /// Which indexes of file descriptors are valid.
     pub descriptors: Descriptors,

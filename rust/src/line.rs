@@ -8,7 +8,7 @@ use crate::sys;
 /// The commands of a handshake's lines.
 #[derive(Clone, Copy, Debug, PartialEq, Eq, Hash)]
 pub enum Command {
-    /// No command of the side: one of another name, or with other words than it takes.
+    /// No command of the side: another name, or other words than it takes.
     Other,
     /// AUTH, of a client.
     Auth,
@@ -56,8 +56,9 @@ pub struct Line<'a> {
     pub command: Command,
     /// The mechanism of AUTH, if it names one.
     pub mechanism: Option<&'a str>,
-    /// The hexadecimal digits of AUTH's initial response, of DATA or of the GUID of OK; the text of ERROR; or the mechanisms of REJECTED
-    /// up to the line's end, with the spaces between them and after the last one. `None` if there is none.
+    /// The hexadecimal digits of AUTH's initial response, of DATA or of the GUID of OK; the text of
+    /// ERROR; or the mechanisms of REJECTED up to the line's end, with the spaces between them and
+    /// after the last one. `None` if there is none.
     pub text: Option<&'a str>,
 }
 
@@ -107,8 +108,8 @@ fn line(call: Call, bytes: &[u8]) -> Result<Option<Line<'_>>, LineFault> {
     }
 }
 
-/// The line that the bytes begin with, of what a client sends in the handshake, after its byte 0; `None` if more bytes are needed. After
-/// BEGIN messages follow.
+/// The line that the bytes begin with, of what a client sends in the handshake, after its byte 0;
+/// `None` if more bytes are needed. After BEGIN messages follow.
 ///
 /// ```
 /// use dbus_wire::{client_line, Command};
@@ -124,7 +125,8 @@ pub fn client_line(bytes: &[u8]) -> Result<Option<Line<'_>>, LineFault> {
     line(sys::dbus_wire_client_line, bytes)
 }
 
-/// The same of what a server sends. Messages follow its last line before the client's BEGIN: OK, or what answers NEGOTIATE_UNIX_FD.
+/// The same of what a server sends. Messages follow its last line before the client's BEGIN: OK, or
+/// what answers NEGOTIATE_UNIX_FD.
 pub fn server_line(bytes: &[u8]) -> Result<Option<Line<'_>>, LineFault> {
     line(sys::dbus_wire_server_line, bytes)
 }

@@ -73,7 +73,8 @@ impl Flags {
     }
 }
 
-/// A message that is known to be valid, and borrows its bytes. Its texts are among them: nothing is copied.
+/// A message that is known to be valid, and borrows its bytes. Its texts are among them: nothing is
+/// copied.
 #[derive(Clone, Copy)]
 pub struct Message<'a> {
     // Those of the message alone.
@@ -82,7 +83,8 @@ pub struct Message<'a> {
 }
 
 impl<'a> Message<'a> {
-    /// The message that the bytes begin with, within the specification's limits. Bytes after it are not looked at.
+    /// The message that the bytes begin with, within the specification's limits. Bytes after it are
+    /// not looked at.
     pub fn parse(bytes: &'a [u8]) -> Result<Self, ParseError> {
         Self::parse_within(bytes, &Limits::default())
     }
@@ -184,14 +186,16 @@ impl<'a> Message<'a> {
         Values::of_message(self.bytes, self.signature().unwrap_or_default())
     }
 
-    /// The header fields, each as its code and its value, in their order in the message: also those whose codes the specification
-    /// does not name. The call looks over the message once more, and takes memory for what the fields hold.
+    /// The header fields, each as its code and its value, in their order in the message: also those
+    /// whose codes the specification does not name. The call looks over the message once more, and
+    /// takes memory for what the fields hold.
     pub fn fields(&self) -> Fields<'a> {
         Fields::of_message(self.bytes)
     }
 
-    /// Its parts, of which [`build`](crate::build) makes a message, and by which [`rebuild`](crate::rebuild) changes this one. They hold
-    /// all but header fields of unknown codes.
+    /// Its parts, of which [`build`](crate::build) makes a message, and by which
+    /// [`rebuild`](crate::rebuild) changes this one. They hold all but header fields of unknown
+    /// codes.
     pub fn parts(&self) -> Parts<'a> {
         Parts {
             order: self.order(),
@@ -211,8 +215,9 @@ impl<'a> Message<'a> {
         }
     }
 
-    /// All values of the body, and all that is within them, in one row: each container comes before its parts, and an array of numbers
-    /// is one item. `include/dbus_wire.h` says what each member is.
+    /// All values of the body, and all that is within them, in one row: each container comes before
+    /// its parts, and an array of numbers is one item. `include/dbus_wire.h` says what each member
+    /// is.
     pub fn flatten(&self) -> Vec<FlatItem> {
         body_items(self.bytes)
     }
@@ -226,7 +231,8 @@ impl<'a> Message<'a> {
     }
 
     fn field(&self, text: &sys::dbus_wire_text) -> Option<&'a str> {
-        // SAFETY: `dbus_wire_parts_of` writes the places of texts of the message, which are UTF-8, and `parts` is as it wrote it.
+        // SAFETY: `dbus_wire_parts_of` writes the places of texts of the message, which are UTF-8,
+        // and `parts` is as it wrote it.
         (text.is_there != 0).then(|| unsafe { text_at(self.bytes, text.offset, text.length) })
     }
 }

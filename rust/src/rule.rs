@@ -70,7 +70,8 @@ impl Owners {
     }
 }
 
-/// What stands for a rule in the [`RuleSet`] that it was added to, and for no other rule of that set.
+/// The id of a rule: it stands for the rule in the [`RuleSet`] that it was added to, and for no
+/// other rule of that set.
 #[derive(Clone, Copy, Debug, PartialEq, Eq, Hash)]
 pub struct RuleId(sys::dbus_wire_rule_id);
 
@@ -94,8 +95,9 @@ pub struct RuleSet {
     count: usize,
 }
 
-// SAFETY: the header allows calls on rules from any thread, if one returns before the next begins. Each takes them by a mutable
-// reference, which sees to that. Calls on two structs may overlap, also if these share rules.
+// SAFETY: the header allows calls on rules from any thread, if one returns before the next begins.
+// Each takes them by a mutable reference, which sees to that. Calls on two structs may overlap,
+// also if these share rules.
 unsafe impl Send for RuleSet {}
 
 impl Default for RuleSet {
@@ -131,8 +133,8 @@ impl RuleSet {
         was
     }
 
-    /// The rules each key of which holds of the message. A `sender` that is a well-known name matches a message whose SENDER is that
-    /// name itself, or that of its owner.
+    /// The rules each key of which holds of the message. A `sender` that is a well-known name
+    /// matches a message whose SENDER is that name itself, or that of its owner.
     pub fn matching(&mut self, message: &Message<'_>, owners: &Owners) -> Result<Vec<RuleId>, OutOfMemory> {
         let (bytes, owners, mut count) = (message.bytes(), owners.lines.as_bytes(), 0);
         let mut ids = vec![sys::dbus_wire_rule_id::default(); self.count];
@@ -157,8 +159,8 @@ impl RuleSet {
         }
     }
 
-    /// The canonical text of the rule, if the set has it: each key once in a fixed order, joined by commas without spaces, each value
-    /// between apostrophes. It spells the same rule.
+    /// The canonical text of the rule, if the set has it: each key once in a fixed order, joined by
+    /// commas without spaces, each value between apostrophes. It spells the same rule.
     pub fn text(&mut self, id: RuleId) -> Result<Option<String>, OutOfMemory> {
         let mut text = vec![0; 256];
         loop {
@@ -179,13 +181,15 @@ impl RuleSet {
 
 impl Drop for RuleSet {
     fn drop(&mut self) {
-        // SAFETY: a reference, as `sys` says; only calls write `raw`, and nothing uses it after its drop.
+        // SAFETY: a reference, as `sys` says; only calls write `raw`, and nothing uses it after its
+        // drop.
         unsafe { sys::dbus_wire_rules_free(&mut self.raw) };
     }
 }
 
-/// Match rules that stay as they are, and that many threads may ask at the same time: each by a `SharedRules` of its own, which
-/// [`SharedRules::share`] makes without copying a rule. The last of them frees the rules.
+/// Match rules that stay as they are, and that many threads may ask at the same time: each by a
+/// `SharedRules` of its own, which [`SharedRules::share`] makes without copying a rule. The last of
+/// them frees the rules.
 ///
 /// ```
 /// use std::thread;

@@ -31,8 +31,9 @@ impl fmt::Display for SwapError {
 
 impl Error for SwapError {}
 
-/// Writes the message within the limits that the bytes begin with to the start of `out`, in the byte order, and returns its
-/// length, which is the same in either order. What is after it in `out` stays as it was; so does all of `out` on an error.
+/// Writes the message within the limits that the bytes begin with to the start of `out`, in the
+/// byte order, and returns its length, which is the same in either order. What is after it in `out`
+/// stays as it was; so does all of `out` on an error.
 ///
 /// ```
 /// use dbus_wire::{byteswap, Limits, Message, Order, SwapError};

@@ -1,17 +1,21 @@
-//! The declarations of `include/dbus_wire.h`, under its names. Its comments say what each is, what a call returns, and what the
-//! caller has to ensure. The other modules make these calls safe.
+//! The declarations of `include/dbus_wire.h`, under its names. Its comments say what each is, what
+//! a call returns, and what the caller has to ensure. The other modules make these calls safe.
 //!
 //! # Safety
 //!
-//! What the header asks of a pointer, Rust ensures of a reference. So a call is sound if it is handed these alone:
+//! What the header asks of a pointer, Rust ensures of a reference. So a call is sound if it is
+//! handed these alone:
 //!
-//! * Of a slice its pointer and its length. The pointer is not null, and has so many readable bytes, `isize::MAX` at most, which
-//!   nothing writes as long as the slice is borrowed. Those of a `&mut` slice may be written, and overlap no other argument.
-//! * References to structs of this module: they are not null, aligned and initialized, and a `&mut` one overlaps no other argument.
-//! * Of a [`dbus_wire_checker`], [`dbus_wire_rules`] or a [`dbus_wire_handshake`] one that only calls have written since it was made with a
-//!   null pointer.
+//! * Of a slice its pointer and its length. The pointer is not null, and has so many readable
+//!   bytes, `isize::MAX` at most, which nothing writes as long as the slice is borrowed. Those of a
+//!   `&mut` slice may be written, and overlap no other argument.
+//! * References to structs of this module: they are not null, aligned and initialized, and a `&mut`
+//!   one overlaps no other argument.
+//! * Of a [`dbus_wire_checker`], [`dbus_wire_rules`] or a [`dbus_wire_handshake`] one that only
+//!   calls have written since it was made with a null pointer.
 //!
-//! That there is stack for a call is the one thing that nothing ensures: see the crate's documentation.
+//! That there is stack for a call is the one thing that nothing ensures: see the crate's
+//! documentation.
 #![allow(non_camel_case_types, missing_docs)]
 
 use std::ffi::c_void;

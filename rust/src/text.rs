@@ -77,7 +77,8 @@ pub fn check_text(kind: TextKind, bytes: &[u8]) -> Result<&str, TextFault> {
     // SAFETY: a slice and a reference, as `sys` says.
     let answer = unsafe { sys::dbus_wire_text_check(kind.number(), bytes.as_ptr(), bytes.len(), &mut told) };
     match answer {
-        // SAFETY: the library says that the bytes are a text of the kind, and those of every kind are UTF-8.
+        // SAFETY: the library says that the bytes are a text of the kind, and those of every kind
+        // are UTF-8.
         sys::DBUS_WIRE_OK => Ok(unsafe { std::str::from_utf8_unchecked(bytes) }),
         sys::DBUS_WIRE_REFUSED if told.is_too_long != 0 => Err(TextFault::TooLong),
         _ => Err(TextFault::Bad { at: told.offset as usize }),

@@ -251,8 +251,8 @@ impl<'a> Values<'a> {
         Self { row, left, types }
     }
 
-    /// The types of the values that are left, as a signature: `su` for a STRING and a UINT32. Of the
-    /// elements of an array it is the type of each.
+    /// The types of the values that are left, as a signature: `su` for a STRING and a UINT32. Of
+    /// the elements of an array it is the type of each.
     pub fn types(&self) -> &'a str {
         self.types
     }
@@ -330,7 +330,8 @@ impl fmt::Debug for Fields<'_> {
 }
 
 impl PartialEq for Values<'_> {
-    /// Whether the types and the values that are left are the same, in whatever byte order they are.
+    /// Whether the types and the values that are left are the same, in whatever byte order they
+    /// are.
     fn eq(&self, other: &Self) -> bool {
         self.types() == other.types() && self.clone().eq(other.clone())
     }

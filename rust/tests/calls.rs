@@ -437,7 +437,8 @@ fn rules_have_a_canonical_text_or_a_fault() {
     }
 }
 
-// Both ends, whose bytes come in pieces, and each caller's bytes after its handshake: the bytes that are left.
+// Both ends, whose bytes come in pieces, and each caller's bytes after its handshake: the bytes
+// that are left.
 fn shake(client: &mut Client, server: &mut Server, size: usize) -> (Status, Status, Vec<u8>) {
     let (mut to_client, mut to_server) = (Vec::new(), Vec::new());
     let mut ends = (Status::Talking, Status::Talking);

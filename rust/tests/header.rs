@@ -15,7 +15,8 @@ fn without_comments(text: &str) -> String {
     pieces.fold(first, |code, piece| code + piece.split_once("*/").expect("a comment ends").1)
 }
 
-// The header's declarations, without comments, preprocessor lines, attributes and functions that are inline.
+// The header's declarations, without comments, preprocessor lines, attributes and functions that
+// are inline.
 fn declarations() -> String {
     let code = without_comments(HEADER);
     let (code, _) = code.split_once("static inline").expect("there are inline functions");
