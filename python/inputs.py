@@ -31,7 +31,8 @@ def message_cases():
 
 
 def whole_cases():
-    """Each case that is one message within the specification's limits, under its name and its order."""
+    """Each case that is one message within the specification's limits, under its name and its
+    order."""
     whole = [(name, data) for name, limits, data, answer in message_cases() if limits is None and answer == f"whole {len(data)}"]
     return {f"{name} {data[:1].decode()}": data for name, data in whole}
 

@@ -1,4 +1,5 @@
-"""Tests of the module dbus_wire, over the library that DBUS_WIRE_LIBRARY names: `make test-python` runs them.
+"""Tests of the module dbus_wire, over the library that DBUS_WIRE_LIBRARY names: `make test-python`
+runs them.
 
 What the module makes of the cases is compared with the answers in them (cases/README.md).
 """
@@ -89,13 +90,15 @@ def answer_in_pieces(data, length, limits=None):
 
 
 def dictionaries(depth, last):
-    """The bytes of dictionaries in one another, from 4 bytes after a boundary of 8, of which the innermost holds these bytes."""
+    """The bytes of dictionaries in one another, from 4 bytes after a boundary of 8, of which the
+    innermost holds these bytes."""
     entry = b"\1" + (last if depth == 1 else bytes(3) + dictionaries(depth - 1, last))
     return len(entry).to_bytes(4, "little") + entry
 
 
 def deep_message():
-    """A message of a BYTE and a value of 63 containers in one another, all of them arrays of dict entries but one variant."""
+    """A message of a BYTE and a value of 63 containers in one another, all of them arrays of dict
+    entries but one variant."""
     outer, inner = (b"a{y" * depth + last + b"}" * depth for depth, last in ((32, b"v"), (30, b"y")))
     body = bytes(4) + dictionaries(32, bytes([len(inner)]) + inner + b"\0" + dictionaries(30, b"\2"))
     fields = b"\x08\1g\0" + bytes([1 + len(outer)]) + b"y" + outer + b"\0"
@@ -455,7 +458,8 @@ class Handshakes(unittest.TestCase):
     GUID = "0123456789ABCDEF0123456789abcdef"
 
     def end_of(self, setup):
-        """The end of a case; None of a client whose mechanisms no call asks for, as EXTERNAL twice."""
+        """The end of a case; None of a client whose mechanisms no call asks for, as EXTERNAL twice.
+        """
         kind, *words = re.findall(r'\w+(?:=(?:\d+\*)?"[^"]*"|=\S+)?', setup)
         given = dict(word.split("=", 1) if "=" in word else (word, "") for word in words)
         user = int(given.get("user") or given.get("external") or 0)

@@ -1,4 +1,5 @@
-"""Tests that the module dbus_wire has the numbers, structs and calls of include/dbus_wire.h, and loads only such a library: `make test-python` runs them."""
+"""Tests that the module dbus_wire has the numbers, structs and calls of include/dbus_wire.h, and
+loads only such a library: `make test-python` runs them."""
 
 import ctypes
 import os

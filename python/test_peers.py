@@ -1,7 +1,8 @@
-"""Compares what the module dbus_wire makes of messages with what other programs make of them: `make test-python` runs it.
+"""Compares what the module dbus_wire makes of messages with what other programs make of them:
+`make test-python` runs it.
 
-They are `dbus-wire`, which DBUS_WIRE_PROGRAM names, and jeepney and dbus-fast, if they are there (on Debian the packages python3-jeepney and
-python3-dbus-fast).
+They are `dbus-wire`, which DBUS_WIRE_PROGRAM names, and jeepney and dbus-fast, if they are there
+(on Debian the packages python3-jeepney and python3-dbus-fast).
 """
 
 import ctypes
@@ -54,7 +55,8 @@ def json_of(value):
 
 
 def line_of(number, offset, message):
-    """The message as a line of `dbus-wire json` has it, without the header fields that have no name."""
+    """The message as a line of `dbus-wire json` has it, without the header fields that have no
+    name."""
     first = {"number": number, "offset": offset, "length": len(message.data), "order": message.order.value}
     kind = message.type.name.lower() if isinstance(message.type, MessageType) else message.type
     fields = {name: value for name in FIELDS if (value := getattr(message, name)) is not None}
@@ -133,12 +135,14 @@ def header_of(message):
 
 
 def with_a_known_type(data):
-    """The message, as a signal if its type is none that the specification names: neither reads those."""
+    """The message, as a signal if its type is none that the specification names: neither reads
+    those."""
     return data[:1] + bytes([data[1] if data[1] <= MessageType.SIGNAL else MessageType.SIGNAL]) + data[2:]
 
 
 class Peer:
-    """`read` reads a message's bytes, `value` gives a value of ours as it has it, and `header` and `body` what it read."""
+    """`read` reads a message's bytes, `value` gives a value of ours as it has it, and `header` and
+    `body` what it read."""
 
     def test_captured_messages_have_the_same_header_and_values(self):
         for data in captured():

@@ -1,8 +1,9 @@
-"""D-Bus messages, by libdbus_wire: checked, taken apart into Python values, built of their parts, byteswapped, and matched by rules; and both
-ends of the handshake before them, and its lines.
+"""D-Bus messages, by libdbus_wire: checked, taken apart into Python values, built of their parts,
+byteswapped, and matched by rules; and both ends of the handshake before them, and its lines.
 
-The module finds no place and no number in the bytes itself: each is what a call of include/dbus_wire.h returns. The library is the
-file that the environment variable DBUS_WIRE_LIBRARY names, or else libdbus_wire.so.0 as the dynamic linker finds it.
+The module finds no place and no number in the bytes itself: each is what a call of
+include/dbus_wire.h returns. The library is the file that the environment variable DBUS_WIRE_LIBRARY
+names, or else libdbus_wire.so.0 as the dynamic linker finds it.
 
     from dbus_wire import messages
 
@@ -10,8 +11,9 @@ file that the environment variable DBUS_WIRE_LIBRARY names, or else libdbus_wire
         for message in messages(capture):
             print(message.serial, message.member, message.body)
 
-Bytes that are no message raise Refused or Truncated, which say where and why, as `dbus-wire check` does. All of it may be called from
-any thread; a thread needs 128 KiB of stack for a call. A message of any depth is read within Python's default limit on recursion.
+Bytes that are no message raise Refused or Truncated, which say where and why, as `dbus-wire check`
+does. All of it may be called from any thread; a thread needs 128 KiB of stack for a call. A message
+of any depth is read within Python's default limit on recursion.
 """
 
 from ._checker import Checker

@@ -14,10 +14,11 @@ from ._limits import Limits, limits_struct
 
 
 class Checker:
-    """Checks a stream of messages as its bytes come, in some 40,000 bytes of memory whatever the messages have.
+    """Checks a stream of messages as its bytes come, in some 40,000 bytes of memory whatever the
+    messages have.
 
-    It keeps no bytes. It may be shared by threads, whose calls wait for each other. `close`, or the end of a `with`, frees it;
-    ValueError is raised by its other calls from then on.
+    It keeps no bytes. It may be shared by threads, whose calls wait for each other. `close`, or the
+    end of a `with`, frees it; ValueError is raised by its other calls from then on.
 
         with Checker() as checker:
             for piece in pieces:
@@ -37,11 +38,12 @@ class Checker:
         self._free = weakref.finalize(self, library.dbus_wire_checker_free, byref(self._handle))
 
     def take(self, piece: Bytes) -> int | None:
-        """Takes the bytes that follow those that it has taken. Returns after how many of them the message ends, or None if it
-        goes on after all of them.
+        """Takes the bytes that follow those that it has taken. Returns after how many of them the
+        message ends, or None if it goes on after all of them.
 
-        Raises Refused if the bytes show a fault; its place counts from the message's first byte. After a message's
-        end, which may be 0 bytes away, and after a fault it stays as it is until it is restarted.
+        Raises Refused if the bytes show a fault; its place counts from the message's first byte.
+        After a message's end, which may be 0 bytes away, and after a fault it stays as it is until
+        it is restarted.
         """
         data, taken = as_bytes(piece), _library.Taken()
         with self._lock:

@@ -25,9 +25,9 @@ class HeaderField(enum.IntEnum):
 class NotAMessage(ValueError):
     """Bytes are no message; as a text, the line that `dbus-wire check` prints of them.
 
-    `at` is the place, in bytes from the start of the input. `reason` is the reason's name, as docs/WIRE-FORMAT.md lists them
-    ("Faults"). `field` is the header field that is missing if the reason is "FieldMissing", or one whose text is too long for `build`,
-    and else None.
+    `at` is the place, in bytes from the start of the input. `reason` is the reason's name, as
+    docs/WIRE-FORMAT.md lists them ("Faults"). `field` is the header field that is missing if the
+    reason is "FieldMissing", or one whose text is too long for `build`, and else None.
     """
 
     def __init__(self, at: int, reason: str, field: HeaderField | None = None) -> None:
@@ -42,7 +42,8 @@ class NotAMessage(ValueError):
 
 
 class Refused(NotAMessage):
-    """No message begins with the bytes, whatever follows; or bytes follow the one message that was asked for ("Trailing")."""
+    """No message begins with the bytes, whatever follows; or bytes follow the one message that was
+    asked for ("Trailing")."""
 
 
 class Truncated(NotAMessage):

@@ -16,7 +16,7 @@ from ._library import REPLY_ROOM, Bytes, as_bytes, library
 
 
 class Status(enum.IntEnum):
-    """Where a handshake stands."""
+    """The status of a handshake."""
 
     BEGUN = 0
     """It succeeded: the bytes that are not taken are messages."""
@@ -27,7 +27,8 @@ class Status(enum.IntEnum):
 
 
 class Step(NamedTuple):
-    """What an end did with a piece: `count` bytes were taken, the others are to be handed in again, and `reply` is to be sent."""
+    """What an end did with a piece: `count` bytes were taken, the others are to be passed again,
+    and `reply` is to be sent."""
 
     count: int
     reply: bytes
@@ -43,10 +44,11 @@ class _Handshake:
         self._free = weakref.finalize(self, library.dbus_wire_handshake_free, byref(handle))
 
     def take(self, piece: Bytes = b"") -> Step:
-        """Takes at most one line of the piece, which follows what was taken, and answers it. A client's first call starts it: it
-        takes nothing, and its reply is the byte 0 and the first line. Once the handshake succeeded or failed nothing is taken.
+        """Takes at most one line of the piece, which follows what was taken, and answers it. A
+        client's first call starts it: it takes nothing, and its reply is the byte 0 and the first
+        line. Once the handshake succeeded or failed nothing is taken.
 
-        Raises MemoryError, and changes nothing then: the same piece may be handed in again.
+        Raises MemoryError, and changes nothing then: pass the same piece again.
         """
         data, room, told = as_bytes(piece), ctypes.create_string_buffer(REPLY_ROOM), _library.HandshakeStep()
         with self._lock:
@@ -55,7 +57,8 @@ class _Handshake:
         return Step(told.count, room.raw[: told.reply], Status(answer))
 
     def close(self) -> None:
-        """Frees the end. Once more does nothing; ValueError is raised by its other calls from then on."""
+        """Frees the end. Once more does nothing; ValueError is raised by its other calls from then
+        on."""
         with self._lock:
             self._free()
 
@@ -67,17 +70,19 @@ class _Handshake:
 
 
 class Server(_Handshake):
-    """A server's end of the handshake. It may be shared by threads, whose calls wait for each other.
+    """A server's end of the handshake. It may be shared by threads, whose calls wait for each
+    other.
 
-    Its user has to be the one that the transport reports, as SO_PEERCRED of a Unix socket does, and not the one that is expected: a
-    client that names no user is let in as that one.
+    Its user has to be the one that the transport reports, as SO_PEERCRED of a Unix socket does, and
+    not the one that is expected: a client that names no user is let in as that one.
     """
 
     __slots__ = ()
 
     def __init__(self, guid: str, user: int | None = None, *, anonymous: bool = False) -> None:
-        """Makes the end of a server of this GUID, which offers EXTERNAL if it has a user, and ANONYMOUS, which lets everybody in, if
-        that is said. Raises ValueError if the GUID is not 32 hexadecimal digits, and MemoryError."""
+        """Makes the end of a server of this GUID, which offers EXTERNAL if it has a user, and
+        ANONYMOUS, which lets everybody in, if `anonymous` is true. Raises ValueError if the GUID is
+        not 32 hexadecimal digits, and MemoryError."""
         handle, text = _library.Handshake(), guid.encode("utf-8", "surrogatepass")
         mechanisms = _mechanisms(0 if user is None else EXTERNAL_AS_USER, user or 0, anonymous)
         answer = library.dbus_wire_server_new(text, len(text), byref(mechanisms), byref(handle))
@@ -88,7 +93,8 @@ class Server(_Handshake):
 
 
 class Client(_Handshake):
-    """A client's end of the handshake. It may be shared by threads, whose calls wait for each other.
+    """A client's end of the handshake. It may be shared by threads, whose calls wait for each
+    other.
 
         client, rest = Client(user=os.getuid()), b""
         while (step := client.take(rest)).status == Status.TALKING:
@@ -99,9 +105,10 @@ class Client(_Handshake):
     __slots__ = ()
 
     def __init__(self, *, user: int | None = None, reported: bool = False, trace: Bytes | None = None) -> None:
-        """Makes the end of a client that asks for EXTERNAL, as the user of this number or as the one that the transport reports to
-        the server, and then for ANONYMOUS if there is a trace, which may be empty. Raises ValueError if the trace has over 255 bytes
-        or both kinds of EXTERNAL are asked for, and MemoryError."""
+        """Makes the end of a client that asks for EXTERNAL, as the user of this number or as the
+        one that the transport reports to the server, and then for ANONYMOUS if there is a trace,
+        which may be empty. Raises ValueError if the trace has over 255 bytes or both kinds of
+        EXTERNAL are asked for, and MemoryError."""
         if user is not None and reported:
             raise ValueError("EXTERNAL is asked for either as a user or as the one that is reported")
         external = EXTERNAL_AS_REPORTED if reported else 0 if user is None else EXTERNAL_AS_USER
@@ -115,7 +122,8 @@ class Client(_Handshake):
 
     @property
     def guid(self) -> str | None:
-        """The server's GUID, as 32 hexadecimal digits in lower case, once the handshake succeeded; else None."""
+        """The server's GUID, as 32 hexadecimal digits in lower case, once the handshake succeeded;
+        else None."""
         text = ctypes.create_string_buffer(GUID_LENGTH)
         with self._lock:
             answer = library.dbus_wire_handshake_guid(byref(self._handle), text, GUID_LENGTH)

@@ -1,4 +1,5 @@
-"""The shared library by ctypes: the calls, the structs and the numbers of include/dbus_wire.h, which says what each means."""
+"""The shared library by ctypes: the calls, the structs and the numbers of include/dbus_wire.h,
+which says what each means."""
 
 from __future__ import annotations
 
@@ -7,7 +8,8 @@ import os
 from ctypes import POINTER, c_char_p, c_size_t, c_uint8, c_uint32, c_uint64, c_void_p
 from typing import Union
 
-# The version of the header that this module was written for. A library of another minor version may have other calls.
+# The version of the header that this module was written for. A library of another minor version may
+# have other calls.
 WRITTEN_FOR = (0, 1, 0)
 SONAME = "libdbus_wire.so.0"
 
@@ -110,7 +112,8 @@ class Line(ctypes.Structure):
     ]
 
 
-# Of each call its result, and then its arguments. Python's bytes do not change and are never null, so they are handed over as they are.
+# Of each call its result, and then its arguments. Python's bytes do not change and are never null,
+# so they are passed as they are.
 _MESSAGE = (c_char_p, c_size_t, POINTER(Limits))
 _BODY = (c_char_p, c_size_t, POINTER(Writer))
 _CALLS = {
@@ -165,7 +168,8 @@ def _version_of(number: int) -> tuple[int, int, int]:
 
 
 def _load(path: str) -> ctypes.CDLL:
-    """The library, with the types of its calls. Raises ImportError if there is none, or one of another version."""
+    """The library, with the types of its calls. Raises ImportError if there is none, or one of
+    another version."""
     try:
         library = ctypes.CDLL(path)
         version = _version_of(library.dbus_wire_version())

@@ -15,7 +15,8 @@ library.dbus_wire_specification_limits(ctypes.byref(_SPECIFICATION))
 
 @dataclass(frozen=True)
 class Limits:
-    """Limits that a message has to keep; what is left out is the D-Bus Specification's. Raises ValueError of a negative number.
+    """Limits that a message has to keep; what is left out is the D-Bus Specification's. Raises
+    ValueError of a negative number.
 
     A number over the specification's stands for the specification's.
     """
@@ -25,9 +26,11 @@ class Limits:
     array: int = _SPECIFICATION.array
     """The greatest number of bytes of an array's contents."""
     depth: int = _SPECIFICATION.depth
-    """The greatest number of containers (arrays, structs, variants) open at once, three of the header among them."""
+    """The greatest number of containers (arrays, structs, variants) open at once, three of the
+    header among them."""
     fds_below_count: bool = False
-    """Whether indexes of file descriptors have to be below the number in the UNIX_FDS field, which is 0 if that is absent."""
+    """Whether indexes of file descriptors have to be below the number in the UNIX_FDS field, which
+    is 0 if that is absent."""
 
     def __post_init__(self) -> None:
         if min(self.message, self.array, self.depth) < 0:

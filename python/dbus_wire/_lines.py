@@ -12,7 +12,8 @@ from ._library import PARTIAL, REFUSED, Bytes, as_bytes, library
 
 
 class LineCommand(enum.IntEnum):
-    """The commands of a handshake's lines. OTHER is one of another name, of the other side, or with other words than it takes."""
+    """The commands of a handshake's lines. OTHER is one of another name, of the other side, or with
+    other words than it takes."""
 
     OTHER = 0
     AUTH = 1
@@ -27,8 +28,9 @@ class LineCommand(enum.IntEnum):
 
 
 class Line(NamedTuple):
-    """A line: its number of bytes, with its CR LF; its command; the mechanism of AUTH; and the hexadecimal digits of AUTH, DATA or OK, the
-    text of ERROR, or the mechanisms of REJECTED, with the spaces between them and after the last one. What is not there is None."""
+    """A line: its number of bytes, with its CR LF; its command; the mechanism of AUTH; and the
+    hexadecimal digits of AUTH, DATA or OK, the text of ERROR, or the mechanisms of REJECTED, with
+    the spaces between them and after the last one. What is not there is None."""
 
     length: int
     command: LineCommand
@@ -37,7 +39,8 @@ class Line(NamedTuple):
 
 
 class BadLine(ValueError):
-    """No line begins so: `at` is the place of the first byte that a line may not have there, or None if the line is too long."""
+    """No line begins so: `at` is the place of the first byte that a line may not have there, or
+    None if the line is too long."""
 
     def __init__(self, at: int | None) -> None:
         super().__init__(at)
@@ -48,8 +51,8 @@ class BadLine(ValueError):
 
 
 def client_line(data: Bytes) -> Line | None:
-    """The line that the bytes begin with, of what a client sends in the handshake after its byte 0; None if more bytes are needed.
-    After BEGIN messages follow. Raises BadLine."""
+    """The line that the bytes begin with, of what a client sends in the handshake after its byte 0;
+    None if more bytes are needed. After BEGIN messages follow. Raises BadLine."""
     return _line(library.dbus_wire_client_line, as_bytes(data))
 
 

@@ -19,7 +19,8 @@ from ._values import ObjectPath, Signature, text_at, values_of
 # The most bytes that one read asks for, so that a length that is only stated takes no memory.
 _PIECE = 1 << 20
 
-# The parts of a message that are numbers, each with its name in the library, and those that are texts.
+# The parts of a message that are numbers, each with its name in the library, and those that are
+# texts.
 _NUMBERS = {"type": "kind", "flags": "flags", "serial": "serial", "reply_serial": "reply_serial", "unix_fds": "unix_fds"}
 _TEXTS = ("path", "interface", "member", "error_name", "destination", "sender", "signature")
 
@@ -59,7 +60,8 @@ class MessageFlag(enum.IntFlag):
 class Message:
     """A message, as `Message.parse` or `messages` makes it; `bytes(message)` are its bytes.
 
-    A header field that is absent is None; header fields of codes that the specification does not name are in the bytes alone.
+    A header field that is absent is None; header fields of codes that the specification does not
+    name are in the bytes alone.
     """
 
     data: bytes = field(repr=False)
@@ -117,22 +119,24 @@ class Message:
 
     @cached_property
     def body(self) -> list[Any]:
-        """The values of the body, read when they are first asked for. What each type becomes, by its code in the signature:
+        """The values of the body, read when they are first asked for. What each type becomes, by
+        its code in the signature:
 
         y n q i u x t   int             o   ObjectPath    ay        bytes
         b               bool            g   Signature     a{..}     dict
         d               float           h   UnixFd        other a   list of the elements
         s               str             v   Variant       (..)      tuple of the fields
 
-        No entry of a dictionary is lost: if Python finds two of its keys equal, as it does 0.0 and -0.0, it is the list of its pairs,
-        in their order. (The specification has keys differ, and does not ask readers to look.)
+        No entry of a dictionary is lost: if Python finds two of its keys equal, as it does 0.0 and
+        -0.0, it is the list of its pairs, in their order. (The specification has keys differ, and
+        does not ask readers to look.)
         """
         return self._values(library.dbus_wire_flatten)
 
     @cached_property
     def header_fields(self) -> list[tuple[int, Any]]:
-        """The header fields, each as its code and its value, in their order in the message: also those whose codes the specification
-        does not name. The values are as those of the body.
+        """The header fields, each as its code and its value, in their order in the message: also
+        those whose codes the specification does not name. The values are as those of the body.
         """
         [fields] = self._values(library.dbus_wire_flatten_fields)
         return [(code, variant.value) for code, variant in fields]
@@ -161,9 +165,11 @@ class Message:
 
 
 def messages(source: Bytes | BinaryIO, limits: Limits | None = None) -> Iterator[Message]:
-    """The messages of a capture: of bytes, or of a binary file that blocks, such as a pipe, from which it reads no byte past each.
+    """The messages of a capture: of bytes, or of a binary file that blocks, such as a pipe, from
+    which it reads no byte past each.
 
-    Raises Refused or Truncated at the first that is none; its place counts from where the file was, or from the first byte.
+    Raises Refused or Truncated at the first that is none; its place counts from where the file was,
+    or from the first byte.
     """
     stream = io.BytesIO(source) if isinstance(source, (bytes, bytearray, memoryview)) else source
     given, at = limits_struct(limits), 0
@@ -175,7 +181,8 @@ def messages(source: Bytes | BinaryIO, limits: Limits | None = None) -> Iterator
 
 
 def stated_length(data: Bytes, limits: Limits | None = None) -> int | None:
-    """The number of bytes of the message that the bytes begin with, as its first 16 bytes state it; None if fewer are there.
+    """The number of bytes of the message that the bytes begin with, as its first 16 bytes state it;
+    None if fewer are there.
 
     For readers of their own, such as those of asyncio. Raises Refused if these 16 are at fault.
     """
@@ -207,12 +214,15 @@ def build(
     body: Bytes = b"",
     limits: Limits | None = None,
 ) -> Message:
-    """The message within the limits that has exactly these parts. What is None or 0 is no header field.
+    """The message within the limits that has exactly these parts. What is None or 0 is no header
+    field.
 
-    The fields are in the order of their codes; `rebuild` changes a message and keeps its fields as they are.
+    The fields are in the order of their codes; `rebuild` changes a message and keeps its fields as
+    they are.
 
-    The body's bytes are spelled in the byte order, 'l' or 'B', as `spell_body` spells values, and as those of `body_bytes` are. Raises Refused if no message has these
-    parts; its place counts from the first byte that they spell. Raises ValueError of a number that no field has room for.
+    The body's bytes are spelled in the byte order, 'l' or 'B', as `spell_body` spells values, and
+    as those of `body_bytes` are. Raises Refused if no message has these parts; its place counts
+    from the first byte that they spell. Raises ValueError of a number that no field has room for.
     """
     numbers = {"type": type, "flags": flags, "serial": serial, "reply_serial": reply_serial, "unix_fds": unix_fds}
     texts = {"path": path, "interface": interface, "member": member, "error_name": error_name}
@@ -221,11 +231,12 @@ def build(
 
 
 def rebuild(message: Message, *, limits: Limits | None = None, **changes: Any) -> Message:
-    """The message with other parts: those that `build` takes, by their names, but for its byte order. What becomes None or 0 is no
-    header field any more.
+    """The message with other parts: those that `build` takes, by their names, but for its byte
+    order. What becomes None or 0 is no header field any more.
 
-    Each header field stays in its place, also those of codes that the specification does not name. Fields that the message does not
-    have come last, in the order of their codes. With no changes it is the same message, byte for byte. Raises what `build` raises.
+    Each header field stays in its place, also those of codes that the specification does not name.
+    Fields that the message does not have come last, in the order of their codes. With no changes it
+    is the same message, byte for byte. Raises what `build` raises.
     """
     parts = {name: getattr(message, name) for name in (*_NUMBERS, *_TEXTS)}
     parts["body"] = message.body_bytes
@@ -235,7 +246,8 @@ def rebuild(message: Message, *, limits: Limits | None = None, **changes: Any) -
 
 
 def _built(call: Any, front: bytes, parts: dict[str, Any], limits: Limits | None) -> Message:
-    """The message that the call makes of the parts, whose texts and body come after the bytes in front."""
+    """The message that the call makes of the parts, whose texts and body come after the bytes in
+    front."""
     given, data = _library.Parts(order=ord(Order(parts["order"]).value)), bytearray(front)
     for name, name_there in _NUMBERS.items():
         number = parts[name] or 0
@@ -250,7 +262,8 @@ def _built(call: Any, front: bytes, parts: dict[str, Any], limits: Limits | None
     given.body = len(data)
     data += as_bytes(parts["body"])
     given.length = len(data)
-    # Each of seven texts has 16 bytes beside its own at most, and so has each number, the fixed header and the body.
+    # Each of seven texts has 16 bytes beside its own at most, and so has each number, the fixed
+    # header and the body.
     out, told = ctypes.create_string_buffer(len(data) + 11 * 16), _library.Checked()
     answer = call(byref(given), bytes(data), len(data), byref(limits_struct(limits)), out, len(out), byref(told))
     if answer == NO_MEMORY:
@@ -261,7 +274,8 @@ def _built(call: Any, front: bytes, parts: dict[str, Any], limits: Limits | None
 
 
 def byteswap(data: Bytes, order: Order | str, limits: Limits | None = None) -> bytes:
-    """The one message within the limits that all the bytes are, in the byte order, 'l' or 'B'. Raises Refused or Truncated."""
+    """The one message within the limits that all the bytes are, in the byte order, 'l' or 'B'.
+    Raises Refused or Truncated."""
     message, given, asked = as_bytes(data), limits_struct(limits), ord(Order(order).value)
     out, told = ctypes.create_string_buffer(len(message)), _library.Checked()
     answer = library.dbus_wire_swap(message, len(message), byref(given), asked, out, len(out), byref(told))

@@ -20,7 +20,8 @@ from ._texts import TextKind, check_text
 class BadRule(ValueError):
     """A text spells no match rule; as a text, what `dbus-wire filter` prints of it.
 
-    `at` is the place, in bytes of the text's UTF-8. `reason` is the reason's name, as docs/MATCH-RULES.md lists them.
+    `at` is the place, in bytes of the text's UTF-8. `reason` is the reason's name, as
+    docs/MATCH-RULES.md lists them.
     """
 
     def __init__(self, at: int, reason: str) -> None:
@@ -33,10 +34,12 @@ class BadRule(ValueError):
 
 
 class RuleSet:
-    """Match rules, each with a number; those that match a message are found without asking each of them.
+    """Match rules, each with a number; those that match a message are found without asking each of
+    them.
 
-    It may be shared by threads, whose calls wait for each other; those of sets that `share` makes do not. `close`, or the end of a `with`, frees it; ValueError is raised by
-    its other calls from then on. Each call may raise MemoryError.
+    It may be shared by threads, whose calls wait for each other; those of sets that `share` makes
+    do not. `close`, or the end of a `with`, frees it; ValueError is raised by its other calls from
+    then on. Each call may raise MemoryError.
 
         rules = RuleSet()
         number = rules.add("type='signal',sender='org.a.B'")
@@ -52,8 +55,8 @@ class RuleSet:
         self._free = weakref.finalize(self, library.dbus_wire_rules_free, byref(self._handle))
 
     def add(self, text: str | Bytes) -> int:
-        """Adds the rule that the text spells, and returns its number, which no other rule of the set has had. Raises BadRule if it
-        spells none."""
+        """Adds the rule that the text spells, and returns its number, which no other rule of the
+        set has had. Raises BadRule if it spells none."""
         data = text.encode("utf-8", "surrogatepass") if isinstance(text, str) else as_bytes(text)
         told, added = _library.RuleRefused(), _library.RuleId()
         with self._open():
@@ -71,8 +74,8 @@ class RuleSet:
             del self._ids[number]
 
     def share(self) -> RuleSet:
-        """A set of the same rules, by the same numbers, for another thread: no rule is copied. From then on neither changes: `add` and
-        `remove` raise ValueError."""
+        """A set of the same rules, by the same numbers, for another thread: no rule is copied. From
+        then on neither changes: `add` and `remove` raise ValueError."""
         other = RuleSet()
         with self._open():
             _raise_if_failed(library.dbus_wire_rules_share(byref(self._handle), byref(other._handle)))
@@ -80,9 +83,9 @@ class RuleSet:
         return other
 
     def matching(self, message: Message, owners: Mapping[str, str] | None = None) -> list[int]:
-        """The numbers of the rules each key of which holds of the message. A `sender` that is a well-known name matches a message whose
-        sender is that name itself, or its owner's unique name by the owners. Raises ValueError if the owners have texts that are no bus
-        names."""
+        """The numbers of the rules each key of which holds of the message. A `sender` that is a
+        well-known name matches a message whose sender is that name itself, or its owner's unique
+        name by the owners. Raises ValueError if the owners have texts that are no bus names."""
         lines, count = _owner_lines(owners or {}), ctypes.c_uint64()
         data = message.data
         with self._open():
@@ -129,7 +132,8 @@ class RuleSet:
 
 
 class Rule:
-    """A match rule by itself: which messages a program wants, as type='signal',path='/a'. As a text it is its canonical text.
+    """A match rule by itself: which messages a program wants, as type='signal',path='/a'. As a text
+    it is its canonical text.
 
         with Rule("type='signal',sender='org.a.B'") as rule:
             wanted = [message for message in messages(capture) if rule.matches(message, {"org.a.B": ":1.7"})]

@@ -111,11 +111,14 @@ class _Body:
 
 
 def spell_body(signature: str, values: Iterable[Any], order: Order | str = Order.LITTLE) -> bytes:
-    """The bytes of a body, one value for each type of the signature, in the byte order, 'l' or 'B', as `build` takes them.
+    """The bytes of a body, one value for each type of the signature, in the byte order, 'l' or 'B',
+    as `build` takes them.
 
-    Of each type it takes what `Message.body` makes of it: a number; a text; a bytes-like or an iterable of numbers for `ay`; a mapping
-    or an iterable of pairs for `a{..}`; an iterable of the elements or fields for other arrays and for structs; a Variant. Raises
-    ValueError if the signature is none, a value is not of its type, or the order is another. Whether a text is what its type asks for `build` finds.
+    Of each type it takes what `Message.body` makes of it: a number; a text; a bytes-like or an
+    iterable of numbers for `ay`; a mapping or an iterable of pairs for `a{..}`; an iterable of the
+    elements or fields for other arrays and for structs; a Variant. Raises ValueError if the
+    signature is none, a value is not of its type, or the order is another. `build` finds whether a
+    text is what its type asks for.
     """
     if check_text(TextKind.SIGNATURE, signature) is not None:
         raise ValueError(f"{signature!r} is no signature")

@@ -27,12 +27,13 @@ class TextFault:
     """Why a text is not of a kind."""
 
     at: int | None
-    """Where it breaks: how long its longest prefix is with which some text of the kind begins, in bytes of UTF-8. None if it is
-    too long, which comes first."""
+    """Where it breaks: how long its longest prefix is with which some text of the kind begins, in
+    bytes of UTF-8. None if it is too long, which comes first."""
 
 
 def check_text(kind: TextKind, text: str | Bytes) -> TextFault | None:
-    """None if the text is of the kind; otherwise why not. A `str` is checked as its UTF-8. Raises ValueError if there is no such kind."""
+    """None if the text is of the kind; otherwise why not. A `str` is checked as its UTF-8. Raises
+    ValueError if there is no such kind."""
     data = text.encode("utf-8", "surrogatepass") if isinstance(text, str) else as_bytes(text)
     told = TextChecked()
     if library.dbus_wire_text_check(TextKind(kind), data, len(data), byref(told)) == OK:
