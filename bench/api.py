@@ -47,13 +47,15 @@ OWN = "Between the crates"
 HEAD = """\
 # The calls of the libraries
 
-`make api` prints this page out of the sources, and `make quick-test` fails if it is not current. A row has a call, the first sentence of its doc
-comment, its error type with the cases of that, what is proved of it, and the crate that a program names in `crates.txt` to call it. The doc comment, in
-the file of the row, says the rest: what is promised, when each error comes, and what stands after it.
+`make api` prints this page out of the sources, and `make quick-test` fails if it is not current. A
+row has a call, the first sentence of its doc comment, its error type and the cases of that, what is
+proved of it, and the crate to add to `crates.txt`. The doc comment, in the file of the row, says
+the rest: what is promised, when each error occurs, and what state it leaves.
 
-What is proved are the clauses of the call's contract, each by its name, or by the definition that it states if it is the only one; then, after "needs",
-what its caller has to know. A method of a trait has the trait's clauses, if it has none of its own. docs/DEFINITIONS.md says where definitions are, docs/PROVED.md what clauses do not say, and
-docs/LIBRARY.md how a program uses a library.
+What is proved are the clauses of the call's contract, each by its name, or by the definition that
+it states if it is the only one; then, after "needs", what its caller has to know. A method of a
+trait has the trait's clauses, if it has none of its own. docs/DEFINITIONS.md says where definitions
+are, docs/PROVED.md what clauses do not say, and docs/LIBRARY.md how a program uses a library.
 """
 
 # Of an error type with more cases the row has the name alone: "Errors" lists them.
