@@ -32,7 +32,8 @@ static struct dbus_wire_parts error_to(const struct dbus_wire_parts *call, struc
     return error;
 }
 
-/* Builds what the words say of the message at the start of `bytes`, and writes it. Returns whether it was built. */
+/* Builds what the words say of the message at the start of `bytes`, and writes it. Returns whether
+ * it was built. */
 static int build(struct dbus_wire_parts parts, const char *what, const char *word) {
     static uint8_t out[1 << 20];
     struct dbus_wire_checked told;

@@ -1,5 +1,5 @@
-/* Checks the D-Bus messages on standard input, one after another, and prints what `dbus-wire check` prints of them: how many
- * there are, or where and why the first that is none is refused. */
+/* Checks the D-Bus messages on standard input, one after another, and prints what `dbus-wire check`
+ * prints of them: how many there are, or where and why the first that is none is refused. */
 #include <dbus_wire.h>
 
 #include <stdio.h>
@@ -20,7 +20,8 @@ static uint8_t *read_all(size_t *count) {
     return NULL;
 }
 
-/* The line of a refusal, whose offset counts from the start of the input; and in words, for people, on standard error. */
+/* The line of a refusal, whose offset counts from the start of the input; and in words, for people,
+ * on standard error. */
 static void print_refusal(uint64_t offset, uint32_t reason, uint32_t field) {
     uint8_t name[32];
     dbus_wire_reason_name(reason, name, sizeof name);

@@ -1,6 +1,6 @@
-/* Holds the library against its header: the version, the sizes of structs, each null pointer that is allowed, each answer of the
- * calls that take a message apart, and a sentence for each reason that has a name. Prints the number and the name of each reason, of
- * messages and of rules. */
+/* Holds the library against its header: the version, the sizes of structs, each null pointer that
+ * is allowed, each answer of the calls that take a message apart, and a sentence for each reason
+ * that has a name. Prints the number and the name of each reason, of messages and of rules. */
 #include <dbus_wire.h>
 
 #include "expect.h"

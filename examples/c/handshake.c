@@ -1,6 +1,7 @@
-/* Shakes hands as both ends do: `handshake pieces LENGTH` one end with the other in memory, whose bytes come in pieces of LENGTH
- * bytes; `handshake client PATH` with the bus at a Unix socket, to which it then says Hello; `handshake server PATH` with a client
- * that connects to a Unix socket there, whose first message it then checks. */
+/* Shakes hands as both ends do: `handshake pieces LENGTH` one end with the other in memory, whose
+ * bytes come in pieces of LENGTH bytes; `handshake client PATH` with the bus at a Unix socket, to
+ * which it then says Hello; `handshake server PATH` with a client that connects to a Unix socket
+ * there, whose first message it then checks. */
 #include <dbus_wire.h>
 
 #include <stdio.h>
@@ -39,8 +40,8 @@ static void append(struct pipe *pipe, const uint8_t *bytes, size_t length) {
     pipe->length += length;
 }
 
-/* Hands the end at most so many of the bytes that came, and appends what it sends. Out of memory it tries once more: nothing was
- * lost. */
+/* Hands the end at most so many of the bytes that came, and appends what it sends. Out of memory it
+ * tries once more: nothing was lost. */
 static uint32_t take(struct dbus_wire_handshake *end, struct pipe *in, size_t most, struct pipe *out) {
     uint8_t reply[DBUS_WIRE_REPLY_ROOM];
     struct dbus_wire_handshake_step step;

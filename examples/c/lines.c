@@ -1,6 +1,7 @@
-/* Lists what one side sent in the handshake, from standard input: `lines client` or `lines server`. Each line is its length, its
- * command and its words with one space between them; the last one says why no further line begins there, and how many bytes are left.
- * A client's lines end with BEGIN, and messages follow. It takes no memory. */
+/* Lists what one side sent in the handshake, from standard input: `lines client` or `lines server`.
+ * Each line is its length, its command and its words with one space between them; the last one says
+ * why no further line begins there, and how many bytes are left. A client's lines end with BEGIN,
+ * and messages follow. It takes no memory. */
 #include <dbus_wire.h>
 
 #include <stdio.h>

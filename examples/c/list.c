@@ -1,6 +1,6 @@
-/* Lists the D-Bus messages on standard input, as `dbus-wire show` does: a line with the number, the byte order, the type, the serial, the
- * flags and the header fields, and then one for each value of the body. The texts are written from the bytes that were read: nothing
- * is copied. */
+/* Lists the D-Bus messages on standard input, as `dbus-wire show` does: a line with the number, the
+ * byte order, the type, the serial, the flags and the header fields, and then one for each value of
+ * the body. The texts are written from the bytes that were read: nothing is copied. */
 #include <dbus_wire.h>
 
 #include <stdio.h>
@@ -136,8 +136,8 @@ static void print_body(const uint8_t *bytes, size_t count, const struct dbus_wir
     }
 }
 
-/* A field: a struct, its code, a VARIANT, and its value. A known field's value, a text or a number, stands alone; any other is shown
- * as any value is. */
+/* A field: a struct, its code, a VARIANT, and its value. A known field's value, a text or a number,
+ * stands alone; any other is shown as any value is. */
 static void print_field(const uint8_t *bytes, const struct dbus_wire_flat_item *field) {
     static const char *const names[] = {"path", "interface", "member", "error_name", "reply_serial", "destination", "sender", "signature",
                                         "unix_fds"};

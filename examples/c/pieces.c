@@ -1,5 +1,6 @@
-/* Checks the D-Bus messages on standard input as their bytes come, in pieces of 7 bytes or of as many as its argument says, and
- * prints what `dbus-wire check` prints of them. It keeps no bytes but those of a piece. */
+/* Checks the D-Bus messages on standard input as their bytes come, in pieces of 7 bytes or of as
+ * many as its argument says, and prints what `dbus-wire check` prints of them. It keeps no bytes
+ * but those of a piece. */
 #include <dbus_wire.h>
 
 #include <stdio.h>
@@ -23,7 +24,8 @@ static int print_refusal(uint64_t offset, uint32_t reason, uint32_t field) {
     return 1;
 }
 
-/* Hands the checker the piece, message after message. The last answer, which is DBUS_WIRE_PARTIAL if no bytes of it are left. */
+/* Hands the checker the piece, message after message. The last answer, which is DBUS_WIRE_PARTIAL
+ * if no bytes of it are left. */
 static uint32_t take_all(struct dbus_wire_checker *checker, const uint8_t *piece, size_t length, struct count *count,
                          struct dbus_wire_taken *told) {
     for (;;) {

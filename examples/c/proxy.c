@@ -1,9 +1,10 @@
-/* Stands between clients and a bus: `proxy DOOR BUS RULE..` lets in clients of its own user at the Unix socket DOOR, a process for
- * each, and connects each to the bus at the Unix socket BUS. It is a server to the client and a client to the bus in the handshake,
- * and then passes messages on, in both directions, each validated. What a client sends that one of the match rules matches does not
- * get through: a call is answered by the error org.freedesktop.DBus.Error.AccessDenied. Bytes that are no message end the connection.
- * Messages have at most 1 MiB, and no file descriptors, which the handshake refuses. Writes block, so a peer that does not read
- * stops the other one. */
+/* Stands between clients and a bus: `proxy DOOR BUS RULE..` lets in clients of its own user at the
+ * Unix socket DOOR, a process for each, and connects each to the bus at the Unix socket BUS. It is
+ * a server to the client and a client to the bus in the handshake, and then passes messages on, in
+ * both directions, each validated. What a client sends that one of the match rules matches does not
+ * get through: a call is answered by the error org.freedesktop.DBus.Error.AccessDenied. Bytes that
+ * are no message end the connection. Messages have at most 1 MiB, and no file descriptors, which
+ * the handshake refuses. Writes block, so a peer that does not read stops the other one. */
 #include <dbus_wire.h>
 
 #include <poll.h>
@@ -42,7 +43,8 @@ static void write_all(const struct peer *to, const uint8_t *bytes, size_t length
     }
 }
 
-/* Reads more of what the peer sends, or ends if it sends no more. A message that fits is longer than what was read of it. */
+/* Reads more of what the peer sends, or ends if it sends no more. A message that fits is longer
+ * than what was read of it. */
 static void read_more(struct peer *from) {
     ssize_t count = read(from->socket, from->bytes + from->length, sizeof from->bytes - from->length);
     if (count <= 0) exit(0);

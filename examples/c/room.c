@@ -1,7 +1,7 @@
-/* Swaps each D-Bus message on standard input into fewer bytes than it has, into as many and into more:
- * DBUS_WIRE_NO_ROOM leaves the bytes as they were, and else those after the message stay as they were.
- * Flattens each from every place of its row on, with less room than the items have, as much and more,
- * and compares each piece with the whole row. Prints how many messages there are. */
+/* Swaps each D-Bus message on standard input into fewer bytes than it has, into as many and into
+ * more: DBUS_WIRE_NO_ROOM leaves the bytes as they were, and else those after the message stay as
+ * they were. Flattens each from every place of its row on, with less room than the items have, as
+ * much and more, and compares each piece with the whole row. Prints how many messages there are. */
 #include <dbus_wire.h>
 
 #include <stdio.h>

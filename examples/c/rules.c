@@ -1,6 +1,7 @@
-/* Writes those D-Bus messages on standard input that a match rule matches, as `dbus-wire filter RULE` does: the first word is the
- * rule, and each further one an owner of a name, as org.a.B=:1.7. The exit status is 2 if the rule is refused, and 1 if the input is.
- * The rule's canonical text has to make the rule that it is of. */
+/* Writes those D-Bus messages on standard input that a match rule matches, as
+ * `dbus-wire filter RULE` does: the first word is the rule, and each further one an owner of a
+ * name, as org.a.B=:1.7. The exit status is 2 if the rule is refused, and 1 if the input is. The
+ * rule's canonical text has to make the rule that it is of. */
 #include <dbus_wire.h>
 
 #include <stdio.h>

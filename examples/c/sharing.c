@@ -1,6 +1,7 @@
-/* Asks which of the match rules that the words spell match each D-Bus message on standard input: by threads at the same time, each by
- * a struct of its own over the same rules. Says what does not hold of them, and how many matches each thread found. The exit status is 3
- * if memory runs out, and 2 if a rule is refused. */
+/* Asks which of the match rules that the words spell match each D-Bus message on standard input: by
+ * threads at the same time, each by a struct of its own over the same rules. Says what does not
+ * hold of them, and how many matches each thread found. The exit status is 3 if memory runs out,
+ * and 2 if a rule is refused. */
 #include <dbus_wire.h>
 
 #include "expect.h"
@@ -55,7 +56,8 @@ static void out_of_memory(void) {
     exit(3);
 }
 
-/* Shares the rules, or ends. Rules that could not be shared may still be changed, and the other struct has what it had. */
+/* Shares the rules, or ends. Rules that could not be shared may still be changed, and the other
+ * struct has what it had. */
 static void share(struct dbus_wire_rules *rules, struct dbus_wire_rules *other, int may_change) {
     void *had = other->inner;
     struct dbus_wire_rule_id id;

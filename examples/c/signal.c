@@ -1,5 +1,6 @@
-/* Writes a signal PropertiesChanged to standard output. Each pair of words is a property of it and what it is now: a number, an UINT32,
- * or another text, a STRING. Its body, "sa{sv}as", is spelled by the calls of a writer. */
+/* Writes a signal PropertiesChanged to standard output. Each pair of words is a property of it and
+ * what it is now: a number, an UINT32, or another text, a STRING. Its body, "sa{sv}as", is spelled
+ * by the calls of a writer. */
 #include <dbus_wire.h>
 
 #include <stdio.h>
@@ -29,7 +30,8 @@ static int put_property(const char *name, const char *now) {
     return begin_variant("u") && dbus_wire_put_number(bytes, sizeof bytes, &body, 4, number) == DBUS_WIRE_OK;
 }
 
-/* The interface, the properties that changed, and the names of those of which it is not told: none. */
+/* The interface, the properties that changed, and the names of those of which it is not told:
+ * none. */
 static int put_body(int count, char **words) {
     struct dbus_wire_array array;
 
@@ -41,7 +43,8 @@ static int put_body(int count, char **words) {
         && dbus_wire_close_array(bytes, sizeof bytes, &body, &array) == DBUS_WIRE_OK;
 }
 
-/* Puts a text of the header at the end of `length` bytes, which have room for it, and returns its place. */
+/* Puts a text of the header at the end of `length` bytes, which have room for it, and returns its
+ * place. */
 static struct dbus_wire_text put(size_t *length, const char *text) {
     struct dbus_wire_text place = {*length, strlen(text), 1};
     memcpy(bytes + *length, text, place.length);

@@ -1,5 +1,5 @@
-/* Writes the D-Bus messages on standard input in the byte order that the first word names, `l` or `B`, as `dbus-wire swap --to`
- * does. Each message has as many bytes as before. */
+/* Writes the D-Bus messages on standard input in the byte order that the first word names, `l` or
+ * `B`, as `dbus-wire swap --to` does. Each message has as many bytes as before. */
 #include <dbus_wire.h>
 
 #include <stdio.h>

@@ -1,5 +1,6 @@
-/* Reads lines `KIND BYTES` from standard input, a number of DBUS_WIRE_TEXT_ and hexadecimal digits, and writes for each what
- * dbus_wire_text_check says of these bytes: `accepted`, `bad OFFSET`, `too long` or `no kind`. */
+/* Reads lines `KIND BYTES` from standard input, a number of DBUS_WIRE_TEXT_ and hexadecimal digits,
+ * and writes for each what dbus_wire_text_check says of these bytes: `accepted`, `bad OFFSET`,
+ * `too long` or `no kind`. */
 #include <dbus_wire.h>
 
 #include <stdio.h>

@@ -1,5 +1,6 @@
-/* Checks the D-Bus messages on standard input by two checkers on two threads, in pieces of two lengths, and then once more after
- * each checker went to the other thread. Says what does not hold of them, and of the answers of calls on no checker. */
+/* Checks the D-Bus messages on standard input by two checkers on two threads, in pieces of two
+ * lengths, and then once more after each checker went to the other thread. Says what does not hold
+ * of them, and of the answers of calls on no checker. */
 #include <dbus_wire.h>
 
 #include "expect.h"

@@ -1,5 +1,6 @@
-/* files NUMBER FILE..: tries each message in the files, what is after the last one, and NUMBER copies of each that are changed at
- * random, without libFuzzer. The changes are the same in every run. Prints how many inputs there were. */
+/* files NUMBER FILE..: tries each message in the files, what is after the last one, and NUMBER
+ * copies of each that are changed at random, without libFuzzer. The changes are the same in every
+ * run. Prints how many inputs there were. */
 #include "fuzz.h"
 
 #include <dbus_wire.h>

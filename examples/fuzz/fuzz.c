@@ -1,4 +1,5 @@
-/* What is tried of bytes: that the other parser says of them what dbus_wire_check says, and that the library's calls agree. */
+/* What is tried of bytes: that the other parser says of them what dbus_wire_check says, and that
+ * the library's calls agree. */
 #define _DEFAULT_SOURCE
 #include "fuzz.h"
 
@@ -77,7 +78,8 @@ static void add_value(struct seen *seen, uint32_t code, uint64_t number, const u
 typedef uint32_t flatten_call(const uint8_t *, size_t, const struct dbus_wire_limits *, size_t, struct dbus_wire_flat_item *, size_t,
                               uint64_t *);
 
-/* Goes over all items of a part of a message. Each has a place among the bytes, and what is within it comes after it. */
+/* Goes over all items of a part of a message. Each has a place among the bytes, and what is within
+ * it comes after it. */
 static void walk(flatten_call *flatten, const uint8_t *bytes, size_t length, struct seen *seen) {
     static struct dbus_wire_flat_item items[ROOM];
     uint64_t first, at, all;
@@ -121,7 +123,8 @@ static void try_pieces(const uint8_t *bytes, size_t length, uint32_t answer, con
            "and returns its fault");
 }
 
-/* The message in the other byte order has the same fields and values, and in its own the same bytes. */
+/* The message in the other byte order has the same fields and values, and in its own the same
+ * bytes. */
 static void try_message(const uint8_t *bytes, size_t length, const struct dbus_wire_checked *message) {
     static uint8_t swapped[MOST], again[MOST];
     struct dbus_wire_checked told;

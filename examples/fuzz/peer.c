@@ -1,6 +1,7 @@
-/* The other parser is libdbus, GDBus or sd-bus: link this with one of libdbus.c, gdbus.c and sdbus.c in cases/peers, and its library.
- * They look at a message once all of it is there, so that bytes of which they want more may be refused here. Where else they are known
- * to differ, docs/PEERS.md says; the first such bytes end the run. */
+/* The other parser is libdbus, GDBus or sd-bus: link this with one of libdbus.c, gdbus.c and
+ * sdbus.c in cases/peers, and its library. They look at a message once all of it is there, so that
+ * bytes of which they want more may be refused here. Where else they are known to differ,
+ * docs/PEERS.md says; the first such bytes end the run. */
 #include "../../cases/peers/peer.h"
 #include "fuzz.h"
 
