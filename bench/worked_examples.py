@@ -14,6 +14,7 @@ PAGE = ROOT / "docs" / "WORKED-EXAMPLES.md"
 VALUES = "dbus_value_model/proofs/WorkedExamples.antt"
 MESSAGES = "dbus_header/proofs/WorkedExamples.antt"
 EXAMPLE = re.compile(r"    -- (.*) \(\"(.*)\"\)\n    \((.*)\) ∷\n")
+COMMENT = re.compile(r"(?:    -- .*\n)+")
 BYTES = re.compile(r"((?:\d+ ∷ )*)\[\]")
 MOST = 72
 
@@ -35,7 +36,9 @@ def answer(text):
 
 
 def examples(file):
-    return EXAMPLE.findall((ROOT / "crates" / file).read_text())
+    """The examples of the file, each comment joined to one line."""
+    text = (ROOT / "crates" / file).read_text()
+    return EXAMPLE.findall(COMMENT.sub(lambda it: "    -- " + " ".join(line[7:] for line in it[0].splitlines()) + "\n", text))
 
 
 def value_row(said, section, pair):
