@@ -38,8 +38,8 @@ class Checker:
         self._free = weakref.finalize(self, library.dbus_wire_checker_free, byref(self._handle))
 
     def take(self, piece: Bytes) -> int | None:
-        """Takes the bytes that follow those that it has taken. Returns after how many of them the
-        message ends, or None if it goes on after all of them.
+        """Takes the bytes that follow those that it has taken. Returns the number of them up to the
+        message's end, or None if it goes on after them.
 
         Raises Refused if the bytes show a fault; its place counts from the message's first byte.
         After a message's end, which may be 0 bytes away, and after a fault it stays as it is until

@@ -6,7 +6,7 @@
 //! What the header asks of a pointer, Rust ensures of a reference. So a call is sound if it is
 //! handed these alone:
 //!
-//! * Of a slice its pointer and its length. The pointer is not null, and has so many readable
+//! * Of a slice its pointer and its length. The pointer is not null, and has that many readable
 //!   bytes, `isize::MAX` at most, which nothing writes as long as the slice is borrowed. Those of a
 //!   `&mut` slice may be written, and overlap no other argument.
 //! * References to structs of this module: they are not null, aligned and initialized, and a `&mut`
