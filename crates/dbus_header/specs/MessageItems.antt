@@ -1,7 +1,7 @@
 -- Trusted by the headline.
--- Trusted by the headline. The items of a message, in their order, and so its faults: the fixed
--- header, the header fields, their padding, the body. D-Bus Specification, "Message Format" and
--- "Header Fields"; docs/WIRE-FORMAT.md, "Messages" and "Faults".
+-- The items of a message, in their order, and so its faults: the fixed header, the header fields,
+-- their padding, the body. D-Bus Specification, "Message Format" and "Header Fields";
+-- docs/WIRE-FORMAT.md, "Messages" and "Faults".
 use Rattle.std.specs.Prelude.{◌≡◌, ℕ, ◌+◌, ◌-◌, List, ◌∷◌, false, ◌&&◌, if◌then◌else◌, nat_lt, nat_eq, Option, Some, None}
 use Rattle.dbus_texts.specs.Types.{UINT32, STRING, TypeTree, NumberType, TextType, TypeTrees, sig, sigs, AreShaped}
 use Rattle.dbus_value_model.specs.declared.limits.Limits.{Limits}

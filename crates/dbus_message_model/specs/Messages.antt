@@ -1,6 +1,6 @@
 -- Trusted by the headline.
--- Trusted by the headline. Messages as trees, their one spelling in either byte order, and which
--- are valid: the message relation. D-Bus Specification, "Message Format" and "Header Fields".
+-- Messages as trees, their one spelling in either byte order, and which are valid: the message
+-- relation. D-Bus Specification, "Message Format" and "Header Fields".
 use Rattle.std.specs.Prelude.{◌≡◌, ℕ, ◌+◌, ◌^◌, ◌<◌, ◌≤◌, List, [], ◌∷◌, ◌++◌, length, map, Bool, true, false, ◌||◌, ◌&&◌, nat_eq, if◌then◌else◌, Option, Some, None}
 use Rattle.dbus_texts.specs.Types.{BYTE, UINT32, STRING, OBJECT_PATH, SIGNATURE, TypeTree, NumberType, TextType, VariantType, StructType, NoTypes, MoreTypes, sigs}
 use Rattle.dbus_value_model.specs.FdIndexes.{index_limit, AreAllBelow}

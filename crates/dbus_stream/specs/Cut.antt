@@ -1,6 +1,6 @@
 -- Trusted by the headline.
--- Trusted by the headline. How a stream of bytes is cut into messages, which follow one another
--- with nothing between (D-Bus Specification, "Message Protocol").
+-- How a stream of bytes is cut into messages, which follow one another with nothing between (D-Bus
+-- Specification, "Message Protocol").
 use Rattle.std.specs.Prelude.{◌≡◌, ◌≢◌, ℕ, List, [], ◌∷◌, drop}
 use Rattle.dbus_value_model.specs.declared.order.Order.{Order}
 use Rattle.dbus_value_model.specs.declared.fault.Fault.{Fault}

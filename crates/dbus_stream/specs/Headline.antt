@@ -1,6 +1,6 @@
 -- Trusted by the headline.
--- Trusted by the headline. What reading and writing promise under limits, as one law over
--- `decode_within`, `encode` and the cutter. D-Bus Specification, "Message Protocol".
+-- What reading and writing promise under limits, as one law over `decode_within`, `encode` and the
+-- cutter. D-Bus Specification, "Message Protocol".
 use Rattle.std.specs.Prelude.{◌≡◌, ◌≢◌, ◌↔◌, ℕ, List, [], ◌∷◌, ◌++◌, length, take, Some, Vec, Result, Ok, Err, IfOk}
 use Rattle.std.specs.List.{concat}
 use Rattle.std.specs.declared.alloc.AllocError.{AllocError}

@@ -1,6 +1,6 @@
 -- Trusted by the headline.
--- Trusted by the headline. Object paths, member names, interface names, error names and bus names,
--- their limits on length aside. D-Bus Specification, "Valid Object Paths" and "Valid Names".
+-- Object paths, member names, interface names, error names and bus names, their limits on length
+-- aside. D-Bus Specification, "Valid Object Paths" and "Valid Names".
 use Rattle.std.specs.Prelude.{◌≡◌, ℕ, Bool, ◌||◌, ◌⊎◌, List, [], ◌∷◌, ◌++◌, IsTrue, ◌==◌}
 use Rattle.std.specs.List.{AllByRecursion}
 use Rattle.std.specs.Char.{is_ascii_alphabetic, is_ascii_alphanumeric}

@@ -1,6 +1,6 @@
 -- Trusted by the headline.
--- Trusted by the headline. The tree that a `Value` stands for. A signed number is seen as its two's
--- complement, a DOUBLE as its 64 bits. D-Bus Specification, "Marshaling (Wire Format)".
+-- The tree that a `Value` stands for. A signed number is seen as its two's complement, a DOUBLE as
+-- its 64 bits. D-Bus Specification, "Marshaling (Wire Format)".
 use Rattle.std.specs.Prelude.{ℕ, List, map, string_bytes, if◌then◌else◌}
 use Rattle.std.specs.Int.{cast_unsigned, w16, w32, w64}
 use Rattle.dbus_texts.specs.Types.{NumberType, BYTE, BOOLEAN, INT16, UINT16, INT32, UINT32, INT64, UINT64, DOUBLE, UNIX_FD, STRING, OBJECT_PATH, SIGNATURE}
