@@ -73,11 +73,11 @@ def put(out, one, value):
         put_all(out, one[1:-1], value)
 
 
-def signal(serial, types, values):
+def signal(serial, types, values, fields=FIELDS):
     body = bytearray()
     put_all(body, types, values)
     out = bytearray(struct.pack("<cBBBII", b"l", 4, 0, 1, len(body), serial))
-    put(out, "a(yv)", [*FIELDS, (8, ("g", types))])
+    put(out, "a(yv)", [*fields, (8, ("g", types))])
     align(out, 8)
     return bytes(out + body)
 
@@ -175,4 +175,5 @@ def main():
                 written += file.write(shape(serial))
 
 
-main()
+if __name__ == "__main__":
+    main()

@@ -6,7 +6,7 @@ ghost use Rattle.dbus_view.specs.Views.{Views};
 ghost use Rattle.dbus_match.specs.Matching.{ownerships};
 ghost use Rattle.cli_options.specs.Selections.{IsByRule, Selects, SelectsBy, SomeMatches};
 
-use dbus_match::{Owner, Rule, matches_view};
+use dbus_match::{Matcher, Owner, Rule};
 use dbus_view::MessageView;
 use std::alloc::{AllocError, Global};
 
@@ -64,8 +64,9 @@ fn some_matches(rules: &[Rule], view: &MessageView, owners: &[Owner]) -> bool
     ensures { (order : Order) (m : MessageTree) → Views view.now order m →
         IsTrue result ↔ SomeMatches rules.now m (ownerships owners.now) }
 {
+    let mut matcher = Matcher::new(view, owners);
     for rule in rules {
-        if matches_view(rule, view, owners) {
+        if matcher.matches(rule) {
             return true;
         }
     }

@@ -32,5 +32,7 @@ pub mod Escapes
 pub mod RuleTexts
 pub mod RuleVerdicts
 pub mod MatchingLists
+pub mod Spans
+pub mod Alike
 pub mod PairChoices
 pub mod SomeReading

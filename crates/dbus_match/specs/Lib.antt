@@ -6,6 +6,7 @@ pub mod Readings
 pub mod Cuts
 pub mod Faults
 pub mod Matching
+pub mod Matchers
 pub mod Laws
 pub mod KeyReadings
 pub mod Conditions

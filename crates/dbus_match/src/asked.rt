@@ -3,6 +3,7 @@
 
 ghost use Rattle.std.specs.Prelude.{◌≡◌, ◌⊎◌, ◌↔◌, Some, IsTrue, MatchOption, string_bytes};
 ghost use Rattle.dbus_match.specs.Matching.{IsInNamespace, IsOwned, IsWithin, PathsMeet, ownerships, type_name};
+ghost use Rattle.dbus_match.specs.Matchers.{OwnsAlike};
 
 use crate::compare::paths_meet;
 use crate::owner::Owner;
@@ -42,6 +43,26 @@ fn is_owned<A: Allocator>(owners: &[Owner<A>], name: &str, unique: &str) -> bool
         }
     }
     false
+}
+
+/// The owners from the first of the unique name to the last.
+pub(crate) fn span_of<'a, A: Allocator>(owners: &'a [Owner<A>], unique: &str) -> &'a [Owner<A>]
+    ensures { OwnsAlike unique.now (ownerships result.now) (ownerships owners.now) }
+{
+    let mut span = owners;
+    while let Some((first, rest)) = span.split_first() {
+        if first.unique.as_str() == unique {
+            break;
+        }
+        span = rest;
+    }
+    while let Some((last, rest)) = span.split_last() {
+        if last.unique.as_str() == unique {
+            break;
+        }
+        span = rest;
+    }
+    span
 }
 
 /// Whether the text is there and is the value.

@@ -18,6 +18,7 @@ mod fault_text;
 mod key;
 mod key_name;
 pub mod laws;
+mod matcher;
 mod matching;
 mod owner;
 mod pair;
@@ -32,6 +33,7 @@ mod view_matching;
 mod within;
 
 pub use fault::{RuleFault, RuleReason};
+pub use matcher::Matcher;
 pub use matching::matches;
 pub use owner::Owner;
 pub use parse::parse_rule;

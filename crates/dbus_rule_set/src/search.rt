@@ -14,7 +14,7 @@ ghost use Rattle.dbus_rule_set.specs.Held.{Collects, EntryMatches};
 use crate::bucket::{bucket_hash, view_numbers};
 use crate::handle::RuleHandle;
 use crate::masks::Masks;
-use dbus_match::{Owner, Rule, matches_view};
+use dbus_match::{Matcher, Owner, Rule};
 use dbus_view::MessageView;
 use std::alloc::{AllocError, Allocator};
 use std::collections::BTreeMap;
@@ -24,16 +24,16 @@ use std::collections::btree_map::Range;
 #[tactic(auto, using(crate::proofs::Begins::begins_push))]
 fn ask_each<A: Allocator>(
     rules: Range<'_, RuleHandle, Rule<A>>,
-    view: &MessageView,
-    owners: &[Owner<A>],
+    matcher: &mut Matcher<'_, A>,
     found: &mut Vec<RuleHandle, A>,
 ) -> Result<(), AllocError>
-    ensures found { (order : Order) (m : MessageTree) → Views view.now order m →
-        OnOk result (Collects (EntryMatches m (ownerships owners.now)) rules.entry found.old.items found.new.items) }
+    ensures found { (order : Order) (m : MessageTree) → Views matcher.old.view order m →
+        OnOk result (Collects (EntryMatches m matcher.old.owners) rules.entry found.old.items found.new.items) }
     ensures kept { take (length found.old.items) found.new.items ≡ found.old.items }
+    ensures same { matcher.new ≡ matcher.old }
 {
     for (handle, rule) in rules {
-        if matches_view(rule, view, owners) {
+        if matcher.matches(rule) {
             found.push(*handle)?;
         }
     }
@@ -58,6 +58,7 @@ pub(crate) fn search<A: Allocator>(
     ensures kept { take (vec_len found.old) found.new.items ≡ found.old.items }
 {
     let numbers = view_numbers(view);
+    let mut matcher = Matcher::new(view, owners);
     for mask in 0..16u8 {
         if !masks.has(mask) {
             continue;
@@ -73,7 +74,7 @@ pub(crate) fn search<A: Allocator>(
             hash,
             number: given,
         };
-        ask_each(rules.range(first..end), view, owners, found)?;
+        ask_each(rules.range(first..end), &mut matcher, found)?;
     }
     Ok(())
 }

@@ -1,7 +1,6 @@
 use Rattle.std.proofs.Common.{◌≡◌, [], refl, sym, subst}
 use Rattle.std.specs.Map.Iter.{deref_pair}
 use Rattle.std.proofs.lemmas.Map.Iter.{rest_all}
-use Rattle.dbus_match.specs.Matching.{ownerships}
 use Rattle.dbus_rule_set.specs.Held.{Collects, EntryMatches}
 use Rattle.dbus_rule_set.proofs.search.ask_each.Goals as goal
 
@@ -9,4 +8,4 @@ pub returns-clause-found : goal.returns-clause-found
 returns-clause-found g c = λ order m v.
     let found = c.loop-handle.found.items in
     let none : c.loop-handle.handle-iterator ≡ [] = rest_all deref_pair c.loop-handle.handle-iterator c.next.new.self c.next.result c.in-None.is c.next.ensures.steps in
-    c.loop-handle.invariant.found order m v found (subst (λ es. Collects (EntryMatches m (ownerships c.args.owners.now)) es found found) (sym none) refl)
+    c.loop-handle.invariant.found order m v found (subst (λ es. Collects (EntryMatches m c.args.matcher.now.owners) es found found) (sym none) refl)

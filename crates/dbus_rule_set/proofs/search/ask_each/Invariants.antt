@@ -2,7 +2,6 @@ use Rattle.std.proofs.Common.{◌≡◌, List, take, length}
 use Rattle.dbus_value_model.specs.declared.order.Order.{Order}
 use Rattle.dbus_message_model.specs.Messages.{MessageTree}
 use Rattle.dbus_view.specs.Views.{Views}
-use Rattle.dbus_match.specs.Matching.{ownerships}
 use Rattle.dbus_rule_set.specs.declared.handle.RuleHandle.{RuleHandle}
 use Rattle.dbus_rule_set.specs.Held.{Collects, EntryMatches}
 use Rattle.dbus_rule_set.proofs.search.ask_each.Given as goal
@@ -11,6 +10,7 @@ use Rattle.dbus_rule_set.proofs.search.ask_each.Given as goal
 abbrev pub invariant-loop-handle : goal.invariant-loop-handle
 invariant-loop-handle g l =
     record {
-      found : (order : Order) (m : MessageTree) → Views l.view order m → (end : List RuleHandle) → Collects (EntryMatches m (ownerships l.owners)) l.handle-iterator l.found.items end → Collects (EntryMatches m (ownerships l.owners)) l.fn.rules l.fn.found.items end;
+      found : (order : Order) (m : MessageTree) → Views l.fn.matcher.view order m → (end : List RuleHandle) → Collects (EntryMatches m l.fn.matcher.owners) l.handle-iterator l.found.items end → Collects (EntryMatches m l.fn.matcher.owners) l.fn.rules l.fn.found.items end;
       kept : take (length l.fn.found.items) l.found.items ≡ l.fn.found.items;
+      same : l.matcher ≡ l.fn.matcher;
     }

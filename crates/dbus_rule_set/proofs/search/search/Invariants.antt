@@ -11,6 +11,7 @@ use Rattle.dbus_rule_set.proofs.search.search.Given as goal
 abbrev pub invariant-loop-mask : goal.invariant-loop-mask
 invariant-loop-mask g l =
     record {
-      found : (order : Order) (m : MessageTree) → Views l.view order m → Collects (Below (EntryMatches m (ownerships l.owners)) l.mask) l.rules.entries l.fn.found.items l.found.items;
+      found : (order : Order) (m : MessageTree) → Views l.fn.view order m → Collects (Below (EntryMatches m (ownerships l.owners)) l.mask) l.rules.entries l.fn.found.items l.found.items;
       kept : take (length l.fn.found.items) l.found.items ≡ l.fn.found.items;
+      matcher : l.matcher ≡ record { view = l.fn.view; owners = ownerships l.owners };
     }
