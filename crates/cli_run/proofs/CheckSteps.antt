@@ -1,113 +1,123 @@
--- How `check` ends: it counts the messages, and writes one line.
-use Rattle.std.proofs.Common.{◌≡◌, ℕ, List, [], ◌∷◌, Err, Option, length, take, drop, refl, sym, ap, ◌∙◌, subst, take-append-drop, inl, inr}
-use Rattle.std.specs.Io.KnownBytes.{Appends}
-use Rattle.std.proofs.KnownBytes.{Appends-nil}
-use Rattle.dbus_device.specs.Write.{Wrote}
-use Rattle.dbus_stream.specs.Cut.{CutMessage, IsCut, CutOutcome}
-use Rattle.dbus_stream.specs.CutEnds.{fault_at_end, sizes}
-use Rattle.dbus_stream.proofs.CutLaws.{IsCut-one}
-use Rattle.dbus_value_model.specs.declared.limits.Limits.{Limits}
+-- How `check` ends if it counts the messages, and writes one line.
+use Rattle.std.proofs.Common.{◌≡◌, ℕ, true, List, [], ◌∷◌, ◌++◌, Ok, Err, None, Some, Option, take, drop, refl, sym, ap, subst, take-append-drop, append-nil, inl, inr}
+use Rattle.dbus_value_model.specs.declared.fault.Fault.{Fault}
+use Rattle.dbus_device.specs.Write.{Wrote, Stopped}
 use Rattle.cli_options.specs.declared.command.Command.TheVariants.{Check}
-use Rattle.cli_run.specs.Checking.{WritesBefore, Answers, Fails, IsCause}
+use Rattle.cli_options.specs.declared.settings.Settings.{Settings}
+use Rattle.cli_run.specs.ByName.{IsUnwritten}
 use Rattle.cli_run.specs.Closing.{WritesLine}
-use Rattle.cli_run.specs.Counting.{CountsAll, CountsSome}
-use Rattle.cli_report.specs.Devices.{Taken, reading, taken}
-use Rattle.cli_run.specs.Inputs.{Placed, placed, wholes}
-use Rattle.cli_run.specs.Output.{IsFront, IsOutputOfAll, check_line, status_of}
-use Rattle.cli_report.specs.Gathering.{IsPrefixTo}
+use Rattle.cli_run.specs.Counting.{Tallies}
+use Rattle.cli_run.specs.Going.{IsMore, IsStopOf, StopsWithin}
+use Rattle.cli_run.specs.Inputs.{Placed, placed}
+use Rattle.cli_run.specs.Output.{IsOutputOfAll, check_line, fault_line, status_of}
+use Rattle.cli_run.specs.Parts.{closing_line}
+use Rattle.cli_run.specs.Running.{RunsWith, Writes, WritesSome}
+use Rattle.cli_run.specs.Told.{GotFirst, GotSecond, TellsStop}
+use Rattle.cli_run.specs.ToldLaws.{wrote_nothing}
+use Rattle.cli_report.specs.Devices.{Taken, Writing, reading, taken, writing}
+use Rattle.cli_report.specs.Failing.{Told}
 use Rattle.cli_report.specs.declared.ending.ExitStatus.{ExitStatus}
+use Rattle.cli_report.specs.declared.ending.ExitStatus.TheVariants as status
 use Rattle.cli_report.specs.declared.ending.Cause.{Cause}
 use Rattle.cli_report.specs.declared.ending.Cause.TheVariants.{Memory, ReadFailed, WriteFailed, TooManyReads}
 use Rattle.cli_run.specs.declared.counted.Counted.{Counted}
-use Rattle.cli_run.proofs.Outputs.{front_of_whole}
-use Rattle.cli_run.specs.ToldLaws.{wrote_nothing}
+use Rattle.cli_run.specs.declared.tally.Tally.{Tally}
+use Rattle.cli_run.specs.declared.visitor.Stop.{Stop}
+use Rattle.cli_run.specs.declared.visitor.Stop.TheVariants.{Cause as ByCause, Untold}
+use Rattle.cli_run.proofs.EndSteps.{stops_as}
 
 -- `check` writes nothing of a message
 no_output : (items : List Placed) → IsOutputOfAll Check [] items []
 no_output [] = refl
 no_output (m ∷ items) = ([], [], refl, inr (λ never. never, refl), no_output items)
 
-module _ {R W : Type 0} (left : R → Option (List ℕ)) (calls read_failures : R → ℕ) (held : W → Option (List ℕ)) (write_failures : W → ℕ) (limits : Limits) (most : ℕ)
-    (r0 r1 : R) (w0 : W) where
+abbrev tally_of : Counted → Tally
+tally_of counted = record { count = counted.count; size = counted.size; passed = 0; passed_size = 0 }
+
+-- the line of the fault, or the last line
+line_is : (t : Tally) (fault : Option Fault) → check_line t.count t.size fault ≡ fault_line t.size fault ++ closing_line true t 0 fault
+line_is t None = refl
+line_is t (Some fault) = sym (append-nil (fault_line t.size (Some fault)))
+
+module _ {R W E : Type 0} (left : R → Option (List ℕ)) (calls read_failures : R → ℕ) (held : W → Option (List ℕ)) (write_failures : W → ℕ) (second_held : E → Option (List ℕ)) (second_failures : E → ℕ)
+    (settings : Settings) (most : ℕ) (r0 r1 : R) (w0 w1 : W) (e0 : E) where
   abbrev Took : Taken
   Took = taken (reading left calls read_failures r0 r1)
 
+  abbrev w : Writing W
+  w = writing held write_failures w0 w1
+
+  abbrev e : Writing E
+  e = writing second_held second_failures e0 e0
+
+  abbrev Ends : E → ExitStatus → Type 0
+  Ends e1 end = RunsWith (reading left calls read_failures r0 r1) w (writing second_held second_failures e0 e1) settings most Check end
+
+  abbrev Within : Stop → Type 0
+  Within stop = StopsWithin Took settings most true (WritesSome w e settings Check) stop
+
+  stops : (stop : Stop) (e1 : E) (end : ExitStatus) → end ≡ status.Failed → TellsStop second_held second_failures true stop e0 e1 → Within stop → Ends e1 end
+  stops stop e1 end failed tells within = inr (record { failed = failed; stop = stop; before = e0; within = within; tells = tells })
+
+  unwritten : w1 ≡ w0 → Wrote held write_failures w0 [] w1
+  unwritten same = subst (λ (w : W). Wrote held write_failures w0 [] w) (sym same) (wrote_nothing held write_failures w0)
+
+  -- nothing was written, since reading was given up
+  got_none : (cause : Cause) → IsUnwritten (ByCause cause) → w1 ≡ w0 → GotFirst held write_failures true (ByCause cause) [] w0 w1
+  got_none Memory never same = unwritten same
+  got_none ReadFailed never same = unwritten same
+  got_none WriteFailed never same = absurd never
+  got_none TooManyReads never same = unwritten same
+
+  wrote_none : (cause : Cause) → w1 ≡ w0 → (items : List Placed) (told : List ℕ) → IsUnwritten (ByCause cause) × (told ≡ []) → WritesSome w e settings Check items told (ByCause cause)
+  wrote_none cause same items told none = record {
+    texts = [];
+    made = no_output items;
+    first = subst (λ (l : List ℕ). GotFirst held write_failures true (ByCause cause) l w0 w1) (sym none.1) (got_none cause none.0 same);
+    second = wrote_nothing second_held second_failures e0;
+  }
+
+  pub gave_up : (cause : Cause) → w1 ≡ w0 → Tallies Took settings most (Err cause) → (e1 : E) (end : ExitStatus) → end ≡ status.Failed → Told second_held second_failures e0 e1 cause → Ends e1 end
+  gave_up cause same s e1 end failed told = stops (ByCause cause) e1 end failed told (stops_as (wrote_none cause same) s)
+
   -- all messages were counted
-  module _ (w1 : W) (counted : Counted) (a : CountsAll Took limits most counted) where
+  module _ (counted : Counted) (t : Tallies Took settings most (Ok counted)) where
+    abbrev text : List ℕ
+    text = fault_line counted.size counted.fault
+
+    abbrev all : List ℕ
+    all = text ++ closing_line true (tally_of counted) 0 counted.fault
+
     abbrev line : List ℕ
     line = check_line counted.count counted.size counted.fault
 
-    line_is : line ≡ check_line (length a.items) (sizes a.items) (fault_at_end a.rest a.outcome)
-    line_is = λ i. check_line (a.count_is i) (a.size_is i) (a.fault_is i)
+    -- the line was written, and the second writer got nothing
+    pub line_written : (end : ExitStatus) → Wrote held write_failures w0 line w1 → end ≡ status_of counted.fault → Ends e0 end
+    line_written end wrote end_is =
+        let first = subst (λ (l : List ℕ). Wrote held write_failures w0 l w1) (line_is (tally_of counted) counted.fault) wrote in
+        let came : Writes w e settings Check (placed 1 0 t.parts) all = record { texts = []; made = no_output (placed 1 0 t.parts); first = first; second = wrote_nothing second_held second_failures e0 } in
+        inl (record { tally = tally_of counted; fault = counted.fault; told = []; text = text; through = t; came = came; end_is = end_is })
 
-    -- a prefix of the line was written
-    front_of_line : (written : List ℕ) → IsPrefixTo written line → (items : List CutMessage) (rest : List ℕ) (outcome : CutOutcome) → IsCut limits a.bytes items rest outcome
-        → IsFront Check items (fault_at_end rest outcome) written
-    front_of_line written front items rest outcome cut =
-        let one = IsCut-one limits a.bytes a.items items a.rest rest a.outcome outcome a.cut cut in
-        let same : line ≡ check_line (length items) (sizes items) (fault_at_end rest outcome)
-        = line_is ∙ (λ i. check_line (length (one.0 i)) (sizes (one.0 i)) (fault_at_end (one.1 i) (one.2 i))) in
-        front_of_whole Check items (fault_at_end rest outcome) [] written (no_output (placed 1 0 (wholes items))) (front.0, sym same ∙ front.1)
-
-    line_front : (cause : Cause) (written : List ℕ) → Appends (held w0) (held w1) written → IsPrefixTo written line → WritesBefore limits Check cause a.bytes written
-        → IsCause left calls read_failures held write_failures limits most Check r0 r1 w0 w1 cause
-        → Fails left calls read_failures held write_failures limits most Check cause r0 r1 w0 w1
-    line_front cause written appended front before caused = record {
-      bytes = a.bytes;
-      written = written;
-      consumed = a.consumed;
-      called = a.called;
-      appended = appended;
-      front = front_of_line written front;
-      before = before;
+    -- or not all of it
+    within : (stop : Stop) (more : List ℕ) → IsMore Took settings most true stop t.parts t.rest more → IsStopOf Took settings most true stop → GotFirst held write_failures true stop more w0 w1
+        → GotSecond second_held second_failures true stop [] e0 e0 → Within stop
+    within stop more due caused first second = record {
+      parts = t.parts;
+      rest = t.rest;
+      told = [];
+      covers = t.covers;
+      more = more;
+      all = due;
       caused = caused;
+      came = record { texts = []; made = no_output (placed 1 0 t.parts); first = first; second = second };
     }
 
-    -- the line was not written
-    pub line_not : (cause : Cause) → WritesLine held write_failures line w0 w1 (Err cause) → Fails left calls read_failures held write_failures limits most Check cause r0 r1 w0 w1
-    line_not Memory same = line_front Memory [] (subst (λ (w : W). Appends (held w0) (held w) []) (sym same) (Appends-nil (held w0))) (line, refl) tt (a.failed, ap write_failures same)
-    line_not ReadFailed c = absurd c
-    line_not WriteFailed (n, s) = line_front WriteFailed (take n line) s.appended (drop n line, sym (take-append-drop n line)) tt (a.failed, s.failed)
-    line_not TooManyReads c = absurd c
-
-    -- it was, and the second writer got nothing
-    pub line_written : {E : Type 0} (second_held : E → Option (List ℕ)) (second_failures : E → ℕ) (e : E) (end : ExitStatus) → Wrote held write_failures w0 line w1 → end ≡ status_of counted.fault
-        → Answers left calls read_failures held write_failures limits most Check second_held second_failures r0 r1 w0 w1 e e end
-    line_written second_held second_failures e end wrote end_is = record {
-      bytes = a.bytes;
-      items = a.items;
-      rest = a.rest;
-      outcome = a.outcome;
-      out = line;
-      consumed = a.consumed;
-      called = a.called;
-      read_failed = a.failed;
-      cut = a.cut;
-      at_end = a.at_end;
-      output = record { texts = []; each = no_output (placed 1 0 (wholes a.items)); joined = line_is };
-      first = wrote;
-      second = inl (wrote_nothing second_held second_failures e, end_is ∙ ap status_of a.fault_is);
-    }
-
-  some_counted : (cause : Cause) (s : CountsSome Took limits most cause) → WritesBefore limits Check cause s.bytes [] → IsCause left calls read_failures held write_failures limits most Check r0 r1 w0 w0 cause
-      → Fails left calls read_failures held write_failures limits most Check cause r0 r1 w0 w0
-  some_counted cause s before caused = record {
-    bytes = s.bytes;
-    written = [];
-    consumed = s.consumed;
-    called = s.called;
-    appended = Appends-nil (held w0);
-    front = λ items rest outcome _. front_of_whole Check items (fault_at_end rest outcome) [] [] (no_output (placed 1 0 (wholes items))) (check_line (length items) (sizes items) (fault_at_end rest outcome), refl);
-    before = before;
-    caused = caused;
-  }
-
-  -- reading was given up
-  pub gave_up : (cause : Cause) → CountsSome Took limits most cause → Fails left calls read_failures held write_failures limits most Check cause r0 r1 w0 w0
-  gave_up Memory s = some_counted Memory s tt (s.caused, refl)
-  gave_up ReadFailed s =
-      some_counted ReadFailed s (record { items = s.items; rest = s.rest; messages = s.messages; partial = s.caused.0; texts = []; output = no_output (placed 1 0 (wholes s.items)); written_is = refl }) (s.caused.1, refl)
-  gave_up WriteFailed s = absurd s.caused
-  gave_up TooManyReads s =
-      some_counted TooManyReads s (record { items = s.items; rest = s.rest; messages = s.messages; partial = s.caused.0; texts = []; output = no_output (placed 1 0 (wholes s.items)); written_is = refl })
-      (s.caused.1, refl, s.caused.2)
+    pub line_not : (cause : Cause) → WritesLine held write_failures line w0 w1 (Err cause) → (e1 : E) (end : ExitStatus) → end ≡ status.Failed → Told second_held second_failures e0 e1 cause → Ends e1 end
+    line_not Memory same e1 end failed told = stops (ByCause Memory) e1 end failed told (within (ByCause Memory) [] (inl refl) t.read_failed (unwritten same) (wrote_nothing second_held second_failures e0))
+    line_not ReadFailed c e1 end failed told = absurd c
+    line_not WriteFailed (n, half) e1 end failed told =
+        let s = subst (λ (l : List ℕ). Stopped held write_failures w0 l n w1) (line_is (tally_of counted) counted.fault) half in
+        let due = inr (t.last, ap (λ (x : Tally). text ++ closing_line true x x.passed counted.fault) t.tally_is) in
+        stops Untold e1 end failed told (within Untold all (t.kept, counted.fault, text, t.tells, due) t.read_failed
+        (record { written = take n all; appended = s.appended; front = (drop n all, sym (take-append-drop n all)); failed = s.failed }) (wrote_nothing second_held second_failures e0))
+    line_not TooManyReads c e1 end failed told = absurd c

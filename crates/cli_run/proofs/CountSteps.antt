@@ -1,25 +1,40 @@
 -- The messages of a source are counted as if they were handed to a visitor that makes nothing of
 -- them.
-use Rattle.std.proofs.Common.{◌≡◌, ℕ, List, [], Option, Result, Ok, Err, inl, inr, arith, subst}
+use Rattle.std.proofs.Common.{◌≡◌, ℕ, ◌+◌, Bool, false, true, List, [], Option, None, Some, Result, Ok, Err, length, refl, sym, ap, ◌∙◌, inl, inr, arith, subst}
+use Rattle.std.specs.Io.KnownBytes.{IsAtEnd}
+use Rattle.std.proofs.lemmas.Bool.{false≢true, or_parts}
+use Rattle.dbus_value_model.specs.declared.fault.Fault.{Fault}
+use Rattle.dbus_value_model.specs.declared.limits.Limits.{Limits}
 use Rattle.dbus_device.specs.Device.{RisesBy}
 use Rattle.dbus_stream.specs.CheckReading.{CheckAnswers, CheckReader, limits_of}
-use Rattle.dbus_stream.specs.Cut.{CutMessage}
+use Rattle.dbus_stream.specs.Cut.{CutMessage, CutOutcome, Ended, Unfinished, Refused}
+use Rattle.dbus_stream.specs.CutEnds.{sizes}
 use Rattle.dbus_stream.specs.Lengths.{lengths}
 use Rattle.dbus_stream.specs.Reading.{IsNewReader, most_reads_of, source_of}
 use Rattle.dbus_stream.specs.declared.read_fault.ReadFault.{ReadFault}
 use Rattle.dbus_stream.specs.declared.read_fault.ReadFault.TheVariants as read
 use Rattle.dbus_stream.proofs.NextSteps.{both_ways}
+use Rattle.cli_options.specs.Windows.{ask_more}
+use Rattle.cli_options.specs.declared.settings.Settings.{Settings}
 use Rattle.cli_run.specs.ByName.{IsUnwritten}
-use Rattle.cli_run.specs.Counting.{CountsSome, StopsCounting, Tallies}
-use Rattle.cli_report.specs.Devices.{RisesAtMost, Taken, reading, taken}
+use Rattle.cli_run.specs.Counting.{Tallies}
+use Rattle.cli_run.specs.Going.{Covers, IsMore, IsStopOf}
 use Rattle.cli_run.specs.Onward.{HasRead, HandsOn, HandsSomeOn}
-use Rattle.cli_run.specs.Inputs.{Placed}
+use Rattle.cli_run.specs.Inputs.{IsLast, Placed, sizes_of, wholes}
+use Rattle.cli_run.specs.Output.{fault_line}
+use Rattle.cli_run.specs.Parts.{IsToldLast}
 use Rattle.cli_run.specs.Visiting.{AddsUp}
+use Rattle.cli_report.specs.Devices.{Taken, reading, taken}
+use Rattle.cli_report.specs.Telling.{IsToldBy, line_of}
+use Rattle.cli_report.specs.declared.telling.Refusal.{Refusal}
 use Rattle.cli_report.specs.declared.ending.Cause.{Cause}
 use Rattle.cli_report.specs.declared.ending.Cause.TheVariants.{Memory, ReadFailed, WriteFailed, TooManyReads}
 use Rattle.cli_run.specs.declared.counted.Counted.{Counted}
 use Rattle.cli_run.specs.declared.visitor.Stop.{Stop}
+use Rattle.cli_run.specs.declared.visitor.Stop.TheVariants.{Cause as ByCause}
+use Rattle.cli_run.proofs.GoSteps.{wholes_tally}
 use Rattle.cli_run.proofs.HandSteps.{Faults}
+use Rattle.cli_run.proofs.PartLaws.{parts_of, sizes-wholes, told_of}
 
 -- what the counting keeps of messages is their number, which the loop counts
 abbrev pub counts : (a b : Unit {0}) → List Placed → (told : List ℕ) → Type 0
@@ -43,44 +58,74 @@ check_faults w mid new (read.Format fault) a = (a.0, elim a.2 [ inl refused ↦ 
 check_faults w mid new read.Device a = a.2
 check_faults w mid new read.TooManyReads a = (a.2, a.3)
 
+-- nothing is told of the fault but its line
+told_last : (settings : Settings) (n offset : ℕ) (kept : List ℕ) (fault : Option Fault) → settings.explains ≡ false → settings.keeps_going ≡ false
+    → IsToldLast settings n offset kept fault (fault_line offset fault)
+told_last settings n offset kept None explains halts = refl
+told_last settings n offset kept (Some fault) explains halts =
+    let refusal : Refusal = record { number = n; offset = offset; fault = fault } in
+    subst (λ (b : Bool). IsToldBy settings.keeps_going b refusal kept (line_of false refusal)) (sym explains) (ap (λ goes. line_of goes refusal) (sym halts))
+
+-- it ends a run that is not to go on
+is_last : (goes : Bool) (limits : Limits) (rest : List ℕ) (outcome : CutOutcome) (at_end : Type 0) → goes ≡ false → (((f : Fault) → outcome ≡ Refused f → ⊥) → at_end)
+    → IsLast goes limits rest rest outcome at_end
+is_last goes limits rest Ended at_end halts all = (refl, all (λ f e. absurd (let both = e in cc)))
+is_last goes limits rest Unfinished at_end halts all = (refl, all (λ f e. absurd (let both = e in cc)))
+is_last goes limits rest (Refused fault) at_end halts all = inl (refl, λ on. absurd (false≢true (sym halts ∙ on)))
+
 -- of a new reader, which keeps nothing
-module _ {R : Type 0} (left : R → Option (List ℕ)) (calls failures : R → ℕ) (old new : CheckReader R) (is : IsNewReader lengths (source_of old) (most_reads_of old) (limits_of old) old) where
+module _ {R : Type 0} (left : R → Option (List ℕ)) (calls failures : R → ℕ) (old new : CheckReader R) (is : IsNewReader lengths (source_of old) (most_reads_of old) (limits_of old) old)
+    (settings : Settings) (no_more : ask_more settings ≡ false) where
   abbrev Took : Taken
   Took = taken (reading left calls failures (source_of old) (source_of new))
 
-  few_called : (items : List CutMessage) (rest : List ℕ) → HasRead lengths left calls (limits_of old) [] old new items rest → RisesAtMost (most_reads_of old) Took.calls0 Took.calls1
-  few_called items rest h = (h.count, omega (arith, h.reads, h.most_reads, is.reads, new.few_reads), h.called)
+  plain_told : (settings.explains ≡ false) × (settings.keeps_going ≡ false)
+  plain_told = or_parts _ _ (or_parts _ _ no_more).0
 
-  some_tallied : (cause : Cause) (s : HandsSomeOn lengths left calls (limits_of old) [] failures counts gives_up 0 cause old new tt tt) → StopsCounting Took (limits_of old) (most_reads_of old) cause s.rest
-      → CountsSome Took (limits_of old) (most_reads_of old) cause
-  some_tallied cause s caused = record {
-    bytes = s.read.bytes;
-    items = s.items;
-    rest = s.rest;
-    consumed = s.read.consumed;
-    messages = s.read.messages;
-    called = few_called s.items s.rest s.read;
-    caused = caused;
+  covers : (items : List CutMessage) (rest : List ℕ) → HasRead lengths left calls settings.limits [] old new items rest → Covers Took settings (most_reads_of old) true (wholes items) rest []
+  covers items rest h = record {
+    bytes = h.bytes;
+    consumed = h.consumed;
+    called = (h.count, omega (arith, h.reads, h.most_reads, is.reads, new.few_reads), h.called);
+    begin = parts_of settings.limits h.bytes items rest h.messages;
+    tells = told_of settings 1 0 items;
   }
 
-  pub tallied : (res : Result Counted Cause) → HandsOn lengths left calls (limits_of old) [] failures counts gives_up 0 old new tt tt res → Tallies Took (limits_of old) (most_reads_of old) res
-  tallied (Ok counted) a = record {
-    bytes = a.read.bytes;
-    items = a.items;
-    rest = a.rest;
-    outcome = a.outcome;
-    consumed = a.read.consumed;
-    cut = record { messages = a.read.messages; outcome_is = a.outcome_is };
-    count_is = omega (arith, a.count_is);
-    size_is = omega (arith, a.size_is, is.done);
-    fault_is = a.fault_is;
-    at_end = λ none. a.read.at_end (λ e. absurd (both_ways _ e is.ended)) (a.ended none);
-    called = few_called a.items a.rest a.read;
-    failed = a.failed;
-  }
-  tallied (Err Memory) s = some_tallied Memory s s.caused
-  tallied (Err ReadFailed) s = some_tallied ReadFailed s (s.all, s.caused)
-  tallied (Err WriteFailed) s = absurd s.given_up
-  tallied (Err TooManyReads) s =
+  abbrev HandsSome : Cause → Type 0
+  HandsSome cause = HandsSomeOn lengths left calls settings.limits [] failures counts gives_up 0 cause old new tt tt
+
+  some_tallied : (cause : Cause) (s : HandsSome cause) → IsMore Took settings (most_reads_of old) true (ByCause cause) (wholes s.items) s.rest [] → IsStopOf Took settings (most_reads_of old) true (ByCause cause)
+      → Tallies Took settings (most_reads_of old) (Err cause)
+  some_tallied cause s all caused =
+      record { parts = wholes s.items; rest = s.rest; told = []; covers = covers s.items s.rest s.read; more = []; all = all; caused = caused; came = (s.given_up, refl) }
+
+  tallies : (res : Result Counted Cause) → HandsOn lengths left calls settings.limits [] failures counts gives_up 0 old new tt tt res → Tallies Took settings (most_reads_of old) res
+  tallies (Ok counted) a =
+      let size : counted.size ≡ sizes a.items = omega (arith, a.size_is, is.done) in
+      let told = told_last settings (length (wholes a.items) + 1) (sizes_of (wholes a.items)) a.rest counted.fault plain_told.0 plain_told.1 in
+      record {
+        parts = wholes a.items;
+        rest = a.rest;
+        covers = covers a.items a.rest a.read;
+        tally_is = wholes_tally [] a.items counted.count counted.size _ refl (omega (arith, a.count_is)) (omega (arith, size));
+        kept = a.rest;
+        tells = record {
+          outcome = a.outcome;
+          outcome_is = a.outcome_is;
+          fault_is = a.fault_is;
+          told = subst (λ n. IsToldLast settings (length (wholes a.items) + 1) (sizes_of (wholes a.items)) a.rest counted.fault (fault_line n counted.fault)) (sizes-wholes a.items ∙ sym size) told;
+        };
+        last = is_last settings.keeps_going settings.limits a.rest a.outcome (IsAtEnd (left (source_of new))) plain_told.1
+            (λ none. a.read.at_end (λ e. absurd (both_ways _ e is.ended)) (a.ended none));
+        read_failed = a.failed;
+      }
+  tallies (Err Memory) s = some_tallied Memory s (inl refl) s.caused
+  tallies (Err ReadFailed) s = some_tallied ReadFailed s (inl (s.all, refl)) s.caused
+  tallies (Err WriteFailed) s = absurd s.given_up
+  tallies (Err TooManyReads) s =
       let all : s.read.count ≡ most_reads_of old = omega (arith, s.caused.1, s.read.reads, s.read.most_reads, is.reads) in
-      some_tallied TooManyReads s (s.all, s.caused.0, subst (λ n. RisesBy n Took.calls0 Took.calls1) all s.read.called)
+      some_tallied TooManyReads s (inl (s.all, refl)) (s.caused.0, subst (λ n. RisesBy n Took.calls0 Took.calls1) all s.read.called)
+
+  pub tallied : settings.limits ≡ limits_of old → (res : Result Counted Cause) → HandsOn lengths left calls (limits_of old) [] failures counts gives_up 0 old new tt tt res
+      → Tallies Took settings (most_reads_of old) res
+  tallied same res h = tallies res (subst (λ (l : Limits). HandsOn lengths left calls l [] failures counts gives_up 0 old new tt tt res) (sym same) h)

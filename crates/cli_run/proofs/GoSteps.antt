@@ -81,7 +81,7 @@ pub record IsWithin (tally : Tally) (done : ℕ) : Type 0 where
   pub small : done ≤ 2 ^ 50
 
 -- messages that were handed on are all of a stretch
-wholes_tally : (parts : List Part) (items : List CutMessage) (count size : ℕ) (tally : Tally) → tally ≡ tally_of parts → count ≡ tally.count + length items → size ≡ sizes_of parts + sizes items
+pub wholes_tally : (parts : List Part) (items : List CutMessage) (count size : ℕ) (tally : Tally) → tally ≡ tally_of parts → count ≡ tally.count + length items → size ≡ sizes_of parts + sizes items
     → record tally { count = count; size = size } ≡ tally_of (parts ++ wholes items)
 wholes_tally parts items count size tally is number bytes =
     let count_is : count ≡ length (parts ++ wholes items)

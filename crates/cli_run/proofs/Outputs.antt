@@ -77,12 +77,6 @@ front_of_first command items more all fault texts front e o prefix =
       ),
     )
 
--- so is one of what is written of all messages and then the last line
-pub front_of_whole : (command : Command) (items : List CutMessage) (fault : Option Fault) (texts : List (List ℕ)) (front : List ℕ) → IsOutputOfAll command (owners_known command None) (placed 1 0 (wholes items)) texts
-    → IsPrefixTo front (concat texts ++ last_line command (length items) (sizes items) fault) → IsFront command items fault front
-front_of_whole command items fault texts front o prefix =
-    (concat texts ++ last_line command (length items) (sizes items) fault, record { texts = texts; each = o; joined = refl }, prefix)
-
 -- ---- and no other, of an exact command
 
 text_one : (command : Command) (order : Order) (message : MessageTree) (n offset : ℕ) (a b : List ℕ) → IsExact command → IsTextOf command order message n offset a

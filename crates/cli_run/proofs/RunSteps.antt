@@ -1,6 +1,6 @@
--- How a run ends that neither explains refused messages nor passes over them, of a command that
--- tells the second writer. What it promises by parts is said of messages here.
-use Rattle.std.proofs.Common.{◌≡◌, ◌≢◌, ℕ, ◌+◌, List, [], ◌∷◌, ◌++◌, Bool, false, None, Some, Option, length, drop, refl, sym, ap, ◌∙◌, subst, append-nil, inl, inr}
+-- How a run ends that neither explains refused messages nor passes over them. What it promises by
+-- parts is said of messages here.
+use Rattle.std.proofs.Common.{◌≡◌, ℕ, zero, suc, ◌+◌, List, [], ◌∷◌, ◌++◌, Bool, false, true, None, Some, Option, length, drop, refl, sym, ap, ◌∙◌, subst, append-nil, append_assoc, inl, inr}
 use Rattle.std.proofs.lemmas.Bool.{false≢true}
 use Rattle.std.specs.List.{concat}
 use Rattle.std.specs.Io.KnownBytes.{IsAtEnd}
@@ -10,21 +10,23 @@ use Rattle.dbus_header.specs.MessageOutcomes.{IsPartial}
 use Rattle.dbus_device.specs.Write.{Wrote, Stopped}
 use Rattle.dbus_stream.specs.Cut.{CutMessage, BeginWith, CutOutcome, Ended, Unfinished, Refused, IsOutcome, IsCut}
 use Rattle.dbus_stream.specs.CutEnds.{fault_at_end, sizes}
-use Rattle.dbus_stream.proofs.CutLaws.{BeginWith-first}
+use Rattle.dbus_stream.proofs.CutLaws.{BeginWith-first, IsCut-one}
+use Rattle.cli_options.specs.Windows.{ask_more}
 use Rattle.cli_options.specs.declared.command.Command.{Command}
 use Rattle.cli_options.specs.declared.command.Command.TheVariants.{Check}
+use Rattle.cli_options.specs.declared.settings.Settings.{Settings}
 use Rattle.cli_run.specs.Checking.{TellsLine, WritesMessages, WritesBefore, Answers, Fails, IsCause}
 use Rattle.cli_report.specs.Devices.{Taken, reading, taken, writing}
 use Rattle.cli_run.specs.Going.{GoesThrough, IsAllOf, IsThrough, StopsWithin}
 use Rattle.cli_report.specs.Gathering.{Breaks, IsPrefixTo}
 use Rattle.cli_report.specs.Lines.{cause_line}
-use Rattle.cli_run.specs.Inputs.{BeginWithParts, IsLast, IsTellable, Part, PassedOver, Whole, placed, sizes_of, wholes}
-use Rattle.cli_run.specs.Output.{IsFront, IsOutputOfAll, fault_line, is_check, last_line, owners_known, second_output}
-use Rattle.cli_run.specs.Parts.{AreTold, IsToldLast, closing_line, passed_count, status_at, tally_of}
-use Rattle.cli_run.specs.Running.{Runs, RunsWith, Writes, WritesSome, plain}
+use Rattle.cli_run.specs.Inputs.{BeginWithParts, IsLast, IsTellable, Part, PassedOver, Placed, Whole, placed, sizes_of, wholes}
+use Rattle.cli_run.specs.Output.{IsFirstOutput, IsFront, IsOutputOfAll, check_line, fault_line, is_check, last_line, owners_known, second_output}
+use Rattle.cli_run.specs.Parts.{AreTold, IsToldLast, closing_line, passed_count, status_at, tally_of, whole_line}
+use Rattle.cli_run.specs.Running.{Runs, RunsWith, Writes, WritesSome}
 use Rattle.cli_report.specs.Failing.{Told}
 use Rattle.cli_run.specs.Told.{TellsStop, TellsUntold, UntoldFirst, UntoldSecond, first_of, second_of}
-use Rattle.cli_run.specs.ToldLaws.{wrote_both, wrote_stopped}
+use Rattle.cli_run.specs.ToldLaws.{second_nothing, wrote_both, wrote_stopped}
 use Rattle.cli_run.specs.Windows.{written}
 use Rattle.cli_report.specs.declared.ending.ExitStatus.{ExitStatus}
 use Rattle.cli_report.specs.declared.ending.ExitStatus.TheVariants as status
@@ -34,21 +36,50 @@ use Rattle.cli_run.specs.declared.tally.Tally.{Tally}
 use Rattle.cli_run.specs.declared.visitor.Stop.{Stop}
 use Rattle.cli_run.specs.declared.visitor.Stop.TheVariants.{Cause as ByCause, Untold}
 use Rattle.cli_run.proofs.Outputs.{front_of_first}
-use Rattle.cli_run.proofs.PartLaws.{sizes-wholes}
+use Rattle.cli_run.proofs.PartLaws.{length-wholes, sizes-wholes}
 use Rattle.cli_run.proofs.WindowSteps.{written_all}
 
-pub no_check : (command : Command) → command ≢ Check → is_check command ≡ false
-no_check Check n = absurd (n refl)
-no_check command n = refl
+-- settings that ask for no more than limits and a handshake
+abbrev plain : Settings → Settings
+plain asked = record asked { explains = false; keeps_going = false; window = record { skip = 0; limit = None } }
 
--- such a command writes no last line, and tells the second writer of the fault
-no_last : (command : Command) (count size : ℕ) (fault : Option Fault) → is_check command ≡ false → last_line command count size fault ≡ []
-no_last Check count size fault e = absurd cc
-no_last command count size fault e = refl
+-- what is told at the end of messages alone: the line of the fault, or the last line
+abbrev due : (is_check : Bool) → (count size : ℕ) → Option Fault → List ℕ
+due is_check count size None = whole_line is_check count size
+due is_check count size (Some fault) = fault_line size (Some fault)
 
-line_second : (command : Command) (size : ℕ) (fault : Option Fault) → is_check command ≡ false → second_output command size fault ≡ fault_line size fault
-line_second Check size fault e = absurd cc
-line_second command size fault e = refl
+due_is : (is_check : Bool) (t : Tally) (fault : Option Fault) (told text : List ℕ) → told ≡ [] → text ≡ fault_line t.size fault → t.passed ≡ 0
+    → (told ++ text) ++ closing_line is_check t t.passed fault ≡ due is_check t.count t.size fault
+due_is is_check t None told text none line passed = λ i. (none i ++ line i) ++ closing_line is_check t (passed i) None
+due_is is_check t (Some fault) told text none line passed =
+    (λ i. (none i ++ line i) ++ closing_line is_check t (passed i) (Some fault)) ∙ append-nil (fault_line t.size (Some fault))
+
+-- `check` makes no texts, and its line goes to the first writer. Of another command the line goes to
+-- the second
+no_texts : (items : List Placed) (texts : List (List ℕ)) → IsOutputOfAll Check [] items texts → texts ≡ []
+no_texts [] texts made = made
+no_texts (m ∷ items) texts made =
+    let none : made.0 ≡ [] = elim made.3 [ inl some ↦ absurd some.0 | inr none ↦ none.1 ] in
+    made.2 ∙ (λ i. none i ++ no_texts items made.1 made.4 i)
+
+check_is : (count size : ℕ) (fault : Option Fault) → due true count size fault ≡ check_line count size fault
+check_is count size None = refl
+check_is count size (Some fault) = refl
+
+first_due : (command : Command) (items : List Placed) (texts : List (List ℕ)) (count size : ℕ) (fault : Option Fault) → IsOutputOfAll command (owners_known command None) items texts
+    → first_of (is_check command) (written (record { skip = 0; limit = None }) texts) (due (is_check command) count size fault) ≡ concat texts ++ last_line command count size fault
+first_due Check items texts count size fault made = check_is count size fault ∙ ap (λ (l : List (List ℕ)). concat l ++ check_line count size fault) (sym (no_texts items texts made))
+first_due command items texts count size fault made = written_all texts ∙ sym (append-nil (concat texts))
+
+second_due : (command : Command) (count size : ℕ) (fault : Option Fault) → second_of (is_check command) (due (is_check command) count size fault) ≡ second_output command size fault
+second_due Check count size fault = refl
+second_due command count size None = refl
+second_due command count size (Some fault) = refl
+
+first_none : (command : Command) (items : List Placed) (texts : List (List ℕ)) → IsOutputOfAll command (owners_known command None) items texts
+    → first_of (is_check command) (written (record { skip = 0; limit = None }) texts) [] ≡ concat texts
+first_none Check items texts made = ap (λ (l : List (List ℕ)). concat l) (sym (no_texts items texts made))
+first_none command items texts made = written_all texts
 
 -- nothing was passed over, so the parts are messages
 record AreMessages (limits : Limits) (bytes : List ℕ) (parts : List Part) (rest told : List ℕ) : Type 0 where
@@ -58,11 +89,11 @@ record AreMessages (limits : Limits) (bytes : List ℕ) (parts : List Part) (res
   none_told : told ≡ []
   none_passed : passed_count parts ≡ 0
 
-are_messages : (limits : Limits) (n offset : ℕ) (bytes : List ℕ) (parts : List Part) (rest told : List ℕ) → BeginWithParts limits bytes parts rest → AreTold (plain limits) n offset parts told
-    → AreMessages limits bytes parts rest told
-are_messages limits n offset bytes [] rest told b t = record { items = []; messages = b; parts_are = refl; none_told = t; none_passed = refl }
-are_messages limits n offset bytes (Whole item ∷ parts) rest told b t =
-    let more = are_messages limits (n + 1) (offset + item.size) (drop item.size bytes) parts rest t.1 b.1 t.4 in
+are_messages : (asked : Settings) (n offset : ℕ) (bytes : List ℕ) (parts : List Part) (rest told : List ℕ) → BeginWithParts asked.limits bytes parts rest → AreTold (plain asked) n offset parts told
+    → AreMessages asked.limits bytes parts rest told
+are_messages asked n offset bytes [] rest told b t = record { items = []; messages = b; parts_are = refl; none_told = t; none_passed = refl }
+are_messages asked n offset bytes (Whole item ∷ parts) rest told b t =
+    let more = are_messages asked (n + 1) (offset + item.size) (drop item.size bytes) parts rest t.1 b.1 t.4 in
     record {
       items = item ∷ more.items;
       messages = (b.0, more.messages);
@@ -70,12 +101,12 @@ are_messages limits n offset bytes (Whole item ∷ parts) rest told b t =
       none_told = t.2 ∙ (λ i. t.3 i ++ more.none_told i);
       none_passed = more.none_passed;
     }
-are_messages limits n offset bytes (PassedOver kept fault size ∷ parts) rest told b t = absurd (false≢true t.3.0)
+are_messages asked n offset bytes (PassedOver kept fault size ∷ parts) rest told b t = absurd (false≢true t.3.0)
 
--- then there is no last line
-no_closing : (tally : Tally) (passed : ℕ) (fault : Option Fault) → passed ≡ 0 → closing_line false tally passed fault ≡ []
-no_closing tally passed None none = ap (λ n. closing_line false tally n None) none
-no_closing tally passed (Some fault) none = ap (λ n. closing_line false tally n (Some fault)) none
+-- then another command has no last line
+no_closing : (is_check : Bool) (tally : Tally) (fault : Option Fault) → is_check ≡ false → tally.passed ≡ 0 → closing_line is_check tally tally.passed fault ≡ []
+no_closing is_check tally None other none = λ i. closing_line (other i) tally (none i) None
+no_closing is_check tally (Some fault) other none = λ i. closing_line (other i) tally (none i) (Some fault)
 
 -- all that was kept is the rest
 rest_is : (limits : Limits) (kept rest : List ℕ) (outcome : CutOutcome) (at_end : Type 0) → IsLast false limits kept rest outcome at_end
@@ -93,67 +124,132 @@ last_shown limits kept rest Ended at_end shown = shown
 last_shown limits kept rest Unfinished at_end shown = shown
 last_shown limits kept rest (Refused fault) at_end shown = inl (shown, λ goes. absurd (false≢true goes))
 
-told_line : (limits : Limits) (n offset : ℕ) (kept text : List ℕ) (fault : Option Fault) → IsToldLast (plain limits) n offset kept fault text → text ≡ fault_line offset fault
-told_line limits n offset kept text None told = told
-told_line limits n offset kept text (Some fault) told = told
+told_line : (asked : Settings) (n offset : ℕ) (kept text : List ℕ) (fault : Option Fault) → IsToldLast (plain asked) n offset kept fault text → text ≡ fault_line offset fault
+told_line asked n offset kept text None told = told
+told_line asked n offset kept text (Some fault) told = told
+
+told_none : (asked : Settings) (n offset : ℕ) (kept text : List ℕ) (fault : Option Fault) → fault ≡ None → IsToldLast (plain asked) n offset kept fault text → text ≡ []
+told_none asked n offset kept text fault none told = subst (λ (f : Option Fault). IsToldLast (plain asked) n offset kept f text) none told
 
 module _ {R W E : Type 0} (left : R → Option (List ℕ)) (calls read_failures : R → ℕ) (held : W → Option (List ℕ)) (write_failures : W → ℕ) (second_held : E → Option (List ℕ))
-    (second_failures : E → ℕ) (limits : Limits) (most : ℕ) (command : Command) (other : is_check command ≡ false) (r0 r1 : R) (w0 w1 : W) (e0 : E) where
+    (second_failures : E → ℕ) (asked : Settings) (most : ℕ) (command : Command) (r0 r1 : R) (w0 w1 : W) (e0 : E) where
+  abbrev limits : Limits
+  limits = asked.limits
+
   abbrev Took : Taken
   Took = taken (reading left calls read_failures r0 r1)
 
-  -- who gets what
-  first_is : (texts : List (List ℕ)) (told : List ℕ) → first_of (is_check command) (written (plain limits).window texts) told ≡ concat texts
-  first_is texts told = ap (λ b. first_of b (written (plain limits).window texts) told) other ∙ written_all texts
+  abbrev AreOutput : List Part → List (List ℕ) → Type 0
+  AreOutput parts texts = IsOutputOfAll command (owners_known command None) (placed 1 0 parts) texts
 
-  second_is : (told : List ℕ) → second_of (is_check command) told ≡ told
-  second_is told = ap (λ b. second_of b told) other
+  -- what the first writer gets of the texts, and of what is told
+  abbrev first_part : List (List ℕ) → List ℕ → List ℕ
+  first_part texts told = first_of (is_check command) (written (plain asked).window texts) told
 
-  output_is : (parts : List Part) (items : List CutMessage) (texts : List (List ℕ)) → parts ≡ wholes items → IsOutputOfAll command (owners_known command None) (placed 1 0 parts) texts
-      → IsOutputOfAll command (owners_known command None) (placed 1 0 (wholes items)) texts
-  output_is parts items texts e made = subst (λ (l : List Part). IsOutputOfAll command (owners_known command None) (placed 1 0 l) texts) e made
+  -- all messages were handed on
+  module _ {tally : Tally} {fault : Option Fault} {told text : List ℕ} (h : IsThrough Took (plain asked) most (is_check command) tally fault told text) where
+    abbrev closing : List ℕ
+    closing = closing_line (is_check command) tally tally.passed fault
 
-  -- all messages were handed on, and the second writer got the line of the fault as far as it took
-  -- it
-  answers : {tally : Tally} {fault : Option Fault} {told text : List ℕ} (e1 : E) (end : ExitStatus) (h : IsThrough Took (plain limits) most (is_check command) tally fault told text)
-      (texts : List (List ℕ)) → IsOutputOfAll command (owners_known command None) (placed 1 0 h.parts) texts → Wrote held write_failures w0 (concat texts) w1
-      → TellsLine second_held second_failures (told ++ text) fault e0 e1 end → Answers left calls read_failures held write_failures limits most command second_held second_failures r0 r1 w0 w1 e0 e1 end
-  answers {tally} {fault} {told} {text} e1 end h texts made first second =
-      let outcome = h.tells.outcome in
-      let m = are_messages limits 1 0 h.covers.bytes h.parts h.rest told h.covers.begin h.covers.tells in
-      let all = rest_is limits h.kept h.rest outcome _ h.last in
-      let fault_is : fault ≡ fault_at_end h.rest outcome = h.tells.fault_is ∙ ap (λ (l : List ℕ). fault_at_end l outcome) (sym all.0) in
-      let size : sizes_of h.parts ≡ sizes m.items = ap sizes_of m.parts_are ∙ sizes-wholes m.items in
-      let line : told ++ text ≡ second_output command (sizes m.items) (fault_at_end h.rest outcome)
-      = ap (λ l. l ++ text) m.none_told ∙ (told_line limits (length h.parts + 1) (sizes_of h.parts) h.kept text fault h.tells.told
-      ∙ ((λ i. fault_line (size i) (fault_is i)) ∙ sym (line_second command (sizes m.items) (fault_at_end h.rest outcome) other))) in
-      record {
+    messages : AreMessages limits h.covers.bytes h.parts h.rest told
+    messages = are_messages asked 1 0 h.covers.bytes h.parts h.rest told h.covers.begin h.covers.tells
+
+    abbrev last_fault : Option Fault
+    last_fault = fault_at_end h.rest h.tells.outcome
+
+    abbrev last_of : List ℕ
+    last_of = last_line command (length messages.items) (sizes messages.items) last_fault
+
+    abbrev line_of : List ℕ
+    line_of = second_output command (sizes messages.items) last_fault
+
+    rest_kept : (h.rest ≡ h.kept) × (((f : Fault) → h.tells.outcome ≡ Refused f → ⊥) → IsAtEnd (left r1))
+    rest_kept = rest_is limits h.kept h.rest h.tells.outcome (IsAtEnd (left r1)) h.last
+
+    fault_is : fault ≡ last_fault
+    fault_is = h.tells.fault_is ∙ ap (λ (l : List ℕ). fault_at_end l h.tells.outcome) (sym rest_kept.0)
+
+    passed_is : tally.passed ≡ 0
+    passed_is = ap (λ (t : Tally). t.passed) h.tally_is ∙ messages.none_passed
+
+    all_due : (told ++ text) ++ closing ≡ due (is_check command) (length messages.items) (sizes messages.items) last_fault
+    all_due =
+        let count : tally.count ≡ length messages.items = ap (λ (t : Tally). t.count) h.tally_is ∙ (ap (λ l. length l) messages.parts_are ∙ length-wholes messages.items) in
+        let parts : sizes_of h.parts ≡ tally.size = sym (ap (λ (t : Tally). t.size) h.tally_is) in
+        let size : tally.size ≡ sizes messages.items = sym parts ∙ (ap sizes_of messages.parts_are ∙ sizes-wholes messages.items) in
+        let text_is = told_line asked (length h.parts + 1) (sizes_of h.parts) h.kept text fault h.tells.told ∙ ap (λ n. fault_line n fault) parts in
+        due_is (is_check command) tally fault told text messages.none_told text_is passed_is ∙ (λ i. due (is_check command) (count i) (size i) (fault_is i))
+
+    second_is : second_of (is_check command) ((told ++ text) ++ closing) ≡ line_of
+    second_is = ap (second_of (is_check command)) all_due ∙ second_due command (length messages.items) (sizes messages.items) last_fault
+
+    cut : IsCut limits h.covers.bytes messages.items h.rest h.tells.outcome
+    cut = record { messages = messages.messages; outcome_is = subst (λ (l : List ℕ). IsOutcome limits l h.tells.outcome) (sym rest_kept.0) h.tells.outcome_is }
+
+    -- and these texts were made of them
+    module _ (texts : List (List ℕ)) (made : AreOutput h.parts texts) where
+      first_is : first_part texts ((told ++ text) ++ closing) ≡ concat texts ++ last_of
+      first_is = ap (first_part texts) all_due ∙ first_due command (placed 1 0 h.parts) texts (length messages.items) (sizes messages.items) last_fault made
+
+      output : IsFirstOutput command messages.items last_fault (concat texts ++ last_of)
+      output = record { texts = texts; each = subst (λ (l : List Part). AreOutput l texts) messages.parts_are made; joined = refl }
+
+      answers : (e1 : E) (end : ExitStatus) → Wrote held write_failures w0 (concat texts ++ last_of) w1 → TellsLine second_held second_failures line_of last_fault e0 e1 end
+          → Answers left calls read_failures held write_failures limits most command second_held second_failures r0 r1 w0 w1 e0 e1 end
+      answers e1 end first second = record {
         bytes = h.covers.bytes;
-        items = m.items;
+        items = messages.items;
         rest = h.rest;
-        outcome = outcome;
-        out = concat texts;
+        outcome = h.tells.outcome;
+        out = concat texts ++ last_of;
         consumed = h.covers.consumed;
         called = h.covers.called;
         read_failed = h.read_failed;
-        cut = record { messages = m.messages; outcome_is = subst (λ (l : List ℕ). IsOutcome limits l outcome) (sym all.0) h.tells.outcome_is };
-        at_end = all.1;
-        output = record {
-          texts = texts;
-          each = output_is h.parts m.items texts m.parts_are made;
-          joined = sym (append-nil (concat texts)) ∙ ap (λ l. concat texts ++ l) (sym (no_last command (length m.items) (sizes m.items) (fault_at_end h.rest outcome) other));
-        };
+        cut = cut;
+        at_end = rest_kept.1;
+        output = output;
         first = first;
-        second = subst (λ l. TellsLine second_held second_failures l (fault_at_end h.rest outcome) e0 e1 end) line
-            (subst (λ (f : Option Fault). TellsLine second_held second_failures (told ++ text) f e0 e1 end) fault_is second);
+        second = second;
+      }
+
+      -- a prefix of the output was written, and then a write failed
+      broken : (front : List ℕ) → Breaks held write_failures front [] w0 w1 → IsPrefixTo front (concat texts ++ last_of)
+          → Fails left calls read_failures held write_failures limits most command WriteFailed r0 r1 w0 w1
+      broken front b prefix = record {
+        bytes = h.covers.bytes;
+        written = b.written;
+        consumed = h.covers.consumed;
+        called = h.covers.called;
+        appended = b.appended;
+        front = λ items rest outcome other.
+            let one = IsCut-one limits h.covers.bytes messages.items items h.rest rest h.tells.outcome outcome cut other in
+            let all = prefix.1 ∙ (ap (λ l. l ++ prefix.0) b.front.1 ∙ append_assoc b.written b.front.0 prefix.0) in
+            subst (λ (l : List CutMessage). IsFront command l (fault_at_end rest outcome) b.written) one.0
+            (subst (λ (f : Option Fault). IsFront command messages.items f b.written) (λ i. fault_at_end (one.1 i) (one.2 i))
+            (concat texts ++ last_of, output, (b.front.0 ++ prefix.0, all)));
+        before = tt;
+        caused = (h.read_failed, b.failed);
       }
 
   module _ (e1 : E) where
     abbrev Within : Stop → Type 0
-    Within stop = StopsWithin Took (plain limits) most (is_check command) (WritesSome (writing held write_failures w0 w1) (writing second_held second_failures e0 e1) (plain limits) command) stop
+    Within stop = StopsWithin Took (plain asked) most (is_check command) (WritesSome (writing held write_failures w0 w1) (writing second_held second_failures e0 e1) (plain asked) command) stop
 
     abbrev messages_of : (stop : Stop) (s : Within stop) → AreMessages limits s.covers.bytes s.parts s.rest s.told
-    messages_of stop s = are_messages limits 1 0 s.covers.bytes s.parts s.rest s.told s.covers.begin s.covers.tells
+    messages_of stop s = are_messages asked 1 0 s.covers.bytes s.parts s.rest s.told s.covers.begin s.covers.tells
+
+    -- nothing is told
+    none_more : (cause : Cause) (s : Within (ByCause cause)) → s.more ≡ []
+    none_more Memory s = elim s.all [ inl none ↦ none | inr lacks ↦ told_none asked (length s.parts + 1) (sizes_of s.parts) lacks.0 s.more lacks.1 (lacks.4 (messages_of (ByCause Memory) s).none_passed).0 lacks.2.told ]
+    none_more ReadFailed s = elim s.all [ inl none ↦ none.1 | inr cut ↦ absurd (false≢true cut.4) ]
+    none_more WriteFailed s = s.all
+    none_more TooManyReads s = elim s.all [ inl none ↦ none.1 | inr cut ↦ absurd (false≢true cut.4) ]
+
+    none_told : (cause : Cause) (s : Within (ByCause cause)) → s.told ++ s.more ≡ []
+    none_told cause s = λ i. (messages_of (ByCause cause) s).none_told i ++ none_more cause s i
+
+    texts_alone : (cause : Cause) (s : Within (ByCause cause)) → first_part s.came.texts (s.told ++ s.more) ≡ concat s.came.texts
+    texts_alone cause s = ap (λ l. first_part s.came.texts l) (none_told cause s) ∙ first_none command (placed 1 0 s.parts) s.came.texts s.came.made
 
     -- the first writer got a prefix of what is made of the messages
     front_of_some : (cause : Cause) (s : Within (ByCause cause)) (front : List ℕ) → IsPrefixTo front (concat s.came.texts) → (items : List CutMessage) (rest : List ℕ) (outcome : CutOutcome)
@@ -161,9 +257,9 @@ module _ {R W E : Type 0} (left : R → Option (List ℕ)) (calls read_failures 
     front_of_some cause s front prefix items rest outcome cut =
         let m = messages_of (ByCause cause) s in
         let more = BeginWith-first limits s.covers.bytes m.items items s.rest rest outcome m.messages cut.messages cut.outcome_is in
-        front_of_first command m.items more.0 items (fault_at_end rest outcome) s.came.texts front more.1 (output_is s.parts m.items s.came.texts m.parts_are s.came.made) prefix
+        front_of_first command m.items more.0 items (fault_at_end rest outcome) s.came.texts front more.1 (subst (λ (l : List Part). AreOutput l s.came.texts) m.parts_are s.came.made) prefix
 
-    all_written : (cause : Cause) (s : Within (ByCause cause)) → Wrote held write_failures w0 (first_of (is_check command) (written (plain limits).window s.came.texts) (s.told ++ s.more)) w1
+    all_written : (cause : Cause) (s : Within (ByCause cause)) → Wrote held write_failures w0 (first_part s.came.texts (s.told ++ s.more)) w1
         → WritesBefore limits command cause s.covers.bytes (concat s.came.texts) → IsCause left calls read_failures held write_failures limits most command r0 r1 w0 w1 cause
         → Fails left calls read_failures held write_failures limits most command cause r0 r1 w0 w1
     all_written cause s wrote before caused = record {
@@ -171,13 +267,13 @@ module _ {R W E : Type 0} (left : R → Option (List ℕ)) (calls read_failures 
       written = concat s.came.texts;
       consumed = s.covers.consumed;
       called = s.covers.called;
-      appended = (subst (λ l. Wrote held write_failures w0 l w1) (first_is s.came.texts (s.told ++ s.more)) wrote).appended;
+      appended = (subst (λ l. Wrote held write_failures w0 l w1) (texts_alone cause s) wrote).appended;
       front = front_of_some cause s (concat s.came.texts) ([], sym (append-nil (concat s.came.texts)));
       before = before;
       caused = caused;
     }
 
-    all_messages : (cause : Cause) (s : Within (ByCause cause)) → IsAllOf Took (plain limits) most (is_check command) s.parts s.rest s.more → WritesMessages limits command s.covers.bytes (concat s.came.texts)
+    all_messages : (cause : Cause) (s : Within (ByCause cause)) → IsAllOf Took (plain asked) most (is_check command) s.parts s.rest s.more → WritesMessages limits command s.covers.bytes (concat s.came.texts)
     all_messages cause s all =
         let m = messages_of (ByCause cause) s in
         let partial : IsPartial limits s.rest = elim all [ inl none ↦ none.0 | inr cut ↦ absurd (false≢true cut.4) ] in
@@ -187,7 +283,7 @@ module _ {R W E : Type 0} (left : R → Option (List ℕ)) (calls read_failures 
           messages = m.messages;
           partial = partial;
           texts = s.came.texts;
-          output = output_is s.parts m.items s.came.texts m.parts_are s.came.made;
+          output = subst (λ (l : List Part). AreOutput l s.came.texts) m.parts_are s.came.made;
           written_is = refl;
         }
 
@@ -195,7 +291,7 @@ module _ {R W E : Type 0} (left : R → Option (List ℕ)) (calls read_failures 
     fails Memory s = all_written Memory s s.came.first tt (s.caused, s.came.first.failed)
     fails ReadFailed s = all_written ReadFailed s s.came.first (all_messages ReadFailed s s.all) (s.caused, s.came.first.failed)
     fails WriteFailed s =
-        let first = subst (λ l. Breaks held write_failures l [] w0 w1) (first_is s.came.texts (s.told ++ s.more)) s.came.first in
+        let first = subst (λ l. Breaks held write_failures l [] w0 w1) (texts_alone WriteFailed s) s.came.first in
         record {
           bytes = s.covers.bytes;
           written = first.written;
@@ -208,65 +304,102 @@ module _ {R W E : Type 0} (left : R → Option (List ℕ)) (calls read_failures 
         }
     fails TooManyReads s = all_written TooManyReads s s.came.first (all_messages TooManyReads s s.all) (s.caused.0, s.came.first.failed, s.caused.1)
 
-    -- nothing is told of the rest, since only `check` has a last line
-    none_more : (cause : Cause) (s : Within (ByCause cause)) → s.more ≡ []
-    none_more Memory s = elim s.all [ inl none ↦ none | inr lacks ↦ absurd (false≢true (sym other ∙ (lacks.4 (messages_of (ByCause Memory) s).none_passed).1)) ]
-    none_more ReadFailed s = elim s.all [ inl none ↦ none.1 | inr cut ↦ absurd (false≢true cut.4) ]
-    none_more WriteFailed s = s.all
-    none_more TooManyReads s = elim s.all [ inl none ↦ none.1 | inr cut ↦ absurd (false≢true cut.4) ]
-
     -- and the second writer the cause alone
-    told_alone : (cause : Cause) (s : Within (ByCause cause)) (e2 : E) → Told second_held second_failures e1 e2 cause → Told second_held second_failures e0 e2 cause
-    told_alone cause s e2 told =
-        let nothing : second_of (is_check command) (s.told ++ s.more) ≡ [] = second_is (s.told ++ s.more) ∙ (λ i. (messages_of (ByCause cause) s).none_told i ++ none_more cause s i) in
-        let before = subst (λ l. Wrote second_held second_failures e0 l e1) nothing s.came.second in
-        elim told [
-          | inl all ↦ inl (wrote_both second_held second_failures [] (cause_line cause) e0 e1 e2 before all)
-          | inr some ↦ inr (length {A = ℕ} [] + some.0, wrote_stopped second_held second_failures [] (cause_line cause) some.0 e0 e1 e2 before some.1)
-        ]
+    told_after : (cause : Cause) (e2 : E) → Wrote second_held second_failures e0 [] e1 → Told second_held second_failures e1 e2 cause → Told second_held second_failures e0 e2 cause
+    told_after cause e2 before told = elim told [
+      | inl all ↦ inl (wrote_both second_held second_failures [] (cause_line cause) e0 e1 e2 before all)
+      | inr some ↦ inr (length {A = ℕ} [] + some.0, wrote_stopped second_held second_failures [] (cause_line cause) some.0 e0 e1 e2 before some.1)
+    ]
 
     abbrev Ends : E → ExitStatus → Type 0
     Ends e2 end = Runs (reading left calls read_failures r0 r1) (writing held write_failures w0 w1) (writing second_held second_failures e0 e2) limits most command end
 
-    -- a write of the line of the fault failed
-    untold : (e2 : E) (end : ExitStatus) → Within Untold → end ≡ status.Failed → TellsStop second_held second_failures (is_check command) Untold e1 e2 → Ends e2 end
-    untold e2 end s failed tells =
-        let due = s.all in
-        let text = due.2 in
-        let passed = (messages_of Untold s).none_passed in
-        let none : closing_line (is_check command) (tally_of s.parts) (passed_count s.parts) due.1 ≡ []
-        = ap (λ b. closing_line b (tally_of s.parts) (passed_count s.parts) due.1) other ∙ no_closing (tally_of s.parts) (passed_count s.parts) due.1 passed in
-        let more : s.more ≡ text = elim due.4 [ inl shown ↦ shown.1 | inr last ↦ last.1 ∙ (ap (λ l. text ++ l) none ∙ append-nil text) ] in
-        let last : IsLast false limits due.0 s.rest due.3.outcome (IsAtEnd (left r1)) = elim due.4 [ inl shown ↦ last_shown limits due.0 s.rest due.3.outcome _ shown.0 | inr last ↦ last.0 ] in
+    -- all was handed on, and a write of the line failed: of `check` that was to the first writer
+    through : (s : Within Untold) → IsThrough Took (plain asked) most (is_check command) (tally_of s.parts) s.all.1 s.told s.all.2
+    through s = record {
+      parts = s.parts;
+      rest = s.rest;
+      covers = s.covers;
+      tally_is = refl;
+      kept = s.all.0;
+      tells = s.all.3;
+      last = elim s.all.4 [ inl shown ↦ last_shown limits s.all.0 s.rest s.all.3.outcome _ shown.0 | inr last ↦ last.0 ];
+      read_failed = s.caused;
+    }
+
+    untold : (b : Bool) → is_check command ≡ b → (e2 : E) (end : ExitStatus) → Within Untold → end ≡ status.Failed → TellsStop second_held second_failures (is_check command) Untold e1 e2 → Ends e2 end
+    unfolding through
+    untold true is e2 end s failed tells =
+        let h = through s in
         let texts = s.came.texts in
-        let first = subst (λ (b : Bool). UntoldFirst held write_failures b (first_of b (written (plain limits).window texts) (s.told ++ s.more)) w0 w1) other s.came.first in
-        let second = subst (λ (b : Bool). UntoldSecond second_held second_failures b (second_of b (s.told ++ s.more)) e0 e1) other s.came.second in
-        let half = subst (λ (l : List ℕ). Stopped second_held second_failures e0 (s.told ++ l) second.0 e1) more second.1 in
-        let same = subst (λ (b : Bool). TellsUntold second_held second_failures b e1 e2) other tells in
-        inl (answers e2 end
-        (record { parts = s.parts; rest = s.rest; covers = s.covers; tally_is = refl; kept = due.0; tells = due.3; last = last; read_failed = s.caused })
-        texts s.came.made (subst (λ (l : List ℕ). Wrote held write_failures w0 l w1) (written_all texts) first)
-        (inr (second.0, subst (λ (e : E). Stopped second_held second_failures e0 (s.told ++ text) second.0 e) (sym same) half, failed)))
+        let made = s.came.made in
+        let last = closing h in
+        let told = s.told ++ s.more in
+        let first = subst (λ (b : Bool). UntoldFirst held write_failures b (first_of b (written (plain asked).window texts) told) w0 w1) is s.came.first in
+        let second = subst (λ (b : Bool). UntoldSecond second_held second_failures b (second_of b told) e0 e1) is s.came.second in
+        let out = sym (ap (λ b. first_of b (written (plain asked).window texts) ((s.told ++ s.all.2) ++ last)) is) ∙ first_is h texts made in
+        let prefix : IsPrefixTo told (concat texts ++ last_of h) = elim s.all.4 [
+          | inl shown ↦ (last, sym out ∙ ap (λ l. (s.told ++ l) ++ last) (sym shown.1))
+          | inr all ↦ ([], sym out ∙ (append_assoc s.told s.all.2 last ∙ (ap (λ l. s.told ++ l) (sym all.1) ∙ sym (append-nil told))))
+        ] in
+        inr (record {
+          failed = failed;
+          cause = WriteFailed;
+          fails = broken h texts made told first prefix;
+          told = told_after WriteFailed e2 second (subst (λ (b : Bool). TellsUntold second_held second_failures b e1 e2) is tells);
+        })
+    untold false is e2 end s failed tells =
+        let h = through s in
+        let texts = s.came.texts in
+        let made = s.came.made in
+        let last = closing h in
+        let told = s.told ++ s.more in
+        let none : last ≡ [] = no_closing (is_check command) (tally_of s.parts) s.all.1 is (passed_is h) in
+        let more : s.more ≡ s.all.2 ++ last = elim s.all.4 [ inl shown ↦ shown.1 ∙ sym (ap (λ l. s.all.2 ++ l) none ∙ append-nil s.all.2) | inr all ↦ all.1 ] in
+        let line : told ≡ line_of h
+        = ap (λ l. s.told ++ l) more ∙ (sym (append_assoc s.told s.all.2 last) ∙ (sym (ap (λ b. second_of b ((s.told ++ s.all.2) ++ last)) is) ∙ second_is h)) in
+        let out = sym (ap (λ b. first_of b (written (plain asked).window texts) ((s.told ++ s.all.2) ++ last)) is) ∙ first_is h texts made in
+        let first = subst (λ (b : Bool). UntoldFirst held write_failures b (first_of b (written (plain asked).window texts) told) w0 w1) is s.came.first in
+        let second = subst (λ (b : Bool). UntoldSecond second_held second_failures b (second_of b told) e0 e1) is s.came.second in
+        let half = subst (λ (l : List ℕ). Stopped second_held second_failures e0 l second.0 e1) line second.1 in
+        let same = subst (λ (b : Bool). TellsUntold second_held second_failures b e1 e2) is tells in
+        inl (answers h texts made e2 end (subst (λ (l : List ℕ). Wrote held write_failures w0 l w1) out first)
+        (inr (second.0, subst (λ (e : E). Stopped second_held second_failures e0 (line_of h) second.0 e) (sym same) half, failed)))
 
     stopped : (stop : Stop) (e2 : E) (end : ExitStatus) → Within stop → end ≡ status.Failed → TellsStop second_held second_failures (is_check command) stop e1 e2 → Ends e2 end
-    stopped (ByCause cause) e2 end s failed tells = inr (record { failed = failed; cause = cause; fails = fails cause s; told = told_alone cause s e2 tells })
-    stopped Untold e2 end s failed tells = untold e2 end s failed tells
+    stopped (ByCause cause) e2 end s failed tells =
+        let nothing = ap (λ l. second_of (is_check command) l) (none_told cause s) ∙ second_nothing (is_check command) in
+        let before = subst (λ l. Wrote second_held second_failures e0 l e1) nothing s.came.second in
+        inr (record { failed = failed; cause = cause; fails = fails cause s; told = told_after cause e2 before tells })
+    stopped Untold e2 end s failed tells = untold (is_check command) refl e2 end s failed tells
 
-    ran : (end : ExitStatus) → GoesThrough Took (plain limits) most (is_check command) (Writes (writing held write_failures w0 w1) (writing second_held second_failures e0 e1) (plain limits) command) end → Ends e1 end
+    ran : (end : ExitStatus) → GoesThrough Took (plain asked) most (is_check command) (Writes (writing held write_failures w0 w1) (writing second_held second_failures e0 e1) (plain asked) command) end → Ends e1 end
     ran end g =
-        let m = are_messages limits 1 0 g.through.covers.bytes g.through.parts g.through.rest g.told g.through.covers.begin g.through.covers.tells in
-        let passed : g.tally.passed ≡ 0 = ap (λ (t : Tally). t.passed) g.through.tally_is ∙ m.none_passed in
-        let none : closing_line (is_check command) g.tally g.tally.passed g.fault ≡ [] = ap (λ b. closing_line b g.tally g.tally.passed g.fault) other ∙ no_closing g.tally g.tally.passed g.fault passed in
-        let all : (g.told ++ g.text) ++ closing_line (is_check command) g.tally g.tally.passed g.fault ≡ g.told ++ g.text = ap (λ l. (g.told ++ g.text) ++ l) none ∙ append-nil (g.told ++ g.text) in
-        let second = subst (λ (l : List ℕ). Wrote second_held second_failures e0 l e1) (second_is _ ∙ all) g.came.second in
-        inl (answers e1 end g.through g.came.texts g.came.made (subst (λ (l : List ℕ). Wrote held write_failures w0 l w1) (first_is g.came.texts _) g.came.first)
-        (inl (second, g.end_is ∙ ap (λ n. status_at n g.fault) passed)))
+        let h = g.through in
+        let texts = g.came.texts in
+        let made = g.came.made in
+        let second = subst (λ (l : List ℕ). Wrote second_held second_failures e0 l e1) (second_is h) g.came.second in
+        inl (answers h texts made e1 end (subst (λ (l : List ℕ). Wrote held write_failures w0 l w1) (first_is h texts made) g.came.first)
+        (inl (second, g.end_is ∙ (λ i. status_at (passed_is h i) (fault_is h i)))))
 
-  -- by settings that ask for no more it does what it does under the limits alone
-  pub plainly : (e1 : E) (end : ExitStatus)
-      → RunsWith (reading left calls read_failures r0 r1) (writing held write_failures w0 w1) (writing second_held second_failures e0 e1) (plain limits) most command end
-      → Runs (reading left calls read_failures r0 r1) (writing held write_failures w0 w1) (writing second_held second_failures e0 e1) limits most command end
-  plainly e1 end runs = elim runs [
-    | inl g ↦ ran e1 end g
-    | inr g ↦ stopped g.before g.stop e1 end g.within g.failed g.tells
-  ]
+-- settings that ask for no more are these
+plain_is : (asked : Settings) (explains goes_on : Bool) (skip : ℕ) (limit : Option ℕ) → ask_more (record asked { explains = explains; keeps_going = goes_on; window = record { skip = skip; limit = limit } }) ≡ false
+    → record asked { explains = explains; keeps_going = goes_on; window = record { skip = skip; limit = limit } } ≡ plain asked
+plain_is asked false false zero None e = refl
+plain_is asked false false zero (Some limit) e = absurd (false≢true (sym e))
+plain_is asked false false (suc skip) limit e = absurd (false≢true (sym e))
+plain_is asked false true skip limit e = absurd (false≢true (sym e))
+plain_is asked true goes_on skip limit e = absurd (false≢true (sym e))
+
+-- by them it does what it does under the limits alone
+pub plainly : {R W E : Type 0} (left : R → Option (List ℕ)) (calls read_failures : R → ℕ) (held : W → Option (List ℕ)) (write_failures : W → ℕ) (second_held : E → Option (List ℕ))
+    (second_failures : E → ℕ) (settings : Settings) → ask_more settings ≡ false → (most : ℕ) (command : Command) (r0 r1 : R) (w0 w1 : W) (e0 e1 : E) (end : ExitStatus)
+    → RunsWith (reading left calls read_failures r0 r1) (writing held write_failures w0 w1) (writing second_held second_failures e0 e1) settings most command end
+    → Runs (reading left calls read_failures r0 r1) (writing held write_failures w0 w1) (writing second_held second_failures e0 e1) settings.limits most command end
+plainly left calls read_failures held write_failures second_held second_failures settings no_more most command r0 r1 w0 w1 e0 e1 end runs =
+    let by_limits = subst (λ (s : Settings). RunsWith (reading left calls read_failures r0 r1) (writing held write_failures w0 w1) (writing second_held second_failures e0 e1) s most command end)
+    (plain_is settings settings.explains settings.keeps_going settings.window.skip settings.window.limit no_more) runs in
+    elim by_limits [
+      | inl g ↦ ran left calls read_failures held write_failures second_held second_failures settings most command r0 r1 w0 w1 e0 e1 end g
+      | inr g ↦ stopped left calls read_failures held write_failures second_held second_failures settings most command r0 r1 w0 w1 e0 g.before g.stop e1 end g.within g.failed g.tells
+    ]

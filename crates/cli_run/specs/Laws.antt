@@ -1,15 +1,15 @@
 -- The laws over what a command writes: of all messages and the fault after them there is an output,
 -- and of each command but `json` exactly one. And what a command does by its settings is what it
 -- does under limits alone, if they ask for no more.
-use Rattle.std.specs.Prelude.{◌≡◌, ◌≢◌, ℕ, List, Option}
+use Rattle.std.specs.Prelude.{◌≡◌, ℕ, false, List, Option}
 use Rattle.dbus_value_model.specs.declared.fault.Fault.{Fault}
 use Rattle.dbus_stream.specs.Cut.{CutMessage}
-use Rattle.dbus_value_model.specs.declared.limits.Limits.{Limits}
+use Rattle.cli_options.specs.Windows.{ask_more}
 use Rattle.cli_options.specs.declared.command.Command.{Command}
-use Rattle.cli_options.specs.declared.command.Command.TheVariants.{Check}
+use Rattle.cli_options.specs.declared.settings.Settings.{Settings}
 use Rattle.cli_report.specs.Devices.{reading, writing}
 use Rattle.cli_report.specs.declared.ending.ExitStatus.{ExitStatus}
-use Rattle.cli_run.specs.Running.{Runs, RunsWith, plain}
+use Rattle.cli_run.specs.Running.{Runs, RunsWith}
 use Rattle.cli_run.specs.Output.{IsExact, IsFirstOutput, IsFront}
 use Rattle.cli_report.specs.Gathering.{IsPrefixTo}
 
@@ -27,11 +27,10 @@ abbrev pub OneFront : Type 0
 OneFront = (command : Command) (items : List CutMessage) (fault : Option Fault) (front out : List ℕ)
     → IsExact command → IsFront command items fault front → IsFirstOutput command items fault out → IsPrefixTo front out
 
--- by settings that ask for no more, a command but `check` does what it does under their limits
--- alone
+-- by settings that ask for no more, a command does what it does under their limits alone
 abbrev pub PlainRuns : {R W E : Type 0} → (left : R → Option (List ℕ)) → (calls failures : R → ℕ) → (held : W → Option (List ℕ)) → (write_failures : W → ℕ) → (second_held : E → Option (List ℕ))
     → (second_failures : E → ℕ) → Type 0
 PlainRuns {R} {W} {E} left calls failures held write_failures second_held second_failures =
-    (limits : Limits) (most : ℕ) (command : Command) (r0 r1 : R) (w0 w1 : W) (e0 e1 : E) (end : ExitStatus) → command ≢ Check
-    → RunsWith (reading left calls failures r0 r1) (writing held write_failures w0 w1) (writing second_held second_failures e0 e1) (plain limits) most command end
-    → Runs (reading left calls failures r0 r1) (writing held write_failures w0 w1) (writing second_held second_failures e0 e1) limits most command end
+    (settings : Settings) (most : ℕ) (command : Command) (r0 r1 : R) (w0 w1 : W) (e0 e1 : E) (end : ExitStatus) → ask_more settings ≡ false
+    → RunsWith (reading left calls failures r0 r1) (writing held write_failures w0 w1) (writing second_held second_failures e0 e1) settings most command end
+    → Runs (reading left calls failures r0 r1) (writing held write_failures w0 w1) (writing second_held second_failures e0 e1) settings.limits most command end

@@ -1,6 +1,6 @@
 -- What a command does with what it reads. limits are those that each message keeps, and most is how
 -- many reads may be made.
-use Rattle.std.specs.Prelude.{◌≡◌, ◌⊎◌, ℕ, false, List, None, Option}
+use Rattle.std.specs.Prelude.{◌≡◌, ◌⊎◌, ℕ, List, None, Option}
 use Rattle.dbus_device.specs.Write.{Wrote}
 use Rattle.dbus_value_model.specs.declared.limits.Limits.{Limits}
 use Rattle.cli_options.specs.declared.command.Command.{Command}
@@ -55,7 +55,3 @@ abbrev pub RunsWith : {R W E : Type 0} → Reading R → Writing W → Writing E
 RunsWith r w e settings most command end =
     GoesThrough (taken r) settings most (is_check command) (Writes w e settings command) end
     ⊎ GivesUp (taken r) settings most (is_check command) e (λ before. WritesSome w (writing e.held e.failures e.old before) settings command) end
-
--- settings that ask for no more than the limits
-abbrev pub plain : Limits → Settings
-plain limits = record { limits = limits; explains = false; keeps_going = false; handshake = None; window = record { skip = 0; limit = None } }

@@ -22,8 +22,7 @@ pub fn one_front()
     ensures { OneFront }
 {}
 
-/// By settings that ask for no more, a command but `check` does what it does under their limits
-/// alone.
+/// By settings that ask for no more, a command does what it does under their limits alone.
 pub fn plain_run<R: Source, W: Sink, E: Sink>()
     ensures { PlainRuns R.left R.calls R.failures W.held W.failures E.held E.failures }
 {}

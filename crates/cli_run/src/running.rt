@@ -1,11 +1,12 @@
 //! A command, over any reader and two writers, by its settings.
-ghost use Rattle.std.specs.Prelude.{◌≤◌, ◌^◌, false};
+ghost use Rattle.std.specs.Prelude.{◌≡◌, ◌≤◌, ◌^◌, false};
 ghost use Rattle.dbus_value_model.specs.Specification.{specification};
+ghost use Rattle.cli_options.specs.Windows.{ask_more};
 ghost use Rattle.cli_report.specs.Devices.{reading, writing};
 ghost use Rattle.cli_run.specs.Running.{Runs, RunsWith};
 
 use crate::closing::{status_of, write_count};
-use crate::counting::count_over;
+use crate::counting::count_through;
 use crate::going::{pass_through, tell_stop};
 use crate::output::{is_check, output_of};
 use crate::output_writer::OutputWriter;
@@ -99,22 +100,17 @@ pub fn run_within<A: Allocator + Copy, R: Source, W: Sink, E: Sink>(
         (writing E.held E.failures second.old second.new)
         limits reads command result }
 {
-    match command {
-        Command::Check => check(alloc, limits, reads, reader, first, second),
-        _ => {
-            let settings = Settings {
-                limits,
-                explains: false,
-                keeps_going: false,
-                handshake: None,
-                window: Window {
-                    skip: 0,
-                    limit: None,
-                },
-            };
-            run_with(alloc, command, settings, reads, reader, first, second)
-        }
-    }
+    let settings = Settings {
+        limits,
+        explains: false,
+        keeps_going: false,
+        handshake: None,
+        window: Window {
+            skip: 0,
+            limit: None,
+        },
+    };
+    run_with(alloc, command, settings, reads, reader, first, second)
 }
 
 /// Does what [`run_within`] does, by more settings.
@@ -131,7 +127,8 @@ pub fn run_within<A: Allocator + Copy, R: Source, W: Sink, E: Sink>(
 /// passed over C bytes`.
 ///
 /// These lines go to the second writer, but of `Check` to the first. `Check` of an input without
-/// fault writes `ok N messages B bytes`, and holds the bytes of a message as the other commands do.
+/// fault writes `ok N messages B bytes`. If the settings ask for explanations, to keep going or for
+/// a window, it holds the bytes of a message as the other commands do.
 ///
 /// `Done`: nothing was refused. `Refused`: something was, and all was told. `Failed`: as
 /// [`run_within`] says; if it was not a write to the second writer that failed, the line of the
@@ -153,6 +150,9 @@ pub fn run_with<A: Allocator + Copy, R: Source, W: Sink, E: Sink>(
 {
     let output = output_of(&command);
     let is_check = is_check(output);
+    if is_check && !settings.ask_more() {
+        return check(alloc, settings, reads, reader, first, second);
+    }
     let mut writer = OutputWriter {
         output,
         carried: Carried {
@@ -173,22 +173,25 @@ pub fn run_with<A: Allocator + Copy, R: Source, W: Sink, E: Sink>(
     }
 }
 
-// Counts the messages, and writes how many they are, or the fault, on the first writer.
+// What `check` does by settings that ask for no more: it counts the messages, and writes how many
+// they are, or the fault, on the first writer.
 fn check<A: Allocator + Copy, R: Source, W: Sink, E: Sink>(
     alloc: A,
-    limits: Limits,
+    settings: Settings,
     reads: u64,
     reader: &mut R,
     first: &mut W,
     second: &mut E,
 ) -> ExitStatus
-    requires { reads ≤ 2 ^ 32 }
-    ensures { Runs (reading R.left R.calls R.failures reader.old reader.new)
+    requires few { reads ≤ 2 ^ 32 }
+    requires no_more { ask_more settings ≡ false }
+    ensures { RunsWith (reading R.left R.calls R.failures reader.old reader.new)
         (writing W.held W.failures first.old first.new)
         (writing E.held E.failures second.old second.new)
-        limits reads Command.Check result }
+        settings reads Command.Check result }
 {
-    match count_over(limits, reads, reader) {
+    let (counted, _source) = count_through(settings, reads, reader);
+    match counted {
         Ok(counted) => match write_count(alloc, counted, first) {
             Ok(()) => status_of(counted.fault),
             Err(cause) => give_up(cause, second),

@@ -63,7 +63,8 @@ returns-in-Ok-None-clause-counts g c =
     let h = c.messages.invariant.2 in
     let read = rw c.in-Ok-None.field-0-is at (c.in-Ok-None.ensures.read rest c.messages.invariant.1) in
     let answer = read.1 h.unstopped in
-    tallied g.R.Source.left g.R.Source.calls g.R.Source.failures c.args.messages.now c.next.new.self c.requires (Ok _)
+    λ settings no_more same.
+    tallied g.R.Source.left g.R.Source.calls g.R.Source.failures c.args.messages.now c.next.new.self c.requires settings no_more same (Ok _)
     (hands_all adds_up h read.0 {s2 = tt} tt Ended _ refl c.done.ensures answer.2.done refl answer.0 (λ _. answer.1) c.in-Ok-None.ensures.failed)
 
 pub returns-in-Err-clause-counts : goal.returns-in-Err-clause-counts
@@ -73,6 +74,7 @@ returns-in-Err-clause-counts g c =
     let fault = c.in-Err.fault in
     let read = c.in-Err.ensures.read rest c.messages.invariant.1 in
     let answer : c.ended_by.result ≡ ended_by c.messages.count (done_of c.next.new.self) fault = c.ended_by.ensures ∙ ap (λ n. ended_by c.messages.count n fault) c.done-in-Err.ensures in
-    subst (λ x. Tallies (taken (reading g.R.Source.left g.R.Source.calls g.R.Source.failures (source_of c.args.messages.now) (source_of c.next.new.self))) (limits_of c.args.messages.now) (most_reads_of c.args.messages.now) x) (sym answer)
-    (tallied g.R.Source.left g.R.Source.calls g.R.Source.failures c.args.messages.now c.next.new.self c.requires (ended_by c.messages.count (done_of c.next.new.self) fault)
+    λ settings no_more same.
+    subst (λ x. Tallies (taken (reading g.R.Source.left g.R.Source.calls g.R.Source.failures (source_of c.args.messages.now) (source_of c.next.new.self))) settings (most_reads_of c.args.messages.now) x) (sym answer)
+    (tallied g.R.Source.left g.R.Source.calls g.R.Source.failures c.args.messages.now c.next.new.self c.requires settings no_more same (ended_by c.messages.count (done_of c.next.new.self) fault)
     (hands_faulted adds_up h read.0 {s2 = tt} tt fault (check_faults (rest ++ read.0.bytes) c.messages.messages c.next.new.self fault (read.1 h.unstopped)) c.in-Err.ensures.failed tt))
