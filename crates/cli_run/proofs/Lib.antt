@@ -14,3 +14,9 @@ pub mod GoClosing
 pub mod EndSteps
 pub mod NameSteps
 pub mod RunSteps
+pub mod ValueEnds
+pub mod MessageEnds
+pub mod SameParts
+pub mod SameOutputs
+pub mod SameRuns
+pub mod SameCuts

@@ -20,3 +20,5 @@ pub mod Running
 pub mod ByName
 pub mod CountLaws
 pub mod Laws
+pub mod Stated
+pub mod Alike

@@ -2,8 +2,11 @@
 //! and it does nothing when it runs.
 #![tactic(auto)]
 
+ghost use Rattle.cli_run.specs.Alike.{OneCount, OneRun, OneWithin};
 ghost use Rattle.cli_run.specs.Laws.{OneFront, OneOutput, PlainRuns, SomeOutput};
+ghost use Rattle.cli_run.specs.Stated.{NoneTruncated, StatedSuffice};
 
+use dbus_count::laws::one_table;
 use dbus_stream::{Sink, Source};
 
 /// Of each list of messages, and a fault after them or none, a command has an output.
@@ -26,3 +29,34 @@ pub fn one_front()
 pub fn plain_run<R: Source, W: Sink, E: Sink>()
     ensures { PlainRuns R.left R.calls R.failures W.held W.failures E.held E.failures }
 {}
+
+/// Bytes that state how many a message has, and that are neither a message nor refused, are fewer
+/// than they state.
+pub fn stated_suffice()
+    ensures { StatedSuffice }
+{}
+
+/// No fault of bytes is that of an input that ends within a message.
+pub fn none_truncated()
+    ensures { NoneTruncated }
+{}
+
+/// Two runs of a command by the same settings, neither of which failed, that read the same input
+/// end with the same status, and their writers got the same bytes; but what is explained of a
+/// message that is refused shows its bytes as far as they happened to be read, and `Json` may write
+/// a DOUBLE by other digits that read back as its bits.
+pub fn one_run<R, S, W, V, E, F>()
+    ensures { OneRun R S W V E F }
+{}
+
+/// The same of two runs of a command under the same limits alone, but `Json`.
+pub fn one_within<R, S, W, V, E, F>()
+    ensures { OneWithin R S W V E F }
+{}
+
+/// The same of two runs that count messages by their names.
+pub fn one_count<R, S, W, V, E, F>()
+    ensures { OneCount R S W V E F }
+{
+    one_table();
+}

@@ -1,0 +1,184 @@
+-- An input has one list of parts, and one rest after them that ends a run; but what was kept of a
+-- part that is passed over is as much as happened to be read.
+use Rattle.std.proofs.Common.{◌≡◌, ℕ, ◌≤◌, Bool, true, List, [], ◌∷◌, ◌++◌, length, drop, take, refl, sym, ap, ◌∙◌, subst, arith, append-nil, append_assoc, inl, inr, take-append-drop}
+use Rattle.std.proofs.lemmas.Bool.{cases_lt}
+use Rattle.std.proofs.lemmas.List.{length-take, length-take-le, take_all, take-take}
+use Rattle.dbus_value_model.specs.ByteNumbers.{IsBytes}
+use Rattle.dbus_value_model.proofs.Numbers.{IsBytes-front}
+use Rattle.dbus_value_model.specs.declared.fault.Fault.{Fault}
+use Rattle.dbus_value_model.specs.declared.limits.Limits.{Limits}
+use Rattle.dbus_value_model.specs.Reading.{Outcome, Done, Faulty, Partial}
+use Rattle.dbus_value_laws.proofs.Agreement.{read_refuses}
+use Rattle.dbus_header.specs.HeaderReading.{fixed_header}
+use Rattle.dbus_header.specs.MessageItems.{fixed_items}
+use Rattle.dbus_header.specs.MessageOutcomes.{IsWhole, IsRefused, IsPartial}
+use Rattle.dbus_header.specs.StatedLengths.{StatesLength}
+use Rattle.dbus_header.specs.declared.fixed_header.FixedHeader.{FixedHeader}
+use Rattle.dbus_header.proofs.MessageParts.{Agrees-fixed}
+use Rattle.dbus_header.proofs.OutcomeLaws.{not_both, nothing_partial, one_fault, one_outcome, one_whole, refused_for_good}
+use Rattle.dbus_header.proofs.StatedLengths.{header_faulty, header_partial, header_short, header_states, one_stated}
+use Rattle.dbus_stream.specs.Cut.{CutMessage, CutOutcome, Ended, Unfinished, Refused, IsOutcome}
+use Rattle.dbus_stream.specs.CutEnds.{fault_at_end}
+use Rattle.dbus_stream.specs.Passing.{StatesAll}
+use Rattle.dbus_stream.proofs.PassSteps.{states_front}
+use Rattle.cli_report.specs.Gathering.{IsPrefixTo}
+use Rattle.cli_run.specs.Inputs.{BeginWithParts, IsLast, IsPart, Part, PassedOver, Whole}
+use Rattle.cli_run.proofs.MessageEnds.{partial_short, refused_reason}
+
+-- parts are the same but for what was kept
+abbrev pub AreSame : List Part → List Part → Type 0
+AreSame [] [] = Unit {0}
+AreSame (Whole a ∷ parts) (Whole b ∷ others) = (a ≡ b) × AreSame parts others
+AreSame (PassedOver k f n ∷ parts) (PassedOver l g m ∷ others) = (f ≡ g) × (n ≡ m) × AreSame parts others
+AreSame parts others = ⊥
+
+-- if any is passed over, the run goes on
+abbrev pub ArePassed : (goes_on : Bool) → List Part → Type 0
+ArePassed goes_on [] = Unit {0}
+ArePassed goes_on (Whole item ∷ parts) = ArePassed goes_on parts
+ArePassed goes_on (PassedOver kept fault n ∷ parts) = (goes_on ≡ true) × ArePassed goes_on parts
+
+module _ (limits : Limits) where
+  -- these bytes, which are all that is left of the input, end a run
+  pub record EndsHere (goes_on : Bool) (w : List ℕ) (outcome : CutOutcome) : Type 0 where
+    pub outcome_is : IsOutcome limits w outcome
+    pub none_passed : (fault : Fault) (n : ℕ) → IsRefused limits w fault → goes_on ≡ true → StatesLength limits w n → n ≤ length w → ⊥
+
+  refused_from : (kept w : List ℕ) (fault : Fault) → IsPrefixTo kept w → IsRefused limits kept fault → IsRefused limits w fault
+  refused_from kept w fault p r = subst (λ l. IsRefused limits l fault) (sym p.1) (refused_for_good limits kept p.0 fault r)
+
+  states_from : (kept w : List ℕ) (n : ℕ) → IsPrefixTo kept w → StatesLength limits kept n → StatesLength limits w n
+  states_from kept w n p s = subst (λ l. StatesLength limits l n) (sym p.1) (one_stated limits kept p.0 n n s).0
+
+  one_length : (w : List ℕ) (n m : ℕ) → StatesLength limits w n → StatesLength limits w m → m ≡ n
+  one_length w n m s t = (one_stated limits w [] n m s).1 (subst (λ l. StatesLength limits l m) (sym (append-nil w)) t)
+
+  -- ---- one list of parts
+
+  no_whole : (w : List ℕ) (outcome : CutOutcome) (item : CutMessage) → IsOutcome limits w outcome → IsWhole limits w item.order item.message item.size → ⊥
+  no_whole w Ended item o h = (one_outcome limits w).1 item.order item.message item.size h (subst (λ l. IsPartial limits l) (sym o) (nothing_partial limits))
+  no_whole w Unfinished item o h = (one_outcome limits w).1 item.order item.message item.size h o.1
+  no_whole w (Refused fault) item o h = not_both limits w item.order item.message item.size fault h o
+
+  no_part : (goes_on : Bool) (w : List ℕ) (outcome : CutOutcome) (part : Part) (others : List Part) → EndsHere goes_on w outcome → IsPart limits w part → ArePassed goes_on (part ∷ others) → ⊥
+  no_part goes_on w outcome (Whole item) others e p h = no_whole w outcome item e.outcome_is p
+  no_part goes_on w outcome (PassedOver kept fault n) others e p h = e.none_passed fault n (refused_from kept w fault p.0 p.1) h.0 (states_from kept w n p.0 p.2) p.3
+
+  same_item : (a b : CutMessage) → a.order ≡ b.order → a.message ≡ b.message → a.size ≡ b.size → a ≡ b
+  same_item a b p q r = λ i. record { order = p i; message = q i; size = r i }
+
+  pub same_parts : (goes_on : Bool) (bytes : List ℕ) (parts others : List Part) (rest last : List ℕ) (a b : CutOutcome) → BeginWithParts limits bytes parts rest → BeginWithParts limits bytes others last
+      → ArePassed goes_on parts → ArePassed goes_on others → EndsHere goes_on rest a → EndsHere goes_on last b → AreSame parts others × (rest ≡ last)
+  same_parts goes_on bytes [] [] rest last a b p q g h e f = (tt, sym p ∙ q)
+  same_parts goes_on bytes [] (part ∷ others) rest last a b p q g h e f = absurd (no_part goes_on bytes a part others (subst (λ l. EndsHere goes_on l a) (sym p) e) q.0 h)
+  same_parts goes_on bytes (part ∷ parts) [] rest last a b p q g h e f = absurd (no_part goes_on bytes b part parts (subst (λ l. EndsHere goes_on l b) (sym q) f) p.0 g)
+  same_parts goes_on bytes (Whole x ∷ parts) (Whole y ∷ others) rest last a b p q g h e f =
+      let one = one_whole limits bytes x.order y.order x.message y.message x.size y.size p.0 q.0 in
+      let there = subst (λ n. BeginWithParts limits (drop n bytes) others last) (sym one.2) q.1 in
+      let more = same_parts goes_on (drop x.size bytes) parts others rest last a b p.1 there g h e f in
+      ((same_item x y one.0 one.1 one.2, more.0), more.1)
+  same_parts goes_on bytes (Whole x ∷ parts) (PassedOver k f n ∷ others) rest last a b p q g h d e = absurd (not_both limits bytes x.order x.message x.size f p.0 (refused_from k bytes f q.0.0 q.0.1))
+  same_parts goes_on bytes (PassedOver k f n ∷ parts) (Whole y ∷ others) rest last a b p q g h d e = absurd (not_both limits bytes y.order y.message y.size f q.0 (refused_from k bytes f p.0.0 p.0.1))
+  same_parts goes_on bytes (PassedOver k x n ∷ parts) (PassedOver l y m ∷ others) rest last a b p q g h e f =
+      let fault : x ≡ y = one_fault limits bytes x y (refused_from k bytes x p.0.0 p.0.1) (refused_from l bytes y q.0.0 q.0.1) in
+      let size : n ≡ m = one_length bytes m n (states_from l bytes m q.0.0 q.0.2) (states_from k bytes n p.0.0 p.0.2) in
+      let there = subst (λ k. BeginWithParts limits (drop k bytes) others last) (sym size) q.1 in
+      let more = same_parts goes_on (drop n bytes) parts others rest last a b p.1 there g.1 h.1 e f in
+      ((fault, size, more.0), more.1)
+
+  -- ---- where a run ends
+
+  -- the first sixteen bytes of a refused message state the length that all bytes state
+  states_sixteen : (kept more : List ℕ) (fault : Fault) (n : ℕ) → IsBytes kept → IsRefused limits kept fault → StatesLength limits (kept ++ more) n → StatesLength limits (take 16 kept) n
+  states_sixteen kept more fault n bytes refused s = go (fixed_header limits 0 front) refl
+    where
+      front : List ℕ
+      front = take 16 kept
+
+      rest : List ℕ
+      rest = drop 16 kept
+
+      front_bytes : IsBytes front
+      front_bytes = IsBytes-front kept front rest (sym (take-append-drop 16 kept)) bytes
+
+      all : front ++ (rest ++ more) ≡ kept ++ more
+      all = sym (append_assoc front rest more) ∙ ap (λ l. l ++ more) (take-append-drop 16 kept)
+
+      go : (read : Outcome FixedHeader) → fixed_header limits 0 front ≡ read → StatesLength limits front n
+      go (Done h q t) e =
+          let k = header_states limits front front_bytes h q t e in
+          subst (λ m. StatesLength limits front m) (sym ((one_stated limits front (rest ++ more) _ n k).1 (subst (λ l. StatesLength limits l n) (sym all) s))) k
+      go (Faulty f) e =
+          let more_refused = (Agrees-fixed limits).refuses_more (rest ++ more) 0 front f (read_refuses (fixed_items limits) (fixed_header limits) (Agrees-fixed limits) 0 front front_bytes f e) in
+          absurd (header_faulty limits (front ++ (rest ++ more)) f ((Agrees-fixed limits).refuses 0 (front ++ (rest ++ more)) f more_refused) n (subst (λ l. StatesLength limits l n) (sym all) s))
+      go Partial e =
+          let short = header_short limits front e in
+          let size = length-take 16 kept in
+          let same : front ≡ kept = take_all 16 kept (omega (arith, short, size)) in
+          absurd ((one_outcome limits kept).2 fault refused (subst (λ l. IsPartial limits l) same (header_partial limits front front_bytes e)))
+
+  some_stated : (w : List ℕ) (n : ℕ) → StatesLength limits w n → 16 ≤ n
+  unfolding StatesLength
+  some_stated w n s = omega (arith, s.3)
+
+  -- so bytes of it that are as many are refused
+  states_all : (kept more : List ℕ) (fault : Fault) (n : ℕ) → IsBytes kept → IsRefused limits kept fault → StatesLength limits (kept ++ more) n → StatesAll limits kept n
+  states_all kept more fault n bytes refused s =
+      let states = states_sixteen kept more fault n bytes refused s in (
+        states,
+        λ m le partial. elim (cases_lt (length kept) m) [
+          | inl few ↦ (one_outcome limits kept).2 fault refused (subst (λ l. IsPartial limits l) (take_all m kept (omega (arith, few))) partial)
+          | inr there ↦ (
+              let long = some_stated (take 16 kept) n states in
+              let front_bytes = IsBytes-front kept (take m kept) (drop m kept) (sym (take-append-drop m kept)) bytes in
+              let same : take 16 (take m kept) ≡ take 16 kept = take-take 16 m kept (omega (arith, long, le)) in
+              let enough = partial_short limits (take m kept) n front_bytes (states_front limits (take m kept) n (subst (λ l. StatesLength limits l n) (sym same) states)) partial in
+              let size = length-take-le m kept there in
+              absurd (omega (arith, enough, size, le))
+              )
+        ],
+      )
+
+  pub ends_here : (goes_on : Bool) (kept rest more : List ℕ) (outcome : CutOutcome) (at_end : Type 0) → (at_end → more ≡ []) → IsBytes (rest ++ more)
+      → IsOutcome limits kept outcome → IsLast goes_on limits kept rest outcome at_end → EndsHere goes_on (rest ++ more) outcome × (fault_at_end kept outcome ≡ fault_at_end (rest ++ more) outcome)
+  ends_here goes_on kept rest more Ended at_end none bytes o last =
+      let all : rest ++ more ≡ kept = (λ i. last.0 i ++ none last.1 i) ∙ append-nil kept in (
+        record {
+          outcome_is = all ∙ o;
+          none_passed = λ fault n refused goes s le. (one_outcome limits (rest ++ more)).2 fault refused (subst (λ l. IsPartial limits l) (sym (all ∙ o)) (nothing_partial limits));
+        },
+        refl,
+      )
+  ends_here goes_on kept rest more Unfinished at_end none bytes o last =
+      let all : rest ++ more ≡ kept = (λ i. last.0 i ++ none last.1 i) ∙ append-nil kept in
+      let same = subst (λ l. IsOutcome limits l Unfinished) (sym all) o in (
+        record { outcome_is = same; none_passed = λ fault n refused goes s le. (one_outcome limits (rest ++ more)).2 fault refused same.1 },
+        ap (λ l. fault_at_end l Unfinished) (sym all),
+      )
+  ends_here goes_on kept rest more (Refused fault) at_end none bytes o last = elim last [
+    | inl all ↦ (
+        let same : rest ++ more ≡ kept ++ more = ap (λ l. l ++ more) all.0 in
+        let kept_bytes = IsBytes-front (rest ++ more) kept more same bytes in (
+          record {
+            outcome_is = refused_from kept (rest ++ more) fault (more, same) o;
+            none_passed = λ other n refused goes s le. all.1 goes (refused_reason limits kept fault kept_bytes o) n
+                (states_all kept more fault n kept_bytes o (subst (λ l. StatesLength limits l n) same s));
+          },
+          refl,
+        )
+        )
+    | inr cut ↦ (
+        let front : IsPrefixTo kept (rest ++ more) = (cut.0.front.0 ++ more, ap (λ l. l ++ more) cut.0.front.1 ∙ append_assoc kept cut.0.front.0 more) in
+        let all : rest ++ more ≡ rest = ap (λ l. rest ++ l) (none cut.1) ∙ append-nil rest in (
+          record {
+            outcome_is = refused_from kept (rest ++ more) fault front o;
+            none_passed = λ other n refused goes s le.
+                let size = one_length (rest ++ more) n cut.0.size s (states_from kept (rest ++ more) cut.0.size front cut.0.states) in
+                let long = ap length all in
+                let short = cut.0.short in
+                omega (arith, le, size, long, short);
+          },
+          refl,
+        )
+        )
+  ]

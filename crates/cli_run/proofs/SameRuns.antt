@@ -1,0 +1,186 @@
+-- Two runs that read the same input, and do not fail, end alike.
+use Rattle.std.proofs.Common.{◌≡◌, ℕ, ◌+◌, Bool, false, List, [], ◌∷◌, ◌++◌, length, drop, take, None, Some, Option, Ok, refl, sym, ap, ◌∙◌, subst, inl, inr, take-append-drop}
+use Rattle.std.specs.Io.KnownBytes.{Consumes, IsAtEnd}
+use Rattle.dbus_device.specs.Write.{Wrote}
+use Rattle.dbus_value_model.specs.ByteNumbers.{IsBytes}
+use Rattle.dbus_value_model.proofs.Numbers.{IsBytes-rest}
+use Rattle.dbus_value_model.specs.declared.fault.Fault.{Fault}
+use Rattle.dbus_value_model.specs.declared.limits.Limits.{Limits}
+use Rattle.dbus_count.specs.Counting.{Counting}
+use Rattle.dbus_count.specs.Tables.{words}
+use Rattle.dbus_count.specs.declared.form.Form.{Form}
+use Rattle.dbus_count.specs.Laws.{OneTable}
+use Rattle.dbus_stream.specs.Cut.{IsOutcome}
+use Rattle.dbus_stream.specs.CutEnds.{fault_at_end}
+use Rattle.dbus_stream.proofs.CutLaws.{IsCut-one}
+use Rattle.cli_options.specs.declared.settings.Settings.{Settings}
+use Rattle.cli_report.specs.Devices.{Taken, Writing, taken, writing}
+use Rattle.cli_report.specs.declared.ending.ExitStatus.{ExitStatus}
+use Rattle.cli_report.specs.declared.ending.ExitStatus.TheVariants as status
+use Rattle.cli_run.specs.Alike.{ExplainsNone, OneCount, OneRun}
+use Rattle.cli_run.specs.ByName.{EndsCount, WritesTables, counting}
+use Rattle.cli_run.specs.Going.{GoesThrough, IsThrough}
+use Rattle.cli_run.specs.Inputs.{BeginWithParts, Part, Placed, placed, size_of, sizes_of}
+use Rattle.cli_run.specs.Output.{is_check}
+use Rattle.cli_run.specs.Parts.{IsToldLast, closing_line, passed_count, status_at, tally_of}
+use Rattle.cli_run.specs.Running.{Writes}
+use Rattle.cli_run.specs.Told.{first_of, second_of}
+use Rattle.cli_run.specs.Windows.{written}
+use Rattle.cli_run.specs.declared.tally.Tally.{Tally}
+use Rattle.cli_run.proofs.PartLaws.{parts_more}
+use Rattle.cli_run.proofs.SameOutputs.{are_passed, none_last, none_refused, none_told, same_check, same_last, same_outputs, same_placed, same_tally, same_told}
+use Rattle.cli_run.proofs.SameParts.{AreSame, EndsHere, ends_here, same_parts}
+
+-- ---- what a run reads is the input up to where it ends
+
+pub left_over : (a b : Option (List ℕ)) (input bytes : List ℕ) → a ≡ Some input → Consumes a b bytes → (more : List ℕ) × (b ≡ Some more) × (input ≡ bytes ++ more)
+left_over None b input bytes e c = absurd cc
+left_over (Some x) None input bytes e c = absurd c
+left_over (Some x) (Some y) input bytes e c = let same : x ≡ input = cc in (y, refl, sym same ∙ c)
+
+parts_bytes : (limits : Limits) (bytes : List ℕ) (parts : List Part) (rest : List ℕ) → BeginWithParts limits bytes parts rest → IsBytes bytes → IsBytes rest
+parts_bytes limits bytes [] rest b are = subst IsBytes b are
+parts_bytes limits bytes (part ∷ parts) rest b are =
+    let n = size_of part in
+    parts_bytes limits (drop n bytes) parts rest b.1 (IsBytes-rest bytes (take n bytes) (drop n bytes) (sym (take-append-drop n bytes)) are)
+
+module _ (settings : Settings) (is_check : Bool) (input : List ℕ) (bytes : IsBytes input) where
+  record IsReached {t : Taken} {most : ℕ} {tally : Tally} {fault : Option Fault} {told text : List ℕ} (h : IsThrough t settings most is_check tally fault told text) : Type 0 where
+    last : List ℕ
+    begin : BeginWithParts settings.limits input h.parts last
+    ends : EndsHere settings.limits settings.keeps_going last h.tells.outcome
+    fault_is : fault ≡ fault_at_end last h.tells.outcome
+
+  reached : {t : Taken} {most : ℕ} {tally : Tally} {fault : Option Fault} {told text : List ℕ} (h : IsThrough t settings most is_check tally fault told text) → t.left0 ≡ Some input → IsReached h
+  reached {t} h known =
+      let after = left_over t.left0 t.left1 input h.covers.bytes known h.covers.consumed in
+      let last = h.rest ++ after.0 in
+      let begin = subst (λ l. BeginWithParts settings.limits l h.parts last) (sym after.2) (parts_more settings.limits h.covers.bytes h.parts h.rest after.0 h.covers.begin) in
+      let none : IsAtEnd t.left1 → after.0 ≡ [] = λ e. subst IsAtEnd after.1 e in
+      let all = ends_here settings.limits settings.keeps_going h.kept h.rest after.0 h.tells.outcome (IsAtEnd t.left1) none (parts_bytes settings.limits input h.parts last begin bytes) h.tells.outcome_is h.last in
+      record { last = last; begin = begin; ends = all.0; fault_is = h.tells.fault_is ∙ all.1 }
+
+  -- ---- two runs
+
+  module _ {t u : Taken} {most more : ℕ} {P Q : List Placed → (told : List ℕ) → Type 0} {end other : ExitStatus} (g : GoesThrough t settings most is_check P end) (h : GoesThrough u settings more is_check Q other)
+      (explains : ExplainsNone settings end) (known : t.left0 ≡ Some input) (known_too : u.left0 ≡ Some input) where
+    a : IsReached g.through
+    a = reached g.through known
+
+    b : IsReached h.through
+    b = reached h.through known_too
+
+    same : AreSame g.through.parts h.through.parts × (a.last ≡ b.last)
+    same = same_parts settings.limits settings.keeps_going input g.through.parts h.through.parts a.last b.last g.through.tells.outcome h.through.tells.outcome a.begin b.begin
+        (are_passed settings 1 0 g.through.parts g.told g.through.covers.tells) (are_passed settings 1 0 h.through.parts h.told h.through.covers.tells) a.ends b.ends
+
+    outcome_is : g.through.tells.outcome ≡ h.through.tells.outcome
+    outcome_is =
+        let last = subst (λ l. IsOutcome settings.limits l h.through.tells.outcome) (sym same.1) b.ends.outcome_is in
+        (IsCut-one settings.limits a.last [] [] a.last a.last _ _ (record { messages = refl; outcome_is = a.ends.outcome_is }) (record { messages = refl; outcome_is = last })).2
+
+    fault_is : g.fault ≡ h.fault
+    fault_is = a.fault_is ∙ ((λ i. fault_at_end (same.1 i) (outcome_is i)) ∙ sym b.fault_is)
+
+    parts_tally : tally_of g.through.parts ≡ tally_of h.through.parts
+    parts_tally = same_tally g.through.parts h.through.parts same.0
+
+    tally_is : g.tally ≡ h.tally
+    tally_is = g.through.tally_is ∙ (parts_tally ∙ sym h.through.tally_is)
+
+    told_last : IsToldLast settings (length g.through.parts + 1) (sizes_of g.through.parts) h.through.kept g.fault h.text
+    told_last = subst (λ (f : Option Fault). IsToldLast settings (length g.through.parts + 1) (sizes_of g.through.parts) h.through.kept f h.text) (sym fault_is)
+        (subst (λ (t : Tally). IsToldLast settings (t.count + 1) t.size h.through.kept h.fault h.text) (sym parts_tally) h.through.tells.told)
+
+    told_is : g.told ++ g.text ≡ h.told ++ h.text
+    told_is = elim explains [
+      | inl off ↦ (
+          let first = same_told settings off 1 0 g.through.parts h.through.parts g.told h.told same.0 g.through.covers.tells h.through.covers.tells in
+          let last = same_last settings off (length g.through.parts + 1) (sizes_of g.through.parts) g.through.kept h.through.kept g.fault g.text h.text g.through.tells.told told_last in
+          λ i. first i ++ last i
+          )
+      | inr done ↦ (
+          let none = none_refused g.tally.passed g.fault (sym g.end_is ∙ done) in
+          let passed : passed_count g.through.parts ≡ 0 = ap (λ (t : Tally). t.passed) (sym g.through.tally_is) ∙ none.0 in
+          let passed_too : passed_count h.through.parts ≡ 0 = ap (λ (t : Tally). t.passed) (sym parts_tally) ∙ passed in
+          let first = none_told settings 1 0 g.through.parts g.told passed g.through.covers.tells in
+          let first_too = none_told settings 1 0 h.through.parts h.told passed_too h.through.covers.tells in
+          let last = none_last settings (length g.through.parts + 1) (sizes_of g.through.parts) g.through.kept g.fault g.text none.1 g.through.tells.told in
+          let last_too = none_last settings (length g.through.parts + 1) (sizes_of g.through.parts) h.through.kept g.fault h.text none.1 told_last in
+          (λ i. first i ++ last i) ∙ sym (λ i. first_too i ++ last_too i)
+          )
+    ]
+
+    goes_alike : (items : List Placed) × (told : List ℕ) × P items told × Q items told × (other ≡ end)
+    goes_alike =
+        let closing : closing_line is_check g.tally g.tally.passed g.fault ≡ closing_line is_check h.tally h.tally.passed h.fault = λ i. closing_line is_check (tally_is i) (tally_is i).passed (fault_is i) in
+        let all : g.told ++ g.text ++ closing_line is_check g.tally g.tally.passed g.fault ≡ h.told ++ h.text ++ closing_line is_check h.tally h.tally.passed h.fault = λ i. told_is i ++ closing i in
+        let items = same_placed 1 0 g.through.parts h.through.parts same.0 in (
+          placed 1 0 g.through.parts,
+          g.told ++ g.text ++ closing_line is_check g.tally g.tally.passed g.fault,
+          g.came,
+          subst (λ l. Q l (g.told ++ g.text ++ closing_line is_check g.tally g.tally.passed g.fault)) (sym items)
+              (subst (λ l. Q (placed 1 0 h.through.parts) l) (sym all) h.came),
+          h.end_is ∙ ((λ i. status_at (sym tally_is i).passed (sym fault_is i)) ∙ sym g.end_is),
+        )
+
+-- ---- the laws
+
+pub one_run : (R S W V E F : Type 0) → OneRun R S W V E F
+one_run R S W V E F r s w v e f settings most more command copy end other same is runs ran = elim runs [
+  | inl g ↦ elim ran [
+    | inl h ↦ (
+        let checks = same_check command copy same in
+        let input = is.input in
+        let all = goes_alike settings (is_check command) input.0 input.1 g
+        (subst (λ c. GoesThrough (taken s) settings more c (Writes v f settings copy) other) (sym checks) h) is.explains input.2 input.3 in
+        let told = all.1 in (
+          record { status_is = all.4; items = all.0; told = told; one = all.2; same = all.3 },
+          λ exact.
+              let texts = same_outputs command copy same exact all.0 all.2.texts all.3.texts all.2.made all.3.made in
+              let first : first_of (is_check command) (written settings.window all.2.texts) told ≡ first_of (is_check copy) (written settings.window all.3.texts) told
+              = λ i. first_of (checks i) (written settings.window (texts i)) told in
+              let second : second_of (is_check command) told ≡ second_of (is_check copy) told = λ i. second_of (checks i) told in
+              record {
+                status_is = all.4;
+                first = (first_of (is_check command) (written settings.window all.2.texts) told, all.2.first, subst (λ l. Wrote v.held v.failures v.old l v.new) (sym first) all.3.first);
+                second = (second_of (is_check command) told, all.2.second, subst (λ l. Wrote f.held f.failures f.old l f.new) (sym second) all.3.second);
+              },
+        )
+        )
+    | inr gave_up ↦ absurd (is.other_done gave_up.failed)
+  ]
+  | inr gave_up ↦ absurd (is.done gave_up.failed)
+]
+
+-- the tables were written
+ended : {W E : Type 0} (w : Writing W) (e : Writing E) (form : Form) (c : Counting) (due end : ExitStatus) → (end ≡ status.Failed → ⊥) → EndsCount w e form c due end
+    → WritesTables w form c (Ok tt) × (e.new ≡ e.old) × (end ≡ due)
+ended w e form c due end done ends = elim ends [ inl all ↦ all | inr some ↦ absurd (done some.3) ]
+
+pub one_count : (R S W V E F : Type 0) → OneTable → OneCount R S W V E F
+one_count R S W V E F one_table r s w v e f settings form most more end other is counts counted = elim counts [
+  | inl g ↦ elim counted [
+    | inl h ↦ (
+        let input = is.input in
+        let due = (ended w (writing e.held e.failures g.before e.new) form _ g.due end is.done g.through.came.1).2 in
+        let explains : ExplainsNone settings g.due = elim is.explains [ inl off ↦ inl off | inr all ↦ inr (sym due ∙ all) ] in
+        let all = goes_alike settings false input.0 input.1 g.through h.through explains input.2 input.3 in
+        let told = all.1 in
+        let one = ended w (writing e.held e.failures g.before e.new) form (counting all.0) g.due end is.done all.2.1 in
+        let too = ended v (writing f.held f.failures h.before f.new) form (counting all.0) h.due other is.other_done all.3.1 in
+        let table = one_table form (counting all.0) words one.0.0 too.0.0 one.0.1 too.0.1 in
+        record {
+          status_is = too.2 ∙ (all.4 ∙ sym one.2);
+          first = (one.0.0, one.0.2, subst (λ l. Wrote v.held v.failures v.old l v.new) (sym table) too.0.2);
+          second = (
+            told,
+            subst (λ (x : E). Wrote e.held e.failures e.old told x) (sym one.1) all.2.0,
+            subst (λ (x : F). Wrote f.held f.failures f.old told x) (sym too.1) all.3.0,
+          );
+        }
+        )
+    | inr gave_up ↦ absurd (is.other_done gave_up.0.failed)
+  ]
+  | inr gave_up ↦ absurd (is.done gave_up.0.failed)
+]

@@ -1,0 +1,5 @@
+use Rattle.cli_run.proofs.SameCuts.{one_within}
+use Rattle.cli_run.proofs.laws.one_within.Goals as goal
+
+pub returns : goal.returns
+returns g c = one_within _ _ _ _ _ _
