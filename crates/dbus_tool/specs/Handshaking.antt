@@ -1,6 +1,6 @@
 -- A handshake is read before the messages, from a source that is read ahead.
 -- D-Bus Specification, "Authentication Protocol".
-use Rattle.std.specs.Prelude.{◌≡◌, ◌⊎◌, ℕ, List, ◌++◌, Option, Result, codes, decimal}
+use Rattle.std.specs.Prelude.{◌≡◌, ◌⊎◌, ℕ, List, ◌++◌, Option, Some, None, Result, Ok, Err, codes, decimal}
 use Rattle.std.specs.Io.KnownBytes.{prepend_known}
 use Rattle.dbus_device.specs.Write.{Wrote, Stopped}
 use Rattle.dbus_handshake_input.specs.Ahead.{calls_of, kept_of, source_of}
@@ -28,6 +28,12 @@ module _ {R : Type 0} (left : R → Option (List ℕ)) (calls failures : R → �
   -- count
   abbrev pub ReadsHandshake : Side → ReadAhead R → ReadAhead R → Result (Unit {0}) HandshakeFault → Type 0
   ReadsHandshake side old new result = Passes left calls side old new result × Counts (failures (source_of old)) (failures (source_of new)) result
+
+  -- the same, if one is to come first
+  abbrev pub TakesHandshake : Option Side → ReadAhead R → ReadAhead R → Result (Unit {0}) HandshakeFault → Type 0
+  TakesHandshake None old new (Ok x) = new ≡ old
+  TakesHandshake None old new (Err fault) = ⊥
+  TakesHandshake (Some side) old new result = ReadsHandshake side old new result
 
 -- the offset of the fault of a handshake and its reason
 abbrev pub handshake_line : ℕ → HandshakeReason → List ℕ

@@ -1,21 +1,20 @@
 -- What the program does for the words of its command line.
-use Rattle.std.specs.Prelude.{◌≡◌, ◌⊎◌, ℕ, ◌^◌, Bool, true, false, ◌&&◌, codes, List, Option, Some, None, Result, Ok, Err, IfOk, string_bytes}
+use Rattle.std.specs.Prelude.{◌≡◌, ◌⊎◌, ℕ, ◌^◌, Bool, true, false, ◌&&◌, codes, List, Option, Result, Ok, Err, IfOk, string_bytes}
 use Rattle.clap.specs.Words.{Text}
-use Rattle.dbus_device.specs.Write.{Wrote, Stopped}
+use Rattle.dbus_device.specs.Write.{Wrote, Stopped, WritesAll}
+use Rattle.dbus_device.specs.declared.writing.WrittenOnly.{WrittenOnly}
 use Rattle.cli_options.specs.Named.{IsNamedBy}
 use Rattle.cli_options.specs.Told.{TellsFault}
 use Rattle.cli_options.specs.Unowned.{lacks_owner}
-use Rattle.cli_options.specs.Windows.{ask_more}
 use Rattle.cli_run.specs.ByName.{CountsByName}
 use Rattle.cli_report.specs.Devices.{Reading, Writing, writing}
-use Rattle.dbus_tool.specs.Handshaking.{ReadsHandshake, Shows, StopsBy, TellsHandshake, ahead}
+use Rattle.dbus_tool.specs.Handshaking.{Shows, StopsBy, TakesHandshake, TellsHandshake, ahead}
 use Rattle.dbus_tool.specs.Listing.{Lists}
 use Rattle.dbus_tool.specs.RuleLines.{IsRuleTold}
-use Rattle.cli_run.specs.Running.{Runs, RunsWith}
+use Rattle.cli_run.specs.Running.{RunsWith}
 use Rattle.cli_report.specs.Failing.{Told}
 use Rattle.dbus_handshake_input.specs.declared.fault.HandshakeFault.{HandshakeFault}
 use Rattle.dbus_handshake_input.specs.declared.read_ahead.ReadAhead.{ReadAhead}
-use Rattle.dbus_handshake_input.specs.declared.side.Side.{Side}
 use Rattle.cli_options.specs.declared.asked.Asked.{Asked}
 use Rattle.cli_options.specs.declared.asked.Asked.TheVariants.{Messages, Count, Handshake}
 use Rattle.cli_options.specs.declared.command.Command.{Command}
@@ -43,11 +42,6 @@ abbrev pub ShowsText : {W E : Type 0} → Writing W → Writing E → List ℕ �
 ShowsText w e text end = ((end ≡ status.Done) × Wrote w.held w.failures w.old text w.new × (e.new ≡ e.old))
     ⊎ ((end ≡ status.Failed) × Told e.held e.failures e.old e.new cause.WriteFailed × (n : ℕ) × Stopped w.held w.failures w.old text n w.new)
 
--- what is done for a command by its settings: by its limits alone, if they ask for no more
-abbrev pub RunsBy : {R W E : Type 0} → (more : Bool) → Reading R → Writing W → Writing E → Settings → Command → ExitStatus → Type 0
-RunsBy false r w e settings command end = Runs r w e settings.limits (2 ^ 32) command end
-RunsBy true r w e settings command end = RunsWith r w e settings (2 ^ 32) command end
-
 -- the form in which the tables are written
 abbrev pub table_form : Form → tables.Form
 table_form asked.Text = written.Text
@@ -55,40 +49,40 @@ table_form asked.Json = written.Json
 
 -- what is done with messages by settings: a command is run, or they are counted by their names
 abbrev pub DoesBy : {R W E : Type 0} → Reading R → Writing W → Writing E → Settings → Task → ExitStatus → Type 0
-DoesBy r w e settings (Run command) end = RunsBy (ask_more settings) r w e settings command end
+DoesBy r w e settings (Run command) end = RunsWith r w e settings (2 ^ 32) command end
 DoesBy r w e settings (CountAll form) end = CountsByName r w e settings (table_form form) (2 ^ 32) end
 
 -- what is said of a rule whose sender has no owner
 abbrev pub owner_note : List ℕ
 owner_note = codes "note: no owner is known for a rule's sender; --owner NAME=UNIQUE gives one, and --learn-owners takes them from the bus's signals\n"
 
-module _ {R W E : Type 0} (left : R → Option (List ℕ)) (calls failures : R → ℕ) (old new : ReadAhead R) (w : Writing W) (e : Writing E) where
-  -- the handshake of the side was read, and this was done with what follows; or none was read,
-  -- which was told
-  abbrev pub FollowsHandshake : Side → (Reading (ReadAhead R) → Type 0) → ExitStatus → Type 0
-  FollowsHandshake side Done end =
-      ((begun : ReadAhead R) × ReadsHandshake left calls failures side old begun (Ok tt) × Done (ahead left calls failures begun new))
-      ⊎ ((why : HandshakeFault) × ReadsHandshake left calls failures side old new (Err why) × (w.new ≡ w.old) × TellsHandshake e.held e.failures e.old e.new why end)
-
-  -- the task is done with all that the reader gives, or with what follows the handshake of a side
-  abbrev pub DoesFrom : Option Side → Settings → Task → ExitStatus → Type 0
-  DoesFrom None settings task end = DoesBy (ahead left calls failures old new) w e settings task end
-  DoesFrom (Some side) settings task end = FollowsHandshake side (λ r. DoesBy r w e settings task end) end
+-- it was written, if it is due, or a write of it failed
+abbrev pub Notes : {E : Type 0} → (E → Option (List ℕ)) → (E → ℕ) → (is_due : Bool) → E → E → Result (Unit {0}) WrittenOnly → Type 0
+Notes held failures false old new (Ok x) = new ≡ old
+Notes held failures false old new (Err n) = ⊥
+Notes held failures true old new result = WritesAll held failures old owner_note new result
 
 module _ {R W E : Type 0} (left : R → Option (List ℕ)) (calls failures : R → ℕ) (old new : ReadAhead R) (w : Writing W) (e : Writing E) where
-  -- a note was written before that, if one is due; or a write of it failed
-  abbrev pub RunsNoted : (is_due : Bool) → Settings → Command → ExitStatus → Type 0
-  RunsNoted false settings command end = DoesFrom left calls failures old new w e settings.handshake settings (Run command) end
-  RunsNoted true settings command end =
-      ((begun : E) × Wrote e.held e.failures e.old owner_note begun
-      × DoesFrom left calls failures old new w (writing e.held e.failures begun e.new) settings.handshake settings (Run command) end)
-      ⊎ ((new ≡ old) × (w.new ≡ w.old) × (end ≡ status.Failed) × (n : ℕ) × Stopped e.held e.failures e.old owner_note n e.new)
+  -- the task is done with all that the reader gives, or with what follows the handshake of a side;
+  -- or none was read, which was told
+  abbrev pub DoesTask : Settings → Task → ExitStatus → Type 0
+  DoesTask settings task end =
+      ((begun : ReadAhead R) × TakesHandshake left calls failures settings.handshake old begun (Ok tt) × DoesBy (ahead left calls failures begun new) w e settings task end)
+      ⊎ ((why : HandshakeFault) × TakesHandshake left calls failures settings.handshake old new (Err why) × (w.new ≡ w.old) × TellsHandshake e.held e.failures e.old e.new why end)
+
+module _ {R W E : Type 0} (left : R → Option (List ℕ)) (calls failures : R → ℕ) (old new : ReadAhead R) (w : Writing W) (e : Writing E) where
+  -- a note is written before a command is run; or a write of it failed
+  abbrev pub RunsNoted : Settings → Command → ExitStatus → Type 0
+  RunsNoted settings command end =
+      ((begun : E) × Notes e.held e.failures (settings.explains && lacks_owner command) e.old begun (Ok tt)
+      × DoesTask left calls failures old new w (writing e.held e.failures begun e.new) settings (Run command) end)
+      ⊎ ((new ≡ old) × (w.new ≡ w.old) × (end ≡ status.Failed) × (n : WrittenOnly) × Notes e.held e.failures (settings.explains && lacks_owner command) e.old e.new (Err n))
 
   -- what is done for a command by its settings, for `count`, for the side whose handshake is
   -- listed, or for words that name nothing
   abbrev pub Does : Result Asked UsageFault → ExitStatus → Type 0
-  Does (Ok (Messages command settings)) end = RunsNoted (settings.explains && lacks_owner command) settings command end
-  Does (Ok (Count settings form)) end = DoesFrom left calls failures old new w e settings.handshake settings (CountAll form) end
+  Does (Ok (Messages command settings)) end = RunsNoted settings command end
+  Does (Ok (Count settings form)) end = DoesTask left calls failures old new w e settings (CountAll form) end
   Does (Ok (Handshake side)) end = Lists left calls failures old new w e side end
   Does (Err Memory) end = (new ≡ old) × (w.new ≡ w.old) × StopsBy e.held e.failures e.old e.new cause.Memory end
   Does (Err (Help text)) end = (new ≡ old) × ShowsText w e (string_bytes text) end

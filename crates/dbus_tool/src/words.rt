@@ -1,17 +1,17 @@
 //! The program over the words of its command line.
-ghost use Rattle.std.specs.Prelude.{◌≡◌, ◌≤◌, ◌^◌, ◌&&◌, map, string_bytes};
+ghost use Rattle.std.specs.Prelude.{◌≡◌, ◌&&◌, map, string_bytes};
 ghost use Rattle.cli_options.specs.Unowned.{lacks_owner};
-ghost use Rattle.cli_report.specs.Devices.{reading, writing};
-ghost use Rattle.dbus_tool.specs.Handshaking.{Shows, TellsHandshake};
+ghost use Rattle.cli_report.specs.Devices.{writing};
+ghost use Rattle.dbus_tool.specs.Handshaking.{Shows, TakesHandshake, TellsHandshake};
 ghost use Rattle.dbus_tool.specs.Listing.{Lists};
-ghost use Rattle.dbus_tool.specs.Words.{DoesBy, DoesFrom, RefusesRule, RunsNoted, RunsWords, ShowsText, table_form};
+ghost use Rattle.dbus_tool.specs.Words.{DoesTask, Notes, RefusesRule, RunsWords, ShowsText, table_form};
 
 use crate::lines::handshake_line;
 use crate::listing::write_lines;
 use crate::rule_lines::rule_text;
 use cli_options::{Asked, Command, Form, RefusedRule, Settings, UsageFault, command_of};
 use cli_report::{Cause, ExitStatus, Unwritten, give_up};
-use cli_run::{count_by_name, run_with, run_within};
+use cli_run::{count_by_name, run_with};
 use dbus_handshake_input::{HandshakeFault, ReadAhead, Side, pass_handshake};
 use dbus_stream::{MOST_READS, Sink, Source, WrittenOnly, write_all};
 use std::alloc::Global;
@@ -21,12 +21,11 @@ const OWNER_NOTE: &str =
     "note: no owner is known for a rule's sender; --owner NAME=UNIQUE gives one, and --learn-owners takes them from the bus's signals\n";
 
 /// Does what [`run_with`] does for the command that the words name, of which the first is the
-/// program's name, by the settings that they name and with at most 2^32 reads; or, if they ask
-/// neither for explanations nor to keep going nor for a window, what [`run_within`] does. If the
-/// words ask for help, its text goes to the first writer. If they name no command, a text that says
-/// how goes to the second; and if they name `filter` with a text that spells no rule, `rule refused
-/// at P: NAME` and LF, the place in that text and the name of the reason, and then the lines that
-/// explain it, if they ask for explanations.
+/// program's name, by the settings that they name and with at most 2^32 reads. If the words ask for
+/// help, its text goes to the first writer. If they name no command, a text that says how goes to
+/// the second; and if they name `filter` with a text that spells no rule, `rule refused at P: NAME`
+/// and LF, the place in that text and the name of the reason, and then the lines that explain it,
+/// if they ask for explanations.
 ///
 /// If they ask for explanations, and a rule of `filter` asks for a well-known sender of which no
 /// owner is known, as `cli_options::Command::lacks_owner` says, a line on the second writer says
@@ -49,7 +48,7 @@ const OWNER_NOTE: &str =
 /// All goes out before the status is given, and no more than 16,384 bytes are gathered. No byte
 /// after the handshake is looked at.
 ///
-/// `Done`, `Refused`, `Failed`: as [`run_within`] says. `Done` also where help was written, and
+/// `Done`, `Refused`, `Failed`: as [`run_with`] says. `Done` also where help was written, and
 /// `Refused` where a handshake was refused. `Usage`: the words name no command, or a rule is
 /// refused, and that was reported. `Failed` also if such a text was not written, of help with
 /// `write failed` on the second writer; and if an allocation failed, with `out of memory` there.
@@ -66,11 +65,12 @@ pub fn run_words<R: Source, W: Sink, E: Sink>(
         (map string_bytes words.now) result }
 {
     match command_of(alloc, words) {
-        Ok(Asked::Messages(command, settings)) => {
-            run_noted(alloc, command, settings, reader, first, second)
-        }
+        Ok(Asked::Messages(command, settings)) => match note_owners(&command, settings, second) {
+            Ok(()) => do_task(alloc, Task::Run(command), settings, reader, first, second),
+            Err(WrittenOnly(_)) => ExitStatus::Failed,
+        },
         Ok(Asked::Count(settings, form)) => {
-            begin(alloc, Task::CountAll(form), settings, reader, first, second)
+            do_task(alloc, Task::CountAll(form), settings, reader, first, second)
         }
         Ok(Asked::Handshake(side)) => list_handshake(alloc, side, reader, first, second),
         Err(UsageFault::Memory) => give_up(Cause::Memory, second),
@@ -82,35 +82,20 @@ pub fn run_words<R: Source, W: Sink, E: Sink>(
     }
 }
 
-// Runs a command by its settings. If they explain, and a rule's sender has no owner, it says so
-// first.
-fn run_noted<R: Source, W: Sink, E: Sink>(
-    alloc: Global,
-    command: Command,
+// Says of a rule whose sender has no owner that it has none, if the settings explain.
+fn note_owners<E: Sink>(
+    command: &Command,
     settings: Settings,
-    reader: &mut ReadAhead<R>,
-    first: &mut W,
     second: &mut E,
-) -> ExitStatus
-    ensures { RunsNoted R.left R.calls R.failures reader.old reader.new
-        (writing W.held W.failures first.old first.new)
-        (writing E.held E.failures second.old second.new)
-        (settings.explains && lacks_owner command) settings command result }
+) -> Result<(), WrittenOnly>
+    ensures { Notes E.held E.failures (settings.explains && lacks_owner command.now) second.old
+        second.new result }
 {
-    if !is_note_due(&command, settings) {
-        return begin(alloc, Task::Run(command), settings, reader, first, second);
+    if settings.explains && command.lacks_owner() {
+        write_all(second, OWNER_NOTE.as_bytes())
+    } else {
+        Ok(())
     }
-    match write_all(second, OWNER_NOTE.as_bytes()) {
-        Ok(()) => begin(alloc, Task::Run(command), settings, reader, first, second),
-        Err(WrittenOnly(_)) => ExitStatus::Failed,
-    }
-}
-
-// Whether that is to be said.
-fn is_note_due(command: &Command, settings: Settings) -> bool
-    ensures { result ≡ settings.explains && lacks_owner command.now }
-{
-    settings.explains && command.lacks_owner()
 }
 
 // What is done with the messages of an input.
@@ -123,7 +108,7 @@ enum Task {
 }
 
 // Does it by the settings, after the handshake if they name its side.
-fn begin<R: Source, W: Sink, E: Sink>(
+fn do_task<R: Source, W: Sink, E: Sink>(
     alloc: Global,
     task: Task,
     settings: Settings,
@@ -131,46 +116,35 @@ fn begin<R: Source, W: Sink, E: Sink>(
     first: &mut W,
     second: &mut E,
 ) -> ExitStatus
-    ensures { DoesFrom R.left R.calls R.failures reader.old reader.new
-        (writing W.held W.failures first.old first.new)
-        (writing E.held E.failures second.old second.new)
-        settings.handshake settings task result }
-{
-    let Some(side) = settings.handshake else {
-        return do_by(alloc, task, settings, reader, first, second);
-    };
-    match pass_handshake(alloc, side, reader) {
-        Ok(()) => do_by(alloc, task, settings, reader, first, second),
-        Err(fault) => refuse_handshake(alloc, fault, second),
-    }
-}
-
-// Does it by the settings.
-fn do_by<R: Source, W: Sink, E: Sink>(
-    alloc: Global,
-    task: Task,
-    settings: Settings,
-    reader: &mut R,
-    first: &mut W,
-    second: &mut E,
-) -> ExitStatus
-    ensures { DoesBy (reading R.left R.calls R.failures reader.old reader.new)
+    ensures { DoesTask R.left R.calls R.failures reader.old reader.new
         (writing W.held W.failures first.old first.new)
         (writing E.held E.failures second.old second.new)
         settings task result }
 {
-    match task {
-        Task::Run(command) => {
-            if settings.ask_more() {
+    match take_handshake(alloc, settings.handshake, reader) {
+        Ok(()) => match task {
+            Task::Run(command) => {
                 run_with(alloc, command, settings, MOST_READS, reader, first, second)
-            } else {
-                let limits = settings.limits;
-                run_within(alloc, command, limits, MOST_READS, reader, first, second)
             }
-        }
-        Task::CountAll(form) => {
-            count_by_name(alloc, settings, table_form(form), reader, first, second)
-        }
+            Task::CountAll(form) => {
+                count_by_name(alloc, settings, table_form(form), reader, first, second)
+            }
+        },
+        Err(fault) => refuse_handshake(alloc, fault, second),
+    }
+}
+
+// Takes the handshake of a side, if one comes first.
+fn take_handshake<R: Source>(
+    alloc: Global,
+    side: Option<Side>,
+    reader: &mut ReadAhead<R>,
+) -> Result<(), HandshakeFault>
+    ensures { TakesHandshake R.left R.calls R.failures side reader.old reader.new result }
+{
+    match side {
+        Some(side) => pass_handshake(alloc, side, reader),
+        None => Ok(()),
     }
 }
 
