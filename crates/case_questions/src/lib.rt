@@ -1,22 +1,22 @@
 //! Questions that `cases/run.py` asks of engines, and what they reply: a line each, of words with a
 //! space between any two.
 //!
-//! A program answers the questions of its input in turn:
+//! A program is an [`Answerer`], and answers the questions of its input in turn:
 //!
 //! ```text
-//! for line in BufReader::new(alloc, rt.reader())?.lines(alloc) {
-//!     let line = line?;
-//!     let mut reply = Reply::new(alloc);
-//!     if !answer(&mut reply, alloc, Question::new(line.as_str())) {
-//!         reply.word("?");
-//!     }
-//!     rt.println(reply.line())?;
+//! let questions = io::read_to_string(alloc, rt.stdin())?;
+//! for line in questions.lines() {
+//!     println!(rt; "{}", reply_to(Engines, alloc, line).line())?;
 //! }
 //! ```
 #![tactic(auto)]
 
+mod answering;
+mod memory;
 mod question;
 mod reply;
 
-pub use question::Question;
+pub use answering::{Answerer, reply_to};
+pub use memory::Memory;
+pub use question::{Question, bytes_of};
 pub use reply::Reply;

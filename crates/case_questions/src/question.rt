@@ -1,7 +1,16 @@
 //! Questions.
 
 use dbus_value_model::{FdRule, Limits, Order};
-use std::alloc::Global;
+use std::alloc::Allocator;
+
+/// The bytes that a word spells in hexadecimal, or as `-` if there are none. `None` if it spells no
+/// bytes, or memory ran out.
+pub fn bytes_of<A: Allocator>(alloc: A, word: &str) -> Option<Vec<u8, A>> {
+    if word == "-" {
+        return Some(Vec::new(alloc));
+    }
+    hex::decode(alloc, word.as_bytes()).ok()
+}
 
 /// A question: a line of words with a space between any two. The last words may be settings, as
 /// `depth=3`.
@@ -26,14 +35,9 @@ impl<'a> Question<'a> {
         ""
     }
 
-    /// The bytes that the word of this number spells in hexadecimal, or as `-` if there are none.
-    /// `None` if it spells no bytes, or memory ran out.
-    pub fn bytes(self, alloc: Global, n: usize) -> Option<Vec<u8>> {
-        let word = self.word(n);
-        if word == "-" {
-            return Some(Vec::new(alloc));
-        }
-        hex::decode(alloc, word.as_bytes()).ok()
+    /// The bytes that the word of this number spells, as `bytes_of` says.
+    pub fn bytes<A: Allocator>(self, alloc: A, n: usize) -> Option<Vec<u8, A>> {
+        bytes_of(alloc, self.word(n))
     }
 
     /// What the setting of this name says, if there is one.

@@ -9,7 +9,7 @@ use std::alloc::Global;
 pub struct Reply {
     alloc: Global,
     line: String,
-    // Memory ran out.
+    // Memory ran out, for the reply or in what it tells.
     failed: bool,
 }
 
@@ -21,6 +21,11 @@ impl Reply {
             line: String::new(alloc),
             failed: false,
         }
+    }
+
+    /// Where the reply takes its memory.
+    pub fn alloc(&self) -> Global {
+        self.alloc
     }
 
     fn push(&mut self, text: &str) {
@@ -81,7 +86,12 @@ impl Reply {
         }
     }
 
-    /// The words so far, if memory sufficed for them.
+    /// Makes the reply that memory ran out, whatever else is added.
+    pub fn fail(&mut self) {
+        self.failed = true;
+    }
+
+    /// The words so far, or that memory ran out.
     pub fn line(&self) -> &str {
         if self.failed {
             return "out of memory";
