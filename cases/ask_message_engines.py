@@ -2,6 +2,7 @@
 
 import re
 
+from growths import ask_made, with_growths
 from questions import Question, from_place, hexed, words_of
 from read_cases import read_bytes
 from seen import Message
@@ -36,7 +37,11 @@ def ask_name(case, _):
     yield from ask_text(kind, read_bytes(text), verdict)
 
 
-def ask_signature(case, _):
+def ask_signature(case, folder):
+    yield from with_growths(ask_of_signature(case, folder), {"text-parse"})
+
+
+def ask_of_signature(case, _):
     _, text, as_signature, as_single, types, alignment = case
     text = read_bytes(text)
     yield from ask_text("signature", text, as_signature)
@@ -54,6 +59,8 @@ BEFORE = b"\xaa"
 AFTER = b"\xff"
 # An end that is further away stays without bytes up to it.
 FURTHEST = 5000
+# What is asked with growths refused too, in one order.
+GROWING = {"value", "value-written", "value-shown", "message", "encode", "encode-into", "build", "copy-all", "show"}
 READ = re.compile(r"(?P<outcome>done (?P<end>\d+)|partial|refused \d+ \S+)(?: after (?P<after>\d+)| (?P<text>.*))?")
 
 
@@ -107,9 +114,11 @@ def ask_reading(asked):
 def ask_writing(asked, writing):
     """What checks and writers make of the value, and its type and its text and those of a copy."""
     checked = "same" if writing in ("ArrayTooLong", "TooLong") else writing
+    # How deep a value nests is a matter of checking it.
+    written = "same" if checked == writing else writing
     words = ["past"] if asked.outcome.endswith(" FdIndex") else []
     words += [checked] if asked.is_limited else [checked, checked]
-    words += [writing, writing, "same", "same"] if checked == "same" else []
+    words += [written, written, "same", "same"]
     yield asked.question("writing", "value-written", "none" if writing == "-" else " ".join(words))
     if writing != "-":
         engine = f"showing in {asked.order} endian"
@@ -127,8 +136,8 @@ def ask_value(case, _):
     _, types, settings, little, big, reading, writing = case
     for order, column in zip(ORDERS, (little, big)):
         asked = Asked(types, settings, order, column, reading)
-        yield from ask_reading(asked)
-        yield from ask_writing(asked, writing)
+        both = (*ask_reading(asked), *ask_writing(asked, writing))
+        yield from with_growths(both, GROWING if order == ORDERS[0] else ())
 
 
 # ---- Messages
@@ -161,6 +170,7 @@ def ask_fronts(order, data, limits, answer, decides):
         return Question(f"{engine} in {order} endian", words_of("fronts", kind, hexed(given), limits), wanted)
 
     stated = from_place(0, "partial", *((16, f"states {stated_length(given)}") if len(given) >= 16 else ()))
+    yield Question(f"decode in {order} endian", words_of("message", hexed(given), limits), answer)
     yield question("decode_within", "decode", fronts("partial"))
     yield question("validate", "validate", fronts("none") if word == "whole" else "0 none")
     yield question("stated_length_within", "state", fronts("partial") if word == "refused" and int(numbers[0]) < 16 else stated)
@@ -183,8 +193,11 @@ def ask_whole(order, columns, limits):
         yield question(f"encode, {wanted},", "encode", columns[wanted].hex(), f"order={wanted}")
         yield question(f"Message::new_within, {wanted},", "build", columns[wanted].hex(), f"order={wanted}")
     yield question("Message::within", "within", "yes")
+    yield question("encode_into", "encode-into", f"{data.hex()} {data.hex()}", "-", f"order={order}")
     yield question("byteswap", "byteswap", other.hex(), more=MORE)
     message = Message(data)
+    yield question("the names that Message gives", "names", message.names())
+    yield question("copy_values", "copy-all", str(message.count()))
     yield question("the header that MessageView gives", "header", message.header())
     yield question("the values that MessageView gives", "see", message.values())
     yield question("show_message", "show", None, "by=message", "number=7", more=MORE)
@@ -197,10 +210,10 @@ def asker_of_messages(decides=False):
         _, limits, little, big, answer = case
         columns = dict(zip(ORDERS, (read_bytes(little), read_bytes(big))))
         for order, data in columns.items():
-            if data:
-                yield from ask_fronts(order, data, limits, answer, decides)
-                if answer.startswith("whole"):
-                    yield from ask_whole(order, columns, limits)
+            asked = [*ask_fronts(order, data, limits, answer, decides)] if data else []
+            if data and answer.startswith("whole"):
+                asked += ask_whole(order, columns, limits)
+            yield from with_growths(asked, GROWING if order == ORDERS[0] else ())
 
     return ask_message
 
@@ -230,4 +243,6 @@ FILES = {
     "descriptors.txt": asker_of_messages(),
     "printed.txt": ask_printed,
     "matches.txt": ask_match,
+    "made.txt": ask_made,
+    "growths.txt": ask_made,
 }

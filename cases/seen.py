@@ -6,7 +6,7 @@ from questions import hexed
 NUMBERS = {"y": 1, "b": 4, "n": 2, "q": 2, "i": 4, "u": 4, "x": 8, "t": 8, "d": 8, "h": 4}
 ALIGNMENTS = {**NUMBERS, "s": 4, "o": 4, "g": 1, "v": 1, "a": 4, "(": 8, "{": 8}
 BRACKETS = {"(": ")", "{": "}"}
-PATH, INTERFACE, MEMBER, ERROR_NAME, REPLY_SERIAL, DESTINATION, SENDER, SIGNATURE = range(1, 9)
+PATH, INTERFACE, MEMBER, ERROR_NAME, REPLY_SERIAL, DESTINATION, SENDER, SIGNATURE, UNIX_FDS = range(1, 10)
 
 
 def first_type(types):
@@ -101,15 +101,32 @@ class Message:
             words += self.value(element)
         return [*words, "]", "0"]
 
+    def text_of(self, code):
+        """The text of a header field."""
+        return next((hexed(self.data[slice(*place)]) for found, place, _ in self.fields if found == code), "none")
+
+    def number_of(self, code):
+        """The number of a header field."""
+        return next((str(int.from_bytes(self.data[slice(*place)], self.order)) for found, place, _ in self.fields if found == code), "none")
+
+    def names(self):
+        """The texts of the known header fields, then their numbers."""
+        texts = (PATH, INTERFACE, MEMBER, ERROR_NAME, DESTINATION, SENDER, SIGNATURE)
+        return " ".join([*map(self.text_of, texts), *map(self.number_of, (REPLY_SERIAL, UNIX_FDS))])
+
+    def count(self):
+        """How many values the body has."""
+        types, count = self.types, 0
+        while types:
+            types, count = types[len(first_type(types)) :], count + 1
+        return count
+
     def header(self):
         """The numbers and the texts of the header, of each value of the body its place and its text, and of two that are not there nothing."""
-        places = {code: place for code, place, _ in self.fields}
         order, kind, flags = ("big" if self.data[:1] == b"B" else "little"), self.data[1], self.data[2]
         serial = int.from_bytes(self.data[8:12], self.order)
-        reply = places.get(REPLY_SERIAL)
-        words = [order, kind, flags, serial, int.from_bytes(self.data[slice(*reply)], self.order) if reply else "none"]
-        for code in (PATH, INTERFACE, MEMBER, ERROR_NAME, DESTINATION, SENDER):
-            words.append(hexed(self.data[slice(*places[code])]) if code in places else "none")
+        words = [order, kind, flags, serial, self.number_of(REPLY_SERIAL)]
+        words += map(self.text_of, (PATH, INTERFACE, MEMBER, ERROR_NAME, DESTINATION, SENDER))
         self.at, types = self.body, self.types
         while types:
             first = first_type(types)

@@ -48,6 +48,16 @@ impl<'a> Asked<'a> {
         Asked { end, ..self }
     }
 
+    /// The same value if the bytes have it alone, in little order.
+    pub(crate) fn whole(self, length: usize) -> Asked<'a> {
+        Asked {
+            order: Order::Little,
+            at: 0,
+            end: length,
+            ..self
+        }
+    }
+
     /// The same value if no container is open, under the limits of the specification and with any
     /// index.
     pub(crate) fn alone(self) -> Asked<'a> {

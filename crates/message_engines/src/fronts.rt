@@ -2,12 +2,14 @@
 
 use crate::outcome::Outcome;
 use crate::places::{Engine, piece, rest, say_places};
-use case_questions::{Question, Reply};
+use case_questions::{Memory, Question, Reply};
 use dbus_check::{Check, Checker};
-use dbus_message::{Answer, MessageView, decode_within, stated_length_within};
+use dbus_message::{
+    Answer, MessageView, decode, decode_within, stated_length, stated_length_within,
+};
 use dbus_validate::validate;
 use dbus_value::{Fault, Limits, Reason, Refusal};
-use std::alloc::Global;
+use std::alloc::Allocator;
 
 // What answers.
 #[derive(Clone, Copy)]
@@ -39,8 +41,21 @@ fn kind_of(word: &str) -> Option<Kind> {
     }
 }
 
-fn decoded(alloc: Global, bytes: &[u8], limits: Limits) -> Outcome {
-    match decode_within(alloc, bytes, limits) {
+fn decoded<A: Allocator + Copy>(alloc: A, bytes: &[u8], limits: Limits) -> Outcome {
+    outcome_of(decode_within(alloc, bytes, limits))
+}
+
+// The same, by the call without limits if they are those of the specification.
+fn decoded_plainly<A: Allocator + Copy>(alloc: A, bytes: &[u8], limits: Limits) -> Outcome {
+    if limits == Limits::specification() {
+        outcome_of(decode(alloc, bytes))
+    } else {
+        decoded(alloc, bytes, limits)
+    }
+}
+
+fn outcome_of<A: Allocator>(answer: Result<Answer<A>, Refusal>) -> Outcome {
+    match answer {
         Ok(Answer::Whole { used, .. }) => Outcome::Whole(used),
         Ok(Answer::Partial) => Outcome::Partial,
         Err(Refusal::Format(fault)) => Outcome::Refused(fault),
@@ -55,8 +70,14 @@ fn validated(bytes: &[u8], limits: Limits) -> Outcome {
     }
 }
 
+// By the call without limits if they are those of the specification.
 fn stated(bytes: &[u8], limits: Limits) -> Outcome {
-    match stated_length_within(bytes, limits) {
+    let length = if limits == Limits::specification() {
+        stated_length(bytes)
+    } else {
+        stated_length_within(bytes, limits)
+    };
+    match length {
         Ok(Some(length)) => Outcome::States(length),
         Ok(None) => Outcome::Partial,
         Err(fault) => Outcome::Refused(fault),
@@ -88,8 +109,8 @@ fn checked(checker: &mut Checker, before: usize, piece: &[u8]) -> Outcome {
 
 // An engine over the fronts of some bytes.
 #[derive(Drop)]
-struct Fronts<'a> {
-    alloc: Global,
+struct Fronts<'a, A: Allocator + Copy> {
+    alloc: A,
     kind: Kind,
     bytes: &'a [u8],
     limits: Limits,
@@ -98,7 +119,7 @@ struct Fronts<'a> {
     last: Outcome,
 }
 
-impl Fronts<'_> {
+impl<A: Allocator + Copy> Fronts<'_, A> {
     fn check_at_once(&mut self, front: &[u8]) -> Outcome {
         self.checker.restart();
         checked(&mut self.checker, 0, front)
@@ -122,7 +143,7 @@ impl Fronts<'_> {
     }
 }
 
-impl Engine for Fronts<'_> {
+impl<A: Allocator + Copy> Engine for Fronts<'_, A> {
     fn outcome(&mut self, place: usize) -> Outcome {
         let front = piece(self.bytes, 0, place);
         match self.kind {
@@ -138,7 +159,13 @@ impl Engine for Fronts<'_> {
 }
 
 // Adds what an engine answers of each front.
-fn say_fronts(reply: &mut Reply, alloc: Global, kind: Kind, bytes: &[u8], limits: Limits) {
+fn say_fronts<A: Allocator + Copy>(
+    reply: &mut Reply,
+    alloc: A,
+    kind: Kind,
+    bytes: &[u8],
+    limits: Limits,
+) {
     let mut fronts = Fronts {
         alloc,
         kind,
@@ -152,21 +179,25 @@ fn say_fronts(reply: &mut Reply, alloc: Global, kind: Kind, bytes: &[u8], limits
 
 /// Answers what a message is that bytes begin with, or what each engine says of their fronts. False
 /// says that the question is another.
-pub(crate) fn answer(reply: &mut Reply, alloc: Global, question: Question<'_>) -> bool {
+pub(crate) fn answer<A: Allocator + Copy>(
+    reply: &mut Reply,
+    memory: Memory<A>,
+    question: Question<'_>,
+) -> bool {
     let limits = question.limits();
     match (question.word(0), kind_of(question.word(1))) {
         ("message", _) => {
-            let Some(bytes) = question.bytes(alloc, 1) else {
+            let Some(bytes) = question.bytes(reply.alloc(), 1) else {
                 return false;
             };
-            decoded(alloc, &bytes, limits).say(reply);
+            decoded_plainly(memory.heap, &bytes, limits).say(reply);
             true
         }
         ("fronts", Some(kind)) => {
-            let Some(bytes) = question.bytes(alloc, 2) else {
+            let Some(bytes) = question.bytes(reply.alloc(), 2) else {
                 return false;
             };
-            say_fronts(reply, alloc, kind, &bytes, limits);
+            say_fronts(reply, memory.heap, kind, &bytes, limits);
             true
         }
         _ => false,

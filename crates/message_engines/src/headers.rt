@@ -1,9 +1,11 @@
-//! What a view gives of a message's header, and of the texts among its values.
+//! What a view gives of a message's header, and of the texts among its values; and what a message
+//! gives of its header fields.
 
 use case_questions::Reply;
-use dbus_message::MessageView;
+use dbus_message::{Message, MessageView};
 use dbus_value::Order;
 use dbus_view::ArgView;
+use std::alloc::Allocator;
 use std::str;
 
 // More values than a body has.
@@ -29,6 +31,26 @@ fn say_text(reply: &mut Reply, text: Option<&str>) {
     }
 }
 
+fn say_number(reply: &mut Reply, number: Option<u32>) {
+    match number {
+        Some(number) => reply.number(u64::from(number)),
+        None => reply.word("none"),
+    }
+}
+
+/// Adds the known fields of a message by their names: the texts, then the numbers.
+pub(crate) fn say_names<A: Allocator>(reply: &mut Reply, message: &Message<A>) {
+    say_text(reply, message.path());
+    say_text(reply, message.interface());
+    say_text(reply, message.member());
+    say_text(reply, message.error_name());
+    say_text(reply, message.destination());
+    say_text(reply, message.sender());
+    say_text(reply, message.signature());
+    say_number(reply, message.reply_serial());
+    say_number(reply, message.unix_fds());
+}
+
 // A value: where it is, and what is seen of it.
 fn say_value(reply: &mut Reply, view: &MessageView, n: usize) {
     if let Some(place) = view.arg_place(n) {
@@ -52,10 +74,7 @@ pub(crate) fn say_header(reply: &mut Reply, view: &MessageView) {
     reply.number(u64::from(view.kind()));
     reply.number(u64::from(view.flags()));
     reply.number(u64::from(view.serial()));
-    match view.reply_serial() {
-        Some(serial) => reply.number(u64::from(serial)),
-        None => reply.word("none"),
-    }
+    say_number(reply, view.reply_serial());
     say_text(reply, view.path());
     say_text(reply, view.interface());
     say_text(reply, view.member());

@@ -8,41 +8,54 @@
 
 mod asked;
 mod checking;
+mod composing;
 mod fronts;
 mod headers;
+mod lookups;
+mod made;
 mod outcome;
+mod parts;
 mod places;
 mod reading;
 mod seeing;
 mod showing;
 mod signatures;
+mod spelling;
 mod texts;
 mod validating;
 mod values;
 mod whole;
 mod writing;
 
-use case_questions::{Question, Reply};
-use std::alloc::Global;
+use case_questions::{Answerer, Memory, Question, Reply, reply_to};
+use std::alloc::Allocator;
 use std::io;
 
-// Answers a question. False says that it is none.
-fn answer(reply: &mut Reply, alloc: Global, question: Question<'_>) -> bool {
-    texts::answer(reply, alloc, question)
-        || values::answer(reply, alloc, question)
-        || fronts::answer(reply, alloc, question)
-        || whole::answer(reply, alloc, question)
+// What answers.
+#[derive(Clone, Copy)]
+struct Engines;
+
+impl Answerer for Engines {
+    fn answer<A: Allocator + Copy>(
+        self,
+        reply: &mut Reply,
+        memory: Memory<A>,
+        question: Question<'_>,
+    ) -> bool {
+        texts::answer(reply, memory, question)
+            || values::answer(reply, memory, question)
+            || fronts::answer(reply, memory, question)
+            || whole::answer(reply, memory, question)
+            || made::answer(reply, memory, question)
+            || composing::answer(reply, memory, question)
+    }
 }
 
 fn main(rt: HostRuntime) -> io::Result<()> {
     let alloc = rt.alloc();
     let questions = io::read_to_string(alloc, rt.stdin())?;
     for line in questions.lines() {
-        let mut reply = Reply::new(alloc);
-        if !answer(&mut reply, alloc, Question::new(line)) {
-            reply.word("?");
-        }
-        println!(rt; "{}", reply.line())?;
+        println!(rt; "{}", reply_to(Engines, alloc, line).line())?;
     }
     Ok(())
 }

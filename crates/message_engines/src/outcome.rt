@@ -42,7 +42,7 @@ impl Outcome {
             Outcome::Nothing => reply.word("none"),
             Outcome::Taken(count) => reply.counted("taken", count as u64),
             Outcome::Ended(count) => reply.counted("ended", count as u64),
-            Outcome::Memory => reply.word("out of memory"),
+            Outcome::Memory => reply.fail(),
             Outcome::NotAsked => reply.word("nothing to ask"),
         }
     }

@@ -7,7 +7,7 @@ use dbus_types::{
     SigFault, SigType, TextKind, alignment, boundary, parse_signature, parse_single,
     signature_text, type_end, type_ok,
 };
-use std::alloc::Global;
+use std::alloc::Allocator;
 
 /// Adds what a call says of a signature.
 pub(crate) fn say_signature(reply: &mut Reply, outcome: Result<(), SigFault>) {
@@ -15,7 +15,7 @@ pub(crate) fn say_signature(reply: &mut Reply, outcome: Result<(), SigFault>) {
         Ok(()) => reply.word("accepted"),
         Err(SigFault::Bad { at }) => reply.counted("bad", at as u64),
         Err(SigFault::TooLong) => reply.word("too long"),
-        Err(SigFault::Memory) => reply.word("out of memory"),
+        Err(SigFault::Memory) => reply.fail(),
     }
 }
 
@@ -34,7 +34,7 @@ fn count_ends(text: &[u8]) -> u64 {
 }
 
 // The types of a signature: how many there are, twice, and what they spell if they are well formed.
-fn say_types(reply: &mut Reply, alloc: Global, types: &[SigType], text: &[u8]) {
+fn say_types<A: Allocator + Copy>(reply: &mut Reply, alloc: A, types: &[SigType<A>], text: &[u8]) {
     reply.number(types.len() as u64);
     reply.number(count_ends(text));
     if !types.iter().all(|ty| type_ok(ty)) {
@@ -42,12 +42,12 @@ fn say_types(reply: &mut Reply, alloc: Global, types: &[SigType], text: &[u8]) {
     }
     match signature_text(alloc, types) {
         Ok(spelled) => reply.bytes(spelled.as_bytes()),
-        Err(_) => reply.word("out of memory"),
+        Err(fault) => say_signature(reply, Err(fault)),
     }
 }
 
 // One type: its alignment, and the one that its code alone says.
-fn say_type(reply: &mut Reply, ty: &SigType, text: &[u8]) {
+fn say_type<A: Allocator>(reply: &mut Reply, ty: &SigType<A>, text: &[u8]) {
     reply.number(u64::from(alignment(ty)));
     if let Some(code) = text.first() {
         reply.number(u64::from(boundary(*code)));
@@ -58,7 +58,12 @@ fn say_type(reply: &mut Reply, ty: &SigType, text: &[u8]) {
 }
 
 /// Adds what parsing makes of a text, as a signature of any number of types or of one.
-pub(crate) fn say_parsed(reply: &mut Reply, alloc: Global, kind: TextKind, text: &[u8]) {
+pub(crate) fn say_parsed<A: Allocator + Copy>(
+    reply: &mut Reply,
+    alloc: A,
+    kind: TextKind,
+    text: &[u8],
+) {
     if kind == TextKind::Single {
         match parse_single(alloc, text) {
             Ok(ty) => say_type(reply, &ty, text),

@@ -3,12 +3,12 @@
 use crate::outcome::Outcome;
 use crate::places::{Engine, piece, rest, say_places};
 use crate::signatures::{say_parsed, say_signature};
-use case_questions::{Question, Reply};
+use case_questions::{Memory, Question, Reply};
 use dbus_types::{
     NameFault, TextKind, TextScan, check_bus_name, check_error_name, check_interface, check_member,
     check_path, check_signature, check_single, first_break, is_unique, text_break,
 };
-use std::alloc::Global;
+use std::alloc::Allocator;
 
 // The kind of text that has this name.
 fn kind_of(word: &str) -> Option<TextKind> {
@@ -98,11 +98,15 @@ fn by_bytes(kind: TextKind, text: &[u8]) -> Outcome {
 }
 
 /// Answers a question on a text. False says that it is none.
-pub(crate) fn answer(reply: &mut Reply, alloc: Global, question: Question<'_>) -> bool {
+pub(crate) fn answer<A: Allocator + Copy>(
+    reply: &mut Reply,
+    memory: Memory<A>,
+    question: Question<'_>,
+) -> bool {
     let Some(kind) = kind_of(question.word(1)) else {
         return false;
     };
-    let Some(text) = question.bytes(alloc, 2) else {
+    let Some(text) = question.bytes(reply.alloc(), 2) else {
         return false;
     };
     let mut in_two = InTwo { kind, text: &text };
@@ -110,7 +114,7 @@ pub(crate) fn answer(reply: &mut Reply, alloc: Global, question: Question<'_>) -
         "text" => say_verdict(reply, kind, &text),
         "text-first-break" => reply.number(first_break(kind, &text) as u64),
         "text-check" => say_check(reply, kind, &text),
-        "text-parse" => say_parsed(reply, alloc, kind, &text),
+        "text-parse" => say_parsed(reply, memory.heap, kind, &text),
         "text-by-bytes" => by_bytes(kind, &text).say(reply),
         "text-in-two" => say_places(reply, &mut in_two, 0, text.len()),
         _ => return false,

@@ -1,7 +1,6 @@
-//! What values take of memory: how many bytes a value has, how many times the bytes that it was
-//! read from a tree has, and how many allocations reading it takes.
+//! What values take of memory: how many bytes a value has, and how many times the bytes that it was
+//! read from a tree has.
 
-use crate::reading::growths_of_reading;
 use dbus_types::parse_single;
 use dbus_unmarshal::get;
 use dbus_value_model::{DictEntry, Got, Order, Value};
@@ -148,23 +147,6 @@ const SHAPES: &[Shape] = &[
     ),
 ];
 
-// Arrays of fixed-size parts alone; and a number of allocations, which reading one takes at most.
-const GROWTHS: &[Shape] = &[
-    ("an", b"", b"", b"\x07\0", 1),
-    ("au", b"", b"", b"\x07\0\0\0", 1),
-    ("ad", b"\0\0\0\0", b"", b"\0\0\0\0\0\0\xf0\x3f", 1),
-    (
-        "a{uu}",
-        b"\0\0\0\0",
-        b"",
-        b"\x07\0\0\0\x08\0\0\0",
-        COUNT as usize + 4,
-    ),
-];
-
-// A length of 67,108,864.
-const LONGEST: &[u8] = b"\0\0\0\x04";
-
 // The bytes of an array, in little order.
 fn spelled(alloc: Global, shape: &Shape) -> Result<Vec<u8>, AllocError> {
     let (_, gap, first, other, _) = *shape;
@@ -224,12 +206,6 @@ fn is_within(alloc: Global, shape: &Shape) -> Result<bool, AllocError> {
     }
 }
 
-// How many allocations it takes to read an array.
-fn growths(alloc: Global, shape: &Shape) -> Result<Option<u64>, AllocError> {
-    let bytes = spelled(alloc, shape)?;
-    Ok(growths_of_reading(alloc, shape.0, &bytes, bytes.len()))
-}
-
 #[test]
 fn a_value_has_56_bytes(rt: HostRuntime) {
     assert!(rt; size_of::<Value>() == 56 && size_of::<DictEntry>() == 112);
@@ -241,25 +217,4 @@ fn trees_of_arrays(rt: HostRuntime) -> Result<(), Fail> {
         assert!(rt; is_within(rt.alloc(), shape)?, "at {n}");
     }
     Ok(())
-}
-
-// Numbers are read into one block, and each dict entry into one of its own.
-#[test]
-fn growths_of_arrays(rt: HostRuntime) -> Result<(), Fail> {
-    for (n, shape) in GROWTHS.iter().enumerate() {
-        let met = growths(rt.alloc(), shape)?;
-        assert!(rt;
-            met.is_some() && met <= Some(shape.4 as u64),
-            "at {n}: {met:?}"
-        );
-    }
-    Ok(())
-}
-
-#[test]
-fn a_stated_length_takes_no_memory(rt: HostRuntime) {
-    for signature in ["au", "ag", "av", "as", "a{yy}"] {
-        let met = growths_of_reading(rt.alloc(), signature, LONGEST, usize::MAX);
-        assert!(rt; met == Some(0), "{signature}: {met:?}");
-    }
 }

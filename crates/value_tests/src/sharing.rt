@@ -1,14 +1,10 @@
-//! Types take no memory where they are carried: in clones, in copies of values and in the arrays
-//! that are read.
+//! Types take no memory where they are carried in clones. What values of them take is in the files
+//! of `cases/data`.
 
-use crate::reading::growths_of_reading;
 use dbus_types::{SigType, parse_signature};
 use refusing_alloc::Refusing;
 use std::alloc::{Allocator, Global};
 use std::test::*;
-
-// Four arrays without elements.
-const FOUR_EMPTY: &[u8] = b"\x10\0\0\0\0\0\0\0\0\0\0\0\0\0\0\0\0\0\0\0";
 
 fn are_cloned<A: Allocator + Copy>(types: &[SigType<A>]) -> bool {
     for ty in types {
@@ -38,12 +34,4 @@ fn growths_of_clones(alloc: Global) -> Option<u64> {
 #[test]
 fn clones_of_types_take_no_memory(rt: HostRuntime) {
     assert!(rt; growths_of_clones(rt.alloc()) == Some(0));
-}
-
-#[test]
-fn long_element_types_take_no_more_memory_than_short_ones(rt: HostRuntime) {
-    let end = FOUR_EMPTY.len();
-    let short = growths_of_reading(rt.alloc(), "aaaq", FOUR_EMPTY, end);
-    let long = growths_of_reading(rt.alloc(), "aaa(ayayayayayayayay)", FOUR_EMPTY, end);
-    assert!(rt; short.is_some() && short == long, "{short:?} {long:?}");
 }
