@@ -9,4 +9,3 @@ pub mod RuleTelling
 pub mod EndsMade
 mod Built
 mod Rebuilt
-mod FlatParts

@@ -3,9 +3,8 @@ use Rattle.std.proofs.Common.{◌≡◌, ℕ, zero, suc, ◌+◌, ◌-◌, ◌<�
 use Rattle.std.specs.List.{flat_map}
 use Rattle.std.specs.Option.{MatchOption}
 use Rattle.std.proofs.lemmas.Bool.{eq-eqb, eqb-true, or_parts}
-use Rattle.std.proofs.lemmas.Bool.Decides.{nat_tests}
 use Rattle.std.proofs.lemmas.Option.{MatchOption-at_none, MatchOption-at_some}
-use Rattle.std.proofs.lemmas.List.{append-nil, drop-take, length-take, take-take}
+use Rattle.std.proofs.lemmas.List.{append-nil, drop-take, length-take, take-append-drop}
 use Rattle.dbus_texts.specs.Types.{UINT32}
 use Rattle.dbus_value_model.specs.declared.limits.Limits.{Limits}
 use Rattle.dbus_value_model.specs.declared.order.Order.{Order}
@@ -15,8 +14,9 @@ use Rattle.dbus_message_model.specs.Lookups.{field_value}
 use Rattle.dbus_message_model.specs.Messages.{FieldTree, MessageTree, IsMessage, AreFields, fd_count, has_code, is_known, message_bytes, number_in, text_in, want}
 use Rattle.dbus_message_model.proofs.KnownValues.{has_text, suits_of}
 use Rattle.dbus_header.proofs.OutcomeLaws.{one_whole, whole_bytes, whole_inside, whole_valid}
-use Rattle.dbus_validate.specs.Validating.{IsValidatedFirst}
+use Rattle.dbus_validate.specs.Validating.{IsValidated}
 use Rattle.dbus_validate.specs.declared.validating.Validated.{Validated}
+use Rattle.dbus_validate.proofs.SeenSteps.{AreKnown, slice_of_front, unknown}
 use Rattle.dbus_c_build.specs.Placed.{IsInside, added, field_given, field_of, fields_after, in_place, known_codes, number_field, stays, text_at, text_code}
 use Rattle.dbus_c_build.specs.Placed as placed
 use Rattle.dbus_c_build.specs.declared.placed.Place.{Place}
@@ -30,7 +30,6 @@ use Rattle.dbus_c.specs.declared.checking.Checked.{Checked}
 use Rattle.dbus_c.specs.declared.parts.Parts.{Parts}
 use Rattle.dbus_c.specs.declared.parts.TextPlace.{TextPlace}
 use Rattle.dbus_c.proofs.Built.{stands_once, stood_for}
-use Rattle.dbus_c.proofs.Fronts.{first_whole}
 
 -- ---- fields by their codes
 
@@ -50,16 +49,10 @@ none_there c (f ∷ fs) none =
     let parts = or_parts (nat_eq f.code c) (has_code c fs) none in
     ap (λ (b : Bool). if b then Some f.value else field_value c fs) parts.0 ∙ none_there c fs parts.1
 
-unknown : (c : ℕ) → 10 ≤ c → is_known c ≡ false
-unknown c h = grind (arith, nat_tests)
-
 -- ---- what is at a place
 
 slice_front : (n o m : ℕ) (b : List ℕ) → o + m ≤ length (take n b) → take m (drop o (take n b)) ≡ take m (drop o b)
-slice_front n o m b within =
-    let fits : o + m ≤ n = omega (arith, within, length-take n b) in
-    let apart : n ≡ o + (n - o) = omega (arith, fits) in
-    ap (λ (k : ℕ). take m (drop o (take k b))) apart ∙ ap (take m) (drop-take o (n - o) b) ∙ take-take m (n - o) (drop o b) (omega (arith, fits))
+slice_front n o m b within = sym (slice_of_front (take n b) (drop n b) o m within) ∙ ap (λ (l : List ℕ). take m (drop o l)) (take-append-drop n b)
 
 module _ (b : List ℕ) (n : ℕ) where
   -- the field of the text at a place is the field of which that is the place
@@ -154,10 +147,6 @@ module _ (limits : Limits) (b : List ℕ) (w : Parts) (has : HasParts limits b w
       ∙ ap (λ (hs : List FieldTree). f ∷ hs) (kept_same (f ∷ before) gs are.1 others)
 
   -- and none is added
-  abbrev AreKnown : List ℕ → Type 0
-  AreKnown [] = Unit {0}
-  AreKnown (c ∷ cs) = (is_known c ≡ true) × AreKnown cs
-
   added_if : (c : ℕ) (there : Bool) → has_code c fs ≡ there → is_known c ≡ true → (if there then [] else field_given b p c) ≡ []
   added_if c true is known = refl
   added_if c false is known = (own c known).absent (none_there c fs is)
@@ -230,7 +219,7 @@ module _ (limits : Limits) (b : List ℕ) (w : Parts) (has : HasParts limits b w
     comes_back (no_message none tells same) = absurd (none (has.order, m, w.length, has.whole))
 
 -- what is built of the message that is validated
-pub changed : (limits given : Limits) (b : List ℕ) (w : Parts) (j : Validated) (first : IsValidatedFirst given b j) (answer : ℕ) (told : Checked) (old new : List ℕ) → given ≡ limits
-    → Builds given b (FieldsOf j.order first.validated.validated.message) w answer told old new → Rebuilds limits b w answer told old new
+pub changed : (limits given : Limits) (b : List ℕ) (w : Parts) (j : Validated) (first : IsValidated given b j) (answer : ℕ) (told : Checked) (old new : List ℕ) → given ≡ limits
+    → Builds given b (FieldsOf j.order first.message) w answer told old new → Rebuilds limits b w answer told old new
 changed limits given b w j first answer told old new same builds =
-    subst (λ (l : Limits). Rebuilds l b w answer told old new) same (rebuilt j.order first.validated.validated.message j.length (first_whole given b j first) builds)
+    subst (λ (l : Limits). Rebuilds l b w answer told old new) same (rebuilt j.order first.message j.length first.whole builds)

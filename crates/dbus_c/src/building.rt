@@ -19,7 +19,7 @@ use crate::reasons::reason_number;
 use dbus_c_build::{Given, Place, PlacedParts, Refusal, build};
 use dbus_message_model::field_code::SIGNATURE;
 use dbus_message_model::order_named;
-use dbus_validate::validate_first;
+use dbus_validate::validate;
 use dbus_value_model::{Order, Reason};
 use std::alloc::Global;
 
@@ -82,7 +82,7 @@ pub extern "C" fn dbus_wire_rebuild(
         ComesBack bytes.now parts.now result out.old out.new }
 {
     let within = given_limits(limits);
-    match validate_first(bytes, within) {
+    match validate(bytes, within) {
         Some(validated) => {
             let given = Given {
                 bytes,

@@ -9,14 +9,14 @@ ghost use Rattle.dbus_value_model.specs.declared.order.Order.{Order};
 ghost use Rattle.dbus_c.specs.Checking.{IsExact, Tells, fault_told, nothing_told, whole_told};
 ghost use Rattle.dbus_c.specs.GivenLimits.{limits_of};
 ghost use Rattle.dbus_c.specs.Outcomes.{BeginsWithMessage, IsFirstView, TellsApart, answer_of};
-ghost use Rattle.dbus_validate.specs.Validating.{IsValidatedFirst};
+ghost use Rattle.dbus_validate.specs.Validating.{IsValidated};
 ghost use Rattle.dbus_header.specs.NoMessage.{BeginsWithNone};
 
 use crate::answers::{PARTIAL, REFUSED, WHOLE};
 use crate::given_limits::{WireLimits, given_limits};
 use crate::reasons::{field_named, reason_number};
 use dbus_check::{Check, Checker};
-use dbus_validate::{Validated, validate, validate_first};
+use dbus_validate::{Validated, validate};
 use dbus_value_model::{Fault, Limits};
 use dbus_view::MessageView;
 
@@ -142,12 +142,12 @@ pub(crate) fn answer_to_none(bytes: &[u8], limits: Limits) -> u32
 pub(crate) fn first_validated(bytes: &[u8], limits: &WireLimits) -> Result<Validated, u32>
     ensures whole { BeginsWithMessage (limits_of limits.now) bytes.now ↔ (answer_of result ≡ WHOLE) }
     ensures apart { TellsApart (limits_of limits.now) bytes.now (answer_of result) }
-    ensures validated { IfOk result (λ v. IsValidatedFirst (limits_of limits.now) bytes.now v) }
+    ensures validated { IfOk result (λ v. IsValidated (limits_of limits.now) bytes.now v) }
     ensures none { IfErr result (λ answer. WHOLE < answer) }
     ensures most { IfErr result (λ answer. answer ≤ REFUSED) }
 {
     let within = given_limits(limits);
-    match validate_first(bytes, within) {
+    match validate(bytes, within) {
         Some(validated) => Ok(validated),
         None => Err(answer_to_none(bytes, within)),
     }
@@ -158,7 +158,7 @@ pub(crate) fn first_view(bytes: &[u8], limits: Limits) -> Option<MessageView<'_>
     ensures viewed { IfSome result (λ v. IsFirstView limits bytes.now v) }
     ensures none { result ≡ None → BeginsWithNone limits bytes.now }
 {
-    let validated = validate_first(bytes, limits)?;
+    let validated = validate(bytes, limits)?;
     let message = &bytes[..validated.length];
     Some(MessageView::of_validated(message, limits, validated))
 }

@@ -1,26 +1,23 @@
 //! All values of a message's body, and its header fields, as one row of items.
 #![tactic(auto)]
 
-ghost use Rattle.std.specs.Prelude.{◌≡◌, ◌↔◌, ◌≤◌, ◌+◌, length};
-ghost use Rattle.dbus_c.specs.FlatParts.{IsPartFlat, IsTold};
+ghost use Rattle.std.specs.Prelude.{◌≡◌, ◌↔◌, ◌≤◌, ◌+◌, ℕ, List, length};
+ghost use Rattle.dbus_c.specs.FlatParts.{IsPartFlat, IsTold, start_of, values_of};
 ghost use Rattle.dbus_c.specs.GivenLimits.{limits_of};
 ghost use Rattle.dbus_c.specs.Outcomes.{BeginsWithMessage, TellsApart};
 ghost use Rattle.dbus_c.specs.declared.flattening.Part.TheVariants.{Body, Fields};
-ghost use Rattle.dbus_validate.specs.Validating.{IsValidatedFirst};
+ghost use Rattle.dbus_message_model.specs.Messages.{MessageTree};
+ghost use Rattle.dbus_types.specs.TypeLengths.{AreLengths};
+ghost use Rattle.dbus_validate.specs.Wholes.{IsOwn, IsWholeOf, WasValidated};
+ghost use Rattle.dbus_walk.specs.Standing.{AllStandAt};
+ghost use Rattle.dbus_walk.specs.declared.spot.Source.{Source};
 
 use crate::answers::{NO_ROOM, WHOLE};
 use crate::checking::first_validated;
 use crate::given_limits::{WireLimits, given_limits};
 use dbus_flatten::{FlatItem, flatten};
-use dbus_validate::Validated;
-use dbus_value_model::Limits;
-use dbus_walk::{Source, Spot, lengths_of};
-
-/// The offset of the array of the header fields. D-Bus Specification, "Message Format".
-const FIELDS_AT: usize = 12;
-
-/// The type of that array.
-const FIELDS_TYPE: &[u8] = b"a(yv)";
+use dbus_validate::Whole;
+use dbus_walk::Spot;
 
 /// What of a message is flattened.
 #[derive(Clone, Copy)]
@@ -96,7 +93,12 @@ fn flatten_part(
 {
     match first_validated(bytes, limits) {
         Ok(validated) => {
-            let told = flat_part(part, bytes, &validated, given_limits(limits), first, items);
+            let whole = Whole {
+                bytes,
+                limits: given_limits(limits),
+                validated: &validated,
+            };
+            let told = flat_part(part, &whole, first, items);
             *count = told as u64;
             if told.saturating_sub(first) > items.len() {
                 NO_ROOM
@@ -110,31 +112,29 @@ fn flatten_part(
 
 // The items of a part of the message that was validated, which the bytes begin with, from a place
 // on: how many the whole row has.
-fn flat_part(
-    part: Part,
-    bytes: &[u8],
-    validated: &Validated,
-    limits: Limits,
-    first: usize,
-    items: &mut [FlatItem],
-) -> usize
-    requires validated { IsValidatedFirst limits bytes.now validated.now }
-    ensures { IsPartFlat part limits bytes.now first items.old items.new result }
+fn flat_part(part: Part, whole: &Whole<'_>, first: usize, items: &mut [FlatItem]) -> usize
+    requires validated { WasValidated whole.now }
+    ensures { IsPartFlat part whole.now.limits whole.now.bytes.now first items.old items.new result }
 {
-    let source = Source {
-        bytes: &bytes[..validated.length],
-        order: validated.order,
-    };
-    let (at, types) = match part {
-        Part::Fields => (FIELDS_AT, FIELDS_TYPE),
-        Part::Body => (validated.body, validated.fields.signature(source.bytes)),
-    };
+    let source = whole.source();
+    let whole = *whole;
     let mut table = [0; 255];
-    let spot = Spot {
-        at,
-        types,
-        lengths: lengths_of(types, &mut table),
-        depth_left: limits.depth,
-    };
+    let spot = spot_of(part, &whole, &mut table);
     flatten(&source, &spot, first, items)
+}
+
+// Where the values of a part are. The table gets how long their types are.
+fn spot_of<'a>(part: Part, whole: &Whole<'a>, table: &'a mut [u8; 255]) -> Spot<'a>
+    requires validated { WasValidated whole.now }
+    ensures begins { (m : MessageTree) → IsWholeOf whole.now m →
+        result.at ≡ start_of part whole.now.validated.now.order m }
+    ensures noted { AreLengths result.types.now result.lengths.now }
+    ensures stand { (source : Source) (m : MessageTree) → IsOwn whole.now source →
+        IsWholeOf whole.now m →
+        (rest : List ℕ) × AllStandAt source result (values_of part m) rest }
+{
+    match part {
+        Part::Fields => whole.fields(table),
+        Part::Body => whole.body(table),
+    }
 }

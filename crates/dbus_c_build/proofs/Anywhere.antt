@@ -68,7 +68,7 @@ module _ (order : Order) (xs : ValueTrees) where
 abbrev pub coded : FieldTree → ValueTrees
 coded f = MoreValues (NumberValue BYTE f.code) (MoreValues (VariantValue f.value) NoValues)
 
-abbrev structs : List FieldTree → ValueTrees
+abbrev pub structs : List FieldTree → ValueTrees
 structs fs = value_trees (map field_struct fs)
 
 -- a field that has a spelling at any offset

@@ -1,5 +1,5 @@
 -- The only message that the bytes of parts may begin with has these parts, and is all of the bytes.
-use Rattle.std.proofs.Common.{◌≡◌, ℕ, ◌-◌, ◌^◌, ◌<◌, ◌≤◌, List, [], ◌∷◌, ◌++◌, length, replicate, map, refl, sym, ap, subst, ◌∙◌, arith, append_assoc}
+use Rattle.std.proofs.Common.{◌≡◌, ℕ, ◌-◌, ◌^◌, ◌<◌, ◌≤◌, List, [], ◌∷◌, ◌++◌, length, replicate, refl, sym, ap, subst, ◌∙◌, arith, append_assoc}
 use Rattle.std.proofs.lemmas.List.{length-replicate, append-nil}
 use Rattle.dbus_value_model.specs.declared.limits.Limits.{Limits}
 use Rattle.dbus_value_model.specs.declared.order.Order.{Order}
@@ -8,21 +8,18 @@ use Rattle.dbus_value_model.specs.Appending.{with_values}
 use Rattle.dbus_value_model.specs.Bounds.{bounds_of}
 use Rattle.dbus_value_model.specs.Bytes.{num, pad, gap_to}
 use Rattle.dbus_value_model.specs.Spelling.{spelling, spellings}
-use Rattle.dbus_value_model.specs.Values.{ValueTrees, value_trees}
-use Rattle.dbus_message_model.specs.Messages.{FieldTree, MessageTree, IsMessage, order_byte, field_struct, field_array, fields_end, body_bytes, message_bytes}
+use Rattle.dbus_value_model.specs.Values.{ValueTrees}
+use Rattle.dbus_message_model.specs.Messages.{FieldTree, MessageTree, IsMessage, order_byte, field_array, fields_end, body_bytes, message_bytes}
 use Rattle.dbus_message_model.proofs.MessageLengths.{message_length}
 use Rattle.dbus_c_build.specs.BuildLaws.{OneBuilt}
 use Rattle.dbus_c_build.specs.Placed.{HasParts, text_at, fields_after}
 use Rattle.dbus_c_build.specs.Spelled.{with_header, spelled}
 use Rattle.dbus_c_build.specs.Building.{HaveBytes}
 use Rattle.dbus_c_build.specs.declared.placed.PlacedParts.{PlacedParts}
-use Rattle.dbus_c_build.proofs.Anywhere.{AreSpelled, message_spelled}
+use Rattle.dbus_c_build.proofs.Anywhere.{AreSpelled, message_spelled, structs}
 use Rattle.dbus_c_build.proofs.Cancelling.{fronts, heads, numbers}
 use Rattle.dbus_c_build.proofs.ClearFields.{clear_fields}
 use Rattle.dbus_c_build.proofs.SameFields.{same_fields}
-
-abbrev structs : List FieldTree → ValueTrees
-structs fs = value_trees (map field_struct fs)
 
 -- where a message has the parts, its bytes are these
 pub parts_spelled : (b : List ℕ) (kept : List FieldTree) (p : PlacedParts) (m : MessageTree) → HasParts b kept p m → message_bytes p.order m ≡ spelled b kept p

@@ -1,8 +1,8 @@
 -- Parts that have no bytes, or whose bytes begin with no message, make none; and bytes that are
 -- validated are the message built.
-use Rattle.std.proofs.Common.{◌≡◌, ◌⊎◌, ℕ, ◌+◌, ◌-◌, ◌^◌, ◌<◌, ◌≤◌, ◌||◌, List, [], ◌∷◌, ◌++◌, length, replicate, drop, map, Bool, true, false, if◌then◌else◌, nat_eq, Option, Some, None, inl, inr, refl, sym, ap, subst, ◌∙◌, arith}
+use Rattle.std.proofs.Common.{◌≡◌, ◌⊎◌, ℕ, ◌+◌, ◌-◌, ◌^◌, ◌<◌, ◌≤◌, ◌||◌, List, [], ◌∷◌, ◌++◌, length, replicate, drop, Bool, true, false, if◌then◌else◌, nat_eq, Option, Some, None, inl, inr, refl, sym, ap, subst, ◌∙◌, arith}
 use Rattle.std.specs.List.{flat_map}
-use Rattle.std.proofs.lemmas.Bool.{cases_lt, eqb-true}
+use Rattle.std.proofs.lemmas.Bool.{eqb-true}
 use Rattle.std.proofs.lemmas.List.{length-append, length-take, length-drop, length-replicate, append-nil}
 use Rattle.dbus_texts.specs.Types.{TextCode, sig}
 use Rattle.dbus_types.specs.Alignments.{length_width}
@@ -12,7 +12,7 @@ use Rattle.dbus_value_model.specs.Appending.{with_padding, with_value, with_valu
 use Rattle.dbus_value_model.specs.Bounds.{bounds_of}
 use Rattle.dbus_value_model.specs.Bytes.{pad, num}
 use Rattle.dbus_value_model.specs.Spelling.{ended_text, spelling, spellings}
-use Rattle.dbus_value_model.specs.Values.{ValueTree, ValueTrees, NumberValue, TextValue, VariantValue, ArrayValue, StructValue, EntryValue, type_of, value_trees, IsWellFormed, AreWellFormed}
+use Rattle.dbus_value_model.specs.Values.{ValueTree, NumberValue, TextValue, VariantValue, ArrayValue, StructValue, EntryValue, type_of, IsWellFormed, AreWellFormed}
 use Rattle.dbus_marshal.proofs.Written.{written_more, length_values}
 use Rattle.dbus_message_model.specs.Messages.{FieldTree, MessageTree, IsMessage, field_struct, has_code, message_bytes}
 use Rattle.dbus_encode.proofs.FieldWriting.{field_length}
@@ -23,12 +23,12 @@ use Rattle.dbus_header.specs.NoMessage.{BeginsWithNone}
 use Rattle.dbus_validate.specs.declared.validating.Validated.{Validated}
 use Rattle.dbus_c_build.specs.Placed.{HasParts, IsInside, place_of, text_at, text_code, field_of, field_given, stays, in_place, added, known_codes, fields_after}
 use Rattle.dbus_c_build.specs.Spelled.{spelled}
-use Rattle.dbus_c_build.specs.Building.{HaveBytes, HaveNoBytes, IsBuilt, IsGood, AreGoodBelow, AreGood, IsShort, IsRefusal, MakeNone, most_of, fields_length}
+use Rattle.dbus_c_build.specs.Building.{HaveBytes, HaveNoBytes, IsBuilt, IsShort, IsRefusal, MakeNone, most_of, fields_length}
 use Rattle.dbus_c_build.specs.declared.placed.Place.{Place}
 use Rattle.dbus_c_build.specs.declared.placed.PlacedParts.{PlacedParts}
 use Rattle.dbus_c_build.specs.declared.refusal.Refusal.{Refusal}
 use Rattle.dbus_c_build.specs.declared.refusal.Refusal.TheVariants as refusals
-use Rattle.dbus_c_build.proofs.Anywhere.{AreSpelled, formed_structs}
+use Rattle.dbus_c_build.proofs.Anywhere.{AreSpelled, formed_structs, structs}
 use Rattle.dbus_c_build.proofs.OnlyMessage.{parts_spelled, contents_within, only_message}
 use Rattle.dbus_c_build.proofs.SameFields.{sound_field}
 
@@ -46,19 +46,6 @@ by_code p P none body h code =
     (if_is P code 3 _ _ (nat_eq code 3) refl h.2 (if_is P code 4 _ _ (nat_eq code 4) refl h.3 (if_is P code 6 _ _ (nat_eq code 6) refl h.4
     (if_is P code 7 _ _ (nat_eq code 7) refl h.5 (if_is P code 8 _ _ (nat_eq code 8) refl h.6 (none code))))))))
 
--- every place is good if those of the codes that have one are
-pub all_good : (b : List ℕ) (p : PlacedParts) → AreGoodBelow b p 9 → AreGood b p
-all_good b p good =
-    by_code p (λ code q. IsInside b q × IsShort code q) (λ code. (tt, tt)) (good 0 (omega arith))
-    (good 1 (omega arith), good 2 (omega arith), good 3 (omega arith), good 4 (omega arith), good 6 (omega arith), good 7 (omega arith), good 8 (omega arith))
-
--- one more place is good
-pub good_more : (b : List ℕ) (p : PlacedParts) (code : ℕ) → AreGoodBelow b p code → IsGood b p code → AreGoodBelow b p (code + 1)
-good_more b p code below good c lt = elim (cases_lt c code) [
-  | inl less ↦ below c less
-  | inr more ↦ let same : code ≡ c = omega (arith, lt, more) in subst (IsGood b p) same good
-]
-
 -- ---- texts in a message are short
 
 abbrev HasShort : ℕ → ValueTree → Type 0
@@ -72,9 +59,6 @@ HasShort most (EntryValue k v) = Unit {0}
 abbrev HaveShort : ℕ → List FieldTree → Type 0
 HaveShort most [] = Unit {0}
 HaveShort most (f ∷ fs) = HasShort most f.value × HaveShort most fs
-
-abbrev structs : List FieldTree → ValueTrees
-structs fs = value_trees (map field_struct fs)
 
 inside_text : (order : Order) (o : ℕ) (k : TextCode) (t : List ℕ) → length t ≤ length (spelling order o (TextValue k t))
 unfolding spelling

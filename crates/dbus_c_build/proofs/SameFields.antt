@@ -1,6 +1,6 @@
 -- Fields of a message that are spelled as others are, each of which is plain or spelled at any
 -- offset, are these.
-use Rattle.std.proofs.Common.{◌≡◌, ◌⊎◌, ℕ, zero, suc, ◌^◌, ◌<◌, List, [], ◌∷◌, ◌++◌, length, map, inl, inr, refl, sym, ap, subst, ◌∙◌, arith, append_assoc}
+use Rattle.std.proofs.Common.{◌≡◌, ◌⊎◌, ℕ, zero, suc, ◌^◌, ◌<◌, List, [], ◌∷◌, ◌++◌, length, inl, inr, refl, sym, ap, subst, ◌∙◌, arith, append_assoc}
 use Rattle.dbus_texts.specs.Types.{NumberCode, UINT32, TextCode, TypeTree, NumberType, TextType, sig}
 use Rattle.dbus_types.specs.Alignments.{length_width}
 use Rattle.dbus_header.proofs.Fields.{sig_injective}
@@ -9,12 +9,12 @@ use Rattle.dbus_value_model.specs.declared.order.Order.{Order}
 use Rattle.dbus_value_model.specs.Appending.{with_padding, with_value, with_values}
 use Rattle.dbus_value_model.specs.Bytes.{num}
 use Rattle.dbus_value_model.specs.Spelling.{spelling, spellings}
-use Rattle.dbus_value_model.specs.Values.{ValueTree, ValueTrees, NumberValue, TextValue, VariantValue, ArrayValue, StructValue, EntryValue, type_of, value_trees, IsNumber, IsWellFormed}
+use Rattle.dbus_value_model.specs.Values.{ValueTree, ValueTrees, NumberValue, TextValue, VariantValue, ArrayValue, StructValue, EntryValue, type_of, IsNumber, IsWellFormed}
 use Rattle.dbus_value_laws.proofs.ValueOutcomes.{one_value}
 use Rattle.dbus_marshal.proofs.Written.{length_values, length_padding, value_is, written_number, written_text, written_none, written_more}
 use Rattle.dbus_message_model.specs.Messages.{FieldTree, field_struct}
 use Rattle.dbus_encode.proofs.FieldWriting.{before_value, field_written, field_length}
-use Rattle.dbus_c_build.proofs.Anywhere.{IsSpelled, AreSpelled}
+use Rattle.dbus_c_build.proofs.Anywhere.{IsSpelled, AreSpelled, structs}
 use Rattle.dbus_c_build.proofs.Cancelling.{fronts, heads, numbers}
 
 -- a text or a UINT32 whose length or number fits
@@ -33,9 +33,6 @@ IsPlainField f = (f.code < 256) × (length (sig (type_of f.value)) < 256) × IsP
 abbrev pub AreClear : Bounds → Order → (depth : ℕ) → List FieldTree → Type 0
 AreClear bounds order depth [] = Unit {0}
 AreClear bounds order depth (f ∷ fs) = (IsPlainField f ⊎ IsSpelled bounds order depth f) × AreClear bounds order depth fs
-
-abbrev structs : List FieldTree → ValueTrees
-structs fs = value_trees (map field_struct fs)
 
 -- what a well-formed field is
 pub record IsSoundField (g : FieldTree) : Type 0 where

@@ -15,8 +15,8 @@ pub struct Given<'a> {
     pub bytes: &'a [u8],
     /// The limits that the message is held to.
     pub limits: Limits,
-    /// The message that the bytes begin with, as [`dbus_validate::validate_first`] returned it, if
-    /// its header fields are kept.
+    /// The message that the bytes begin with, as [`dbus_validate::validate`] returned it, if its
+    /// header fields are kept.
     pub kept: Option<Validated>,
 }
 

@@ -5,8 +5,8 @@ use Rattle.std.proofs.Math.Seq.{take-append-add}
 use Rattle.dbus_value_model.specs.declared.limits.Limits.{Limits}
 use Rattle.dbus_header.specs.MessageOutcomes.{IsWhole, IsRefused, IsPartial}
 use Rattle.dbus_validate.specs.declared.validating.Validated.{Validated}
-use Rattle.dbus_validate.specs.Validating.{IsValidatedFirst, IsValidatedWhole}
-use Rattle.dbus_validate.proofs.Firsts.{followed}
+use Rattle.dbus_validate.specs.Validating.{IsValidated, IsValidatedWhole}
+use Rattle.dbus_validate.proofs.Firsts.{own_validated}
 use Rattle.dbus_stream.specs.Gathering.{GathererState, gathering, begun, under_way, Gathered, Gathers}
 use Rattle.dbus_stream.specs.Taking.{Completes, Takes}
 use Rattle.dbus_stream.specs.declared.stream_fault.StreamFault.{StreamFault}
@@ -15,21 +15,19 @@ use Rattle.dbus_stream.specs.declared.stream_fault.StreamFault.TheVariants.{Memo
 module _ (old : GathererState) (piece : List ℕ) where
   -- nothing is held once the next message is begun, and the piece begins with a message
   pub lends_first : (limits : Limits) (held : List ℕ) (whole : Bool) (lent : ℕ) (w : List ℕ) (j : Validated)
-      → ◌≡◌ {A = GathererState} (record { limits = limits; held = held; whole = whole; lent = lent }) (begun old) → under_way old.whole old.held ≡ w → held ≡ [] → IsValidatedFirst limits piece j
+      → ◌≡◌ {A = GathererState} (record { limits = limits; held = held; whole = whole; lent = lent }) (begun old) → under_way old.whole old.held ≡ w → held ≡ [] → IsValidated limits piece j
       → Completes gathering old w piece (record { limits = limits; held = held; whole = whole; lent = j.length }) j.length j
   lends_first limits held whole lent w j e holds none first =
-      let own = first.validated.validated in
       let same : limits ≡ old.limits = ap (λ (s : GathererState). s.limits) e in
       let open_ : whole ≡ false = ap (λ (s : GathererState). s.whole) e in
       let nothing : [] ≡ w = sym none ∙ (ap (λ (s : GathererState). s.held) e ∙ holds) in
       let new : GathererState = record { limits = limits; held = held; whole = whole; lent = j.length } in
-      let message = followed limits piece j.order own.message j.length j.length own.whole in
       subst (λ v. Completes gathering old v piece new j.length j) nothing (record {
         order = j.order;
-        message = own.message;
-        whole = subst (λ n. IsWhole old.limits piece j.order own.message n) (sym (zero-add j.length)) (subst (λ l. IsWhole l piece j.order own.message j.length) same message);
+        message = first.message;
+        whole = subst (λ n. IsWhole old.limits piece j.order first.message n) (sym (zero-add j.length)) (subst (λ l. IsWhole l piece j.order first.message j.length) same first.whole);
         gives = record {
-          validated = subst (λ n. IsValidatedWhole limits (take n piece) j) (sym (zero-add j.length)) first.validated;
+          validated = subst (λ n. IsValidatedWhole limits (take n piece) j) (sym (zero-add j.length)) (own_validated limits piece j first);
           place = inr (open_, none, sym (zero-add j.length));
         };
         holds = ap (λ b. under_way b held) open_ ∙ none;

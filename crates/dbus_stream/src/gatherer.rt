@@ -9,7 +9,7 @@ ghost use Rattle.dbus_stream.specs.Taking.{Takes};
 use crate::stream_fault::StreamFault;
 use crate::taker::Taker;
 use dbus_check::{Check, Checker};
-use dbus_validate::{Validated, validate_first, validate_known};
+use dbus_validate::{Validated, validate, validate_known};
 use dbus_value_model::Limits;
 use std::alloc::Allocator;
 use std::marker::Model;
@@ -236,7 +236,7 @@ impl<A: Allocator + Copy> Taker for Gatherer<A> {
         if !self.held.is_empty() {
             return self.take_gathered(piece, given);
         }
-        *given = validate_first(piece, self.limits);
+        *given = validate(piece, self.limits);
         match given {
             Some(validated) => {
                 self.lent = validated.length;

@@ -1,5 +1,5 @@
 -- The loop over a header's fields, each of which sees those before it.
-use Rattle.std.proofs.Common.{◌≡◌, ℕ, suc, ◌+◌, ◌-◌, ◌<◌, ◌≤◌, List, [], ◌∷◌, ◌++◌, length, map, drop, get_or, reverse, false, true, ◌&&◌, Bool, refl, sym, ap, ◌∙◌, arith, append-nil}
+use Rattle.std.proofs.Common.{◌≡◌, ℕ, suc, ◌+◌, ◌-◌, ◌<◌, ◌≤◌, List, [], ◌∷◌, ◌++◌, length, map, take, drop, get_or, reverse, false, true, ◌&&◌, Bool, refl, sym, ap, ◌∙◌, arith, append-nil}
 use Rattle.std.proofs.lemmas.Bool.{lt-ltb, ne_eqb}
 use Rattle.std.proofs.lemmas.List.{length-append}
 use Rattle.dbus_value_model.specs.Bounds.{bounds_of}
@@ -52,12 +52,12 @@ module _ (limits : Limits) (order : Order) (bytes : List ℕ) (at n : ℕ) where
   -- turns, comes after them
   pub record Left (turns place : ℕ) (seen : Seen) : Type 0 where
     pub front : List FieldTree
-    pub noted : AreNoted front bytes seen
+    pub noted : AreNoted front (take (at + n) bytes) seen
     pub placed : ArePlaced order front seen
     pub here : place ≡ field_start order front
     pub leads : fields_read limits order n at (drop at bytes) ≡ with_front front (up_to turns (at + n) (field_read limits order (at + n)) (reverse front) place (drop place bytes))
 
-  pub none_left : (seen : Seen) → at ≡ 16 → AreNoted [] bytes seen → Left (n - 0) at seen
+  pub none_left : (seen : Seen) → at ≡ 16 → AreNoted [] (take (at + n) bytes) seen → Left (n - 0) at seen
   unfolding fields_read spelling
   none_left seen begins noted = record { front = []; noted = noted; placed = λ c v p known is slot. absurd cc; here = begins; leads = sym (starts (field_read limits order) n at (drop at bytes)) }
 
@@ -75,7 +75,7 @@ module _ (limits : Limits) (order : Order) (bytes : List ℕ) (at n : ℕ) where
   module _ (deep : 3 ≤ limits.depth) (are : (i : ℕ) → get_or bytes i 0 < 256) where
     pub one_left : (turns rest place code : ℕ) (held : Held) (seen new : Seen) (left : Left turns place seen) → turns ≡ suc rest → place < at + n → is_known code && has_code code left.front ≡ false
         → ((before : List FieldTree) → is_known code && has_code code before ≡ false → IsHeldField limits order (at + n) before place bytes code held)
-        → ((v : ValueTree) → IsNoted (want code) v bytes held → AreNoted (left.front ++ (record { code = code; value = v }) ∷ []) bytes new)
+        → ((v : ValueTree) → IsNoted (want code) v bytes held → AreNoted (left.front ++ (record { code = code; value = v }) ∷ []) (take (at + n) bytes) new)
         → ((v : ValueTree) → (is_known code ≡ true → held.start ≡ text_start (known_start (field_start order left.front)) v) → ArePlaced order (left.front ++ (record { code = code; value = v }) ∷ []) new)
         → Left rest held.after new
     one_left turns rest place code held seen new left more lt alone field noted placed =
@@ -90,7 +90,7 @@ module _ (limits : Limits) (order : Order) (bytes : List ℕ) (at n : ℕ) where
         }
 
   pub left_ends : (turns place : ℕ) (seen : Seen) → Left turns place seen → place ≡ at + n
-      → (fs : List FieldTree) × (fields_read limits order n at (drop at bytes) ≡ Done fs (at + n) (drop (at + n) bytes)) × AreNoted fs bytes seen × ArePlaced order fs seen
+      → (fs : List FieldTree) × (fields_read limits order n at (drop at bytes) ≡ Done fs (at + n) (drop (at + n) bytes)) × AreNoted fs (take (at + n) bytes) seen × ArePlaced order fs seen
   left_ends turns place seen left here = (
     left.front,
     left.leads ∙ is_done (field_read limits order (at + n)) (at + n) left.front turns place (drop place bytes) here ∙ ap (λ (q : ℕ). Done left.front q (drop q bytes)) here,

@@ -1,5 +1,5 @@
 -- The message that bytes begin with, taken by itself, and the sixteen bytes that state its length.
-use Rattle.std.proofs.Common.{Option, Some, None, Ok, ◌≡◌, ℕ, ◌+◌, ◌≤◌, List, [], ◌++◌, length, take, drop, sym, ap, subst, ◌∙◌, arith}
+use Rattle.std.proofs.Common.{Option, Some, None, Ok, ◌≡◌, ℕ, ◌+◌, ◌≤◌, List, [], ◌++◌, length, take, take_all, drop, sym, ap, subst, ◌∙◌, arith}
 use Rattle.std.proofs.lemmas.List.{append-nil, length-append, length-take-le, take-append-drop}
 use Rattle.dbus_value_model.specs.declared.limits.Limits.{Limits}
 use Rattle.dbus_value_model.specs.declared.order.Order.{Order}
@@ -8,10 +8,12 @@ use Rattle.dbus_message_model.specs.Messages.{MessageTree, message_bytes}
 use Rattle.dbus_header.specs.MessageOutcomes.{IsWhole}
 use Rattle.dbus_header.specs.StatedLengths.{StatesLength, Stated}
 use Rattle.dbus_header.proofs.Whole.{fixed_bytes, fixed_to}
-use Rattle.dbus_header.proofs.OutcomeLaws.{valid_whole, whole_bytes, whole_for_good, whole_valid}
+use Rattle.dbus_header.proofs.OutcomeLaws.{valid_whole, whole_bytes, whole_for_good, whole_inside, whole_valid}
 use Rattle.dbus_header.proofs.StatedLengths.{stated_holds}
 use Rattle.dbus_validate.specs.declared.validating.Validated.{Validated}
-use Rattle.dbus_validate.specs.Validating.{IsValidated, IsValidatedFirst}
+use Rattle.dbus_validate.specs.Seen.{AreNoted}
+use Rattle.dbus_validate.specs.Validating.{IsValidated, IsValidatedWhole}
+use Rattle.dbus_validate.proofs.BodyPlaces.{body_there}
 
 -- bytes that state a length are sixteen at least
 pub sixteen_there : (limits : Limits) (b : List ℕ) (n : ℕ) → StatesLength limits b n → 16 ≤ length b
@@ -45,15 +47,20 @@ module _ (limits : Limits) (b : List ℕ) (order : Order) (m : MessageTree) wher
       let held = stated_holds limits b [] order m n k states (subst (λ (t : List ℕ). IsWhole limits t order m k) (sym (append-nil b)) w) in
       (held.0, subst (λ (t : List ℕ). n ≤ length t) (append-nil b) held.1)
 
-pub states : (limits : Limits) (b : List ℕ) (found : Option ℕ) (n : ℕ) → found ≡ Some n → Stated limits b (Ok found) → StatesLength limits b n
-states limits b found n is stated = subst (λ (o : Option ℕ). Stated limits b (Ok o)) is stated
-
--- what is said of as many bytes as are stated is said of the first message
-pub validated_first : (limits : Limits) (b : List ℕ) (j : Validated) (n : ℕ) → j.length ≡ n → n ≤ length b → IsValidated limits (take n b) j → IsValidatedFirst limits b j
-validated_first limits b j n same there validated = record {
-  fits = omega (arith, same, there);
-  validated = record {
-    validated = subst (λ (k : ℕ). IsValidated limits (take k b) j) (sym same) validated;
-    all = sym (length-take-le j.length b (omega (arith, same, there)));
-  };
-}
+-- what is said of bytes that begin with a message is said of the message by itself
+pub own_validated : (limits : Limits) (b : List ℕ) (j : Validated) → IsValidated limits b j → IsValidatedWhole limits (take j.length b) j
+own_validated limits b j is =
+    let own = take j.length b in
+    let fits : length own ≡ j.length = length-take-le j.length b (whole_inside limits b j.order is.message j.length is.whole).1 in
+    let same : take j.length own ≡ own = take_all j.length own (omega (arith, fits)) in
+    record {
+      validated = record {
+        message = is.message;
+        whole = alone limits b j.order is.message j.length is.whole;
+        parts = is.parts;
+        fields = subst (λ (l : List ℕ). AreNoted is.message.fields l j.fields) (sym same) is.fields;
+        places = is.places;
+        body = (is.body.0, body_there j.order is.message limits own j.length j.body (alone limits b j.order is.message j.length is.whole) is.body.0);
+      };
+      all = sym fits;
+    }

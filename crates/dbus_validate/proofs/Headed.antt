@@ -1,5 +1,5 @@
 -- What stands before a body, and the body: of what bytes begin with, by what is validated.
-use Rattle.std.proofs.Common.{◌≡◌, ℕ, ◌+◌, ◌<◌, List, drop, get_or, refl, sym, ap, subst, ◌∙◌, arith}
+use Rattle.std.proofs.Common.{◌≡◌, ℕ, ◌+◌, ◌<◌, List, take, drop, get_or, refl, sym, ap, subst, ◌∙◌, arith}
 use Rattle.dbus_texts.specs.Kinds.{IsKind}
 use Rattle.dbus_texts.specs.ComputedKinds.{types_spelled}
 use Rattle.dbus_texts.specs.declared.text_kind.TextKind.TheVariants.{Signature}
@@ -21,6 +21,7 @@ use Rattle.dbus_value_validator.specs.Endings.{EndsAt, IsNotRead}
 use Rattle.dbus_validate.specs.declared.validating.Head.{Head}
 use Rattle.dbus_validate.specs.declared.seen.Seen.{Seen}
 use Rattle.dbus_validate.specs.Headed.{IsHeaded, validated_of}
+use Rattle.dbus_validate.specs.Seen.{AreNoted}
 use Rattle.dbus_validate.specs.Validating.{IsValidated}
 use Rattle.dbus_header.specs.NoMessage.{BeginsWithNone}
 use Rattle.dbus_validate.proofs.Firsts.{has_stated}
@@ -44,7 +45,7 @@ module _ (limits : Limits) (bytes : List ℕ) (are : (i : ℕ) → get_or bytes 
   validated_with : (vs : ValueTrees) → IsWhole limits bytes h.order (with_body vs) (x.start + h.body) → IsValidated limits bytes (validated_of x seen)
   validated_with vs w =
       subst (λ (n : ℕ). IsValidated limits bytes (record { length = n; order = h.order; kind = h.kind; flags = h.flags; serial = h.serial; fields = seen; body = x.start })) (sym p.ends)
-      (is_validated limits bytes are h p.opened fs p.fielded p.headed p.lacks_none x.start p.padded vs w seen p.noted p.placed p.begins)
+      (is_validated limits bytes are h p.opened fs p.fielded p.headed p.lacks_none x.start p.padded vs w seen (subst (λ (n : ℕ). AreNoted fs (take n bytes) seen) p.ends p.noted) p.placed p.begins)
 
   abbrev body : (end : ℕ) → Outcome ValueTrees
   body end = body_read limits (body_fds limits fs) h.order (types_spelled (body_signature fs)) end x.start (drop x.start bytes)

@@ -1,5 +1,5 @@
 mod HeldSteps
-mod SeenSteps
+pub mod SeenSteps
 mod FieldTurns
 mod FieldSteps
 mod BodySteps

@@ -3,7 +3,8 @@ use Rattle.std.proofs.Common.{take, ◌≡◌, ℕ, zero, suc, eqb, true, false,
 use Rattle.std.specs.Option.{is_some}
 use Rattle.std.proofs.lemmas.Bool.{cases_lt, eqb-true, eqb-false, ne_eqb, or_parts}
 use Rattle.std.proofs.lemmas.Bool.Decides.{nat_tests}
-use Rattle.std.proofs.lemmas.List.{drop_more, get_or-set_same, get_or-set_other}
+use Rattle.std.proofs.Math.Seq.{take-add}
+use Rattle.std.proofs.lemmas.List.{drop_more, drop-append-le, get_or-set_same, get_or-set_other, length-append, length-drop, take-append-drop, take-append-le}
 use Rattle.dbus_value_model.specs.declared.fault.Reason.TheVariants as reasons
 use Rattle.dbus_value_model.specs.declared.order.Order.{Order}
 use Rattle.dbus_value_model.specs.Values.{ValueTree}
@@ -31,7 +32,7 @@ value_other : (c : ℕ) (fs : List FieldTree) (f : FieldTree) → eqb f.code c �
 value_other c [] f other = rw other refl
 value_other c (g ∷ fs) f other = ap (λ (v : Option ValueTree). cond (eqb g.code c) (Some g.value) v) (value_other c fs f other)
 
-unknown : (c : ℕ) → 10 ≤ c → is_known c ≡ false
+pub unknown : (c : ℕ) → 10 ≤ c → is_known c ≡ false
 unknown c h = grind (arith, nat_tests)
 
 known_below : (c : ℕ) → is_known c ≡ true → c < 10
@@ -89,6 +90,37 @@ module _ (fs : List FieldTree) (bytes : List ℕ) (seen : Seen) (noted : AreNote
     noted_past le same = λ c known.
         let below = known_below c known in
         other_kept c known (ne_eqb code c (omega arith)) (ap (λ (l : List (Option Place)). get_or l c None) same)
+
+-- ---- what is noted of the first bytes
+
+pub slice_of_front : (front rest : List ℕ) (start n : ℕ) → start + n ≤ length front → take n (drop start (front ++ rest)) ≡ take n (drop start front)
+slice_of_front front rest start n fits =
+    ap (take n) (drop-append-le start front rest (omega (arith, fits))) ∙ take-append-le n (drop start front) rest (omega (arith, fits, length-drop start front))
+
+-- a value that ends among them is noted of them
+pub noted_front : (w : Want) (v : ValueTree) (front rest : List ℕ) (h : Held) → h.start + h.length ≤ length front → IsNoted w v (front ++ rest) h → IsNoted w v front h
+noted_front Anything v front rest h fits is = tt
+noted_front (OfType t) v front rest h fits is = (is.0 ∙ slice_of_front front rest h.start h.length fits, is.1)
+noted_front (Name k) v front rest h fits is = (is.0 ∙ slice_of_front front rest h.start h.length fits, is.1)
+noted_front Serial v front rest h fits is = (is.0 ∙ slice_of_front front rest h.start h.length fits, is.1)
+
+noted_longer : (v : Option ValueTree) (front rest : List ℕ) (p : Option Place) → IsNotedOf v front p → IsNotedOf v (front ++ rest) p
+noted_longer None front rest None is = tt
+noted_longer None front rest (Some p) is = absurd is
+noted_longer (Some v) front rest None is = absurd is
+noted_longer (Some v) front rest (Some p) is = record {
+  text = is.text ∙ sym (slice_of_front front rest p.start p.length is.inside);
+  inside = omega (arith, is.inside, length-append front rest);
+  number = is.number;
+}
+
+-- and is so of all of them
+pub noted_of_all : (fs : List FieldTree) (n : ℕ) (bytes : List ℕ) (seen : Seen) → AreNoted fs (take n bytes) seen → AreNoted fs bytes seen
+noted_of_all fs n bytes seen noted = subst (λ (l : List ℕ). AreNoted fs l seen) (take-append-drop n bytes) (λ c known. noted_longer (field_value c fs) (take n bytes) (drop n bytes) (get_or seen.places c None) (noted c known))
+
+pub noted_of_more : (fs : List FieldTree) (n k : ℕ) (bytes : List ℕ) (seen : Seen) → AreNoted fs (take n bytes) seen → AreNoted fs (take (n + k) bytes) seen
+noted_of_more fs n k bytes seen noted =
+    subst (λ (l : List ℕ). AreNoted fs l seen) (sym (take-add n k bytes)) (λ c known. noted_longer (field_value c fs) (take n bytes) (take k (drop n bytes)) (get_or seen.places c None) (noted c known))
 
 -- ---- where the texts begin
 
@@ -151,7 +183,7 @@ module _ (items : List ℕ) (i : ℕ) (here : i < length items) (fs : List Field
   lacks_later h = sym (rw (drop_more items i 0 here, h) refl)
 
 -- every code that is required is a known field's
-abbrev AreKnown : List ℕ → Type 0
+abbrev pub AreKnown : List ℕ → Type 0
 AreKnown [] = Unit {0}
 AreKnown (c ∷ cs) = (is_known c ≡ true) × AreKnown cs
 

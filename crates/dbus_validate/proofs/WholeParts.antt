@@ -12,10 +12,10 @@ use Rattle.dbus_header.proofs.OutcomeLaws.{one_whole, whole_bytes, whole_inside,
 use Rattle.dbus_walk.specs.Fields.{field_types}
 use Rattle.dbus_walk.specs.Standing.{Stands, AllStand}
 use Rattle.dbus_walk.proofs.MessageParts.{fields_stand, body_few, body_stands, twelve}
+use Rattle.dbus_validate.specs.Seen.{AreNoted}
 use Rattle.dbus_validate.specs.Validating.{IsValidated}
-use Rattle.dbus_validate.specs.Wholes.{WasValidated, IsWholeOf}
 use Rattle.dbus_validate.specs.declared.validating.Validated.{Validated}
-use Rattle.dbus_validate.specs.declared.whole.Whole.{Whole}
+use Rattle.dbus_validate.proofs.SeenSteps.{noted_of_all}
 
 -- one value that stands there is all of some
 one_stands : {order : Order} {depth_left : ℕ} {types : List ℕ} {at : ℕ} {bytes : List ℕ} {v : ValueTree} {rest : List ℕ}
@@ -32,55 +32,51 @@ one_stands {order} {depth_left} {types} {at} {bytes} {v} {rest} s shaped inside 
   inside = inside;
 }
 
-module _ (limits : Limits) (bytes : List ℕ) (j : Validated) (is : IsValidated limits bytes j) (m : MessageTree) (whole : IsWhole limits bytes j.order m j.length) where
-  pub same_message : is.message ≡ m
-  same_message = (one_whole limits bytes j.order j.order is.message m j.length j.length is.whole whole).1
-
-  -- its type, its flags and its serial
-  pub told_parts : (m.kind ≡ j.kind) × (m.flags ≡ j.flags) × (m.serial ≡ j.serial)
-  told_parts = subst (λ (n : MessageTree). (n.kind ≡ j.kind) × (n.flags ≡ j.flags) × (n.serial ≡ j.serial)) same_message is.parts
-
-module _ (w : Whole) (is : WasValidated w) where
+module _ (limits : Limits) (bytes : List ℕ) (j : Validated) (is : IsValidated limits bytes j) where
   abbrev own : List ℕ
-  own = take w.validated.now.length w.bytes.now
-
-  abbrev order : Order
-  order = w.validated.now.order
+  own = take j.length bytes
 
   -- it lies within the bytes
-  pub inside : w.validated.now.length ≤ length w.bytes.now
-  inside = (whole_inside w.limits w.bytes.now order is.message w.validated.now.length is.whole).1
+  pub inside : j.length ≤ length bytes
+  inside = (whole_inside limits bytes j.order is.message j.length is.whole).1
 
-  module _ (m : MessageTree) (whole : IsWholeOf w m) where
-    same : is.message ≡ m
-    same = same_message w.limits w.bytes.now w.validated.now is m whole
+  pub noted_there : AreNoted is.message.fields bytes j.fields
+  noted_there = noted_of_all is.message.fields j.length bytes j.fields is.fields
 
-    spelled : own ≡ message_bytes order m
-    spelled = (whole_bytes w.limits w.bytes.now order m w.validated.now.length whole).0
+  module _ (m : MessageTree) (whole : IsWhole limits bytes j.order m j.length) where
+    pub same_message : is.message ≡ m
+    same_message = (one_whole limits bytes j.order j.order is.message m j.length j.length is.whole whole).1
 
-    valid : IsMessage w.limits order m
-    valid = whole_valid w.limits w.bytes.now order m w.validated.now.length whole order
+    -- its type, its flags and its serial
+    pub told_parts : (m.kind ≡ j.kind) × (m.flags ≡ j.flags) × (m.serial ≡ j.serial)
+    told_parts = subst (λ (n : MessageTree). (n.kind ≡ j.kind) × (n.flags ≡ j.flags) × (n.serial ≡ j.serial)) same_message is.parts
+
+    spelled : own ≡ message_bytes j.order m
+    spelled = (whole_bytes limits bytes j.order m j.length whole).0
+
+    valid : IsMessage limits j.order m
+    valid = whole_valid limits bytes j.order m j.length whole j.order
 
     -- its fields, and what comes after them
     abbrev pub after_fields : List ℕ
-    after_fields = pad 8 (fields_end order m.fields) ++ spellings order (body_start order m.fields) m.body
+    after_fields = pad 8 (fields_end j.order m.fields) ++ spellings j.order (body_start j.order m.fields) m.body
 
-    pub fields_there : Stands order w.limits.depth (array_code ∷ field_types) 12 own (field_array m.fields) after_fields
-    fields_there = fields_stand w.limits order m own spelled valid (omega (arith, w.limits.array_in))
+    pub fields_there : Stands j.order limits.depth (array_code ∷ field_types) 12 own (field_array m.fields) after_fields
+    fields_there = fields_stand limits j.order m own spelled valid (omega (arith, limits.array_in))
 
-    pub fields_alone : AllStand order w.limits.depth (array_code ∷ field_types) 12 own (MoreValues (field_array m.fields) NoValues) after_fields
-    fields_alone = one_stands fields_there (tt, (tt, tt)) (twelve w.limits order m own spelled)
+    pub fields_alone : AllStand j.order limits.depth (array_code ∷ field_types) 12 own (MoreValues (field_array m.fields) NoValues) after_fields
+    fields_alone = one_stands fields_there (tt, (tt, tt)) (twelve limits j.order m own spelled)
 
     -- its body, whose types are these
-    pub begins : body_start order m.fields ≡ w.validated.now.body
-    begins = subst (λ (n : MessageTree). body_start order n.fields ≡ w.validated.now.body) same is.body.0
+    pub begins : body_start j.order m.fields ≡ j.body
+    begins = subst (λ (n : MessageTree). body_start j.order n.fields ≡ j.body) same_message is.body.0
 
     module _ (types : List ℕ) (typed : types ≡ body_signature is.message.fields) where
       signed : types ≡ body_signature m.fields
-      signed = typed ∙ ap (λ (n : MessageTree). body_signature n.fields) same
+      signed = typed ∙ ap (λ (n : MessageTree). body_signature n.fields) same_message
 
       pub few : length types ≤ 255
-      few = body_few w.limits order m own spelled valid (omega (arith, w.limits.array_in)) types signed
+      few = body_few limits j.order m own spelled valid (omega (arith, limits.array_in)) types signed
 
-      pub body_there : AllStand order w.limits.depth types w.validated.now.body own m.body []
-      body_there = body_stands w.limits order m own spelled valid (omega (arith, w.limits.array_in)) types w.validated.now.body signed begins
+      pub body_there : AllStand j.order limits.depth types j.body own m.body []
+      body_there = body_stands limits j.order m own spelled valid (omega (arith, limits.array_in)) types j.body signed begins

@@ -1,6 +1,6 @@
 -- What stands before a body, as the code reads it.
 -- D-Bus Specification, "Message Format".
-use Rattle.std.specs.Prelude.{◌≡◌, ◌<◌, ◌≤◌, ℕ, ◌+◌, List, length, drop, None}
+use Rattle.std.specs.Prelude.{◌≡◌, ◌<◌, ◌≤◌, ℕ, ◌+◌, List, length, take, drop, None}
 use Rattle.dbus_value_model.specs.Bytes.{gap_to}
 use Rattle.dbus_value_model.specs.Reading.{Done, padding}
 use Rattle.dbus_value_model.specs.declared.limits.Limits.{Limits}
@@ -23,7 +23,7 @@ pub record IsHeaded (limits : Limits) (bytes : List ℕ) (x : Head) (seen : Seen
   pub begins : x.start ≡ 16 + x.header.fields + gap_to 8 (16 + x.header.fields)
   pub ends : x.end ≡ x.start + x.header.body
   pub inside : x.end ≤ length bytes
-  pub noted : AreNoted fields bytes seen
+  pub noted : AreNoted fields (take x.end bytes) seen
   pub placed : ArePlaced x.header.order fields seen
 
 -- what is validated of the message, with where the values of its known fields stand

@@ -1,7 +1,7 @@
 //! Header fields. D-Bus Specification, "Header Fields".
 #![tactic(auto)]
 
-ghost use Rattle.std.specs.Prelude.{◌≡◌, ◌+◌, ◌≤◌, ◌<◌, ◌^◌, List, [], length, drop, IfSome, false, true};
+ghost use Rattle.std.specs.Prelude.{◌≡◌, ◌+◌, ◌≤◌, ◌<◌, ◌^◌, ℕ, List, [], length, take, drop, IfSome, false, true};
 ghost use Rattle.dbus_value_model.specs.Reading.{Done};
 ghost use Rattle.dbus_header.specs.HeaderReading.{fields_read};
 ghost use Rattle.dbus_header.specs.declared.field_limits.TheConstants.{FIELD_DEPTH};
@@ -73,11 +73,11 @@ pub(crate) fn validate_fields(
     requires inside { at + n ≤ length bytes.now }
     requires few { at + n < 2 ^ 32 }
     requires begins { at ≡ 16 }
-    requires unseen { AreNoted [] bytes.now seen.old }
+    requires unseen { (b : List ℕ) → AreNoted [] b seen.old }
     ensures accepts { result ≡ true → (fs : List FieldTree) ×
         (fields_read limits order n at (drop at bytes.now) ≡
         Done fs (at + n) (drop (at + n) bytes.now)) ×
-        AreNoted fs bytes.now seen.new × ArePlaced order fs seen.new }
+        AreNoted fs (take (at + n) bytes.now) seen.new × ArePlaced order fs seen.new }
     ensures refuses { result ≡ false → IsNotRead (fields_read limits order n at (drop at bytes.now)) }
 {
     let end = at + n;

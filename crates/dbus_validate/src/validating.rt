@@ -1,7 +1,7 @@
 //! Messages validated. D-Bus Specification, "Message Format".
 #![tactic(auto)]
 
-ghost use Rattle.std.specs.Prelude.{◌≡◌, ◌≤◌, List, [], length, drop, true, false, None, IfSome};
+ghost use Rattle.std.specs.Prelude.{◌≡◌, ◌≤◌, ℕ, List, [], length, drop, true, false, None, IfSome};
 ghost use Rattle.dbus_texts.specs.ComputedKinds.{types_spelled};
 ghost use Rattle.dbus_texts.specs.Kinds.{IsKind};
 ghost use Rattle.dbus_texts.specs.declared.text_kind.TextKind.TheVariants.{Signature};
@@ -98,7 +98,7 @@ impl Head {
 /// places of the values of its known fields.
 #[inline(always)]
 fn read_head(bytes: &[u8], limits: Limits, seen: &mut Seen) -> Option<Head>
-    requires unseen { AreNoted [] bytes.now seen.old }
+    requires unseen { (b : List ℕ) → AreNoted [] b seen.old }
     ensures headed { IfSome result (λ x. IsHeaded limits bytes.now x seen.new) }
     ensures none { result ≡ None → BeginsWithNone limits bytes.now }
 {
@@ -132,10 +132,10 @@ fn read_head(bytes: &[u8], limits: Limits, seen: &mut Seen) -> Option<Head>
 ///
 /// Some says that the bytes begin with a whole message within the limits, of the length that is
 /// returned: its order, type, flags and serial, where the value of each of its known fields is, and
-/// where its body begins. Offsets count from the first of the bytes. None says that they begin with
-/// no message within the limits: they are at fault or too few. Which of the two, and the place and
-/// the reason of a fault, a reader or a checker says. Nothing is allocated. D-Bus Specification,
-/// "Message Format".
+/// where its body begins. Each part lies among these bytes, whatever follows them. Offsets count
+/// from the first of the bytes. None says that they begin with no message within the limits: they
+/// are at fault or too few. Which of the two, and the place and the reason of a fault, a reader or
+/// a checker says. Nothing is allocated. D-Bus Specification, "Message Format".
 pub fn validate(bytes: &[u8], limits: Limits) -> Option<Validated>
     ensures validated { IfSome result (λ j. IsValidated limits bytes.now j) }
     ensures none { result ≡ None → BeginsWithNone limits bytes.now }

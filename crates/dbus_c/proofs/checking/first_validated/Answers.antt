@@ -2,31 +2,28 @@ use Rattle.std.proofs.Common.{refl, subst, arith}
 use Rattle.dbus_value_model.specs.declared.limits.Limits.{Limits}
 use Rattle.dbus_header.specs.MessageOutcomes.{IsWhole}
 use Rattle.dbus_header.specs.NoMessage.{BeginsWithNone}
-use Rattle.dbus_validate.specs.Validating.{IsValidatedFirst}
+use Rattle.dbus_validate.specs.Validating.{IsValidated}
 use Rattle.dbus_c.specs.GivenLimits.{limits_of}
 use Rattle.dbus_c.specs.Outcomes.{TellsApart}
-use Rattle.dbus_c.proofs.Fronts.{first_whole}
 use Rattle.dbus_c.proofs.Outcomes.{whole_answered}
 use Rattle.dbus_c.proofs.checking.first_validated.Goals as goal
 
 pub returns-in-Some-clause-validated : goal.returns-in-Some-clause-validated
-returns-in-Some-clause-validated c = subst (λ (l : Limits). IsValidatedFirst l c.args.bytes.now c.in-Some.validated) c.given_limits-within.ensures c.in-Some.ensures.validated
+returns-in-Some-clause-validated c = subst (λ (l : Limits). IsValidated l c.args.bytes.now c.in-Some.validated) c.given_limits-within.ensures c.in-Some.ensures.validated
 
 pub returns-in-Some-clause-whole : goal.returns-in-Some-clause-whole
 returns-in-Some-clause-whole c =
     let validated = c.in-Some.validated in
     let first = c.in-Some.ensures.validated in
-    let m = first.validated.validated.message in
-    let whole = subst (λ (l : Limits). IsWhole l c.args.bytes.now validated.order m validated.length) c.given_limits-within.ensures (first_whole c.given_limits-within.result c.args.bytes.now validated first) in
-    (λ begins. refl, λ zero. (validated.order, m, validated.length, whole))
+    let whole = subst (λ (l : Limits). IsWhole l c.args.bytes.now validated.order first.message validated.length) c.given_limits-within.ensures first.whole in
+    (λ begins. refl, λ zero. (validated.order, first.message, validated.length, whole))
 
 pub returns-in-Some-clause-apart : goal.returns-in-Some-clause-apart
 returns-in-Some-clause-apart c =
     let validated = c.in-Some.validated in
     let first = c.in-Some.ensures.validated in
-    let m = first.validated.validated.message in
-    let whole = subst (λ (l : Limits). IsWhole l c.args.bytes.now validated.order m validated.length) c.given_limits-within.ensures (first_whole c.given_limits-within.result c.args.bytes.now validated first) in
-    whole_answered (limits_of c.args.limits.now) c.args.bytes.now validated.order m validated.length whole 0 (λ one. absurd cc) (λ two. absurd cc)
+    let whole = subst (λ (l : Limits). IsWhole l c.args.bytes.now validated.order first.message validated.length) c.given_limits-within.ensures first.whole in
+    whole_answered (limits_of c.args.limits.now) c.args.bytes.now validated.order first.message validated.length whole 0 (λ one. absurd cc) (λ two. absurd cc)
 
 pub returns-in-None-clause-whole : goal.returns-in-None-clause-whole
 returns-in-None-clause-whole c =

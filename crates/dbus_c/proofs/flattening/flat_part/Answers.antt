@@ -1,48 +1,27 @@
-use Rattle.std.proofs.Common.{ap, sym, ◌∙◌, arith}
-use Rattle.dbus_c.specs.declared.flattening.Part.TheVariants.{Body, Fields}
-use Rattle.dbus_c.specs.FlatParts.{values_of}
-use Rattle.dbus_c.proofs.FlatParts.{part_few, part_flat, part_there}
+use Rattle.std.proofs.Common.{ℕ, subst}
+use Rattle.dbus_value_model.specs.declared.order.Order.{Order}
+use Rattle.dbus_flatten.specs.Flattening.{AreFlat}
+use Rattle.dbus_c.specs.FlatParts.{start_of, values_of}
 use Rattle.dbus_c.proofs.flattening.flat_part.Goals as goal
-use Rattle.dbus_c.proofs.flattening.flat_part.Goals.{in-Fields, in-Body}
 
-pub slice_bounds-source-end : goal.slice_bounds-source-end
-slice_bounds-source-end c = omega (arith, c.requires.validated.fits)
-
-pub signature-requires : goal.signature-requires
-signature-requires c = let is = c.requires.validated.validated.validated in record { noted = (is.message.fields, is.fields) }
-
-pub lengths_of-requires : goal.lengths_of-requires
-lengths_of-requires c =
-    let first = c.requires.validated in
-    let is = first.validated.validated in
-    let few = part_few c.args.limits c.args.bytes.now c.args.validated.now first in
-    record {
-      few = elim c.match-part.branch [
-        | in-Fields w ↦ few Fields _ (ap (λ p. p.1.now) w.at-is)
-        | in-Body w ↦ few Body _ (ap (λ p. p.1.now) w.at-is ∙ w.signature.ensures is.message.fields is.fields)
-      ];
-    }
-
-pub flatten-requires-clause-stand : goal.flatten-requires-clause-stand
-flatten-requires-clause-stand c =
-    let first = c.requires.validated in
-    let is = first.validated.validated in
-    let there = part_there c.args.limits c.args.bytes.now c.args.validated.now first in
-    elim c.match-part.branch [
-      | in-Fields w ↦
-          let t = there Fields _ _ (ap (λ p. p.1.now) w.at-is) (ap (λ p. p.0) w.at-is) in
-          (values_of Fields is.message, t.0, t.1)
-      | in-Body w ↦
-          let t = there Body _ _ (ap (λ p. p.1.now) w.at-is ∙ w.signature.ensures is.message.fields is.fields) (ap (λ p. p.0) w.at-is ∙ sym is.body.0) in
-          (values_of Body is.message, t.0, t.1)
-    ]
+pub flatten-requires : goal.flatten-requires
+flatten-requires c =
+    let is = c.requires.validated in
+    let there = c.spot_of-spot.ensures.stand c.source-source.result is.message c.source-source.ensures.own is.whole in
+    record { stand = (values_of c.args.part is.message, there.0, there.1); noted = c.spot_of-spot.ensures.noted }
 
 pub returns : goal.returns
 returns c =
-    let first = c.requires.validated in
-    let is = first.validated.validated in
-    let flat = part_flat c.args.limits c.args.bytes.now c.args.validated.now first in
-    elim c.match-part.branch [
-      | in-Fields w ↦ rw w.in-Fields.is (flat Fields _ _ _ _ _ _ (ap (λ p. p.1.now) w.at-is) (ap (λ p. p.0) w.at-is) c.flatten.ensures.flat)
-      | in-Body w ↦ rw w.in-Body.is (flat Body _ _ _ _ _ _ (ap (λ p. p.1.now) w.at-is ∙ w.signature.ensures is.message.fields is.fields) (ap (λ p. p.0) w.at-is ∙ sym is.body.0) c.flatten.ensures.flat)
-    ]
+    let w = c.args.whole.now in
+    let is = c.requires.validated in
+    let there = c.spot_of-spot.ensures.stand c.source-source.result is.message c.source-source.ensures.own is.whole in
+    let flat = c.flatten.ensures.flat (values_of c.args.part is.message) there.0 there.1 in
+    let own = c.source-source.ensures.own in
+    let here = subst (λ (k : ℕ). AreFlat c.source-source.result.order k (values_of c.args.part is.message) c.args.first c.args.items.now c.flatten.new.out c.flatten.result) (c.spot_of-spot.ensures.begins is.message is.whole) flat in
+    record {
+      order = w.validated.now.order;
+      message = is.message;
+      length = w.validated.now.length;
+      whole = is.whole;
+      flat = subst (λ (o : Order). AreFlat o (start_of c.args.part w.validated.now.order is.message) (values_of c.args.part is.message) c.args.first c.args.items.now c.flatten.new.out c.flatten.result) own.0 here;
+    }

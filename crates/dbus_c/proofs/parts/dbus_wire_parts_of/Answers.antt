@@ -1,6 +1,6 @@
 use Rattle.std.proofs.Common.{take, refl, sym, ◌∙◌}
 use Rattle.dbus_c.specs.GivenLimits.{limits_of}
-use Rattle.dbus_c.proofs.Fronts.{first_whole, first_body_length, first_body}
+use Rattle.dbus_c.proofs.Fronts.{first_body_length, first_body}
 use Rattle.dbus_c.proofs.parts.dbus_wire_parts_of.Goals as goal
 
 pub returns-in-Ok-clause-parts : goal.returns-in-Ok-clause-parts
@@ -8,14 +8,13 @@ returns-in-Ok-clause-parts c = λ told.
     let limits = limits_of c.args.limits.now in
     let b = c.args.bytes.now in
     let validated = c.in-Ok.validated in
-    let first = c.in-Ok.ensures.validated in
-    let is = first.validated.validated in
+    let is = c.in-Ok.ensures.validated in
     let s = take validated.length b in
     let fs = is.message.fields in
     record {
       order = validated.order;
       message = is.message;
-      whole = first_whole limits b validated first;
+      whole = is.whole;
       order_is = c.order_byte.ensures;
       numbers = (c.from.ensures ∙ sym is.parts.0, c.from-in-Ok.ensures ∙ sym is.parts.1, sym is.parts.2);
       fields = record {
@@ -30,6 +29,6 @@ returns-in-Ok-clause-parts c = λ told.
         unix_fds = c.number_of-in-Ok.ensures s fs is.fields refl;
       };
       body = sym is.body.0;
-      body_length = first_body_length limits b validated first;
-      body_bytes = first_body limits b validated first;
+      body_length = first_body_length limits b validated is;
+      body_bytes = first_body limits b validated is;
     }

@@ -5,10 +5,11 @@ use Rattle.dbus_value_model.specs.declared.order.Order.{Order}
 use Rattle.dbus_value_model.specs.Appending.{with_value}
 use Rattle.dbus_message_model.specs.Messages.{FieldTree, field_struct}
 use Rattle.dbus_marshal.proofs.Written.{written_none}
+use Rattle.dbus_validate.proofs.WholeParts.{inside}
 use Rattle.dbus_walk.proofs.FieldParts.{none_walked, next_field, field_walked, all_walked}
 use Rattle.dbus_c_build.specs.Placed.{field_given, in_place, stays}
 use Rattle.dbus_c_build.specs.Spelled.{with_fields}
-use Rattle.dbus_c_build.proofs.KeptFields.{after_fields, fields_there, is_kept, none_kept, noted}
+use Rattle.dbus_c_build.proofs.KeptFields.{is_kept, kept_there, none_kept, noted}
 use Rattle.dbus_c_build.proofs.Spelling.{fields_next, given_in_place, same_in_place}
 use Rattle.dbus_c_build.proofs.kept.append_kept.Goals as goal
 
@@ -24,15 +25,13 @@ pub slice_bounds-source-end : goal.slice_bounds-source-end
 slice_bounds-source-end g c =
     let r = c.requires.kept in
     let k = is_kept c.args.given.now c.args.parts.now.order r.0 r.1 c.in-Some.kept c.in-Some.is in
-    omega (arith, k.first.fits, length-take c.in-Some.kept.length c.args.given.now.bytes.now)
+    omega (arith, inside _ _ _ k.first, length-take c.in-Some.kept.length c.args.given.now.bytes.now)
 
 pub fields_end-end-requires : goal.fields_end-end-requires
 fields_end-end-requires g c =
     let r = c.requires.kept in
-    let given = c.args.given.now in
-    let j = c.in-Some.kept in
-    let k = is_kept given c.args.parts.now.order r.0 r.1 c.in-Some.kept c.in-Some.is in
-    record { stand = (given.limits.depth, r.0, after_fields given.limits given.bytes.now c.args.parts.now.order j r.0 k, fields_there given.limits given.bytes.now c.args.parts.now.order j r.0 k) }
+    let there = kept_there _ _ _ _ _ (is_kept c.args.given.now c.args.parts.now.order r.0 r.1 c.in-Some.kept c.in-Some.is) in
+    record { stand = (c.args.given.now.limits.depth, r.0, there.0, there.1) }
 
 pub loop-place-init : goal.loop-place-init
 loop-place-init g c = λ fs rest k s.
@@ -45,63 +44,51 @@ loop-place-init g c = λ fs rest k s.
 pub field_at-field-requires : goal.field_at-field-requires
 field_at-field-requires g c =
     let r = c.requires.kept in
-    let given = c.args.given.now in
-    let order = c.args.parts.now.order in
-    let j = c.in-Some.kept in
-    let k = is_kept given order r.0 r.1 c.in-Some.kept c.in-Some.is in
-    let n = next_field (c.loop-place.invariant r.0 (after_fields given.limits given.bytes.now order j r.0 k) k (fields_there given.limits given.bytes.now order j r.0 k)) c.loop-place-test.true in
+    let k = is_kept c.args.given.now c.args.parts.now.order r.0 r.1 c.in-Some.kept c.in-Some.is in
+    let there = kept_there _ _ _ _ _ k in
+    let n = next_field (c.loop-place.invariant r.0 there.0 k there.1) c.loop-place-test.true in
     record { stands = (n.f, n.after, n.stands) }
 
 pub lengths_of-requires : goal.lengths_of-requires
 lengths_of-requires g c =
     let r = c.requires.kept in
-    let given = c.args.given.now in
-    let order = c.args.parts.now.order in
-    let j = c.in-Some.kept in
-    let k = is_kept given order r.0 r.1 c.in-Some.kept c.in-Some.is in
-    let n = next_field (c.loop-place.invariant r.0 (after_fields given.limits given.bytes.now order j r.0 k) k (fields_there given.limits given.bytes.now order j r.0 k)) c.loop-place-test.true in
+    let k = is_kept c.args.given.now c.args.parts.now.order r.0 r.1 c.in-Some.kept c.in-Some.is in
+    let there = kept_there _ _ _ _ _ k in
+    let n = next_field (c.loop-place.invariant r.0 there.0 k there.1) c.loop-place-test.true in
     record { few = (c.field_at-field.ensures n.f n.after n.stands).few }
 
 pub skip_value-place-requires-clause-stands : goal.skip_value-place-requires-clause-stands
 skip_value-place-requires-clause-stands g c =
     let r = c.requires.kept in
-    let given = c.args.given.now in
-    let order = c.args.parts.now.order in
-    let j = c.in-Some.kept in
-    let k = is_kept given order r.0 r.1 c.in-Some.kept c.in-Some.is in
-    let n = next_field (c.loop-place.invariant r.0 (after_fields given.limits given.bytes.now order j r.0 k) k (fields_there given.limits given.bytes.now order j r.0 k)) c.loop-place-test.true in
+    let k = is_kept c.args.given.now c.args.parts.now.order r.0 r.1 c.in-Some.kept c.in-Some.is in
+    let there = kept_there _ _ _ _ _ k in
+    let n = next_field (c.loop-place.invariant r.0 there.0 k there.1) c.loop-place-test.true in
     (n.f.value, n.after, (c.field_at-field.ensures n.f n.after n.stands).value)
 
 pub append_same-requires : goal.append_same-requires
 append_same-requires g c =
     let r = c.requires.kept in
-    let given = c.args.given.now in
-    let order = c.args.parts.now.order in
-    let j = c.in-Some.kept in
-    let k = is_kept given order r.0 r.1 c.in-Some.kept c.in-Some.is in
-    let n = next_field (c.loop-place.invariant r.0 (after_fields given.limits given.bytes.now order j r.0 k) k (fields_there given.limits given.bytes.now order j r.0 k)) c.loop-place-test.true in
+    let k = is_kept c.args.given.now c.args.parts.now.order r.0 r.1 c.in-Some.kept c.in-Some.is in
+    let there = kept_there _ _ _ _ _ k in
+    let n = next_field (c.loop-place.invariant r.0 there.0 k there.1) c.loop-place-test.true in
     let p = c.field_at-field.ensures n.f n.after n.stands in
-    record { stands = (given.limits.depth, n.f, n.after, n.stands, c.skip_value-place.ensures n.f.value n.after p.value ∙ p.ends) }
+    record { stands = (c.args.given.now.limits.depth, n.f, n.after, n.stands, c.skip_value-place.ensures n.f.value n.after p.value ∙ p.ends) }
 
 pub loop-place-smaller-in-Continue-1 : goal.loop-place-smaller-in-Continue-1
 loop-place-smaller-in-Continue-1 g c =
     let r = c.requires.kept in
-    let given = c.args.given.now in
-    let order = c.args.parts.now.order in
-    let j = c.in-Some.kept in
-    let k = is_kept given order r.0 r.1 c.in-Some.kept c.in-Some.is in
-    let n = next_field (c.loop-place.invariant r.0 (after_fields given.limits given.bytes.now order j r.0 k) k (fields_there given.limits given.bytes.now order j r.0 k)) c.loop-place-test.true in
+    let k = is_kept c.args.given.now c.args.parts.now.order r.0 r.1 c.in-Some.kept c.in-Some.is in
+    let there = kept_there _ _ _ _ _ k in
+    let n = next_field (c.loop-place.invariant r.0 there.0 k there.1) c.loop-place-test.true in
     let p = c.field_at-field.ensures n.f n.after n.stands in
     omega (arith, c.skip_value-place.ensures n.f.value n.after p.value ∙ p.ends, n.some, c.loop-place-test.true)
 
 pub loop-place-smaller : goal.loop-place-smaller
 loop-place-smaller g c =
     let r = c.requires.kept in
-    let given = c.args.given.now in
-    let order = c.args.parts.now.order in
-    let j = c.in-Some.kept in
-    let k = is_kept given order r.0 r.1 c.in-Some.kept c.in-Some.is in
-    let n = next_field (c.loop-place.invariant r.0 (after_fields given.limits given.bytes.now order j r.0 k) k (fields_there given.limits given.bytes.now order j r.0 k)) c.loop-place-test.true in
+    let k = is_kept c.args.given.now c.args.parts.now.order r.0 r.1 c.in-Some.kept c.in-Some.is in
+    let there = kept_there _ _ _ _ _ k in
+    let n = next_field (c.loop-place.invariant r.0 there.0 k there.1) c.loop-place-test.true in
     let p = c.field_at-field.ensures n.f n.after n.stands in
     omega (arith, c.skip_value-place.ensures n.f.value n.after p.value ∙ p.ends, n.some, c.loop-place-test.true)
 
@@ -141,8 +128,6 @@ loop-place-preserved g c = λ fs rest k s.
 
 pub returns-clause-appended : goal.returns-clause-appended
 returns-clause-appended g c = λ fs kept.
-    let given = c.args.given.now in
-    let order = c.args.parts.now.order in
-    let j = c.in-Some.kept in
-    let k = is_kept given order fs kept c.in-Some.kept c.in-Some.is in
-    all_walked (c.loop-place.invariant fs (after_fields given.limits given.bytes.now order j fs k) k (fields_there given.limits given.bytes.now order j fs k)) c.loop-place-test.false
+    let k = is_kept c.args.given.now c.args.parts.now.order fs kept c.in-Some.kept c.in-Some.is in
+    let there = kept_there _ _ _ _ _ k in
+    all_walked (c.loop-place.invariant fs there.0 k there.1) c.loop-place-test.false

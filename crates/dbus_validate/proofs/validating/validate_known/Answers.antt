@@ -5,7 +5,7 @@ use Rattle.dbus_validate.proofs.Headed.{known}
 use Rattle.dbus_validate.proofs.validating.validate_known.Goals as goal
 
 pub read_head-requires : goal.read_head-requires
-read_head-requires c = record { unseen = c.none-seen.ensures c.args.bytes.now }
+read_head-requires c = record { unseen = c.none-seen.ensures }
 
 pub unreachable-requires : goal.unreachable-requires
 unreachable-requires c = let w = c.requires.known in c.read_head.ensures.none c.in-None.is w.0 w.1 _ w.2

@@ -88,7 +88,6 @@ pub returns-in-Err-Format-clause-takes : goal.returns-in-Err-Format-clause-takes
 returns-in-Err-Format-clause-takes g c = λ w kept.
     let k = g.T.Taker.known in
     let r = c.args.self.now in
-    let part = slice_range (g.B.Buffer.room.bytes r.buffer) r.start r.end in
     let there : IsRefused (k.limits r.taker) (kept.held ++ c.part-piece.result.now) c.in-Err-Format.fault × k.keeps c.take_piece.new.self kept.held =
     rw (c.in-Err-Format.is, c.in-Err-Format.field-0-is) at (c.take_piece.ensures.takes kept.held kept.holds kept.size) in
     let whole : kept.held ++ c.part-piece.result.now ≡ w = ap (λ (l : List ℕ). kept.held ++ l) c.part-piece.ensures ∙ sym kept.bytes in
