@@ -1,1 +1,3 @@
 pub mod ListSteps
+pub mod SameAsked
+pub mod SamePrograms

@@ -4,6 +4,7 @@
 //! commands over messages, which are here too. `dbus_wire` is the program.
 #![tactic(auto)]
 
+pub mod laws;
 mod lines;
 mod listing;
 mod rule_lines;

@@ -1,0 +1,265 @@
+-- Words name one thing: a command but for where its rules and owners are kept, one list of
+-- settings, one form of tables, one side.
+use Rattle.std.proofs.Common.{◌≡◌, ◌≢◌, ◌↔◌, ℕ, ◌+◌, ◌*◌, ◌≤◌, Bool, true, false, List, [], ◌∷◌, ◌++◌, map, None, Some, Option, IsTrue, codes, slice_index, refl, sym, ap, ◌∙◌, subst, arith, inl, inr}
+use Rattle.std.specs.List.{AllByRecursion}
+use Rattle.std.specs.Option.{option_map}
+use Rattle.std.specs.declared.alloc.Global.{Global}
+use Rattle.std.proofs.lemmas.Bool.{false≢true}
+use Rattle.std.proofs.Math.Bridge.{le_prop}
+use mathlib.Core.HLevel.{is_prop→PathP}
+use Rattle.clap.specs.Words.{Row, Text, subcommand_of}
+use Rattle.dbus_texts.specs.Names.{IsElement, IsJoined, IsBusName, each_after, is_dashed, is_dashed_start}
+use Rattle.dbus_value_model.specs.declared.fd_rule.FdRule.{FdRule}
+use Rattle.dbus_value_model.specs.declared.fd_rule.FdRule.TheVariants.{Any, BelowCount}
+use Rattle.dbus_value_model.specs.declared.limits.Limits.{Limits}
+use Rattle.dbus_value_model.specs.declared.order.Order.{Order}
+use Rattle.dbus_value_model.specs.declared.order.Order.TheVariants.{Little, Big}
+use Rattle.dbus_handshake_input.specs.declared.side.Side.{Side}
+use Rattle.dbus_handshake_input.specs.declared.side.Side.TheVariants.{Client, Server}
+use Rattle.dbus_match.proofs.Unique.{one_rule}
+use Rattle.dbus_match.specs.declared.owner.Owner.{Owner}
+use Rattle.dbus_match.specs.declared.rule.Rule.{Rule}
+use Rattle.dbus_match.specs.Matching.{Ownership, ownership, ownerships}
+use Rattle.dbus_match.specs.RuleViews.{rule_pairs}
+use Rattle.cli_options.specs.CommandLine.{wire_app}
+use Rattle.cli_options.specs.Limiting.{HasLimits, HasWindow, IsGivenNumber, IsNumberOf, IsRuleOf, fds_word}
+use Rattle.cli_options.specs.Named.{AreRulesOf, HasSettings, IsNamedBy, IsSelectionGiven, Names, NamesCommand, order_word, side_word, words_of}
+use Rattle.cli_options.specs.Owners.{AreOwnersOf, IsOwnerWord}
+use Rattle.cli_options.specs.SameCommands.{AreSameCommand}
+use Rattle.cli_options.specs.Selections.{AreSameSelection}
+use Rattle.cli_options.specs.declared.asked.Asked.{Asked}
+use Rattle.cli_options.specs.declared.asked.Asked.TheVariants.{Messages, Count, Handshake}
+use Rattle.cli_options.specs.declared.command.Command.{Command}
+use Rattle.cli_options.specs.declared.command.Command.TheVariants.{Show, Json, Check, Swap, Filter}
+use Rattle.cli_options.specs.declared.form.Form.{Form}
+use Rattle.cli_options.specs.declared.form.Form.TheVariants as written
+use Rattle.cli_options.specs.declared.selection.Selection.{Selection}
+use Rattle.cli_options.specs.declared.settings.Settings.{Settings}
+use Rattle.cli_options.specs.declared.window.Window.{Window}
+
+-- the same is asked for
+abbrev pub AreSameAsked : Asked → Asked → Type 0
+AreSameAsked (Messages c s) (Messages d t) = AreSameCommand c d × (s ≡ t)
+AreSameAsked (Count s f) (Count t g) = (s ≡ t) × (f ≡ g)
+AreSameAsked (Handshake a) (Handshake b) = a ≡ b
+AreSameAsked a b = ⊥
+
+-- ---- settings
+
+same_flag : (a b : Bool) {P : Type 0} → (a ≡ true) ↔ P → (b ≡ true) ↔ P → a ≡ b
+same_flag true true p q = refl
+same_flag true false p q = sym (q.1 (p.0 refl))
+same_flag false true p q = p.1 (q.0 refl)
+same_flag false false p q = refl
+
+same_number : (given : Option Text) (default n m : ℕ) → IsNumberOf given default n → IsNumberOf given default m → n ≡ m
+same_number None default n m p q = p ∙ sym q
+same_number (Some text) default n m p q = p.1 ∙ sym q.1
+
+same_given : (given : Option Text) (a b : Option ℕ) → IsGivenNumber given a → IsGivenNumber given b → a ≡ b
+same_given None None None p q = refl
+same_given None (Some n) b p q = absurd p
+same_given None None (Some m) p q = absurd q
+same_given (Some text) None b p q = absurd p
+same_given (Some text) (Some n) None p q = absurd q
+same_given (Some text) (Some n) (Some m) p q = ap Some (same_number (Some text) 0 n m p.0 q.0)
+
+same_fds_word : (a b : FdRule) → fds_word a ≡ fds_word b → a ≡ b
+same_fds_word Any Any e = refl
+same_fds_word BelowCount BelowCount e = refl
+same_fds_word Any BelowCount e = let bad : ◌≡◌ {A = ℕ} 97 98 = ap (λ t. slice_index t 0) e in absurd (omega arith)
+same_fds_word BelowCount Any e = let bad : ◌≡◌ {A = ℕ} 98 97 = ap (λ t. slice_index t 0) e in absurd (omega arith)
+
+same_fds : (given : Option Text) (default a b : FdRule) → IsRuleOf given default a → IsRuleOf given default b → a ≡ b
+same_fds None default a b p q = p ∙ sym q
+same_fds (Some word) default a b p q = same_fds_word a b (sym p ∙ q)
+
+same_side_word : (a b : Side) → side_word a ≡ side_word b → a ≡ b
+same_side_word Client Client e = refl
+same_side_word Server Server e = refl
+same_side_word Client Server e = let bad : ◌≡◌ {A = ℕ} 99 115 = ap (λ t. slice_index t 0) e in absurd (omega arith)
+same_side_word Server Client e = let bad : ◌≡◌ {A = ℕ} 115 99 = ap (λ t. slice_index t 0) e in absurd (omega arith)
+
+some_is : {A : Type 0} (x y : A) → Some x ≡ Some y → x ≡ y
+some_is x y e = cc
+
+same_side : (a b : Option Side) → option_map side_word a ≡ option_map side_word b → a ≡ b
+same_side None None e = refl
+same_side None (Some b) e = absurd cc
+same_side (Some a) None e = absurd cc
+same_side (Some a) (Some b) e = ap Some (same_side_word a b (some_is (side_word a) (side_word b) e))
+
+same_limits : (rows : List Row) (a b : Limits) → HasLimits rows a → HasLimits rows b → a ≡ b
+same_limits rows a b p q =
+    let message = same_number _ _ a.message b.message p.numbers.message q.numbers.message in
+    let array = same_number _ _ a.array b.array p.numbers.array q.numbers.array in
+    let depth = same_number _ _ a.depth b.depth p.numbers.depth q.numbers.depth in
+    let fds = same_fds _ _ a.fds b.fds p.fds q.fds in
+    λ i. record {
+      message = message i;
+      array = array i;
+      depth = depth i;
+      fds = fds i;
+      message_in = is_prop→PathP (λ j. message j ≤ 134217728) (λ j. le_prop) a.message_in b.message_in i;
+      array_in = is_prop→PathP (λ j. array j ≤ 67108864) (λ j. le_prop) a.array_in b.array_in i;
+      depth_in = is_prop→PathP (λ j. depth j ≤ 64) (λ j. le_prop) a.depth_in b.depth_in i;
+    }
+
+same_window : (rows : List Row) (a b : Window) → HasWindow rows a → HasWindow rows b → a ≡ b
+same_window rows a b p q =
+    let skip = same_number _ _ a.skip b.skip p.skip q.skip in
+    let limit = same_given _ a.limit b.limit p.limit q.limit in
+    λ i. record { skip = skip i; limit = limit i }
+
+pub same_settings : (rows : List Row) (a b : Settings) → HasSettings rows a → HasSettings rows b → a ≡ b
+same_settings rows a b p q =
+    let limits = same_limits rows a.limits b.limits p.limits q.limits in
+    let explains = same_flag a.explains b.explains p.explains q.explains in
+    let keeps_going = same_flag a.keeps_going b.keeps_going p.keeps_going q.keeps_going in
+    let handshake = same_side a.handshake b.handshake (sym p.handshake ∙ q.handshake) in
+    let window = same_window rows a.window b.window p.window q.window in
+    λ i. record { limits = limits i; explains = explains i; keeps_going = keeps_going i; handshake = handshake i; window = window i }
+
+-- ---- owners: a bus name has no `=`
+
+abbrev HasNone : List ℕ → Type 0
+HasNone w = AllByRecursion (λ b. b ≢ 61) w
+
+both : (v w : List ℕ) → HasNone v → HasNone w → HasNone (v ++ w)
+both [] w h k = k
+both (b ∷ v) w h k = (h.0, both v w h.1 k)
+
+module _ (start more : ℕ → Bool) (no_start : start 61 ≡ false) (no_more : more 61 ≡ false) where
+  is_not : (p : ℕ → Bool) → p 61 ≡ false → (b : ℕ) → IsTrue (p b) → b ≢ 61
+  is_not p out b is e = false≢true (sym out ∙ subst (λ x. p x ≡ true) e is)
+
+  in_rest : (bs : List ℕ) → AllByRecursion (λ c. IsTrue (more c)) bs → HasNone bs
+  in_rest [] h = tt
+  in_rest (b ∷ bs) h = (is_not more no_more b h.0, in_rest bs h.1)
+
+  in_element : (e : List ℕ) → IsElement start more e → HasNone e
+  in_element [] h = absurd h
+  in_element (b ∷ bs) h = (is_not start no_start b h.0, in_rest bs h.1)
+
+  in_each : (es : List (List ℕ)) → AllByRecursion (IsElement start more) es → HasNone (each_after 46 es)
+  in_each [] h = tt
+  in_each (e ∷ es) h = (λ same. absurd (omega (arith, same)), both e (each_after 46 es) (in_element e h.0) (in_each es h.1))
+
+  in_joined : (w : List ℕ) → IsJoined start more w → HasNone w
+  in_joined w (e, f, es, all, is) = subst HasNone (sym is) (both e (each_after 46 (f ∷ es)) (in_element e all.0) (in_each (f ∷ es) all.1))
+
+in_name : (w : List ℕ) → IsBusName w → HasNone w
+in_name w (inl (v, joined, is)) = subst HasNone (sym is) (λ same. absurd (omega (arith, same)), in_joined is_dashed is_dashed refl refl v joined)
+in_name w (inr joined) = in_joined is_dashed_start is_dashed refl refl w joined
+
+cut_once : (v w x y : List ℕ) → HasNone v → HasNone w → v ++ 61 ∷ x ≡ w ++ 61 ∷ y → (v ≡ w) × (x ≡ y)
+cut_once [] [] x y h k e = (refl, cc)
+cut_once [] (b ∷ w) x y h k e = absurd (k.0 cc)
+cut_once (b ∷ v) [] x y h k e = absurd (h.0 cc)
+cut_once (b ∷ v) (c ∷ w) x y h k e =
+    let first : b ≡ c = cc in
+    let rest : v ++ 61 ∷ x ≡ w ++ 61 ∷ y = cc in
+    let more = cut_once v w x y h.1 k.1 rest in
+    (λ i. first i ∷ more.0 i, more.1)
+
+same_owner : (word : Text) (o p : Ownership) → IsOwnerWord word o → IsOwnerWord word p → o ≡ p
+same_owner word o p h k =
+    let cut = cut_once o.name p.name o.unique p.unique (in_name o.name h.name.0.0) (in_name p.name k.name.0.0) (sym h.spelled ∙ k.spelled) in
+    λ i. record { name = cut.0 i; unique = cut.1 i }
+
+same_owners : (words : List Text) (a b : List (Owner Global)) → AreOwnersOf words a → AreOwnersOf words b → ownerships a ≡ ownerships b
+same_owners [] [] [] h k = refl
+same_owners [] (o ∷ a) b h k = absurd h
+same_owners [] [] (p ∷ b) h k = absurd k
+same_owners (word ∷ words) [] b h k = absurd h
+same_owners (word ∷ words) (o ∷ a) [] h k = absurd k
+same_owners (word ∷ words) (o ∷ a) (p ∷ b) h k = λ i. same_owner word (ownership o) (ownership p) h.0 k.0 i ∷ same_owners words a b h.1 k.1 i
+
+-- ---- commands
+
+same_rules : (texts : List Text) (a b : List (Rule Global)) → AreRulesOf texts a → AreRulesOf texts b → map rule_pairs a ≡ map rule_pairs b
+same_rules [] [] [] h k = refl
+same_rules [] (r ∷ a) b h k = absurd h
+same_rules [] [] (s ∷ b) h k = absurd k
+same_rules (text ∷ texts) [] b h k = absurd h
+same_rules (text ∷ texts) (r ∷ a) [] h k = absurd k
+same_rules (text ∷ texts) (r ∷ a) (s ∷ b) h k = λ i. one_rule text (rule_pairs r) (rule_pairs s) h.0 k.0 i ∷ same_rules texts a b h.1 k.1 i
+
+same_selection : (rows : List Row) (a b : Selection) → IsSelectionGiven rows a → IsSelectionGiven rows b → AreSameSelection a b
+same_selection rows a b p q =
+    let texts = some_is p.texts q.texts (sym p.given ∙ q.given) in
+    record {
+      rules = same_rules p.texts a.rules.items b.rules.items p.rules (subst (λ (l : List Text). AreRulesOf l b.rules.items) (sym texts) q.rules);
+      inverted = same_flag a.is_inverted b.is_inverted p.inverted q.inverted;
+      owners = same_owners (words_of (codes "owner") rows) a.owners.items b.owners.items p.owners q.owners;
+      learns = same_flag a.learns b.learns p.learns q.learns;
+    }
+
+same_order_word : (a b : Order) → order_word a ≡ order_word b → a ≡ b
+same_order_word Little Little e = refl
+same_order_word Big Big e = refl
+same_order_word Little Big e = let bad : ◌≡◌ {A = ℕ} 108 66 = ap (λ t. slice_index t 0) e in absurd (omega arith)
+same_order_word Big Little e = let bad : ◌≡◌ {A = ℕ} 66 108 = ap (λ t. slice_index t 0) e in absurd (omega arith)
+
+-- the first two bytes of a name tell it from the others
+abbrev pub mark : Text → ℕ
+mark t = slice_index t 0 * 256 + slice_index t 1
+
+abbrev pub mark_of : Command → ℕ
+mark_of Show = mark (codes "show")
+mark_of Json = mark (codes "json")
+mark_of Check = mark (codes "check")
+mark_of (Swap order) = mark (codes "swap")
+mark_of (Filter selection) = mark (codes "filter")
+
+pub marked : (name : Text) (rows : List Row) (command : Command) → NamesCommand name rows command → mark name ≡ mark_of command
+marked name rows Show h = ap mark h
+marked name rows Json h = ap mark h
+marked name rows Check h = ap mark h
+marked name rows (Swap order) h = ap mark h.0
+marked name rows (Filter selection) h = ap mark h.0
+
+same_command : (name : Text) (rows : List Row) (a b : Command) → NamesCommand name rows a → NamesCommand name rows b → AreSameCommand a b
+same_command name rows Show Show p q = tt
+same_command name rows Json Json p q = tt
+same_command name rows Check Check p q = tt
+same_command name rows (Swap a) (Swap b) p q = same_order_word a b (some_is (order_word a) (order_word b) (sym p.1 ∙ q.1))
+same_command name rows (Filter a) (Filter b) p q = same_selection rows a b p.1 q.1
+same_command name rows a b p q = absurd (let e = sym (marked name rows a p) ∙ marked name rows b q in omega (arith, e))
+
+-- ---- what is asked for
+
+same_form : (a b : Form) {P : Type 0} → (a ≡ written.Json) ↔ P → (b ≡ written.Json) ↔ P → a ≡ b
+same_form written.Json written.Json p q = refl
+same_form written.Text written.Text p q = refl
+same_form written.Json written.Text p q = sym (q.1 (p.0 refl))
+same_form written.Text written.Json p q = p.1 (q.0 refl)
+
+no_count : (name : Text) (rows : List Row) (command : Command) → NamesCommand name rows command → name ≡ codes "count" → ⊥
+no_count name rows Show p e = omega (arith, marked name rows Show p, ap mark e)
+no_count name rows Json p e = omega (arith, marked name rows Json p, ap mark e)
+no_count name rows Check p e = omega (arith, marked name rows Check p, ap mark e)
+no_count name rows (Swap order) p e = omega (arith, ap mark p.0, ap mark e)
+no_count name rows (Filter selection) p e = omega (arith, ap mark p.0, ap mark e)
+
+no_handshake : (name : Text) (rows : List Row) (command : Command) → NamesCommand name rows command → name ≡ codes "handshake" → ⊥
+no_handshake name rows Show p e = omega (arith, marked name rows Show p, ap mark e)
+no_handshake name rows Json p e = omega (arith, marked name rows Json p, ap mark e)
+no_handshake name rows Check p e = omega (arith, marked name rows Check p, ap mark e)
+no_handshake name rows (Swap order) p e = omega (arith, ap mark p.0, ap mark e)
+no_handshake name rows (Filter selection) p e = omega (arith, ap mark p.0, ap mark e)
+
+same_named : (sub : Option (Text × List Row)) (a b : Asked) → Names sub a → Names sub b → AreSameAsked a b
+same_named None a b p q = absurd p
+same_named (Some sub) (Messages c s) (Messages d t) p q = (same_command sub.0 sub.1 c d p.0 q.0, same_settings sub.1 s t p.1 q.1)
+same_named (Some sub) (Count s f) (Count t g) p q = (same_settings sub.1 s t p.1 q.1, same_form f g p.2 q.2)
+same_named (Some sub) (Handshake x) (Handshake y) p q = same_side_word x y (some_is (side_word x) (side_word y) (sym p.1 ∙ q.1))
+same_named (Some sub) (Messages c s) (Count t g) p q = no_count sub.0 sub.1 c p.0 q.0
+same_named (Some sub) (Messages c s) (Handshake y) p q = no_handshake sub.0 sub.1 c p.0 q.0
+same_named (Some sub) (Count s f) (Messages d t) p q = no_count sub.0 sub.1 d q.0 p.0
+same_named (Some sub) (Handshake x) (Messages d t) p q = no_handshake sub.0 sub.1 d q.0 p.0
+same_named (Some sub) (Count s f) (Handshake y) p q = absurd (let e = sym (ap mark p.0) ∙ ap mark q.0 in omega (arith, e))
+same_named (Some sub) (Handshake x) (Count t g) p q = absurd (let e = sym (ap mark p.0) ∙ ap mark q.0 in omega (arith, e))
+
+pub same_asked : (words : List Text) (a b : Asked) → IsNamedBy words a → IsNamedBy words b → AreSameAsked a b
+same_asked words a b p q = same_named (subcommand_of wire_app words) a b p q

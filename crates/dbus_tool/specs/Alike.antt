@@ -1,0 +1,38 @@
+-- One law for the program: words that name what is done with messages, and an input, have one
+-- output and one status.
+use Rattle.std.specs.Prelude.{◌≡◌, ◌≢◌, ℕ, false, List, [], None, Option}
+use Rattle.clap.specs.Words.{Text}
+use Rattle.clap.specs.Faults.{fault_of}
+use Rattle.dbus_handshake_input.specs.declared.read_ahead.ReadAhead.{ReadAhead}
+use Rattle.cli_options.specs.CommandLine.{wire_app}
+use Rattle.cli_options.specs.Named.{IsNamedBy}
+use Rattle.cli_options.specs.declared.asked.Asked.{Asked}
+use Rattle.cli_options.specs.declared.asked.Asked.TheVariants.{Messages, Count, Handshake}
+use Rattle.cli_report.specs.Devices.{Writing}
+use Rattle.cli_report.specs.declared.ending.ExitStatus.{ExitStatus}
+use Rattle.cli_report.specs.declared.ending.ExitStatus.TheVariants as status
+use Rattle.cli_run.specs.Alike.{EndAlike, ReadAlike}
+use Rattle.cli_run.specs.Output.{IsExact}
+use Rattle.dbus_tool.specs.Handshaking.{ahead}
+use Rattle.dbus_tool.specs.Words.{RunsWords}
+
+-- what is asked for is done in one way: a command other than `json`, or `count`, which explains
+-- nothing and reads no handshake
+abbrev pub IsOneWay : Asked → Type 0
+IsOneWay (Messages command settings) = IsExact command × (settings.explains ≡ false) × (settings.handshake ≡ None)
+IsOneWay (Count settings form) = (settings.explains ≡ false) × (settings.handshake ≡ None)
+IsOneWay (Handshake side) = ⊥
+
+-- words in which clap finds no fault name this
+pub record NameOneWay (words : List Text) : Type 0 where
+  pub asked : Asked
+  pub named : IsNamedBy words asked
+  pub one_way : IsOneWay asked
+  pub faultless : fault_of wire_app words ≡ []
+
+-- two runs of the program by such words that read the same input, and did not fail, end alike
+abbrev pub OneProgram : (R S W V E F : Type 0) → Type 0
+OneProgram R S W V E F = (left : R → Option (List ℕ)) (calls failures : R → ℕ) (other_left : S → Option (List ℕ)) (other_calls other_failures : S → ℕ) (r0 r1 : ReadAhead R) (s0 s1 : ReadAhead S)
+    (w : Writing W) (v : Writing V) (e : Writing E) (f : Writing F) (words : List Text) (end other : ExitStatus)
+    → NameOneWay words → ReadAlike (ahead left calls failures r0 r1) (ahead other_left other_calls other_failures s0 s1) → end ≢ status.Failed → other ≢ status.Failed
+    → RunsWords left calls failures r0 r1 w e words end → RunsWords other_left other_calls other_failures s0 s1 v f words other → EndAlike w v e f end other
