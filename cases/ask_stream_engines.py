@@ -1,11 +1,13 @@
-"""What is asked of the program `stream_engines`: what cuts and reads streams, match rules, the handshake, and runs of dbus-wire."""
+"""What is asked of the program `stream_engines`: what cuts and reads streams, match rules, the handshake, runs of dbus-wire, and
+all of these over devices that fail."""
 
+from devices import ask_copies, ask_device, ask_failing, ask_passing, ask_pieces, ask_reader
 from handshakes import ask_cuts, ask_dialogue, ask_handshake, asker_of_lines
 from read_cases import read_bytes
 from runs import ORDERS, ask_match, ask_printed, ask_rule, ask_stream, ask_tool
 from streams import ask_message
 
-COMMANDS = ("show", "json", "check", "count", "swap", "filter", "handshake")
+COMMANDS = ("show", "json", "check", "count", "swap", "filter")
 
 
 def asker_of_messages(decides=False):
@@ -18,6 +20,12 @@ def asker_of_messages(decides=False):
                 yield from ask_message(data, limits, answer, len(data) if decides else None, f" in {order} endian")
 
     return ask_both
+
+
+def ask_listed(case, folder):
+    """A case of a handshake that is listed."""
+    yield from ask_tool(case, folder)
+    yield from ask_passing(case, folder)
 
 
 FILES = {
@@ -35,4 +43,10 @@ FILES = {
     "dialogues.txt": ask_dialogue,
     "handshakes.txt": ask_handshake,
     **{f"{command}.txt": ask_tool for command in ("words", *COMMANDS, "explained")},
+    "handshake.txt": ask_listed,
+    "readers.txt": ask_reader,
+    "pieces.txt": ask_pieces,
+    "devices.txt": ask_device,
+    "failing.txt": ask_failing,
+    "copies.txt": ask_copies,
 }

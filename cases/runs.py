@@ -21,12 +21,16 @@ def ended(status, first=b"", second=b"", read="read"):
     return f"{status} {read} {hexed(first)} {hexed(second)}"
 
 
+def spelled(words):
+    """A command line as a question spells it."""
+    return ",".join(word.encode().hex() for word in (PROGRAM, *words))
+
+
 def ask_run(name, data, words, sizes, wanted, before=()):
     """Asks for runs of these words over an input; or over what other words make of it before."""
-    told = lambda them: ",".join(word.encode().hex() for word in (PROGRAM, *them))
-    first = f"before={told(before)}" if before else ""
+    first = f"before={spelled(before)}" if before else ""
     for size in sizes:
-        yield Question(f"{name} by {size}", words_of("run", hexed(data), told(words), f"size={size}", first), wanted)
+        yield Question(f"{name} by {size}", words_of("run", hexed(data), spelled(words), f"size={size}", first), wanted)
 
 
 def ask_tool(case, folder):

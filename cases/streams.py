@@ -8,9 +8,15 @@ from questions import Question, hexed, words_of
 
 # How many bytes come with a read, or in a piece.
 SIZES = (1, 7, 24, 4096)
-READERS = ("messages", "lengths", "raw", "lent")
+# Readers, and the call that gives the next message.
+READERS = {"messages": "next", "lengths": "next", "raw": "next", "lent": "advance"}
 # Of a longer stream only some splits in two are tried.
 LONGEST = 600
+
+
+def reader_of(reader, calls):
+    """The settings that say a reader and its calls."""
+    return f"reader={reader.replace('lent', 'raw')} calls={','.join(calls)}"
 
 
 def runs_of(told):
@@ -48,8 +54,10 @@ class Stream:
 
     def decided(self, answers):
         """How many bytes decide a fault: as decoding says, if nothing else does."""
+        if self.least:
+            return self.least
         place, _, outcome = answers[f"decode{self.where}"].rpartition(", ")[2].partition(" ")
-        return self.least or (int(place) if outcome == self.outcome() else len(self.data))
+        return int(place) if outcome == self.outcome() else len(self.data)
 
     def ask(self, engine, kind, wanted, *settings):
         return Question(f"{engine}{self.where}", words_of(kind, hexed(self.data), self.limits, *settings), wanted)
@@ -73,18 +81,21 @@ class Stream:
         both = lambda place, least: f"{self.outcome(place, least)} then {self.outcome()}"
         yield self.ask_places("Cutter in two pieces", "cut-in-two", stride, both)
 
+    def reads(self, answers, size):
+        """How many reads of so many bytes a reader makes of it, the one that finds its end among them."""
+        is_refused = self.rest.startswith("refused")
+        count = self.decided(answers) if is_refused else len(self.data)
+        return -(-count // size) + (0 if is_refused else 1)
+
     def ask_readers(self, readers=READERS, sizes=SIZES):
-        """Asks what readers give, also once more, how many bytes they say that they gave, and how many reads they made."""
+        """Asks what readers give, also once more, how many bytes they say that they gave, how many reads they made, and how many of these failed."""
         for reader, size in itertools.product(readers, sizes):
 
             def wanted(answers, size=size):
-                is_refused = self.rest.startswith("refused")
-                count = self.decided(answers) if is_refused else len(self.data)
-                reads = -(-count // size) + (0 if is_refused else 1)
-                return f"{self.outcome()} {self.rest} {self.ends[-1]} {reads}"
+                return f"{self.outcome()} {self.rest} {self.ends[-1]} {self.reads(answers, size)} 0"
 
-            settings = f"reader={reader} size={size} asks={len(self.messages) + 2}"
-            yield self.ask(f"reader of {reader} by {size}", "read", wanted, settings)
+            calls = [READERS[reader]] * (len(self.messages) + 2)
+            yield self.ask(f"reader of {reader} by {size}", "read", wanted, reader_of(reader, calls), f"size={size}")
 
 
 def messages_in(data, end):
@@ -124,4 +135,4 @@ def ask_message(data, limits, answer, least, where):
         followed = Stream(data + MORE, limits, [], answer, least, where)
         alone = Stream(data, limits, [], answer, least, where)
     yield from followed.ask_cuts((1,))
-    yield from alone.ask_readers(READERS[:3], (1, 7, 4096))
+    yield from alone.ask_readers(("messages", "lengths", "raw"), (1, 7, 4096))

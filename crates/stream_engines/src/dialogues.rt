@@ -3,17 +3,17 @@
 use crate::ends::Led;
 use crate::places::Engine;
 use crate::stream::split;
-use case_questions::{Question, Reply};
-use std::alloc::Global;
+use case_questions::{Memory, Question, Reply};
+use std::alloc::Allocator;
 
 /// Adds what an end does that is handed these bytes, in the way that `way=` says.
-pub(crate) fn say_led(
+pub(crate) fn say_led<A: Allocator + Copy>(
     reply: &mut Reply,
-    alloc: Global,
+    memory: Memory<A>,
     bytes: &[u8],
     question: Question,
 ) -> Option<()> {
-    let mut led = Led::of_question(alloc, question)?;
+    let mut led = Led::of_question(reply.alloc(), memory, question)?;
     led.hand_over_so(bytes, question);
     led.say(reply, question);
     Some(())
@@ -21,16 +21,16 @@ pub(crate) fn say_led(
 
 /// An end that is handed the bytes up to a place, and then the others.
 #[derive(Clone, Copy)]
-pub(crate) struct LedInTwo<'a> {
-    pub(crate) alloc: Global,
+pub(crate) struct LedInTwo<'a, A: Allocator> {
+    pub(crate) memory: Memory<A>,
     pub(crate) question: Question<'a>,
     pub(crate) bytes: &'a [u8],
 }
 
-impl Engine for LedInTwo<'_> {
+impl<A: Allocator + Copy> Engine for LedInTwo<'_, A> {
     fn say(&mut self, reply: &mut Reply, place: usize) {
         let (front, rest) = split(self.bytes, place);
-        match Led::of_question(self.alloc, self.question) {
+        match Led::of_question(reply.alloc(), self.memory, self.question) {
             Some(mut led) => {
                 led.hand_over(front);
                 led.hand_over(rest);

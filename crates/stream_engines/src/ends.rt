@@ -1,30 +1,30 @@
 //! Both ends of a connection, and what an end did with the pieces that were handed to it.
 
-ghost use Rattle.std.specs.Prelude.{◌≡◌, true};
+ghost use Rattle.std.specs.Prelude.{◌≡◌, true, false};
 ghost use Rattle.dbus_auth.specs.ClientEndViews.{client_end_state};
 
 use crate::outcome::Outcome;
 use crate::setups::{mechanisms_of, server_of};
-use case_questions::{Question, Reply};
+use case_questions::{Memory, Question, Reply};
 use dbus_auth::{Client, ClientEnd, EndStep, Server, ServerEnd, Status};
-use std::alloc::{AllocError, Global};
+use std::alloc::{AllocError, Allocator, Global};
 
 // A client's end that has started.
 #[derive(Drop)]
-struct Started {
-    end: ClientEnd,
+struct Started<A: Allocator + Copy> {
+    end: ClientEnd<A>,
     ghost started: { (client_end_state end).started ≡ true },
 }
 
 // One of the two ends.
 #[derive(Drop)]
-enum End {
-    Server(ServerEnd),
-    Client(Started),
+enum End<A: Allocator + Copy> {
+    Server(ServerEnd<A>),
+    Client(Started<A>),
 }
 
-impl End {
-    fn take(&mut self, piece: &[u8]) -> Result<EndStep, AllocError> {
+impl<A: Allocator + Copy> End<A> {
+    fn take(&mut self, piece: &[u8]) -> Result<EndStep<A>, AllocError> {
         match self {
             End::Server(end) => end.take(piece),
             End::Client(client) => client.end.take(piece),
@@ -34,59 +34,87 @@ impl End {
 
 /// An end, and what it did so far.
 #[derive(Drop)]
-pub(crate) struct Led {
-    end: End,
+pub(crate) struct Led<A: Allocator + Copy> {
+    end: End<A>,
     pub(crate) outcome: Outcome,
 }
 
-impl Led {
-    fn new(alloc: Global, end: End, sent: Vec<u8>) -> Led {
-        let mut led = Led {
-            end,
-            outcome: Outcome::new(alloc, sent, Status::Talking),
-        };
-        led.hand_over(b"");
-        led
+// The end once it has started, if it could. A call that was refused memory is made again.
+fn start<A: Allocator + Copy>(end: ClientEnd<A>, outcome: &mut Outcome) -> Option<Started<A>>
+    requires { (client_end_state end).started ≡ false }
+{
+    let mut end = end;
+    match end.start() {
+        Ok(sent) => Some(Started::sending(end, &sent, outcome)),
+        Err(AllocError) => {
+            outcome.is_refused = true;
+            let sent = end.start().ok()?;
+            Some(Started::sending(end, &sent, outcome))
+        }
     }
+}
 
+impl<A: Allocator + Copy> Started<A> {
+    // An end that has started, and sent these bytes.
+    fn sending(end: ClientEnd<A>, sent: &[u8], outcome: &mut Outcome) -> Started<A>
+        requires { (client_end_state end).started ≡ true }
+    {
+        outcome.note_sent(sent, Status::Talking);
+        Started { end }
+    }
+}
+
+impl<A: Allocator + Copy> Led<A> {
     /// The end of the server that a question says.
-    pub(crate) fn server(alloc: Global, question: Question) -> Option<Led> {
+    pub(crate) fn server(alloc: Global, memory: Memory<A>, question: Question) -> Option<Led<A>> {
         let setup = server_of(question)?;
         let server = Server::new(setup.guid, setup.user, setup.is_anonymous);
-        let end = ServerEnd::new(alloc, server);
-        Some(Led::new(alloc, End::Server(end), Vec::new(alloc)))
+        let end = End::Server(ServerEnd::new(memory.heap, server));
+        let outcome = Outcome::new(alloc);
+        Some(Led { end, outcome }.handed(b""))
     }
 
     /// The end of the client that a question says, which has sent its first line.
-    pub(crate) fn client(alloc: Global, question: Question) -> Option<Led> {
-        let client = Client::new(mechanisms_of(alloc, question)?).ok()?;
-        let mut end = ClientEnd::new(alloc, client);
-        let sent = end.start().ok()?;
-        Some(Led::new(alloc, End::Client(Started { end }), sent))
+    pub(crate) fn client(alloc: Global, memory: Memory<A>, question: Question) -> Option<Led<A>> {
+        let client = Client::new(mechanisms_of(memory.spare, question)?).ok()?;
+        let mut outcome = Outcome::new(alloc);
+        let end = End::Client(start(ClientEnd::new(memory.heap, client), &mut outcome)?);
+        Some(Led { end, outcome }.handed(b""))
     }
 
     /// The end of the side that the second word says.
-    pub(crate) fn of_question(alloc: Global, question: Question) -> Option<Led> {
+    pub(crate) fn of_question(
+        alloc: Global,
+        memory: Memory<A>,
+        question: Question,
+    ) -> Option<Led<A>> {
         match question.word(1) {
-            "client" => Led::client(alloc, question),
-            "server" => Led::server(alloc, question),
+            "client" => Led::client(alloc, memory, question),
+            "server" => Led::server(alloc, memory, question),
             _ => None,
         }
     }
 
+    fn handed(self, piece: &[u8]) -> Led<A> {
+        let mut led = self;
+        led.hand_over(piece);
+        led
+    }
+
     /// Hands a piece over, and again what a call leaves, until nothing is left or the end no longer
-    /// talks.
+    /// talks. A call that was refused memory is made again.
     pub(crate) fn hand_over(&mut self, piece: &[u8]) {
         let mut rest = piece;
-        for _ in 0..piece.len() + 1 {
-            let Ok(step) = self.end.take(rest) else {
-                break;
-            };
-            rest = rest.get(step.taken..).unwrap_or(&[]);
-            let is_over = rest.is_empty() || step.status != Status::Talking;
-            self.outcome.note(step);
-            if is_over {
-                break;
+        for _ in 0..piece.len() + 2 {
+            match self.end.take(rest) {
+                Ok(step) => {
+                    rest = rest.get(step.taken..).unwrap_or(&[]);
+                    self.outcome.note(&step);
+                    if rest.is_empty() || step.status != Status::Talking {
+                        break;
+                    }
+                }
+                Err(AllocError) => self.outcome.is_refused = true,
             }
         }
     }

@@ -2,17 +2,17 @@
 
 use crate::ends::Led;
 use crate::stream::split;
-use case_questions::{Question, Reply};
+use case_questions::{Memory, Question, Reply};
 use dbus_auth::Status;
-use std::alloc::{AllocError, Global};
+use std::alloc::{AllocError, Allocator, Global};
 
 // How often each end receives what is under way to it.
 const ROUNDS: u32 = 20;
 
 // An end with the bytes that were sent to it.
 #[derive(Drop)]
-struct Side {
-    led: Led,
+struct Side<A: Allocator + Copy> {
+    led: Led<A>,
     incoming: Vec<u8>,
     // How many of the bytes that the end sent the other one has got.
     fetched: usize,
@@ -20,8 +20,8 @@ struct Side {
     is_called: bool,
 }
 
-impl Side {
-    fn new(alloc: Global, led: Led) -> Side {
+impl<A: Allocator + Copy> Side<A> {
+    fn new(alloc: Global, led: Led<A>) -> Side<A> {
         Side {
             led,
             incoming: Vec::new(alloc),
@@ -58,9 +58,9 @@ impl Side {
 }
 
 // Hands over what is under way, again and again.
-fn talk(
-    client: &mut Side,
-    server: &mut Side,
+fn talk<A: Allocator + Copy>(
+    client: &mut Side<A>,
+    server: &mut Side<A>,
     message: &[u8],
     question: Question,
 ) -> Result<(), AllocError> {
@@ -75,14 +75,15 @@ fn talk(
 
 /// Adds what a client and a server do with one another, of which each sends a message once it has
 /// begun, and what each has not taken.
-pub(crate) fn say_handshake(
+pub(crate) fn say_handshake<A: Allocator + Copy>(
     reply: &mut Reply,
-    alloc: Global,
+    memory: Memory<A>,
     message: &[u8],
     question: Question,
 ) -> Option<()> {
-    let mut client = Side::new(alloc, Led::client(alloc, question)?);
-    let mut server = Side::new(alloc, Led::server(alloc, question)?);
+    let alloc = reply.alloc();
+    let mut client = Side::new(alloc, Led::client(alloc, memory, question)?);
+    let mut server = Side::new(alloc, Led::server(alloc, memory, question)?);
     talk(&mut client, &mut server, message, question).ok()?;
     client.say(reply, question);
     server.say(reply, question);

@@ -2,14 +2,15 @@
 
 use crate::places::Engine;
 use crate::stream::split;
-use case_questions::Reply;
+use crate::trail::OUT_OF_MEMORY;
+use case_questions::{Memory, Reply};
 use dbus_auth_lines::{LineCutter, LineFault};
-use std::alloc::Global;
+use std::alloc::{Allocator, Global};
 
 /// A cutter of lines, and what it gave of bytes.
 #[derive(Drop)]
-struct Cutting<'a> {
-    cutter: LineCutter,
+struct Cutting<'a, A: Allocator> {
+    cutter: LineCutter<A>,
     // The bytes after the lines that were given, and how many of them the cutter took.
     left: &'a [u8],
     taken: usize,
@@ -17,10 +18,10 @@ struct Cutting<'a> {
     given: Reply,
 }
 
-impl<'a> Cutting<'a> {
-    fn new(alloc: Global, bytes: &'a [u8]) -> Cutting<'a> {
+impl<'a, A: Allocator + Copy> Cutting<'a, A> {
+    fn new(alloc: Global, memory: Memory<A>, bytes: &'a [u8]) -> Cutting<'a, A> {
         Cutting {
-            cutter: LineCutter::new(alloc),
+            cutter: LineCutter::new(memory.heap),
             left: bytes,
             taken: 0,
             fault: None,
@@ -28,10 +29,11 @@ impl<'a> Cutting<'a> {
         }
     }
 
-    // Hands a piece over, and again what a call leaves of it.
+    // Hands a piece over, and again what a call leaves of it, or all of it to a call that was
+    // refused memory.
     fn hand_over(&mut self, piece: &[u8]) {
         let mut left = piece;
-        for _ in 0..piece.len() + 1 {
+        for _ in 0..piece.len() + 2 {
             match self.cutter.take(left) {
                 Ok((taken, Some(line))) => {
                     self.taken = self.taken.saturating_add(taken);
@@ -43,6 +45,7 @@ impl<'a> Cutting<'a> {
                     self.fault = None;
                     return;
                 }
+                Err(LineFault::Memory) => self.given.word(OUT_OF_MEMORY),
                 Err(fault) => {
                     self.fault = Some(fault);
                     return;
@@ -71,7 +74,7 @@ impl<'a> Cutting<'a> {
             None => self.given.counted("partial", self.taken as u64),
             Some(LineFault::TooLong) => self.given.word("too long"),
             Some(LineFault::BadByte { at }) => self.given.counted("bad byte", at as u64),
-            Some(LineFault::Memory) => self.given.word("out of memory"),
+            Some(LineFault::Memory) => self.given.word(OUT_OF_MEMORY),
         }
         reply.word(self.given.line());
     }
@@ -79,15 +82,15 @@ impl<'a> Cutting<'a> {
 
 /// A cutter of lines that is handed the bytes up to a place, and then the others.
 #[derive(Clone, Copy)]
-pub(crate) struct LinesInTwo<'a> {
-    pub(crate) alloc: Global,
+pub(crate) struct LinesInTwo<'a, A: Allocator> {
+    pub(crate) memory: Memory<A>,
     pub(crate) bytes: &'a [u8],
 }
 
-impl Engine for LinesInTwo<'_> {
+impl<A: Allocator + Copy> Engine for LinesInTwo<'_, A> {
     fn say(&mut self, reply: &mut Reply, place: usize) {
         let (front, rest) = split(self.bytes, place);
-        let mut cutting = Cutting::new(self.alloc, self.bytes);
+        let mut cutting = Cutting::new(reply.alloc(), self.memory, self.bytes);
         cutting.hand_over(front);
         cutting.hand_over(rest);
         cutting.say(reply);
@@ -95,8 +98,12 @@ impl Engine for LinesInTwo<'_> {
 }
 
 /// Adds what a cutter gives of pieces of one byte, after each of which comes an empty piece.
-pub(crate) fn say_cut_by_bytes(reply: &mut Reply, alloc: Global, bytes: &[u8]) {
-    let mut cutting = Cutting::new(alloc, bytes);
+pub(crate) fn say_cut_by_bytes<A: Allocator + Copy>(
+    reply: &mut Reply,
+    memory: Memory<A>,
+    bytes: &[u8],
+) {
+    let mut cutting = Cutting::new(reply.alloc(), memory, bytes);
     for byte in bytes.chunks(1) {
         cutting.hand_over(byte);
         cutting.hand_over(b"");

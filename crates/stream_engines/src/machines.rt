@@ -2,29 +2,23 @@
 
 use crate::outcome::Outcome;
 use crate::setups::{mechanisms_of, server_of};
-use case_questions::{Question, Reply};
-use dbus_auth::{Client, ClientAct, ClientState, EndStep, Server, ServerAct, ServerState, Status};
+use case_questions::{Memory, Question, Reply};
+use dbus_auth::{Client, ClientAct, ClientState, Server, ServerAct, ServerState, Status};
 use dbus_auth_lines::{client_text, read_client, read_server, server_text};
-use std::alloc::Global;
+use std::alloc::{AllocError, Allocator};
 
 // One of the two machines.
 #[derive(Drop)]
-enum Machine {
+enum Machine<A: Allocator + Copy> {
     Server(Server),
-    Client(Client),
+    Client(Client<A>),
 }
 
-// What a machine sends, and where its end would stand.
-type Act = (Vec<u8>, Status);
-
-impl Machine {
-    // What it does on a line; or nothing if it hears no more, or memory runs out.
-    fn hear(&mut self, alloc: Global, line: &[u8]) -> Option<Act> {
-        match self {
-            Machine::Server(server) => server_hears(alloc, server, line),
-            Machine::Client(client) => client_hears(alloc, client, line),
-        }
-    }
+// What a machine does.
+#[derive(Drop)]
+enum Act<A: Allocator> {
+    Server(ServerAct<A>),
+    Client(ClientAct<A>),
 }
 
 fn server_state(state: ServerState) -> &'static str {
@@ -48,86 +42,127 @@ fn client_state(state: ClientState) -> &'static str {
     }
 }
 
-fn server_hears(alloc: Global, server: &mut Server, line: &[u8]) -> Option<Act> {
-    let line = read_client(alloc, line).ok()?;
-    let act = match server.state() {
-        ServerState::WaitingForAuth | ServerState::WaitingForData | ServerState::WaitingForBegin =>
-            server.receive(alloc, line).ok()?,
-        ServerState::Begun | ServerState::Closed => return None,
-    };
-    match act {
-        ServerAct::Send(line) => Some((server_text(alloc, &line).ok()?, Status::Talking)),
-        ServerAct::Begin => Some((Vec::new(alloc), Status::Begun)),
-        ServerAct::Disconnect => Some((Vec::new(alloc), Status::Closed)),
+impl<A: Allocator + Copy> Machine<A> {
+    // What it does on a line; or nothing if it hears no more.
+    fn hear(&mut self, memory: Memory<A>, line: &[u8]) -> Option<Result<Act<A>, AllocError>> {
+        match self {
+            Machine::Server(server) => server_hears(memory, server, line),
+            Machine::Client(client) => client_hears(memory, client, line),
+        }
     }
 }
 
-fn client_hears(alloc: Global, client: &mut Client, line: &[u8]) -> Option<Act> {
-    let line = read_server(alloc, line).ok()?;
+fn server_hears<A: Allocator + Copy>(
+    memory: Memory<A>,
+    server: &mut Server,
+    line: &[u8],
+) -> Option<Result<Act<A>, AllocError>> {
+    let line = read_client(memory.spare, line).ok()?;
+    match server.state() {
+        ServerState::WaitingForAuth | ServerState::WaitingForData | ServerState::WaitingForBegin =>
+            match server.receive(memory.heap, line) {
+                Ok(act) => Some(Ok(Act::Server(act))),
+                Err(AllocError) => Some(Err(AllocError)),
+            },
+        ServerState::Begun | ServerState::Closed => None,
+    }
+}
+
+fn client_hears<A: Allocator + Copy>(
+    memory: Memory<A>,
+    client: &mut Client<A>,
+    line: &[u8],
+) -> Option<Result<Act<A>, AllocError>> {
+    let line = read_server(memory.spare, line).ok()?;
     match client.state() {
         ClientState::WaitingForData | ClientState::WaitingForOk | ClientState::WaitingForReject =>
-            client_does(alloc, client.receive(alloc, line).ok()?),
+            match client.receive(memory.heap, line) {
+                Ok(act) => Some(Ok(Act::Client(act))),
+                Err(AllocError) => Some(Err(AllocError)),
+            },
         ClientState::Fresh | ClientState::Begun | ClientState::Closed => None,
     }
 }
 
-fn client_does(alloc: Global, act: ClientAct) -> Option<Act> {
+// Notes what a machine does. Nothing if that is a line which nothing spells.
+fn note<A: Allocator + Copy>(memory: Memory<A>, act: &Act<A>, outcome: &mut Outcome) -> Option<()> {
     match act {
-        ClientAct::Send(line) => Some((client_text(alloc, &line).ok()?, Status::Talking)),
-        ClientAct::Begin => Some((Vec::from_slice(alloc, b"BEGIN\r\n").ok()?, Status::Begun)),
-        ClientAct::Disconnect => Some((Vec::new(alloc), Status::Closed)),
+        Act::Server(ServerAct::Send(line)) => {
+            outcome.note_sent(&server_text(memory.spare, line).ok()?, Status::Talking)
+        }
+        Act::Client(ClientAct::Send(line)) => {
+            outcome.note_sent(&client_text(memory.spare, line).ok()?, Status::Talking)
+        }
+        Act::Server(ServerAct::Begin) => outcome.note_sent(b"", Status::Begun),
+        Act::Client(ClientAct::Begin) => outcome.note_sent(b"BEGIN\r\n", Status::Begun),
+        Act::Server(ServerAct::Disconnect) | Act::Client(ClientAct::Disconnect) => {
+            outcome.note_sent(b"", Status::Closed)
+        }
     }
+    Some(())
 }
 
-// The machine of a server that a question says, and what it did.
-fn server_machine(alloc: Global, question: Question) -> Option<(Machine, Outcome)> {
-    let setup = server_of(question)?;
-    let server = Server::new(setup.guid, setup.user, setup.is_anonymous);
-    let outcome = Outcome::new(alloc, Vec::new(alloc), Status::Talking);
-    Some((Machine::Server(server), outcome))
-}
-
-// The machine of a client that a question says, which has started, and what it sent.
-fn client_machine(alloc: Global, question: Question) -> Option<(Machine, Outcome)> {
-    let mut client = Client::new(mechanisms_of(alloc, question)?).ok()?;
-    let (line, status) = client_does(alloc, client.start(alloc).ok()?)?;
-    let mut sent = Vec::new(alloc);
-    if !line.is_empty() {
-        sent.push(0).ok()?;
-        sent.extend_from_slice(&line).ok()?;
+// The machine of a client that a question says, which has started, and notes what it sent. A call
+// that was refused memory is made again.
+fn client_machine<A: Allocator + Copy>(
+    memory: Memory<A>,
+    question: Question,
+    outcome: &mut Outcome,
+) -> Option<Machine<A>> {
+    let mut client = Client::new(mechanisms_of(memory.spare, question)?).ok()?;
+    let act = match client.start(memory.heap) {
+        Ok(act) => act,
+        Err(AllocError) => {
+            outcome.is_refused = true;
+            client.start(memory.heap).ok()?
+        }
+    };
+    let act = Act::Client(act);
+    if !matches!(&act, Act::Client(ClientAct::Disconnect)) {
+        outcome.note_sent(b"\0", Status::Talking);
     }
-    Some((Machine::Client(client), Outcome::new(alloc, sent, status)))
+    note(memory, &act, outcome)?;
+    Some(Machine::Client(client))
 }
 
 // Hands a machine the lines that `lines=` says, in hexadecimal digits with a comma between any two,
 // until it hears no more.
-fn hear_lines(alloc: Global, machine: &mut Machine, question: Question, outcome: &mut Outcome) {
-    let Some(lines) = question.setting("lines") else {
-        return;
-    };
-    for digits in lines.split(',') {
-        let Ok(line) = hex::decode(alloc, digits) else {
-            break;
+fn hear_lines<A: Allocator + Copy>(
+    memory: Memory<A>,
+    machine: &mut Machine<A>,
+    question: Question,
+    outcome: &mut Outcome,
+) -> Option<()> {
+    for digits in question.setting("lines")?.split(',') {
+        let line = hex::decode(memory.spare, digits).ok()?;
+        let act = match machine.hear(memory, &line)? {
+            Ok(act) => act,
+            Err(AllocError) => {
+                outcome.is_refused = true;
+                machine.hear(memory, &line)?.ok()?
+            }
         };
-        let Some((send, status)) = machine.hear(alloc, &line) else {
-            break;
-        };
-        outcome.note(EndStep {
-            taken: 0,
-            send,
-            status,
-        });
+        note(memory, &act, outcome)?;
     }
+    Some(())
 }
 
 /// Adds what the machine of an end sends on lines, its status, and its state then.
-pub(crate) fn say_machine(reply: &mut Reply, alloc: Global, question: Question) -> Option<()> {
-    let (mut machine, mut outcome) = match question.word(1) {
-        "server" => server_machine(alloc, question)?,
-        "client" => client_machine(alloc, question)?,
+pub(crate) fn say_machine<A: Allocator + Copy>(
+    reply: &mut Reply,
+    memory: Memory<A>,
+    question: Question,
+) -> Option<()> {
+    let mut outcome = Outcome::new(reply.alloc());
+    let mut machine = match question.word(1) {
+        "server" => {
+            let setup = server_of(question)?;
+            Machine::Server(Server::new(setup.guid, setup.user, setup.is_anonymous))
+        }
+        "client" => client_machine(memory, question, &mut outcome)?,
         _ => return None,
     };
-    hear_lines(alloc, &mut machine, question, &mut outcome);
+    hear_lines(memory, &mut machine, question, &mut outcome);
     match &machine {
         Machine::Server(server) => {
             outcome.say(reply, question, None);

@@ -3,6 +3,10 @@
 //!
 //! Each line of its input is a question (`case_questions`), and each line that it prints the answer
 //! to one. cases/README.md says which questions any implementation can answer.
+//!
+//! What a question asks for takes its memory from the heap of the question, where a growth may be
+//! refused. A call that was refused memory is made again if it keeps anything from call to call,
+//! and the answer then has the words `out of memory` beside what it has without them.
 #![tactic(auto)]
 
 mod answering;
@@ -17,26 +21,25 @@ mod lines;
 mod machines;
 mod messages;
 mod outcome;
+mod passing;
 mod places;
 mod reading;
+mod rule_sets;
 mod rules;
 mod running;
 mod setups;
 mod stream;
 mod trail;
 
-use case_questions::{Question, Reply};
+use answering::Engines;
+use case_questions::reply_to;
 use std::io;
 
 fn main(rt: HostRuntime) -> io::Result<()> {
     let alloc = rt.alloc();
     let questions = io::read_to_string(alloc, rt.stdin())?;
     for line in questions.lines() {
-        let mut reply = Reply::new(alloc);
-        if answering::say(&mut reply, alloc, Question::new(line)).is_none() {
-            reply.word("?");
-        }
-        println!(rt; "{}", reply.line())?;
+        println!(rt; "{}", reply_to(Engines, alloc, line).line())?;
     }
     Ok(())
 }

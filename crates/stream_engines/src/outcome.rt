@@ -1,9 +1,10 @@
 //! What an end of a connection, or its state machine, did.
 
+use crate::trail::OUT_OF_MEMORY;
 use case_questions::{Question, Reply};
 use dbus_auth::{EndStep, Status};
 use dbus_auth_lines::Guid;
-use std::alloc::Global;
+use std::alloc::{Allocator, Global};
 
 /// What it did so far.
 #[derive(Drop)]
@@ -15,39 +16,46 @@ pub(crate) struct Outcome {
     // The same of each call that took any.
     takes: Reply,
     pub(crate) status: Status,
+    /// A call was refused memory.
+    pub(crate) is_refused: bool,
 }
 
 impl Outcome {
-    /// It only sent these bytes yet.
-    pub(crate) fn new(alloc: Global, sent: Vec<u8>, status: Status) -> Outcome {
+    /// It did nothing yet.
+    pub(crate) fn new(alloc: Global) -> Outcome {
         Outcome {
-            sent,
+            sent: Vec::new(alloc),
             taken: 0,
             takes: Reply::new(alloc),
-            status,
+            status: Status::Talking,
+            is_refused: false,
         }
     }
 
     /// Notes what a call did.
-    pub(crate) fn note(&mut self, step: EndStep) {
-        let EndStep {
-            taken,
-            send,
-            status,
-        } = step;
-        if taken > 0 {
-            self.takes.number(taken as u64);
-            self.taken = self.taken.saturating_add(taken);
+    pub(crate) fn note<A: Allocator>(&mut self, step: &EndStep<A>) {
+        if step.taken > 0 {
+            self.takes.number(step.taken as u64);
+            self.taken = self.taken.saturating_add(step.taken);
         }
-        if self.sent.extend_from_slice(&send).is_err() {
-            self.takes.word("out of memory");
+        self.note_sent(&step.send, step.status);
+    }
+
+    /// Notes what a call sent, and how it left the status.
+    pub(crate) fn note_sent(&mut self, sent: &[u8], status: Status) {
+        if self.sent.extend_from_slice(sent).is_err() {
+            self.takes.word(OUT_OF_MEMORY);
         }
         self.status = status;
     }
 
-    /// Adds what it sent; how many bytes each call took, or with `taken=all` all calls, or with
-    /// `taken=untold` neither; its status; and the GUID that a client has.
+    /// Adds whether a call was refused memory; what it sent; how many bytes each call took, or with
+    /// `taken=all` all calls, or with `taken=untold` neither; its status; and the GUID that a
+    /// client has.
     pub(crate) fn say(&self, reply: &mut Reply, question: Question, guid: Option<Guid>) {
+        if self.is_refused {
+            reply.word(OUT_OF_MEMORY);
+        }
         reply.bytes(&self.sent);
         match question.setting("taken") {
             None if self.taken > 0 => reply.word(self.takes.line()),

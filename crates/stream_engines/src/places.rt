@@ -1,7 +1,6 @@
 //! What an engine replies at each of several places.
 
 use case_questions::{Question, Reply};
-use std::alloc::Global;
 
 /// What replies at a place.
 pub(crate) trait Engine {
@@ -11,18 +10,13 @@ pub(crate) trait Engine {
 
 /// Adds the replies at the places `from=` up to `to=`, `step=` apart: each with the place from
 /// which on it is the reply.
-pub(crate) fn say_places<E: Engine>(
-    reply: &mut Reply,
-    alloc: Global,
-    question: Question,
-    engine: &mut E,
-) {
+pub(crate) fn say_places<E: Engine>(reply: &mut Reply, question: Question, engine: &mut E) {
     let first = question.count("from", 0);
     let last = question.count("to", 0);
     let step = question.count("step", 1).max(1);
-    let mut before = Reply::new(alloc);
+    let mut before = Reply::new(reply.alloc());
     for place in (first..last.saturating_add(1)).step_by(step) {
-        let mut now = Reply::new(alloc);
+        let mut now = Reply::new(reply.alloc());
         engine.say(&mut now, place);
         if now.line() != before.line() {
             if place != first {

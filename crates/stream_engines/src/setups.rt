@@ -4,7 +4,7 @@ use crate::lines::guid_of;
 use case_questions::Question;
 use dbus_auth::Mechanism;
 use dbus_auth_lines::Guid;
-use std::alloc::Global;
+use std::alloc::Allocator;
 
 /// What a server is made of.
 #[derive(Clone, Copy)]
@@ -29,7 +29,10 @@ pub(crate) fn server_of(question: Question) -> Option<ServerSetup> {
 
 /// The mechanisms of a client that `mechanisms=` says, with a comma between any two: `external`,
 /// `external:1000` and `anonymous:78`.
-pub(crate) fn mechanisms_of(alloc: Global, question: Question) -> Option<Vec<Mechanism>> {
+pub(crate) fn mechanisms_of<A: Allocator + Copy>(
+    alloc: A,
+    question: Question,
+) -> Option<Vec<Mechanism<A>, A>> {
     let mut mechanisms = Vec::new(alloc);
     let Some(words) = question.setting("mechanisms") else {
         return Some(mechanisms);
@@ -40,7 +43,7 @@ pub(crate) fn mechanisms_of(alloc: Global, question: Question) -> Option<Vec<Mec
     Some(mechanisms)
 }
 
-fn mechanism_of(alloc: Global, word: &str) -> Option<Mechanism> {
+fn mechanism_of<A: Allocator + Copy>(alloc: A, word: &str) -> Option<Mechanism<A>> {
     match word.split_once(':') {
         None if word == "external" => Some(Mechanism::External(None)),
         Some(("external", digits)) => Some(Mechanism::External(Some(digits.parse().ok()?))),

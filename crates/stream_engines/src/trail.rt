@@ -4,7 +4,10 @@ use crate::stream::Stream;
 use case_questions::Reply;
 use dbus_message::{Message, encode};
 use dbus_value::{Fault, Order};
-use std::alloc::Global;
+use std::alloc::Allocator;
+
+/// The words of a call that was refused memory.
+pub(crate) const OUT_OF_MEMORY: &str = "out of memory";
 
 /// What comes after the messages of a stream.
 #[derive(Clone, Copy, PartialEq, Eq)]
@@ -15,7 +18,7 @@ pub(crate) enum Rest {
     Partial,
     /// Bytes that are refused, at a place that counts from the first of them.
     Refused(Fault),
-    /// What no engine may do.
+    /// What no engine may do, or a device failed.
     Wrong(&'static str),
 }
 
@@ -33,8 +36,8 @@ impl Rest {
 
 /// The messages that an engine gave so far of a stream.
 #[derive(Drop)]
-pub(crate) struct Trail<'a> {
-    alloc: Global,
+pub(crate) struct Trail<'a, A: Allocator> {
+    spare: A,
     /// The bytes after them.
     pub(crate) left: &'a [u8],
     /// How many bytes they have.
@@ -43,12 +46,12 @@ pub(crate) struct Trail<'a> {
     words: Reply,
 }
 
-impl<'a> Trail<'a> {
-    /// Nothing is given yet of this stream.
-    pub(crate) fn new(stream: Stream<'a>) -> Trail<'a> {
+impl<'a, A: Allocator + Copy> Trail<'a, A> {
+    /// Nothing is given yet of these bytes, which are a stream's or its first ones.
+    pub(crate) fn new(stream: &Stream<A>, bytes: &'a [u8]) -> Trail<'a, A> {
         Trail {
-            alloc: stream.alloc,
-            left: stream.bytes,
+            spare: stream.memory.spare,
+            left: bytes,
             done: 0,
             words: Reply::new(stream.alloc),
         }
@@ -70,16 +73,21 @@ impl<'a> Trail<'a> {
     }
 
     /// This message was given.
-    pub(crate) fn note(&mut self, order: Order, message: &Message) {
-        match encode(self.alloc, message, order) {
+    pub(crate) fn note(&mut self, order: Order, message: &Message<A>) {
+        match encode(self.spare, message, order) {
             Ok(bytes) => self.note_bytes(&bytes),
-            Err(_) => self.words.word("out of memory"),
+            Err(_) => self.note_word(OUT_OF_MEMORY),
         }
     }
 
     /// This came after the messages.
     pub(crate) fn note_rest(&mut self, rest: Rest) {
         rest.say(&mut self.words);
+    }
+
+    /// This was answered.
+    pub(crate) fn note_word(&mut self, word: &str) {
+        self.words.word(word);
     }
 
     /// Adds what was noted.
