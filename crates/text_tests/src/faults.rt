@@ -1,7 +1,6 @@
 //! The texts of faults, as people read them, and of a GUID.
 
-use crate::samples::GUID;
-use dbus_auth_lines::{LineFault, TextFault};
+use dbus_auth_lines::{Guid, LineFault, TextFault};
 use dbus_match::{RuleFault, RuleReason};
 use dbus_message::BuildFault;
 use dbus_types::{NameFault, SigFault};
@@ -195,6 +194,13 @@ const TEXT_FAULTS: &[(TextFault, &str)] = &[
     (TextFault::Unspellable, "no line spells this"),
 ];
 
+const GUIDS: &[(Guid, &str)] = &[(
+    Guid([
+        1, 35, 69, 103, 137, 171, 205, 239, 1, 35, 69, 103, 137, 171, 205, 239,
+    ]),
+    "0123456789abcdef0123456789abcdef",
+)];
+
 // Each has its text.
 fn are_told<T: Display>(rt: &impl Abort, alloc: Global, rows: &[(T, &str)]) -> Result<(), Fail> {
     for (told, text) in rows {
@@ -237,9 +243,5 @@ fn lines_of_the_handshake(rt: HostRuntime) -> Result<(), Fail> {
 
 #[test]
 fn guids(rt: HostRuntime) -> Result<(), Fail> {
-    are_told(
-        &rt,
-        rt.alloc(),
-        &[(GUID, "0123456789abcdef0123456789abcdef")],
-    )
+    are_told(&rt, rt.alloc(), GUIDS)
 }
