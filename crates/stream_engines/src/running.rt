@@ -39,6 +39,7 @@ fn end_of<A: Allocator + Copy>(
     let mut first = Taker::new(alloc, manner, &taken);
     let manner = Manner::named(question, "second-size", "second-fails");
     let mut second = Taker::new(alloc, manner, &other);
+    let mut ahead = ReadAhead::new(&mut reader);
     let status = match question.setting("by") {
         Some(_) => {
             let Ok(Asked::Messages(command, settings)) = command_of(alloc, words) else {
@@ -49,15 +50,12 @@ fn end_of<A: Allocator + Copy>(
                 memory.heap,
                 asked,
                 question,
-                &mut reader,
+                &mut ahead,
                 &mut first,
                 &mut second,
             )
         }
-        None => {
-            let mut ahead = ReadAhead::new(&mut reader);
-            run_words(alloc, words, &mut ahead, &mut first, &mut second)
-        }
+        None => run_words(alloc, words, &mut ahead, &mut first, &mut second),
     };
     let mut seen = reader.seen;
     seen.number(taken.get());
