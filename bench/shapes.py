@@ -155,6 +155,8 @@ WORST = {
     "chained": lambda: array_message("av", 1, b"\x01v\0" * 62 + b"\x01y\0\0"),
     "spelled": lambda: array_message("av", 1, bytes([253]) + b"a(" + b"y" * 250 + b")\0" + bytes(1) + bytes(8)),
     "signatures": lambda: array_message("ag", 1, bytes([254]) + b"y" * 254 + b"\0"),
+    "unspelled": lambda: array_message("ag", 1, bytes(2)),
+    "untyped": lambda: array_message("a" + "(" * 31 + "gggg" + ")" * 31, 8, bytes(8)),
     "texts": lambda: array_message("as", 4, bytes(8), bytes(5)),
     "paths": lambda: array_message("ao", 4, PATH + bytes(2), PATH),
     "booleans": lambda: array_message("ab", 4, bytes(4)),
