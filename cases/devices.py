@@ -153,7 +153,10 @@ class Run:
 
     def is_front(self, answer, second):
         """Whether it failed, and wrote the first bytes of what it would have written."""
-        status, _, first, other = answer.split(" ")[:4]
+        words = answer.split(" ")
+        if len(words) != 4:
+            return False
+        status, _, first, other = words
         return status == "3" and hexed(self.first).startswith(first.strip("-")) and other == hexed(second)
 
     def ask_failing(self):
