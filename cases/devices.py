@@ -5,7 +5,7 @@ import bisect
 import itertools
 import re
 
-from memory import OUT_OF_MEMORY, ask_refused, growths_of
+from growths import ask_refused, growths_of, is_refused
 from questions import Question, hexed, words_of
 from read_cases import read_parts, read_words
 from runs import ended, spelled
@@ -127,7 +127,7 @@ def ask_passing(case, folder):
     yield Question("pass", words, f"passed {reads}")
     for n in range(1, reads + 1):
         yield Question(f"read {n} fails", f"{words} fails={n}", f"{FAILED} {n}")
-    yield ask_refused("pass", words, f"passed {reads}", OUT_OF_MEMORY.__eq__, least=lines)
+    yield ask_refused("pass", words, f"passed {reads}", is_refused, least=lines)
 
 
 def ask_device(case, folder):
@@ -173,7 +173,7 @@ class Run:
         yield Question("no call fails", self.question(*last), self.usual())
 
     def ask_refused(self, least):
-        right = lambda answer: self.is_front(answer, b"out of memory\n")
+        right = lambda answer, _: self.is_front(answer, b"out of memory\n")
         for call in ("run_with", "run_within"):
             if call == "run_with" or not {"--explain", "--keep-going"} & {*self.words}:
                 yield ask_refused(call, self.question(f"by={call}"), self.usual(), right, least=least)

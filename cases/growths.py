@@ -1,9 +1,14 @@
-"""What calls answer with each growth of memory refused in turn, and what is made by words alone."""
+"""What is asked with each growth of memory refused in turn (`refused QUESTION`), and the answers that are wanted.
+
+An answer has how many growths the call asked for; what is answered with each of them refused, of equal answers after one another one; and after `then`
+what is answered with none.
+"""
 
 import re
 
 from questions import Question, hexed
 from read_cases import read_parts
+from streams import runs_of
 
 OUT_OF_MEMORY = "out of memory"
 # Words of questions on what is changed by calls: if memory runs out the same call is made again, and goes on as if nothing had been.
@@ -14,38 +19,62 @@ COUNT = re.compile(r"(?P<least>\d*)(?P<range>\.\.)?(?P<most>\d*)")
 LONGEST = 3000
 
 
-def is_within(count, column):
-    """Whether this is a number of growths that a column has."""
-    told = COUNT.fullmatch(column)
-    least, most = told["least"] or 0, told["most"] or (told["least"] if not told["range"] else count)
-    return int(least) <= count <= int(most)
+def growths_of(answer):
+    """How many growths an answer says, or -1 if it says none."""
+    count = answer.partition(" ")[0]
+    return int(count) if count.isdigit() else -1
 
 
-def is_told(found, usual, counts, goes_on):
-    """Whether this is an answer with each growth refused: how many there are, what is answered with each refused, of equal answers after one another one,
-    and after `then` the usual answer. A call that goes on answers that too, and may say where memory ran out."""
-    count, _, answers = found.partition(" ")
-    if not count.isdigit() or not is_within(int(count), counts) or not answers.endswith(f"then {usual}"):
-        return False
-    answers = answers.removesuffix(f"then {usual}").strip()
-    if not goes_on or not answers:
-        return answers == (OUT_OF_MEMORY if int(count) else "")
-    return all(it.replace(f"{OUT_OF_MEMORY} ", "") == usual for it in answers.split(", "))
+def is_usual(told, usual):
+    """Whether this is the usual answer of calls that were made again, and may say where memory ran out. Of places that follow one another it may say the
+    same apart."""
+    told = told.replace(f"{OUT_OF_MEMORY} ", "")
+    return told == usual or (", " in told and runs_of(run.split(" ", 1) for run in told.split(", ")) == usual)
 
 
-def refused(question, counts="0.."):
-    """A question with each growth refused in turn, after the question itself: how many there may be is a column's."""
-    engine, words, _ = question
-    name = f"{engine}, growths refused"
-    goes_on = not AGAIN.isdisjoint(words.split(" "))
+def says_and_goes_on(told, usual):
+    """Whether this says that memory ran out, and is the usual answer then."""
+    return OUT_OF_MEMORY in told and is_usual(told, usual)
+
+
+def is_refused(told, usual):
+    """Whether this says that memory ran out, and nothing else."""
+    return told == OUT_OF_MEMORY
+
+
+def each_told(told, usual):
+    """What is answered with one growth or another refused. A usual answer may have commas, if it has answers at places: those of another growth begin at
+    the first place again."""
+    between = f", (?={usual.split(' ')[0]} )" if ", " in usual else ", "
+    return re.split(between, told) if told else []
+
+
+def ask_refused(engine, words, usual, is_right=says_and_goes_on, least=0, most=None):
+    """Asks with each growth refused. If none is, the answer is the usual one, a text or the engine's answer before; else a function says of each answer
+    whether it is right. There are so many growths at least and at most, which may be functions of the answers so far."""
+    name = f"{engine}, refused memory"
 
     def wanted(answers):
-        usual, found = answers[engine], answers[name]
-        if is_told(found, usual, counts, goes_on):
-            return found
-        return f"{counts} growths, with each `{usual if goes_on else OUT_OF_MEMORY}`, then {usual}"
+        first, last = (bound(answers) if callable(bound) else bound for bound in (least, most))
+        plain = answers[engine] if usual is None else usual
+        count, answer = growths_of(answers[name]), answers[name].partition(" ")[2]
+        told = each_told(answer.removesuffix(f"then {plain}").strip(), plain)
+        is_told = answer.endswith(f"then {plain}") and bool(told) == (count > 0) and all(is_right(it, plain) for it in told)
+        if is_told and first <= count and (last is None or count <= last):
+            return answers[name]
+        return f"{first} growths or more, and at most {last}, each told, then {plain}"
 
     return Question(name, f"refused {words}", wanted)
+
+
+def refused(question, counts=".."):
+    """A question with each growth refused in turn, after the question itself: how many there may be is a column's."""
+    engine, words, _ = question
+    said = COUNT.fullmatch(counts)
+    least = int(said["least"] or 0)
+    most = int(said["most"]) if said["most"] else None if said["range"] else least
+    goes_on = not AGAIN.isdisjoint(words.split(" "))
+    return ask_refused(engine, words, None, is_usual if goes_on else is_refused, least, most)
 
 
 def with_growths(questions, kinds):
