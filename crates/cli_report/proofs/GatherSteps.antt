@@ -26,15 +26,6 @@ module _ {W : Type 0} (held : W → Option (List ℕ)) (failures : W → ℕ) wh
     failed = b.failed;
   }
 
-  -- what is gathered is written, and then bytes are
-  pub gathers_after : (bytes g0 g1 g2 : List ℕ) (w0 w1 w2 : W) (res : Result (Unit {0}) Cause) → Passes held failures [] g0 g1 w0 w1 → GathersOrNot held failures bytes g1 g2 w1 w2 res
-      → GathersOrNot held failures bytes g0 g2 w0 w2 res
-  gathers_after bytes g0 g1 g2 w0 w1 w2 (Ok x) p q = passes_both held failures [] bytes g0 g1 g2 w0 w1 w2 p q
-  gathers_after bytes g0 g1 g2 w0 w1 w2 (Err Memory) p q = passes_both held failures [] [] g0 g1 g2 w0 w1 w2 p q
-  gathers_after bytes g0 g1 g2 w0 w1 w2 (Err ReadFailed) p q = q
-  gathers_after bytes g0 g1 g2 w0 w1 w2 (Err WriteFailed) p q = breaks_after held failures [] bytes g0 g1 w0 w1 w2 p q
-  gathers_after bytes g0 g1 g2 w0 w1 w2 (Err TooManyReads) p q = q
-
   -- bytes and then nothing
   pub passes_nothing : (a g0 g1 g2 : List ℕ) (w0 w1 w2 : W) → Passes held failures a g0 g1 w0 w1 → Passes held failures [] g1 g2 w1 w2 → Passes held failures a g0 g2 w0 w2
   passes_nothing a g0 g1 g2 w0 w1 w2 p q = subst (λ l. Passes held failures l g0 g2 w0 w2) (append-nil a) (passes_both held failures a [] g0 g1 g2 w0 w1 w2 p q)

@@ -33,12 +33,3 @@ module _ {R W E : Type 0} (left : R → Option (List ℕ)) (calls read_failures 
         through = subst (λ (x : R). GoesThrough (taken (reading left calls read_failures r0 x)) settings most false
             (λ items told. Wrote held failures a.second.now told e1 × EndsCount w (writing held failures e1 e2) form (counting items) due end) due) source (goes_as after g);
       }
-
-  -- reading or telling was given up
-  pub counts_some : (stop : Stop) → StopsWithin (taken (reading left calls read_failures r0 r1)) settings most false (LeavesCounted held failures a b) stop
-      → StopsWithin (taken (reading left calls read_failures r0 r2)) settings most false (λ items told stop. IsUnwritten stop × GotSecond held failures false stop told a.second.now e1) stop
-  counts_some stop s =
-      let after : (items : List Placed) (told : List ℕ) → LeavesCounted held failures a b items told stop → IsUnwritten stop × GotSecond held failures false stop told a.second.now e1
-      = λ items told h. (h.unwritten, subst (λ (x : E). GotSecond held failures false stop told a.second.now x) second h.tells) in
-      subst (λ (x : R). StopsWithin (taken (reading left calls read_failures r0 x)) settings most false (λ items told stop. IsUnwritten stop × GotSecond held failures false stop told a.second.now e1) stop)
-      source (stops_as after s)

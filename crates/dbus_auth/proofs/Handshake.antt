@@ -9,21 +9,21 @@ use Rattle.dbus_auth_lines.specs.ServerCommands.{ServerCommand}
 use Rattle.dbus_auth_lines.specs.ServerCommands as server
 use Rattle.dbus_auth.specs.Machines.{ServerMachine, ClientMechanism, IsServer, auth_line, waits_in, mechanisms}
 use Rattle.dbus_auth.specs.Ends.{ClientEndState, client_takes, client_starts}
-use Rattle.dbus_auth.specs.World.{untaken, World, Event, Start, To_server, To_client, Server_writes, Client_writes, server_writes, client_writes, start_once, hand_client, happens, run, at_first, line_ends, Handshake}
+use Rattle.dbus_auth.specs.World.{untaken, silent, World, Event, Start, To_server, To_client, Server_writes, Client_writes, server_writes, client_writes, start_once, hand_client, happens, run, at_first, line_ends, Handshake}
 use Rattle.dbus_auth.specs.Mechanisms.{IsMechanism}
 use Rattle.dbus_auth.specs.declared.end_step.Status.{Status}
 use Rattle.dbus_auth.specs.declared.end_step.Status.TheVariants as status
 use Rattle.dbus_auth.specs.declared.states.ServerState.TheVariants as at
 use Rattle.dbus_auth.specs.declared.states.ClientState.TheVariants as now
-use Rattle.dbus_auth.proofs.Sides.{client_is_done}
+use Rattle.dbus_auth.proofs.Sides.{Carries, client_is_done}
 use Rattle.dbus_auth.proofs.Stages.{at_state, talks_as, ClientBegan, ServerBegan, Stage, fresh, asked, gave_data, rejected, accepted, wants_data, confirming, both, over, start_same, server_mute, client_mute, client_mute_closed, to_client_of}
 use Rattle.dbus_auth.proofs.Steps.{asked-to_server, gave_data-to_server, asking_client, answering_server, rejected-to_client, accepted-to_client, wants_data-to_client, first_stage, confirming-to_server, confirming-client_writes, both-client_writes, both-server_writes, both-to_server, both-to_client, confirming-to_client, over-to_server, over-to_client, fresh-to_server, fresh-to_client, fresh-client_writes, fresh-start}
 
 -- ---- what the stages say of the server and of lines
 
 record ServerSees (s : ServerMachine) (w : World) : Type 0 where
-  server : ServerBegan w
-  client : ClientBegan w s.guid
+  server : ServerBegan w.server w.to_server w.client_wrote
+  client : ClientBegan w.client w.to_client w.server_wrote s.guid
 
 server_sees : (s : ServerMachine) (all : List ClientMechanism) (w : World) → Stage s all w → (w.server.status ≡ status.Talking) ⊎ ServerSees s w
 server_sees s all w (fresh f) = inl f.server_is.talking
@@ -96,12 +96,14 @@ keeps s all hs ha w (Client_writes x) (confirming b side c nil) = confirming-cli
 keeps s all hs ha w (Client_writes x) (both b a c) = both-client_writes s all w x b a c
 keeps s all hs ha w (Client_writes x) (over z b q c u) = rw (client_mute_closed w x c.status) (over z b q c u)
 
+silent_carries : Carries silent []
+silent_carries = record { left = refl; on_wire = record { within = omega arith } }
+
 at_first_is : (s : ServerMachine) (all : List ClientMechanism) → Stage s all (at_first s all)
 at_first_is s all = fresh (record {
   client_is = refl;
-  server_is = record { talking = refl; is = refl; kept = refl; zero = refl; left = refl; on_wire = record { within = omega arith } };
-  left = refl;
-  on_wire = record { within = omega arith };
+  server_is = record { end = record { talking = refl; is = refl; kept = refl; zero = refl }; carries = silent_carries };
+  carries = silent_carries;
   said = refl;
   unsaid = record { client = refl; server = refl };
 })
@@ -173,7 +175,7 @@ run_keeps s all hs ha (e ∷ es) w st o = run_keeps s all hs ha es (happens w e)
 -- ---- what the stages say
 
 record ClientSees (s : ServerMachine) (w : World) : Type 0 where
-  client : ClientBegan w s.guid
+  client : ClientBegan w.client w.to_client w.server_wrote s.guid
   server : (w.server.server.state ≡ at.WaitingForBegin) ⊎ (w.server.server.state ≡ at.Begun)
 
 client_sees : (s : ServerMachine) (all : List ClientMechanism) (w : World) → Stage s all w → ((w.client.status ≡ status.Talking) ⊎ (w.client.status ≡ status.Closed)) ⊎ ClientSees s w

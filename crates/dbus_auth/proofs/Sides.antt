@@ -1,5 +1,5 @@
 -- One side of a handshake: an end, the bytes that it keeps, and those that come to it.
-use Rattle.std.proofs.Common.{◌≡◌, ◌⊎◌, inl, inr, ℕ, zero, suc, ◌+◌, ◌-◌, ◌≤◌, Bool, true, false, List, [], ◌∷◌, ◌++◌, length, take, drop, refl, sym, ◌∙◌, ap, arith, append_assoc, length-append, length-take, length-drop, take-append-drop}
+use Rattle.std.proofs.Common.{◌≡◌, ◌⊎◌, inl, inr, ℕ, zero, suc, ◌+◌, ◌-◌, ◌≤◌, Bool, true, false, List, [], ◌∷◌, ◌++◌, length, take, drop, refl, sym, subst, ◌∙◌, ap, arith, append_assoc, length-append, length-take, length-drop, take-append-drop}
 use Rattle.std.proofs.lemmas.List.{drop_at, drop-append-le, append-nil, drop-drop}
 use Rattle.dbus_auth_lines.specs.Lines.{ended, client_meaning, server_meaning}
 use Rattle.dbus_auth_lines.specs.Cut.{More, cut, scan_from, IsLine}
@@ -26,6 +26,20 @@ untaken-sending wire bytes h = drop-append-le wire.took wire.sent bytes h.within
 
 pub IsWire-sending : (wire : Wire) (bytes : List ℕ) → IsWire wire → IsWire (sending wire bytes)
 IsWire-sending wire bytes h = record { within = omega (arith, length-append wire.sent bytes, h.within) }
+
+-- these bytes are under way
+pub record Carries (wire : Wire) (bytes : List ℕ) : Type 0 where
+  pub left : untaken wire ≡ bytes
+  pub on_wire : IsWire wire
+
+pub Carries-sending : (wire : Wire) (bytes more : List ℕ) → Carries wire bytes → Carries (sending wire more) (bytes ++ more)
+Carries-sending wire bytes more h = record { left = untaken-sending wire more h.on_wire ∙ ap (λ (x : List ℕ). x ++ more) h.left; on_wire = IsWire-sending wire more h.on_wire }
+
+pub Carries-nil : (wire : Wire) (bytes none : List ℕ) → none ≡ [] → Carries wire bytes → Carries (sending wire none) bytes
+Carries-nil wire bytes none e h = subst (λ (b : List ℕ). Carries (sending wire none) b) (ap (λ (x : List ℕ). bytes ++ x) e ∙ append-nil bytes) (Carries-sending wire bytes none h)
+
+pub Carries-taking : (wire : Wire) (bytes : List ℕ) → Carries wire bytes → Carries (taking wire 0) bytes
+Carries-taking wire bytes h = record { left = untaken-taking wire 0 ∙ h.left; on_wire = IsWire-taking wire 0 h.on_wire (omega arith) }
 
 drop-length-take : (n : ℕ) (q : List ℕ) → drop (length (take n q)) q ≡ drop n q
 drop-length-take n q = ap (drop (length (take n q))) (sym (take-append-drop n q)) ∙ drop_at (take n q) (drop n q) (length (take n q)) refl
@@ -59,8 +73,7 @@ pub record ServerTook (outcome : EndOutcome ServerEndState) (wire : Wire) (serve
   pub is : outcome.after.server ≡ record server { state = step.next }
   pub zero : outcome.after.zero_taken ≡ true
   pub kept : outcome.after.kept ≡ []
-  pub left : untaken (taking wire outcome.taken) ≡ more
-  pub on_wire : IsWire (taking wire outcome.taken)
+  pub carries : Carries (taking wire outcome.taken) more
   pub send : outcome.send ≡ server_sends step.action
 
 pub data ServerMove (outcome : EndOutcome ServerEndState) (wire : Wire) (server : ServerMachine) (line more : List ℕ) : Type 0 where
@@ -77,8 +90,7 @@ answered e wire server skipped t q line l more is drops fits rest within on_wire
       is = ap (λ (x : ServerMachine). record x { state = (server_step e.server (client_meaning l)).next }) is ∙ ap (λ (x : ServerStep). record server { state = x.next }) step_is;
       zero = refl;
       kept = refl;
-      left = past_line wire skipped t q more drops rest;
-      on_wire = IsWire-taking wire (skipped + t) on_wire (omega (arith, length-drop skipped (untaken wire), ap length drops));
+      carries = record { left = past_line wire skipped t q more drops rest; on_wire = IsWire-taking wire (skipped + t) on_wire (omega (arith, length-drop skipped (untaken wire), ap length drops)) };
       send = ap (λ (x : ServerStep). server_sends x.action) step_is;
     }
 
@@ -139,13 +151,17 @@ server_moves e wire server line more n s h = by_coming s.coming
     by_coming (first z k q) = rw q (first_piece z k q n)
 
 -- nothing is under way to the end
-pub record ServerQuiet (e : ServerEndState) (wire : Wire) (server : ServerMachine) (z : Bool) : Type 0 where
+pub record ServerIdle (e : ServerEndState) (server : ServerMachine) (z : Bool) : Type 0 where
   pub talking : e.status ≡ status.Talking
   pub is : e.server ≡ server
   pub kept : e.kept ≡ []
   pub zero : e.zero_taken ≡ z
-  pub left : untaken wire ≡ []
-  pub on_wire : IsWire wire
+
+pub record ServerQuiet (e : ServerEndState) (wire : Wire) (server : ServerMachine) (z : Bool) : Type 0 where
+  pub end : ServerIdle e server z
+  pub open end use *
+  pub carries : Carries wire []
+  pub open carries use *
 
 take-nil : (n : ℕ) → take {A = ℕ} n [] ≡ []
 take-nil zero = refl
@@ -168,26 +184,12 @@ server_stays e wire server z n s = rw (s.left, take-nil n) (by_zero z s)
     by_zero : (z : Bool) → ServerQuiet e wire server z → ServerStays (server_takes e []) wire server z
     by_zero true t = rw (takes_later e [] t.talking t.zero, cut_of_none e.kept t.kept) (record {
       quiet = record {
-        talking = t.talking;
-        is = t.is;
-        kept = append-nil e.kept ∙ t.kept;
-        zero = refl;
-        left = untaken-taking wire 0 ∙ t.left;
-        on_wire = IsWire-taking wire 0 t.on_wire (omega arith);
+        end = record { talking = t.talking; is = t.is; kept = append-nil e.kept ∙ t.kept; zero = refl };
+        carries = Carries-taking wire [] t.carries;
       };
       send = refl;
     })
-    by_zero false t = rw (takes_none e t.talking t.zero) (record {
-      quiet = record {
-        talking = t.talking;
-        is = t.is;
-        kept = t.kept;
-        zero = t.zero;
-        left = untaken-taking wire 0 ∙ t.left;
-        on_wire = IsWire-taking wire 0 t.on_wire (omega arith);
-      };
-      send = refl;
-    })
+    by_zero false t = rw (takes_none e t.talking t.zero) (record { quiet = record { end = t.end; carries = Carries-taking wire [] t.carries }; send = refl })
 
 -- ---- the client's side
 
@@ -204,8 +206,7 @@ pub record ClientTook (outcome : EndOutcome ClientEndState) (wire : Wire) (step 
   pub is : outcome.after.client ≡ step.next
   pub started : outcome.after.started ≡ true
   pub kept : outcome.after.kept ≡ []
-  pub left : untaken (taking wire outcome.taken) ≡ more
-  pub on_wire : IsWire (taking wire outcome.taken)
+  pub carries : Carries (taking wire outcome.taken) more
   pub send : outcome.send ≡ client_sends step.action
 
 pub data ClientMove (outcome : EndOutcome ClientEndState) (wire : Wire) (client : ClientMachine) (line more : List ℕ) : Type 0 where
@@ -234,8 +235,7 @@ client_cuts-step e wire client n line more s (whole size ends line_is rest withi
       is = ap (λ (x : ClientStep). x.next) step_is;
       started = refl;
       kept = refl;
-      left = untaken-taking wire (size - length e.kept) ∙ rest;
-      on_wire = IsWire-taking wire (size - length e.kept) s.on_wire within;
+      carries = record { left = untaken-taking wire (size - length e.kept) ∙ rest; on_wire = IsWire-taking wire (size - length e.kept) s.on_wire within };
       send = ap (λ (x : ClientStep). client_sends x.action) step_is;
     }))
 
@@ -249,13 +249,17 @@ client_moves e wire client line more n s h =
     rw (client_takes_talking e (take n (untaken wire)) s.talking)
     (client_cuts-step e wire client n line more s (comes e.kept (untaken wire) line more n s.wants s.coming h))
 
-pub record ClientQuiet (e : ClientEndState) (wire : Wire) (client : ClientMachine) : Type 0 where
+pub record ClientIdle (e : ClientEndState) (client : ClientMachine) : Type 0 where
   pub talking : e.status ≡ status.Talking
   pub is : e.client ≡ client
   pub started : e.started ≡ true
   pub kept : e.kept ≡ []
-  pub left : untaken wire ≡ []
-  pub on_wire : IsWire wire
+
+pub record ClientQuiet (e : ClientEndState) (wire : Wire) (client : ClientMachine) : Type 0 where
+  pub end : ClientIdle e client
+  pub open end use *
+  pub carries : Carries wire []
+  pub open carries use *
 
 pub record ClientStays (outcome : EndOutcome ClientEndState) (wire : Wire) (client : ClientMachine) : Type 0 where
   pub quiet : ClientQuiet outcome.after (taking wire outcome.taken) client
@@ -265,12 +269,8 @@ pub client_stays : (e : ClientEndState) (wire : Wire) (client : ClientMachine) (
 client_stays e wire client n s =
     rw (s.left, take-nil n, client_takes_talking e [] s.talking, cut_of_none e.kept s.kept) (record {
       quiet = record {
-        talking = s.talking;
-        is = s.is;
-        started = s.started;
-        kept = append-nil e.kept ∙ s.kept;
-        left = untaken-taking wire 0 ∙ s.left;
-        on_wire = IsWire-taking wire 0 s.on_wire (omega arith);
+        end = record { talking = s.talking; is = s.is; started = s.started; kept = append-nil e.kept ∙ s.kept };
+        carries = Carries-taking wire [] s.carries;
       };
       send = refl;
     })

@@ -1,5 +1,5 @@
 -- The stages of a handshake: where the two ends and the bytes between them stand.
-use Rattle.std.proofs.Common.{◌≡◌, ◌⊎◌, ℕ, ◌+◌, ◌*◌, ◌≤◌, ◌==◌, Bool, true, false, cond, List, [], ◌∷◌, ◌++◌, length, take, Some, None, refl, sym, ◌∙◌, ap, arith, append_assoc}
+use Rattle.std.proofs.Common.{◌≡◌, ◌⊎◌, ℕ, ◌+◌, ◌*◌, ◌≤◌, ◌==◌, Bool, true, false, cond, List, [], ◌∷◌, ◌++◌, length, take, Some, None, refl, sym, subst, ◌∙◌, ap, arith, append_assoc}
 use Rattle.std.specs.Prelude.{codes}
 use Rattle.std.specs.List.{AllByRecursion}
 use Rattle.std.proofs.lemmas.List.{append-nil}
@@ -20,7 +20,7 @@ use Rattle.dbus_auth.specs.declared.states.ServerState.{ServerState}
 use Rattle.dbus_auth.specs.declared.states.ServerState.TheVariants as at
 use Rattle.dbus_auth.specs.declared.states.ClientState.{ClientState}
 use Rattle.dbus_auth.specs.declared.states.ClientState.TheVariants as now
-use Rattle.dbus_auth.proofs.Sides.{untaken-sending, IsWire, IsWire-sending, Coming, later, first, ServerSide, ServerQuiet, ClientSide, ClientQuiet}
+use Rattle.dbus_auth.proofs.Sides.{untaken-sending, IsWire, IsWire-sending, Carries, Carries-nil, Coming, later, first, ServerSide, ServerQuiet, ClientSide, ClientQuiet}
 
 -- ---- lines are counted by their ends
 
@@ -56,14 +56,7 @@ pub sending_nil : (wire : Wire) (bytes : List ℕ) → IsWire wire → bytes ≡
 sending_nil wire bytes h e = untaken-sending wire bytes h ∙ ap (λ (x : List ℕ). untaken wire ++ x) e ∙ append-nil (untaken wire)
 
 pub ClientQuiet-nil : (e : ClientEndState) (wire : Wire) (c : ClientMachine) (bytes : List ℕ) → bytes ≡ [] → ClientQuiet e wire c → ClientQuiet e (sending wire bytes) c
-ClientQuiet-nil e wire c bytes nil s = record {
-  talking = s.talking;
-  is = s.is;
-  started = s.started;
-  kept = s.kept;
-  left = sending_nil wire bytes s.on_wire nil ∙ s.left;
-  on_wire = IsWire-sending wire bytes s.on_wire;
-}
+ClientQuiet-nil e wire c bytes nil s = record { end = s.end; carries = Carries-nil wire [] bytes nil s.carries }
 
 pub ClientSide-nil : (e : ClientEndState) (wire : Wire) (c : ClientMachine) (more bytes : List ℕ) → bytes ≡ [] → ClientSide e wire c more → ClientSide e (sending wire bytes) c more
 ClientSide-nil e wire c more bytes nil s = record {
@@ -76,14 +69,7 @@ ClientSide-nil e wire c more bytes nil s = record {
 }
 
 pub ServerQuiet-nil : (e : ServerEndState) (wire : Wire) (c : ServerMachine) (z : Bool) (bytes : List ℕ) → bytes ≡ [] → ServerQuiet e wire c z → ServerQuiet e (sending wire bytes) c z
-ServerQuiet-nil e wire c z bytes nil s = record {
-  talking = s.talking;
-  is = s.is;
-  kept = s.kept;
-  zero = s.zero;
-  left = sending_nil wire bytes s.on_wire nil ∙ s.left;
-  on_wire = IsWire-sending wire bytes s.on_wire;
-}
+ServerQuiet-nil e wire c z bytes nil s = record { end = s.end; carries = Carries-nil wire [] bytes nil s.carries }
 
 pub Coming-more : (e : ServerEndState) (q bytes more : List ℕ) → Coming e q bytes → Coming e (q ++ more) (bytes ++ more)
 Coming-more e q bytes more (later z sum) = later z (sym (append_assoc e.kept q more) ∙ ap (λ (x : List ℕ). x ++ more) sum)
@@ -99,13 +85,8 @@ ServerSide-more e wire c bytes more s = record {
 }
 
 pub ServerSide-nil : (e : ServerEndState) (wire : Wire) (c : ServerMachine) (more bytes : List ℕ) → bytes ≡ [] → ServerSide e wire c more → ServerSide e (sending wire bytes) c more
-ServerSide-nil e wire c more bytes nil s = record {
-  talking = s.talking;
-  is = s.is;
-  wants = s.wants;
-  coming = rw (sending_nil wire bytes s.on_wire nil) s.coming;
-  on_wire = IsWire-sending wire bytes s.on_wire;
-}
+ServerSide-nil e wire c more bytes nil s =
+    subst (λ (b : List ℕ). ServerSide e (sending wire bytes) c b) (ap (λ (x : List ℕ). more ++ x) nil ∙ append-nil more) (ServerSide-more e wire c more bytes s)
 
 -- ---- the stages of a handshake
 
@@ -116,21 +97,21 @@ abbrev pub talks_as : ClientState → List ClientMechanism → ClientMachine
 talks_as state left = record { state = state; left = left; guid = None }
 
 -- neither caller may send yet
-pub record Unsaid (w : World) : Type 0 where
-  pub client : w.client_wrote ≡ []
-  pub server : w.server_wrote ≡ []
+pub record Unsaid (client_wrote server_wrote : List ℕ) : Type 0 where
+  pub client : client_wrote ≡ []
+  pub server : server_wrote ≡ []
 
 -- the client's line is on its way
 pub record Asking (w : World) (server : ServerMachine) (line : ClientCommand) (c : ClientMachine) : Type 0 where
   pub to_come : ServerSide w.server w.to_server server (ended (client_line line) ++ [])
   pub waiting : ClientQuiet w.client w.to_client c
-  pub unsaid : Unsaid w
+  pub unsaid : Unsaid w.client_wrote w.server_wrote
 
 -- the server's line is on its way
 pub record Answering (w : World) (server : ServerMachine) (line : ServerCommand) (c : ClientMachine) : Type 0 where
   pub waiting : ServerQuiet w.server w.to_server server true
   pub to_come : ClientSide w.client w.to_client c (ended (server_line line) ++ [])
-  pub unsaid : Unsaid w
+  pub unsaid : Unsaid w.client_wrote w.server_wrote
 
 abbrev pub IsAwaiting : ClientState → Type 0
 IsAwaiting state = (state ≡ now.WaitingForOk) ⊎ (state ≡ now.WaitingForData)
@@ -141,30 +122,28 @@ pub record HasBegun (e : ClientEndState) (guid : List ℕ) : Type 0 where
   pub started : e.started ≡ true
   pub guid_is : e.client.guid ≡ Some guid
 
-pub record ClientBegan (w : World) (guid : List ℕ) : Type 0 where
-  pub end : HasBegun w.client guid
-  pub left : untaken w.to_client ≡ w.server_wrote
-  pub on_wire : IsWire w.to_client
+pub record ClientBegan (e : ClientEndState) (wire : Wire) (server_wrote guid : List ℕ) : Type 0 where
+  pub end : HasBegun e guid
+  pub carries : Carries wire server_wrote
+  pub open carries use *
 
-pub record ServerBegan (w : World) : Type 0 where
-  pub status : w.server.status ≡ status.Begun
-  pub state_is : w.server.server.state ≡ at.Begun
-  pub left : untaken w.to_server ≡ w.client_wrote
-  pub on_wire : IsWire w.to_server
+pub record ServerBegan (e : ServerEndState) (wire : Wire) (client_wrote : List ℕ) : Type 0 where
+  pub status : e.status ≡ status.Begun
+  pub state_is : e.server.state ≡ at.Begun
+  pub carries : Carries wire client_wrote
+  pub open carries use *
 
-pub record ClientClosed (w : World) : Type 0 where
-  pub status : w.client.status ≡ status.Closed
-  pub started : w.client.started ≡ true
-  pub left : untaken w.to_client ≡ []
-  pub on_wire : IsWire w.to_client
+pub record ClientClosed (e : ClientEndState) (wire : Wire) : Type 0 where
+  pub status : e.status ≡ status.Closed
+  pub started : e.started ≡ true
+  pub carries : Carries wire []
 
 pub record Fresh (w : World) (s : ServerMachine) (all : List ClientMechanism) : Type 0 where
   pub client_is : w.client ≡ client_at_first all
   pub server_is : ServerQuiet w.server w.to_server (at_state s at.WaitingForAuth) false
-  pub left : untaken w.to_client ≡ []
-  pub on_wire : IsWire w.to_client
+  pub carries : Carries w.to_client []
   pub said : w.client_said ≡ []
-  pub unsaid : Unsaid w
+  pub unsaid : Unsaid w.client_wrote w.server_wrote
 
 -- s: the server as it was made; all: the client's mechanisms
 pub data Stage (s : ServerMachine) (all : List ClientMechanism) (w : World) : Type 0 where
@@ -186,10 +165,10 @@ pub data Stage (s : ServerMachine) (all : List ClientMechanism) (w : World) : Ty
       → Answering w (at_state s at.WaitingForData) (server.DataOf []) (talks_as now.WaitingForData left) → Stage s all w
   confirming : line_ends w.client_said ≤ 2 * length all + 1
       → ServerSide w.server w.to_server (at_state s at.WaitingForBegin) (ended (codes "BEGIN") ++ w.client_wrote)
-      → ClientBegan w s.guid → w.server_wrote ≡ [] → Stage s all w
-  both : line_ends w.client_said ≤ 2 * length all + 1 → ServerBegan w → ClientBegan w s.guid → Stage s all w
+      → ClientBegan w.client w.to_client w.server_wrote s.guid → w.server_wrote ≡ [] → Stage s all w
+  both : line_ends w.client_said ≤ 2 * length all + 1 → ServerBegan w.server w.to_server w.client_wrote → ClientBegan w.client w.to_client w.server_wrote s.guid → Stage s all w
   over : (z : Bool) → line_ends w.client_said ≤ 2 * length all + 1
-      → ServerQuiet w.server w.to_server (at_state s at.WaitingForAuth) z → ClientClosed w → Unsaid w → Stage s all w
+      → ServerQuiet w.server w.to_server (at_state s at.WaitingForAuth) z → ClientClosed w.client w.to_client → Unsaid w.client_wrote w.server_wrote → Stage s all w
 
 -- ---- events that change nothing
 

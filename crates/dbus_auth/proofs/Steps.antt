@@ -18,24 +18,25 @@ use Rattle.dbus_auth.specs.declared.states.ServerState.{ServerState}
 use Rattle.dbus_auth.specs.declared.states.ServerState.TheVariants as at
 use Rattle.dbus_auth.specs.declared.states.ClientState.{ClientState}
 use Rattle.dbus_auth.specs.declared.states.ClientState.TheVariants as now
-use Rattle.dbus_auth.proofs.Sides.{untaken-taking, untaken-sending, IsWire, IsWire-taking, IsWire-sending, later, first, ServerSide, ServerTook, ServerMove, server_waits, server_took, server_moves, ServerQuiet, server_stays, cut_nil, ClientSide, ClientTook, ClientMove, client_waits, client_took, client_moves, ClientQuiet, client_stays, server_is_done, client_is_done}
+use Rattle.dbus_auth.proofs.Sides.{untaken-sending, IsWire-sending, Carries, Carries-sending, Carries-nil, Carries-taking, later, first, ServerSide, ServerTook, ServerMove, server_waits, server_took, server_moves, ServerQuiet, server_stays, cut_nil, ClientSide, ClientTook, ClientMove, client_waits, client_took, client_moves, ClientQuiet, client_stays, server_is_done, client_is_done}
 use Rattle.dbus_auth.proofs.Readable.{auth_is_line, auth_is_read, data_is_line, data_is_read, begin_is_line, begin_is_read, server_data_is_read, rejected_is_line, rejected_is_read, accepted_is_line, accepted_is_read, auth_step, data_step}
-use Rattle.dbus_auth.proofs.Stages.{served, heard, line_ends-append, line_ends-ended, line_ends-more, line_ends-same, sending_nil, ClientQuiet-nil, ClientSide-nil, ServerQuiet-nil, ServerSide-more, ServerSide-nil, at_state, talks_as, Unsaid, Asking, Answering, IsAwaiting, ClientBegan, ServerBegan, ClientClosed, Fresh, Stage, fresh, asked, gave_data, rejected, accepted, wants_data, confirming, both, over, to_client_of}
+use Rattle.dbus_auth.proofs.Stages.{served, heard, line_ends-append, line_ends-ended, line_ends-more, line_ends-same, ClientQuiet-nil, ClientSide-nil, ServerQuiet-nil, ServerSide-more, ServerSide-nil, at_state, talks_as, Unsaid, Asking, Answering, IsAwaiting, ClientBegan, ServerBegan, ClientClosed, Fresh, Stage, fresh, asked, gave_data, rejected, accepted, wants_data, confirming, both, over, to_client_of}
 
 -- ---- from one stage to the next
 
 -- the server's step sends a line
 pub to_answering : (w : World) (outcome : EndOutcome ServerEndState) (s : ServerMachine) (step : ServerStep) (c : ClientMachine) (line : ServerCommand) (state : ServerState)
-    → ServerTook outcome w.to_server s step [] → step ≡ replies line state → ClientQuiet w.client w.to_client c → Unsaid w
+    → ServerTook outcome w.to_server s step [] → step ≡ replies line state → ClientQuiet w.client w.to_client c → Unsaid w.client_wrote w.server_wrote
     → Answering (server_did w outcome) (record s { state = state }) line c
 to_answering w outcome s step c line state t e q u = record {
   waiting = record {
-    talking = t.status ∙ ap (λ (x : ServerStep). server_status x.action) e;
-    is = t.is ∙ ap (λ (x : ServerStep). record s { state = x.next }) e;
-    kept = t.kept;
-    zero = t.zero;
-    left = t.left;
-    on_wire = t.on_wire;
+    end = record {
+      talking = t.status ∙ ap (λ (x : ServerStep). server_status x.action) e;
+      is = t.is ∙ ap (λ (x : ServerStep). record s { state = x.next }) e;
+      kept = t.kept;
+      zero = t.zero;
+    };
+    carries = t.carries;
   };
   to_come = record {
     talking = q.talking;
@@ -48,21 +49,17 @@ to_answering w outcome s step c line state t e q u = record {
         ∙ t.send ∙ ap (λ (x : ServerStep). server_sends x.action) e ∙ sym (append-nil (ended (server_line line)));
     on_wire = IsWire-sending w.to_client outcome.send q.on_wire;
   };
-  unsaid = record { client = u.client; server = u.server };
+  unsaid = u;
 }
 
 -- the client's step sends a line
 pub to_asking : (w : World) (outcome : EndOutcome ClientEndState) (s : ServerMachine) (step : ClientStep) (line : ClientCommand) (next : ClientMachine)
-    → ClientTook outcome w.to_client step [] → step ≡ record { action = ClientAction.Sends line; next = next } → ServerQuiet w.server w.to_server s true → Unsaid w
+    → ClientTook outcome w.to_client step [] → step ≡ record { action = ClientAction.Sends line; next = next } → ServerQuiet w.server w.to_server s true → Unsaid w.client_wrote w.server_wrote
     → Asking (client_did w outcome) s line next
 to_asking w outcome s step line next t e q u = record {
   waiting = record {
-    talking = t.status ∙ ap (λ (x : ClientStep). client_status x.action) e;
-    is = t.is ∙ ap (λ (x : ClientStep). x.next) e;
-    started = t.started;
-    kept = t.kept;
-    left = t.left;
-    on_wire = t.on_wire;
+    end = record { talking = t.status ∙ ap (λ (x : ClientStep). client_status x.action) e; is = t.is ∙ ap (λ (x : ClientStep). x.next) e; started = t.started; kept = t.kept };
+    carries = t.carries;
   };
   to_come = record {
     talking = q.talking;
@@ -74,7 +71,7 @@ to_asking w outcome s step line next t e q u = record {
         ∙ t.send ∙ ap (λ (x : ClientStep). client_sends x.action) e ∙ sym (append-nil (ended (client_line line))));
     on_wire = IsWire-sending w.to_server outcome.send q.on_wire;
   };
-  unsaid = record { client = u.client; server = u.server };
+  unsaid = u;
 }
 
 pub awaits : (m : ClientMechanism) → IsAwaiting (waits_in m)
@@ -108,7 +105,7 @@ pub asking_waits : (w : World) (outcome : EndOutcome ServerEndState) (server : S
 asking_waits w outcome server line c side nil a = record {
   to_come = side;
   waiting = ClientQuiet-nil w.client w.to_client c outcome.send nil a.waiting;
-  unsaid = record { client = a.unsaid.client; server = a.unsaid.server };
+  unsaid = a.unsaid;
 }
 
 module _ (s : ServerMachine) (all : List ClientMechanism) (fits : IsServer s) (w : World) where
@@ -156,7 +153,7 @@ asking_client w n server line c a =
       record {
         to_come = ServerSide-nil w.server w.to_server server (ended (client_line line) ++ []) outcome.send q.send a.to_come;
         waiting = q.quiet;
-        unsaid = record { client = a.unsaid.client; server = a.unsaid.server };
+        unsaid = a.unsaid;
       },
     )
 
@@ -168,7 +165,7 @@ answering_server w n server line c a =
     record {
       waiting = q.quiet;
       to_come = ClientSide-nil w.client w.to_client c (ended (server_line line) ++ []) outcome.send q.send a.to_come;
-      unsaid = record { client = a.unsaid.client; server = a.unsaid.server };
+      unsaid = a.unsaid;
     }
 
 -- ---- a piece for a client to which the server's line is on its way
@@ -179,20 +176,20 @@ pub answering_waits : (w : World) (outcome : EndOutcome ClientEndState) (server 
 answering_waits w outcome server line c side nil a = record {
   waiting = ServerQuiet-nil w.server w.to_server server true outcome.send nil a.waiting;
   to_come = side;
-  unsaid = record { client = a.unsaid.client; server = a.unsaid.server };
+  unsaid = a.unsaid;
 }
 
 module _ (s : ServerMachine) (all : List ClientMechanism) (fits : IsServer s) (w : World) where
   -- after REJECTED comes the next mechanism, or the end
   pub next_stage : (outcome : EndOutcome ClientEndState) (step : ClientStep) (left : List ClientMechanism) → step ≡ next_of left → AllByRecursion IsMechanism left
       → line_ends w.client_said + 2 * length left ≤ 2 * length all
-      → ClientTook outcome w.to_client step [] → ServerQuiet w.server w.to_server (at_state s at.WaitingForAuth) true → Unsaid w → Stage s all (client_did w outcome)
+      → ClientTook outcome w.to_client step [] → ServerQuiet w.server w.to_server (at_state s at.WaitingForAuth) true → Unsaid w.client_wrote w.server_wrote → Stage s all (client_did w outcome)
   next_stage outcome step [] e hl bound t q u =
       let nil : outcome.send ≡ [] = t.send ∙ ap (λ (x : ClientStep). client_sends x.action) e in
       over true (omega (arith, line_ends-same w.client_said outcome.send nil))
       (ServerQuiet-nil w.server w.to_server (at_state s at.WaitingForAuth) true outcome.send nil q)
-      (record { status = t.status ∙ ap (λ (x : ClientStep). client_status x.action) e; started = t.started; left = t.left; on_wire = t.on_wire })
-      (record { client = u.client; server = u.server })
+      (record { status = t.status ∙ ap (λ (x : ClientStep). client_status x.action) e; started = t.started; carries = t.carries })
+      u
   next_stage outcome step (m ∷ ms) e hl bound t q u =
       let sent : outcome.send ≡ ended (client_line (auth_line m)) = t.send ∙ ap (λ (x : ClientStep). client_sends x.action) e in
       asked m ms hl.0 hl.1 (omega (arith, line_ends-more w.client_said outcome.send (client_line (auth_line m)) sent (auth_is_line m hl.0), bound))
@@ -240,8 +237,7 @@ module _ (s : ServerMachine) (all : List ClientMechanism) (fits : IsServer s) (w
           })
           (record {
             end = record { status = t.status ∙ ap (λ (x : ClientStep). client_status x.action) e; started = t.started; guid_is = ap (λ (x : ClientMachine). x.guid) t.is ∙ ap (λ (x : ClientStep). x.next.guid) e };
-            left = t.left ∙ sym a.unsaid.server;
-            on_wire = t.on_wire;
+            carries = subst (λ (b : List ℕ). Carries (taking w.to_client (heard w n).taken) b) (sym a.unsaid.server) t.carries;
           })
           a.unsaid.server
 
@@ -290,8 +286,8 @@ module _ (s : ServerMachine) (all : List ClientMechanism) (w : World) where
   first_stage [] e hl c f = rw (started_without w.client c) (over false
       (omega (arith, ap line_ends (append-nil w.client_said), ap line_ends f.said))
       (ServerQuiet-nil w.server w.to_server (at_state s at.WaitingForAuth) false [] refl f.server_is)
-      (record { status = refl; started = refl; left = f.left; on_wire = f.on_wire })
-      (record { client = f.unsaid.client; server = f.unsaid.server }))
+      (record { status = refl; started = refl; carries = f.carries })
+      (f.unsaid))
   first_stage (m ∷ ms) e hl c f =
       let q = f.server_is in
       let sent = ended (client_line (auth_line m)) in
@@ -306,42 +302,36 @@ module _ (s : ServerMachine) (all : List ClientMechanism) (w : World) where
           coming = first q.zero q.kept (untaken-sending w.to_server (0 ∷ sent) q.on_wire ∙ ap (λ (x : List ℕ). x ++ 0 ∷ sent) q.left ∙ ap (λ (x : List ℕ). 0 ∷ x) (sym (append-nil sent)));
           on_wire = IsWire-sending w.to_server (0 ∷ sent) q.on_wire;
         };
-        waiting = record { talking = refl; is = refl; started = refl; kept = refl; left = f.left; on_wire = f.on_wire };
-        unsaid = record { client = f.unsaid.client; server = f.unsaid.server };
+        waiting = record { end = record { talking = refl; is = refl; started = refl; kept = refl }; carries = f.carries };
+        unsaid = f.unsaid;
       }))
 
--- ---- what is left of a wire when an end takes nothing
+-- ---- an end that takes nothing more
 
-pub taking_none : (wire : Wire) → untaken (taking wire 0) ≡ untaken wire
-taking_none wire = untaken-taking wire 0
-
-pub IsWire-none : (wire : Wire) → IsWire wire → IsWire (taking wire 0)
-IsWire-none wire h = IsWire-taking wire 0 h (omega arith)
-
-pub began_takes : (w : World) (n : ℕ) (guid : List ℕ) → ClientBegan w guid → happens w (To_client n) ≡ client_did w (nothing w.client)
+pub began_takes : (w : World) (n : ℕ) (guid : List ℕ) → ClientBegan w.client w.to_client w.server_wrote guid → happens w (To_client n) ≡ client_did w (nothing w.client)
 began_takes w n guid b = to_client_of w n b.end.started ∙ ap (client_did w) (client_is_done w.client (take n (untaken w.to_client)) (inl b.end.status))
 
-pub closed_takes : (w : World) (n : ℕ) → ClientClosed w → happens w (To_client n) ≡ client_did w (nothing w.client)
+pub closed_takes : (w : World) (n : ℕ) → ClientClosed w.client w.to_client → happens w (To_client n) ≡ client_did w (nothing w.client)
 closed_takes w n b = to_client_of w n b.started ∙ ap (client_did w) (client_is_done w.client (take n (untaken w.to_client)) (inr b.status))
 
-pub server_done : (w : World) (n : ℕ) → ServerBegan w → happens w (To_server n) ≡ server_did w (nothing w.server)
+pub server_done : (w : World) (n : ℕ) → ServerBegan w.server w.to_server w.client_wrote → happens w (To_server n) ≡ server_did w (nothing w.server)
 server_done w n b = ap (server_did w) (server_is_done w.server (take n (untaken w.to_server)) (inl b.status))
 
 -- the client has begun, and its end is handed a piece
-pub began_after : (w : World) (guid : List ℕ) → ClientBegan w guid → ClientBegan (client_did w (nothing w.client)) guid
-began_after w guid b = record { end = b.end; left = taking_none w.to_client ∙ b.left; on_wire = IsWire-none w.to_client b.on_wire }
+pub began_after : (w : World) (guid : List ℕ) → ClientBegan w.client w.to_client w.server_wrote guid → ClientBegan w.client (taking w.to_client 0) w.server_wrote guid
+began_after w guid b = record { end = b.end; carries = Carries-taking w.to_client w.server_wrote b.carries }
 
 pub same_lines : (w : World) → line_ends (w.client_said ++ []) ≡ line_ends w.client_said
 same_lines w = ap line_ends (append-nil w.client_said)
 
 -- the server's end does something while the client has begun
-pub began_beside : (w : World) (outcome : EndOutcome ServerEndState) (guid : List ℕ) → outcome.send ≡ [] → ClientBegan w guid → ClientBegan (server_did w outcome) guid
-began_beside w outcome guid nil b = record { end = b.end; left = sending_nil w.to_client outcome.send b.on_wire nil ∙ b.left; on_wire = IsWire-sending w.to_client outcome.send b.on_wire }
+pub began_beside : (w : World) (outcome : EndOutcome ServerEndState) (guid : List ℕ) → outcome.send ≡ [] → ClientBegan w.client w.to_client w.server_wrote guid → ClientBegan w.client (sending w.to_client outcome.send) w.server_wrote guid
+began_beside w outcome guid nil b = record { end = b.end; carries = Carries-nil w.to_client w.server_wrote outcome.send nil b.carries }
 
 module _ (s : ServerMachine) (all : List ClientMechanism) (w : World) where
   pub confirming-to_server : (n : ℕ) → line_ends w.client_said ≤ 2 * length all + 1
       → ServerSide w.server w.to_server (at_state s at.WaitingForBegin) (ended (codes "BEGIN") ++ w.client_wrote)
-      → ClientBegan w s.guid → w.server_wrote ≡ [] → Stage s all (happens w (To_server n))
+      → ClientBegan w.client w.to_client w.server_wrote s.guid → w.server_wrote ≡ [] → Stage s all (happens w (To_server n))
   confirming-to_server n bound side b nil = by_step (server_moves w.server w.to_server (at_state s at.WaitingForBegin) (codes "BEGIN") w.client_wrote n side begin_is_line)
     where
       by_step : ServerMove (served w n) w.to_server (at_state s at.WaitingForBegin) (codes "BEGIN") w.client_wrote → Stage s all (happens w (To_server n))
@@ -351,76 +341,66 @@ module _ (s : ServerMachine) (all : List ClientMechanism) (w : World) where
           both bound (record {
             status = t.status ∙ ap (λ (x : ServerStep). server_status x.action) e;
             state_is = ap (λ (x : ServerMachine). x.state) t.is ∙ ap (λ (x : ServerStep). x.next) e;
-            left = t.left;
-            on_wire = t.on_wire;
+            carries = t.carries;
           }) (began_beside w (served w n) s.guid (t.send ∙ ap (λ (x : ServerStep). server_sends x.action) e) b)
 
   pub confirming-client_writes : (bytes : List ℕ) → line_ends w.client_said ≤ 2 * length all + 1
       → ServerSide w.server w.to_server (at_state s at.WaitingForBegin) (ended (codes "BEGIN") ++ w.client_wrote)
-      → ClientBegan w s.guid → w.server_wrote ≡ [] → Stage s all (happens w (Client_writes bytes))
+      → ClientBegan w.client w.to_client w.server_wrote s.guid → w.server_wrote ≡ [] → Stage s all (happens w (Client_writes bytes))
   confirming-client_writes bytes bound side b nil =
       rw (ap (client_writes w bytes) b.end.status) (confirming bound
       (rw (← append_assoc (ended (codes "BEGIN")) w.client_wrote bytes) (ServerSide-more w.server w.to_server (at_state s at.WaitingForBegin) (ended (codes "BEGIN") ++ w.client_wrote) bytes side))
-      (record { end = b.end; left = b.left; on_wire = b.on_wire })
+      b
       nil)
 
-  pub both-client_writes : (bytes : List ℕ) → line_ends w.client_said ≤ 2 * length all + 1 → ServerBegan w → ClientBegan w s.guid → Stage s all (happens w (Client_writes bytes))
+  pub both-client_writes : (bytes : List ℕ) → line_ends w.client_said ≤ 2 * length all + 1 → ServerBegan w.server w.to_server w.client_wrote → ClientBegan w.client w.to_client w.server_wrote s.guid → Stage s all (happens w (Client_writes bytes))
   both-client_writes bytes bound a b =
       rw (ap (client_writes w bytes) b.end.status) (both bound
-      (record {
-        status = a.status;
-        state_is = a.state_is;
-        left = untaken-sending w.to_server bytes a.on_wire ∙ ap (λ (x : List ℕ). x ++ bytes) a.left;
-        on_wire = IsWire-sending w.to_server bytes a.on_wire;
-      })
-      (record { end = b.end; left = b.left; on_wire = b.on_wire }))
+      (record { status = a.status; state_is = a.state_is; carries = Carries-sending w.to_server w.client_wrote bytes a.carries })
+      b)
 
-  pub both-server_writes : (bytes : List ℕ) → line_ends w.client_said ≤ 2 * length all + 1 → ServerBegan w → ClientBegan w s.guid → Stage s all (happens w (Server_writes bytes))
+  pub both-server_writes : (bytes : List ℕ) → line_ends w.client_said ≤ 2 * length all + 1 → ServerBegan w.server w.to_server w.client_wrote → ClientBegan w.client w.to_client w.server_wrote s.guid → Stage s all (happens w (Server_writes bytes))
   both-server_writes bytes bound a b =
       rw (ap (server_writes w bytes) a.status) (both bound
-      (record { status = a.status; state_is = a.state_is; left = a.left; on_wire = a.on_wire })
-      (record {
-        end = b.end;
-        left = untaken-sending w.to_client bytes b.on_wire ∙ ap (λ (x : List ℕ). x ++ bytes) b.left;
-        on_wire = IsWire-sending w.to_client bytes b.on_wire;
-      }))
+      a
+      (record { end = b.end; carries = Carries-sending w.to_client w.server_wrote bytes b.carries }))
 
-  pub both-to_server : (n : ℕ) → line_ends w.client_said ≤ 2 * length all + 1 → ServerBegan w → ClientBegan w s.guid → Stage s all (happens w (To_server n))
+  pub both-to_server : (n : ℕ) → line_ends w.client_said ≤ 2 * length all + 1 → ServerBegan w.server w.to_server w.client_wrote → ClientBegan w.client w.to_client w.server_wrote s.guid → Stage s all (happens w (To_server n))
   both-to_server n bound a b =
       rw (server_done w n a) (both bound
-      (record { status = a.status; state_is = a.state_is; left = taking_none w.to_server ∙ a.left; on_wire = IsWire-none w.to_server a.on_wire })
+      (record { status = a.status; state_is = a.state_is; carries = Carries-taking w.to_server w.client_wrote a.carries })
       (began_beside w (nothing w.server) s.guid refl b))
 
-  pub both-to_client : (n : ℕ) → line_ends w.client_said ≤ 2 * length all + 1 → ServerBegan w → ClientBegan w s.guid → Stage s all (happens w (To_client n))
+  pub both-to_client : (n : ℕ) → line_ends w.client_said ≤ 2 * length all + 1 → ServerBegan w.server w.to_server w.client_wrote → ClientBegan w.client w.to_client w.server_wrote s.guid → Stage s all (happens w (To_client n))
   both-to_client n bound a b =
       rw (began_takes w n s.guid b) (both (omega (arith, same_lines w))
-      (record { status = a.status; state_is = a.state_is; left = sending_nil w.to_server [] a.on_wire refl ∙ a.left; on_wire = IsWire-sending w.to_server [] a.on_wire })
+      (record { status = a.status; state_is = a.state_is; carries = Carries-nil w.to_server w.client_wrote [] refl a.carries })
       (began_after w s.guid b))
 
   pub confirming-to_client : (n : ℕ) → line_ends w.client_said ≤ 2 * length all + 1
       → ServerSide w.server w.to_server (at_state s at.WaitingForBegin) (ended (codes "BEGIN") ++ w.client_wrote)
-      → ClientBegan w s.guid → w.server_wrote ≡ [] → Stage s all (happens w (To_client n))
+      → ClientBegan w.client w.to_client w.server_wrote s.guid → w.server_wrote ≡ [] → Stage s all (happens w (To_client n))
   confirming-to_client n bound side b nil =
       rw (began_takes w n s.guid b) (confirming (omega (arith, same_lines w))
       (ServerSide-nil w.server w.to_server (at_state s at.WaitingForBegin) (ended (codes "BEGIN") ++ w.client_wrote) [] refl side)
       (began_after w s.guid b) nil)
 
   pub over-to_server : (n : ℕ) (z : Bool) → line_ends w.client_said ≤ 2 * length all + 1
-      → ServerQuiet w.server w.to_server (at_state s at.WaitingForAuth) z → ClientClosed w → Unsaid w → Stage s all (happens w (To_server n))
+      → ServerQuiet w.server w.to_server (at_state s at.WaitingForAuth) z → ClientClosed w.client w.to_client → Unsaid w.client_wrote w.server_wrote → Stage s all (happens w (To_server n))
   over-to_server n z bound q c u =
       let outcome = served w n in
       let st = server_stays w.server w.to_server (at_state s at.WaitingForAuth) z n q in
       over z bound st.quiet
-      (record { status = c.status; started = c.started; left = sending_nil w.to_client outcome.send c.on_wire st.send ∙ c.left; on_wire = IsWire-sending w.to_client outcome.send c.on_wire })
-      (record { client = u.client; server = u.server })
+      (record { status = c.status; started = c.started; carries = Carries-nil w.to_client [] outcome.send st.send c.carries })
+      u
 
   pub over-to_client : (n : ℕ) (z : Bool) → line_ends w.client_said ≤ 2 * length all + 1
-      → ServerQuiet w.server w.to_server (at_state s at.WaitingForAuth) z → ClientClosed w → Unsaid w → Stage s all (happens w (To_client n))
+      → ServerQuiet w.server w.to_server (at_state s at.WaitingForAuth) z → ClientClosed w.client w.to_client → Unsaid w.client_wrote w.server_wrote → Stage s all (happens w (To_client n))
   over-to_client n z bound q c u =
       rw (closed_takes w n c) (over z (omega (arith, same_lines w))
       (ServerQuiet-nil w.server w.to_server (at_state s at.WaitingForAuth) z [] refl q)
-      (record { status = c.status; started = c.started; left = taking_none w.to_client ∙ c.left; on_wire = IsWire-none w.to_client c.on_wire })
-      (record { client = u.client; server = u.server }))
+      (record { status = c.status; started = c.started; carries = Carries-taking w.to_client [] c.carries })
+      u)
 
   pub fresh-to_server : (n : ℕ) → Fresh w s all → Stage s all (happens w (To_server n))
   fresh-to_server n f =
@@ -429,10 +409,9 @@ module _ (s : ServerMachine) (all : List ClientMechanism) (w : World) where
       fresh (record {
         client_is = f.client_is;
         server_is = st.quiet;
-        left = sending_nil w.to_client outcome.send f.on_wire st.send ∙ f.left;
-        on_wire = IsWire-sending w.to_client outcome.send f.on_wire;
+        carries = Carries-nil w.to_client [] outcome.send st.send f.carries;
         said = f.said;
-        unsaid = record { client = f.unsaid.client; server = f.unsaid.server };
+        unsaid = f.unsaid;
       })
 
   pub fresh-to_client : (n : ℕ) → Fresh w s all → happens w (To_client n) ≡ w

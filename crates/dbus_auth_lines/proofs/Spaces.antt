@@ -19,15 +19,6 @@ command_on xs i lt h = at_drop_more (λ (ys : List ℕ). length (command_name ys
 pub command_stops : (xs : List ℕ) (i : ℕ) → i < length xs → get_or xs i 0 ≡ 32 → length (command_name (drop i xs)) ≡ 0
 command_stops xs i lt h = at_drop_more (λ (ys : List ℕ). length (command_name ys)) xs i 0 lt ∙ ap length (command_off (get_or xs i 0) (drop (i + 1) xs) h)
 
-pub length-command_name-le : (xs : List ℕ) → length (command_name xs) ≤ length xs
-unfolding command_name
-length-command_name-le [] = omega arith
-length-command_name-le (b ∷ bs) = by_test (b == 32) (length-command_name-le bs)
-  where
-    by_test : (t : Bool) → length (command_name bs) ≤ length bs → length (cond t [] (b ∷ command_name bs)) ≤ length (b ∷ bs)
-    by_test true h = omega arith
-    by_test false h = omega arith
-
 pub take_command_name : (xs : List ℕ) → take (length (command_name xs)) xs ≡ command_name xs
 unfolding command_name
 take_command_name [] = refl

@@ -37,7 +37,8 @@ IsFirstWithout P (f ∷ fs) r = ((P f → ⊥) × (r ≡ Some f.code)) ⊎ (P f 
 abbrev pub IsNonzero : FieldTree → Type 0
 IsNonzero f = want f.code ≡ Serial → f.value ≡ NumberValue UINT32 0 → ⊥
 
--- the code of the first known field that stands after one of its code; before are those in front
+-- the code of the first known field that stands after one of its code; before are those in front,
+-- none of them for all fields of a message
 abbrev pub twice : List FieldTree → List FieldTree → Option ℕ
 twice before [] = None
 twice before (f ∷ fs) = if is_known f.code && has_code f.code before then Some f.code else twice (before ++ f ∷ []) fs

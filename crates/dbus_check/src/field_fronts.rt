@@ -76,8 +76,8 @@ pub fn code_front(
     Ok((code, zeros + 1))
 }
 
-/// A text of n bytes that is to be the one byte `wanted`: `FieldType` at the first byte that is
-/// another, or at the text's end if it is empty.
+/// A text of n bytes that has to be the one byte `wanted`: `FieldType` at its first byte if that is
+/// another, at its second if it has one, and at its end if it is empty.
 fn only_text(wanted: u8, n: usize, bytes: &[u8], offset: usize) -> Result<(), Stop>
     requires near { offset + n < 4294967296 }
     ensures gives { Fronts (λ _.

@@ -2,7 +2,7 @@
 use Rattle.std.proofs.Common.{◌≡◌, ⊎_elim, inl, inr, ℕ, List, [], ◌∷◌, Option, Some, None, refl, sym, ap, ◌∙◌, subst}
 use Rattle.std.specs.Prelude.{◌⊎◌, ◌↔◌}
 use Rattle.dbus_texts.specs.Types.{STRING}
-use Rattle.dbus_value_model.specs.Values.{ValueTree, TextValue}
+use Rattle.dbus_value_model.specs.Values.{TextValue}
 use Rattle.dbus_value_model.specs.declared.order.Order.{Order}
 use Rattle.dbus_message_model.specs.Lookups.{field_value}
 use Rattle.dbus_message_model.specs.Messages.{MessageTree}

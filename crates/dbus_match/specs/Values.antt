@@ -40,10 +40,3 @@ IsPiece (plain b) c = (b ≢ 44) × (b ≢ 39) × (b ≡ 92 → NoQuoteFirst c)
 abbrev pub ArePieces : List Piece → List ℕ → Type 0
 ArePieces [] c = Unit {0}
 ArePieces (p ∷ ps) c = IsPiece p (pieces_text ps ++ c) × ArePieces ps c
-
--- the text w, before the text c, spells the value v
-pub record SpellsBefore (c w v : List ℕ) : Type 0 where
-  pub pieces : List Piece
-  pub are : ArePieces pieces c
-  pub spelled : w ≡ pieces_text pieces
-  pub value : v ≡ pieces_value pieces

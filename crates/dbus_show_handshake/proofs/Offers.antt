@@ -6,10 +6,6 @@ use Rattle.std.proofs.lemmas.Str.Ascii.{IsAscii-nil}
 use Rattle.std.specs.List.{flat_map}
 use Rattle.dbus_show_handshake.specs.Sentences.{has_other, offer, response_words, shown}
 
-pub offers_push : {A : Type 0} (ms : List (Vec ℕ A)) (m : Vec ℕ A) → flat_map offer (map (λ v. v.items) (ms ++ m ∷ [])) ≡ flat_map offer (map (λ v. v.items) ms) ++ offer m.items
-offers_push [] m = append-nil (offer m.items)
-offers_push (e ∷ ms) m = ap (λ s. offer e.items ++ s) (offers_push ms m) ∙ sym (append_assoc (offer e.items) (flat_map offer (map (λ v. v.items) ms)) (offer m.items))
-
 neither : (a b : Bool) → (a || b) ≡ false → (a ≡ false) × (b ≡ false)
 neither false false e = (refl, refl)
 neither false true e = absurd (cc)

@@ -89,6 +89,7 @@ fn is_seen_at_once(kind: TextKind, text: &[u8]) -> bool
 /// Where a text breaks that is not of the kind, limits on length aside, by its scan. A function of
 /// its own, so that the quick look before it makes no room for a scan.
 #[inline(never)]
+#[tactic(auto, using(crate::proofs::Breaks::break_from))]
 fn scanned_break(kind: TextKind, text: &[u8]) -> Option<usize>
     ensures { IsBreakOf kind text.now result }
 {
@@ -107,6 +108,7 @@ fn break_of(kind: TextKind, text: &[u8]) -> Option<usize>
 
 /// The length of the text's longest prefix with which some text of the kind begins, limits on
 /// length lifted. This is the text's length if all of it begins some text of the kind.
+#[tactic(auto, using(crate::proofs::Breaks::break_of_whole))]
 pub fn first_break(kind: TextKind, text: &[u8]) -> usize
     ensures { IsBreak kind text.now result }
 {

@@ -4,6 +4,7 @@
 ghost use Rattle.dbus_texts.specs.Laws.{KindsAreComputed, BreaksAreComputed, TextsAreUtf8, NamesAreTexts};
 
 /// A text is of a kind exactly if the slow function says so. "Basic types", "Valid Names".
+#[tactic(auto, using(crate::proofs::KindFacts::kind_is, crate::proofs::KindFacts::is_kind_of))]
 pub fn kinds_are_computed()
     ensures { KindsAreComputed }
 {}

@@ -26,6 +26,7 @@ const ALL: u64 = 0xffff;
 
 /// Whether each byte of the block is `[A-Za-z0-9_]`.
 #[inline(always)]
+#[tactic(auto, using(crate::proofs::WordBlocks::words_of_mask))]
 pub fn are_words(block: u8x16) -> bool
     ensures { IsTrue result → AllByRecursion (λ b. IsTrue (is_word b)) block }
 {

@@ -170,6 +170,7 @@ impl NameScan {
 impl ByteScan for NameScan {
     ghost rest = { name_rest };
 
+    #[tactic(auto, using(crate::proofs::ScanSteps::step_some, crate::proofs::ScanSteps::step_none, crate::proofs::NameSteps::name_moves))]
     fn step(&mut self, byte: u8) -> bool {
         match self.next(byte) {
             Some(next) => {

@@ -49,6 +49,7 @@ impl ScanState {
     }
 
     /// Takes one byte more, if it is allowed here; else changes nothing.
+    #[tactic(auto, using(crate::proofs::ScanSteps::state_steps))]
     fn step(&mut self, byte: u8) -> bool
         ensures { Steps state_rest self.old byte result self.new }
     {

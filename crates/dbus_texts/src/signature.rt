@@ -172,6 +172,7 @@ impl ByteScan for SigScan {
     ghost rest = { λ scan. sig_rest (sig_view scan) };
 
     #[inline(always)]
+    #[tactic(auto, using(crate::proofs::ScanSteps::signature_steps))]
     fn step(&mut self, byte: u8) -> bool {
         self.go_on(byte)
     }

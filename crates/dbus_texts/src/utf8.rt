@@ -83,6 +83,7 @@ impl Utf8Place {
 impl ByteScan for Utf8Place {
     ghost rest = { text_rest };
 
+    #[tactic(auto, using(crate::proofs::ScanSteps::step_some, crate::proofs::ScanSteps::step_none, crate::proofs::Utf8Steps::text_moves))]
     fn step(&mut self, byte: u8) -> bool {
         match self.next(byte) {
             Some(next) => {

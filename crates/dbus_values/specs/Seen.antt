@@ -58,6 +58,7 @@ IsFirst left xs rest seen = (x : ValueTree) × (us : ValueTrees) × (xs ≡ More
 abbrev pub IsFirstCode : ValueTrees → (code : ℕ) → Type 0
 IsFirstCode xs code = (x : ValueTree) × (us : ValueTrees) × (xs ≡ MoreValues x us) × (first_code (type_of x) ≡ code)
 
+-- the first of the trees that are left in an array is seen, and the others are left
 abbrev pub IsFirstElement : ElementsState → ValueTrees → (rest : List ℕ) → ValueView → Type 0
 IsFirstElement left xs rest seen = (x : ValueTree) × (us : ValueTrees) × (xs ≡ MoreValues x us) × IsSeen seen x × ElementsAreLeft left us rest
 

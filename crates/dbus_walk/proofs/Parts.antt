@@ -152,8 +152,5 @@ module _ {order : Order} {depth_left : ℕ} {types : List ℕ} {at : ℕ} {bytes
       let here : at + gap_to 1 at ≡ at = omega (arith, none) in
       (one_byte order bytes at (omega (arith, inside)) ∙ ap (λ (k : ℕ). number_of order (take 1 (drop k bytes))) (sym here) ∙ p.counts, inside)
 
-  pub short_ends : (p : TextStands 1) (n : ℕ) → n ≡ length p.text → at + 1 + n + 1 ≡ at + length (spelling order at v)
-  short_ends p n count = omega (arith, count, no_gap at, text_ends 1 at p (omega (arith, no_gap at)))
-
   pub types_some : 0 < length types
   types_some = omega (arith, ap length s.text, sig_positive (type_of v))

@@ -1,8 +1,8 @@
 //! Values of any type, along the bytes of their signature, handed to a visitor in place.
 //!
 //! A value is there, so nothing is validated: each call hands what begins at its spot to the
-//! visitor, which adds to what it gathered before, and gives the offset after it. A visitor that
-//! stops ends the walk. D-Bus Specification, "Marshaling (Wire Format)".
+//! visitor, which adds to what it gathered before. A visitor that stops ends the walk. D-Bus
+//! Specification, "Marshaling (Wire Format)".
 #![tactic(auto)]
 
 ghost use Rattle.std.specs.Prelude.{◌≡◌, ℕ, ◌+◌, ◌<◌, ◌≤◌, ◌⊎◌, List, length, IfOk};
@@ -26,8 +26,7 @@ use dbus_types::lengths_in;
 
 /// Walks over the value at a spot, of which the visitor gathers something: the offset after it.
 ///
-/// `Err` if the visitor stops, with the reason that it gives. D-Bus Specification, "Marshaling
-/// (Wire Format)".
+/// `Err` if the visitor stops, with the reason that it gives.
 #[inline(always)]
 #[tactic(auto, using(crate::proofs::Together::no_row))]
 pub fn walk_value<V: Visitor>(
@@ -49,8 +48,7 @@ pub fn walk_value<V: Visitor>(
     Ok(here.at)
 }
 
-/// The value at a spot, which moves to its end. `row` is what [`row_of`] finds of its type, or 0 if
-/// that was not looked for.
+/// The value at a spot, which moves to its end. `row` is as [`row_of`] has it, or 0: not known.
 #[cycle(walk)]
 #[inline(always)]
 fn value<V: Visitor>(
@@ -132,8 +130,7 @@ fn variant<V: Visitor>(
     walked
 }
 
-/// A variant that begins at `start`, whose type has several bytes. How long the types in it are is
-/// noted first, in room that no other variant takes.
+/// A variant from `start` on, whose type has several bytes: the lengths of its types are noted.
 #[cycle(walk)]
 #[inline(never)]
 fn noted_variant<V: Visitor>(
@@ -337,8 +334,7 @@ fn structure<V: Visitor>(
     together(visitor, gathered, source, spot, start, row)
 }
 
-/// A struct that is not walked as one of several that open together, by where its first field
-/// begins. The spot moves to its end.
+/// A struct walked by itself, by where its first field begins. The spot moves to its end.
 #[cycle(walk)]
 #[inline(always)]
 fn alone<V: Visitor>(
@@ -372,8 +368,7 @@ fn alone<V: Visitor>(
     walked
 }
 
-/// The outermost of `row` structs that open together, by where the first field of each begins. The
-/// spot moves to their end.
+/// The outermost of `row` structs that all begin at `start`. The spot moves to their end.
 #[cycle(walk)]
 #[inline(always)]
 fn together<V: Visitor>(
@@ -461,8 +456,7 @@ fn listed<V: Visitor>(
     Ok(())
 }
 
-/// A struct around which `outer` others are open that [`row_of`] counts. The spot, at the first
-/// field of each, moves to their end.
+/// A struct within `outer` others that begin where it does. The spot, there, moves to their end.
 #[cycle(walk)]
 fn nested<V: Visitor>(
     visitor: &mut V,
@@ -565,8 +559,7 @@ fn fields<V: Visitor>(
 /// Walks over values one after another, one of each type that the signature at the spot has, of
 /// which the visitor gathers something: the offset after them.
 ///
-/// `Err` if the visitor stops, with the reason that it gives. D-Bus Specification, "Marshaling
-/// (Wire Format)".
+/// `Err` if the visitor stops, with the reason that it gives.
 #[cycle(walk)]
 #[inline(always)]
 pub fn walk_values<V: Visitor>(
