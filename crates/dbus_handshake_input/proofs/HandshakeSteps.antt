@@ -1,5 +1,5 @@
 -- The lines of a side that were read so far, and what is answered after them.
-use Rattle.std.proofs.Common.{◌≡◌, ◌≢◌, ◌⊎◌, inl, inr, ◌<◌, ◌≤◌, ◌+◌, ◌*◌, ℕ, Bool, true, false, List, [], ◌∷◌, ◌++◌, length, get_or, Option, Ok, Err, refl, sym, ap, ◌∙◌, subst, arith, lit≤, append_assoc, append-nil, length-append}
+use Rattle.std.proofs.Common.{◌≡◌, ◌≢◌, inl, inr, ◌<◌, ◌≤◌, ◌+◌, ◌*◌, ℕ, Bool, true, false, List, [], ◌∷◌, ◌++◌, length, get_or, Option, Ok, Err, refl, sym, ap, ◌∙◌, subst, arith, lit≤, append_assoc, append-nil, length-append}
 use Rattle.std.specs.Prelude.{◌↔◌, ◌||◌}
 use Rattle.std.specs.List.{AllByRecursion, flat_map}
 use Rattle.std.specs.Io.KnownBytes.{IsAtEnd}
@@ -7,7 +7,7 @@ use Rattle.std.proofs.lemmas.List.{flat_map_more}
 use Rattle.dbus_auth_lines.specs.Cut.{IsLine}
 use Rattle.dbus_auth_lines.specs.Lines.{ended}
 use Rattle.dbus_handshake_input.specs.Ahead.{source_of, kept_of, Took}
-use Rattle.dbus_handshake_input.specs.Handshakes.{greeting, sent, GoesOn, IsCommand, IsBegin, IsOk, HasOk, IsNoLine, MessagesFollow, begun, accepted, BreaksAfter, first_byte, no_line, too_many}
+use Rattle.dbus_handshake_input.specs.Handshakes.{greeting, sent, GoesOn, IsCommand, IsBegin, IsOk, HasOk, IsNoLine, BeginsNoMessage, begun, accepted, BreaksAfter, first_byte, no_line, too_many}
 use Rattle.dbus_handshake_input.specs.Heard.{HeardLine, HearsSome, Reads, heard, heard_from, heard_line}
 use Rattle.dbus_handshake_input.specs.Lines.{ReadsLine, Says}
 use Rattle.dbus_handshake_input.specs.Passing.{Greets, Passes, SeesMessages, placed}
@@ -128,17 +128,12 @@ module _ {R : Type 0} (left : R → Option (List ℕ)) (calls : R → ℕ) (side
       has_not (by_line e ok) f = absurd (cc)
       has_not (as_before e not) f = not_in side lines line (h.without_ok (sym e ∙ f)) not
 
-  -- no messages follow these, whatever is read after the bytes that are kept
-  no_messages : (old mid : ReadAhead R) (lines : List (List ℕ)) (count start : ℕ) (is_accepted : Bool) (later : List ℕ) (AtEnd : Type 0)
-      (h : HasLines left calls side old mid lines count start is_accepted)
-      → SeesMessages left is_accepted mid (Ok false) → HasOk side lines → MessagesFollow (kept_of mid ++ later) AtEnd → ⊥
-  no_messages old mid lines count start is_accepted later AtEnd h (inl e) ok follow = h.without_ok e ok
-  no_messages old mid lines count start is_accepted later AtEnd h (inr next) ok follow =
-      neither (subst (λ (l : List ℕ). MessagesFollow l AtEnd) (ap (λ l. l ++ later) next.kept_is) follow)
-    where
-      neither : (next.next ≡ 108) ⊎ (next.next ≡ 66) → ⊥
-      neither (inl e) = next.not_little e
-      neither (inr e) = next.not_big e
+  -- what begins no message follows these, whatever is read after the bytes that are kept
+  no_messages : (old mid : ReadAhead R) (lines : List (List ℕ)) (count start : ℕ) (is_accepted : Bool) (later : List ℕ) (h : HasLines left calls side old mid lines count start is_accepted)
+      → SeesMessages left is_accepted mid (Ok false) → HasOk side lines → BeginsNoMessage (kept_of mid ++ later)
+  no_messages old mid lines count start is_accepted later h (inl e) ok = absurd (h.without_ok e ok)
+  no_messages old mid lines count start is_accepted later h (inr next) ok =
+      subst BeginsNoMessage (sym (ap (λ l. l ++ later) next.kept_is)) (next.not_little, next.not_big)
 
 -- ---- what was heard
 
@@ -221,8 +216,7 @@ module _ {R V : Type 0} (left : R → Option (List ℕ)) (calls : R → ℕ) (he
     (
       h.lines,
       no_line (bytes ++ kept_of new) at h.taken.each (let n = h.taken.count_is in omega (arith, n, few))
-          (λ ok follow. no_messages left calls side old mid h.lines count start is_accepted t.read (IsAtEnd (left (source_of new))) h.taken sees ok
-          (subst (λ (l : List ℕ). MessagesFollow l (IsAtEnd (left (source_of new)))) (sym t.joined) follow))
+          (λ ok. subst BeginsNoMessage t.joined (no_messages left calls side old mid h.lines count start is_accepted t.read h.taken sees ok))
           (append_assoc (sent side h.lines) bytes (kept_of new)) none (is ∙ ap (λ n. n + at) h.taken.start_is),
       h.heard_are,
     ),
@@ -258,8 +252,7 @@ module _ {R V : Type 0} (left : R → Option (List ℕ)) (calls : R → ℕ) (he
     (
       h.lines,
       too_many (kept_of new) h.taken.each h.taken.count_is
-          (λ ok follow. no_messages left calls side old new h.lines 1024 start is_accepted [] (IsAtEnd (left (source_of new))) h.taken sees ok
-          (subst (λ (l : List ℕ). MessagesFollow l (IsAtEnd (left (source_of new)))) (sym (append-nil (kept_of new))) follow))
+          (λ ok. subst BeginsNoMessage (append-nil (kept_of new)) (no_messages left calls side old new h.lines 1024 start is_accepted [] h.taken sees ok))
           refl h.taken.start_is refl,
       h.heard_are,
     ),

@@ -54,6 +54,11 @@ abbrev pub MessagesFollow : List ℕ → (AtEnd : Type 0) → Type 0
 MessagesFollow [] AtEnd = AtEnd
 MessagesFollow (b ∷ more) AtEnd = (b ≡ 108) ⊎ (b ≡ 66)
 
+-- a byte follows that begins no message
+abbrev pub BeginsNoMessage : List ℕ → Type 0
+BeginsNoMessage [] = ⊥
+BeginsNoMessage (b ∷ more) = (b ≢ 108) × (b ≢ 66)
+
 -- the lines are all that a side sends before its messages, and these bytes follow
 pub data AreAllLines (side : Side) (lines : List (List ℕ)) (next : List ℕ) (AtEnd : Type 0) : Type 0 where
   begun : (before : List (List ℕ)) (last : List ℕ) → AllByRecursion (GoesOn side) before → IsLine last → IsBegin side last
@@ -80,10 +85,10 @@ pub data BreaksAfter (side : Side) (lines : List (List ℕ)) (bytes : List ℕ) 
   first_byte : (b : ℕ) (more : List ℕ) → side ≡ Client → lines ≡ [] → bytes ≡ b ∷ more → b ≢ 0 → at ≡ 0 → why ≡ reason.FirstByte → BreaksAfter side lines bytes AtEnd at why
   nothing : side ≡ Client → lines ≡ [] → bytes ≡ [] → AtEnd → at ≡ 0 → why ≡ reason.Truncated → BreaksAfter side lines bytes AtEnd at why
   no_line : (rest : List ℕ) (place : ℕ) → AllByRecursion (GoesOn side) lines → length lines < 1024
-      → (HasOk side lines → MessagesFollow rest AtEnd → ⊥) → bytes ≡ sent side lines ++ rest → IsNoLine side rest AtEnd place why
+      → (HasOk side lines → BeginsNoMessage rest) → bytes ≡ sent side lines ++ rest → IsNoLine side rest AtEnd place why
       → at ≡ length (sent side lines) + place → BreaksAfter side lines bytes AtEnd at why
   too_many : (rest : List ℕ) → AllByRecursion (GoesOn side) lines → length lines ≡ 1024
-      → (HasOk side lines → MessagesFollow rest AtEnd → ⊥) → bytes ≡ sent side lines ++ rest
+      → (HasOk side lines → BeginsNoMessage rest) → bytes ≡ sent side lines ++ rest
       → at ≡ length (sent side lines) → why ≡ reason.TooManyLines → BreaksAfter side lines bytes AtEnd at why
 
 -- the bytes begin with no handshake of the side, for this reason, at this place
