@@ -1,3 +1,4 @@
 mod AheadSteps
 mod HandshakeSteps
 mod LineSteps
+pub mod SameHandshakes

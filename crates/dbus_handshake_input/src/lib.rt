@@ -10,6 +10,7 @@
 mod fault;
 mod fault_text;
 mod handshake;
+pub mod laws;
 mod lines;
 mod read_ahead;
 mod side;
