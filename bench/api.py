@@ -32,7 +32,7 @@ HEADINGS = {
     "Values alone": "dbus_unmarshal dbus_marshal dbus_value_model",
     "Read and write streams": """dbus_stream/cutter.rt dbus_stream/message_reader.rt dbus_stream/raw_reader.rt dbus_stream/check_reader.rt
         dbus_stream/writing.rt dbus_device dbus_stream""",
-    "Match rules": "dbus_match/parse.rt dbus_match/to_text.rt dbus_match dbus_rule_set",
+    "Match rules": "dbus_rule/parse.rt dbus_rule/to_text.rt dbus_match dbus_rule dbus_rule_set",
     "The handshake": "dbus_auth/server_end.rt dbus_auth/client_end.rt dbus_auth dbus_handshake_input dbus_auth_lines",
     "Print": "dbus_show_view dbus_json dbus_show_handshake dbus_explain dbus_show",
     "Texts and types": "dbus_types dbus_texts",

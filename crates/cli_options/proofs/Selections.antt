@@ -10,11 +10,13 @@ use Rattle.std.proofs.lemmas.Bool.{false≢true}
 use Rattle.std.proofs.lemmas.List.{drop_more}
 use Rattle.std.proofs.lemmas.Bool.Decides.{Decides-and}
 use Rattle.dbus_message_model.specs.Messages.{MessageTree}
-use Rattle.dbus_match.specs.declared.rule.Rule.{Rule}
+use Rattle.dbus_rule.specs.declared.rule.Rule.{Rule}
 use Rattle.dbus_match.specs.Matching.{Matches, Ownership, ownership}
-use Rattle.dbus_match.specs.RuleViews.{rule_pairs}
-use Rattle.dbus_match.proofs.Decided.{Either, decided, one_of}
-use Rattle.dbus_match.proofs.SameRules.{owners_equal, rules_equal}
+use Rattle.dbus_rule.specs.RuleViews.{rule_pairs}
+use Rattle.dbus_match.proofs.Decided.{decided}
+use Rattle.dbus_rule.proofs.Choices.{Either, one_of}
+use Rattle.dbus_match.proofs.SameOwners.{owners_equal}
+use Rattle.dbus_rule.proofs.SameRules.{rules_equal}
 use Rattle.cli_options.specs.Selections.{AreSameSelection, OrInverted, SelectsBy, SomeMatches}
 use Rattle.cli_options.specs.contracts.selection.SelectionPartialEq.TheImpl as selection_eq
 use Rattle.cli_options.specs.declared.selection.Selection.{Selection}

@@ -11,9 +11,10 @@ use Rattle.dbus_message_model.specs.Lookups.{field_value, body_value}
 use Rattle.dbus_message_model.specs.declared.field_code.TheConstants as field
 use Rattle.dbus_message_model.specs.declared.message_type.TheConstants as message
 use Rattle.dbus_match.specs.declared.owner.Owner.{Owner}
-use Rattle.dbus_match.specs.declared.rule.Rule.{Rule}
-use Rattle.dbus_match.specs.Matching.{Ownership, ownerships, sender_of, string_of, text_of}
-use Rattle.dbus_match.specs.RuleViews.{rule_pairs}
+use Rattle.dbus_rule.specs.declared.rule.Rule.{Rule}
+use Rattle.dbus_match.specs.Matching.{Ownership, ownerships, string_of, text_of}
+use Rattle.dbus_rule.specs.Senders.{sender_of}
+use Rattle.dbus_rule.specs.RuleViews.{rule_pairs}
 use Rattle.cli_options.specs.declared.selection.Selection.{Selection}
 
 -- the text is there, and it is this

@@ -5,11 +5,11 @@ use Rattle.std.specs.declared.alloc.Global.{Global}
 use Rattle.clap.specs.Words.{Row, Text, all_of, first_of, subcommand_of}
 use Rattle.dbus_value_model.specs.declared.order.Order.{Order}
 use Rattle.dbus_value_model.specs.declared.order.Order.TheVariants.{Little, Big}
-use Rattle.dbus_match.specs.declared.rule.Rule.{Rule}
-use Rattle.dbus_match.specs.Faults.{IsFault}
+use Rattle.dbus_rule.specs.declared.rule.Rule.{Rule}
+use Rattle.dbus_rule.specs.Faults.{IsFault}
 use Rattle.dbus_match.specs.Matching.{Ownership}
-use Rattle.dbus_match.specs.Rules.{Pair, SpellsRule}
-use Rattle.dbus_match.specs.RuleViews.{rule_pairs}
+use Rattle.dbus_rule.specs.Rules.{Pair, SpellsRule}
+use Rattle.dbus_rule.specs.RuleViews.{rule_pairs}
 use Rattle.cli_options.specs.declared.form.Form.{Form}
 use Rattle.cli_options.specs.declared.form.Form.TheVariants as written
 use Rattle.dbus_handshake_input.specs.declared.side.Side.{Side}

@@ -8,7 +8,7 @@ use Rattle.clap.specs.Faults.{fault_of}
 use Rattle.clap.specs.declared.error.kind.ErrorKind.{ErrorKind}
 use Rattle.clap.specs.declared.error.kind.ErrorKind.TheVariants.{DisplayHelp, DisplayVersion, OutOfMemory}
 use Rattle.dbus_match.specs.declared.owner.Owner.{Owner}
-use Rattle.dbus_match.specs.declared.rule.Rule.{Rule as MatchRule}
+use Rattle.dbus_rule.specs.declared.rule.Rule.{Rule as MatchRule}
 use Rattle.dbus_match.specs.Matching.{Ownership, ownership}
 use Rattle.cli_options.specs.CommandLine.{wire_app}
 use Rattle.cli_options.specs.Owners.{AreOwnersOf, IsOwnerWord}

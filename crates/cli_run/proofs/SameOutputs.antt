@@ -7,10 +7,11 @@ use Rattle.dbus_value_model.specs.declared.fault.Fault.{Fault}
 use Rattle.dbus_value_model.specs.declared.order.Order.{Order}
 use Rattle.dbus_message_model.specs.Messages.{MessageTree, message_bytes}
 use Rattle.dbus_stream.specs.Cut.{CutMessage}
-use Rattle.dbus_match.specs.declared.rule.Rule.{Rule}
-use Rattle.dbus_match.specs.Matching.{Matches, Ownership, sender_of}
-use Rattle.dbus_match.specs.RuleViews.{rule_pairs}
-use Rattle.dbus_match.specs.Rules.{Pair}
+use Rattle.dbus_rule.specs.declared.rule.Rule.{Rule}
+use Rattle.dbus_match.specs.Matching.{Matches, Ownership}
+use Rattle.dbus_rule.specs.Senders.{sender_of}
+use Rattle.dbus_rule.specs.RuleViews.{rule_pairs}
+use Rattle.dbus_rule.specs.Rules.{Pair}
 use Rattle.cli_options.specs.Learning.{ask_sender, change_of, is_text, known_after, wanted}
 use Rattle.cli_options.specs.SameCommands.{AreSameCommand}
 use Rattle.cli_options.specs.Selections.{AreSameSelection, OrInverted, SelectsBy, SomeMatches}

@@ -8,7 +8,7 @@ use Rattle.dbus_header.specs.MessageOutcomes.{IsWhole}
 use Rattle.dbus_header.proofs.OutcomeLaws.{one_whole}
 use Rattle.dbus_view.specs.Views.{ViewState, Views}
 use Rattle.dbus_match.specs.Matching.{Ownership}
-use Rattle.dbus_match.specs.declared.rule.Rule.{Rule}
+use Rattle.dbus_rule.specs.declared.rule.Rule.{Rule}
 use Rattle.dbus_rule_set.specs.Held.{Collects, EntryMatches}
 use Rattle.dbus_rule_set.specs.declared.handle.RuleHandle.{RuleHandle}
 use Rattle.dbus_c.specs.Outcomes.{IsFirstView, TellsApart}

@@ -2,9 +2,9 @@
 -- of a rule has, and that the text is not UTF-8. D-Bus Specification, "Match Rules"; the reasons
 -- are this project's own.
 use Rattle.std.specs.Prelude.{◌≡◌, ℕ, List, [], codes, nat_eq, if◌then◌else◌}
-use Rattle.dbus_match.specs.FaultTexts.{rule_reason_text}
-use Rattle.dbus_match.specs.declared.fault.RuleReason.{RuleReason}
-use Rattle.dbus_match.specs.declared.fault.RuleReason.TheVariants as reason
+use Rattle.dbus_rule.specs.FaultTexts.{rule_reason_text}
+use Rattle.dbus_rule.specs.declared.fault.RuleReason.{RuleReason}
+use Rattle.dbus_rule.specs.declared.fault.RuleReason.TheVariants as reason
 
 abbrev pub rule_reason_number : RuleReason → ℕ
 rule_reason_number reason.Nul = 1

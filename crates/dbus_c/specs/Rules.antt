@@ -7,12 +7,12 @@ use Rattle.dbus_value_model.specs.declared.limits.Limits.{Limits}
 use Rattle.dbus_value_model.specs.declared.order.Order.{Order}
 use Rattle.dbus_message_model.specs.Messages.{MessageTree}
 use Rattle.dbus_header.specs.MessageOutcomes.{IsWhole}
-use Rattle.dbus_match.specs.Faults.{IsFault}
+use Rattle.dbus_rule.specs.Faults.{IsFault}
 use Rattle.dbus_match.specs.Matching.{Ownership}
-use Rattle.dbus_match.specs.Rules.{canonical}
-use Rattle.dbus_match.specs.RuleViews.{rule_pairs}
-use Rattle.dbus_match.specs.declared.fault.RuleReason.{RuleReason}
-use Rattle.dbus_match.specs.declared.rule.Rule.{Rule}
+use Rattle.dbus_rule.specs.Rules.{canonical}
+use Rattle.dbus_rule.specs.RuleViews.{rule_pairs}
+use Rattle.dbus_rule.specs.declared.fault.RuleReason.{RuleReason}
+use Rattle.dbus_rule.specs.declared.rule.Rule.{Rule}
 use Rattle.dbus_rule_set.specs.Held.{Collects, EntryMatches}
 use Rattle.dbus_rule_set.specs.declared.handle.RuleHandle.{RuleHandle}
 use Rattle.dbus_c_handle.specs.Rules.{Adds, KeepsAll, SharesNone, SharesRules}

@@ -1,12 +1,12 @@
 -- A rule that comes to what was kept comes to the rules that were kept.
 use Rattle.std.proofs.Common.{◌≡◌, ℕ, ◌+◌, List, Option, Result, Ok, Err, MatchResult, ap, subst, sym, ◌∙◌}
 use Rattle.std.specs.declared.alloc.Global.{Global}
-use Rattle.dbus_match.specs.RuleReadings.{IsRuleFault}
-use Rattle.dbus_match.specs.Rules.{SpellsRule}
-use Rattle.dbus_match.specs.RuleViews.{rule_pairs}
-use Rattle.dbus_match.specs.declared.fault.RuleFault.{RuleFault}
-use Rattle.dbus_match.specs.declared.fault.RuleFault.TheVariants.{Memory}
-use Rattle.dbus_match.specs.declared.rule.Rule.{Rule}
+use Rattle.dbus_rule.specs.RuleReadings.{IsRuleFault}
+use Rattle.dbus_rule.specs.Rules.{SpellsRule}
+use Rattle.dbus_rule.specs.RuleViews.{rule_pairs}
+use Rattle.dbus_rule.specs.declared.fault.RuleFault.{RuleFault}
+use Rattle.dbus_rule.specs.declared.fault.RuleFault.TheVariants.{Memory}
+use Rattle.dbus_rule.specs.declared.rule.Rule.{Rule}
 use Rattle.dbus_rule_set.specs.Held.{rule_at, with_rule}
 use Rattle.dbus_rule_set.specs.declared.handle.RuleHandle.{RuleHandle}
 use Rattle.dbus_c_handle.specs.Rules.{Adds, AddsRule, KeepsAll}

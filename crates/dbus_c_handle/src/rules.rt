@@ -2,7 +2,7 @@
 #![tactic(auto)]
 
 ghost use Rattle.std.specs.Prelude.{◌≡◌, Some, MatchResult, false};
-ghost use Rattle.dbus_match.specs.declared.fault.RuleFault.TheVariants.{Memory};
+ghost use Rattle.dbus_rule.specs.declared.fault.RuleFault.TheVariants.{Memory};
 ghost use Rattle.dbus_c_handle.specs.Rules.{AddsRule, KeepsAll, is_shared};
 
 use crate::handle::WireHandle;
@@ -17,7 +17,7 @@ impl WireHandle {
     ghost use Rattle.dbus_value_model.specs.declared.order.Order.{Order};
     ghost use Rattle.dbus_message_model.specs.Messages.{MessageTree};
     ghost use Rattle.dbus_match.specs.Matching.{ownerships};
-    ghost use Rattle.dbus_match.specs.RuleReadings.{IsRuleFault};
+    ghost use Rattle.dbus_rule.specs.RuleReadings.{IsRuleFault};
     ghost use Rattle.dbus_rule_set.specs.Held.{Collects, EntryMatches, rule_at, without};
     ghost use Rattle.dbus_view.specs.Views.{Views};
     ghost use Rattle.dbus_c_handle.specs.Rules.{Adds, IsWritten, KeepsAll, given_of, is_shared, rules_of};

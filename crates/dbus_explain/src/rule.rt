@@ -6,7 +6,7 @@ ghost use Rattle.std.specs.List.{flat_map};
 ghost use Rattle.dbus_explain.specs.ExplainedRules.{IsExplainedRule, blank_of, mark_line};
 
 use crate::values::allowed_at;
-use dbus_match::RuleReason;
+use dbus_rule::RuleReason;
 use dbus_show::{Draft, write_quoted};
 
 /// Appends three lines that explain why a text spells no rule, for this reason at this place, each

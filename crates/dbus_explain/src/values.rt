@@ -4,7 +4,7 @@
 ghost use Rattle.std.specs.Prelude.{◌≡◌, ◌≤◌, length};
 ghost use Rattle.dbus_show.specs.Laws.{line_feeds};
 
-use dbus_match::RuleReason;
+use dbus_rule::RuleReason;
 
 // A key with its `=`, and what it takes; and the same if the comma after its value is missing, so
 // that this goes on in the next pair.

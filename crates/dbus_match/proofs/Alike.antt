@@ -8,11 +8,11 @@ use Rattle.dbus_message_model.specs.Lookups.{field_value}
 use Rattle.dbus_message_model.specs.Messages.{MessageTree}
 use Rattle.dbus_message_model.specs.declared.field_code.TheConstants as field
 use Rattle.dbus_view.specs.Views.{Views, ViewState}
-use Rattle.dbus_match.specs.declared.key.Key.{Key}
-use Rattle.dbus_match.specs.declared.key.Key.TheVariants.{MessageType, Sender, Interface, Member, Path, PathNamespace, Destination, Arg, ArgPath, Arg0Namespace, Eavesdrop}
+use Rattle.dbus_rule.specs.declared.key.Key.{Key}
+use Rattle.dbus_rule.specs.declared.key.Key.TheVariants.{MessageType, Sender, Interface, Member, Path, PathNamespace, Destination, Arg, ArgPath, Arg0Namespace, Eavesdrop}
 use Rattle.dbus_match.specs.Matching.{HoldsAt, IsOwned, IsThere, Matches, Ownership, text_of}
 use Rattle.dbus_match.specs.Matchers.{OwnsAlike, SenderOwnsAlike}
-use Rattle.dbus_match.specs.Rules.{Pair}
+use Rattle.dbus_rule.specs.Rules.{Pair}
 
 -- a narrower list
 pub narrower : (v : ViewState) (seen : List ℕ) (span near owners : List Ownership) → ((order : Order) (m : MessageTree) → Views v order m → field_value field.SENDER m.fields ≡ Some (TextValue STRING seen)) → OwnsAlike seen span near → SenderOwnsAlike v near owners → SenderOwnsAlike v span owners

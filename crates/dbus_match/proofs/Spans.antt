@@ -1,5 +1,5 @@
 -- Owners of one unique name in a part of a list.
-use Rattle.std.proofs.Common.{◌≡◌, ◌⊎◌, ⊎_elim, inl, inr, ℕ, List, [], ◌∷◌, ◌++◌, string_bytes, subst}
+use Rattle.std.proofs.Common.{◌≡◌, ⊎_elim, inl, inr, ℕ, List, [], ◌∷◌, ◌++◌, string_bytes, subst}
 use Rattle.dbus_match.specs.declared.owner.Owner.{Owner}
 use Rattle.dbus_match.specs.Matching.{IsOwned, Ownership, ownerships}
 use Rattle.dbus_match.specs.Matchers.{OwnsAlike}

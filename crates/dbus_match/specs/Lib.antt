@@ -1,16 +1,3 @@
-pub mod Keys
-pub mod Values
-pub mod Scans
-pub mod Rules
-pub mod Readings
-pub mod Cuts
-pub mod Faults
 pub mod Matching
 pub mod Matchers
 pub mod Laws
-pub mod KeyReadings
-pub mod Conditions
-pub mod PairReadings
-pub mod RuleReadings
-pub mod RuleViews
-pub mod FaultTexts

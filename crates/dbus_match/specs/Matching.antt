@@ -1,8 +1,7 @@
 -- When a rule matches a message: each of its keys holds. D-Bus Specification, "Match Rules"; the
 -- owners of well-known names are a list that the caller hands in.
-use Rattle.std.specs.Prelude.{◌≡◌, ℕ, ◌⊎◌, Option, Some, None, List, [], ◌∷◌, ◌++◌, map, string_bytes, ◌==◌, ◌&&◌, Bool, true, false, if◌then◌else◌, codes}
+use Rattle.std.specs.Prelude.{◌≡◌, ℕ, ◌⊎◌, Option, Some, None, List, [], ◌∷◌, ◌++◌, map, string_bytes, ◌==◌, if◌then◌else◌, codes}
 use Rattle.std.specs.List.{AllByRecursion}
-use Rattle.std.specs.Str.{bytes_eq}
 use Rattle.dbus_texts.specs.Characters.{slash, dot}
 use Rattle.dbus_texts.specs.Types.{STRING, OBJECT_PATH}
 use Rattle.dbus_value_model.specs.Values.{ValueTree, TextValue}
@@ -10,10 +9,10 @@ use Rattle.dbus_message_model.specs.Messages.{MessageTree}
 use Rattle.dbus_message_model.specs.Lookups.{field_value, body_value}
 use Rattle.dbus_message_model.specs.declared.field_code.TheConstants as field
 use Rattle.dbus_message_model.specs.declared.message_type.TheConstants as message
-use Rattle.dbus_match.specs.declared.key.Key.{Key}
-use Rattle.dbus_match.specs.declared.key.Key.TheVariants.{MessageType, Sender, Interface, Member, Path, PathNamespace, Destination, Arg, ArgPath, Arg0Namespace, Eavesdrop}
+use Rattle.dbus_rule.specs.declared.key.Key.{Key}
+use Rattle.dbus_rule.specs.declared.key.Key.TheVariants.{MessageType, Sender, Interface, Member, Path, PathNamespace, Destination, Arg, ArgPath, Arg0Namespace, Eavesdrop}
 use Rattle.dbus_match.specs.declared.owner.Owner.{Owner}
-use Rattle.dbus_match.specs.Rules.{Pair}
+use Rattle.dbus_rule.specs.Rules.{Pair}
 
 -- a well-known name and the unique name of its owner
 pub record Ownership : Type 0 where
@@ -102,12 +101,3 @@ HoldsAt Eavesdrop v m os = Unit {0}
 
 abbrev pub Matches : List Pair → MessageTree → List Ownership → Type 0
 Matches ps m os = AllByRecursion (λ p. HoldsAt p.key p.value m os) ps
-
-abbrev pub is_sender : Key → Bool
-is_sender Sender = true
-is_sender k = false
-
--- the sender that a rule asks for, if it asks for one
-abbrev pub sender_of : List Pair → Option (List ℕ)
-sender_of [] = None
-sender_of (p ∷ ps) = if is_sender p.key then Some p.value else sender_of ps

@@ -1,49 +1,15 @@
-//! The laws of rules. None of these functions does anything, beyond comparing: their contracts are
-//! the laws.
+//! The law of matching, and under the same name those of rules. None of these functions does
+//! anything, beyond comparing: their contracts are the laws.
 #![tactic(auto)]
 
-ghost use Rattle.std.specs.Prelude.{◌↔◌, IsTrue};
-ghost use Rattle.dbus_match.specs.Laws.{CanonicalSpells, Decided, NotBoth, OneFault, OneRule, SomeReading};
-ghost use Rattle.dbus_match.specs.RuleViews.{AreSameRule};
+ghost use Rattle.dbus_match.specs.Laws.{Decided};
 
-use crate::rule::Rule;
-use std::alloc::Allocator;
-
-/// A text spells at most one rule.
-pub fn one_rule()
-    ensures { OneRule }
-{}
-
-/// The canonical text of a rule spells that rule.
-pub fn canonical_spells()
-    ensures { CanonicalSpells }
-{}
-
-/// A text has at most one fault, at one place.
-#[tactic(auto, using(crate::proofs::FaultLaws::one_fault))]
-pub fn one_fault()
-    ensures { OneFault }
-{}
-
-/// Each text spells a rule or has a fault.
-pub fn some_reading()
-    ensures { SomeReading }
-{}
-
-/// No text spells a rule and has a fault.
-pub fn not_both()
-    ensures { NotBoth }
-{}
+pub use dbus_rule::laws::{
+    canonical_spells, equal_rules, not_both, one_fault, one_rule, some_reading,
+};
 
 /// Of each message it is decided whether a rule matches it.
 #[tactic(auto, using(crate::proofs::Decided::decided))]
 pub fn decided()
     ensures { Decided }
 {}
-
-/// `==` of two rules: they are equal exactly if they have the same keys with the same values.
-pub fn equal_rules<A: Allocator>(a: &Rule<A>, b: &Rule<A>) -> bool
-    ensures { IsTrue result ↔ AreSameRule a.now b.now }
-{
-    a == b
-}

@@ -5,13 +5,13 @@ ghost use Rattle.std.specs.Prelude.{◌≡◌, ◌↔◌, IsTrue};
 ghost use Rattle.dbus_value_model.specs.declared.order.Order.{Order};
 ghost use Rattle.dbus_message_model.specs.Messages.{MessageTree};
 ghost use Rattle.dbus_view.specs.Views.{Views};
-ghost use Rattle.dbus_match.specs.RuleViews.{rule_pairs};
+ghost use Rattle.dbus_rule.specs.RuleViews.{rule_pairs};
 ghost use Rattle.dbus_match.specs.Matching.{Matches, ownerships};
 
 use crate::asked::span_of;
 use crate::owner::Owner;
-use crate::rule::Rule;
 use crate::view_matching::matches_view;
+use dbus_rule::Rule;
 use dbus_view::MessageView;
 use std::alloc::{Allocator, Global};
 use std::marker::Model;

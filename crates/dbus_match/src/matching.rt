@@ -3,17 +3,15 @@
 
 ghost use Rattle.std.specs.Prelude.{◌↔◌, IsTrue, string_bytes};
 ghost use Rattle.dbus_message_model.specs.MessageViews.{message_tree};
-ghost use Rattle.dbus_match.specs.RuleViews.{rule_pairs};
+ghost use Rattle.dbus_rule.specs.RuleViews.{rule_pairs};
 ghost use Rattle.dbus_match.specs.Matching.{HoldsAt, Matches, ownerships};
 
 use crate::asked::{is_name_in, is_path_in, is_sender, is_text, is_type, meets_path};
-use crate::condition::Condition;
-use crate::key::Key;
 use crate::owner::Owner;
-use crate::rule::Rule;
 use crate::texts::{field_text, string_arg, string_or_path_arg};
 use dbus_message_model::Message;
 use dbus_message_model::field_code::{DESTINATION, INTERFACE, MEMBER, PATH, SENDER};
+use dbus_rule::{Condition, Key, Rule};
 use std::alloc::Allocator;
 
 /// Whether the condition holds of the message.
@@ -65,7 +63,8 @@ pub fn matches<A: Allocator, B: Allocator>(
     ensures { IsTrue result ↔
         Matches (rule_pairs rule.now) (message_tree message.now) (ownerships owners.now) }
 {
-    for condition in &rule.conditions {
+    let conditions = rule.conditions();
+    for condition in conditions {
         if !holds(condition, message, owners) {
             return false;
         }

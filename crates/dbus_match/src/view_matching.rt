@@ -6,14 +6,12 @@ ghost use Rattle.dbus_value_model.specs.declared.order.Order.{Order};
 ghost use Rattle.dbus_message_model.specs.Lookups.{body_value};
 ghost use Rattle.dbus_message_model.specs.Messages.{MessageTree};
 ghost use Rattle.dbus_view.specs.Views.{Views};
-ghost use Rattle.dbus_match.specs.RuleViews.{rule_pairs};
+ghost use Rattle.dbus_rule.specs.RuleViews.{rule_pairs};
 ghost use Rattle.dbus_match.specs.Matching.{HoldsAt, Matches, ownerships, string_of, string_or_path_of};
 
 use crate::asked::{is_name_in, is_path_in, is_sender, is_text, is_type, meets_path};
-use crate::condition::Condition;
-use crate::key::Key;
 use crate::owner::Owner;
-use crate::rule::Rule;
+use dbus_rule::{Condition, Key, Rule};
 use dbus_view::{ArgView, MessageView};
 use std::alloc::Allocator;
 
@@ -78,7 +76,8 @@ pub fn matches_view<A: Allocator>(rule: &Rule<A>, view: &MessageView, owners: &[
     ensures { (order : Order) (m : MessageTree) → Views view.now order m →
         IsTrue result ↔ Matches (rule_pairs rule.now) m (ownerships owners.now) }
 {
-    for condition in &rule.conditions {
+    let conditions = rule.conditions();
+    for condition in conditions {
         if !holds(condition, view, owners) {
             return false;
         }

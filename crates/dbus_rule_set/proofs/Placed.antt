@@ -4,10 +4,10 @@ use Rattle.std.specs.Option.{option_map, is_some}
 use Rattle.dbus_texts.specs.Types.{TextCode}
 use Rattle.dbus_value_model.specs.Values.{ValueTree, TextValue}
 use Rattle.dbus_message_model.specs.Messages.{MessageTree}
-use Rattle.dbus_match.specs.declared.key.Key.{Key}
-use Rattle.dbus_match.specs.Rules.{Pair, IsIn}
+use Rattle.dbus_rule.specs.declared.key.Key.{Key}
+use Rattle.dbus_rule.specs.Rules.{Pair, IsIn}
 use Rattle.dbus_match.specs.Matching.{HoldsAt, IsThere, Matches, Ownership, text_of}
-use Rattle.dbus_match.proofs.Members.{in_all}
+use Rattle.dbus_rule.proofs.Members.{in_all}
 use Rattle.dbus_rule_set.specs.declared.numbers.Numbers.{Numbers}
 use Rattle.dbus_rule_set.specs.TextNumbers.{number_of, text_number}
 use Rattle.dbus_rule_set.specs.Buckets.{picked, mixed, bucket_hash}

@@ -5,8 +5,8 @@ use Rattle.std.specs.BTreeMap.{is_at, insert_entry}
 use Rattle.std.specs.List.Sorted.{IsStrictlySortedBy}
 use Rattle.std.specs.Map.{keys_of, lookup, remove_entry}
 use Rattle.dbus_message_model.specs.Messages.{MessageTree}
-use Rattle.dbus_match.specs.declared.rule.Rule.{Rule}
-use Rattle.dbus_match.specs.RuleViews.{rule_pairs}
+use Rattle.dbus_rule.specs.declared.rule.Rule.{Rule}
+use Rattle.dbus_rule.specs.RuleViews.{rule_pairs}
 use Rattle.dbus_match.specs.Matching.{Matches, Ownership}
 use Rattle.dbus_rule_set.specs.declared.handle.RuleHandle.{RuleHandle}
 use Rattle.dbus_rule_set.specs.declared.rule_set.RuleSet.{RuleSet}

@@ -16,11 +16,11 @@ use Rattle.dbus_value_model.specs.declared.order.Order.{Order}
 use Rattle.dbus_value_model.specs.declared.order.Order.TheVariants.{Little, Big}
 use Rattle.dbus_handshake_input.specs.declared.side.Side.{Side}
 use Rattle.dbus_handshake_input.specs.declared.side.Side.TheVariants.{Client, Server}
-use Rattle.dbus_match.proofs.Unique.{one_rule}
+use Rattle.dbus_rule.proofs.Unique.{one_rule}
 use Rattle.dbus_match.specs.declared.owner.Owner.{Owner}
-use Rattle.dbus_match.specs.declared.rule.Rule.{Rule}
+use Rattle.dbus_rule.specs.declared.rule.Rule.{Rule}
 use Rattle.dbus_match.specs.Matching.{Ownership, ownership, ownerships}
-use Rattle.dbus_match.specs.RuleViews.{rule_pairs}
+use Rattle.dbus_rule.specs.RuleViews.{rule_pairs}
 use Rattle.cli_options.specs.CommandLine.{wire_app}
 use Rattle.cli_options.specs.Limiting.{HasLimits, HasWindow, IsGivenNumber, IsNumberOf, IsRuleOf, fds_word}
 use Rattle.cli_options.specs.Named.{AreRulesOf, HasSettings, IsNamedBy, IsSelectionGiven, Names, NamesCommand, order_word, side_word, words_of}

@@ -7,10 +7,10 @@ use Rattle.clap.specs.Kinds.{IsAmong}
 use Rattle.clap.specs.declared.error.kind.ErrorKind.TheVariants.{DisplayHelp, DisplayVersion}
 use Rattle.dbus_count.specs.Laws.{OneTable}
 use Rattle.dbus_handshake_input.specs.declared.read_ahead.ReadAhead.{ReadAhead}
-use Rattle.dbus_match.proofs.FaultLaws.{not_both}
-use Rattle.dbus_match.specs.declared.rule.Rule.{Rule}
-use Rattle.dbus_match.specs.Rules.{SpellsRule}
-use Rattle.dbus_match.specs.RuleViews.{rule_pairs}
+use Rattle.dbus_rule.proofs.FaultLaws.{not_both}
+use Rattle.dbus_rule.specs.declared.rule.Rule.{Rule}
+use Rattle.dbus_rule.specs.Rules.{SpellsRule}
+use Rattle.dbus_rule.specs.RuleViews.{rule_pairs}
 use Rattle.cli_options.specs.CommandLine.{wire_app}
 use Rattle.cli_options.specs.Named.{AreRulesOf, HasRuleFault, IsNamedBy, Names}
 use Rattle.cli_options.specs.SameCommands.{AreSameCommand}

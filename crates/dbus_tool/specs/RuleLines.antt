@@ -1,7 +1,7 @@
 -- What is written of a rule that is refused.
 use Rattle.std.specs.Prelude.{◌≡◌, ℕ, List, ◌++◌, Bool, true, false, codes, decimal, string_bytes}
-use Rattle.dbus_match.specs.declared.fault.RuleReason.{RuleReason}
-use Rattle.dbus_match.specs.FaultTexts.{rule_reason_text}
+use Rattle.dbus_rule.specs.declared.fault.RuleReason.{RuleReason}
+use Rattle.dbus_rule.specs.FaultTexts.{rule_reason_text}
 use Rattle.cli_options.specs.declared.usage_fault.RefusedRule.{RefusedRule}
 use Rattle.dbus_explain.specs.ExplainedRules.{IsExplainedRule}
 

@@ -3,7 +3,7 @@ use Rattle.std.specs.Bool.{Decides}
 use Rattle.std.proofs.lemmas.Bool.{false≢true}
 use Rattle.dbus_match.specs.Matchers.{MatcherState}
 use Rattle.dbus_match.specs.Matching.{Matches, ownerships}
-use Rattle.dbus_match.specs.RuleViews.{rule_pairs}
+use Rattle.dbus_rule.specs.RuleViews.{rule_pairs}
 use Rattle.dbus_view.specs.Views.{Views}
 use Rattle.cli_options.proofs.Selections.{one_left, some_at}
 use Rattle.cli_options.proofs.selection.some_matches.Goals as goal

@@ -1,8 +1,8 @@
 use denote.Ref.{Bor}
 use Rattle.std.proofs.Common.{List, ℕ, sym, ◌∙◌}
 use Rattle.dbus_message_model.specs.Lookups.{field_value, body_value}
-use Rattle.dbus_match.specs.declared.key.Key.TheVariants.{Path, Interface, Member, Arg}
-use Rattle.dbus_match.specs.RuleViews.{rule_pairs}
+use Rattle.dbus_rule.specs.declared.key.Key.TheVariants.{Path, Interface, Member, Arg}
+use Rattle.dbus_rule.specs.RuleViews.{rule_pairs}
 use Rattle.dbus_match.specs.Matching.{text_of, string_of}
 use Rattle.dbus_rule_set.specs.Buckets.{message_numbers}
 use Rattle.dbus_rule_set.proofs.Placed.{same_bucket, asked, told}

@@ -1,6 +1,6 @@
 use Rattle.std.proofs.Common.{refl}
 use Rattle.dbus_match.specs.Matching.{ownership}
-use Rattle.dbus_match.specs.RuleViews.{rule_pairs}
+use Rattle.dbus_rule.specs.RuleViews.{rule_pairs}
 use Rattle.cli_options.proofs.Selections.{copies_mapped}
 use Rattle.cli_options.proofs.copies.SelectionClone.clone.Goals as goal
 

@@ -1,7 +1,7 @@
 use Rattle.std.proofs.Common.{List, subst}
 use Rattle.std.specs.Bool.{Decides}
 use Rattle.std.specs.declared.alloc.Global.{Global}
-use Rattle.dbus_match.specs.declared.rule.Rule.{Rule}
+use Rattle.dbus_rule.specs.declared.rule.Rule.{Rule}
 use Rattle.dbus_match.specs.Matching.{ownerships}
 use Rattle.cli_options.specs.Selections.{SomeMatches}
 use Rattle.cli_options.proofs.Selections.{inverted_as}

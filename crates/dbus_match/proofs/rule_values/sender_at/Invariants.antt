@@ -1,8 +1,0 @@
-use Rattle.std.proofs.Common.{◌≡◌, drop}
-use Rattle.dbus_match.specs.Conditions.{condition_pairs}
-use Rattle.dbus_match.specs.Matching.{sender_of}
-use Rattle.dbus_match.proofs.rule_values.sender_at.Given as goal
-
--- none before is the sender
-abbrev pub invariant-loop-condition : goal.invariant-loop-condition
-invariant-loop-condition g l = sender_of (condition_pairs l.conditions) ≡ sender_of (condition_pairs (drop l.condition-index l.conditions))

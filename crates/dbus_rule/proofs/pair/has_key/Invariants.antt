@@ -1,0 +1,8 @@
+use Rattle.std.proofs.Common.{drop}
+use Rattle.dbus_rule.specs.Conditions.{condition_pairs}
+use Rattle.dbus_rule.specs.Rules.{HasKey}
+use Rattle.dbus_rule.proofs.pair.has_key.Given as goal
+
+-- if any has the key, then one of those left
+abbrev pub invariant-loop-condition : goal.invariant-loop-condition
+invariant-loop-condition g l = HasKey l.key (condition_pairs l.conditions) → HasKey l.key (condition_pairs (drop l.condition-index l.conditions))
