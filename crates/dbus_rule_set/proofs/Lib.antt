@@ -7,3 +7,6 @@ pub mod Marked
 pub mod Collected
 pub mod Parted
 pub mod Placed
+pub mod OwnersLeft
+pub mod Grouped
+pub mod OfSender

@@ -4,14 +4,20 @@
 //! [`RuleSet::add`] keeps a rule and returns its [`RuleHandle`], [`RuleSet::matching`] gives the
 //! handles of the rules that match a message, and [`RuleSet::remove`] removes one. A rule matches
 //! exactly if `dbus_match::matches_view` says so. An example is at [`RuleSet`].
+//!
+//! [`Owners`] keeps the owners of well-known names from message to message, for
+//! [`RuleSet::matching_by`].
 #![tactic(auto)]
 
 mod bucket;
+mod groups;
 mod handle;
 mod masks;
 mod numbers;
+mod owners;
 mod rule_set;
 mod search;
 
 pub use handle::RuleHandle;
+pub use owners::Owners;
 pub use rule_set::RuleSet;

@@ -9,6 +9,7 @@ ghost use Rattle.std.proofs.Props.{props};
 ghost use Rattle.dbus_value_model.specs.declared.order.Order.{Order};
 ghost use Rattle.dbus_message_model.specs.Messages.{MessageTree};
 ghost use Rattle.dbus_view.specs.Views.{Views};
+ghost use Rattle.dbus_match.specs.Matchers.{SenderOwnsAlike};
 ghost use Rattle.dbus_match.specs.Matching.{ownerships};
 ghost use Rattle.dbus_rule_set.specs.Buckets.{IsKept, IsMarked};
 ghost use Rattle.dbus_rule_set.specs.Handles.{handle_cmp};
@@ -16,6 +17,7 @@ ghost use Rattle.dbus_rule_set.specs.Handles.{handle_cmp};
 use crate::bucket::handle_of;
 use crate::handle::RuleHandle;
 use crate::masks::Masks;
+use crate::owners::Owners;
 use crate::search::search;
 use dbus_match::{Owner, Rule};
 use dbus_view::MessageView;
@@ -200,5 +202,48 @@ impl<A: Allocator> RuleSet<A> {
                 Err(refused)
             }
         }
+    }
+}
+
+impl RuleSet {
+    ghost use Rattle.dbus_rule_set.specs.Held.{held, AreApart, Collects, EntryMatches};
+
+    /// As [`RuleSet::matching`], with the owners of names that are kept. Only those of the names
+    /// that the message's SENDER owns are looked at.
+    ///
+    /// ```rust
+    /// use dbus_match::parse_rule;
+    /// use dbus_message::MessageView;
+    /// use dbus_rule_set::{Owners, RuleSet};
+    ///
+    /// let mut rules = RuleSet::new(alloc);
+    /// rules.add(parse_rule(alloc, "sender='org.example.Clock'")?)?;
+    /// let mut owners = Owners::new(alloc);
+    /// owners.set("org.example.Clock", ":1.7")?;
+    /// let mut found = Vec::new(alloc);
+    /// rules.matching_by(&MessageView::of(bytes)?, &owners, &mut found)?;
+    /// ```
+    pub fn matching_by(
+        &self,
+        view: &MessageView,
+        owners: &Owners,
+        found: &mut Vec<RuleHandle>,
+    ) -> Result<(), AllocError>
+        ensures found { (order : Order) (m : MessageTree) → Views view.now order m →
+            OnOk result (Collects (EntryMatches m owners.now) (held self.now) found.old.items found.new.items) }
+        ensures once { AreApart (held self.now) }
+        ensures unchanged { OnErr result (found.new.items ≡ found.old.items) }
+    {
+        self.matching(view, owners_of_sender(view, owners), found)
+    }
+}
+
+// The owners of names, as far as they own what the message's SENDER does.
+fn owners_of_sender<'a>(view: &MessageView, owners: &'a Owners) -> &'a [Owner]
+    ensures { SenderOwnsAlike view.now (ownerships result.now) owners.now }
+{
+    match view.sender() {
+        Some(unique) => owners.of(unique),
+        None => &[],
     }
 }
