@@ -1,13 +1,10 @@
 pub mod Lists
 pub mod NextSteps
-pub mod Gathered
 pub mod GathererSteps
 pub mod RawSteps
 pub mod PassSteps
 pub mod MessageSteps
 pub mod CutLaws
-pub mod WholeLaws
 pub mod CutterSteps
-pub mod Inside
 pub mod RunLaws
 pub mod HeadlineLaws

@@ -1,10 +1,9 @@
 -- A cutter as the taker of a reader, and where the reader stands after each answer.
-use Rattle.std.proofs.Common.{◌≡◌, ℕ, List, ◌++◌, None, Some, Ok, Err, Option, Result, length, refl, sym, ap, ◌∙◌, subst, ◌+◌, arith}
+use Rattle.std.proofs.Common.{◌≡◌, ℕ, List, None, Some, Ok, Err, Option, Result, length, refl, sym, ap, ◌∙◌, subst, arith}
 use Rattle.dbus_value_model.specs.declared.order.Order.{Order}
 use Rattle.dbus_value_model.specs.declared.fault.Fault.{Fault}
 use Rattle.dbus_message_model.specs.declared.message.Message.{Message}
 use Rattle.dbus_message_model.specs.MessageViews.{message_tree}
-use Rattle.dbus_header.specs.MessageOutcomes.{IsWhole, IsRefused, IsPartial}
 use Rattle.dbus_stream.specs.CutterState.{CutterState}
 use Rattle.dbus_stream.specs.Cutting.{TakeAnswers, Takes as CutterTakes}
 use Rattle.dbus_stream.specs.CutterTaking.{cutting}
@@ -21,31 +20,23 @@ use Rattle.dbus_stream.specs.declared.stream_fault.StreamFault.TheVariants as re
 use Rattle.dbus_stream.specs.Taking.{Takes}
 
 -- what a cutter makes of a piece, as a taker
-pub cuts : {A : Type 0} (old : CutterState) (w piece : List ℕ) (new : CutterState) (n : ℕ) (given : Option (Order × Message A)) → old.held ≡ w → TakeAnswers old piece new (Ok (n, given)) → old.fault ≡ None
-    → Takes (cutting A) old w piece new (Ok n) given
-cuts old w piece new n (Some given) held t open_ =
-    let whole = subst (λ v. IsWhole old.limits (v ++ piece) given.0 (message_tree given.1) (length v + n)) held t.0 in
-    record {
-      order = given.0;
-      message = message_tree given.1;
-      whole = whole;
-      gives = subst (λ limits. IsWhole limits (w ++ piece) given.0 (message_tree given.1) (length w + n)) (sym (ap (λ (s : CutterState). s.limits) t.1)) whole;
-      holds = (ap (λ (s : CutterState). s.held) t.1, ap (λ (s : CutterState). s.fault) t.1);
-      lends = λ some. absurd (omega (arith, some));
-    }
-cuts old w piece new n None held t open_ = (
-  subst (λ v. IsPartial old.limits (v ++ piece)) held t.0,
-  t.1,
-  record { holds = (ap (λ (s : CutterState). s.held) t.2 ∙ ap (λ v. v ++ piece) held, ap (λ (s : CutterState). s.fault) t.2); rests = tt },
-)
+pub cuts : {A : Type 0} (old : CutterState) (piece : List ℕ) (new : CutterState) (n : ℕ) (given : Option (Order × Message A)) → TakeAnswers old piece new (Ok (n, given))
+    → Takes (cutting A) old old.held piece new (Ok n) given
+cuts {A} old piece new n (Some given) t = subst (λ s. Takes (cutting A) old old.held piece s (Ok n) (Some given)) (sym t.1) (record {
+  order = given.0;
+  message = message_tree given.1;
+  whole = t.0;
+  gives = t.0;
+  holds = (refl, refl);
+  lends = λ some. absurd (omega (arith, some));
+})
+cuts {A} old piece new n None t = subst (λ s. Takes {G = Order × Message A} (cutting A) old old.held piece s (Ok n) None) (sym t.2) (t.0, t.1, record { holds = (refl, refl); rests = tt })
 
 -- what a cutter that refuses a piece is then
-pub refuses : {A : Type 0} (old : CutterState) (w piece : List ℕ) (new : CutterState) (fault : StreamFault) (given : Option (Order × Message A)) → old.held ≡ w
-    → TakeAnswers {A = A} old piece new (Err fault) → old.fault ≡ None → Takes (cutting A) old w piece new (Err fault) given
-refuses old w piece new refusals.Memory given held t open_ =
-    (tt, record { holds = (ap (λ (s : CutterState). s.held) t ∙ held, ap (λ (s : CutterState). s.fault) t ∙ open_); rests = tt })
-refuses old w piece new (refusals.Format fault) given held t open_ =
-    (subst (λ v. IsRefused old.limits (v ++ piece) fault) held t.0, ap (λ (s : CutterState). s.held) t.1 ∙ held)
+pub refuses : {A : Type 0} (old : CutterState) (piece : List ℕ) (new : CutterState) (fault : StreamFault) (given : Option (Order × Message A)) → TakeAnswers {A = A} old piece new (Err fault)
+    → old.fault ≡ None → Takes (cutting A) old old.held piece new (Err fault) given
+refuses {A} old piece new refusals.Memory given t open_ = subst (λ s. Takes (cutting A) old old.held piece s (Err refusals.Memory) given) (sym t) (tt, record { holds = (refl, open_); rests = tt })
+refuses {A} old piece new (refusals.Format fault) given t open_ = subst (λ s. Takes (cutting A) old old.held piece s (Err (refusals.Format fault)) given) (sym t.1) (t.0, refl)
 
 -- its limits stay, whether or not it met a fault before
 pub limits_stay : {A : Type 0} (old : CutterState) (piece : List ℕ) (new : CutterState) (n : ℕ) (given : Option (Order × Message A)) (fault : Option Fault) → old.fault ≡ fault

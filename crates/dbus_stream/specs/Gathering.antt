@@ -8,10 +8,13 @@ use Rattle.dbus_validate.specs.declared.validating.Validated.{Validated}
 use Rattle.dbus_validate.specs.Validating.{IsValidatedWhole}
 use Rattle.dbus_check.specs.declared.checker.Checker.{Checker}
 use Rattle.dbus_check.specs.Checks as checks
-use Rattle.dbus_stream.specs.Checked.{IsOneMessage}
 use Rattle.dbus_stream.specs.Taking.{Taking}
 use Rattle.dbus_stream.specs.declared.stream_fault.StreamFault.{StreamFault}
 use Rattle.dbus_stream.specs.declared.stream_fault.StreamFault.TheVariants.{Memory, Format}
+
+-- the bytes are a message
+abbrev pub IsOneMessage : Limits → List ℕ → Type 0
+IsOneMessage limits bytes = (order : Order) × (m : MessageTree) × IsWhole limits bytes order m (length bytes)
 
 pub record GathererState : Type 0 where
   -- the limits that its messages keep

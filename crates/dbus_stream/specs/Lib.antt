@@ -15,10 +15,8 @@ pub mod RawNext
 pub mod Passing
 pub mod StreamLaws
 pub mod CutterState
-pub mod Checked
 pub mod Cutting
 pub mod CutterTaking
 pub mod MessageReaders
-pub mod Decoded
 pub mod Runs
 pub mod Headline

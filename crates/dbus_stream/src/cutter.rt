@@ -1,19 +1,16 @@
 //! Messages out of bytes that come in pieces.
-ghost use Rattle.std.specs.Prelude.{◌≡◌, ◌<◌, ◌≤◌, ◌+◌, ◌++◌, [], length, None, Some, Ok, Err, IfOk, IfErr, IfSome};
+ghost use Rattle.std.specs.Prelude.{◌≡◌, ◌<◌, ◌≤◌, [], length, None, Some, Ok, Err, IfOk};
 ghost use Rattle.dbus_value_model.specs.Specification.{specification};
 ghost use Rattle.dbus_value_model.specs.declared.fault.Fault.{Fault};
-ghost use Rattle.dbus_message_model.specs.MessageViews.{message_tree};
-ghost use Rattle.dbus_header.specs.MessageOutcomes.{IsWhole, IsPartial};
 ghost use Rattle.dbus_stream.specs.CutEnds.{truncated};
 ghost use Rattle.dbus_stream.specs.CutterState.{fresh};
 ghost use Rattle.dbus_stream.specs.Cutting.{Takes, TakeAnswers};
 ghost use Rattle.dbus_stream.specs.CutterTaking.{cutting};
 
-use crate::decoded::decoded;
 use crate::gatherer::Gatherer;
 use crate::stream_fault::StreamFault;
 use crate::taker::Taker;
-use dbus_decode::{Answer, decode_known};
+use dbus_decode::{Answer, decode_known, decode_within};
 use dbus_header::stated_length_within;
 use dbus_message_model::Message;
 use dbus_value_model::{Fault, Limits, Order, Reason, Refusal};
@@ -42,6 +39,9 @@ impl<A: Allocator> Model for Cutter<A> {
 
     ghost invariant = { λ c. IsUnderWay c.gatherer };
 }
+
+// How many bytes of a piece were taken, and a message.
+type Taken<A> = Result<(usize, Option<(Order, Message<A>)>), StreamFault>;
 
 impl<A: Allocator + Copy> Cutter<A> {
     /// A cutter as [`Cutter::within`] makes it, under the limits of the specification.
@@ -99,54 +99,48 @@ impl<A: Allocator + Copy> Cutter<A> {
         if let Some(fault) = self.fault {
             return Err(StreamFault::Format(fault));
         }
-        if !self.gatherer.bytes().is_empty() {
-            return self.take_checked(piece);
-        }
-        match self.take_stated(piece) {
-            Some(answer) => answer,
-            None => self.take_checked(piece),
+        self.take_on(piece)
+    }
+
+    // The answer if it met no fault before: by one decoding, if nothing is held and the piece
+    // states that all of its first message is there; else by the checker.
+    fn take_on(&mut self, piece: &[u8]) -> Taken<A>
+        requires { self.old.fault ≡ None }
+        ensures { TakeAnswers self.old piece.now self.new result }
+    {
+        if self.gatherer.bytes().is_empty() && states_all(piece, self.gatherer.limits()) {
+            self.take_decoded(piece)
+        } else {
+            self.take_checked(piece)
         }
     }
 
-    // The answer by one decoding, if nothing is held and the piece states that all of its first
-    // message is there; else none.
-    fn take_stated(
-        &mut self,
-        piece: &[u8],
-    ) -> Option<Result<(usize, Option<(Order, Message<A>)>), StreamFault>>
+    // The answer by one decoding, if nothing is held.
+    fn take_decoded(&mut self, piece: &[u8]) -> Taken<A>
         requires unfaulted { self.old.fault ≡ None }
         requires nothing { self.old.held ≡ [] }
-        ensures answers { IfSome result (λ answer. TakeAnswers self.old piece.now self.new answer) }
-        ensures same { result ≡ None → self.new ≡ self.old }
+        ensures answers { TakeAnswers self.old piece.now self.new result }
     {
-        let limits = self.gatherer.limits();
-        match stated_length_within(piece, limits) {
-            Ok(Some(stated)) if stated <= piece.len() as u64 => {}
-            _ => return None,
-        }
-        match decoded(self.alloc, piece, limits) {
+        match decode_within(self.alloc, piece, self.gatherer.limits()) {
             Ok(
                 Answer::Whole {
                     order,
                     message,
                     used,
                 },
-            ) => Some(Ok((used, Some((order, message))))),
-            Ok(Answer::Partial) => None,
-            Err(Refusal::Memory) => Some(Err(StreamFault::Memory)),
+            ) => Ok((used, Some((order, message)))),
+            Ok(Answer::Partial) => self.take_checked(piece),
+            Err(Refusal::Memory) => Err(StreamFault::Memory),
             Err(Refusal::Format(fault)) => {
                 self.fault = Some(fault);
-                Some(Err(StreamFault::Format(fault)))
+                Err(StreamFault::Format(fault))
             }
         }
     }
 
     // The answer by the checker, which looks at no byte that is held. It is decoded once, where the
     // message ends, and of a body that the checker took no value is checked again.
-    fn take_checked(
-        &mut self,
-        piece: &[u8],
-    ) -> Result<(usize, Option<(Order, Message<A>)>), StreamFault>
+    fn take_checked(&mut self, piece: &[u8]) -> Taken<A>
         requires { self.old.fault ≡ None }
         ensures { TakeAnswers self.old piece.now self.new result }
     {
@@ -200,6 +194,14 @@ impl<A: Allocator + Copy> Cutter<A> {
             at: self.gatherer.bytes().len() as u64,
             reason: Reason::Truncated,
         })
+    }
+}
+
+// Whether the piece states that all of its first message is there.
+fn states_all(piece: &[u8], limits: Limits) -> bool {
+    match stated_length_within(piece, limits) {
+        Ok(Some(stated)) => stated <= piece.len() as u64,
+        _ => false,
     }
 }
 

@@ -14,7 +14,6 @@
 mod buffer;
 mod check_reader;
 mod cutter;
-mod decoded;
 mod gatherer;
 pub mod laws;
 mod lengths;

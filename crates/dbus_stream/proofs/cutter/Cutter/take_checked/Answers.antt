@@ -1,11 +1,10 @@
-use Rattle.std.proofs.Common.{◌≡◌, ◌+◌, ◌++◌, [], None, ℕ, List, length, take, sym, ap, subst, ◌∙◌}
+use Rattle.std.proofs.Common.{◌≡◌, ◌+◌, ◌++◌, None, ℕ, List, length, take, refl, sym, ap, subst, ◌∙◌}
 use Rattle.std.proofs.lemmas.List.{length-append}
 use Rattle.dbus_message_model.specs.MessageViews.{message_tree}
-use Rattle.dbus_header.specs.MessageOutcomes.{IsWhole, IsPartial}
+use Rattle.dbus_header.specs.MessageOutcomes.{IsWhole}
 use Rattle.dbus_header.proofs.OutcomeLaws.{nothing_partial}
-use Rattle.dbus_stream.specs.Checked.{IsOneMessage}
 use Rattle.dbus_stream.specs.CutterState.{CutterState, fresh}
-use Rattle.dbus_stream.specs.Gathering.{GathererState, Gathered, under_way}
+use Rattle.dbus_stream.specs.Gathering.{GathererState, Gathered, IsUnderWay, begun, IsOneMessage}
 use Rattle.dbus_stream.proofs.CutterSteps.{one_message, begins_with}
 use Rattle.dbus_stream.proofs.cutter.Cutter.take_checked.Goals as goal
 use Rattle.dbus_stream.proofs.cutter.Cutter.take_checked.Goals.{In-Ok-Some}
@@ -25,24 +24,18 @@ decode_known-requires g c =
     record {
       known =
           subst (λ l. IsOneMessage l c.bytes.result.now) (sym limits_are)
-          (subst (λ (b : List ℕ). IsOneMessage old.limits b) (sym bytes_are) (one_message old.limits old.held piece n e.fits e.order e.message e.whole));
+          (subst (λ (b : List ℕ). IsOneMessage old.limits b) (sym bytes_are) (one_message old.limits old.held piece n e.order e.message e.fits e.whole));
     }
 
 pub invariant_of-self : goal.invariant_of-self
 invariant_of-self g c =
     let e = gathered g (goal.at.invariant_of-self g c).In-Ok-Some in
-    let next = c.begin.new.self in
-    let none : next.held ≡ [] = ap (λ (s : GathererState). s.held) c.begin.ensures ∙ ap (λ (s : GathererState). under_way s.whole c.gather.new.self.held) e.state in
-    record {
-      partial = subst (λ l. IsPartial next.limits l) (sym none) (nothing_partial next.limits);
-      not_whole = ap (λ (s : GathererState). s.whole) c.begin.ensures;
-      unlent = ap (λ (s : GathererState). s.lent) c.begin.ensures;
-    }
+    let empty = c.begin.ensures ∙ ap begun e.state in
+    subst IsUnderWay (sym empty) (record { partial = nothing_partial c.self.inside.gatherer.limits; not_whole = refl; unlent = refl })
 
 pub returns-in-Ok : goal.returns-in-Ok
 returns-in-Ok g c =
     let old = c.self.inside.gatherer in
-    let next = c.begin.new.self in
     let piece = c.args.piece.now in
     let n = c.in-Ok-Some.count in
     let order = c.in-Ok.given.0 in
@@ -52,11 +45,10 @@ returns-in-Ok g c =
     let bytes_are = c.bytes.ensures ∙ ap (λ (s : GathererState). s.held) e.state in
     let all = old.held ++ take n piece in
     let own : IsWhole old.limits all order m (length all) = subst (λ (b : List ℕ). IsWhole old.limits b order m (length b)) bytes_are (subst (λ l. IsWhole l c.bytes.result.now order m (length c.bytes.result.now)) limits_are c.in-Ok.ensures.decoded) in
-    let whole = begins_with old.limits old.held piece n e.fits order m (subst (λ k. IsWhole old.limits all order m k) (length-append old.held (take n piece)) own) in
-    let limits_now : next.limits ≡ old.limits = ap (λ (s : GathererState). s.limits) c.begin.ensures ∙ ap (λ (s : GathererState). s.limits) e.state in
-    let none : next.held ≡ [] = ap (λ (s : GathererState). s.held) c.begin.ensures ∙ ap (λ (s : GathererState). under_way s.whole c.gather.new.self.held) e.state in
+    let whole = begins_with old.limits old.held piece n order m e.fits (subst (λ k. IsWhole old.limits all order m k) (length-append old.held (take n piece)) own) in
+    let empty = c.begin.ensures ∙ ap begun e.state in
     let open_ : c.self.inside.fault ≡ None = ap (λ (s : CutterState). s.fault) c.self.view_is ∙ c.requires in
-    let state : (record { limits = next.limits; held = next.held; fault = c.self.inside.fault }) ≡ fresh old.limits = λ i. record { limits = limits_now i; held = none i; fault = open_ i } in (
+    let state : (record { limits = c.begin.new.self.limits; held = c.begin.new.self.held; fault = c.self.inside.fault }) ≡ fresh old.limits = λ i. record { limits = (empty i).limits; held = (empty i).held; fault = open_ i } in (
       subst (λ (s : CutterState). IsWhole s.limits (s.held ++ piece) order m (length s.held + n)) c.self.view_is whole,
       state ∙ ap (λ (s : CutterState). fresh s.limits) c.self.view_is,
     )

@@ -2,9 +2,8 @@ use Rattle.std.proofs.Common.{rules, ◌≡◌, false, ℕ, List, ◌++◌, take
 use Rattle.dbus_check.specs.Checks.{Stands, Takes}
 use Rattle.dbus_check.specs.declared.check.Check.TheVariants as check
 use Rattle.dbus_header.proofs.OutcomeLaws.{nothing_partial}
-use Rattle.dbus_stream.specs.Checked.{IsOneMessage}
-use Rattle.dbus_stream.specs.Gathering.{under_way}
-use Rattle.dbus_stream.proofs.Gathered.{ended}
+use Rattle.dbus_stream.specs.Gathering.{under_way, IsOneMessage}
+use Rattle.dbus_stream.proofs.CutterSteps.{one_message}
 use Rattle.dbus_stream.proofs.gatherer.Gatherer.gather.Goals as goal
 
 pub invariant_of-self-in-Done : goal.invariant_of-self-in-Done
@@ -21,5 +20,5 @@ invariant_of-self-in-Done g c =
       partial = nothing_partial limits;
       stands = c.restart.ensures.stands;
       same_limits = c.restart.ensures.limits ∙ (c.take.ensures.limits ∙ c.self.invariant.same_limits);
-      complete = λ _. subst (λ (b : List ℕ). IsOneMessage limits b) (sym now_held) (ended limits held piece takes.1 takes.2 n takes.0 takes.3);
+      complete = λ _. subst (λ (b : List ℕ). IsOneMessage limits b) (sym now_held) (one_message limits held piece n takes.1 takes.2 takes.0 takes.3);
     }

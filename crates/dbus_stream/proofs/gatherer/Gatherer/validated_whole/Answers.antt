@@ -1,7 +1,6 @@
 use Rattle.std.proofs.Common.{rules, ◌≡◌, ℕ, List, true, subst, sym}
 use Rattle.dbus_validate.specs.Validating.{IsValidatedWhole}
-use Rattle.dbus_stream.specs.Gathering.{GathererState}
-use Rattle.dbus_stream.specs.Checked.{IsOneMessage}
+use Rattle.dbus_stream.specs.Gathering.{GathererState, IsOneMessage}
 use Rattle.dbus_stream.proofs.gatherer.Gatherer.validated_whole.Goals as goal
 
 pub validate_known-requires : goal.validate_known-requires
