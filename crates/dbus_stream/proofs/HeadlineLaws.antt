@@ -18,9 +18,7 @@ use Rattle.dbus_header.specs.MessageOutcomes.{IsWhole, IsRefused}
 use Rattle.dbus_decode.specs.Decodes.{Decodes}
 use Rattle.dbus_header.proofs.OutcomeLaws.{one_whole, one_fault, one_outcome, not_both, whole_bytes, whole_valid, valid_whole}
 use Rattle.dbus_stream.specs.Cut.{CutMessage, BeginWith, Ended, IsCut}
-use Rattle.dbus_stream.specs.CutterState.{CutterState, fresh}
-use Rattle.dbus_stream.specs.Cutting.{TakeAnswer}
-use Rattle.dbus_stream.specs.Runs.{Feeds, given_by, outcome_of, IsSettled}
+use Rattle.dbus_stream.specs.Runs.{given_by, outcome_of}
 use Rattle.dbus_stream.specs.Headline.{BeginsWithMessage, Accepts, Encodes, AreMessages, stream_bytes, Headline}
 use Rattle.dbus_stream.proofs.CutLaws.{IsCut-one}
 use Rattle.dbus_stream.proofs.RunLaws.{however_cut, none_past}
@@ -86,32 +84,6 @@ none_in_both : (xs ys : List ℕ) → xs ++ ys ≡ [] → (xs ≡ []) × (ys ≡
 none_in_both [] ys e = (refl, e)
 none_in_both (x ∷ xs) ys e = absurd cc
 
-module _ {A : Type 0} where
-  same_cut : (limits : Limits) (pieces left others suffix : List (List ℕ)) (answers replies : List (TakeAnswer A)) (here there : CutterState)
-      → concat pieces ≡ concat others → Feeds (fresh limits) pieces answers here left → IsSettled here (concat left)
-      → Feeds (fresh limits) others replies there suffix → IsSettled there (concat suffix)
-      → (given_by 0 answers ≡ given_by 0 replies) × (here.fault ≡ there.fault)
-  same_cut limits pieces left others suffix answers replies here there same f e g k =
-      let one = (however_cut limits pieces left answers here f).all e in
-      let two = (however_cut limits others suffix replies there g).all k in
-      let both = IsCut-one limits (concat others) (given_by 0 answers) (given_by 0 replies) (here.held ++ concat left) (there.held ++ concat suffix)
-      (outcome_of here.held here.fault) (outcome_of there.held there.fault)
-      (subst (λ l. IsCut limits l (given_by 0 answers) (here.held ++ concat left) (outcome_of here.held here.fault)) same one) two in
-      (both.0, outcome_fault here.held there.held here.fault there.fault both.2)
-
-  all_given : (limits : Limits) (items : List CutMessage) (pieces left : List (List ℕ)) (answers : List (TakeAnswer A)) (now : CutterState) → AreMessages limits items
-      → concat pieces ≡ stream_bytes items → Feeds (fresh limits) pieces answers now left → IsSettled now (concat left)
-      → (given_by 0 answers ≡ items) × (now ≡ fresh limits) × (concat left ≡ [])
-  all_given limits items pieces left answers now a same f e =
-      let all = however_cut limits pieces left answers now f in
-      let run = all.all e in
-      let own : IsCut limits (concat pieces) items [] Ended
-      = record { messages = subst (λ l. BeginWith limits l items []) (sym same) (begin_with_all limits items a); outcome_is = refl } in
-      let both = IsCut-one limits (concat pieces) (given_by 0 answers) items (now.held ++ concat left) [] (outcome_of now.held now.fault) Ended run own in
-      let none = none_in_both now.held (concat left) both.1 in
-      let sound : now.fault ≡ None = outcome_fault now.held [] now.fault None both.2 in
-      (both.0, λ i. record { limits = all.limits_stay i; held = none.0 i; fault = sound i }, none.1)
-
 pub headline : (A : Type 0) (limits : Limits) → Headline limits A
 headline A limits = record {
   accepted = λ bytes answer d some order m n.
@@ -124,6 +96,19 @@ headline A limits = record {
   one_fault = one_fault limits;
   however_cut = however_cut limits;
   none_past = none_past limits;
-  same_messages = same_cut limits;
-  all_arrive = all_given limits;
+  same_messages = λ pieces left others suffix answers replies here there same f e g k.
+      let one = (however_cut limits pieces left answers here f).all e in
+      let two = (however_cut limits others suffix replies there g).all k in
+      let both = IsCut-one limits (concat others) (given_by 0 answers) (given_by 0 replies) (here.held ++ concat left) (there.held ++ concat suffix)
+      (outcome_of here.held here.fault) (outcome_of there.held there.fault)
+      (subst (λ l. IsCut limits l (given_by 0 answers) (here.held ++ concat left) (outcome_of here.held here.fault)) same one) two in
+      (both.0, outcome_fault here.held there.held here.fault there.fault both.2);
+  all_arrive = λ items pieces left answers now a same f e.
+      let all = however_cut limits pieces left answers now f in
+      let own : IsCut limits (concat pieces) items [] Ended
+      = record { messages = subst (λ l. BeginWith limits l items []) (sym same) (begin_with_all limits items a); outcome_is = refl } in
+      let both = IsCut-one limits (concat pieces) (given_by 0 answers) items (now.held ++ concat left) [] (outcome_of now.held now.fault) Ended (all.all e) own in
+      let none = none_in_both now.held (concat left) both.1 in
+      let sound : now.fault ≡ None = outcome_fault now.held [] now.fault None both.2 in
+      (both.0, λ i. record { limits = all.limits_stay i; held = none.0 i; fault = sound i }, none.1);
 }

@@ -57,110 +57,56 @@ given_first limits held piece suffix item n items rest size w f =
       subst (λ l. BeginWith limits l items rest) (sym cut) f,
     )
 
-module _ {A : Type 0} where
-  -- what the calls from a state on came to
-  abbrev Onward : List (TakeAnswer A) → CutterState → List (List ℕ) → CutterState → List (List ℕ) → Type 0
-  Onward answers old pieces now left =
-      Reaches old.limits (old.held ++ concat pieces) (given_by (length old.held) answers) now (concat left)
+-- what calls came to from a state on, where these bytes were ahead
+abbrev Onward : {A : Type 0} → List (TakeAnswer A) → CutterState → List ℕ → CutterState → List ℕ → Type 0
+Onward answers old ahead now left = Stands old ahead → Reaches old.limits (old.held ++ ahead) (given_by (length old.held) answers) now left
 
-  -- one call that met no fault before, and then the others
-  onward_by : (answer : TakeAnswer A) (answers : List (TakeAnswer A)) (limits : Limits) (held piece : List ℕ) (pieces : List (List ℕ)) (new now : CutterState) (left : List (List ℕ))
-      → TakeAnswers (record { limits = limits; held = held; fault = None }) piece new answer
-      → (Stands new (concat (again (drop (taken answer) piece) pieces)) → Onward answers new (again (drop (taken answer) piece) pieces) now left)
-      → IsPartial limits held → Onward (answer ∷ answers) (record { limits = limits; held = held; fault = None }) (piece ∷ pieces) now left
-  onward_by (Ok (n, Some given)) answers limits held piece pieces new now left t others p =
+-- one call, and then the others
+module _ {A : Type 0} (answers : List (TakeAnswer A)) (limits : Limits) (held piece ahead : List ℕ) (new now : CutterState) (left : List ℕ) where
+  -- that met no fault before
+  onward_by : (answer : TakeAnswer A) → TakeAnswers (record { limits = limits; held = held; fault = None }) piece new answer → Onward answers new (drop (taken answer) piece ++ ahead) now left
+      → IsPartial limits held → Reaches limits (held ++ (piece ++ ahead)) (given_by (length held) (answer ∷ answers)) now left
+  onward_by (Ok (n, Some given)) t others p =
       let item : CutMessage = record { order = given.0; message = message_tree given.1; size = length held + n } in
-      let stands : Stands new (concat (again (drop n piece) pieces)) = subst (λ s. Stands s (concat (again (drop n piece) pieces))) (sym t.1) (unfaulted limits [] _ (nothing_partial limits)) in
-      let r = others stands in
-      let suffix : BeginWith limits (concat (again (drop n piece) pieces)) (given_by 0 answers) (now.held ++ concat left)
-      = subst (λ (s : CutterState). BeginWith s.limits (s.held ++ concat (again (drop n piece) pieces)) (given_by (length s.held) answers) (now.held ++ concat left)) t.1 r.messages in
+      let r = subst (λ s. Onward answers s (drop n piece ++ ahead) now left) t.1 others (unfaulted limits [] _ (nothing_partial limits)) in
       record {
-        messages = given_first limits held piece (concat pieces) item n (given_by 0 answers) (now.held ++ concat left) refl t.0
-            (subst (λ l. BeginWith limits l (given_by 0 answers) (now.held ++ concat left)) (concat-again (drop n piece) pieces) suffix);
-        limits_stay = r.limits_stay ∙ ap (λ (s : CutterState). s.limits) t.1;
+        messages = given_first limits held piece ahead item n (given_by 0 answers) (now.held ++ left) refl t.0 r.messages;
+        limits_stay = r.limits_stay;
         stands = r.stands;
       }
-  onward_by (Ok (n, None)) answers limits held piece pieces new now left t others p =
-      let stands : Stands new (concat (again (drop n piece) pieces)) = subst (λ s. Stands s (concat (again (drop n piece) pieces))) (sym t.2) (unfaulted limits (held ++ piece) _ t.0) in
-      let r = others stands in
+  onward_by (Ok (n, None)) t others p =
+      let r = subst (λ s. Onward answers s (drop n piece ++ ahead) now left) t.2 others (unfaulted limits (held ++ piece) _ t.0) in
       let none : drop n piece ≡ [] = ap (λ k. drop k piece) t.1 ∙ drop-length piece in
-      let ahead : concat (again (drop n piece) pieces) ≡ concat pieces = concat-again (drop n piece) pieces ∙ ap (λ l. l ++ concat pieces) none in
-      let all : (held ++ piece) ++ concat (again (drop n piece) pieces) ≡ held ++ (piece ++ concat pieces)
-      = ap (λ l. (held ++ piece) ++ l) ahead ∙ append_assoc held piece (concat pieces) in
+      let all : (held ++ piece) ++ (drop n piece ++ ahead) ≡ held ++ (piece ++ ahead) = ap (λ l. (held ++ piece) ++ (l ++ ahead)) none ∙ append_assoc held piece ahead in
       let count : length (held ++ piece) ≡ length held + n = length-append held piece ∙ ap (λ k. length held + k) (sym t.1) in
-      let suffix : BeginWith limits ((held ++ piece) ++ concat (again (drop n piece) pieces)) (given_by (length (held ++ piece)) answers) (now.held ++ concat left)
-      = subst (λ (s : CutterState). BeginWith s.limits (s.held ++ concat (again (drop n piece) pieces)) (given_by (length s.held) answers) (now.held ++ concat left)) t.2 r.messages in
-      record {
-        messages = subst (λ l. BeginWith limits l (given_by (length held + n) answers) (now.held ++ concat left)) all
-            (subst (λ k. BeginWith limits ((held ++ piece) ++ concat (again (drop n piece) pieces)) (given_by k answers) (now.held ++ concat left)) count suffix);
-        limits_stay = r.limits_stay ∙ ap (λ (s : CutterState). s.limits) t.2;
-        stands = r.stands;
-      }
-  onward_by (Err Memory) answers limits held piece pieces new now left t others p =
-      let stands : Stands new (concat (again piece pieces)) = subst (λ s. Stands s (concat (again piece pieces))) (sym t) (unfaulted limits held _ p) in
-      let r = others stands in
-      let suffix : BeginWith limits (held ++ concat (again piece pieces)) (given_by (length held) answers) (now.held ++ concat left)
-      = subst (λ (s : CutterState). BeginWith s.limits (s.held ++ concat (again piece pieces)) (given_by (length s.held) answers) (now.held ++ concat left)) t r.messages in
-      record {
-        messages = subst (λ l. BeginWith limits (held ++ l) (given_by (length held) answers) (now.held ++ concat left)) (concat-again piece pieces) suffix;
-        limits_stay = r.limits_stay ∙ ap (λ (s : CutterState). s.limits) t;
-        stands = r.stands;
-      }
-  onward_by (Err (Format fault)) answers limits held piece pieces new now left t others p =
-      let ahead : (held ++ piece) ++ concat pieces ≡ held ++ concat (again piece pieces)
-      = append_assoc held piece (concat pieces) ∙ ap (λ l. held ++ l) (sym (concat-again piece pieces)) in
-      let refused : IsRefused limits (held ++ concat (again piece pieces)) fault
-      = subst (λ l. IsRefused limits l fault) ahead (refused_for_good limits (held ++ piece) (concat pieces) fault t.0) in
-      let stands : Stands new (concat (again piece pieces)) = subst (λ s. Stands s (concat (again piece pieces))) (sym t.1) (faulted limits held _ fault refused) in
-      let r = others stands in
-      let suffix : BeginWith limits (held ++ concat (again piece pieces)) (given_by (length held) answers) (now.held ++ concat left)
-      = subst (λ (s : CutterState). BeginWith s.limits (s.held ++ concat (again piece pieces)) (given_by (length s.held) answers) (now.held ++ concat left)) t.1 r.messages in
-      record {
-        messages = subst (λ l. BeginWith limits (held ++ l) (given_by (length held) answers) (now.held ++ concat left)) (concat-again piece pieces) suffix;
-        limits_stay = r.limits_stay ∙ ap (λ (s : CutterState). s.limits) t.1;
-        stands = r.stands;
-      }
+      subst (λ l. Reaches limits l (given_by (length held + n) answers) now left) all
+      (subst (λ k. Reaches limits ((held ++ piece) ++ (drop n piece ++ ahead)) (given_by k answers) now left) count r)
+  onward_by (Err Memory) t others p = subst (λ s. Onward answers s (piece ++ ahead) now left) t others (unfaulted limits held _ p)
+  onward_by (Err (Format fault)) t others p =
+      let refused = subst (λ l. IsRefused limits l fault) (append_assoc held piece ahead) (refused_for_good limits (held ++ piece) ahead fault t.0) in
+      subst (λ s. Onward answers s (piece ++ ahead) now left) t.1 others (faulted limits held _ fault refused)
 
-  -- one call that answers the fault of an earlier one, and then the others
-  onward_refused : (answers : List (TakeAnswer A)) (old new : CutterState) (piece : List ℕ) (pieces : List (List ℕ)) (now : CutterState) (left : List (List ℕ)) (fault : Fault)
-      → new ≡ old → Stands old (piece ++ concat pieces) → (Stands new (concat (again piece pieces)) → Onward answers new (again piece pieces) now left)
-      → Onward (Err (Format fault) ∷ answers) old (piece ∷ pieces) now left
-  onward_refused answers old new piece pieces now left fault same s others =
-      let stands : Stands new (concat (again piece pieces))
-      = subst (λ (x : CutterState). Stands x (concat (again piece pieces))) (sym same) (subst (λ l. Stands old l) (sym (concat-again piece pieces)) s) in
-      let r = others stands in
-      let suffix : BeginWith old.limits (old.held ++ concat (again piece pieces)) (given_by (length old.held) answers) (now.held ++ concat left)
-      = subst (λ (x : CutterState). BeginWith x.limits (x.held ++ concat (again piece pieces)) (given_by (length x.held) answers) (now.held ++ concat left)) same r.messages in
-      record {
-        messages = subst (λ l. BeginWith old.limits (old.held ++ l) (given_by (length old.held) answers) (now.held ++ concat left)) (concat-again piece pieces) suffix;
-        limits_stay = r.limits_stay ∙ ap (λ (s : CutterState). s.limits) same;
-        stands = r.stands;
-      }
-
-  -- one call, and then the others
-  onward_call : (fault : Option Fault) (answer : TakeAnswer A) (answers : List (TakeAnswer A)) (limits : Limits) (held piece : List ℕ) (pieces : List (List ℕ)) (new now : CutterState) (left : List (List ℕ))
-      → Takes (record { limits = limits; held = held; fault = fault }) piece new answer → Stands (record { limits = limits; held = held; fault = fault }) (piece ++ concat pieces)
-      → (Stands new (concat (again (drop (taken answer) piece) pieces)) → Onward answers new (again (drop (taken answer) piece) pieces) now left)
-      → Onward (answer ∷ answers) (record { limits = limits; held = held; fault = fault }) (piece ∷ pieces) now left
-  onward_call None answer answers limits held piece pieces new now left t s others =
-      onward_by answer answers limits held piece pieces new now left (t.answers refl) others (s.unfinished refl)
-  onward_call (Some fault) answer answers limits held piece pieces new now left t s others =
+  onward_call : (fault : Option Fault) (answer : TakeAnswer A) → Takes (record { limits = limits; held = held; fault = fault }) piece new answer
+      → Onward answers new (drop (taken answer) piece ++ ahead) now left → Onward (answer ∷ answers) (record { limits = limits; held = held; fault = fault }) (piece ++ ahead) now left
+  onward_call None answer t others = λ s. onward_by answer (t.answers refl) others (s.unfinished refl)
+  onward_call (Some fault) answer t others =
       let stays = t.stays fault refl in
-      subst (λ (x : TakeAnswer A). (Stands new (concat (again (drop (taken x) piece) pieces)) → Onward answers new (again (drop (taken x) piece) pieces) now left)
-      → Onward (x ∷ answers) (record { limits = limits; held = held; fault = Some fault }) (piece ∷ pieces) now left) (sym stays.0)
-      (onward_refused answers (record { limits = limits; held = held; fault = Some fault }) new piece pieces now left fault stays.1 s) others
+      let again = subst (λ x. Onward answers new (drop (taken x) piece ++ ahead) now left) stays.0 others in
+      subst (λ x. Onward (x ∷ answers) (record { limits = limits; held = held; fault = Some fault }) (piece ++ ahead) now left) (sym stays.0)
+      (subst (λ s. Onward answers s (piece ++ ahead) now left) stays.1 again)
 
-  -- the calls from a state on
-  onward : (answers : List (TakeAnswer A)) (old : CutterState) (pieces : List (List ℕ)) (now : CutterState) (left : List (List ℕ)) → Stands old (concat pieces)
-      → Feeds old pieces answers now left → Onward answers old pieces now left
-  onward [] old pieces now left s f = record {
-    messages = (λ i. (sym f.0 i).held ++ concat (sym f.1 i));
-    limits_stay = ap (λ (s : CutterState). s.limits) f.0;
-    stands = subst (λ (x : CutterState). Stands x (concat left)) (sym f.0) (subst (λ l. Stands old (concat l)) (sym f.1) s);
-  }
-  onward (answer ∷ answers) old [] now left s f = absurd f
-  onward (answer ∷ answers) old (piece ∷ pieces) now left s f =
-      onward_call old.fault answer answers old.limits old.held piece pieces f.0 now left f.1 s (λ stands. onward answers f.0 (again (drop (taken answer) piece) pieces) now left stands f.2)
+-- the calls from a state on
+onward : {A : Type 0} (answers : List (TakeAnswer A)) (old : CutterState) (pieces : List (List ℕ)) (now : CutterState) (left : List (List ℕ)) → Feeds old pieces answers now left
+    → Onward answers old (concat pieces) now (concat left)
+onward [] old pieces now left f = λ s. record {
+  messages = (λ i. (sym f.0 i).held ++ concat (sym f.1 i));
+  limits_stay = ap (λ (s : CutterState). s.limits) f.0;
+  stands = subst (λ (x : CutterState). Stands x (concat left)) (sym f.0) (subst (λ l. Stands old (concat l)) (sym f.1) s);
+}
+onward (answer ∷ answers) old [] now left f = absurd f
+onward (answer ∷ answers) old (piece ∷ pieces) now left f =
+    onward_call answers old.limits old.held piece (concat pieces) f.0 now (concat left) old.fault answer f.1
+    (subst (λ l. Onward answers f.0 l now (concat left)) (concat-again (drop (taken answer) piece) pieces) (onward answers f.0 (again (drop (taken answer) piece) pieces) now left f.2))
 
 -- the outcome, where nothing more is handed in
 settled_outcome : (limits : Limits) (held left : List ℕ) (fault : Option Fault) → Stands (record { limits = limits; held = held; fault = fault }) left
@@ -178,7 +124,7 @@ settled_outcome limits (x ∷ xs) left None s e = elim e [
 pub however_cut : {A : Type 0} (limits : Limits) (pieces left : List (List ℕ)) (answers : List (TakeAnswer A)) (now : CutterState)
     → Feeds (fresh limits) pieces answers now left → CutsInto limits (concat pieces) (given_by 0 answers) now (concat left)
 however_cut limits pieces left answers now f =
-    let r = onward answers (fresh limits) pieces now left (unfaulted limits [] (concat pieces) (nothing_partial limits)) f in
+    let r = onward answers (fresh limits) pieces now left f (unfaulted limits [] (concat pieces) (nothing_partial limits)) in
     record {
       messages = r.messages;
       limits_stay = r.limits_stay;
