@@ -27,22 +27,18 @@ module _ {R B : Type 0} {b : Ghosts B} where
     pub alone : 0 < r.taker.lent → r.taker.held ≡ []
     pub held : r.held ≡ length (under_way r.taker.whole r.taker.held)
 
+  unlent : (r : Reader R GathererState B b) → r.taker.lent ≡ 0 → r.held ≡ length (under_way r.taker.whole r.taker.held) → IsLending r
+  unlent r none held = record { before = omega (arith, none); counted = omega (arith, none); alone = λ some. absurd (omega (arith, none, some)); held = held }
+
   resting : (r : Reader R GathererState B b) (w : List ℕ) → reading.Keeps gathering r w → Rests r.taker → IsLending r
-  resting r w k rests =
-      let none = rests.1 in
-      record {
-        before = omega (arith, none);
-        counted = omega (arith, none);
-        alone = λ some. absurd (omega (arith, none, some));
-        held = k.size ∙ ap length (sym k.holds);
-      }
+  resting r w k rests = unlent r rests.1 (k.size ∙ ap length (sym k.holds))
 
   giving : (w : List ℕ) (j : Validated) (old new : Reader R GathererState B b) → next.GivesOf gathering w j old new → IsLending new
   giving w j old new (size, g, lends, there) =
       let done = g.done in
       let held : new.held ≡ length (under_way new.taker.whole new.taker.held) = g.kept.size ∙ ap length (sym g.kept.holds) in
       elim lends.place [
-        | inl whole ↦ (let none = whole.2 in record { before = omega (arith, none); counted = omega (arith, none); alone = λ some. absurd (omega (arith, none, some)); held = held })
+        | inl whole ↦ unlent new whole.2 held
         | inr part ↦ (
             let some = (whole_inside (old.taker.limits) w g.order g.message size g.whole).0 in
             let is_size = part.2 in
@@ -53,14 +49,7 @@ module _ {R B : Type 0} {b : Ghosts B} where
       ]
 
   refusing : (w : List ℕ) (fault : Fault) (old new : Reader R GathererState B b) → next.Refuses gathering w fault old new → IsLending new
-  refusing w fault old new r =
-      let none = r.keeps.1.1 in
-      record {
-        before = omega (arith, none);
-        counted = omega (arith, none);
-        alone = λ some. absurd (omega (arith, none, some));
-        held = r.size ∙ (ap length (sym r.keeps.0) ∙ sym (ap (λ b. length (under_way b new.taker.held)) r.keeps.1.0));
-      }
+  refusing w fault old new r = unlent new r.keeps.1.1 (r.size ∙ (ap length (sym r.keeps.0) ∙ sym (ap (λ b. length (under_way b new.taker.held)) r.keeps.1.0)))
 
   -- after each answer
   pub lending_next : (w : List ℕ) (old new : Reader R GathererState B b) (res : Result (Option Validated) ReadFault) → next.NextAnswers gathering w old new res
