@@ -14,11 +14,10 @@ use Rattle.dbus_stream.specs.declared.reader.Reader.{Reader}
 use Rattle.dbus_stream.specs.declared.read_fault.ReadFault.{ReadFault}
 use Rattle.dbus_stream.specs.declared.read_fault.ReadFault.TheVariants.{Memory, Format, Device, TooManyReads}
 use Rattle.dbus_stream.specs.Lasting.{is_lasting}
-use Rattle.dbus_stream.specs.Next.{NextAnswers, KeptAnswers, DeviceCounts, Reads, ReadsWhile, KeepsAll, GivesOf, Refuses, IsCutShort, ReadsNothing}
-use Rattle.dbus_stream.specs.Reading.{limits_of, source_of, done_of, reads_of, most_reads_of, is_ended, stopped_of, Keeps}
-use Rattle.dbus_stream.specs.Steps.{IsDrained, Buffers, Stops, Finishes, GivesUp, FillsBy, FillsNone}
+use Rattle.dbus_stream.specs.Next.{NextAnswers, KeptAnswers, DeviceCounts, Reads, ReadsWhile, KeepsAll, IsCutShort, ReadsNothing}
+use Rattle.dbus_stream.specs.Reading.{limits_of, source_of, part_of, done_of, reads_of, most_reads_of, is_ended, stopped_of, Keeps}
+use Rattle.dbus_stream.specs.Steps.{Buffers, Stops, Calls, FillsBy, FillsNone}
 use Rattle.dbus_stream.specs.Taking.{Taking}
-use Rattle.dbus_stream.proofs.Lists.{no_part}
 
 -- a count that rose by k rises once more
 pub RisesBy-more : (k a b c : ℕ) → RisesBy k a b → c ≡ one_more b → RisesBy (k + 1) a c
@@ -46,13 +45,6 @@ pub few_done : (N done reads most : ℕ) → done ≤ N * reads → reads ≤ mo
 few_done N done reads most counted few low =
     let all = mul-le-mul_left N (let r : reads ≤ 2 ^ 32 = omega (arith, few, low) in r) in
     omega (arith, counted, all)
-
--- one more call of the device
-pub record Calls {R T B : Type 0} {b : Ghosts B} (calls : R → ℕ) (mid new : Reader R T B b) : Type 0 where
-  pub reads : reads_of new ≡ reads_of mid + 1
-  pub called : calls (source_of new) ≡ one_more (calls (source_of mid))
-  pub most_reads : most_reads_of new ≡ most_reads_of mid
-  pub done : done_of new ≡ done_of mid
 
 module _ {R T B G : Type 0} {b : Ghosts B} (k : Taking T G) (Needed : List ℕ → Type 0) (left : R → Option (List ℕ)) (calls : R → ℕ) where
   -- nothing was read yet
@@ -83,7 +75,6 @@ module _ {R T B G : Type 0} {b : Ghosts B} (k : Taking T G) (Needed : List ℕ �
   reads_still old mid new r n = record {
     bytes = r.bytes;
     count = r.count;
-    consumed = subst (λ s. Consumes (left (source_of old)) (left s) r.bytes) (sym n.source) r.consumed;
     few = r.few;
     last = r.last;
     before = r.before;
@@ -91,8 +82,9 @@ module _ {R T B G : Type 0} {b : Ghosts B} (k : Taking T G) (Needed : List ℕ �
     last_fits = r.last_fits;
     between = r.between;
     came = r.came;
-    one_call = λ some. ap calls n.source ∙ r.one_call some;
     needed = r.needed;
+    consumed = subst (λ s. Consumes (left (source_of old)) (left s) r.bytes) (sym n.source) r.consumed;
+    one_call = λ some. ap calls n.source ∙ r.one_call some;
     reads = n.reads ∙ r.reads;
     called = subst (λ s. RisesBy r.count (calls (source_of old)) (calls s)) (sym n.source) r.called;
     most_reads = n.most_reads ∙ r.most_reads;
@@ -107,15 +99,15 @@ module _ {R T B G : Type 0} {b : Ghosts B} (k : Taking T G) (Needed : List ℕ �
   reads_from Wanted old mid new n wanted r = record {
     bytes = r.bytes;
     count = r.count;
-    consumed = subst (λ (s : R). Consumes (left s) (left (source_of new)) r.bytes) n.source r.consumed;
     few = r.few;
     last = r.last;
     before = r.before;
     joined = r.joined;
     last_fits = r.last_fits;
     between = r.between;
-    came = subst (λ (s : R). Consumes (left s) (left r.between) r.before) n.source r.came;
     one_call = r.one_call;
+    consumed = subst (λ (s : R). Consumes (left s) (left (source_of new)) r.bytes) n.source r.consumed;
+    came = subst (λ (s : R). Consumes (left s) (left r.between) r.before) n.source r.came;
     needed = λ some. wanted r.before (r.needed some);
     reads = r.reads ∙ ap (λ x. x + r.count) n.reads;
     called = subst (λ (s : R). RisesBy r.count (calls s) (calls (source_of new))) n.source r.called;
@@ -127,17 +119,16 @@ module _ {R T B G : Type 0} {b : Ghosts B} (k : Taking T G) (Needed : List ℕ �
 
   -- one more read, where each gave a byte before
   abbrev pub reads_one : (old mid new : Reader R T B b) (r : ReadsWhile k Needed left calls old mid) → is_ended mid ≡ false → r.count ≤ length r.bytes → Needed r.bytes
-      → Calls calls mid new → (bytes : List ℕ) → Consumes (left (source_of mid)) (left (source_of new)) bytes → length bytes ≤ b.room.size
-      → limits_of k new ≡ limits_of k mid → (is_ended new ≡ true → IsAtEnd (left (source_of new))) → ReadsWhile k Needed left calls old new
-  reads_one old mid new r open_ paid wanted c bytes came fits limits at_end = record {
+      → Calls calls mid new → (bytes : List ℕ) → FillsBy left bytes mid new → ReadsWhile k Needed left calls old new
+  reads_one old mid new r open_ paid wanted c bytes f = record {
     bytes = r.bytes ++ bytes;
     count = r.count + 1;
-    consumed = Consumes-trans _ _ _ _ _ r.consumed came;
+    consumed = Consumes-trans _ _ _ _ _ r.consumed f.consumed;
     few = (let all = length-append r.bytes bytes in omega (arith, paid, all));
     last = bytes;
     before = r.bytes;
     joined = refl;
-    last_fits = fits;
+    last_fits = f.few;
     between = source_of mid;
     came = r.consumed;
     one_call = λ _. c.called;
@@ -145,43 +136,45 @@ module _ {R T B G : Type 0} {b : Ghosts B} (k : Taking T G) (Needed : List ℕ �
     reads = omega (arith, c.reads, r.reads);
     called = RisesBy-more r.count _ _ _ r.called c.called;
     most_reads = c.most_reads ∙ r.most_reads;
-    limits = limits ∙ r.limits;
+    limits = ap k.limits f.buffers.taker ∙ r.limits;
     settled = λ e. absurd (both_ways (is_ended mid) (r.settled e).2 open_);
-    at_end = λ _ t. at_end t;
+    at_end = λ _ t. f.at_end t;
   }
+
+-- a read that failed adds nothing
+pub adds_none : {R T B : Type 0} {b : Ghosts B} (left : R → Option (List ℕ)) (old new : Reader R T B b) → is_ended old ≡ false → FillsNone left old new → FillsBy left [] old new
+adds_none left old new open_ f = record {
+  consumed = Consumes-kept _ _ _ _ (Consumes-nil (left (source_of old))) f.source;
+  few = omega arith;
+  buffers = f.buffers;
+  at_end = λ t. absurd (both_ways (is_ended old) (sym f.ended ∙ t) open_);
+}
 
 module _ {R T B G : Type 0} {b : Ghosts B} (k : Taking T G) where
   -- where nothing is left of the buffer, the taker holds all
-  held_all : (w : List ℕ) (r : Reader R T B b) → IsDrained r → (kept : Keeps k r w) → w ≡ kept.held
-  held_all w r drained kept = kept.bytes ∙ (ap (λ l. kept.held ++ l) (no_part (b.room.bytes r.buffer) r.start r.end drained) ∙ append-nil kept.held)
+  held_all : (w : List ℕ) (r : Reader R T B b) → part_of r ≡ [] → (kept : Keeps k r w) → w ≡ kept.held
+  held_all w r none kept = kept.bytes ∙ (ap (λ l. kept.held ++ l) none ∙ append-nil kept.held)
 
-  -- bytes that were read are kept
-  pub buffered : (w bytes : List ℕ) (old new : Reader R T B b) → IsDrained old → Keeps k old w → Buffers bytes old new → Keeps k new (w ++ bytes)
-  buffered w bytes old new drained kept b =
-      let held_is = held_all w old drained kept in
-      record {
-        held = kept.held;
-        holds = subst (λ t. k.holds t kept.held) (sym b.taker) kept.holds;
-        size = b.held ∙ kept.size;
-        bytes = ap (λ l. l ++ bytes) held_is ∙ ap (λ l. kept.held ++ l) (sym b.left);
-      }
+  -- the taker holds the same, and the buffer has other bytes left
+  held_still : (w bytes : List ℕ) (old new : Reader R T B b) (kept : Keeps k old w) → Buffers bytes old new → Keeps k new (kept.held ++ bytes)
+  held_still w bytes old new kept b = record {
+    held = kept.held;
+    holds = subst (λ t. k.holds t kept.held) (sym b.taker) kept.holds;
+    size = b.held ∙ kept.size;
+    bytes = ap (λ l. kept.held ++ l) (sym b.left);
+  }
 
   -- a reader that stops keeps all
   stopping : (w : List ℕ) (fault : ReadFault) (old new : Reader R T B b) → Keeps k old w → k.rests old.taker → Stops fault old new → KeepsAll k w old new
   stopping w fault old new kept rests s = record {
-    kept = record {
-      held = kept.held;
-      holds = subst (λ t. k.holds t kept.held) (sym s.taker) kept.holds;
-      size = s.held ∙ kept.size;
-      bytes = kept.bytes ∙ ap (λ l. kept.held ++ l) (sym s.left);
-    };
+    kept = subst (Keeps k new) (sym kept.bytes) (held_still w (part_of old) old new kept s.buffers);
     done = s.done;
-    rests = subst k.rests (sym s.taker) rests;
+    rests = subst k.rests (sym s.buffers.taker) rests;
   }
 
-  module _ (left : R → Option (List ℕ)) (calls : R → ℕ) (w : List ℕ) where
+  module _ (left : R → Option (List ℕ)) (calls : R → ℕ) (w : List ℕ) (old : Reader R T B b) where
     -- the reader read so far where w was kept, and gave nothing
-    pub record HasRead (old mid : Reader R T B b) : Type 0 where
+    pub record HasRead (mid : Reader R T B b) : Type 0 where
       pub reads : Reads k left calls w old mid
       pub kept : Keeps k mid (w ++ reads.bytes)
       pub done : done_of mid ≡ done_of old
@@ -189,32 +182,32 @@ module _ {R T B G : Type 0} {b : Ghosts B} (k : Taking T G) where
       pub paid : is_ended mid ≡ false → reads.count ≤ length reads.bytes
 
     -- no message ends in what is kept
-    pub record Wants (old mid : Reader R T B b) : Type 0 where
-      pub so_far : HasRead old mid
+    pub record Wants (mid : Reader R T B b) : Type 0 where
+      pub so_far : HasRead mid
       pub partial : IsPartial (limits_of k old) (w ++ so_far.reads.bytes)
       pub rests : k.rests mid.taker
 
     -- nothing was read yet
-    abbrev pub starts : (old : Reader R T B b) → Reads k left calls w old old
-    starts old = reads_none k (λ before. IsPartial (limits_of k old) (w ++ before)) left calls old
+    abbrev pub starts : Reads k left calls w old old
+    starts = reads_none k (λ before. IsPartial (limits_of k old) (w ++ before)) left calls old
 
-    pub begins : (old : Reader R T B b) → Keeps k old w → HasRead old old
-    begins old kept = record {
-      reads = starts old;
+    pub begins : Keeps k old w → HasRead old
+    begins kept = record {
+      reads = starts;
       kept = subst (λ l. Keeps k old l) (sym (append-nil w)) kept;
       done = refl;
       paid = λ open_. omega arith;
     }
 
     -- a step that reads nothing
-    abbrev pub unread : (old mid new : Reader R T B b) → Reads k left calls w old mid → ReadsNothing k mid new → Reads k left calls w old new
-    unread old mid new r n = reads_still k (λ before. IsPartial (limits_of k old) (w ++ before)) left calls old mid new r n
+    abbrev pub unread : (mid new : Reader R T B b) → Reads k left calls w old mid → ReadsNothing k mid new → Reads k left calls w old new
+    unread mid new r n = reads_still k (λ before. IsPartial (limits_of k old) (w ++ before)) left calls old mid new r n
 
     -- the taker was handed all of what is kept
-    pub wants : (old mid new : Reader R T B b) (h : HasRead old mid) → KeptAnswers k (w ++ h.reads.bytes) mid new (Ok None) → ReadsNothing k mid new → Wants old new
-    wants old mid new h t n = record {
+    pub wants : (mid new : Reader R T B b) (h : HasRead mid) → KeptAnswers k (w ++ h.reads.bytes) mid new (Ok None) → ReadsNothing k mid new → Wants new
+    wants mid new h t n = record {
       so_far = record {
-        reads = unread old mid new h.reads n;
+        reads = unread mid new h.reads n;
         kept = t.0.kept;
         done = t.0.done ∙ h.done;
         paid = λ open_. h.paid (sym n.ended ∙ open_);
@@ -223,138 +216,96 @@ module _ {R T B G : Type 0} {b : Ghosts B} (k : Taking T G) where
       rests = t.0.rests;
     }
 
-    keeps_since : (v : List ℕ) (old mid new : Reader R T B b) → done_of mid ≡ done_of old → KeepsAll k v mid new → KeepsAll k v old new
-    keeps_since v old mid new d a = record { kept = a.kept; done = a.done ∙ d; rests = a.rests }
-
-    gives_since : (v : List ℕ) (given : G) (old mid new : Reader R T B b) → limits_of k mid ≡ limits_of k old → done_of mid ≡ done_of old
-        → GivesOf k v given mid new → GivesOf k v given old new
-    gives_since v given old mid new e d (size, g, gives, lends) = (
-      size,
-      record {
-        order = g.order;
-        message = g.message;
-        whole = subst (λ limits. IsWhole limits v g.order g.message size) e g.whole;
-        kept = g.kept;
-        done = g.done ∙ ap (λ n. n + size) d;
-        unstopped = g.unstopped;
-      },
-      gives,
-      lends,
-    )
-
-    refuses_since : (v : List ℕ) (fault : Fault) (old mid new : Reader R T B b) → limits_of k mid ≡ limits_of k old → Refuses k v fault mid new → Refuses k v fault old new
-    refuses_since v fault old mid new e r = record {
-      refused = subst (λ limits. IsRefused limits v fault) e r.refused;
-      held = r.held;
-      keeps = r.keeps;
-      size = r.size;
-      bytes = r.bytes;
-    }
+    keeps_since : (v : List ℕ) (mid new : Reader R T B b) → done_of mid ≡ done_of old → KeepsAll k v mid new → KeepsAll k v old new
+    keeps_since v mid new d a = record { kept = a.kept; done = a.done ∙ d; rests = a.rests }
 
     -- what comes of the bytes that are kept is the answer
-    answers_taken : (v : List ℕ) (old mid new : Reader R T B b) (res : Result (Option G) ReadFault) → (res ≡ Ok None → ⊥) → limits_of k mid ≡ limits_of k old
+    answers_taken : (v : List ℕ) (mid new : Reader R T B b) (res : Result (Option G) ReadFault) → (res ≡ Ok None → ⊥) → limits_of k mid ≡ limits_of k old
         → done_of mid ≡ done_of old → KeptAnswers k v mid new res → NextAnswers k v old new res
-    answers_taken v old mid new (Ok (Some given)) some e d t = gives_since v given old mid new e d t
-    answers_taken v old mid new (Ok None) some e d t = absurd (some refl)
-    answers_taken v old mid new (Err Memory) some e d t = (t.0, keeps_since v old mid new d t.1, t.2)
-    answers_taken v old mid new (Err (Format fault)) some e d t = (t.0 ∙ d, t.1, inl (refuses_since v fault old mid new e t.2))
-    answers_taken v old mid new (Err Device) some e d t = absurd t
-    answers_taken v old mid new (Err TooManyReads) some e d t = absurd t
+    answers_taken v mid new (Ok (Some given)) some e d (size, g, gives, lends) =
+        let whole = subst (λ limits. IsWhole limits v g.order g.message size) e g.whole in
+        (size, record { order = g.order; message = g.message; whole = whole; kept = g.kept; done = g.done ∙ ap (λ n. n + size) d; unstopped = g.unstopped }, gives, lends)
+    answers_taken v mid new (Ok None) some e d t = absurd (some refl)
+    answers_taken v mid new (Err Memory) some e d t = (t.0, keeps_since v mid new d t.1, t.2)
+    answers_taken v mid new (Err (Format fault)) some e d t =
+        let refused = subst (λ limits. IsRefused limits v fault) e t.2.refused in
+        (t.0 ∙ d, t.1, inl (record { refused = refused; held = t.2.held; keeps = t.2.keeps; size = t.2.size; bytes = t.2.bytes }))
+    answers_taken v mid new (Err Device) some e d t = absurd t
+    answers_taken v mid new (Err TooManyReads) some e d t = absurd t
 
     -- what `next` answers
-    abbrev pub Answers : Reader R T B b → Reader R T B b → Result (Option G) ReadFault → Type 0
-    Answers old new res = (r : Reads k left calls w old new) × (stopped_of old ≡ None → NextAnswers k (w ++ r.bytes) old new res)
+    abbrev pub Answers : Reader R T B b → Result (Option G) ReadFault → Type 0
+    Answers new res = (r : Reads k left calls w old new) × (stopped_of old ≡ None → NextAnswers k (w ++ r.bytes) old new res)
 
-    pub given : (old mid new : Reader R T B b) (res : Result (Option G) ReadFault) (h : HasRead old mid) → (res ≡ Ok None → ⊥)
-        → KeptAnswers k (w ++ h.reads.bytes) mid new res → ReadsNothing k mid new → Answers old new res
-    given old mid new res h some t n = (unread old mid new h.reads n, λ _. answers_taken (w ++ h.reads.bytes) old mid new res some h.reads.limits h.done t)
+    pub given : (mid new : Reader R T B b) (res : Result (Option G) ReadFault) (h : HasRead mid) → (res ≡ Ok None → ⊥)
+        → KeptAnswers k (w ++ h.reads.bytes) mid new res → ReadsNothing k mid new → Answers new res
+    given mid new res h some t n = (unread mid new h.reads n, λ _. answers_taken (w ++ h.reads.bytes) mid new res some h.reads.limits h.done t)
 
-    answers_finished : (old mid new : Reader R T B b) (res : Result (Option G) ReadFault) (h : Wants old mid) → IsDrained mid → stopped_of mid ≡ None
-        → is_ended mid ≡ true → Finishes mid new res → ReadsNothing k mid new → NextAnswers k (w ++ h.so_far.reads.bytes) old new res
-    answers_finished old mid new (Ok (Some x)) h drained unstopped e f n = absurd f
-    answers_finished old mid new (Ok None) h drained unstopped e f n =
+    -- the end of the input, where nothing is kept
+    pub ended : (mid : Reader R T B b) → Wants mid → part_of mid ≡ [] → stopped_of mid ≡ None → is_ended mid ≡ true → mid.held ≡ 0 → Answers mid (Ok None)
+    ended mid h drained unstopped e zero =
         let all = w ++ h.so_far.reads.bytes in
         let kept = h.so_far.kept in
-        let none : all ≡ [] = nil_from_length all (ap length (held_all all mid drained kept) ∙ (sym kept.size ∙ f.0)) in
-        (none, n.ended ∙ e, subst (λ r. KeepsAll k all old r) (sym f.1) (record { kept = kept; done = h.so_far.done; rests = h.rests }), ap stopped_of f.1 ∙ unstopped)
-    answers_finished old mid new (Err Memory) h drained unstopped e f n = absurd f
-    answers_finished old mid new (Err (Format fault)) h drained unstopped e f n =
+        let none : all ≡ [] = nil_from_length all (ap length (held_all all mid drained kept) ∙ (sym kept.size ∙ zero)) in
+        (h.so_far.reads, λ _. (none, e, record { kept = kept; done = h.so_far.done; rests = h.rests }, unstopped))
+
+    -- and within a message
+    pub cut_short : (mid new : Reader R T B b) → Wants mid → part_of mid ≡ [] → is_ended mid ≡ true → 0 < mid.held → (fault : Fault) → fault ≡ record { at = mid.held; reason = Truncated }
+        → Stops (Format fault) mid new → ReadsNothing k mid new → Answers new (Err (Format fault))
+    cut_short mid new h drained e some fault is s n =
         let all = w ++ h.so_far.reads.bytes in
         let kept = h.so_far.kept in
         let size : mid.held ≡ length all = kept.size ∙ ap length (sym (held_all all mid drained kept)) in
-        let some = f.0 in
-        let short : IsCutShort (limits_of k old) all fault = ((λ none. absurd (let nothing = ap length none in omega (arith, some, size, nothing))), h.partial, f.1 ∙ ap (λ n. record { at = n; reason = Truncated }) size) in
-        (f.2.done ∙ h.so_far.done, f.2.stopped, inr (short, n.ended ∙ e, keeps_since all old mid new h.so_far.done (stopping all (Format fault) mid new kept h.rests f.2)))
-    answers_finished old mid new (Err Device) h drained unstopped e f n = absurd f
-    answers_finished old mid new (Err TooManyReads) h drained unstopped e f n = absurd f
-
-    -- the end of the input
-    pub finished : (old mid new : Reader R T B b) (res : Result (Option G) ReadFault) → Wants old mid → IsDrained mid → stopped_of mid ≡ None
-        → is_ended mid ≡ true → Finishes mid new res → ReadsNothing k mid new → Answers old new res
-    finished old mid new res h drained unstopped e f n =
-        (unread old mid new h.so_far.reads n, λ _. answers_finished old mid new res h drained unstopped e f n)
-
-    answers_given_up : (old mid new : Reader R T B b) (res : Result (Option G) ReadFault) (h : Wants old mid) → reads_of mid ≡ most_reads_of mid → is_ended mid ≡ false
-        → GivesUp mid new res → ReadsNothing k mid new → NextAnswers k (w ++ h.so_far.reads.bytes) old new res
-    answers_given_up old mid new (Ok x) h e open_ f n = absurd f
-    answers_given_up old mid new (Err Memory) h e open_ f n = absurd f
-    answers_given_up old mid new (Err (Format fault)) h e open_ f n = absurd f
-    answers_given_up old mid new (Err Device) h e open_ f n = absurd f
-    answers_given_up old mid new (Err TooManyReads) h e open_ f n =
-        let all = w ++ h.so_far.reads.bytes in (
-          keeps_since all old mid new h.so_far.done (stopping all TooManyReads mid new h.so_far.kept h.rests f),
-          f.stopped,
-          h.partial,
-          n.reads ∙ (e ∙ sym n.most_reads),
-          n.ended ∙ open_,
+        let short : IsCutShort (limits_of k old) all fault = ((λ none. absurd (let nothing = ap length none in omega (arith, some, size, nothing))), h.partial, is ∙ ap (λ n. record { at = n; reason = Truncated }) size) in (
+          unread mid new h.so_far.reads n,
+          λ _. (s.done ∙ h.so_far.done, s.stopped, inr (short, n.ended ∙ e, keeps_since all mid new h.so_far.done (stopping all (Format fault) mid new kept h.rests s))),
         )
 
     -- no more reads may be made
-    pub gave_up : (old mid new : Reader R T B b) (res : Result (Option G) ReadFault) → Wants old mid → reads_of mid ≡ most_reads_of mid → is_ended mid ≡ false
-        → GivesUp mid new res → ReadsNothing k mid new → Answers old new res
-    gave_up old mid new res h e open_ f n = (unread old mid new h.so_far.reads n, λ _. answers_given_up old mid new res h e open_ f n)
-
-    -- what was read with one more call of the device
-    abbrev reads_more : (old mid new : Reader R T B b) (h : Wants old mid) → is_ended mid ≡ false → Calls calls mid new → (bytes : List ℕ)
-        → Consumes (left (source_of mid)) (left (source_of new)) bytes → length bytes ≤ b.room.size → limits_of k new ≡ limits_of k mid
-        → (is_ended new ≡ true → IsAtEnd (left (source_of new))) → Reads k left calls w old new
-    reads_more old mid new h open_ c bytes came fits limits at_end =
-        reads_one k (λ before. IsPartial (limits_of k old) (w ++ before)) left calls old mid new h.so_far.reads open_ (h.so_far.paid open_) h.partial c bytes came fits limits at_end
-
-    -- a read that failed
-    pub failed_read : (old mid new : Reader R T B b) → Wants old mid → IsDrained mid → is_ended mid ≡ false → FillsNone left mid new → Calls calls mid new
-        → stopped_of new ≡ None → Answers old new (Err Device)
-    failed_read old mid new h drained open_ f c unstopped =
-        let r = h.so_far.reads in
-        let same = append-nil r.bytes in
-        let came = Consumes-kept _ _ _ _ (Consumes-nil (left (source_of mid))) f.source in
-        let reads = reads_more old mid new h open_ c [] came (omega arith) (ap k.limits f.buffers.taker) (λ t. absurd (both_ways (is_ended mid) (sym f.ended ∙ t) open_)) in (
-          reads,
-          λ _.
-              let all = w ++ (r.bytes ++ []) in
-              let e : w ++ r.bytes ≡ all = ap (λ l. w ++ l) (sym same) in (
-                record {
-                  kept = subst (Keeps k new) (append_assoc w r.bytes []) (buffered (w ++ r.bytes) [] mid new drained h.so_far.kept f.buffers);
-                  done = c.done ∙ h.so_far.done;
-                  rests = subst k.rests (sym f.buffers.taker) h.rests;
-                },
-                unstopped,
-                subst (IsPartial (limits_of k old)) e h.partial,
-              ),
+    pub gave_up : (mid new : Reader R T B b) → Wants mid → reads_of mid ≡ most_reads_of mid → is_ended mid ≡ false → Stops TooManyReads mid new → ReadsNothing k mid new
+        → Answers new (Err TooManyReads)
+    gave_up mid new h e open_ s n =
+        let all = w ++ h.so_far.reads.bytes in (
+          unread mid new h.so_far.reads n,
+          λ _. (
+            keeps_since all mid new h.so_far.done (stopping all TooManyReads mid new h.so_far.kept h.rests s),
+            s.stopped,
+            h.partial,
+            n.reads ∙ (e ∙ sym n.most_reads),
+            n.ended ∙ open_,
+          ),
         )
 
-    -- a read that gave bytes, or the end
-    pub filled : (old mid new : Reader R T B b) (bytes : List ℕ) → Wants old mid → IsDrained mid → is_ended mid ≡ false → FillsBy left bytes mid new
-        → Calls calls mid new → HasRead old new
-    filled old mid new bytes h drained open_ f c =
-        let r = h.so_far.reads in
-        record {
-          reads = reads_more old mid new h open_ c bytes f.consumed f.few (ap k.limits f.buffers.taker) f.at_end;
-          kept = subst (Keeps k new) (append_assoc w r.bytes bytes) (buffered (w ++ r.bytes) bytes mid new drained h.so_far.kept f.buffers);
-          done = c.done ∙ h.so_far.done;
-          paid = λ more.
-              let paid = h.so_far.paid open_ in
-              let some = gave bytes (is_ended new) f.ended more in
-              let all = length-append r.bytes bytes in
-              omega (arith, paid, some, all);
-        }
+    -- one more read, of which these bytes came
+    module _ (mid new : Reader R T B b) (bytes : List ℕ) (h : Wants mid) (drained : part_of mid ≡ []) (open_ : is_ended mid ≡ false) (c : Calls calls mid new) (f : FillsBy left bytes mid new) where
+      abbrev reads_more : Reads k left calls w old new
+      reads_more = reads_one k (λ before. IsPartial (limits_of k old) (w ++ before)) left calls old mid new h.so_far.reads open_ (h.so_far.paid open_) h.partial c bytes f
+
+      keeps_more : Keeps k new (w ++ (h.so_far.reads.bytes ++ bytes))
+      keeps_more =
+          let held = held_still (w ++ h.so_far.reads.bytes) bytes mid new h.so_far.kept f.buffers in
+          subst (Keeps k new) (ap (λ l. l ++ bytes) (sym (held_all (w ++ h.so_far.reads.bytes) mid drained h.so_far.kept)) ∙ append_assoc w h.so_far.reads.bytes bytes) held
+
+      -- or the end
+      pub filled : is_ended new ≡ nat_eq (length bytes) 0 → HasRead new
+      filled ended_ = record {
+        reads = reads_more;
+        kept = keeps_more;
+        done = c.done ∙ h.so_far.done;
+        paid = λ more.
+            let paid = h.so_far.paid open_ in
+            let some = gave bytes (is_ended new) ended_ more in
+            let all = length-append h.so_far.reads.bytes bytes in
+            omega (arith, paid, some, all);
+      }
+
+      -- or none, where it failed
+      pub failed_read : bytes ≡ [] → stopped_of new ≡ None → Answers new (Err Device)
+      failed_read none unstopped = (
+        reads_more,
+        λ _. (
+          record { kept = keeps_more; done = c.done ∙ h.so_far.done; rests = subst k.rests (sym f.buffers.taker) h.rests },
+          unstopped,
+          subst (λ l. IsPartial (limits_of k old) (w ++ l)) (sym (append-nil h.so_far.reads.bytes) ∙ ap (λ l. h.so_far.reads.bytes ++ l) (sym none)) h.partial,
+        ),
+      )

@@ -1,11 +1,10 @@
 -- The steps of passing over bytes.
 use Rattle.std.proofs.Common.{◌≡◌, ℕ, ◌+◌, ◌-◌, ◌<◌, ◌≤◌, List, [], ◌++◌, Bool, true, false, not, None, Some, Option, Result, Ok, Err, length, take, drop, refl, sym, ap, ◌∙◌, subst, arith, append_assoc, append-nil, length-append, take-append-drop, inl, inr}
-use Rattle.std.specs.Io.KnownBytes.{Consumes, IsAtEnd}
-use Rattle.std.proofs.KnownBytes.{Consumes-nil, Consumes-kept}
+use Rattle.std.specs.Prelude.{nat_eq}
 use Rattle.std.specs.List.{slice_range}
 use Rattle.std.proofs.Math.Seq.{take-append_seam, take-append-add}
 use Rattle.std.proofs.lemmas.Bool.{cases_lt, false≢true}
-use Rattle.std.proofs.lemmas.List.{drop_at, drop-drop, length-take, length-take-le, take_all, take-append-le}
+use Rattle.std.proofs.lemmas.List.{drop_at, drop-drop, drop-append-le, length-drop, length-take, length-take-le, take_all, take-append-le}
 use Rattle.dbus_value_model.specs.declared.fault.Fault.{Fault}
 use Rattle.dbus_value_model.specs.declared.limits.Limits.{Limits}
 use Rattle.dbus_header.specs.MessageOutcomes.{IsPartial}
@@ -21,24 +20,17 @@ use Rattle.dbus_stream.specs.declared.read_fault.ReadFault.TheVariants.{Memory, 
 use Rattle.dbus_stream.specs.Gathering.{GathererState, gathering, fresh, under_way}
 use Rattle.dbus_stream.specs.Lasting.{is_truncated, is_refusal}
 use Rattle.dbus_stream.specs.Next.{ReadsNothing}
-use Rattle.dbus_stream.specs.Passing.{part_of, ReadsToSkip, Skips, SkipsAll, SkipAnswers, ReadsUpTo, FallsShort, IsRefusal, PassAnswers, Passing, IsDue, IsNoneDue, StatesAll}
+use Rattle.dbus_stream.specs.Passing.{ReadsToSkip, Skips, SkipsAll, SkipAnswers, ReadsUpTo, FallsShort, IsRefusal, PassAnswers, Passing, IsDue, IsNoneDue, StatesAll}
 use Rattle.dbus_stream.specs.RawReading.{limits_of, kept, lent_of, whole_or}
-use Rattle.dbus_stream.specs.Reading.{source_of, done_of, reads_of, most_reads_of, is_ended, stopped_of}
-use Rattle.dbus_stream.specs.Steps.{Buffers, FillsBy, FillsNone}
+use Rattle.dbus_stream.specs.Reading.{part_of, done_of, is_ended, stopped_of}
+use Rattle.dbus_stream.specs.Steps.{Drops, Calls, FillsBy}
 use Rattle.dbus_stream.specs.Taking.{Taking}
-use Rattle.dbus_stream.proofs.Lists.{no_part, part_fits, left_of}
-use Rattle.dbus_stream.proofs.NextSteps.{Calls, both_ways, gave, reads_none, reads_still, reads_from, reads_one}
+use Rattle.dbus_stream.proofs.Lists.{no_part}
+use Rattle.dbus_stream.proofs.NextSteps.{gave, reads_none, reads_still, reads_from, reads_one}
 
 -- what follows the first bytes of two lists
 drop_past : (gone rest : List ℕ) (more : ℕ) → drop more rest ≡ drop (length gone + more) (gone ++ rest)
 drop_past gone rest more = ap (drop more) (sym (drop_at gone rest (length gone) refl)) ∙ drop-drop more (length gone) (gone ++ rest)
-
--- where a part is read from its start, what is left follows what was read
-pub front_goes : (buffer : List ℕ) (start end n : ℕ) → start ≤ end → n ≤ length (slice_range buffer start end)
-    → slice_range buffer start end ≡ take n (slice_range buffer start end) ++ slice_range buffer (start + n) end
-front_goes buffer start end n ordered there =
-    let fits = part_fits buffer start end in
-    sym (take-append-drop n (slice_range buffer start end)) ∙ ap (λ l. take n (slice_range buffer start end) ++ l) (left_of buffer start end n (omega (arith, ordered, there, fits)))
 
 -- what a reader keeps in two parts
 pub part_after : (n : ℕ) (front part bytes : List ℕ) (held : ℕ) → held ≡ length front → held < n → (length (part ++ bytes) < n - held → length ((front ++ part) ++ bytes) < n)
@@ -53,153 +45,137 @@ part_after n front part bytes held size fits =
       drop_past front (part ++ bytes) (n - held) ∙ (ap (λ k. drop k (front ++ (part ++ bytes))) count ∙ ap (drop n) (sym all)),
     )
 
-module _ {R T B G : Type 0} {b : Ghosts B} (k : Taking T G) (count : ℕ) (left : R → Option (List ℕ)) (calls : R → ℕ) where
+module _ {R T B G : Type 0} {b : Ghosts B} (k : Taking T G) (count : ℕ) (left : R → Option (List ℕ)) (calls : R → ℕ) (old : Reader R T B b) where
+  -- more bytes are wanted than were there and were read before
+  abbrev Short : List ℕ → Type 0
+  Short before = length (part_of old ++ before) < count
+
   -- what stood before what is left of the buffer is passed over, and so many bytes more are to be
-  pub record HasSkipped (more : ℕ) (old mid : Reader R T B b) : Type 0 where
+  pub record HasSkipped (more : ℕ) (mid : Reader R T B b) : Type 0 where
     pub reads : ReadsToSkip k count left calls old mid
-    pub gone : List ℕ
-    pub joined : part_of old ++ reads.bytes ≡ gone ++ part_of mid
-    pub counted : count ≡ length gone + more
-    pub done : done_of mid ≡ done_of old + old.held + length gone
+    pub gone : ℕ
+    pub counted : count ≡ gone + more
+    pub there : gone ≤ length (part_of old ++ reads.bytes)
+    pub part : part_of mid ≡ drop gone (part_of old ++ reads.bytes)
+    pub done : done_of mid ≡ done_of old + old.held + gone
     pub taker : mid.taker ≡ old.taker
     pub held : mid.held ≡ 0
     pub stopped : stopped_of mid ≡ stopped_of old
     -- each read gave a byte
     pub paid : is_ended mid ≡ false → reads.count ≤ length reads.bytes
 
-  -- a step that passes over bytes of the buffer, or over none
-  pub record Goes (bytes : List ℕ) (old mid new : Reader R T B b) : Type 0 where
-    pub nothing : ReadsNothing k mid new
-    pub part : part_of mid ≡ bytes ++ part_of new
-    pub done : done_of new ≡ done_of mid + mid.held + length bytes
-    pub taker : new.taker ≡ old.taker
-    pub held : new.held ≡ 0
-
-  pub skip_none : (old mid : Reader R T B b) → Goes [] old old mid → stopped_of mid ≡ stopped_of old → HasSkipped count old mid
-  skip_none old mid g stopped = record {
-    reads = reads_still k (λ before. length (part_of old ++ before) < count) left calls old old mid (reads_none k (λ before. length (part_of old ++ before) < count) left calls old) g.nothing;
-    gone = [];
-    joined = append-nil (part_of old) ∙ g.part;
+  -- only what the taker held is passed over
+  pub skip_held : (mid : Reader R T B b) → ReadsNothing k old mid → part_of mid ≡ part_of old → done_of mid ≡ done_of old + old.held → mid.taker ≡ old.taker → mid.held ≡ 0
+      → stopped_of mid ≡ stopped_of old → HasSkipped count mid
+  skip_held mid n part done taker held stopped = record {
+    reads = reads_still k Short left calls old old mid (reads_none k Short left calls old) n;
+    gone = 0;
     counted = omega arith;
-    done = g.done;
-    taker = g.taker;
-    held = g.held;
+    there = omega arith;
+    part = part ∙ sym (append-nil (part_of old));
+    done = omega (arith, done);
+    taker = taker;
+    held = held;
     stopped = stopped;
     paid = λ open_. omega arith;
   }
 
-  pub skip_more : (more left_over : ℕ) (bytes : List ℕ) (old mid new : Reader R T B b) (h : HasSkipped more old mid) → Goes bytes old mid new → stopped_of new ≡ stopped_of mid
-      → more ≡ length bytes + left_over → HasSkipped left_over old new
-  skip_more more left_over bytes old mid new h g stopped size = record {
-    reads = reads_still k (λ before. length (part_of old ++ before) < count) left calls old mid new h.reads g.nothing;
-    gone = h.gone ++ bytes;
-    joined = h.joined ∙ (ap (λ l. h.gone ++ l) g.part ∙ sym (append_assoc h.gone bytes (part_of new)));
-    counted = omega (arith, h.counted, size, length-append h.gone bytes);
-    done = omega (arith, h.done, h.held, g.done, length-append h.gone bytes);
-    taker = g.taker;
-    held = g.held;
-    stopped = stopped ∙ h.stopped;
-    paid = λ open_. h.paid (sym g.nothing.ended ∙ open_);
-  }
-
-  -- all of it was passed over
-  pub skips : (more : ℕ) (bytes : List ℕ) (old mid new : Reader R T B b) (h : HasSkipped more old mid) → Goes bytes old mid new → stopped_of new ≡ None → more ≡ length bytes
-      → (r : ReadsToSkip k count left calls old new) × Skips count (part_of old ++ r.bytes) old new
-  skips more bytes old mid new h g stopped size =
-      let all : part_of old ++ h.reads.bytes ≡ (h.gone ++ bytes) ++ part_of new = h.joined ∙ (ap (λ l. h.gone ++ l) g.part ∙ sym (append_assoc h.gone bytes (part_of new))) in
-      let long = ap length all in
-      let counted : count ≡ length (h.gone ++ bytes) = omega (arith, h.counted, size, length-append h.gone bytes) in (
-        reads_still k (λ before. length (part_of old ++ before) < count) left calls old mid new h.reads g.nothing,
+  module _ (more : ℕ) (mid new : Reader R T B b) (h : HasSkipped more mid) where
+    -- and so many bytes of the buffer
+    pub skip_more : (n : ℕ) → Drops n mid new → ReadsNothing k mid new → n ≤ more → n ≤ length (part_of mid) → HasSkipped (more - n) new
+    skip_more n d u fits inside =
+        let all = part_of old ++ h.reads.bytes in
+        let counted = h.counted in
+        let size = ap length h.part in
+        let rest = length-drop h.gone all in
+        let there = h.there in
+        let done = d.done in
+        let before = h.done in
         record {
-          there = omega (arith, long, counted, length-append (h.gone ++ bytes) (part_of new));
-          left = sym (drop_at (h.gone ++ bytes) (part_of new) count (sym counted)) ∙ ap (drop count) (sym all);
-          done = omega (arith, h.done, h.held, g.done, counted, length-append h.gone bytes);
-          stopped = stopped;
-        },
-      )
+          reads = reads_still k Short left calls old mid new h.reads u;
+          gone = h.gone + n;
+          counted = omega (arith, counted, fits);
+          there = omega (arith, size, rest, there, inside);
+          part = d.buffers.left ∙ (ap (drop n) h.part ∙ drop-drop n h.gone all);
+          done = omega (arith, done, before);
+          taker = d.buffers.taker ∙ h.taker;
+          held = d.buffers.held ∙ h.held;
+          stopped = d.stopped ∙ h.stopped;
+          paid = λ open_. h.paid (sym u.ended ∙ open_);
+        }
 
-  -- nothing is left of the buffer, and there is more to pass over
-  pub still_more : (more : ℕ) (old new : Reader R T B b) (h : HasSkipped more old new) → part_of new ≡ [] → 0 < more → length (part_of old ++ h.reads.bytes) < count
-  still_more more old new h none some =
-      let long = ap length (h.joined ∙ (ap (λ l. h.gone ++ l) none ∙ append-nil h.gone)) in
-      omega (arith, long, h.counted, some)
+    -- all of it was passed over
+    pub skips : more ≡ 0 → ReadsNothing k mid new → part_of new ≡ part_of mid → done_of new ≡ done_of mid → stopped_of new ≡ None
+        → (r : ReadsToSkip k count left calls old new) × Skips count (part_of old ++ r.bytes) old new
+    skips zero u part done stopped =
+        let counted = h.counted in
+        let there = h.there in
+        let before = h.done in
+        let all_gone : h.gone ≡ count = omega (arith, counted, zero) in (
+          reads_still k Short left calls old mid new h.reads u,
+          record {
+            there = omega (arith, there, all_gone);
+            left = part ∙ (h.part ∙ ap (λ n. drop n (part_of old ++ h.reads.bytes)) all_gone);
+            done = omega (arith, done, before, all_gone);
+            stopped = stopped;
+          },
+        )
 
-  pub skips_all : (more : ℕ) (old new : Reader R T B b) (h : HasSkipped more old new) → part_of new ≡ [] → 0 < more → SkipsAll count (part_of old ++ h.reads.bytes) old new
-  skips_all more old new h none some = record {
-    short = still_more more old new h none some;
-    left = none;
-    done = h.done ∙ ap (λ (l : List ℕ). done_of old + old.held + length l) (sym (h.joined ∙ (ap (λ l. h.gone ++ l) none ∙ append-nil h.gone)));
-    stopped = h.stopped;
-  }
+  module _ (more : ℕ) (mid : Reader R T B b) (h : HasSkipped more mid) (none : part_of mid ≡ []) (some : 0 < more) where
+    -- nothing is left of the buffer, and there is more to pass over
+    pub skips_all : SkipsAll count (part_of old ++ h.reads.bytes) old mid
+    skips_all =
+        let all = part_of old ++ h.reads.bytes in
+        let counted = h.counted in
+        let size = ap length (sym h.part ∙ none) in
+        let rest = length-drop h.gone all in
+        let there = h.there in
+        let done = h.done in
+        let long : length all ≡ h.gone = omega (arith, size, rest, there) in
+        record { short = omega (arith, long, counted, some); left = none; done = omega (arith, done, long); stopped = h.stopped }
 
-  -- one more read, which gave bytes, or the end, or failed
-  pub skip_read : (more : ℕ) (bytes : List ℕ) (old mid new : Reader R T B b) (h : HasSkipped more old mid) → part_of mid ≡ [] → 0 < more → is_ended mid ≡ false
-      → Consumes (left (source_of mid)) (left (source_of new)) bytes → length bytes ≤ b.room.size → Buffers bytes mid new → (is_ended new ≡ true → IsAtEnd (left (source_of new)))
-      → (is_ended new ≡ false → 0 < length bytes) → Calls calls mid new → stopped_of new ≡ stopped_of mid → HasSkipped more old new
-  skip_read more bytes old mid new h none some open_ came fits buffers at_end gave c stopped =
-      let paid = h.paid open_ in
-      record {
-        reads = reads_one k (λ before. length (part_of old ++ before) < count) left calls old mid new h.reads open_ paid (still_more more old mid h none some) c bytes came fits (ap k.limits buffers.taker) at_end;
-        gone = h.gone;
-        joined = sym (append_assoc (part_of old) h.reads.bytes bytes) ∙ (ap (λ l. l ++ bytes) (h.joined ∙ (ap (λ l. h.gone ++ l) none ∙ append-nil h.gone)) ∙ ap (λ l. h.gone ++ l) (sym buffers.left));
-        counted = h.counted;
-        done = c.done ∙ h.done;
-        taker = buffers.taker ∙ h.taker;
-        held = buffers.held ∙ h.held;
-        stopped = stopped ∙ h.stopped;
-        paid = λ still. omega (arith, paid, gave still, length-append h.reads.bytes bytes);
-      }
+    module _ (new : Reader R T B b) (bytes : List ℕ) (open_ : is_ended mid ≡ false) (c : Calls calls mid new) (f : FillsBy left bytes mid new) where
+      abbrev reads_more : ReadsToSkip k count left calls old new
+      reads_more = reads_one k Short left calls old mid new h.reads open_ (h.paid open_) skips_all.short c bytes f
 
-  -- all that is left of the buffer is passed over
-  pub record Drains (kept : ℕ) (old mid new : Reader R T B b) : Type 0 where
-    pub size : kept ≡ length (part_of mid)
-    pub goes : Goes (part_of mid) old mid new
-    pub none : part_of new ≡ []
-    pub stopped : stopped_of new ≡ stopped_of mid
+      -- one more read, which gave bytes, or the end
+      pub skip_read : is_ended new ≡ nat_eq (length bytes) 0 → HasSkipped more new
+      skip_read ended =
+          let all = part_of old ++ h.reads.bytes in
+          let joined = append_assoc (part_of old) h.reads.bytes bytes in
+          let size = ap length joined in
+          let both = length-append all bytes in
+          let there = h.there in
+          record {
+            reads = reads_more;
+            gone = h.gone;
+            counted = h.counted;
+            there = omega (arith, there, size, both);
+            part = f.buffers.left ∙ (ap (λ l. l ++ bytes) (sym none ∙ h.part) ∙ (sym (drop-append-le h.gone all bytes there) ∙ ap (drop h.gone) joined));
+            done = c.done ∙ h.done;
+            taker = f.buffers.taker ∙ h.taker;
+            held = f.buffers.held ∙ h.held;
+            stopped = c.stopped ∙ h.stopped;
+            paid = λ still.
+                let paid = h.paid open_ in
+                let came = gave bytes (is_ended new) ended still in
+                let total = length-append h.reads.bytes bytes in
+                omega (arith, paid, came, total);
+          }
 
-  drained : (more kept : ℕ) (old mid new : Reader R T B b) → HasSkipped more old mid → Drains kept old mid new → kept < more → HasSkipped (more - kept) old new
-  drained more kept old mid new h d some = skip_more more (more - kept) (part_of mid) old mid new h d.goes d.stopped (let size = d.size in omega (arith, some, size))
-
-  -- and the input ended
-  pub skips_to_end : (more kept : ℕ) (old mid new : Reader R T B b) → HasSkipped more old mid → Drains kept old mid new → kept < more → is_ended new ≡ true
-      → (r : ReadsToSkip k count left calls old new) × (SkipsAll count (part_of old ++ r.bytes) old new × (is_ended new ≡ true))
-  skips_to_end more kept old mid new h d some ended =
-      let all = drained more kept old mid new h d some in
-      (all.reads, (skips_all (more - kept) old new all d.none (omega (arith, some)), ended))
-
-  -- and no more reads may be made
-  pub skips_no_more : (more kept : ℕ) (old mid new : Reader R T B b) → HasSkipped more old mid → Drains kept old mid new → kept < more → reads_of new ≡ most_reads_of new → is_ended new ≡ false
-      → (r : ReadsToSkip k count left calls old new) × (SkipsAll count (part_of old ++ r.bytes) old new × (reads_of new ≡ most_reads_of new) × (is_ended new ≡ false))
-  skips_no_more more kept old mid new h d some all_read open_ =
-      let all = drained more kept old mid new h d some in
-      (all.reads, (skips_all (more - kept) old new all d.none (omega (arith, some)), all_read, open_))
-
-  -- and one more read gave bytes, or the end
-  pub skips_filled : (more kept : ℕ) (old mid next new : Reader R T B b) (bytes : List ℕ) → HasSkipped more old mid → Drains kept old mid next → kept < more → is_ended next ≡ false
-      → FillsBy left bytes next new → Calls calls next new → stopped_of new ≡ stopped_of next → HasSkipped (more - kept) old new
-  skips_filled more kept old mid next new bytes h d some open_ f c stopped =
-      skip_read (more - kept) bytes old next new (drained more kept old mid next h d some) d.none (omega (arith, some)) open_ f.consumed f.few f.buffers f.at_end
-      (λ still. gave bytes (is_ended new) f.ended still) c stopped
-
-  -- or it failed
-  pub skips_failed : (more kept : ℕ) (old mid next new : Reader R T B b) → HasSkipped more old mid → Drains kept old mid next → kept < more → is_ended next ≡ false
-      → FillsNone left next new → Calls calls next new → stopped_of new ≡ stopped_of next → (r : ReadsToSkip k count left calls old new) × SkipsAll count (part_of old ++ r.bytes) old new
-  skips_failed more kept old mid next new h d some open_ f c stopped =
-      let so_far = drained more kept old mid next h d some in
-      let came = Consumes-kept _ _ _ _ (Consumes-nil (left (source_of next))) f.source in
-      let lost : is_ended new ≡ true → ⊥ = λ t. both_ways (is_ended next) (sym f.ended ∙ t) open_ in
-      let reads = reads_one k (λ before. length (part_of old ++ before) < count) left calls old next new so_far.reads open_ (so_far.paid open_) (still_more (more - kept) old next so_far d.none (omega (arith, some))) c [] came (omega arith)
-      (ap k.limits f.buffers.taker) (λ t. absurd (lost t)) in
-      let s = skips_all (more - kept) old next so_far d.none (omega (arith, some)) in
-      let same : part_of old ++ (so_far.reads.bytes ++ []) ≡ part_of old ++ so_far.reads.bytes = ap (λ l. part_of old ++ l) (append-nil so_far.reads.bytes) in (
-        reads,
-        record {
-          short = subst (λ (l : List ℕ). length l < count) (sym same) s.short;
-          left = f.buffers.left;
-          done = c.done ∙ (s.done ∙ ap (λ (l : List ℕ). done_of old + old.held + length l) (sym same));
-          stopped = stopped ∙ s.stopped;
-        },
-      )
+      -- or failed
+      pub skips_failed : bytes ≡ [] → (r : ReadsToSkip k count left calls old new) × SkipsAll count (part_of old ++ r.bytes) old new
+      skips_failed nothing =
+          let s = skips_all in
+          let same : h.reads.bytes ≡ h.reads.bytes ++ bytes = sym (append-nil h.reads.bytes) ∙ ap (λ l. h.reads.bytes ++ l) (sym nothing) in (
+            reads_more,
+            record {
+              short = subst (λ (l : List ℕ). length (part_of old ++ l) < count) same s.short;
+              left = f.buffers.left ∙ nothing;
+              done = c.done ∙ (s.done ∙ ap (λ (l : List ℕ). done_of old + old.held + length (part_of old ++ l)) same);
+              stopped = c.stopped ∙ s.stopped;
+            },
+          )
 
 -- the fault of what was refused
 refusal_of : (stopped : Option ReadFault) → is_refusal stopped ≡ true → (fault : Fault) × IsRefusal stopped fault

@@ -13,7 +13,7 @@ use Rattle.dbus_stream.specs.declared.reader.Reader.{Reader}
 use Rattle.dbus_stream.specs.declared.read_fault.ReadFault.{ReadFault}
 use Rattle.dbus_stream.specs.declared.read_fault.ReadFault.TheVariants.{Memory, Format, Device, TooManyReads}
 use Rattle.dbus_stream.specs.CutEnds.{truncated}
-use Rattle.dbus_stream.specs.Reading.{limits_of, source_of, done_of, reads_of, most_reads_of, is_ended, stopped_of, Keeps}
+use Rattle.dbus_stream.specs.Reading.{limits_of, source_of, part_of, done_of, reads_of, most_reads_of, is_ended, stopped_of, Keeps}
 use Rattle.dbus_stream.specs.Taking.{Taking}
 
 -- the fault of bytes after which nothing comes
@@ -22,11 +22,8 @@ IsCutShort limits w fault = (w ≢ []) × IsPartial limits w × (fault ≡ trunc
 
 -- the device failed once where the answer is Device, and else not
 abbrev pub DeviceCounts : {T : Type 0} → ℕ → ℕ → Result T ReadFault → Type 0
-DeviceCounts old new (Ok x) = new ≡ old
 DeviceCounts old new (Err Device) = (new ≡ (old + 1) % 2 ^ 64) × (new ≢ old)
-DeviceCounts old new (Err Memory) = new ≡ old
-DeviceCounts old new (Err (Format fault)) = new ≡ old
-DeviceCounts old new (Err TooManyReads) = new ≡ old
+DeviceCounts old new _ = new ≡ old
 
 module _ {R T B G : Type 0} {b : Ghosts B} (k : Taking T G) where
   -- what a call read, and that it counted it. This holds of what it had read before its last read
@@ -96,7 +93,7 @@ module _ {R T B G : Type 0} {b : Ghosts B} (k : Taking T G) where
     pub held : List ℕ
     pub keeps : k.keeps new.taker held
     pub size : new.held ≡ length held
-    pub bytes : w ≡ held ++ slice_range (b.room.bytes new.buffer) new.start new.end
+    pub bytes : w ≡ held ++ part_of new
 
   abbrev pub NextAnswers : List ℕ → Reader R T B b → Reader R T B b → Result (Option G) ReadFault → Type 0
   NextAnswers w old new (Ok (Some given)) = GivesOf w given old new
@@ -115,5 +112,4 @@ module _ {R T B G : Type 0} {b : Ghosts B} (k : Taking T G) where
   KeptAnswers w old new (Err Memory) = k.grows × KeepsAll w old new × (stopped_of new ≡ None)
   KeptAnswers w old new (Err (Format fault)) = (done_of new ≡ done_of old) × (stopped_of new ≡ Some (Format fault))
       × Refuses w fault old new
-  KeptAnswers w old new (Err Device) = ⊥
-  KeptAnswers w old new (Err TooManyReads) = ⊥
+  KeptAnswers w old new _ = ⊥

@@ -1,6 +1,6 @@
 -- How a reader passes over a refused message, by the length that its first sixteen bytes state. w
 -- is what was kept and then what was read. D-Bus Specification, "Message Format".
-use Rattle.std.specs.Prelude.{◌≡◌, ◌⊎◌, ℕ, ◌+◌, ◌<◌, ◌≤◌, List, [], ◌++◌, true, false, Bool, length, take, drop, slice_range, Option, None, Some, Result, Ok, Err}
+use Rattle.std.specs.Prelude.{◌≡◌, ◌⊎◌, ℕ, ◌+◌, ◌<◌, ◌≤◌, List, [], ◌++◌, true, false, Bool, length, take, drop, Option, None, Some, Result, Ok, Err}
 use Rattle.dbus_value_model.specs.declared.fault.Fault.{Fault}
 use Rattle.dbus_value_model.specs.declared.limits.Limits.{Limits}
 use Rattle.dbus_header.specs.MessageOutcomes.{IsPartial}
@@ -10,12 +10,12 @@ use Rattle.dbus_stream.specs.Lasting.{is_truncated}
 use Rattle.dbus_stream.specs.Next as next
 use Rattle.dbus_stream.specs.RawReading as raw
 use Rattle.dbus_stream.specs.Taking.{Taking}
-use Rattle.dbus_stream.specs.Reading.{done_of, reads_of, most_reads_of, is_ended, stopped_of}
+use Rattle.dbus_stream.specs.Reading.{part_of, done_of, reads_of, most_reads_of, is_ended, stopped_of}
 use Rattle.dbus_stream.specs.declared.buffer.Buffer.{Ghosts}
 use Rattle.dbus_stream.specs.declared.raw_reader.RawReader.{RawReader}
 use Rattle.dbus_stream.specs.declared.reader.Reader.{Reader}
 use Rattle.dbus_stream.specs.declared.read_fault.ReadFault.{ReadFault}
-use Rattle.dbus_stream.specs.declared.read_fault.ReadFault.TheVariants.{Memory, Format, Device, TooManyReads}
+use Rattle.dbus_stream.specs.declared.read_fault.ReadFault.TheVariants.{Format, Device, TooManyReads}
 
 -- it met this fault, of bytes that are no message, and not of an input that ends within one
 abbrev pub IsRefusal : Option ReadFault → Fault → Type 0
@@ -27,10 +27,6 @@ abbrev pub StatesAll : Limits → List ℕ → ℕ → Type 0
 StatesAll limits w n = StatesLength limits (take 16 w) n × ((m : ℕ) → n ≤ m → IsPartial limits (take m w) → ⊥)
 
 module _ {R T B : Type 0} {b : Ghosts B} where
-  -- what is left of the buffer
-  abbrev pub part_of : Reader R T B b → List ℕ
-  part_of r = slice_range (b.room.bytes r.buffer) r.start r.end
-
   -- what the taker held and then so many bytes of w are passed over, and the others are left
   pub record Skips (count : ℕ) (w : List ℕ) (old new : Reader R T B b) : Type 0 where
     pub there : count ≤ length w
@@ -48,10 +44,9 @@ module _ {R T B : Type 0} {b : Ghosts B} where
   abbrev pub SkipAnswers : ℕ → List ℕ → Reader R T B b → Reader R T B b → Result Bool ReadFault → Type 0
   SkipAnswers count w old new (Ok true) = Skips count w old new
   SkipAnswers count w old new (Ok false) = SkipsAll count w old new × (is_ended new ≡ true)
-  SkipAnswers count w old new (Err Memory) = ⊥
-  SkipAnswers count w old new (Err (Format fault)) = ⊥
   SkipAnswers count w old new (Err Device) = SkipsAll count w old new
   SkipAnswers count w old new (Err TooManyReads) = SkipsAll count w old new × (reads_of new ≡ most_reads_of new) × (is_ended new ≡ false)
+  SkipAnswers count w old new _ = ⊥
 
   -- what a call read that passes over so many bytes: none once they were there
   abbrev pub ReadsToSkip : {G : Type 0} → Taking T G → ℕ → (R → Option (List ℕ)) → (R → ℕ) → Reader R T B b → Reader R T B b → Type 0
@@ -83,10 +78,9 @@ module _ {R A : Type 0} where
   abbrev pub PassAnswers : ℕ → List ℕ → RawReader R A → RawReader R A → Result Bool ReadFault → Type 0
   PassAnswers n w old new (Ok true) = PassesOver n w old new
   PassAnswers n w old new (Ok false) = FallsShort n w old new × (raw.is_ended new ≡ true)
-  PassAnswers n w old new (Err Memory) = ⊥
-  PassAnswers n w old new (Err (Format fault)) = ⊥
   PassAnswers n w old new (Err Device) = FallsShort n w old new
   PassAnswers n w old new (Err TooManyReads) = FallsShort n w old new × (raw.reads_of new ≡ raw.most_reads_of new) × (raw.is_ended new ≡ false)
+  PassAnswers n w old new _ = ⊥
 
   -- an earlier call dropped all that was there, and so many bytes are left to drop
   pub record Owes (r : RawReader R A) (n : ℕ) : Type 0 where

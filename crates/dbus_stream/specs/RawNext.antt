@@ -81,8 +81,7 @@ module _ {R A : Type 0} where
   KeptAnswers old new (Ok None) = KeepsAll (kept old) old new × (stopped_of new ≡ None) × IsPartial (limits_of old) (kept old)
   KeptAnswers old new (Err Memory) = KeepsAll (kept old) old new × (stopped_of new ≡ None)
   KeptAnswers old new (Err (Format fault)) = KeepsAll (kept old) old new × (stopped_of new ≡ Some (Format fault)) × IsRefused (limits_of old) (kept old) fault
-  KeptAnswers old new (Err Device) = ⊥
-  KeptAnswers old new (Err TooManyReads) = ⊥
+  KeptAnswers old new _ = ⊥
 
   -- the message that is lent was copied, and is lent no more
   pub record HasCopied (bytes : List ℕ) (old new : RawReader R A) : Type 0 where
@@ -101,8 +100,5 @@ module _ {R A : Type 0} where
 
   abbrev pub GivesLent : RawReader R A → RawReader R A → Result (Option (Vec ℕ A)) ReadFault → Type 0
   GivesLent old new (Ok (Some bytes)) = HasCopied bytes.items old new
-  GivesLent old new (Ok None) = ⊥
   GivesLent old new (Err Memory) = KeepsAgain old new
-  GivesLent old new (Err (Format fault)) = ⊥
-  GivesLent old new (Err Device) = ⊥
-  GivesLent old new (Err TooManyReads) = ⊥
+  GivesLent old new _ = ⊥

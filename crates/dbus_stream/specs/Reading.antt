@@ -15,6 +15,10 @@ module _ {R T B : Type 0} {b : Ghosts B} where
   abbrev pub taker_of : Reader R T B b → T
   taker_of r = r.taker
 
+  -- what is left of the buffer
+  abbrev pub part_of : Reader R T B b → List ℕ
+  part_of r = slice_range (b.room.bytes r.buffer) r.start r.end
+
   -- how many bytes all the messages have that were given
   abbrev pub done_of : Reader R T B b → ℕ
   done_of r = r.done
@@ -44,7 +48,7 @@ module _ {R T B : Type 0} {b : Ghosts B} where
       pub held : List ℕ
       pub holds : k.holds r.taker held
       pub size : r.held ≡ length held
-      pub bytes : w ≡ held ++ slice_range (b.room.bytes r.buffer) r.start r.end
+      pub bytes : w ≡ held ++ part_of r
 
     -- a reader of the device, which may make so many reads in all, keeps to the limits, and read
     -- nothing yet

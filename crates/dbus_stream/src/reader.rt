@@ -1,5 +1,5 @@
 //! Messages from a source, by what takes their bytes.
-ghost use Rattle.std.specs.Prelude.{◌≡◌, ◌≤◌, ◌<◌, ◌+◌, ◌*◌, ◌-◌, ◌^◌, ◌++◌, ℕ, [], List, true, None, Some};
+ghost use Rattle.std.specs.Prelude.{◌≡◌, ◌≤◌, ◌<◌, ◌+◌, ◌*◌, ◌-◌, ◌^◌, ◌++◌, ℕ, [], List, length, true, None, Some};
 ghost use Rattle.dbus_stream.specs.Lasting.{is_lasting};
 
 use crate::buffer::Buffer;
@@ -42,11 +42,11 @@ pub struct Reader<R, T, B: Buffer> {
 
 impl<R: Source, T: Taker, B: Buffer> Reader<R, T, B> {
     ghost use Rattle.dbus_stream.specs.declared.read_fault.ReadFault.{ReadFault};
-    ghost use Rattle.dbus_device.specs.Device.{ReadCounts, one_more};
-    ghost use Rattle.dbus_stream.specs.Reading.{limits_of, source_of, taker_of, done_of, reads_of, most_reads_of, stopped_of, Keeps, IsNewReader};
+    ghost use Rattle.dbus_device.specs.Device.{ReadCounts};
+    ghost use Rattle.dbus_stream.specs.Reading.{limits_of, source_of, taker_of, part_of, done_of, reads_of, most_reads_of, stopped_of, Keeps, IsNewReader};
     ghost use Rattle.dbus_stream.specs.Next.{NextAnswers, KeptAnswers, DeviceCounts, Reads, ReadsNothing};
-    ghost use Rattle.dbus_stream.specs.Passing.{part_of, ReadsToSkip, SkipAnswers};
-    ghost use Rattle.dbus_stream.specs.Steps.{IsDrained, TakesAll, Fills, Finishes, GivesUp};
+    ghost use Rattle.dbus_stream.specs.Passing.{ReadsToSkip, SkipAnswers};
+    ghost use Rattle.dbus_stream.specs.Steps.{TakesAll, Stops, Drops, Fills, Calls};
 
     /// A reader of what the source gives to a taker that holds nothing. It has read nothing yet,
     /// and makes at most `reads` reads in its life, the one that finds the end of the input among
@@ -122,10 +122,19 @@ impl<R: Source, T: Taker, B: Buffer> Reader<R, T, B> {
                 Err(fault) => return Err(fault),
             }
             if self.ended {
-                return self.finish();
+                if self.held == 0 {
+                    return Ok(None);
+                }
+                let fault = ReadFault::Format(Fault {
+                    at: self.held,
+                    reason: Reason::Truncated,
+                });
+                self.stop(fault);
+                return Err(fault);
             }
             if self.reads >= self.most_reads {
-                return self.give_up();
+                self.stop(ReadFault::TooManyReads);
+                return Err(ReadFault::TooManyReads);
             }
             match self.fill() {
                 Ok(()) => {}
@@ -182,13 +191,11 @@ impl<R: Source, T: Taker, B: Buffer> Reader<R, T, B> {
         'reading: loop {
             let kept = self.part().len() as u64;
             if left <= kept {
-                self.start += left as usize;
-                self.done += left;
+                self.skip(left);
                 self.stopped = None;
                 return Ok(true);
             }
-            self.start = self.end;
-            self.done += kept;
+            self.skip(kept);
             left -= kept;
             if self.ended {
                 return Ok(false);
@@ -210,29 +217,23 @@ impl<R: Source, T: Taker, B: Buffer> Reader<R, T, B> {
         self.buffer.part(self.start, self.end)
     }
 
-    // The input has ended: `None`, or `Truncated` within a message.
-    fn finish(&mut self) -> Result<Option<T::Given>, ReadFault>
-        ensures finishes { Finishes self.old self.new result }
+    // It returns the fault from then on.
+    fn stop(&mut self, fault: ReadFault)
+        requires { is_lasting (Some fault) ≡ true }
+        ensures stops { Stops fault self.old self.new }
         ensures unread { ReadsNothing T.known self.old self.new }
     {
-        if self.held == 0 {
-            return Ok(None);
-        }
-        let fault = ReadFault::Format(Fault {
-            at: self.held,
-            reason: Reason::Truncated,
-        });
         self.stopped = Some(fault);
-        Err(fault)
     }
 
-    // No read is left: `TooManyReads`, for good.
-    fn give_up(&mut self) -> Result<Option<T::Given>, ReadFault>
-        ensures gives_up { GivesUp self.old self.new result }
+    // Passes over so many bytes of what is left of the buffer.
+    fn skip(&mut self, count: u64)
+        requires { count ≤ length (part_of self.old) }
+        ensures drops { Drops count self.old self.new }
         ensures unread { ReadsNothing T.known self.old self.new }
     {
-        self.stopped = Some(ReadFault::TooManyReads);
-        Err(ReadFault::TooManyReads)
+        self.start += count as usize;
+        self.done += count;
     }
 
     // What the taker makes of what is left of the buffer. If no message ends there, it takes all of
@@ -269,18 +270,14 @@ impl<R: Source, T: Taker, B: Buffer> Reader<R, T, B> {
 
     // One more read, into the buffer, which has nothing left.
     fn fill(&mut self) -> Result<(), DeviceFault>
-        requires drained { IsDrained self.old }
+        requires drained { part_of self.old ≡ [] }
         requires more { reads_of self.old < most_reads_of self.old }
         ensures fills { Fills R.left self.old self.new result }
+        ensures calls { Calls R.calls self.old self.new }
         ensures failed { ReadCounts (R.failures (source_of self.old))
             (R.failures (source_of self.new)) result }
-        ensures reads { reads_of self.new ≡ reads_of self.old + 1 }
-        ensures called { R.calls (source_of self.new) ≡ one_more (R.calls (source_of self.old)) }
         ensures same_reference { R.reference (source_of self.new) ≡
             R.reference (source_of self.old) }
-        ensures most_reads { most_reads_of self.new ≡ most_reads_of self.old }
-        ensures done { done_of self.new ≡ done_of self.old }
-        ensures stopped { stopped_of self.new ≡ stopped_of self.old }
     {
         self.reads += 1;
         self.start = 0;

@@ -3,7 +3,7 @@ use Rattle.dbus_value_model.specs.declared.limits.Limits.{Limits}
 use Rattle.dbus_header.specs.MessageOutcomes.{IsPartial}
 use Rattle.dbus_header.specs.StatedLengths.{StatesLength}
 use Rattle.dbus_stream.specs.Gathering.{under_way}
-use Rattle.dbus_stream.specs.Passing.{part_of}
+use Rattle.dbus_stream.specs.Reading.{part_of}
 use Rattle.dbus_stream.specs.RawReading.{limits_of, kept}
 use Rattle.dbus_stream.proofs.PassSteps.{states_front, states_less, states_none}
 use Rattle.dbus_stream.proofs.raw_reader.RawReader.stated.Goals as goal

@@ -1,9 +1,8 @@
 use Rattle.std.specs.Prelude.{Option}
-use Rattle.std.proofs.Common.{◌≡◌, ◌≤◌, ◌*◌, List, ℕ, ◌++◌, None, Some, Ok, Err, refl, ap, arith, sym, ◌∙◌}
-use Rattle.dbus_stream.specs.Reading.{source_of, stopped_of, Keeps}
+use Rattle.std.proofs.Common.{◌≡◌, ◌≤◌, ◌*◌, List, [], ℕ, ◌++◌, None, Some, Ok, Err, refl, ap, arith, sym, ◌∙◌}
+use Rattle.dbus_stream.specs.Reading.{source_of, part_of, stopped_of, Keeps}
 use Rattle.dbus_stream.specs.Next.{KeptAnswers}
-use Rattle.dbus_stream.specs.Steps.{IsDrained}
-use Rattle.dbus_stream.proofs.NextSteps.{Wants, lasts, few_done, starts, begins, wants, given, finished, gave_up, failed_read, filled}
+use Rattle.dbus_stream.proofs.NextSteps.{Wants, lasts, few_done, starts, begins, wants, given, ended, cut_short, gave_up, adds_none, failed_read, filled}
 use Rattle.dbus_stream.proofs.reader.Reader.next.Goals as goal
 use Rattle.dbus_stream.proofs.reader.Reader.next.Goals.{In-Ok-None}
 
@@ -41,31 +40,38 @@ held g c w kept =
     wants g.T.Taker.known g.R.Source.left g.R.Source.calls w c.args.self.now c.reading.self c.take_kept.new.self h takes c.take_kept.ensures.unread
 
 -- and the buffer has nothing left
-drained : (g : _) (c : In-Ok-None g) → IsDrained c.take_kept.new.self × (stopped_of c.take_kept.new.self ≡ None)
+drained : (g : _) (c : In-Ok-None g) → (part_of c.take_kept.new.self ≡ []) × (stopped_of c.take_kept.new.self ≡ None)
 drained g c = rw c.in-Ok-None.field-0-is at c.in-Ok-None.ensures.takes_all
+
+pub returns-then-self-eq0-clause-read : goal.returns-then-self-eq0-clause-read
+returns-then-self-eq0-clause-read g c = λ w kept.
+    let in_none = (goal.at.returns-then-self-eq0-clause-read g c).In-Ok-None in
+    let d = drained g in_none in
+    ended g.T.Taker.known g.R.Source.left g.R.Source.calls w c.args.self.now c.take_kept.new.self (held g in_none w kept) d.0 d.1 c.if-self.true c.if-self-eq0.true
 
 pub returns-then-self-clause-read : goal.returns-then-self-clause-read
 returns-then-self-clause-read g c = λ w kept.
     let in_none = (goal.at.returns-then-self-clause-read g c).In-Ok-None in
-    let d = drained g in_none in
-    finished g.T.Taker.known g.R.Source.left g.R.Source.calls w c.args.self.now c.take_kept.new.self c.finish.new.self c.finish.result
-    (held g in_none w kept) d.0 d.1 c.if-self.true c.finish.ensures.finishes c.finish.ensures.unread
+    let some = c.if-self-eq0.false in
+    cut_short g.T.Taker.known g.R.Source.left g.R.Source.calls w c.args.self.now c.take_kept.new.self c.stop.new.self (held g in_none w kept) (drained g in_none).0 c.if-self.true
+    (omega (arith, some)) _ refl c.stop.ensures.stops c.stop.ensures.unread
 
 pub returns-then-self-2-clause-read : goal.returns-then-self-2-clause-read
 returns-then-self-2-clause-read g c = λ w kept.
     let r = c.take_kept.new.self in
     let few : r.reads ≤ r.most_reads = r.few_reads in
     let all : r.reads ≡ r.most_reads = omega arith in
-    gave_up g.T.Taker.known g.R.Source.left g.R.Source.calls w c.args.self.now r c.give_up.new.self c.give_up.result
-    (held g (goal.at.returns-then-self-2-clause-read g c).In-Ok-None w kept) all c.if-self.false c.give_up.ensures.gives_up c.give_up.ensures.unread
+    gave_up g.T.Taker.known g.R.Source.left g.R.Source.calls w c.args.self.now r c.stop-then-self-2.new.self
+    (held g (goal.at.returns-then-self-2-clause-read g c).In-Ok-None w kept) all c.if-self.false c.stop-then-self-2.ensures.stops c.stop-then-self-2.ensures.unread
 
 pub returns-in-Err-fill-clause-read : goal.returns-in-Err-fill-clause-read
 returns-in-Err-fill-clause-read g c = λ w kept.
     let fill = c.in-Err-fill.ensures in
     let in_none = (goal.at.returns-in-Err-fill-clause-read g c).In-Ok-None in
     let d = drained g in_none in
-    failed_read g.T.Taker.known g.R.Source.left g.R.Source.calls w c.args.self.now c.take_kept.new.self c.fill.new.self
-    (held g in_none w kept) d.0 c.if-self.false fill.fills (record { reads = fill.reads; called = fill.called; most_reads = fill.most_reads; done = fill.done }) (fill.stopped ∙ d.1)
+    let adds = adds_none g.R.Source.left c.take_kept.new.self c.fill.new.self c.if-self.false fill.fills in
+    failed_read g.T.Taker.known g.R.Source.left g.R.Source.calls w c.args.self.now c.take_kept.new.self c.fill.new.self [] (held g in_none w kept) d.0 c.if-self.false fill.calls adds
+    refl (fill.calls.stopped ∙ d.1)
 
 pub reading-preserved : goal.reading-preserved
 reading-preserved g c =
@@ -75,8 +81,8 @@ reading-preserved g c =
     let unread = c.take_kept.ensures.unread in (
       λ w kept.
           filled g.T.Taker.known g.R.Source.left g.R.Source.calls w c.args.self.now c.take_kept.new.self c.fill.new.self fill.fills.0
-          (held g in_none w kept) d.0 c.if-self.false fill.fills.1 (record { reads = fill.reads; called = fill.called; most_reads = fill.most_reads; done = fill.done }),
-      fill.stopped ∙ d.1,
+          (held g in_none w kept) d.0 c.if-self.false fill.calls fill.fills.1 fill.fills.2,
+      fill.calls.stopped ∙ d.1,
       fill.failed ∙ (ap g.R.Source.failures unread.source ∙ c.reading.invariant.2),
       fill.same_reference ∙ (ap g.R.Source.reference unread.source ∙ c.reading.invariant.3),
     )

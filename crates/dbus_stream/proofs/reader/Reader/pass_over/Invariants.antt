@@ -5,7 +5,7 @@ use Rattle.dbus_stream.proofs.reader.Reader.pass_over.Given as goal
 
 abbrev pub invariant-reading : goal.invariant-reading
 invariant-reading g l =
-    HasSkipped g.T.Taker.known (l.count - l.fn.self.held) g.R.Source.left g.R.Source.calls l.left l.fn.self l.self
+    HasSkipped g.T.Taker.known (l.count - l.fn.self.held) g.R.Source.left g.R.Source.calls l.fn.self l.left l.self
     × (g.R.Source.failures (source_of l.self) ≡ g.R.Source.failures (source_of l.fn.self))
     × (g.R.Source.reference (source_of l.self) ≡ g.R.Source.reference (source_of l.fn.self))
 

@@ -1,11 +1,11 @@
 use Rattle.std.proofs.Common.{◌≡◌, ◌≤◌, ◌+◌, ◌-◌, ◌++◌, [], append-nil, arith, ap, refl, sym, subst, ◌∙◌, List, ℕ, length, drop, take, true, false, not, Option, None, Some}
 use Rattle.std.specs.List.{slice_range}
 use Rattle.std.specs.Option.{is_some}
-use Rattle.std.proofs.lemmas.List.{length-append}
+use Rattle.std.proofs.lemmas.List.{length-append, length-take}
 use Rattle.dbus_header.specs.MessageOutcomes.{IsWhole, IsPartial, IsRefused}
 use Rattle.dbus_stream.specs.Reading.{limits_of}
 use Rattle.dbus_stream.specs.Taking.{Completes, Waits}
-use Rattle.dbus_stream.proofs.Lists.{left_after, no_part, part_fits, front_of}
+use Rattle.dbus_stream.proofs.Lists.{left_after, no_part, front_of}
 use Rattle.dbus_stream.proofs.reader.Reader.take_kept.Goals as goal
 
 -- what is given
@@ -28,7 +28,7 @@ returns-clause-takes g c = λ w kept.
     subst (λ piece. Completes k r.taker kept.held piece c.take_piece.new.self n one.0) c.part-piece.ensures
     (rw (c.in-Ok.is, one.1) at (c.take_piece.ensures.takes kept.held kept.holds kept.size)) in
     let taken : n ≤ length part = subst (λ (piece : List ℕ). n ≤ length piece) c.part-piece.ensures c.in-Ok.ensures.within in
-    let ends = part_fits (g.B.Buffer.room.bytes r.buffer) r.start r.end in
+    let ends = length-take (r.end - r.start) (drop r.start (g.B.Buffer.room.bytes r.buffer)) in
     let ordered = r.in_order in
     let fits : r.start + n ≤ r.end = omega (arith, taken, ends, ordered) in
     let size = length kept.held + n in rw one.1 (
@@ -41,7 +41,7 @@ returns-clause-takes g c = λ w kept.
           held = [];
           holds = e.holds;
           size = refl;
-          bytes = ap (drop size) kept.bytes ∙ sym (left_after kept.held (g.B.Buffer.room.bytes r.buffer) r.start r.end n fits);
+          bytes = ap (drop size) kept.bytes ∙ sym (left_after kept.held (g.B.Buffer.room.bytes r.buffer) r.start r.end n);
         };
         done = ap (λ x. r.done + (x + n)) kept.size;
         unstopped = c.requires;
@@ -83,6 +83,9 @@ returns-then-is_none-clause-takes g c = λ w kept.
       c.requires,
       subst (λ l. IsPartial (limits_of k r) l) (sym kept.bytes) e.0,
     )
+
+pub returns-then-is_none-clause-takes_all : goal.returns-then-is_none-clause-takes_all
+returns-then-is_none-clause-takes_all g c = (no_part (g.B.Buffer.room.bytes c.args.self.now.buffer) c.args.self.now.end c.args.self.now.end refl, c.requires)
 
 pub returns-in-Err-Format-clause-takes : goal.returns-in-Err-Format-clause-takes
 returns-in-Err-Format-clause-takes g c = λ w kept.
