@@ -4,9 +4,9 @@ use Rattle.std.specs.Io.KnownBytes.{Consumes, Keeps, ReadConsumes, prepend_known
 use Rattle.std.proofs.KnownBytes.{Consumes-nil, Consumes-kept, Consumes-trans}
 use Rattle.std.specs.List.{slice_range}
 use Rattle.std.specs.Result.{IsErr}
-use Rattle.std.proofs.lemmas.List.{drop-take, drop-drop, length-take, length-take-le, take_at}
+use Rattle.std.proofs.lemmas.List.{drop-drop, length-take-le, take_at}
 use Rattle.std.proofs.lemmas.Result.{IfOk-from_err}
-use Rattle.std.proofs.Math.Nat.{min-le_left}
+use Rattle.std.proofs.lemmas.Slice.{between_is}
 use Rattle.std.proofs.Math.Seq.{take-nil}
 use Rattle.dbus_device.specs.Device.{one_more}
 use Rattle.dbus_device.specs.declared.device_fault.DeviceFault.{DeviceFault}
@@ -19,19 +19,10 @@ no_part bytes start end none =
     let n : end - start ≡ 0 = omega arith in
     ap (λ k. take k (drop start bytes)) n
 
--- a part has at most so many bytes
-part_fits : (bytes : List ℕ) (start end : ℕ) → length (slice_range bytes start end) ≤ end - start
-part_fits bytes start end = let e = length-take (end - start) (drop start bytes) in rw e (min-le_left (end - start) (length (drop start bytes)))
-
 -- a part that begins later
-pub later_part : (bytes : List ℕ) (start end count : ℕ) → count ≤ length (slice_range bytes start end)
-    → slice_range bytes (start + count) end ≡ drop count (slice_range bytes start end)
-later_part bytes start end count within =
-    let there = part_fits bytes start end in
-    let split : end - start ≡ count + (end - (start + count)) = omega (arith, within, there) in
-    sym (ap (λ k. drop count (take k (drop start bytes))) split
-    ∙ (drop-take count (end - (start + count)) (drop start bytes)
-    ∙ ap (take (end - (start + count))) (drop-drop count start bytes)))
+pub later_part : (bytes : List ℕ) (start end count : ℕ) → slice_range bytes (start + count) end ≡ drop count (slice_range bytes start end)
+later_part bytes start end count =
+    sym (ap (drop count) (between_is bytes start end) ∙ (drop-drop count start (take end bytes) ∙ sym (between_is bytes (start + count) end)))
 
 -- the first bytes of a part, and then what lies after them where they were written, are the part's
 -- front
@@ -41,7 +32,7 @@ front_given bytes front tail start end count within is =
     let part = slice_range bytes start end in
     let size : length front ≡ count = ap length is ∙ length-take-le count part within in
     sym (take-append-drop count part) ∙ ap (λ l. l ++ drop count part) (sym is ∙ sym (take_at front tail count size))
-    ∙ ap (λ l. take count (front ++ tail) ++ l) (sym (later_part bytes start end count within))
+    ∙ ap (λ l. take count (front ++ tail) ++ l) (sym (later_part bytes start end count))
 
 -- what a read of the source below does where nothing is kept
 pub read_through : {E : Type 0} (kept : List ℕ) (a b : Option (List ℕ)) (r : Result ℕ E) (buffer : List ℕ) → kept ≡ [] → ReadConsumes a b r buffer
