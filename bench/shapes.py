@@ -1,5 +1,6 @@
 #!/usr/bin/env python3
 """bench/shapes.py FOLDER: writes streams of messages, each of one shape, for measuring: FOLDER/NAME.dbus, of about 2 MB.
+bench/shapes.py --search PROGRAM [COUNT [SEED]]: tries shapes that nobody thought of, as below.
 
 dictionaries: a signal PropertiesChanged with twelve properties; objects: 16 to 100 KB of these, as the answer of GetManagedObjects has
 them, so that many messages are cut by the end of a reader's buffer; texts: an array of 200 texts; structs: an array of 100 structs
@@ -7,10 +8,15 @@ a(iiuxsb); bytes: an array of 32,000 bytes; doubles: an array of 1,000 doubles. 
 
 FOLDER/NAME.worst has the most work a byte that a legal message asks for: one message of about 1 MB, an array of elements that are
 small, or nested, or wide; `fields` has header fields of no meaning in its place.
+
+The search makes COUNT random types (200), of at most six kinds within structs, arrays, dictionaries and variants. Of each it fills an array
+with least values, counts by valgrind the instructions per byte of PROGRAM's `check`, and prints the dearest ten, the dearest first.
 """
 
 import random
+import re
 import struct
+import subprocess
 import sys
 
 ALIGNMENTS = {**dict.fromkeys("ygv", 1), **dict.fromkeys("nq", 2), **dict.fromkeys("iubsoa", 4), **dict.fromkeys("xtd({", 8)}
@@ -111,6 +117,9 @@ SHAPES = {
 }
 
 
+WORST_SIZE = 1_000_000
+
+
 def array_message(types, alignment, unit, last=b""):
     """A signal whose body is a number and an array, of this type, of these bytes again and again, from a boundary of 8 on."""
     units = unit * (WORST_SIZE // len(unit)) + last
@@ -136,12 +145,29 @@ def field_message():
     return header("", 0, (b"\xc8\x01y\0\x07" + bytes(3)) * (WORST_SIZE // 8) + b"\xc8\x01y\0\x07")
 
 
+def array_of(one, value, size=WORST_SIZE):
+    """A signal whose body is a number and an array of like values of the type."""
+    units, begun = bytearray(), {}
+    # The bytes of a value depend on where it begins from a boundary of 8 on, so they come again.
+    while len(units) % 8 not in begun:
+        begun[len(units) % 8] = len(units)
+        put(units, one, value)
+    again = bytes(units[begun[len(units) % 8] :])
+    units += again * (size // len(again))
+    body = struct.pack("<II", 0, len(units)) + bytes(units)
+    return header("ua" + one, len(body)) + body
+
+
+def within(values, outer=30):
+    """The values of a struct in so many others."""
+    return values if outer == 0 else [within(values, outer - 1)]
+
+
 NESTED = "(" * 31 + "a(" + "y" * 188 + ")" + ")" * 31
 INNER = "(y" + "(" * 30 + "ay" + ")" * 30 + ")"
 CHAINS = "(" + ("(" * 30 + "y" + ")" * 30) * 4 + ")"
 AFTER = "(" * 31 + "y" + ")y" * 30 + ")"
 PATH = struct.pack("<I", 1) + b"/\0"
-WORST_SIZE = 1_000_000
 WORST = {
     "nested": lambda: array_message("a" + NESTED, 8, bytes(8)),
     "inner": lambda: array_message("a" + INNER, 8, bytes(16), bytes(12)),
@@ -157,6 +183,13 @@ WORST = {
     "signatures": lambda: array_message("ag", 1, bytes([254]) + b"y" * 254 + b"\0"),
     "unspelled": lambda: array_message("ag", 1, bytes(2)),
     "untyped": lambda: array_message("a" + "(" * 31 + "gggg" + ")" * 31, 8, bytes(8)),
+    "rows": lambda: array_of("(gggg)", [""] * 4),
+    "mixed": lambda: array_of("(ggay)", ["", "", []]),
+    "held": lambda: array_of("v", ("(ggg)", [""] * 3)),
+    "lists": lambda: array_of("(" * 31 + "ayay" + ")" * 31, within([[], []])),
+    "boxes": lambda: array_of("(" * 31 + "vv" + ")" * 31, within([("y", 0), ("y", 0)])),
+    "shelves": lambda: array_of("(" * 31 + "av" + ")" * 31, within([[]])),
+    "arrays": lambda: array_of("a" * 30 + "y", []),
     "texts": lambda: array_message("as", 4, bytes(8), bytes(5)),
     "paths": lambda: array_message("ao", 4, PATH + bytes(2), PATH),
     "booleans": lambda: array_message("ab", 4, bytes(4)),
@@ -164,7 +197,67 @@ WORST = {
 }
 
 
+SEARCHED_SIZE = 200_000
+
+
+def random_type(kinds, arrays, structs):
+    """A complete type with at most so many basic types or variants in it, and so many arrays and structs around each of these."""
+    choice = random.random()
+    if choice < 0.2 and arrays:
+        return "a" + random_type(kinds, arrays - 1, structs)
+    if choice < 0.3 and arrays and structs and kinds > 1:
+        return "a{" + random.choice("ybsg") + random_type(kinds - 1, arrays - 1, structs - 1) + "}"
+    if choice < 0.7 and structs:
+        outer = random.choice([1, 1, 1, 2, 4, structs])
+        count = random.randint(1, kinds)
+        inner = "".join(random_type(max(1, kinds // count), arrays, structs - outer) for _ in range(count))
+        return "(" * outer + inner + ")" * outer
+    return random.choice("ybuxdsoggv")
+
+
+def least(one):
+    """A value of the type with as few bytes as may be, but that an array has an element half of the time."""
+    code = one[0]
+    if code in "soagv":
+        if code == "v":
+            held = random_type(2, 1, 2) if random.random() < 0.5 else "y"
+            return (held, least(held))
+        if code == "a":
+            return [least(one[1:])] if random.random() < 0.5 else []
+        return "/" if code == "o" else ""
+    if code not in "({":
+        return 0
+    values, types = [], one[1:-1]
+    while types:
+        part, types = first_type(types)
+        values.append(least(part))
+    return values
+
+
+def instructions(program, message):
+    counted = subprocess.run(
+        ["valgrind", "--tool=callgrind", "--callgrind-out-file=/dev/null", program, "check"], input=message, capture_output=True, check=True
+    )
+    return int(re.search(rb"Collected : (\d+)", counted.stderr)[1])
+
+
+def search(program, count=200, seed=7):
+    random.seed(int(seed))
+    fixed = instructions(program, b"")
+    found = {}
+    while len(found) < int(count):
+        one = random_type(6, 31, 31)
+        if one in found or len(one) > 250:
+            continue
+        message = array_of(one, least(one), SEARCHED_SIZE)
+        found[one] = (instructions(program, message) - fixed) / len(message)
+    for one, cost in sorted(found.items(), key=lambda it: -it[1])[:10]:
+        print(f"{cost:8.1f} {one}")
+
+
 def main():
+    if sys.argv[1] == "--search":
+        return search(*sys.argv[2:])
     random.seed(7)
     for name, shape in WORST.items():
         with open(f"{sys.argv[1]}/{name}.worst", "wb") as file:
