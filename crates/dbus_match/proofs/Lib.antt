@@ -4,3 +4,4 @@ pub mod Separators
 pub mod MatchingLists
 pub mod Spans
 pub mod Alike
+pub mod Noted

@@ -1,3 +1,4 @@
 pub mod Matching
+pub mod Arguments
 pub mod Matchers
 pub mod Laws

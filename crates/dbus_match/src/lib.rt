@@ -8,7 +8,9 @@
 //! from the specification. Examples are at [`parse_rule`] and [`matches`].
 #![tactic(auto)]
 
+mod argument;
 mod asked;
+mod asked_view;
 mod compare;
 mod copies;
 pub mod laws;
