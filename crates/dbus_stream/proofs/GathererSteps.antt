@@ -39,44 +39,30 @@ module _ (old : GathererState) (piece : List ℕ) where
       → IsValidatedWhole new.limits new.held j → Completes gathering old w piece new n j
   gathered w n new j holds e validated =
       let held = under_way old.whole old.held in
-      let held_is : new.held ≡ take (length held + n) (held ++ piece) = ap (λ (s : GathererState). s.held) e.state ∙ sym (take-append-add held piece n) in
-      let unlent : new.lent ≡ 0 = ap (λ (s : GathererState). s.lent) e.state in
-      let whole : new.whole ≡ true = ap (λ (s : GathererState). s.whole) e.state in
-      subst (λ v. Completes gathering old v piece new n j) holds (record {
+      let all = take-append-add held piece n in
+      subst (λ v. Completes gathering old v piece new n j) holds
+      (subst (λ (s : GathererState). IsValidatedWhole s.limits s.held j → Completes gathering old held piece s n j) (sym e.state) (λ own. record {
         order = e.order;
         message = e.message;
         whole = e.whole;
-        gives = record {
-          validated = subst (λ b. IsValidatedWhole new.limits b j) held_is validated;
-          place = inl (whole, held_is, unlent);
-        };
-        holds = ap (λ b. under_way b new.held) whole;
-        lends = λ some. absurd (omega (arith, some, unlent));
-      })
+        gives = record { validated = subst (λ b. IsValidatedWhole old.limits b j) (sym all) own; place = inl (refl, sym all, refl) };
+        holds = refl;
+        lends = λ some. absurd (omega (arith, some));
+      }) validated)
 
   -- the message does not end there
   pub waits : (w : List ℕ) (new : GathererState) → under_way old.whole old.held ≡ w → Gathers (begun old) piece new (Ok None)
       → Takes gathering old w piece new (Ok (length piece)) None
-  waits w new holds g = (
-    subst (λ v. IsPartial old.limits (v ++ piece)) holds g.0,
-    refl,
-    record {
-      holds = ap (λ (s : GathererState). under_way s.whole s.held) g.1 ∙ ap (λ v. v ++ piece) holds;
-      rests = (ap (λ (s : GathererState). s.whole) g.1, ap (λ (s : GathererState). s.lent) g.1);
-    },
-  )
+  waits w new holds g =
+      subst (λ v. Takes gathering old v piece new (Ok (length piece)) None) holds
+      (subst (λ s. Takes gathering old (under_way old.whole old.held) piece s (Ok (length piece)) None) (sym g.1) (g.0, refl, record { holds = refl; rests = (refl, refl) }))
 
   -- nothing was taken
   pub fails : (w : List ℕ) (new : GathererState) (fault : StreamFault) (given : Option Validated) → under_way old.whole old.held ≡ w → Gathers (begun old) piece new (Err fault)
       → Takes gathering old w piece new (Err fault) given
-  fails w new Memory given holds g = (
-    tt,
-    record {
-      holds = ap (λ (s : GathererState). under_way s.whole s.held) g ∙ holds;
-      rests = (ap (λ (s : GathererState). s.whole) g, ap (λ (s : GathererState). s.lent) g);
-    },
-  )
-  fails w new (Format fault) given holds g = (
-    subst (λ v. IsRefused old.limits (v ++ piece) fault) holds g.0,
-    (ap (λ (s : GathererState). s.held) g.1 ∙ holds, (ap (λ (s : GathererState). s.whole) g.1, ap (λ (s : GathererState). s.lent) g.1)),
-  )
+  fails w new Memory given holds g =
+      subst (λ v. Takes gathering old v piece new (Err Memory) given) holds
+      (subst (λ s. Takes gathering old (under_way old.whole old.held) piece s (Err Memory) given) (sym g) (tt, record { holds = refl; rests = (refl, refl) }))
+  fails w new (Format fault) given holds g =
+      subst (λ v. Takes gathering old v piece new (Err (Format fault)) given) holds
+      (subst (λ s. Takes gathering old (under_way old.whole old.held) piece s (Err (Format fault)) given) (sym g.1) (g.0, (refl, (refl, refl))))
