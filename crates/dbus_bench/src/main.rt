@@ -11,37 +11,71 @@ mod parts;
 mod samples;
 mod spelled;
 mod timing;
-mod validated;
 mod values;
 
-use messages::bench_messages;
-use parts::bench_parts;
-use spelled::bench_spelled;
+use messages::{Encoding, MEASURES, Messages};
+use parts::{Making, SIZE};
+use samples::{SAMPLES, Sample};
+use spelled::Spelling;
+use std::env;
+use std::io::Read;
 use std::process::ExitCode;
-use std::{env, io};
-use timing::Extent;
-use values::bench_values;
+use timing::{Extent, measure};
+use values::Reading;
 
 // What the first argument asks for.
-fn extent_of(rt: &HostRuntime) -> io::Result<Extent> {
-    let words: Vec<String> = env::args(rt)?.collect(rt.alloc())?;
+fn extent_of(rt: &HostRuntime) -> Option<Extent> {
+    let words: Vec<String> = env::args(rt).ok()?.collect(rt.alloc()).ok()?;
     match words.get(1) {
-        Some(word) => Ok(Extent::Megabytes(word.as_str().parse().unwrap_or(64))),
-        None => Ok(Extent::Once),
+        Some(word) => Some(Extent::Megabytes(word.as_str().parse().unwrap_or(64))),
+        None => Some(Extent::Once),
     }
 }
 
-fn bench(rt: &HostRuntime) -> io::Result<()> {
+// Measures `get` and `put` of a sample.
+fn bench_sample(rt: &HostRuntime, extent: Extent, sample: &Sample) -> Option<()> {
+    let bytes = sample.bytes(rt.alloc())?;
+    let reading = Reading {
+        types: sample.types,
+        bytes: &bytes,
+    };
+    measure(rt, extent, "get", sample.types, bytes.len(), &reading)?;
+    let writing = reading.writing(rt)?;
+    measure(rt, extent, "put", sample.types, bytes.len(), &writing)
+}
+
+// Measures what is done with all messages of these bytes, and encoding of the first.
+fn bench_messages(rt: &HostRuntime, extent: Extent, bytes: &[u8]) -> Option<()> {
+    for (call, what, done) in MEASURES {
+        let messages = Messages { bytes, done };
+        measure(rt, extent, call, what, bytes.len(), &messages)?;
+    }
+    let first = Encoding::first_of(rt, bytes)?;
+    measure(
+        rt,
+        extent,
+        "encode",
+        "the first message",
+        first.size,
+        &first,
+    )
+}
+
+fn bench(rt: &HostRuntime) -> Option<()> {
     let extent = extent_of(rt)?;
-    bench_values(rt, extent)?;
-    bench_messages(rt, extent)?;
-    bench_parts(rt, extent)?;
-    bench_spelled(rt, extent)
+    for sample in &SAMPLES {
+        bench_sample(rt, extent, sample)?;
+    }
+    let mut bytes = Vec::new(rt.alloc());
+    rt.stdin().read_to_end(&mut bytes).ok()?;
+    bench_messages(rt, extent, &bytes)?;
+    measure(rt, extent, "make and encode", "a signal", SIZE, &Making)?;
+    measure(rt, extent, "spell and build", "a signal", SIZE, &Spelling)
 }
 
 fn main(rt: HostRuntime) -> ExitCode {
     match bench(&rt) {
-        Ok(()) => ExitCode::SUCCESS,
-        Err(_) => ExitCode::FAILURE,
+        Some(()) => ExitCode::SUCCESS,
+        None => ExitCode::FAILURE,
     }
 }

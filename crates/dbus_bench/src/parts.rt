@@ -1,13 +1,25 @@
-//! A signal that is made of its parts and encoded.
-use crate::timing::{Extent, Measure};
-use dbus_message::{Build, HeaderField, Message, Parts, encode, field_code, message_type};
+//! A signal whose values are made as trees, and that is made of them and encoded.
+use crate::timing::Rounds;
+use dbus_message::{Compose, Message, encode};
 use dbus_types::SigType;
 use dbus_value::{DictEntry, Order, Value};
-use std::alloc::{AllocError, Global};
-use std::io::{self, Error, ErrorKind};
+use std::alloc::Global;
 use std::sync::Arc;
 
-// What a property is now.
+/// How many bytes the signal has.
+pub(crate) const SIZE: usize = 897;
+
+pub(crate) const PATH: &str = "/org/freedesktop/systemd1/unit/dbus_2eservice";
+
+pub(crate) const INTERFACE: &str = "org.freedesktop.DBus.Properties";
+
+pub(crate) const MEMBER: &str = "PropertiesChanged";
+
+pub(crate) const SENDER: &str = ":1.3";
+/// The text that comes first in its body.
+pub(crate) const SERVICE: &str = "org.freedesktop.systemd1.Service";
+
+/// What a property is now.
 #[derive(Clone, Copy)]
 pub(crate) enum Now {
     Text(&'static str),
@@ -16,7 +28,7 @@ pub(crate) enum Now {
     Is(bool),
 }
 
-// The properties that changed, as a service manager tells them of a service that has started.
+/// The properties that changed, as a service manager tells them of a service that has started.
 pub(crate) const CHANGED: [(&str, Now); 17] = [
     ("ActiveState", Now::Text("active")),
     ("SubState", Now::Text("running")),
@@ -37,7 +49,7 @@ pub(crate) const CHANGED: [(&str, Now); 17] = [
     ("IPIngressBytes", Now::Count(65_536)),
 ];
 
-// The properties that changed to something that is not told.
+/// The properties that changed to something that is not told.
 pub(crate) const INVALIDATED: [&str; 4] = [
     "ExecStart",
     "ExecStop",
@@ -45,86 +57,63 @@ pub(crate) const INVALIDATED: [&str; 4] = [
     "ExecMainCode",
 ];
 
-// The properties and what they are now, `a{sv}`.
-fn changed(alloc: Global) -> Result<Value, AllocError> {
-    let mut entries = Vec::with_capacity(alloc, CHANGED.len())?;
-    for (name, now) in &CHANGED {
-        let now = match *now {
-            Now::Text(text) => Value::text_unchecked(alloc, text)?,
-            Now::Number(number) => Value::U32(number),
-            Now::Count(count) => Value::U64(count),
-            Now::Is(so) => Value::Bool(so),
-        };
-        let entry = DictEntry {
-            key: Value::text_unchecked(alloc, name)?,
-            value: Value::Variant(Box::new(alloc, now)?),
-        };
-        entries.push(Value::Entry(Box::new(alloc, entry)?))?;
+// What a property is now.
+fn value_of(alloc: Global, now: Now) -> Option<Value> {
+    match now {
+        Now::Text(text) => Value::text_unchecked(alloc, text).ok(),
+        Now::Number(number) => Some(Value::U32(number)),
+        Now::Count(count) => Some(Value::U64(count)),
+        Now::Is(so) => Some(Value::Bool(so)),
     }
-    let key = Arc::new(alloc, SigType::Str)?;
-    let held = Arc::new(alloc, SigType::Variant)?;
-    Ok(Value::Array(SigType::Entry(key, held), entries))
+}
+
+// A property and what it is now.
+fn entry(alloc: Global, name: &str, now: Now) -> Option<Value> {
+    let key = Value::text_unchecked(alloc, name).ok()?;
+    let value = Value::Variant(Box::new(alloc, value_of(alloc, now)?).ok()?);
+    Some(Value::Entry(Box::new(alloc, DictEntry { key, value }).ok()?))
+}
+
+// The properties and what they are now, `a{sv}`.
+fn changed(alloc: Global) -> Option<Value> {
+    let key = Arc::new(alloc, SigType::Str).ok()?;
+    let item = SigType::Entry(key, Arc::new(alloc, SigType::Variant).ok()?);
+    let mut entries = Vec::with_capacity(alloc, CHANGED.len()).ok()?;
+    for (name, now) in &CHANGED {
+        entries.push(entry(alloc, name, *now)?).ok()?;
+    }
+    Some(Value::Array(item, entries))
 }
 
 // The names of the other properties, `as`.
-fn invalidated(alloc: Global) -> Result<Value, AllocError> {
-    let mut names = Vec::with_capacity(alloc, INVALIDATED.len())?;
+fn invalidated(alloc: Global) -> Option<Value> {
+    let mut names = Vec::with_capacity(alloc, INVALIDATED.len()).ok()?;
     for name in &INVALIDATED {
-        names.push(Value::text_unchecked(alloc, name)?)?;
+        names.push(Value::text_unchecked(alloc, name).ok()?).ok()?;
     }
-    Ok(Value::Array(SigType::Str, names))
+    Some(Value::Array(SigType::Str, names))
 }
 
-fn header(alloc: Global) -> Result<Vec<HeaderField>, AllocError> {
-    let path = String::from_str(alloc, "/org/freedesktop/systemd1/unit/dbus_2eservice")?;
-    let signature = String::from_str(alloc, "sa{sv}as")?;
-    let mut fields = Vec::with_capacity(alloc, 5)?;
-    for (code, value) in [
-        (field_code::PATH, Value::Path(path)),
-        (
-            field_code::INTERFACE,
-            Value::text_unchecked(alloc, "org.freedesktop.DBus.Properties")?,
-        ),
-        (
-            field_code::MEMBER,
-            Value::text_unchecked(alloc, "PropertiesChanged")?,
-        ),
-        (field_code::SENDER, Value::text_unchecked(alloc, ":1.3")?),
-        (field_code::SIGNATURE, Value::Sig(signature)),
-    ] {
-        fields.push(HeaderField { code, value })?;
-    }
-    Ok(fields)
+/// The signal PropertiesChanged from values to bytes: making its values, the message of them, its
+/// encoding, and letting all of it go.
+#[derive(Clone, Copy)]
+pub(crate) struct Making;
+
+// How many bytes the signal has.
+fn made(alloc: Global) -> Option<usize> {
+    let message = Message::signal(alloc, PATH, INTERFACE, MEMBER)
+        .sender(SENDER)
+        .text(SERVICE)
+        .value(changed(alloc)?)
+        .value(invalidated(alloc)?)
+        .build();
+    Some(encode(alloc, &message.ok()?, Order::Little).ok()?.len())
 }
 
-// The signal PropertiesChanged.
-fn properties_changed(alloc: Global) -> Result<Parts, AllocError> {
-    let interface = Value::text_unchecked(alloc, "org.freedesktop.systemd1.Service")?;
-    Ok(Parts {
-        kind: message_type::SIGNAL,
-        flags: 0,
-        serial: 1,
-        fields: header(alloc)?,
-        body: vec![in alloc; interface, changed(alloc)?, invalidated(alloc)?]?,
-    })
-}
+impl Rounds for Making {
+    ghost is_ready = { λ _. Unit {0} };
 
-// How many bytes the signal has that is made of its parts and encoded.
-fn encoded(alloc: Global) -> io::Result<usize> {
-    match Message::new(alloc, properties_changed(alloc)?) {
-        Ok(message) => Ok(encode(alloc, &message, Order::Little)?.len()),
-        Err(_) => Err(Error::from(ErrorKind::InvalidData)),
+    fn round(&self, rt: &HostRuntime) -> u64 {
+        u64::from(made(rt.alloc()) == Some(SIZE))
     }
-}
-
-/// Measures a signal from parts to bytes: making its values, the message of them, its encoding, and
-/// letting all of it go.
-pub(crate) fn bench_parts(rt: &HostRuntime, extent: Extent) -> io::Result<()> {
-    let size = encoded(rt.alloc())?;
-    let measure = Measure::start(rt, "make and encode", "a signal", extent)?;
-    let mut made = 0;
-    for _ in 0..extent.rounds(size) {
-        made = u64::from(encoded(rt.alloc())? == size);
-    }
-    measure.finish(rt, size, made)
 }
