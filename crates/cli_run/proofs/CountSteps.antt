@@ -1,13 +1,14 @@
 -- The messages of a source are counted as if they were handed to a visitor that makes nothing of
 -- them.
 use Rattle.std.proofs.Common.{◌≡◌, ℕ, ◌+◌, Bool, false, true, List, [], Option, None, Some, Result, Ok, Err, length, refl, sym, ap, ◌∙◌, inl, inr, arith, subst}
+use Rattle.std.proofs.Math.Path.{transport}
 use Rattle.std.specs.Io.KnownBytes.{IsAtEnd}
-use Rattle.std.proofs.lemmas.Bool.{false≢true, or_parts}
+use Rattle.std.proofs.lemmas.Bool.{or_parts}
 use Rattle.dbus_value_model.specs.declared.fault.Fault.{Fault}
 use Rattle.dbus_value_model.specs.declared.limits.Limits.{Limits}
 use Rattle.dbus_device.specs.Device.{RisesBy}
 use Rattle.dbus_stream.specs.CheckReading.{CheckAnswers, CheckReader, limits_of}
-use Rattle.dbus_stream.specs.Cut.{CutMessage, CutOutcome, Ended, Unfinished, Refused}
+use Rattle.dbus_stream.specs.Cut.{CutMessage}
 use Rattle.dbus_stream.specs.CutEnds.{sizes}
 use Rattle.dbus_stream.specs.Lengths.{lengths}
 use Rattle.dbus_stream.specs.Reading.{IsNewReader, most_reads_of, source_of}
@@ -20,7 +21,7 @@ use Rattle.cli_run.specs.ByName.{IsUnwritten}
 use Rattle.cli_run.specs.Counting.{Tallies}
 use Rattle.cli_run.specs.Going.{Covers, IsMore, IsStopOf}
 use Rattle.cli_run.specs.Onward.{HasRead, HandsOn, HandsSomeOn}
-use Rattle.cli_run.specs.Inputs.{IsLast, Placed, sizes_of, wholes}
+use Rattle.cli_run.specs.Inputs.{Placed, sizes_of, wholes}
 use Rattle.cli_run.specs.Output.{fault_line}
 use Rattle.cli_run.specs.Parts.{IsToldLast}
 use Rattle.cli_run.specs.Visiting.{AddsUp}
@@ -34,7 +35,7 @@ use Rattle.cli_run.specs.declared.visitor.Stop.{Stop}
 use Rattle.cli_run.specs.declared.visitor.Stop.TheVariants.{Cause as ByCause}
 use Rattle.cli_run.proofs.GoSteps.{wholes_tally}
 use Rattle.cli_run.proofs.HandSteps.{Faults}
-use Rattle.cli_run.proofs.PartLaws.{parts_of, sizes-wholes, told_of}
+use Rattle.cli_run.proofs.PartLaws.{is_last, parts_of, sizes-wholes, told_of}
 
 -- what the counting keeps of messages is their number, which the loop counts
 abbrev pub counts : (a b : Unit {0}) → List Placed → (told : List ℕ) → Type 0
@@ -64,14 +65,7 @@ told_last : (settings : Settings) (n offset : ℕ) (kept : List ℕ) (fault : Op
 told_last settings n offset kept None explains halts = refl
 told_last settings n offset kept (Some fault) explains halts =
     let refusal : Refusal = record { number = n; offset = offset; fault = fault } in
-    subst (λ (b : Bool). IsToldBy settings.keeps_going b refusal kept (line_of false refusal)) (sym explains) (ap (λ goes. line_of goes refusal) (sym halts))
-
--- it ends a run that is not to go on
-is_last : (goes : Bool) (limits : Limits) (rest : List ℕ) (outcome : CutOutcome) (at_end : Type 0) → goes ≡ false → (((f : Fault) → outcome ≡ Refused f → ⊥) → at_end)
-    → IsLast goes limits rest rest outcome at_end
-is_last goes limits rest Ended at_end halts all = (refl, all (λ f e. absurd (let both = e in cc)))
-is_last goes limits rest Unfinished at_end halts all = (refl, all (λ f e. absurd (let both = e in cc)))
-is_last goes limits rest (Refused fault) at_end halts all = inl (refl, λ on. absurd (false≢true (sym halts ∙ on)))
+    transport (λ i. IsToldBy (sym halts i) (sym explains i) refusal kept (line_of false refusal)) refl
 
 -- of a new reader, which keeps nothing
 module _ {R : Type 0} (left : R → Option (List ℕ)) (calls failures : R → ℕ) (old new : CheckReader R) (is : IsNewReader lengths (source_of old) (most_reads_of old) (limits_of old) old)
@@ -94,7 +88,7 @@ module _ {R : Type 0} (left : R → Option (List ℕ)) (calls failures : R → �
   abbrev HandsSome : Cause → Type 0
   HandsSome cause = HandsSomeOn lengths left calls settings.limits [] failures counts gives_up 0 cause old new tt tt
 
-  some_tallied : (cause : Cause) (s : HandsSome cause) → IsMore Took settings (most_reads_of old) true (ByCause cause) (wholes s.items) s.rest [] → IsStopOf Took settings (most_reads_of old) true (ByCause cause)
+  some_tallied : (cause : Cause) (s : HandsSome cause) → IsMore Took settings (most_reads_of old) true (ByCause cause) (wholes s.items) s.rest [] → IsStopOf Took (most_reads_of old) (ByCause cause)
       → Tallies Took settings (most_reads_of old) (Err cause)
   some_tallied cause s all caused =
       record { parts = wholes s.items; rest = s.rest; told = []; covers = covers s.items s.rest s.read; more = []; all = all; caused = caused; came = (s.given_up, refl) }

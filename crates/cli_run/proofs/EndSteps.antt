@@ -1,23 +1,22 @@
 -- What the writers got of a run, by what became of a writer of an output.
 use Rattle.std.proofs.Common.{◌≡◌, ℕ, Bool, true, false, List, [], None, Option, refl, subst}
+use Rattle.std.proofs.Math.Path.{transport}
 use Rattle.dbus_device.specs.Write.{Wrote}
 use Rattle.cli_options.specs.declared.command.Command.{Command}
 use Rattle.cli_options.specs.declared.settings.Settings.{Settings}
 use Rattle.cli_report.specs.Devices.{Taken, Writing, reading, taken, writing}
 use Rattle.cli_report.specs.Gathering.{Breaks, gathered_bytes}
 use Rattle.cli_report.proofs.GatherSteps.{passes_whole}
-use Rattle.cli_report.specs.declared.ending.Cause.TheVariants.{Memory, ReadFailed, WriteFailed, TooManyReads}
+use Rattle.cli_report.specs.declared.ending.Cause.TheVariants.{WriteFailed}
 use Rattle.cli_report.specs.declared.ending.ExitStatus.{ExitStatus}
-use Rattle.cli_run.specs.Commands.{command_of}
+use Rattle.cli_run.specs.Output.{command_of, IsOutputOfAll, is_check, owners_known}
 use Rattle.cli_run.specs.Going.{GoesThrough, StopsWithin}
 use Rattle.cli_run.specs.Inputs.{Placed}
-use Rattle.cli_run.specs.Output.{IsOutputOfAll, is_check, owners_known}
 use Rattle.cli_run.specs.OutputWriting.{LeavesFirst, LeavesWritten, WritesAll}
 use Rattle.cli_run.specs.Running.{Writes, WritesSome}
 use Rattle.cli_run.specs.Told.{GotFirst, GotSecond, first_of, second_of}
 use Rattle.cli_run.specs.Windows.{written}
 use Rattle.cli_run.specs.declared.output_writer.OutputWriter.{OutputWriter}
-use Rattle.cli_run.specs.declared.place.Carried.{Carried}
 use Rattle.cli_run.specs.declared.visitor.Stop.{Stop}
 use Rattle.cli_run.specs.declared.visitor.Stop.TheVariants.{Cause as ByCause, Untold}
 
@@ -30,81 +29,56 @@ pub stops_as : {t : Taken} {settings : Settings} {most : ℕ} {is_check : Bool} 
     → ((items : List Placed) (told : List ℕ) → P items told stop → Q items told stop) → StopsWithin t settings most is_check P stop → StopsWithin t settings most is_check Q stop
 stops_as f s = record { parts = s.parts; rest = s.rest; told = s.told; covers = s.covers; more = s.more; all = s.all; caused = s.caused; came = f _ _ s.came }
 
+-- the writers at the end are w2 and e2
 module _ {A W E : Type 0} (held : W → Option (List ℕ)) (failures : W → ℕ) (second_held : E → Option (List ℕ)) (second_failures : E → ℕ) (a b : OutputWriter A W E) (settings : Settings) (command : Command)
-    (own : command_of a.output ≡ command) (carried : a.carried ≡ record { window = settings.window; owners = None }) (none : gathered_bytes a.gathered ≡ []) where
+    (own : command_of a.output ≡ command) (carried : a.carried ≡ record { window = settings.window; owners = None }) (none : gathered_bytes a.gathered ≡ []) {w2 : W} {e2 : E}
+    (first : b.first.now ≡ w2) (second : b.second.now ≡ e2) where
   abbrev w : Writing W
-  w = writing held failures a.first.now b.first.now
+  w = writing held failures a.first.now w2
 
   abbrev e : Writing E
-  e = writing second_held second_failures a.second.now b.second.now
+  e = writing second_held second_failures a.second.now e2
 
   made_as : (items : List Placed) (texts : List (List ℕ)) → IsOutputOfAll (command_of a.output) (owners_known (command_of a.output) a.carried.owners) items texts
       → IsOutputOfAll command (owners_known command None) items texts
-  made_as items texts made =
-      subst (λ (k : Carried). IsOutputOfAll command (owners_known command k.owners) items texts) carried (subst (λ (c : Command). IsOutputOfAll c (owners_known c a.carried.owners) items texts) own made)
+  made_as items texts made = transport (λ i. IsOutputOfAll (own i) (owners_known (own i) (carried i).owners) items texts) made
 
-  pub writes_as : gathered_bytes b.gathered ≡ [] → (items : List Placed) (told : List ℕ) → WritesAll held failures second_held second_failures a b items told → Writes w e settings command items told
-  writes_as last items told h =
-      let first = passes_whole held failures _ (gathered_bytes a.gathered) (gathered_bytes b.gathered) a.first.now b.first.now none last h.passes in
-      let by_command = subst (λ (c : Command). Wrote held failures a.first.now (first_of (is_check c) (written a.carried.window h.texts) told) b.first.now) own first in
-      record {
-        texts = h.texts;
-        made = made_as items h.texts h.made;
-        first = subst (λ (k : Carried). Wrote held failures a.first.now (first_of (is_check command) (written k.window h.texts) told) b.first.now) carried by_command;
-        second = subst (λ (c : Command). Wrote second_held second_failures a.second.now (second_of (is_check c) told) b.second.now) own h.tells;
-      }
+  writes_as : gathered_bytes b.gathered ≡ [] → (items : List Placed) (told : List ℕ) → WritesAll held failures second_held second_failures a b items told → Writes w e settings command items told
+  writes_as last items told h = record {
+    texts = h.texts;
+    made = made_as items h.texts h.made;
+    first = transport (λ i. Wrote held failures a.first.now (first_of (is_check (own i)) (written (carried i).window h.texts) told) (first i))
+        (passes_whole held failures _ (gathered_bytes a.gathered) (gathered_bytes b.gathered) a.first.now b.first.now none last h.passes);
+    second = transport (λ i. Wrote second_held second_failures a.second.now (second_of (is_check (own i)) told) (second i)) h.tells;
+  }
 
   broken : (bytes : List ℕ) → Breaks held failures bytes (gathered_bytes a.gathered) a.first.now b.first.now → Breaks held failures bytes [] a.first.now b.first.now
   broken bytes p = subst (λ (g : List ℕ). Breaks held failures bytes g a.first.now b.first.now) none p
 
   first_as : (c : Bool) (stop : Stop) (bytes : List ℕ) → LeavesFirst held failures c stop bytes (gathered_bytes a.gathered) a.first.now b.first.now → GotFirst held failures c stop bytes a.first.now b.first.now
-  first_as c (ByCause Memory) bytes p = passes_whole held failures bytes (gathered_bytes a.gathered) [] a.first.now b.first.now none refl p
-  first_as c (ByCause ReadFailed) bytes p = passes_whole held failures bytes (gathered_bytes a.gathered) [] a.first.now b.first.now none refl p
   first_as c (ByCause WriteFailed) bytes p = broken bytes p
-  first_as c (ByCause TooManyReads) bytes p = passes_whole held failures bytes (gathered_bytes a.gathered) [] a.first.now b.first.now none refl p
+  first_as c (ByCause cause) bytes p = passes_whole held failures bytes (gathered_bytes a.gathered) [] a.first.now b.first.now none refl p
   first_as true Untold bytes p = broken bytes p
   first_as false Untold bytes p = passes_whole held failures bytes (gathered_bytes a.gathered) [] a.first.now b.first.now none refl p
 
-  pub leaves_as : (stop : Stop) (items : List Placed) (told : List ℕ) → LeavesWritten held failures second_held second_failures a b items told stop → WritesSome w e settings command items told stop
-  leaves_as stop items told h =
-      let first = first_as (is_check (command_of a.output)) stop _ h.leaves in
-      let by_command = subst (λ (c : Command). GotFirst held failures (is_check c) stop (first_of (is_check c) (written a.carried.window h.texts) told) a.first.now b.first.now) own first in
-      record {
-        texts = h.texts;
-        made = made_as items h.texts h.made;
-        first = subst (λ (k : Carried). GotFirst held failures (is_check command) stop (first_of (is_check command) (written k.window h.texts) told) a.first.now b.first.now) carried by_command;
-        second = subst (λ (c : Command). GotSecond second_held second_failures (is_check c) stop (second_of (is_check c) told) a.second.now b.second.now) own h.tells;
-      }
+  leaves_as : (stop : Stop) (items : List Placed) (told : List ℕ) → LeavesWritten held failures second_held second_failures a b items told stop → WritesSome w e settings command items told stop
+  leaves_as stop items told h = record {
+    texts = h.texts;
+    made = made_as items h.texts h.made;
+    first = transport (λ i. GotFirst held failures (is_check (own i)) stop (first_of (is_check (own i)) (written (carried i).window h.texts) told) a.first.now (first i))
+        (first_as (is_check (command_of a.output)) stop _ h.leaves);
+    second = transport (λ i. GotSecond second_held second_failures (is_check (own i)) stop (second_of (is_check (own i)) told) a.second.now (second i)) h.tells;
+  }
 
-  -- ---- the same of a source and two writers that stand where these do
+  -- ---- the same of a source that stands where this one does
 
-  module _ {R : Type 0} (left : R → Option (List ℕ)) (calls read_failures : R → ℕ) (most : ℕ) (r0 r1 : R) (c : Bool) (checks : c ≡ is_check command) {r2 : R} {w2 : W} {e2 : E}
-      (source : r1 ≡ r2) (first : b.first.now ≡ w2) (second : b.second.now ≡ e2) where
+  module _ {R : Type 0} (left : R → Option (List ℕ)) (calls read_failures : R → ℕ) (most : ℕ) (r0 r1 : R) (c : Bool) (checks : c ≡ is_check command) {r2 : R} (source : r1 ≡ r2) where
     pub ran : {end : ExitStatus} → gathered_bytes b.gathered ≡ []
         → GoesThrough (taken (reading left calls read_failures r0 r1)) settings most c (WritesAll held failures second_held second_failures a b) end
-        → GoesThrough (taken (reading left calls read_failures r0 r2)) settings most (is_check command)
-        (Writes (writing held failures a.first.now w2) (writing second_held second_failures a.second.now e2) settings command) end
-    ran {end} last g =
-        let own_writers : GoesThrough (taken (reading left calls read_failures r0 r1)) settings most c (Writes w e settings command) end = goes_as (λ items told h. writes_as last items told h) g in
-        subst (λ (x : Bool). GoesThrough (taken (reading left calls read_failures r0 r2)) settings most x
-        (Writes (writing held failures a.first.now w2) (writing second_held second_failures a.second.now e2) settings command) end) checks
-        (subst (λ (x : R). GoesThrough (taken (reading left calls read_failures r0 x)) settings most c
-        (Writes (writing held failures a.first.now w2) (writing second_held second_failures a.second.now e2) settings command) end) source
-        (subst (λ (x : W). GoesThrough (taken (reading left calls read_failures r0 r1)) settings most c
-        (Writes (writing held failures a.first.now x) (writing second_held second_failures a.second.now e2) settings command) end) first
-        (subst (λ (x : E). GoesThrough (taken (reading left calls read_failures r0 r1)) settings most c
-        (Writes w (writing second_held second_failures a.second.now x) settings command) end) second own_writers)))
+        → GoesThrough (taken (reading left calls read_failures r0 r2)) settings most (is_check command) (Writes w e settings command) end
+    ran {end} last g = transport (λ i. GoesThrough (taken (reading left calls read_failures r0 (source i))) settings most (checks i) (Writes w e settings command) end) (goes_as (writes_as last) g)
 
     pub gave_up : {stop : Stop} → StopsWithin (taken (reading left calls read_failures r0 r1)) settings most c (LeavesWritten held failures second_held second_failures a b) stop
-        → StopsWithin (taken (reading left calls read_failures r0 r2)) settings most (is_check command)
-        (WritesSome (writing held failures a.first.now w2) (writing second_held second_failures a.second.now e2) settings command) stop
+        → StopsWithin (taken (reading left calls read_failures r0 r2)) settings most (is_check command) (WritesSome w e settings command) stop
     gave_up {stop} s =
-        let own_writers : StopsWithin (taken (reading left calls read_failures r0 r1)) settings most c (WritesSome w e settings command) stop = stops_as (λ items told h. leaves_as stop items told h) s in
-        subst (λ (x : Bool). StopsWithin (taken (reading left calls read_failures r0 r2)) settings most x
-        (WritesSome (writing held failures a.first.now w2) (writing second_held second_failures a.second.now e2) settings command) stop) checks
-        (subst (λ (x : R). StopsWithin (taken (reading left calls read_failures r0 x)) settings most c
-        (WritesSome (writing held failures a.first.now w2) (writing second_held second_failures a.second.now e2) settings command) stop) source
-        (subst (λ (x : W). StopsWithin (taken (reading left calls read_failures r0 r1)) settings most c
-        (WritesSome (writing held failures a.first.now x) (writing second_held second_failures a.second.now e2) settings command) stop) first
-        (subst (λ (x : E). StopsWithin (taken (reading left calls read_failures r0 r1)) settings most c
-        (WritesSome w (writing second_held second_failures a.second.now x) settings command) stop) second own_writers)))
+        transport (λ i. StopsWithin (taken (reading left calls read_failures r0 (source i))) settings most (checks i) (WritesSome w e settings command) stop) (stops_as (leaves_as stop) s)

@@ -1,6 +1,7 @@
 -- How a turn of a run that passes over refused messages ends: the input ends, or a message is
--- refused.
-use Rattle.std.proofs.Common.{◌≡◌, ℕ, ◌+◌, ◌-◌, ◌<◌, List, [], ◌∷◌, ◌++◌, Bool, true, false, None, Some, Ok, Err, length, refl, sym, ap, ◌∙◌, subst, arith, inl, inr, append-nil, length-append}
+-- refused; and how the run ends then, by its last line.
+use Rattle.std.proofs.Common.{◌≡◌, ℕ, ◌+◌, ◌-◌, ◌<◌, List, [], ◌∷◌, ◌++◌, Bool, true, false, Option, None, Some, Result, Ok, Err, length, refl, sym, ap, ◌∙◌, subst, arith, inl, inr, append_assoc, append-nil, length-append}
+use Rattle.std.proofs.Math.Path.{transport}
 use Rattle.std.specs.Io.KnownBytes.{IsAtEnd}
 use Rattle.std.proofs.KnownBytes.{Consumes-trans}
 use Rattle.std.proofs.lemmas.Bool.{false≢true}
@@ -10,7 +11,7 @@ use Rattle.dbus_header.specs.MessageOutcomes.{IsRefused, IsPartial}
 use Rattle.dbus_header.specs.StatedLengths.{StatesLength}
 use Rattle.dbus_header.proofs.OutcomeLaws.{one_outcome, nothing_partial}
 use Rattle.dbus_device.specs.Device.{one_more}
-use Rattle.dbus_stream.specs.Cut.{CutOutcome, Ended, Unfinished, Refused, IsOutcome}
+use Rattle.dbus_stream.specs.Cut.{CutOutcome, Ended, Refused, IsOutcome}
 use Rattle.dbus_stream.specs.CutEnds.{fault_at_end}
 use Rattle.dbus_stream.specs.Gathering.{gathering}
 use Rattle.dbus_stream.specs.Lasting.{is_truncated}
@@ -20,13 +21,14 @@ use Rattle.dbus_stream.specs.RawReading.{done_of, is_ended, kept, limits_of, mos
 use Rattle.dbus_stream.specs.declared.raw_reader.RawReader.{RawReader}
 use Rattle.dbus_stream.specs.declared.read_fault.ReadFault.{ReadFault}
 use Rattle.dbus_stream.specs.declared.read_fault.ReadFault.TheVariants as read
-use Rattle.cli_run.specs.Going.{IsAllOf, cause_of}
+use Rattle.cli_run.specs.Going.{Closes, IsAllOf, PassesAll, cause_of}
 use Rattle.cli_run.specs.Inputs.{BeginWithParts, IsCutOff, IsLast, IsTellable, PassedOver, Placed, placed, sizes_of}
 use Rattle.cli_run.specs.Onward.{HasRead, stop_of}
-use Rattle.cli_run.specs.Parts.{AreTold, IsTold, passed_count, passed_sizes}
+use Rattle.cli_run.specs.Parts.{AreTold, HasLastLine, IsTold, closing_line, passed_count, passed_sizes}
 use Rattle.cli_run.specs.Visiting.{AddsUp, Tells}
 use Rattle.cli_report.specs.declared.ending.Cause.{Cause}
-use Rattle.cli_report.specs.declared.ending.Cause.TheVariants.{Memory, ReadFailed, WriteFailed, TooManyReads}
+use Rattle.cli_report.specs.declared.ending.Cause.TheVariants.{Memory, ReadFailed, TooManyReads}
+use Rattle.cli_report.specs.declared.ending.ExitStatus.{ExitStatus}
 use Rattle.cli_run.specs.declared.counted.Counted.{Counted}
 use Rattle.cli_run.specs.declared.tally.Tally.{Tally}
 use Rattle.cli_run.specs.declared.visitor.Stop.{Stop}
@@ -75,8 +77,7 @@ module _ {R A S : Type 0} {takes : S → S → List Placed → (told : List ℕ)
     told_at n text e told =
         let number : counted.count + 1 ≡ n = omega (arith, h.count_is, ap (λ (t : Tally). t.count) h.gone.tally_is, e) in
         let offset : counted.size ≡ sizes_of h.gone.parts = sym h.size_is ∙ ap (λ (t : Tally). t.size) h.gone.tally_is in
-        subst (λ (k : ℕ). IsTold run.settings (record { number = k; offset = sizes_of h.gone.parts; fault = fault }) (kept mid) text) number
-        (subst (λ (o : ℕ). IsTold run.settings (record { number = counted.count + 1; offset = o; fault = fault }) (kept mid) text) offset told)
+        transport (λ i. IsTold run.settings (record { number = number i; offset = offset i; fault = fault }) (kept mid) text) told
 
     fault_last : Some fault ≡ fault_at_end (kept mid) h.outcome
     fault_last = sym faulty ∙ h.fault_is
@@ -103,8 +104,6 @@ module _ {R A S : Type 0} {takes : S → S → List Placed → (told : List ℕ)
     last_is : (outcome : CutOutcome) → Some fault ≡ fault_at_end (kept mid) outcome → (((f : Fault) → outcome ≡ Refused f → ⊥) → IsAtEnd (run.left (source_of mid)))
         → (run.settings.keeps_going ≡ true → (other : Fault) (n : ℕ) → IsRefusal (stopped_of mid) other → StatesAll (limits_of mid) (kept mid) n → ⊥)
         → IsLast run.settings.keeps_going run.settings.limits (kept mid) (kept mid) outcome (IsAtEnd (run.left (source_of mid)))
-    last_is Ended e at_end none = (refl, at_end (λ f is. absurd cc))
-    last_is Unfinished e at_end none = (refl, at_end (λ f is. absurd cc))
     last_is (Refused other) e at_end none =
         let same : fault ≡ other = cc in
         inl (
@@ -112,6 +111,7 @@ module _ {R A S : Type 0} {takes : S → S → List Placed → (told : List ℕ)
           λ goes whole n all. none goes other n (stopped_last ∙ ap (λ (f : Fault). Some (read.Format f)) same, whole)
               (subst (λ (l : Limits). StatesAll l (kept mid) n) (sym h.gone.covered.limits_are) all),
         )
+    last_is outcome e at_end none = (refl, at_end (λ f is. absurd cc))
 
     -- nothing was passed over, if the run is not to go on, or could not
     abbrev through_there : (text : List ℕ) → Due text → (run.settings.keeps_going ≡ true → (other : Fault) (n : ℕ) → IsRefusal (stopped_of mid) other → StatesAll (limits_of mid) (kept mid) n → ⊥)
@@ -122,17 +122,14 @@ module _ {R A S : Type 0} {takes : S → S → List Placed → (told : List ℕ)
     -- the fault shows
     tellable : (outcome : CutOutcome) → Some fault ≡ fault_at_end (kept mid) outcome → (((f : Fault) → outcome ≡ Refused f → ⊥) → IsAtEnd (run.left (source_of mid)))
         → IsTellable (kept mid) (kept mid) outcome (IsAtEnd (run.left (source_of mid)))
-    tellable Ended e at_end = (refl, at_end (λ f is. absurd cc))
-    tellable Unfinished e at_end = (refl, at_end (λ f is. absurd cc))
     tellable (Refused other) e at_end = refl
+    tellable outcome e at_end = (refl, at_end (λ f is. absurd cc))
 
     pub not_told : settled s1 → (s2 : S) (stop : Stop) → Tells takes leaves Due s1 s2 (Err stop) → Within run leaves mid stop s2
     not_told rests s2 (ByCause Memory) same =
         let came = (laws.rests run.s0 s1 items h.gone.told h.gone.came rests).0 in
         stops_plain run leaves Memory mid h.gone.parts (kept mid) h.gone.told s2 h.gone.covered (inl refl) h.gone.failed (subst (λ (s : S). leaves run.s0 s items h.gone.told (ByCause Memory)) (sym same) came)
-    not_told rests s2 (ByCause ReadFailed) never = absurd never
-    not_told rests s2 (ByCause WriteFailed) never = absurd never
-    not_told rests s2 (ByCause TooManyReads) never = absurd never
+    not_told rests s2 (ByCause cause) never = absurd never
     not_told rests s2 Untold half = record {
       parts = h.gone.parts;
       rest = kept mid;
@@ -239,8 +236,6 @@ module _ {R A S : Type 0} {takes : S → S → List Placed → (told : List ℕ)
 
           pub breaks : (goes : run.settings.keeps_going ≡ true) (broken : ReadFault) → Passing run.left run.calls mid new (Err broken)
               → DeviceCounts {T = Bool} (run.failures (source_of mid)) (run.failures (source_of new)) (Err broken) → Within run leaves new (ByCause (cause_of broken)) s2
-          breaks goes read.Memory passing counts = elim passing [ inl p ↦ absurd p.5 | inr none ↦ absurd (let e = none.1 in cc) ]
-          breaks goes (read.Format f) passing counts = elim passing [ inl p ↦ absurd p.5 | inr none ↦ absurd (let e = none.1 in cc) ]
           breaks goes read.Device passing counts = elim passing [
             | inl p ↦ torn goes ReadFailed p.1 p.4 p.0 p.2 (stated p.0 p.1 p.2 p.3) p.5 (λ all. all) (counts.0 ∙ ap one_more h.gone.failed)
                 (laws.rests run.s0 s2 items (h.gone.told ++ text) came_told rests).1
@@ -252,6 +247,7 @@ module _ {R A S : Type 0} {takes : S → S → List Placed → (told : List ℕ)
                 (laws.rests run.s0 s2 items (h.gone.told ++ text) came_told rests).2
             | inr none ↦ absurd (let e = none.1 in cc)
           ]
+          breaks goes broken passing counts = elim passing [ inl p ↦ absurd p.5 | inr none ↦ absurd (let e = none.1 in cc) ]
 
         -- the message was passed over
         over : (past : Tally) (end : ℕ) → end ≡ done_of new → past ≡ record { count = tally.count + 1; size = end; passed = tally.passed + 1; passed_size = tally.passed_size + (end - tally.size) }
@@ -288,3 +284,51 @@ module _ {R A S : Type 0} {takes : S → S → List Placed → (told : List ℕ)
           | inl p ↦ over past end there past_is goes p.1 p.4 p.0 p.2 (stated p.0 p.1 p.2 p.3) p.5 same
           | inr none ↦ absurd (let e = none.1 in cc)
         ]
+
+-- ---- how a run ends after its parts, by its last line
+
+module _ {R A S : Type 0} {takes : S → S → List Placed → (told : List ℕ) → Type 0} {run : Begun R A S} {new : RawReader R A} {tally : Tally} {fault : Option Fault} {s1 : S}
+    (h : HasEnded run takes new tally fault s1) where
+  abbrev all : List Placed
+  all = placed 1 0 h.through.parts
+
+  abbrev line : List ℕ
+  line = closing_line run.is_check tally tally.passed fault
+
+  module _ {leaves : S → S → List Placed → (told : List ℕ) → Stop → Type 0} {settled : S → Type 0} (laws : AddsUp takes leaves settled) (rests : settled s1) (s2 : S) where
+    pub closes : (res : Result ExitStatus Stop) → Closes takes leaves run.is_check tally fault s1 s2 res
+        → PassesAll (Took run new) run.settings (most_reads_of run.old) run.is_check takes leaves run.s0 s2 res
+    closes (Ok end) c = record {
+      tally = tally;
+      fault = fault;
+      told = h.told;
+      text = h.text;
+      through = h.through;
+      came = subst (λ (l : List Placed). takes run.s0 s2 l ((h.told ++ h.text) ++ line)) (append-nil all) (laws.joins run.s0 s1 s2 all [] (h.told ++ h.text) line h.came c.0);
+      end_is = c.1;
+    }
+    closes (Err (ByCause Memory)) c =
+        let passed = ap (λ (x : Tally). x.passed) h.through.tally_is in
+        record {
+          parts = h.through.parts;
+          rest = h.through.rest;
+          told = h.told;
+          covers = h.through.covers;
+          more = h.text;
+          all = inr (h.through.kept, fault, h.through.tells, h.through.last, subst (λ (n : ℕ). HasLastLine run.is_check n fault) passed c.1);
+          caused = h.through.read_failed;
+          came = subst (λ (s : S). leaves run.s0 s all (h.told ++ h.text) (ByCause Memory)) (sym c.0) (laws.rests run.s0 s1 all (h.told ++ h.text) h.came rests).0;
+        }
+    closes (Err (ByCause cause)) c = absurd c
+    closes (Err Untold) c =
+        let came = subst (λ (l : List Placed). leaves run.s0 s2 l ((h.told ++ h.text) ++ line) Untold) (append-nil all) (laws.leaves_after run.s0 s1 s2 all [] (h.told ++ h.text) line Untold h.came c) in
+        record {
+          parts = h.through.parts;
+          rest = h.through.rest;
+          told = h.told;
+          covers = h.through.covers;
+          more = h.text ++ line;
+          all = (h.through.kept, fault, h.text, h.through.tells, inr (h.through.last, ap (λ (x : Tally). h.text ++ closing_line run.is_check x x.passed fault) h.through.tally_is));
+          caused = h.through.read_failed;
+          came = subst (λ (l : List ℕ). leaves run.s0 s2 all l Untold) (append_assoc h.told h.text line) came;
+        }

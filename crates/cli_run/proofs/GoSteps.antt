@@ -4,6 +4,7 @@ use Rattle.std.proofs.Common.{◌≡◌, ℕ, ◌+◌, ◌^◌, ◌<◌, ◌≤�
 use Rattle.std.specs.Io.KnownBytes.{Consumes}
 use Rattle.std.proofs.KnownBytes.{Consumes-nil, Consumes-trans}
 use Rattle.std.proofs.lemmas.Bool.{false≢true}
+use Rattle.std.proofs.lemmas.List.{length-map}
 use Rattle.dbus_value_model.specs.declared.fault.Fault.{Fault}
 use Rattle.dbus_value_model.specs.declared.limits.Limits.{Limits}
 use Rattle.dbus_header.specs.MessageOutcomes.{IsRefused}
@@ -18,7 +19,7 @@ use Rattle.dbus_stream.specs.declared.raw_reader.RawReader.{RawReader}
 use Rattle.cli_options.specs.declared.settings.Settings.{Settings}
 use Rattle.cli_report.specs.Devices.{reading, taken, Taken}
 use Rattle.cli_run.specs.Going.{Covers, IsMore, IsStopOf, IsThrough, StopsWithin}
-use Rattle.cli_run.specs.Inputs.{BeginWithParts, Part, Placed, placed, sizes_of, wholes}
+use Rattle.cli_run.specs.Inputs.{BeginWithParts, Part, Placed, Whole, placed, sizes_of, wholes}
 use Rattle.cli_run.specs.Onward.{HasRead, HandsRawOn, HandsSomeOn, IsTrueEnd, stop_of}
 use Rattle.cli_run.specs.Parts.{AreTold, passed_count, passed_sizes, tally_of}
 use Rattle.cli_run.specs.Visiting.{AddsUp}
@@ -28,21 +29,7 @@ use Rattle.cli_run.specs.declared.counted.Counted.{Counted}
 use Rattle.cli_run.specs.declared.tally.Tally.{Tally}
 use Rattle.cli_run.specs.declared.visitor.Stop.{Stop}
 use Rattle.cli_run.specs.declared.visitor.Stop.TheVariants.{Cause as ByCause}
-use Rattle.cli_run.proofs.PartLaws.{parts_more, parts_both, parts_of, few_parts, few_passed, few_passed_sizes, stated_bytes, sizes-both, passed-both, passed_sizes-both, length-wholes, sizes-wholes, passed-wholes, passed_sizes-wholes, placed_both, told_both, told_of}
-
--- a new reader of a source is one of its own
-pub is_new : {R A : Type 0} (source : R) (most : ℕ) (limits : Limits) (r : RawReader R A) → IsNewReader source most limits r → IsNewReader (source_of r) (most_reads_of r) limits r
-is_new source most limits r is = record {
-  source = refl;
-  most_reads = refl;
-  limits = is.limits;
-  kept = is.kept;
-  lent = is.lent;
-  done = is.done;
-  reads = is.reads;
-  ended = is.ended;
-  stopped = is.stopped;
-}
+use Rattle.cli_run.proofs.PartLaws.{parts_more, parts_both, parts_of, few_parts, few_passed, few_passed_sizes, stated_some, sizes-both, passed-both, passed_sizes-both, sizes-wholes, passed-wholes, passed_sizes-wholes, placed_both, told_both, told_of}
 
 -- a refusal is no end of the input
 pub refused_is : (limits : Limits) (w : List ℕ) (fault : Fault) (outcome : CutOutcome) → IsOutcome limits w outcome → Some fault ≡ fault_at_end w outcome → is_truncated fault.reason ≡ false
@@ -59,7 +46,7 @@ none_is w Unfinished e = absurd cc
 none_is w (Refused fault) e = absurd cc
 
 due_bytes : {R A : Type 0} (mid : RawReader R A) (n : ℕ) → IsDue mid n → 0 < n
-due_bytes mid n (inl s) = stated_bytes (limits_of mid) (kept mid) n s
+due_bytes mid n (inl s) = stated_some (limits_of mid) (kept mid) n s
 due_bytes mid n (inr o) = o.some
 
 -- a message that is passed over has bytes
@@ -85,7 +72,7 @@ pub wholes_tally : (parts : List Part) (items : List CutMessage) (count size : �
     → record tally { count = count; size = size } ≡ tally_of (parts ++ wholes items)
 wholes_tally parts items count size tally is number bytes =
     let count_is : count ≡ length (parts ++ wholes items)
-    = omega (arith, number, ap (λ (t : Tally). t.count) is, length-append parts (wholes items), length-wholes items) in
+    = omega (arith, number, ap (λ (t : Tally). t.count) is, length-append parts (wholes items), length-map items Whole) in
     let size_is : size ≡ sizes_of (parts ++ wholes items) = omega (arith, bytes, sizes-both parts (wholes items), sizes-wholes items) in
     let passed_is : tally.passed ≡ passed_count (parts ++ wholes items)
     = omega (arith, ap (λ (t : Tally). t.passed) is, passed-both parts (wholes items), passed-wholes items) in
@@ -154,7 +141,7 @@ module _ {R A S : Type 0} (run : Begun R A S) where
   Through new tally fault told text = IsThrough (Took new) run.settings (most_reads_of run.old) run.is_check tally fault told text
 
   abbrev pub Stopped : RawReader R A → Stop → Type 0
-  Stopped new stop = IsStopOf (Took new) run.settings (most_reads_of run.old) run.is_check stop
+  Stopped new stop = IsStopOf (Took new) (most_reads_of run.old) stop
 
   abbrev pub More : RawReader R A → Stop → List Part → List ℕ → List ℕ → Type 0
   More new stop parts rest more = IsMore (Took new) run.settings (most_reads_of run.old) run.is_check stop parts rest more

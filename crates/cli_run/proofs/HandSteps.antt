@@ -145,8 +145,6 @@ module _ {R T B G S : Type 0} {b : Ghosts B} {k : Taking T G} {left : R → Opti
         pub hands_not : {s3 : S} (cause : Cause) → TakesOne takes leaves s2 s3 (record { place = place; item = item }) (Err cause)
             → HandsSomeOn k left calls limits kept failures takes leaves before cause old new s0 s3
         hands_not {s3} Memory one = hands_some Memory tt (stays Memory taken one) (same ∙ h.failed)
-        hands_not ReadFailed one = absurd one
-        hands_not TooManyReads one = absurd one
         hands_not {s3} WriteFailed one = record {
           items = h.items ++ item ∷ [];
           rest = drop item.size (rest ++ r.bytes);
@@ -156,6 +154,7 @@ module _ {R T B G S : Type 0} {b : Ghosts B} {k : Taking T G} {left : R → Opti
               (laws.leaves_after s0 s2 s3 all (record { place = place; item = item } ∷ []) [] [] (ByCause WriteFailed) taken one);
           caused = same ∙ h.failed;
         }
+        hands_not cause one = absurd one
 
     -- no further message comes
     abbrev pub hands_all : (outcome : CutOutcome) (counted : Counted) → counted.count ≡ count → counted.size ≡ done_of new → done_of new ≡ done_of mid
@@ -236,16 +235,11 @@ module _ {R A S : Type 0} {left : R → Option (List ℕ)} {calls failures : R �
     -- the visitor holds nothing back, unless a write failed
     pub settled_last : (stop : NoMessage) → Given stop → IfOk (stopped_by count (raw.done_of new) stop) (λ _. settled s2)
     settled_last (FromReader (read.Format fault)) (from, there, (r, a, counts, go, rests)) = rests
-    settled_last (FromReader read.Memory) given = tt
-    settled_last (FromReader read.Device) given = tt
-    settled_last (FromReader read.TooManyReads) given = tt
-    settled_last Writer given = tt
+    settled_last stop given = tt
 
     pub hands_stopped : (stop : NoMessage) → Given stop → RawHandsOn left calls failures takes leaves limits before old new s0 s2 (stopped_by count (raw.done_of new) stop)
     hands_stopped (FromReader (read.Format fault)) (from, there, (r, a, same, go, rests)) =
         let all = hands_refused laws (still old mid from h there) r go fault (faults (kept from ++ r.bytes) (read.Format fault) from a) same in
         record { all = all.0; kept = a.0.kept ∙ sym all.1; stopped = a.1 }
-    hands_stopped (FromReader read.Memory) given = faulted read.Memory given
-    hands_stopped (FromReader read.Device) given = faulted read.Device given
-    hands_stopped (FromReader read.TooManyReads) given = faulted read.TooManyReads given
+    hands_stopped (FromReader fault) given = faulted fault given
     hands_stopped Writer (from, there, (r, back, same)) = hands_unwritten laws (still old mid from h there) r back same

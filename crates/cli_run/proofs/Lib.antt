@@ -10,7 +10,6 @@ pub mod CountSteps
 pub mod CheckSteps
 pub mod GoSteps
 pub mod GoEnds
-pub mod GoClosing
 pub mod EndSteps
 pub mod NameSteps
 pub mod RunSteps
@@ -19,4 +18,3 @@ pub mod MessageEnds
 pub mod SameParts
 pub mod SameOutputs
 pub mod SameRuns
-pub mod SameCuts

@@ -32,9 +32,9 @@ use Rattle.dbus_header.proofs.Fields.{open_to}
 use Rattle.dbus_header.proofs.MessageParts.{Agrees-fields, Agrees-fixed, Agrees-message_items, field_signature}
 use Rattle.dbus_header.proofs.Decoded.{refused_read, whole_read}
 use Rattle.dbus_value_model.specs.Items as items
-use Rattle.cli_run.specs.Stated.{NoneTruncated, StatedSuffice}
+use Rattle.cli_run.specs.Laws.{NoneTruncated, StatedSuffice}
 use Rattle.dbus_stream.specs.Lasting.{is_truncated}
-use Rattle.cli_run.proofs.ValueEnds.{Fits, Moves, IsOwn, after_fits, contents_fit, ends_fit, fields_fit, fits_as, moved_fits, nul_fits, number_fits, own_if, own_text, padding_fits, padding_to, signature_fits, text_fits, text_within, value_fits}
+use Rattle.cli_run.proofs.ValueEnds.{Fits, Moves, IsOwn, after_fits, contents_fit, ends_fit, fields_fit, fits_as, moved_fits, nul_fits, number_fits, own_else, own_if, own_text, padding_fits, padding_to, signature_fits, text_fits, text_within, value_fits}
 
 -- ---- rows
 
@@ -45,11 +45,7 @@ own_zero : (why : Reason) → is_truncated why ≡ false → (p n : ℕ) → IsO
 own_zero why own p n = own_if (eqb n 0) why None own tt
 
 own_version : (p n : ℕ) → IsOwn (version_row p n)
-own_version p n = by (eqb n 1)
-  where
-    by : (b : Bool) → IsOwn (cond b None (Some reasons.Version))
-    by true = tt
-    by false = refl
+own_version p n = own_else (eqb n 1) reasons.Version None refl tt
 
 own_fields : (limits : Limits) (body p n : ℕ) → IsOwn (fields_row limits body p n)
 own_fields limits body p n = own_if (ltb limits.array n) reasons.ArrayTooLong _ refl (own_if (ltb limits.message (p + n + gap_to 8 (p + n) + body)) reasons.MessageTooLong None refl tt)
@@ -68,11 +64,7 @@ name_within end p n e = elim (chosen (ltb 255 n) _ _ _ e) [
 
 own_lacks : (codes : List ℕ) (fs : List FieldTree) → IsOwn (lacks codes fs)
 own_lacks [] fs = tt
-own_lacks (c ∷ codes) fs = by (has_code c fs) (own_lacks codes fs)
-  where
-    by : (b : Bool) → IsOwn (lacks codes fs) → IsOwn (cond b (lacks codes fs) (Some (reasons.FieldMissing c)))
-    by true h = h
-    by false h = refl
+own_lacks (c ∷ codes) fs = own_else (has_code c fs) (reasons.FieldMissing c) (lacks codes fs) refl (own_lacks codes fs)
 
 -- ---- the first sixteen bytes
 
@@ -113,8 +105,6 @@ single_kinds Serial ok t h = rw (← only_is (sig (NumberType UINT32)) t h) (tex
 
 module _ (limits : Limits) (order : Order) (end : ℕ) where
   held_fits : (depth_left : ℕ) (w : Want) (t : TypeTree) → IsShaped false t → (o : ℕ) (s : List ℕ) → o ≤ end → Fits (Moves o) end o s (value_wanted (bounds_of limits) order depth_left end w t o s)
-  held_fits depth_left Anything t shaped o s le = value_fits (bounds_of limits) order depth_left end false t shaped o s le
-  held_fits depth_left (OfType u) t shaped o s le = value_fits (bounds_of limits) order depth_left end false t shaped o s le
   held_fits depth_left (Name k) t shaped o s le =
       after_fits _ (Moves o) end o s _ _ (padding_fits 4 end o s) (λ x p s at low.
       after_fits _ (Moves o) end p s _ _ (number_fits order 4 end (name_row end) (own_name end) p s) (λ n q s h le.
@@ -124,6 +114,7 @@ module _ (limits : Limits) (order : Order) (end : ℕ) where
   held_fits depth_left Serial t shaped o s le =
       after_fits _ (Moves o) end o s _ _ (padding_fits 4 end o s) (λ x p s at low.
       after_fits _ (Moves o) end p s _ _ (number_fits order 4 end (not_zero_row reasons.ZeroSerial) (own_zero reasons.ZeroSerial refl) p s) (λ n q s h le. (refl, le, omega (arith, at, h.0))))
+  held_fits depth_left w t shaped o s le = value_fits (bounds_of limits) order depth_left end false t shaped o s le
 
   signed_fits : (w : Want) → WantOk w → (o : ℕ) (s : List ℕ) → Fits (λ t q. (o < q) × IsShaped false t) end o s (wanted_signature order end (kind_wanted w) o s)
   unfolding wanted_signature

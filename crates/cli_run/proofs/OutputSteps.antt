@@ -1,6 +1,7 @@
 -- What becomes of a writer of an output by one message, if it writes what is gathered, and by a
 -- text that it tells.
 use Rattle.std.proofs.Common.{◌≡◌, ℕ, Bool, true, false, List, [], Option, Result, Ok, Err, inl, inr, refl, sym, ap, ◌∙◌, subst, append-nil}
+use Rattle.std.proofs.Math.Path.{transport}
 use Rattle.dbus_value_model.specs.declared.order.Order.{Order}
 use Rattle.dbus_message_model.specs.Messages.{MessageTree}
 use Rattle.dbus_device.specs.Write.{Wrote}
@@ -13,21 +14,19 @@ use Rattle.cli_report.specs.Gathering.{Breaks, Gathers, GathersOrNot, Passes, ga
 use Rattle.cli_report.specs.PageLaws.{passes_none}
 use Rattle.cli_report.proofs.GatherSteps.{breaks_before, breaks_nothing, breaks_through, passes_nothing, passes_through}
 use Rattle.cli_report.specs.declared.ending.Cause.{Cause}
-use Rattle.cli_report.specs.declared.ending.Cause.TheVariants.{Memory, ReadFailed, WriteFailed, TooManyReads}
+use Rattle.cli_report.specs.declared.ending.Cause.TheVariants.{Memory, WriteFailed}
 use Rattle.cli_report.specs.declared.gathering.Unwritten.{Unwritten}
-use Rattle.cli_run.specs.Commands.{command_of}
+use Rattle.cli_run.specs.Output.{command_of, IsOutputOf, is_check, owners_known}
 use Rattle.cli_run.specs.Handing.{HandsOne}
-use Rattle.cli_run.specs.Output.{IsOutputOf, is_check, owners_known}
-use Rattle.cli_run.specs.OutputLaws.{lets_out, nothing_first}
-use Rattle.cli_run.specs.OutputWriting.{FailsBy, LeavesUntold, LeavesWritten, WritesAll}
-use Rattle.cli_run.specs.Told.{UntoldSecond, WroteOrNot, first_of, second_of}
-use Rattle.cli_run.specs.ToldLaws.{told_nothing, wrote_nothing}
+use Rattle.cli_run.specs.VisitorLaws.{lets_out, nothing_first, told_nothing, after_none, written_none}
+use Rattle.cli_run.specs.OutputWriting.{FailsBy, LeavesFirst, LeavesWritten, WritesAll}
+use Rattle.cli_run.specs.Told.{GotSecond, WroteOrNot, first_of, second_of}
 use Rattle.cli_run.specs.Visiting.{LetsGo, TakesOne, TellsOne}
-use Rattle.cli_run.specs.WindowLaws.{after_none, written_none}
 use Rattle.cli_run.specs.Windows.{written}
 use Rattle.cli_run.specs.declared.output_writer.OutputWriter.{OutputWriter}
 use Rattle.cli_run.specs.declared.place.Carried.{Carried}
 use Rattle.cli_run.specs.declared.place.Place.{Place}
+use Rattle.cli_run.specs.declared.visitor.Stop.TheVariants.{Untold}
 
 -- what the first writer gets of texts: all of them, since `check` makes none
 first_made : (command : Command) (os : List Ownership) (order : Order) (m : MessageTree) (n offset : ℕ) (window : Window) (texts : List (List ℕ)) → IsOutputOf command os order m n offset texts
@@ -102,21 +101,19 @@ module _ {A W E : Type 0} (held : W → Option (List ℕ)) (failures : W → ℕ
           leaves = subst (λ (l : List ℕ). Passes held failures l (gathered_bytes a.gathered) [] a.first.now b.first.now) (nothing_first held failures second_held second_failures a) all;
           tells = told_nothing second_held second_failures (is_check own) a.second.now b.second.now same;
         }
-    runs_out ReadFailed now g w p q none = q
     runs_out WriteFailed now g w p q none =
         broken p.0 p.1 (breaks_before held failures (written a.carried.window p.0) (gathered_bytes a.gathered) a.first.now b.first.now
         (breaks_nothing held failures [] (gathered_bytes a.gathered) g a.first.now w b.first.now p.3 q))
-    runs_out TooManyReads now g w p q none = q
+    runs_out cause now g w p q none = absurd q
 
     -- the run fails
     pub fails : (why cause : Cause) (now : Carried) (g : List ℕ) (w : W) → HandsOne (writing held failures a.first.now w) own a.carried now order m place (gathered_bytes a.gathered) g (Err why)
         → FailsBy held failures why g (gathered_bytes b.gathered) w b.first.now cause → Takes (Err cause)
     fails Memory cause now g w p q = runs_out cause now g w p q.0 q.1
-    fails ReadFailed cause now g w p q = absurd p.3
     fails WriteFailed cause now g w p q =
         subst (λ (c : Cause). Takes (Err c)) (sym q.0)
         (broken p.0 p.1 (subst (λ (x : W). Breaks held failures (written a.carried.window p.0) (gathered_bytes a.gathered) a.first.now x) (sym q.1) p.3))
-    fails TooManyReads cause now g w p q = absurd p.3
+    fails why cause now g w p q = absurd p.3
 
   -- ---- a text is told
 
@@ -141,8 +138,8 @@ module _ {A W E : Type 0} (held : W → Option (List ℕ)) (failures : W → ℕ
       tells = tells;
     }
 
-    told_some : LeavesUntold held failures (is_check own) (line (is_check own)) (gathered_bytes a.gathered) a.first.now b.first.now
-        → UntoldSecond second_held second_failures (is_check own) (second_of (is_check own) text) a.second.now b.second.now → (e : Unwritten) → Told (Err e)
+    told_some : LeavesFirst held failures (is_check own) Untold (line (is_check own)) (gathered_bytes a.gathered) a.first.now b.first.now
+        → GotSecond second_held second_failures (is_check own) Untold (second_of (is_check own) text) a.second.now b.second.now → (e : Unwritten) → Told (Err e)
     told_some leaves tells e = record { same_first = same_first; same_second = same_second; texts = []; made = refl; leaves = leaves; tells = tells }
 
     -- what is gathered, which is nothing, stays so
@@ -150,32 +147,22 @@ module _ {A W E : Type 0} (held : W → Option (List ℕ)) (failures : W → ℕ
     stays = subst (λ (l : List ℕ). Passes held failures [] (gathered_bytes a.gathered) l a.first.now a.first.now) (sym same) (passes_none held failures (gathered_bytes a.gathered) a.first.now)
 
     -- to the first writer
-    module _ (check : is_check own ≡ true) (kept : b.second.now ≡ a.second.now) where
-      nothing_second : Wrote second_held second_failures a.second.now [] b.second.now
-      nothing_second = subst (λ (x : E). Wrote second_held second_failures a.second.now [] x) (sym kept) (wrote_nothing second_held second_failures a.second.now)
-
-      pub tells_first : (res : Result (Unit {0}) Unwritten) → WroteOrNot held failures text a.first.now b.first.now res → Told res
-      tells_first (Ok x) wrote =
-          told_all (subst (λ (c : Bool). Passes held failures (line c) (gathered_bytes a.gathered) (gathered_bytes b.gathered) a.first.now b.first.now) (sym check)
-          (passes_through held failures text (gathered_bytes a.gathered) (gathered_bytes b.gathered) a.first.now a.first.now b.first.now (same ∙ none) stays wrote))
-          (subst (λ (c : Bool). Wrote second_held second_failures a.second.now (second_of c text) b.second.now) (sym check) nothing_second)
-      tells_first (Err e) half =
-          told_some (subst (λ (c : Bool). LeavesUntold held failures c (line c) (gathered_bytes a.gathered) a.first.now b.first.now) (sym check)
-          (breaks_through held failures text (gathered_bytes a.gathered) (gathered_bytes b.gathered) half.0 a.first.now a.first.now b.first.now (same ∙ none) stays half.1))
-          (subst (λ (c : Bool). UntoldSecond second_held second_failures c (second_of c text) a.second.now b.second.now) (sym check) nothing_second) e
+    pub tells_first : is_check own ≡ true → b.second.now ≡ a.second.now → (res : Result (Unit {0}) Unwritten) → WroteOrNot held failures text a.first.now b.first.now res → Told res
+    tells_first check kept (Ok x) wrote =
+        told_all (transport (λ i. Passes held failures (line (sym check i)) (gathered_bytes a.gathered) (gathered_bytes b.gathered) a.first.now b.first.now)
+        (passes_through held failures text (gathered_bytes a.gathered) (gathered_bytes b.gathered) a.first.now a.first.now b.first.now (same ∙ none) stays wrote))
+        (transport (λ i. Wrote second_held second_failures a.second.now (second_of (sym check i) text) b.second.now) (told_nothing second_held second_failures true a.second.now b.second.now kept))
+    tells_first check kept (Err e) half =
+        told_some (transport (λ i. LeavesFirst held failures (sym check i) Untold (line (sym check i)) (gathered_bytes a.gathered) a.first.now b.first.now)
+        (breaks_through held failures text (gathered_bytes a.gathered) (gathered_bytes b.gathered) half.0 a.first.now a.first.now b.first.now (same ∙ none) stays half.1))
+        (transport (λ i. GotSecond second_held second_failures (sym check i) Untold (second_of (sym check i) text) a.second.now b.second.now) (told_nothing second_held second_failures true a.second.now b.second.now kept)) e
 
     -- to the second
-    module _ (check : is_check own ≡ false) (kept : b.first.now ≡ a.first.now) where
-      nothing_first_of : Passes held failures (written a.carried.window []) (gathered_bytes a.gathered) (gathered_bytes b.gathered) a.first.now b.first.now
-      nothing_first_of =
-          subst (λ (l : List ℕ). Passes held failures l (gathered_bytes a.gathered) (gathered_bytes b.gathered) a.first.now b.first.now) (sym (written_none a.carried.window))
-          (subst (λ (x : W). Passes held failures [] (gathered_bytes a.gathered) (gathered_bytes b.gathered) a.first.now x) (sym kept) stays)
-
-      pub tells_second : (res : Result (Unit {0}) Unwritten) → WroteOrNot second_held second_failures text a.second.now b.second.now res → Told res
-      tells_second (Ok x) wrote =
-          told_all (subst (λ (c : Bool). Passes held failures (line c) (gathered_bytes a.gathered) (gathered_bytes b.gathered) a.first.now b.first.now) (sym check) nothing_first_of)
-          (subst (λ (c : Bool). Wrote second_held second_failures a.second.now (second_of c text) b.second.now) (sym check) wrote)
-      tells_second (Err e) half =
-          let all = subst (λ (l : List ℕ). Passes held failures (written a.carried.window []) (gathered_bytes a.gathered) l a.first.now b.first.now) (same ∙ none) nothing_first_of in
-          told_some (subst (λ (c : Bool). LeavesUntold held failures c (line c) (gathered_bytes a.gathered) a.first.now b.first.now) (sym check) all)
-          (subst (λ (c : Bool). UntoldSecond second_held second_failures c (second_of c text) a.second.now b.second.now) (sym check) half) e
+    pub tells_second : is_check own ≡ false → b.first.now ≡ a.first.now → (res : Result (Unit {0}) Unwritten) → WroteOrNot second_held second_failures text a.second.now b.second.now res → Told res
+    tells_second check kept (Ok x) wrote =
+        told_all (transport (λ i. Passes held failures (first_of (sym check i) (sym (written_none a.carried.window) i) text) (gathered_bytes a.gathered) (gathered_bytes b.gathered) a.first.now (sym kept i)) stays)
+        (transport (λ i. Wrote second_held second_failures a.second.now (second_of (sym check i) text) b.second.now) wrote)
+    tells_second check kept (Err e) half =
+        let all = transport (λ i. Passes held failures (sym (written_none a.carried.window) i) (gathered_bytes a.gathered) ((same ∙ none) i) a.first.now (sym kept i)) stays in
+        told_some (transport (λ i. LeavesFirst held failures (sym check i) Untold (line (sym check i)) (gathered_bytes a.gathered) a.first.now b.first.now) all)
+        (transport (λ i. GotSecond second_held second_failures (sym check i) Untold (second_of (sym check i) text) a.second.now b.second.now) half) e

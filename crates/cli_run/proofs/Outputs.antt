@@ -1,6 +1,7 @@
 -- Of all messages and the fault after them a command has an output, and exactly one if it is exact.
 use Rattle.std.proofs.Common.{◌≡◌, ◌⊎◌, ℕ, ◌+◌, inl, inr, List, [], ◌∷◌, ◌++◌, length, Option, None, refl, sym, ap, ◌∙◌, subst, append_assoc}
 use Rattle.std.specs.List.{concat}
+use Rattle.std.proofs.lemmas.List.{map-append}
 use Rattle.std.proofs.lemmas.List.Folds.{concat-append}
 use Rattle.dbus_value_model.specs.declared.fault.Fault.{Fault}
 use Rattle.dbus_value_model.specs.declared.order.Order.{Order}
@@ -13,21 +14,19 @@ use Rattle.dbus_match.specs.Matching.{Ownership}
 use Rattle.cli_options.proofs.Selections.{selected}
 use Rattle.cli_options.specs.declared.command.Command.{Command}
 use Rattle.cli_options.specs.declared.command.Command.TheVariants.{Show, Json, Check, Swap, Filter}
-use Rattle.cli_run.specs.Inputs.{Placed, placed, sizes_of, wholes}
+use Rattle.cli_run.specs.Inputs.{Placed, Whole, placed, sizes_of, wholes}
 use Rattle.cli_run.specs.Laws.{OneFront, OneOutput, SomeOutput}
 use Rattle.cli_run.specs.Output.{IsExact, IsFront, IsOutputOf, IsOutputOfAll, IsTextOf, Picks, last_line, owners_after, owners_known, owners_after_all}
 use Rattle.cli_report.specs.Gathering.{IsPrefixTo}
-use Rattle.cli_run.specs.OutputLaws.{output_both}
-use Rattle.cli_run.proofs.PartLaws.{placed_both, wholes_both}
+use Rattle.cli_run.specs.VisitorLaws.{output_both}
+use Rattle.cli_run.proofs.PartLaws.{placed_both}
 
 -- ---- there is one
 
 picked : (command : Command) (os : List Ownership) (message : MessageTree) → Picks command os message ⊎ (Picks command os message → ⊥)
-picked Show os message = inl tt
-picked Json os message = inl tt
 picked Check os message = inr (λ never. never)
-picked (Swap order) os message = inl tt
 picked (Filter selection) os message = selected selection os message
+picked command os message = inl tt
 
 pub some_text : (command : Command) (order : Order) (message : MessageTree) (n offset : ℕ) → (text : List ℕ) × IsTextOf command order message n offset text
 some_text Show order message n offset = (message_text order message n, refl)
@@ -66,7 +65,7 @@ front_of_first command items more all fault texts front e o prefix =
     let rest = some_of_all command (owners_after_all command os first) others in
     let last = last_line command (length all) (sizes all) fault in
     let tail = concat rest.0 in
-    let both : first ++ others ≡ placed 1 0 (wholes all) = sym (placed_both 1 0 (wholes items) (wholes more)) ∙ ap (λ l. placed 1 0 l) (sym (wholes_both items more) ∙ ap wholes (sym e)) in
+    let both : first ++ others ≡ placed 1 0 (wholes all) = sym (placed_both 1 0 (wholes items) (wholes more)) ∙ ap (λ l. placed 1 0 l) (sym (map-append Whole items more) ∙ ap wholes (sym e)) in
     let each = subst (λ (l : List Placed). IsOutputOfAll command os l (texts ++ rest.0)) both (output_both command os first others texts rest.0 o rest.1) in (
       concat (texts ++ rest.0) ++ last,
       record { texts = texts ++ rest.0; each = each; joined = refl },
@@ -81,11 +80,8 @@ front_of_first command items more all fault texts front e o prefix =
 
 text_one : (command : Command) (order : Order) (message : MessageTree) (n offset : ℕ) (a b : List ℕ) → IsExact command → IsTextOf command order message n offset a
     → IsTextOf command order message n offset b → a ≡ b
-text_one Show order message n offset a b exact p q = p ∙ sym q
 text_one Json order message n offset a b exact p q = absurd exact
-text_one Check order message n offset a b exact p q = p ∙ sym q
-text_one (Swap wanted) order message n offset a b exact p q = p ∙ sym q
-text_one (Filter selection) order message n offset a b exact p q = p ∙ sym q
+text_one command order message n offset a b exact p q = p ∙ sym q
 
 output_one : (command : Command) (os : List Ownership) (order : Order) (message : MessageTree) (n offset : ℕ) (a b : List (List ℕ)) → IsExact command → IsOutputOf command os order message n offset a
     → IsOutputOf command os order message n offset b → a ≡ b
@@ -97,7 +93,7 @@ output_one command os order message n offset a b exact p q = elim p [
   | inr unmet ↦ elim q [ inl met ↦ absurd (unmet.0 met.0) | inr too ↦ unmet.1 ∙ sym too.1 ]
 ]
 
-output_all_one : (command : Command) (os : List Ownership) (items : List Placed) (a b : List (List ℕ)) → IsExact command → IsOutputOfAll command os items a → IsOutputOfAll command os items b → a ≡ b
+pub output_all_one : (command : Command) (os : List Ownership) (items : List Placed) (a b : List (List ℕ)) → IsExact command → IsOutputOfAll command os items a → IsOutputOfAll command os items b → a ≡ b
 output_all_one command os [] a b exact p q = p ∙ sym q
 output_all_one command os (m ∷ items) a b exact p q =
     let same : p.0 ≡ q.0 = output_one command os m.item.order m.item.message m.place.number m.place.offset p.0 q.0 exact p.3 q.3 in

@@ -1,16 +1,20 @@
 -- Parts of an input that follow one another, what is told of them, and the messages among them.
-use Rattle.std.proofs.Common.{◌≡◌, ℕ, suc, ◌+◌, ◌<◌, ◌≤◌, List, [], ◌∷◌, ◌++◌, length, drop, refl, sym, ap, ◌∙◌, subst, arith, append_assoc, length-append}
+use Rattle.std.proofs.Common.{◌≡◌, ℕ, suc, ◌+◌, ◌<◌, ◌≤◌, Bool, true, false, List, [], ◌∷◌, ◌++◌, Option, None, Some, length, drop, refl, sym, ap, ◌∙◌, subst, arith, append_assoc, append-nil, length-append, inl}
+use Rattle.std.proofs.Math.Path.{transport}
+use Rattle.std.proofs.lemmas.Bool.{false≢true}
 use Rattle.std.proofs.lemmas.List.{drop-append-le}
 use Rattle.dbus_value_model.specs.declared.fault.Fault.{Fault}
 use Rattle.dbus_value_model.specs.declared.limits.Limits.{Limits}
 use Rattle.dbus_header.specs.StatedLengths.{StatesLength}
 use Rattle.dbus_header.proofs.OutcomeLaws.{whole_for_good, whole_inside}
-use Rattle.dbus_stream.specs.Cut.{CutMessage, BeginWith}
+use Rattle.dbus_stream.specs.Cut.{BeginWith, CutMessage, CutOutcome, Refused}
 use Rattle.dbus_stream.specs.CutEnds.{sizes}
 use Rattle.cli_options.specs.declared.settings.Settings.{Settings}
-use Rattle.cli_run.specs.Inputs.{Part, Whole, PassedOver, Placed, placed, placed_at, size_of, sizes_of, wholes, IsPart, BeginWithParts}
-use Rattle.cli_run.specs.Parts.{AreTold, passed_count, passed_sizes}
+use Rattle.cli_run.specs.Inputs.{Part, Whole, PassedOver, Placed, placed, placed_at, size_of, sizes_of, wholes, IsLast, IsPart, BeginWithParts}
+use Rattle.cli_run.specs.Output.{check_line, fault_line}
+use Rattle.cli_run.specs.Parts.{AreTold, closing_line, passed_count, passed_sizes}
 use Rattle.cli_run.specs.declared.place.Place.{Place}
+use Rattle.cli_run.specs.declared.tally.Tally.{Tally}
 
 -- ---- the input
 
@@ -44,7 +48,7 @@ module _ (limits : Limits) where
   parts_of bytes [] rest b = b
   parts_of bytes (item ∷ items) rest b = (b.0, parts_of (drop item.size bytes) items rest b.1)
 
-  stated_some : (kept : List ℕ) (n : ℕ) → StatesLength limits kept n → 0 < n
+  pub stated_some : (kept : List ℕ) (n : ℕ) → StatesLength limits kept n → 0 < n
   unfolding StatesLength
   stated_some kept n s = omega (arith, s.3)
 
@@ -57,8 +61,11 @@ module _ (limits : Limits) where
   few_parts bytes [] rest b = omega arith
   few_parts bytes (part ∷ parts) rest b = omega (arith, some_bytes bytes part b.0, few_parts (drop (size_of part) bytes) parts rest b.1)
 
-  pub stated_bytes : (kept : List ℕ) (n : ℕ) → StatesLength limits kept n → 0 < n
-  stated_bytes kept n s = stated_some kept n s
+-- the rest ends a run that is not to go on
+pub is_last : (goes : Bool) (limits : Limits) (rest : List ℕ) (outcome : CutOutcome) (at_end : Type 0) → goes ≡ false → (((f : Fault) → outcome ≡ Refused f → ⊥) → at_end)
+    → IsLast goes limits rest rest outcome at_end
+is_last goes limits rest (Refused fault) at_end halts all = inl (refl, λ on. absurd (false≢true (sym halts ∙ on)))
+is_last goes limits rest outcome at_end halts all = (refl, all (λ f e. absurd (let both = e in cc)))
 
 -- ---- counts
 
@@ -75,10 +82,6 @@ pub passed_sizes-both : (parts more : List Part) → passed_sizes (parts ++ more
 passed_sizes-both [] more = omega arith
 passed_sizes-both (Whole item ∷ parts) more = passed_sizes-both parts more
 passed_sizes-both (PassedOver kept fault size ∷ parts) more = omega (arith, passed_sizes-both parts more)
-
-pub length-wholes : (items : List CutMessage) → length (wholes items) ≡ length items
-length-wholes [] = refl
-length-wholes (item ∷ items) = ap (λ n. suc n) (length-wholes items)
 
 pub sizes-wholes : (items : List CutMessage) → sizes_of (wholes items) ≡ sizes items
 sizes-wholes [] = refl
@@ -111,19 +114,21 @@ pub told_both : (settings : Settings) (n offset : ℕ) (parts more : List Part) 
 told_both settings n offset [] more a b p q =
     let number : n + 0 ≡ n = omega arith in
     let place : offset + 0 ≡ offset = omega arith in
-    let first : [] ≡ a = sym p in
-    subst (λ l. AreTold settings n offset more (l ++ b)) first
-    (subst (λ k. AreTold settings k offset more b) number (subst (λ k. AreTold settings (n + 0) k more b) place q))
+    transport (λ i. AreTold settings (number i) (place i) more (sym p i ++ b)) q
 told_both settings n offset (part ∷ parts) more a b p q =
     let number : n + suc (length parts) ≡ n + 1 + length parts = omega arith in
     let place : offset + (size_of part + sizes_of parts) ≡ offset + size_of part + sizes_of parts = omega arith in
-    let rest : AreTold settings (n + 1 + length parts) (offset + size_of part + sizes_of parts) more b
-    = subst (λ k. AreTold settings k (offset + size_of part + sizes_of parts) more b) number (subst (λ k. AreTold settings (n + suc (length parts)) k more b) place q) in
+    let rest = transport (λ i. AreTold settings (number i) (place i) more b) q in
     (p.0, p.1 ++ b, ap (λ l. l ++ b) p.2 ∙ append_assoc p.0 p.1 b, p.3, told_both settings (n + 1) (offset + size_of part) parts more p.1 b p.4 rest)
 
 pub told_of : (settings : Settings) (n offset : ℕ) (items : List CutMessage) → AreTold settings n offset (wholes items) []
 told_of settings n offset [] = refl
 told_of settings n offset (item ∷ items) = ([], [], refl, refl, told_of settings (n + 1) (offset + item.size) items)
+
+-- `check` writes the line of the fault, or else the last line
+pub line_is : (t : Tally) (fault : Option Fault) → fault_line t.size fault ++ closing_line true t 0 fault ≡ check_line t.count t.size fault
+line_is t None = refl
+line_is t (Some fault) = append-nil (fault_line t.size (Some fault))
 
 -- ---- the messages among them
 
@@ -145,10 +150,6 @@ placed_both n offset (Whole item ∷ parts) more =
 placed_both n offset (PassedOver kept fault size ∷ parts) more =
     placed_both (n + 1) (offset + size) parts more ∙ moved n offset (placed (n + 1) (offset + size) parts) parts size more
 
-pub wholes_both : (items more : List CutMessage) → wholes (items ++ more) ≡ wholes items ++ wholes more
-wholes_both [] more = refl
-wholes_both (item ∷ items) more = ap (λ l. Whole item ∷ l) (wholes_both items more)
-
 -- one message more
 pub placed_last : (n offset : ℕ) (items : List CutMessage) (item : CutMessage) (place : Place) → place.number ≡ n + length items → place.offset ≡ offset + sizes items
     → placed n offset (wholes items) ++ record { place = place; item = item } ∷ [] ≡ placed n offset (wholes (items ++ item ∷ []))
@@ -161,6 +162,4 @@ placed_last n offset (x ∷ items) item place number at =
 
 -- one more is passed over
 pub placed_past : (n offset : ℕ) (parts : List Part) (kept : List ℕ) (fault : Fault) (size : ℕ) → placed n offset parts ≡ placed n offset (parts ++ PassedOver kept fault size ∷ [])
-placed_past n offset [] kept fault size = refl
-placed_past n offset (Whole item ∷ parts) kept fault size = ap (λ l. placed_at n offset item ∷ l) (placed_past (n + 1) (offset + item.size) parts kept fault size)
-placed_past n offset (PassedOver other why long ∷ parts) kept fault size = placed_past (n + 1) (offset + long) parts kept fault size
+placed_past n offset parts kept fault size = sym (placed_both n offset parts (PassedOver kept fault size ∷ []) ∙ append-nil (placed n offset parts))

@@ -1,12 +1,11 @@
 -- What is made and told of parts that are the same but for what was kept: the messages among them,
 -- the tally, and what is told if nothing is explained; and of the messages the texts that commands
 -- make that are the same, and exact.
-use Rattle.std.proofs.Common.{◌≡◌, ℕ, zero, suc, ◌+◌, Bool, true, false, ◌||◌, List, [], ◌∷◌, ◌++◌, map, None, Some, Option, refl, sym, ap, ◌∙◌, subst, arith, inl, inr}
+use Rattle.std.proofs.Common.{◌≡◌, ◌↔◌, ℕ, zero, suc, ◌+◌, Bool, true, false, ◌||◌, List, [], ◌∷◌, ◌++◌, map, None, Some, Option, refl, sym, ap, ◌∙◌, subst, arith, inl, inr}
 use Rattle.std.specs.declared.alloc.Global.{Global}
 use Rattle.dbus_value_model.specs.declared.fault.Fault.{Fault}
 use Rattle.dbus_value_model.specs.declared.order.Order.{Order}
-use Rattle.dbus_message_model.specs.Messages.{MessageTree, message_bytes}
-use Rattle.dbus_stream.specs.Cut.{CutMessage}
+use Rattle.dbus_message_model.specs.Messages.{MessageTree}
 use Rattle.dbus_rule.specs.declared.rule.Rule.{Rule}
 use Rattle.dbus_match.specs.Matching.{Matches, Ownership}
 use Rattle.dbus_rule.specs.Senders.{sender_of}
@@ -25,34 +24,21 @@ use Rattle.cli_report.specs.declared.ending.ExitStatus.TheVariants as status
 use Rattle.cli_run.specs.Inputs.{Part, PassedOver, Placed, Whole, placed, placed_at}
 use Rattle.cli_run.specs.Output.{IsExact, IsOutputOf, IsOutputOfAll, IsTextOf, Picks, is_check, owners_after, owners_known}
 use Rattle.cli_run.specs.Parts.{AreTold, IsTold, IsToldLast, passed_count, status_at, tally_of}
-use Rattle.cli_run.proofs.SameParts.{ArePassed, AreSame}
+use Rattle.cli_run.proofs.Outputs.{output_all_one}
+use Rattle.cli_run.proofs.SameParts.{ArePassed, AreSame, bare}
 
 -- ---- parts
 
-pub same_placed : (n offset : ℕ) (parts others : List Part) → AreSame parts others → placed n offset parts ≡ placed n offset others
-same_placed n offset [] [] h = refl
-same_placed n offset (Whole a ∷ parts) (Whole b ∷ others) h =
-    subst (λ (x : CutMessage). placed n offset (Whole a ∷ parts) ≡ placed_at n offset x ∷ placed (n + 1) (offset + x.size) others) h.0
-    (ap (λ l. placed_at n offset a ∷ l) (same_placed (n + 1) (offset + a.size) parts others h.1))
-same_placed n offset (PassedOver k f m ∷ parts) (PassedOver l g o ∷ others) h =
-    subst (λ i. placed (n + 1) (offset + m) parts ≡ placed (n + 1) (offset + i) others) h.1 (same_placed (n + 1) (offset + m) parts others h.2)
-same_placed n offset [] (part ∷ others) h = absurd h
-same_placed n offset (Whole a ∷ parts) [] h = absurd h
-same_placed n offset (Whole a ∷ parts) (PassedOver l g o ∷ others) h = absurd h
-same_placed n offset (PassedOver k f m ∷ parts) [] h = absurd h
-same_placed n offset (PassedOver k f m ∷ parts) (Whole b ∷ others) h = absurd h
+pub bare_placed : (n offset : ℕ) (parts : List Part) → placed n offset parts ≡ placed n offset (bare parts)
+bare_placed n offset [] = refl
+bare_placed n offset (Whole item ∷ parts) = ap (λ l. placed_at n offset item ∷ l) (bare_placed (n + 1) (offset + item.size) parts)
+bare_placed n offset (PassedOver kept fault size ∷ parts) = bare_placed (n + 1) (offset + size) parts
 
-pub same_tally : (parts others : List Part) → AreSame parts others → tally_of parts ≡ tally_of others
-same_tally [] [] h = refl
-same_tally (Whole a ∷ parts) (Whole b ∷ others) h =
-    λ i. let t = same_tally parts others h.1 i in record { count = suc t.count; size = (h.0 i).size + t.size; passed = t.passed; passed_size = t.passed_size }
-same_tally (PassedOver k f m ∷ parts) (PassedOver l g o ∷ others) h =
-    λ i. let t = same_tally parts others h.2 i in record { count = suc t.count; size = h.1 i + t.size; passed = t.passed + 1; passed_size = t.passed_size + h.1 i }
-same_tally [] (part ∷ others) h = absurd h
-same_tally (Whole a ∷ parts) [] h = absurd h
-same_tally (Whole a ∷ parts) (PassedOver l g o ∷ others) h = absurd h
-same_tally (PassedOver k f m ∷ parts) [] h = absurd h
-same_tally (PassedOver k f m ∷ parts) (Whole b ∷ others) h = absurd h
+pub bare_tally : (parts : List Part) → tally_of parts ≡ tally_of (bare parts)
+bare_tally [] = refl
+bare_tally (Whole item ∷ parts) = λ i. let t = bare_tally parts i in record { count = suc t.count; size = item.size + t.size; passed = t.passed; passed_size = t.passed_size }
+bare_tally (PassedOver kept fault size ∷ parts) =
+    λ i. let t = bare_tally parts i in record { count = suc t.count; size = size + t.size; passed = t.passed + 1; passed_size = t.passed_size + size }
 
 -- ---- what is told
 
@@ -68,32 +54,27 @@ module _ (settings : Settings) where
     line_is : (refusal : Refusal) (kept text : List ℕ) → IsTold settings refusal kept text → text ≡ line_of settings.keeps_going refusal
     line_is refusal kept text t = subst (λ b. IsToldBy settings.keeps_going b refusal kept text) off t
 
-    same_line : (n offset : ℕ) (f g : Fault) (kept other a b : List ℕ) → f ≡ g → IsTold settings (record { number = n; offset = offset; fault = f }) kept a
-        → IsTold settings (record { number = n; offset = offset; fault = g }) other b → a ≡ b
-    same_line n offset f g kept other a b e p q =
-        line_is _ kept a p ∙ (ap (λ (x : Fault). line_of settings.keeps_going (record { number = n; offset = offset; fault = x })) e ∙ sym (line_is _ other b q))
+    bare_told : (n offset : ℕ) (parts : List Part) (text : List ℕ) → AreTold settings n offset parts text → AreTold settings n offset (bare parts) text
+    bare_told n offset [] text t = t
+    bare_told n offset (Whole item ∷ parts) text t = (t.0, t.1, t.2, t.3, bare_told (n + 1) (offset + item.size) parts t.1 t.4)
+    bare_told n offset (PassedOver kept fault size ∷ parts) text t =
+        let line = subst (λ b. IsToldBy settings.keeps_going b (record { number = n; offset = offset; fault = fault }) [] t.0) (sym off) (line_is _ kept t.0 t.3.1) in
+        (t.0, t.1, t.2, (t.3.0, line), bare_told (n + 1) (offset + size) parts t.1 t.4)
+
+    one_told : (n offset : ℕ) (parts : List Part) (a b : List ℕ) → AreTold settings n offset parts a → AreTold settings n offset parts b → a ≡ b
+    one_told n offset [] a b p q = p ∙ sym q
+    one_told n offset (Whole item ∷ parts) a b p q = p.2 ∙ ((λ i. (p.3 ∙ sym q.3) i ++ one_told (n + 1) (offset + item.size) parts p.1 q.1 p.4 q.4 i) ∙ sym q.2)
+    one_told n offset (PassedOver kept fault size ∷ parts) a b p q =
+        let one : p.0 ≡ q.0 = line_is _ kept p.0 p.3.1 ∙ sym (line_is _ kept q.0 q.3.1) in
+        p.2 ∙ ((λ i. one i ++ one_told (n + 1) (offset + size) parts p.1 q.1 p.4 q.4 i) ∙ sym q.2)
 
     pub same_told : (n offset : ℕ) (parts others : List Part) (a b : List ℕ) → AreSame parts others → AreTold settings n offset parts a → AreTold settings n offset others b → a ≡ b
-    same_told n offset [] [] a b h p q = p ∙ sym q
-    same_told n offset (Whole x ∷ parts) (Whole y ∷ others) a b h p q =
-        let there = subst (λ (i : CutMessage). AreTold settings (n + 1) (offset + i.size) others q.1) (sym h.0) q.4 in
-        let one : p.0 ≡ q.0 = p.3 ∙ sym q.3 in
-        let more : p.1 ≡ q.1 = same_told (n + 1) (offset + x.size) parts others p.1 q.1 h.1 p.4 there in
-        p.2 ∙ ((λ i. one i ++ more i) ∙ sym q.2)
-    same_told n offset (PassedOver k f m ∷ parts) (PassedOver l g o ∷ others) a b h p q =
-        let there = subst (λ i. AreTold settings (n + 1) (offset + i) others q.1) (sym h.1) q.4 in
-        let one : p.0 ≡ q.0 = same_line n offset f g k l p.0 q.0 h.0 p.3.1 q.3.1 in
-        let more : p.1 ≡ q.1 = same_told (n + 1) (offset + m) parts others p.1 q.1 h.2 p.4 there in
-        p.2 ∙ ((λ i. one i ++ more i) ∙ sym q.2)
-    same_told n offset [] (part ∷ others) a b h p q = absurd h
-    same_told n offset (Whole x ∷ parts) [] a b h p q = absurd h
-    same_told n offset (Whole x ∷ parts) (PassedOver l g o ∷ others) a b h p q = absurd h
-    same_told n offset (PassedOver k f m ∷ parts) [] a b h p q = absurd h
-    same_told n offset (PassedOver k f m ∷ parts) (Whole y ∷ others) a b h p q = absurd h
+    same_told n offset parts others a b same p q =
+        one_told n offset (bare others) a b (subst (λ l. AreTold settings n offset l a) same (bare_told n offset parts a p)) (bare_told n offset others b q)
 
     pub same_last : (n offset : ℕ) (kept other : List ℕ) (fault : Option Fault) (a b : List ℕ) → IsToldLast settings n offset kept fault a → IsToldLast settings n offset other fault b → a ≡ b
     same_last n offset kept other None a b p q = p ∙ sym q
-    same_last n offset kept other (Some fault) a b p q = same_line n offset fault fault kept other a b refl p q
+    same_last n offset kept other (Some fault) a b p q = line_is _ kept a p ∙ sym (line_is _ other b q)
 
   -- nothing is told where nothing is refused
   pub none_told : (n offset : ℕ) (parts : List Part) (a : List ℕ) → passed_count parts ≡ 0 → AreTold settings n offset parts a → a ≡ []
@@ -149,76 +130,46 @@ same_wanted rules others (Some o) e = rw (same_asks rules others o.name e) refl
 same_after : (a b : Selection) (os : List Ownership) (m : MessageTree) → AreSameSelection a b → known_after a os m ≡ known_after b os m
 same_after a b os m h = rw (h.learns, same_wanted a.rules.items b.rules.items (change_of m) h.rules) refl
 
-flipped : (a b : Selection) → AreSameSelection a b → AreSameSelection b a
-flipped a b h = record { rules = sym h.rules; inverted = sym h.inverted; owners = sym h.owners; learns = sym h.learns }
+-- ---- a command that is the same acts the same
 
--- ---- each step of a command that is the same
+pub record ActsAs (a b : Command) : Type 0 where
+  pub checks : is_check a ≡ is_check b
+  pub exact : IsExact a → IsExact b
+  pub picks : (os : List Ownership) (m : MessageTree) → Picks a os m ↔ Picks b os m
+  pub texts : (order : Order) (m : MessageTree) (n offset : ℕ) (text : List ℕ) → IsTextOf a order m n offset text → IsTextOf b order m n offset text
+  pub known : owners_known a None ≡ owners_known b None
+  pub learned : (os : List Ownership) (m : MessageTree) → owners_after a os m ≡ owners_after b os m
 
-pub same_check : (a b : Command) → AreSameCommand a b → is_check a ≡ is_check b
-same_check Show Show h = refl
-same_check Json Json h = refl
-same_check Check Check h = refl
-same_check (Swap x) (Swap y) h = refl
-same_check (Filter x) (Filter y) h = refl
-same_check a b h = absurd h
+itself : (a : Command) → ActsAs a a
+itself a = record { checks = refl; exact = λ e. e; picks = λ os m. (λ p. p, λ p. p); texts = λ order m n offset text t. t; known = refl; learned = λ os m. refl }
 
-same_picks : (a b : Command) (os : List Ownership) (m : MessageTree) → AreSameCommand a b → Picks a os m → Picks b os m
-same_picks Show Show os m h p = p
-same_picks Json Json os m h p = p
-same_picks Check Check os m h p = p
-same_picks (Swap x) (Swap y) os m h p = p
-same_picks (Filter x) (Filter y) os m h p = same_selects x y os m h p
-same_picks a b os m h p = absurd h
+pub acts_as : (a b : Command) → AreSameCommand a b → ActsAs a b
+acts_as Show Show h = itself Show
+acts_as Json Json h = itself Json
+acts_as Check Check h = itself Check
+acts_as (Swap x) (Swap y) h = subst (λ (o : Order). ActsAs (Swap x) (Swap o)) h (itself (Swap x))
+acts_as (Filter x) (Filter y) h =
+    let back : AreSameSelection y x = record { rules = sym h.rules; inverted = sym h.inverted; owners = sym h.owners; learns = sym h.learns } in
+    record {
+      checks = refl;
+      exact = λ e. e;
+      picks = λ os m. (same_selects x y os m h, same_selects y x os m back);
+      texts = λ order m n offset text t. t;
+      known = h.owners;
+      learned = λ os m. same_after x y os m h;
+    }
+acts_as a b h = absurd h
 
-same_back : (a b : Command) → AreSameCommand a b → AreSameCommand b a
-same_back Show Show h = h
-same_back Json Json h = h
-same_back Check Check h = h
-same_back (Swap x) (Swap y) h = sym h
-same_back (Filter x) (Filter y) h = flipped x y h
-same_back a b h = absurd h
+module _ (a b : Command) (h : ActsAs a b) where
+  made_too : (os : List Ownership) (items : List Placed) (texts : List (List ℕ)) → IsOutputOfAll a os items texts → IsOutputOfAll b os items texts
+  made_too os [] texts p = p
+  made_too os (m ∷ items) texts p =
+      let one : IsOutputOf b os m.item.order m.item.message m.place.number m.place.offset p.0 = elim p.3 [
+        | inl met ↦ inl ((h.picks os m.item.message).0 met.0, met.1, h.texts m.item.order m.item.message m.place.number m.place.offset met.1 met.2, met.3)
+        | inr unmet ↦ inr (λ k. unmet.0 ((h.picks os m.item.message).1 k), unmet.1)
+      ] in
+      (p.0, p.1, p.2, one, subst (λ (l : List Ownership). IsOutputOfAll b l items p.1) (h.learned os m.item.message) (made_too (owners_after a os m.item.message) items p.1 p.4))
 
-same_text : (a b : Command) (order : Order) (m : MessageTree) (n offset : ℕ) (x y : List ℕ) → AreSameCommand a b → IsExact a → IsTextOf a order m n offset x → IsTextOf b order m n offset y → x ≡ y
-same_text Show Show order m n offset x y h exact p q = p ∙ sym q
-same_text Json Json order m n offset x y h exact p q = absurd exact
-same_text Check Check order m n offset x y h exact p q = p ∙ sym q
-same_text (Swap a) (Swap b) order m n offset x y h exact p q = p ∙ (ap (λ (o : Order). message_bytes o m) h ∙ sym q)
-same_text (Filter a) (Filter b) order m n offset x y h exact p q = p ∙ sym q
-same_text a b order m n offset x y h exact p q = absurd h
-
-pub same_known : (a b : Command) → AreSameCommand a b → owners_known a None ≡ owners_known b None
-same_known Show Show h = refl
-same_known Json Json h = refl
-same_known Check Check h = refl
-same_known (Swap x) (Swap y) h = refl
-same_known (Filter x) (Filter y) h = h.owners
-same_known a b h = absurd h
-
-same_learned : (a b : Command) (os : List Ownership) (m : MessageTree) → AreSameCommand a b → owners_after a os m ≡ owners_after b os m
-same_learned Show Show os m h = refl
-same_learned Json Json os m h = refl
-same_learned Check Check os m h = refl
-same_learned (Swap x) (Swap y) os m h = refl
-same_learned (Filter x) (Filter y) os m h = same_after x y os m h
-same_learned a b os m h = absurd h
-
-module _ (a b : Command) (h : AreSameCommand a b) (exact : IsExact a) where
-  same_one : (os : List Ownership) (order : Order) (m : MessageTree) (n offset : ℕ) (x y : List (List ℕ)) → IsOutputOf a os order m n offset x → IsOutputOf b os order m n offset y → x ≡ y
-  same_one os order m n offset x y p q = elim p [
-    | inl met ↦ elim q [
-      | inl too ↦ met.3 ∙ (ap (λ t. t ∷ []) (same_text a b order m n offset met.1 too.1 h exact met.2 too.2) ∙ sym too.3)
-      | inr unmet ↦ absurd (unmet.0 (same_picks a b os m h met.0))
-    ]
-    | inr unmet ↦ elim q [ inl met ↦ absurd (unmet.0 (same_picks b a os m (same_back a b h) met.0)) | inr too ↦ unmet.1 ∙ sym too.1 ]
-  ]
-
-  same_all : (os : List Ownership) (items : List Placed) (x y : List (List ℕ)) → IsOutputOfAll a os items x → IsOutputOfAll b os items y → x ≡ y
-  same_all os [] x y p q = p ∙ sym q
-  same_all os (m ∷ items) x y p q =
-      let one : p.0 ≡ q.0 = same_one os m.item.order m.item.message m.place.number m.place.offset p.0 q.0 p.3 q.3 in
-      let there = subst (λ (l : List Ownership). IsOutputOfAll b l items q.1) (sym (same_learned a b os m.item.message h)) q.4 in
-      let rest : p.1 ≡ q.1 = same_all (owners_after a os m.item.message) items p.1 q.1 p.4 there in
-      p.2 ∙ ((λ i. one i ++ rest i) ∙ sym q.2)
-
-  pub same_outputs : (items : List Placed) (x y : List (List ℕ)) → IsOutputOfAll a (owners_known a None) items x → IsOutputOfAll b (owners_known b None) items y → x ≡ y
-  same_outputs items x y p q = same_all (owners_known a None) items x y p (subst (λ (l : List Ownership). IsOutputOfAll b l items y) (sym (same_known a b h)) q)
+  pub same_outputs : IsExact a → (items : List Placed) (x y : List (List ℕ)) → IsOutputOfAll a (owners_known a None) items x → IsOutputOfAll b (owners_known b None) items y → x ≡ y
+  same_outputs exact items x y p q =
+      output_all_one b (owners_known b None) items x y (h.exact exact) (subst (λ (l : List Ownership). IsOutputOfAll b l items x) h.known (made_too (owners_known a None) items x p)) q

@@ -25,12 +25,14 @@ use Rattle.cli_report.specs.Gathering.{IsPrefixTo}
 use Rattle.cli_run.specs.Inputs.{BeginWithParts, IsLast, IsPart, Part, PassedOver, Whole}
 use Rattle.cli_run.proofs.MessageEnds.{partial_short, refused_reason}
 
--- parts are the same but for what was kept
+-- parts but for what was kept
+abbrev pub bare : List Part → List Part
+bare [] = []
+bare (Whole item ∷ parts) = Whole item ∷ bare parts
+bare (PassedOver kept fault n ∷ parts) = PassedOver [] fault n ∷ bare parts
+
 abbrev pub AreSame : List Part → List Part → Type 0
-AreSame [] [] = Unit {0}
-AreSame (Whole a ∷ parts) (Whole b ∷ others) = (a ≡ b) × AreSame parts others
-AreSame (PassedOver k f n ∷ parts) (PassedOver l g m ∷ others) = (f ≡ g) × (n ≡ m) × AreSame parts others
-AreSame parts others = ⊥
+AreSame parts others = bare parts ≡ bare others
 
 -- if any is passed over, the run goes on
 abbrev pub ArePassed : (goes_on : Bool) → List Part → Type 0
@@ -64,19 +66,16 @@ module _ (limits : Limits) where
   no_part goes_on w outcome (Whole item) others e p h = no_whole w outcome item e.outcome_is p
   no_part goes_on w outcome (PassedOver kept fault n) others e p h = e.none_passed fault n (refused_from kept w fault p.0 p.1) h.0 (states_from kept w n p.0 p.2) p.3
 
-  same_item : (a b : CutMessage) → a.order ≡ b.order → a.message ≡ b.message → a.size ≡ b.size → a ≡ b
-  same_item a b p q r = λ i. record { order = p i; message = q i; size = r i }
-
   pub same_parts : (goes_on : Bool) (bytes : List ℕ) (parts others : List Part) (rest last : List ℕ) (a b : CutOutcome) → BeginWithParts limits bytes parts rest → BeginWithParts limits bytes others last
       → ArePassed goes_on parts → ArePassed goes_on others → EndsHere goes_on rest a → EndsHere goes_on last b → AreSame parts others × (rest ≡ last)
-  same_parts goes_on bytes [] [] rest last a b p q g h e f = (tt, sym p ∙ q)
+  same_parts goes_on bytes [] [] rest last a b p q g h e f = (refl, sym p ∙ q)
   same_parts goes_on bytes [] (part ∷ others) rest last a b p q g h e f = absurd (no_part goes_on bytes a part others (subst (λ l. EndsHere goes_on l a) (sym p) e) q.0 h)
   same_parts goes_on bytes (part ∷ parts) [] rest last a b p q g h e f = absurd (no_part goes_on bytes b part parts (subst (λ l. EndsHere goes_on l b) (sym q) f) p.0 g)
   same_parts goes_on bytes (Whole x ∷ parts) (Whole y ∷ others) rest last a b p q g h e f =
       let one = one_whole limits bytes x.order y.order x.message y.message x.size y.size p.0 q.0 in
       let there = subst (λ n. BeginWithParts limits (drop n bytes) others last) (sym one.2) q.1 in
       let more = same_parts goes_on (drop x.size bytes) parts others rest last a b p.1 there g h e f in
-      ((same_item x y one.0 one.1 one.2, more.0), more.1)
+      ((λ i. Whole (record { order = one.0 i; message = one.1 i; size = one.2 i }) ∷ more.0 i), more.1)
   same_parts goes_on bytes (Whole x ∷ parts) (PassedOver k f n ∷ others) rest last a b p q g h d e = absurd (not_both limits bytes x.order x.message x.size f p.0 (refused_from k bytes f q.0.0 q.0.1))
   same_parts goes_on bytes (PassedOver k f n ∷ parts) (Whole y ∷ others) rest last a b p q g h d e = absurd (not_both limits bytes y.order y.message y.size f q.0 (refused_from k bytes f p.0.0 p.0.1))
   same_parts goes_on bytes (PassedOver k x n ∷ parts) (PassedOver l y m ∷ others) rest last a b p q g h e f =
@@ -84,7 +83,7 @@ module _ (limits : Limits) where
       let size : n ≡ m = one_length bytes m n (states_from l bytes m q.0.0 q.0.2) (states_from k bytes n p.0.0 p.0.2) in
       let there = subst (λ k. BeginWithParts limits (drop k bytes) others last) (sym size) q.1 in
       let more = same_parts goes_on (drop n bytes) parts others rest last a b p.1 there g.1 h.1 e f in
-      ((fault, size, more.0), more.1)
+      ((λ i. PassedOver [] (fault i) (size i) ∷ more.0 i), more.1)
 
   -- ---- where a run ends
 

@@ -1,5 +1,6 @@
 -- Two runs that read the same input, and do not fail, end alike.
-use Rattle.std.proofs.Common.{◌≡◌, ℕ, ◌+◌, Bool, false, List, [], ◌∷◌, ◌++◌, length, drop, take, None, Some, Option, Ok, refl, sym, ap, ◌∙◌, subst, inl, inr, take-append-drop}
+use Rattle.std.proofs.Common.{◌≡◌, ℕ, ◌+◌, Bool, false, List, [], ◌∷◌, ◌++◌, length, drop, take, None, Some, Option, Ok, refl, sym, ap, ◌∙◌, subst, inl, inr, take-append-drop, ◌≢◌}
+use Rattle.std.proofs.Math.Path.{transport}
 use Rattle.std.specs.Io.KnownBytes.{Consumes, IsAtEnd}
 use Rattle.dbus_device.specs.Write.{Wrote}
 use Rattle.dbus_value_model.specs.ByteNumbers.{IsBytes}
@@ -10,30 +11,31 @@ use Rattle.dbus_count.specs.Counting.{Counting}
 use Rattle.dbus_count.specs.Tables.{words}
 use Rattle.dbus_count.specs.declared.form.Form.{Form}
 use Rattle.dbus_count.specs.Laws.{OneTable}
-use Rattle.dbus_stream.specs.Cut.{IsOutcome}
-use Rattle.dbus_stream.specs.CutEnds.{fault_at_end}
-use Rattle.dbus_stream.proofs.CutLaws.{IsCut-one}
+use Rattle.dbus_stream.specs.Cut.{IsOutcome, BeginWith, CutMessage, CutOutcome, Refused, IsCut}
+use Rattle.dbus_stream.specs.CutEnds.{fault_at_end, sizes}
+use Rattle.dbus_stream.proofs.CutLaws.{IsCut-one, BeginWith-more}
 use Rattle.cli_options.specs.declared.settings.Settings.{Settings}
 use Rattle.cli_report.specs.Devices.{Taken, Writing, taken, writing}
 use Rattle.cli_report.specs.declared.ending.ExitStatus.{ExitStatus}
 use Rattle.cli_report.specs.declared.ending.ExitStatus.TheVariants as status
-use Rattle.cli_run.specs.Alike.{ExplainsNone, OneCount, OneRun}
+use Rattle.cli_run.specs.Alike.{ExplainsNone, OneCount, OneRun, OneWithin}
 use Rattle.cli_run.specs.ByName.{EndsCount, WritesTables, counting}
 use Rattle.cli_run.specs.Going.{GoesThrough, IsThrough}
-use Rattle.cli_run.specs.Inputs.{BeginWithParts, Part, Placed, placed, size_of, sizes_of}
-use Rattle.cli_run.specs.Output.{is_check}
+use Rattle.cli_run.specs.Inputs.{BeginWithParts, Part, Placed, placed, size_of, sizes_of, wholes}
+use Rattle.cli_run.specs.Output.{is_check, IsOutputOfAll, check_line, fault_line, last_line, owners_known, second_output, status_of}
 use Rattle.cli_run.specs.Parts.{IsToldLast, closing_line, passed_count, status_at, tally_of}
-use Rattle.cli_run.specs.Running.{Writes}
+use Rattle.cli_run.specs.Running.{Writes, TellsLine}
 use Rattle.cli_run.specs.Told.{first_of, second_of}
 use Rattle.cli_run.specs.Windows.{written}
 use Rattle.cli_run.specs.declared.tally.Tally.{Tally}
-use Rattle.cli_run.proofs.PartLaws.{parts_more}
-use Rattle.cli_run.proofs.SameOutputs.{are_passed, none_last, none_refused, none_told, same_check, same_last, same_outputs, same_placed, same_tally, same_told}
+use Rattle.cli_run.proofs.PartLaws.{is_last, parts_more, parts_of}
+use Rattle.cli_run.proofs.SameOutputs.{acts_as, are_passed, bare_placed, bare_tally, none_last, none_refused, none_told, same_last, same_outputs, same_told}
 use Rattle.cli_run.proofs.SameParts.{AreSame, EndsHere, ends_here, same_parts}
+use Rattle.std.specs.List.{concat}
 
 -- ---- what a run reads is the input up to where it ends
 
-pub left_over : (a b : Option (List ℕ)) (input bytes : List ℕ) → a ≡ Some input → Consumes a b bytes → (more : List ℕ) × (b ≡ Some more) × (input ≡ bytes ++ more)
+left_over : (a b : Option (List ℕ)) (input bytes : List ℕ) → a ≡ Some input → Consumes a b bytes → (more : List ℕ) × (b ≡ Some more) × (input ≡ bytes ++ more)
 left_over None b input bytes e c = absurd cc
 left_over (Some x) None input bytes e c = absurd c
 left_over (Some x) (Some y) input bytes e c = let same : x ≡ input = cc in (y, refl, sym same ∙ c)
@@ -83,14 +85,13 @@ module _ (settings : Settings) (is_check : Bool) (input : List ℕ) (bytes : IsB
     fault_is = a.fault_is ∙ ((λ i. fault_at_end (same.1 i) (outcome_is i)) ∙ sym b.fault_is)
 
     parts_tally : tally_of g.through.parts ≡ tally_of h.through.parts
-    parts_tally = same_tally g.through.parts h.through.parts same.0
+    parts_tally = bare_tally g.through.parts ∙ (ap tally_of same.0 ∙ sym (bare_tally h.through.parts))
 
     tally_is : g.tally ≡ h.tally
     tally_is = g.through.tally_is ∙ (parts_tally ∙ sym h.through.tally_is)
 
     told_last : IsToldLast settings (length g.through.parts + 1) (sizes_of g.through.parts) h.through.kept g.fault h.text
-    told_last = subst (λ (f : Option Fault). IsToldLast settings (length g.through.parts + 1) (sizes_of g.through.parts) h.through.kept f h.text) (sym fault_is)
-        (subst (λ (t : Tally). IsToldLast settings (t.count + 1) t.size h.through.kept h.fault h.text) (sym parts_tally) h.through.tells.told)
+    told_last = transport (λ i. let t = sym parts_tally i in IsToldLast settings (t.count + 1) t.size h.through.kept (sym fault_is i) h.text) h.through.tells.told
 
     told_is : g.told ++ g.text ≡ h.told ++ h.text
     told_is = elim explains [
@@ -115,12 +116,12 @@ module _ (settings : Settings) (is_check : Bool) (input : List ℕ) (bytes : IsB
     goes_alike =
         let closing : closing_line is_check g.tally g.tally.passed g.fault ≡ closing_line is_check h.tally h.tally.passed h.fault = λ i. closing_line is_check (tally_is i) (tally_is i).passed (fault_is i) in
         let all : g.told ++ g.text ++ closing_line is_check g.tally g.tally.passed g.fault ≡ h.told ++ h.text ++ closing_line is_check h.tally h.tally.passed h.fault = λ i. told_is i ++ closing i in
-        let items = same_placed 1 0 g.through.parts h.through.parts same.0 in (
+        let items : placed 1 0 g.through.parts ≡ placed 1 0 h.through.parts
+        = bare_placed 1 0 g.through.parts ∙ (ap (λ l. placed 1 0 l) same.0 ∙ sym (bare_placed 1 0 h.through.parts)) in (
           placed 1 0 g.through.parts,
           g.told ++ g.text ++ closing_line is_check g.tally g.tally.passed g.fault,
           g.came,
-          subst (λ l. Q l (g.told ++ g.text ++ closing_line is_check g.tally g.tally.passed g.fault)) (sym items)
-              (subst (λ l. Q (placed 1 0 h.through.parts) l) (sym all) h.came),
+          transport (λ i. Q (sym items i) (sym all i)) h.came,
           h.end_is ∙ ((λ i. status_at (sym tally_is i).passed (sym fault_is i)) ∙ sym g.end_is),
         )
 
@@ -130,14 +131,15 @@ pub one_run : (R S W V E F : Type 0) → OneRun R S W V E F
 one_run R S W V E F r s w v e f settings most more command copy end other same is runs ran = elim runs [
   | inl g ↦ elim ran [
     | inl h ↦ (
-        let checks = same_check command copy same in
+        let acts = acts_as command copy same in
+        let checks = acts.checks in
         let input = is.input in
         let all = goes_alike settings (is_check command) input.0 input.1 g
         (subst (λ c. GoesThrough (taken s) settings more c (Writes v f settings copy) other) (sym checks) h) is.explains input.2 input.3 in
         let told = all.1 in (
           record { status_is = all.4; items = all.0; told = told; one = all.2; same = all.3 },
           λ exact.
-              let texts = same_outputs command copy same exact all.0 all.2.texts all.3.texts all.2.made all.3.made in
+              let texts = same_outputs command copy acts exact all.0 all.2.texts all.3.texts all.2.made all.3.made in
               let first : first_of (is_check command) (written settings.window all.2.texts) told ≡ first_of (is_check copy) (written settings.window all.3.texts) told
               = λ i. first_of (checks i) (written settings.window (texts i)) told in
               let second : second_of (is_check command) told ≡ second_of (is_check copy) told = λ i. second_of (checks i) told in
@@ -183,4 +185,51 @@ one_count R S W V E F one_table r s w v e f settings form most more end other is
     | inr gave_up ↦ absurd (is.other_done gave_up.0.failed)
   ]
   | inr gave_up ↦ absurd (is.done gave_up.0.failed)
+]
+
+-- ---- runs under limits alone
+
+whole_cut : (limits : Limits) (input bytes rest : List ℕ) (left0 left1 : Option (List ℕ)) (items : List CutMessage) (outcome : CutOutcome) → left0 ≡ Some input → IsBytes input → Consumes left0 left1 bytes
+    → IsCut limits bytes items rest outcome → (((f : Fault) → outcome ≡ Refused f → ⊥) → IsAtEnd left1)
+    → (last : List ℕ) × IsCut limits input items last outcome × (fault_at_end rest outcome ≡ fault_at_end last outcome)
+whole_cut limits input bytes rest left0 left1 items outcome known are consumed cut at_end =
+    let after = left_over left0 left1 input bytes known consumed in
+    let last = rest ++ after.0 in
+    let begin = subst (λ l. BeginWith limits l items last) (sym after.2) (BeginWith-more limits bytes items rest after.0 cut.messages) in
+    let all = parts_bytes limits input (wholes items) last (parts_of limits input items last begin) are in
+    let none : IsAtEnd left1 → after.0 ≡ [] = λ e. subst IsAtEnd after.1 e in
+    let ends = ends_here limits false rest rest after.0 outcome (IsAtEnd left1) none all cut.outcome_is (is_last false limits rest outcome (IsAtEnd left1) refl at_end) in
+    (last, record { messages = begin; outcome_is = ends.0.outcome_is }, ends.1)
+
+told_line : {E : Type 0} (e : Writing E) (line : List ℕ) (fault : Option Fault) (end : ExitStatus) → end ≢ status.Failed → TellsLine e line fault end
+    → Wrote e.held e.failures e.old line e.new × (end ≡ status_of fault)
+told_line e line fault end done tells = elim tells [ inl all ↦ all | inr some ↦ absurd (done some.2) ]
+
+pub one_within : (R S W V E F : Type 0) → OneWithin R S W V E F
+one_within R S W V E F r s w v e f limits most more command copy end other same exact input done other_done runs ran = elim runs [
+  | inl a ↦ elim ran [
+    | inl b ↦ (
+        let acts = acts_as command copy same in
+        let one = whole_cut limits input.0 a.bytes a.rest (r.left r.old) (r.left r.new) a.items a.outcome input.2 input.1 a.consumed a.cut a.at_end in
+        let too = whole_cut limits input.0 b.bytes b.rest (s.left s.old) (s.left s.new) b.items b.outcome input.3 input.1 b.consumed b.cut b.at_end in
+        let cut = IsCut-one limits input.0 a.items b.items one.0 too.0 a.outcome b.outcome one.1 too.1 in
+        let fault : fault_at_end a.rest a.outcome ≡ fault_at_end b.rest b.outcome = one.2 ∙ ((λ i. fault_at_end (cut.1 i) (cut.2 i)) ∙ sym too.2) in
+        let made = subst (λ (l : List CutMessage). IsOutputOfAll copy (owners_known copy None) (placed 1 0 (wholes l)) b.output.texts) (sym cut.0) b.output.each in
+        let texts = same_outputs command copy acts exact (placed 1 0 (wholes a.items)) a.output.texts b.output.texts a.output.each made in
+        let last : last_line command (length a.items) (sizes a.items) (fault_at_end a.rest a.outcome) ≡ last_line copy (length b.items) (sizes b.items) (fault_at_end b.rest b.outcome)
+        = λ i. first_of (acts.checks i) [] (check_line (length (cut.0 i)) (sizes (cut.0 i)) (fault i)) in
+        let out : a.out ≡ b.out = a.output.joined ∙ ((λ i. concat (texts i) ++ last i) ∙ sym b.output.joined) in
+        let line : second_output command (sizes a.items) (fault_at_end a.rest a.outcome) ≡ second_output copy (sizes b.items) (fault_at_end b.rest b.outcome)
+        = λ i. second_of (acts.checks i) (fault_line (sizes (cut.0 i)) (fault i)) in
+        let told = told_line e _ _ end done a.second in
+        let told_too = told_line f _ _ other other_done b.second in
+        record {
+          status_is = told_too.1 ∙ (ap status_of (sym fault) ∙ sym told.1);
+          first = (a.out, a.first, subst (λ l. Wrote v.held v.failures v.old l v.new) (sym out) b.first);
+          second = (second_output command (sizes a.items) (fault_at_end a.rest a.outcome), told.0, subst (λ l. Wrote f.held f.failures f.old l f.new) (sym line) told_too.0);
+        }
+        )
+    | inr gave_up ↦ absurd (other_done gave_up.failed)
+  ]
+  | inr gave_up ↦ absurd (done gave_up.failed)
 ]

@@ -57,16 +57,16 @@ pub own_if : (b : Bool) (why : Reason) (other : Option Reason) → is_truncated 
 own_if true why other h k = h
 own_if false why other h k = k
 
-own_else : (b : Bool) (why : Reason) → is_truncated why ≡ false → IsOwn (cond b None (Some why))
-own_else true why h = tt
-own_else false why h = h
+pub own_else : (b : Bool) (why : Reason) (other : Option Reason) → is_truncated why ≡ false → IsOwn other → IsOwn (cond b other (Some why))
+own_else true why other h k = k
+own_else false why other h k = h
 
 own_index : (fds : Option ℕ) (n : ℕ) → IsOwn (index_row fds n)
 own_index None n = tt
-own_index (Some limit) n = own_else (ltb n limit) reasons.FdIndex refl
+own_index (Some limit) n = own_else (ltb n limit) reasons.FdIndex None refl tt
 
 own_number : (fds : Option ℕ) (k : NumberCode) (p n : ℕ) → IsOwn (number_row fds k p n)
-own_number fds BOOLEAN p n = own_else (ltb n 2) reasons.Bool refl
+own_number fds BOOLEAN p n = own_else (ltb n 2) reasons.Bool None refl tt
 own_number fds UNIX_FD p n = own_index fds n
 own_number fds k p n = tt
 
@@ -133,14 +133,7 @@ number_fits order w end row own o s = elim (cases_lt end (o + w)) [
 
 own_reason : (k : WantedText) → is_truncated (text_reason k) ≡ false
 own_reason (Of kinds.Text) = refl
-own_reason (Of kinds.Path) = refl
-own_reason (Of kinds.Signature) = refl
-own_reason (Of kinds.Single) = refl
-own_reason (Of kinds.Interface) = refl
-own_reason (Of kinds.Member) = refl
-own_reason (Of kinds.ErrorName) = refl
-own_reason (Of kinds.BusName) = refl
-own_reason (Only u) = refl
+own_reason k = refl
 
 pub text_fits : (k : WantedText) (n end o : ℕ) (s : List ℕ) → o + n ≤ end → Fits (λ t q. (q ≡ o + n) × IsWanted k t) end o s (text k n o s)
 unfolding text

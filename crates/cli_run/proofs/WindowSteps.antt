@@ -1,8 +1,9 @@
 -- What a window lets through of one text, and of all.
 use Rattle.std.proofs.Common.{◌≡◌, ℕ, zero, suc, ◌<◌, List, [], ◌∷◌, ◌++◌, Option, None, Some, drop, refl, ap, ◌∙◌, arith, append-nil}
+use Rattle.std.proofs.Math.Seq.{drop-nil}
 use Rattle.std.specs.List.{concat}
 use Rattle.cli_options.specs.declared.window.Window.{Window}
-use Rattle.cli_run.specs.WindowLaws.{at_most_none, drop_none}
+use Rattle.cli_run.specs.VisitorLaws.{at_most_none}
 use Rattle.cli_run.specs.Windows.{at_most, written}
 
 -- a window that leaves nothing out
@@ -13,7 +14,7 @@ written_all texts = refl
 -- of numbers: the first is skipped
 skips_one : (skip : ℕ) (limit : Option ℕ) (text : List ℕ) → 0 < skip → concat (at_most limit (drop skip (text ∷ []))) ≡ []
 skips_one zero limit text some = absurd (omega (arith, some))
-skips_one (suc n) limit text some = ap (λ l. concat (at_most limit l)) (drop_none n) ∙ ap concat (at_most_none limit)
+skips_one (suc n) limit text some = ap (λ l. concat (at_most limit l)) (drop-nil n) ∙ ap concat (at_most_none limit)
 
 passes_one : (limit : Option ℕ) (text : List ℕ) → (limit ≡ Some 0 → ⊥) → concat (at_most limit (text ∷ [])) ≡ text
 passes_one None text some = append-nil text

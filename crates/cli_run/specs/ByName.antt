@@ -12,7 +12,7 @@ use Rattle.cli_options.specs.declared.settings.Settings.{Settings}
 use Rattle.cli_report.specs.Devices.{Reading, Writing, taken, writing}
 use Rattle.cli_report.specs.Failing.{Told}
 use Rattle.cli_report.specs.declared.ending.Cause.{Cause}
-use Rattle.cli_report.specs.declared.ending.Cause.TheVariants.{Memory, ReadFailed, WriteFailed, TooManyReads}
+use Rattle.cli_report.specs.declared.ending.Cause.TheVariants.{Memory, WriteFailed}
 use Rattle.cli_report.specs.declared.ending.ExitStatus.{ExitStatus}
 use Rattle.cli_report.specs.declared.ending.ExitStatus.TheVariants as status
 use Rattle.cli_run.specs.Going.{GivesUp, GoesThrough}
@@ -20,7 +20,7 @@ use Rattle.cli_run.specs.Inputs.{Placed}
 use Rattle.cli_run.specs.Told.{GotSecond}
 use Rattle.cli_run.specs.declared.by_name.Counter.{Counter}
 use Rattle.cli_run.specs.declared.visitor.Stop.{Stop}
-use Rattle.cli_run.specs.declared.visitor.Stop.TheVariants.{Cause as ByCause, Untold}
+use Rattle.cli_run.specs.declared.visitor.Stop.TheVariants.{Cause as ByCause}
 
 -- the count of a name after more messages
 abbrev pub after_messages : List Placed → (name : List ℕ) → Option Count → Option Count
@@ -33,11 +33,8 @@ counting items name = after_messages items name None
 
 -- no write to the first writer failed
 abbrev pub IsUnwritten : Stop → Type 0
-IsUnwritten (ByCause Memory) = Unit {0}
-IsUnwritten (ByCause ReadFailed) = Unit {0}
 IsUnwritten (ByCause WriteFailed) = ⊥
-IsUnwritten (ByCause TooManyReads) = Unit {0}
-IsUnwritten Untold = Unit {0}
+IsUnwritten stop = Unit {0}
 
 module _ {E : Type 0} (held : E → Option (List ℕ)) (failures : E → ℕ) where
   -- messages were counted by their names, and this was told
@@ -56,9 +53,8 @@ module _ {E : Type 0} (held : E → Option (List ℕ)) (failures : E → ℕ) wh
 abbrev pub WritesTables : {W : Type 0} → Writing W → Form → Counting → Result (Unit {0}) Cause → Type 0
 WritesTables w form c (Ok x) = (text : List ℕ) × AreTables form c words text × Wrote w.held w.failures w.old text w.new
 WritesTables w form c (Err Memory) = w.new ≡ w.old
-WritesTables w form c (Err ReadFailed) = ⊥
 WritesTables w form c (Err WriteFailed) = (text : List ℕ) × AreTables form c words text × (n : ℕ) × Stopped w.held w.failures w.old text n w.new
-WritesTables w form c (Err TooManyReads) = ⊥
+WritesTables w form c (Err cause) = ⊥
 
 -- the tables were written, and this is how the run ends; or they were not, which was told
 abbrev pub EndsCount : {W E : Type 0} → Writing W → Writing E → Form → Counting → (due end : ExitStatus) → Type 0

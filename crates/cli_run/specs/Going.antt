@@ -26,9 +26,14 @@ use Rattle.cli_run.specs.declared.visitor.Stop.TheVariants.{Cause as ByCause, Un
 -- why a run is given up by which a refused message is not passed over
 abbrev pub cause_of : ReadFault → Cause
 cause_of read.Memory = Memory
-cause_of (read.Format fault) = ReadFailed
-cause_of read.Device = ReadFailed
 cause_of read.TooManyReads = TooManyReads
+cause_of fault = ReadFailed
+
+-- the source shows why it stopped
+abbrev pub IsStopOf : Taken → (most : ℕ) → Stop → Type 0
+IsStopOf t most (ByCause ReadFailed) = t.failures1 ≡ one_more t.failures0
+IsStopOf t most (ByCause TooManyReads) = (t.failures1 ≡ t.failures0) × RisesBy most t.calls0 t.calls1
+IsStopOf t most stop = t.failures1 ≡ t.failures0
 
 module _ (t : Taken) (settings : Settings) (most : ℕ) (is_check : Bool) where
   -- what was read is these parts and then the rest, and this is told of the parts
@@ -57,14 +62,6 @@ module _ (t : Taken) (settings : Settings) (most : ℕ) (is_check : Bool) where
     pub tells : TellsRest parts kept fault text
     pub last : IsLast settings.keeps_going settings.limits kept rest tells.outcome (IsAtEnd t.left1)
     pub read_failed : t.failures1 ≡ t.failures0
-
-  -- the source shows why it stopped
-  abbrev pub IsStopOf : Stop → Type 0
-  IsStopOf (ByCause Memory) = t.failures1 ≡ t.failures0
-  IsStopOf (ByCause ReadFailed) = t.failures1 ≡ one_more t.failures0
-  IsStopOf (ByCause WriteFailed) = t.failures1 ≡ t.failures0
-  IsStopOf (ByCause TooManyReads) = (t.failures1 ≡ t.failures0) × RisesBy most t.calls0 t.calls1
-  IsStopOf Untold = t.failures1 ≡ t.failures0
 
   -- these texts are due after the parts: what is told of the fault of the rest, once it shows; and
   -- then the last line, if nothing follows
@@ -100,7 +97,7 @@ module _ (t : Taken) (settings : Settings) (most : ℕ) (is_check : Bool) where
     pub covers : Covers parts rest told
     pub more : List ℕ
     pub all : IsMore stop parts rest more
-    pub caused : IsStopOf stop
+    pub caused : IsStopOf t most stop
     pub came : left (placed 1 0 parts) (told ++ more) stop
 
   -- all was taken and told, and then the last line. done says what became of it
@@ -132,7 +129,5 @@ module _ {S : Type 0} (takes : S → S → List Placed → (told : List ℕ) →
   abbrev pub Closes : (is_check : Bool) → Tally → Option Fault → S → S → Result ExitStatus Stop → Type 0
   Closes is_check tally fault a b (Ok end) = takes a b [] (closing_line is_check tally tally.passed fault) × (end ≡ status_at tally.passed fault)
   Closes is_check tally fault a b (Err (ByCause Memory)) = (b ≡ a) × HasLastLine is_check tally.passed fault
-  Closes is_check tally fault a b (Err (ByCause ReadFailed)) = ⊥
-  Closes is_check tally fault a b (Err (ByCause WriteFailed)) = ⊥
-  Closes is_check tally fault a b (Err (ByCause TooManyReads)) = ⊥
+  Closes is_check tally fault a b (Err (ByCause cause)) = ⊥
   Closes is_check tally fault a b (Err Untold) = leaves a b [] (closing_line is_check tally tally.passed fault) Untold

@@ -1,6 +1,6 @@
 -- What an input is made of: messages, and others that are refused and passed over, by the length
 -- that their first sixteen bytes state. D-Bus Specification, "Message Format".
-use Rattle.std.specs.Prelude.{◌≡◌, ◌⊎◌, ℕ, ◌+◌, ◌<◌, ◌≤◌, Bool, true, false, List, [], ◌∷◌, length, drop}
+use Rattle.std.specs.Prelude.{◌≡◌, ◌⊎◌, ℕ, ◌+◌, ◌<◌, ◌≤◌, Bool, true, false, List, [], ◌∷◌, length, drop, map}
 use Rattle.dbus_value_model.specs.declared.fault.Fault.{Fault}
 use Rattle.dbus_value_model.specs.declared.limits.Limits.{Limits}
 use Rattle.dbus_header.specs.MessageOutcomes.{IsWhole, IsRefused}
@@ -77,5 +77,4 @@ placed n offset (PassedOver kept fault size ∷ parts) = placed (n + 1) (offset 
 
 -- messages alone, as parts
 abbrev pub wholes : List CutMessage → List Part
-wholes [] = []
-wholes (item ∷ items) = Whole item ∷ wholes items
+wholes items = map Whole items

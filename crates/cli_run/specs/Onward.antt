@@ -19,7 +19,7 @@ use Rattle.dbus_stream.specs.declared.reader.Reader.{Reader}
 use Rattle.dbus_stream.specs.declared.read_fault.ReadFault.{ReadFault}
 use Rattle.dbus_stream.specs.declared.read_fault.ReadFault.TheVariants.{Format}
 use Rattle.cli_report.specs.declared.ending.Cause.{Cause}
-use Rattle.cli_report.specs.declared.ending.Cause.TheVariants.{Memory, ReadFailed, WriteFailed, TooManyReads}
+use Rattle.cli_report.specs.declared.ending.Cause.TheVariants.{ReadFailed, TooManyReads}
 use Rattle.cli_run.specs.Inputs.{Placed, placed, wholes}
 use Rattle.cli_run.specs.declared.counted.Counted.{Counted}
 use Rattle.cli_run.specs.declared.visitor.Stop.{Stop}
@@ -32,10 +32,9 @@ stop_of (Some fault) = Some (Format fault)
 
 -- where reading was given up, what is left is no message and no fault, as far as it goes
 abbrev pub AreAll : Limits → Cause → List ℕ → Type 0
-AreAll limits Memory rest = Unit {0}
 AreAll limits ReadFailed rest = IsPartial limits rest
-AreAll limits WriteFailed rest = Unit {0}
 AreAll limits TooManyReads rest = IsPartial limits rest
+AreAll limits cause rest = Unit {0}
 
 module _ {R T B : Type 0} {b : Ghosts B} (left : R → Option (List ℕ)) where
   -- where a read gave the end, nothing is left
@@ -45,10 +44,9 @@ module _ {R T B : Type 0} {b : Ghosts B} (left : R → Option (List ℕ)) where
 module _ {R T B : Type 0} {b : Ghosts B} (failures : R → ℕ) where
   -- why no more messages are handed on, as far as the reader shows it
   abbrev pub StopsFor : Cause → Reader R T B b → Reader R T B b → Type 0
-  StopsFor Memory old new = failures (source_of new) ≡ failures (source_of old)
   StopsFor ReadFailed old new = failures (source_of new) ≡ one_more (failures (source_of old))
-  StopsFor WriteFailed old new = failures (source_of new) ≡ failures (source_of old)
   StopsFor TooManyReads old new = (failures (source_of new) ≡ failures (source_of old)) × (reads_of new ≡ most_reads_of new)
+  StopsFor cause old new = failures (source_of new) ≡ failures (source_of old)
 
 module _ {R T B G : Type 0} {b : Ghosts B} (k : Taking T G) (left : R → Option (List ℕ)) (calls : R → ℕ) (limits : Limits) (kept : List ℕ) where
   -- what was kept and then read is these messages, and then the rest

@@ -1,5 +1,5 @@
 -- What a command writes of the messages of its input and the fault after them.
-use Rattle.std.specs.Prelude.{◌≡◌, ℕ, ◌+◌, ◌⊎◌, Bool, true, false, List, [], ◌∷◌, ◌++◌, length, Option, None, Some, Vec}
+use Rattle.std.specs.Prelude.{◌≡◌, ℕ, ◌+◌, ◌⊎◌, Bool, true, false, List, [], ◌∷◌, ◌++◌, length, Option, None, Some, Vec, codes, decimal}
 use Rattle.std.specs.List.{concat}
 use Rattle.std.specs.declared.alloc.Global.{Global}
 use Rattle.dbus_value_model.specs.declared.fault.Fault.{Fault}
@@ -16,11 +16,21 @@ use Rattle.cli_options.specs.Selections.{SelectsBy}
 use Rattle.cli_options.specs.declared.command.Command.{Command}
 use Rattle.cli_options.specs.declared.command.Command.TheVariants.{Show, Json, Check, Swap, Filter}
 use Rattle.cli_report.specs.Gathering.{IsPrefixTo}
-use Rattle.cli_run.specs.CountLines.{ok_line}
 use Rattle.cli_run.specs.Inputs.{Placed, placed, wholes}
+use Rattle.cli_run.specs.Told.{first_of, second_of}
+use Rattle.cli_run.specs.declared.output.Output.{Output}
+use Rattle.cli_run.specs.declared.output.Output.TheVariants.{InOrder, JsonLine, Matching, Nothing, Text}
 use Rattle.cli_report.specs.Lines.{refused_line}
 use Rattle.cli_report.specs.declared.ending.ExitStatus.{ExitStatus}
 use Rattle.cli_report.specs.declared.ending.ExitStatus.TheVariants as status
+
+-- which command writes what of each message
+abbrev pub command_of : Output → Command
+command_of Nothing = Check
+command_of Text = Show
+command_of JsonLine = Json
+command_of (InOrder order) = Swap order
+command_of (Matching selection) = Filter selection.now
 
 -- the command is `check`, which writes nothing of a message, and tells the first writer of a fault
 abbrev pub is_check : Command → Bool
@@ -74,6 +84,15 @@ abbrev pub IsExact : Command → Type 0
 IsExact Json = ⊥
 IsExact command = Unit {0}
 
+-- how many messages of how many bytes there are
+abbrev pub ok_line : ℕ → ℕ → List ℕ
+ok_line count size = codes "ok " ++ (decimal count ++ (codes " messages " ++ (decimal size ++ codes " bytes\n")))
+
+-- how many messages of how many bytes, and how many were passed over
+abbrev pub counts_line : (count size passed passed_size : ℕ) → List ℕ
+counts_line count size passed passed_size = decimal count ++ (codes " messages " ++ (decimal size ++ (codes " bytes, "
+    ++ (decimal passed ++ (codes " passed over " ++ (decimal passed_size ++ codes " bytes\n"))))))
+
 -- how many messages of how many bytes, or the fault, whose place counts from the start of the input
 abbrev pub check_line : ℕ → ℕ → Option Fault → List ℕ
 check_line count size None = ok_line count size
@@ -81,8 +100,7 @@ check_line count size (Some fault) = refused_line (size + fault.at) fault.reason
 
 -- what is written after so many messages of so many bytes: only `check` writes a line there
 abbrev pub last_line : Command → ℕ → ℕ → Option Fault → List ℕ
-last_line Check count size fault = check_line count size fault
-last_line command count size fault = []
+last_line command count size fault = first_of (is_check command) [] (check_line count size fault)
 
 -- what the first writer gets
 pub record IsFirstOutput (command : Command) (items : List CutMessage) (fault : Option Fault) (out : List ℕ) : Type 0 where
@@ -100,8 +118,7 @@ fault_line size (Some fault) = refused_line (size + fault.at) fault.reason
 
 -- what the second writer gets: the fault, which `check` tells the first
 abbrev pub second_output : Command → ℕ → Option Fault → List ℕ
-second_output Check size fault = []
-second_output command size fault = fault_line size fault
+second_output command size fault = second_of (is_check command) (fault_line size fault)
 
 abbrev pub status_of : Option Fault → ExitStatus
 status_of None = status.Done

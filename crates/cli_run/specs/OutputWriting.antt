@@ -3,10 +3,9 @@ use Rattle.std.specs.Prelude.{◌≡◌, ℕ, Bool, true, false, List, [], lengt
 use Rattle.dbus_device.specs.Write.{Wrote}
 use Rattle.cli_report.specs.Gathering.{Breaks, GathersOrNot, Leaves, Passes, gathered_bytes}
 use Rattle.cli_report.specs.declared.ending.Cause.{Cause}
-use Rattle.cli_report.specs.declared.ending.Cause.TheVariants.{Memory, ReadFailed, WriteFailed, TooManyReads}
-use Rattle.cli_run.specs.Commands.{command_of}
+use Rattle.cli_report.specs.declared.ending.Cause.TheVariants.{Memory, WriteFailed}
+use Rattle.cli_run.specs.Output.{command_of, IsOutputOfAll, is_check, owners_known, owners_after_all}
 use Rattle.cli_run.specs.Inputs.{Placed}
-use Rattle.cli_run.specs.Output.{IsOutputOfAll, is_check, owners_known, owners_after_all}
 use Rattle.cli_run.specs.Told.{GotSecond, first_of, second_of}
 use Rattle.cli_run.specs.Windows.{after, written}
 use Rattle.cli_run.specs.declared.output_writer.OutputWriter.{OutputWriter}
@@ -16,21 +15,17 @@ use Rattle.cli_run.specs.declared.visitor.Stop.TheVariants.{Cause as ByCause, Un
 module _ {W : Type 0} (held : W → Option (List ℕ)) (failures : W → ℕ) where
   -- what was done with bytes for the first writer, if a run is given up: unless a write to it
   -- failed, all was written. g is what was gathered before
-  abbrev pub LeavesUntold : (is_check : Bool) → (bytes g : List ℕ) → W → W → Type 0
-  LeavesUntold true bytes g w0 w1 = Breaks held failures bytes g w0 w1
-  LeavesUntold false bytes g w0 w1 = Passes held failures bytes g [] w0 w1
-
   abbrev pub LeavesFirst : (is_check : Bool) → Stop → (bytes g : List ℕ) → W → W → Type 0
   LeavesFirst is_check (ByCause cause) bytes g w0 w1 = Leaves held failures cause bytes g [] w0 w1
-  LeavesFirst is_check Untold bytes g w0 w1 = LeavesUntold is_check bytes g w0 w1
+  LeavesFirst true Untold bytes g w0 w1 = Breaks held failures bytes g w0 w1
+  LeavesFirst false Untold bytes g w0 w1 = Passes held failures bytes g [] w0 w1
 
   -- why a run fails then that fails by a cause: if memory ran out, what is gathered is written
   -- first
   abbrev pub FailsBy : Cause → (g0 g1 : List ℕ) → W → W → Cause → Type 0
   FailsBy Memory g0 g1 old new cause = GathersOrNot held failures [] g0 g1 old new (Err cause) × (g1 ≡ [])
-  FailsBy ReadFailed g0 g1 old new cause = cause ≡ ReadFailed
   FailsBy WriteFailed g0 g1 old new cause = (cause ≡ WriteFailed) × (new ≡ old)
-  FailsBy TooManyReads g0 g1 old new cause = cause ≡ TooManyReads
+  FailsBy why g0 g1 old new cause = cause ≡ why
 
 module _ {A W E : Type 0} (held : W → Option (List ℕ)) (failures : W → ℕ) (second_held : E → Option (List ℕ)) (second_failures : E → ℕ) where
   -- what the window lets through of the texts that the command makes of the messages was written or

@@ -2,9 +2,8 @@
 use Rattle.std.specs.Prelude.{◌≡◌, ℕ, zero, suc, ◌+◌, ◌-◌, Bool, true, false, List, [], ◌∷◌, ◌++◌, length, Option, None, Some}
 use Rattle.dbus_value_model.specs.declared.fault.Fault.{Fault}
 use Rattle.cli_options.specs.declared.settings.Settings.{Settings}
-use Rattle.cli_run.specs.CountLines.{counts_line, ok_line}
 use Rattle.cli_run.specs.Inputs.{Part, Whole, PassedOver, size_of, sizes_of}
-use Rattle.cli_run.specs.Output.{status_of}
+use Rattle.cli_run.specs.Output.{counts_line, ok_line, status_of}
 use Rattle.cli_report.specs.Telling.{IsToldBy}
 use Rattle.cli_report.specs.declared.telling.Refusal.{Refusal}
 use Rattle.cli_report.specs.declared.ending.ExitStatus.{ExitStatus}

@@ -1,38 +1,101 @@
--- What a command does with what it reads. limits are those that each message keeps, and most is how
--- many reads may be made.
-use Rattle.std.specs.Prelude.{◌≡◌, ◌⊎◌, ℕ, List, None, Option}
-use Rattle.dbus_device.specs.Write.{Wrote}
+-- What a command does with what it reads, what it writes of it, and why it gives up. limits are those
+-- that each message keeps, and most is how many reads may be made.
+use Rattle.std.specs.Prelude.{◌⊎◌, ℕ, List, None, ◌≡◌, Option}
+use Rattle.dbus_device.specs.Write.{Wrote, Stopped}
 use Rattle.dbus_value_model.specs.declared.limits.Limits.{Limits}
 use Rattle.cli_options.specs.declared.command.Command.{Command}
 use Rattle.cli_options.specs.declared.settings.Settings.{Settings}
-use Rattle.cli_run.specs.Checking.{Answers, Fails}
-use Rattle.cli_run.specs.Going.{GivesUp, GoesThrough}
-use Rattle.cli_run.specs.Inputs.{Placed}
-use Rattle.cli_run.specs.Output.{IsOutputOfAll, is_check, owners_known}
+use Rattle.cli_run.specs.Going.{GivesUp, GoesThrough, IsStopOf}
+use Rattle.cli_run.specs.Inputs.{Placed, placed, wholes}
+use Rattle.cli_run.specs.Output.{IsOutputOfAll, is_check, owners_known, IsFirstOutput, IsFront, second_output, status_of}
 use Rattle.cli_run.specs.Told.{GotFirst, GotSecond, first_of, second_of}
 use Rattle.cli_run.specs.Windows.{written}
-use Rattle.cli_report.specs.Failing.{Told}
-use Rattle.cli_report.specs.Devices.{Reading, Writing, taken, writing}
+use Rattle.cli_report.specs.Devices.{Reading, Writing, taken, writing, RisesAtMost}
 use Rattle.cli_report.specs.declared.ending.ExitStatus.{ExitStatus}
+use Rattle.cli_run.specs.declared.visitor.Stop.{Stop}
+use Rattle.std.specs.Io.KnownBytes.{Appends, Consumes, IsAtEnd}
+use Rattle.std.specs.List.{concat}
+use Rattle.dbus_value_model.specs.declared.fault.Fault.{Fault}
+use Rattle.dbus_header.specs.MessageOutcomes.{IsPartial}
+use Rattle.dbus_device.specs.Device.{one_more}
+use Rattle.dbus_stream.specs.Cut.{CutMessage, BeginWith, IsCut, CutOutcome, Refused}
+use Rattle.dbus_stream.specs.CutEnds.{fault_at_end, sizes}
+use Rattle.cli_report.specs.Failing.{Told}
 use Rattle.cli_report.specs.declared.ending.ExitStatus.TheVariants as status
 use Rattle.cli_report.specs.declared.ending.Cause.{Cause}
-use Rattle.cli_run.specs.declared.visitor.Stop.{Stop}
+use Rattle.cli_report.specs.declared.ending.Cause.TheVariants.{ReadFailed, WriteFailed, TooManyReads}
+use Rattle.cli_run.specs.declared.visitor.Stop.TheVariants.{Cause as ByCause}
 
-module _ {R W E : Type 0} (left : R → Option (List ℕ)) (calls read_failures : R → ℕ) (held : W → Option (List ℕ)) (write_failures : W → ℕ)
-    (second_held : E → Option (List ℕ)) (second_failures : E → ℕ) (limits : Limits) (most : ℕ) (command : Command) where
-  -- the first writer got a prefix of what the command makes of what was read, and the second the
-  -- cause
-  pub record GaveUp (r0 r1 : R) (w0 w1 : W) (e0 e1 : E) (end : ExitStatus) : Type 0 where
+-- the second writer got this line, and the status is that of the fault; or a write failed after the
+-- first bytes of the line
+abbrev pub TellsLine : {E : Type 0} → Writing E → List ℕ → Option Fault → ExitStatus → Type 0
+TellsLine e line fault end = (Wrote e.held e.failures e.old line e.new × (end ≡ status_of fault))
+    ⊎ ((n : ℕ) × Stopped e.held e.failures e.old line n e.new × (end ≡ status.Failed))
+
+-- what the command makes of all messages within the limits that the bytes begin with was written
+pub record WritesMessages (limits : Limits) (command : Command) (bytes written : List ℕ) : Type 0 where
+  pub items : List CutMessage
+  pub rest : List ℕ
+  pub messages : BeginWith limits bytes items rest
+  pub partial : IsPartial limits rest
+  pub texts : List (List ℕ)
+  pub output : IsOutputOfAll command (owners_known command None) (placed 1 0 (wholes items)) texts
+  pub written_is : written ≡ concat texts
+
+-- where reading was given up, all messages that were read were written
+abbrev pub WritesBefore : Limits → Command → Cause → List ℕ → List ℕ → Type 0
+WritesBefore limits command ReadFailed bytes written = WritesMessages limits command bytes written
+WritesBefore limits command TooManyReads bytes written = WritesMessages limits command bytes written
+WritesBefore limits command cause bytes written = Unit {0}
+
+-- a write counts as failed if that is the cause
+abbrev pub CountsWrite : Cause → ℕ → ℕ → Type 0
+CountsWrite WriteFailed old new = new ≡ one_more old
+CountsWrite cause old new = new ≡ old
+
+module _ {R W E : Type 0} (r : Reading R) (w : Writing W) (e : Writing E) (limits : Limits) (most : ℕ) (command : Command) where
+  -- the first writer got what the command makes of what was read, and the second the line of its
+  -- fault
+  pub record Answers (end : ExitStatus) : Type 0 where
+    pub bytes : List ℕ
+    pub items : List CutMessage
+    pub rest : List ℕ
+    pub outcome : CutOutcome
+    pub out : List ℕ
+    pub consumed : Consumes (r.left r.old) (r.left r.new) bytes
+    pub called : RisesAtMost most (r.calls r.old) (r.calls r.new)
+    pub read_failed : r.failures r.new ≡ r.failures r.old
+    pub cut : IsCut limits bytes items rest outcome
+    -- without a fault that bytes show, all was read
+    pub at_end : ((f : Fault) → outcome ≡ Refused f → ⊥) → IsAtEnd (r.left r.new)
+    pub output : IsFirstOutput command items (fault_at_end rest outcome) out
+    pub first : Wrote w.held w.failures w.old out w.new
+    pub second : TellsLine e (second_output command (sizes items) (fault_at_end rest outcome)) (fault_at_end rest outcome) end
+
+  -- the first writer got a prefix of what the command makes of what was read
+  pub record Fails (cause : Cause) : Type 0 where
+    pub bytes : List ℕ
+    pub written : List ℕ
+    pub consumed : Consumes (r.left r.old) (r.left r.new) bytes
+    pub called : RisesAtMost most (r.calls r.old) (r.calls r.new)
+    pub appended : Appends (w.held w.old) (w.held w.new) written
+    pub front : (items : List CutMessage) (rest : List ℕ) (outcome : CutOutcome) → IsCut limits bytes items rest outcome
+        → IsFront command items (fault_at_end rest outcome) written
+    pub before : WritesBefore limits command cause bytes written
+    -- the devices count the one call that failed, or none
+    pub read_caused : IsStopOf (taken r) most (ByCause cause)
+    pub write_caused : CountsWrite cause (w.failures w.old) (w.failures w.new)
+
+  -- and the second the cause
+  pub record GaveUp (end : ExitStatus) : Type 0 where
     pub failed : end ≡ status.Failed
     pub cause : Cause
-    pub fails : Fails left calls read_failures held write_failures limits most command cause r0 r1 w0 w1
-    pub told : Told second_held second_failures e0 e1 cause
+    pub fails : Fails cause
+    pub told : Told e.held e.failures e.old e.new cause
 
 -- what a command does with what r reads, by the writers w and e
 abbrev pub Runs : {R W E : Type 0} → Reading R → Writing W → Writing E → Limits → ℕ → Command → ExitStatus → Type 0
-Runs r w e limits most command end =
-    Answers r.left r.calls r.failures w.held w.failures limits most command e.held e.failures r.old r.new w.old w.new e.old e.new end
-    ⊎ GaveUp r.left r.calls r.failures w.held w.failures e.held e.failures limits most command r.old r.new w.old w.new e.old e.new end
+Runs r w e limits most command end = Answers r w e limits most command end ⊎ GaveUp r w e limits most command end
 
 module _ {W E : Type 0} (w : Writing W) (e : Writing E) (settings : Settings) (command : Command) where
   -- what the window lets through of the texts that the command makes of the messages was written,

@@ -4,7 +4,8 @@ use Rattle.std.specs.Prelude.{◌≡◌, ℕ, Bool, true, false, List, [], Optio
 use Rattle.dbus_device.specs.Write.{Wrote, Stopped}
 use Rattle.cli_report.specs.Failing.{Told}
 use Rattle.cli_report.specs.Gathering.{Breaks}
-use Rattle.cli_report.specs.declared.ending.Cause.TheVariants.{Memory, ReadFailed, WriteFailed, TooManyReads}
+use Rattle.cli_report.specs.declared.ending.Cause.{Cause}
+use Rattle.cli_report.specs.declared.ending.Cause.TheVariants.{Memory, WriteFailed}
 use Rattle.cli_report.specs.declared.gathering.Unwritten.{Unwritten}
 use Rattle.cli_run.specs.declared.visitor.Stop.{Stop}
 use Rattle.cli_run.specs.declared.visitor.Stop.TheVariants.{Cause as ByCause, Untold}
@@ -24,34 +25,28 @@ module _ {W : Type 0} (held : W → Option (List ℕ)) (failures : W → ℕ) wh
   WroteOrNot text w0 w1 (Ok x) = Wrote held failures w0 text w1
   WroteOrNot text w0 w1 (Err e) = (n : ℕ) × Stopped held failures w0 text n w1
 
-  -- what the writers got if a write of what is told failed
-  abbrev pub UntoldFirst : (is_check : Bool) → List ℕ → W → W → Type 0
-  UntoldFirst true all w0 w1 = Breaks held failures all [] w0 w1
-  UntoldFirst false all w0 w1 = Wrote held failures w0 all w1
-
-  abbrev pub UntoldSecond : (is_check : Bool) → List ℕ → W → W → Type 0
-  UntoldSecond true all w0 w1 = Wrote held failures w0 all w1
-  UntoldSecond false all w0 w1 = (n : ℕ) × Stopped held failures w0 all n w1
+  -- the same of a line, or for want of memory nothing was written
+  abbrev pub WritesLine : List ℕ → W → W → Result (Unit {0}) Cause → Type 0
+  WritesLine line w0 w1 (Ok x) = Wrote held failures w0 line w1
+  WritesLine line w0 w1 (Err Memory) = w1 ≡ w0
+  WritesLine line w0 w1 (Err WriteFailed) = (n : ℕ) × Stopped held failures w0 line n w1
+  WritesLine line w0 w1 (Err cause) = ⊥
 
   -- the first writer got this if a run was given up, but a prefix of it if a write to it failed
   abbrev pub GotFirst : (is_check : Bool) → Stop → List ℕ → W → W → Type 0
-  GotFirst is_check (ByCause Memory) all w0 w1 = Wrote held failures w0 all w1
-  GotFirst is_check (ByCause ReadFailed) all w0 w1 = Wrote held failures w0 all w1
   GotFirst is_check (ByCause WriteFailed) all w0 w1 = Breaks held failures all [] w0 w1
-  GotFirst is_check (ByCause TooManyReads) all w0 w1 = Wrote held failures w0 all w1
-  GotFirst is_check Untold all w0 w1 = UntoldFirst is_check all w0 w1
+  GotFirst is_check (ByCause cause) all w0 w1 = Wrote held failures w0 all w1
+  GotFirst true Untold all w0 w1 = Breaks held failures all [] w0 w1
+  GotFirst false Untold all w0 w1 = Wrote held failures w0 all w1
 
   -- and the second
   abbrev pub GotSecond : (is_check : Bool) → Stop → List ℕ → W → W → Type 0
   GotSecond is_check (ByCause cause) all w0 w1 = Wrote held failures w0 all w1
-  GotSecond is_check Untold all w0 w1 = UntoldSecond is_check all w0 w1
+  GotSecond true Untold all w0 w1 = Wrote held failures w0 all w1
+  GotSecond false Untold all w0 w1 = (n : ℕ) × Stopped held failures w0 all n w1
 
-  -- a write of what is told failed: the second writer is told so if that was to the first
-  abbrev pub TellsUntold : (is_check : Bool) → W → W → Type 0
-  TellsUntold true w0 w1 = Told held failures w0 w1 WriteFailed
-  TellsUntold false w0 w1 = w1 ≡ w0
-
-  -- the second writer is told why a run is given up
+  -- the second writer is told why a run is given up, unless a write to it failed
   abbrev pub TellsStop : (is_check : Bool) → Stop → W → W → Type 0
   TellsStop is_check (ByCause cause) w0 w1 = Told held failures w0 w1 cause
-  TellsStop is_check Untold w0 w1 = TellsUntold is_check w0 w1
+  TellsStop true Untold w0 w1 = Told held failures w0 w1 WriteFailed
+  TellsStop false Untold w0 w1 = w1 ≡ w0

@@ -15,9 +15,8 @@ module _ {S : Type 0} (takes : S → S → List Placed → (told : List ℕ) →
   abbrev pub TakesOne : S → S → Placed → Result (Unit {0}) Cause → Type 0
   TakesOne a b m (Ok x) = takes a b (m ∷ []) []
   TakesOne a b m (Err Memory) = leaves a b [] [] (ByCause Memory)
-  TakesOne a b m (Err ReadFailed) = ⊥
   TakesOne a b m (Err WriteFailed) = leaves a b (m ∷ []) [] (ByCause WriteFailed)
-  TakesOne a b m (Err TooManyReads) = ⊥
+  TakesOne a b m (Err cause) = ⊥
 
   -- a text was told, or a write of it failed
   abbrev pub TellsOne : S → S → List ℕ → Result (Unit {0}) Unwritten → Type 0
@@ -28,9 +27,7 @@ module _ {S : Type 0} (takes : S → S → List Placed → (told : List ℕ) →
   abbrev pub Tells : (List ℕ → Type 0) → S → S → Result (Unit {0}) Stop → Type 0
   Tells Is a b (Ok x) = (text : List ℕ) × Is text × takes a b [] text
   Tells Is a b (Err (ByCause Memory)) = b ≡ a
-  Tells Is a b (Err (ByCause ReadFailed)) = ⊥
-  Tells Is a b (Err (ByCause WriteFailed)) = ⊥
-  Tells Is a b (Err (ByCause TooManyReads)) = ⊥
+  Tells Is a b (Err (ByCause cause)) = ⊥
   Tells Is a b (Err Untold) = (text : List ℕ) × Is text × leaves a b [] text Untold
 
   -- it let go of what it held back, or a write of that failed

@@ -2,7 +2,7 @@
 ghost use Rattle.std.specs.Prelude.{◌≡◌, ◌^◌};
 ghost use Rattle.dbus_count.specs.Kept.{counting_of};
 ghost use Rattle.cli_run.specs.ByName.{CountsByName, CountsMessages, LeavesCounted, WritesTables};
-ghost use Rattle.cli_run.specs.CountLaws as laws;
+ghost use Rattle.cli_run.specs.VisitorLaws.{counter_adds_up};
 ghost use Rattle.cli_report.specs.Devices.{reading, writing};
 
 use crate::going::{pass_through, tell_stop};
@@ -58,7 +58,7 @@ impl<E: Sink> MessageVisitor for Counter<'_, E> {
         write_text(self.second, text)
     }
 
-    ghost adds_up = { laws.adds_up E.held E.failures };
+    ghost adds_up = { counter_adds_up E.held E.failures };
 }
 
 /// Counts the messages of a source by their names, with at most 2^32 reads, and tells the second

@@ -1,9 +1,8 @@
 //! What is written after the messages of an input.
 ghost use Rattle.std.specs.Prelude.{◌≡◌, IfOk, string_bytes};
-ghost use Rattle.cli_run.specs.Closing.{WritesLine};
-ghost use Rattle.cli_run.specs.Output.{check_line, status_of};
+ghost use Rattle.cli_run.specs.Output.{check_line, counts_line, ok_line, status_of};
+ghost use Rattle.cli_run.specs.Told.{WritesLine};
 
-use crate::count_lines::ok_line;
 use crate::counted::Counted;
 use cli_report::{Cause, ExitStatus, refused_line};
 use dbus_stream::{Sink, WrittenOnly, write_all};
@@ -47,4 +46,28 @@ pub(crate) fn status_of(fault: Option<Fault>) -> ExitStatus
         None => ExitStatus::Done,
         Some(_) => ExitStatus::Refused,
     }
+}
+
+/// What `check` writes of messages alone.
+pub(crate) fn ok_line<A: Allocator + Copy>(
+    alloc: A,
+    count: u64,
+    size: u64,
+) -> Result<String<A>, AllocError>
+    ensures { IfOk result (λ line. string_bytes line ≡ ok_line count size) }
+{
+    format!(in alloc; "ok {count} messages {size} bytes\n")
+}
+
+/// What is written at last if messages were passed over.
+pub(crate) fn counts_line<A: Allocator + Copy>(
+    alloc: A,
+    count: u64,
+    size: u64,
+    passed: u64,
+    passed_size: u64,
+) -> Result<String<A>, AllocError>
+    ensures { IfOk result (λ line. string_bytes line ≡ counts_line count size passed passed_size) }
+{
+    format!(in alloc; "{count} messages {size} bytes, {passed} passed over {passed_size} bytes\n")
 }

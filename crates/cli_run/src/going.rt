@@ -129,9 +129,7 @@ fn close<A: Allocator + Copy, V: MessageVisitor>(
     fault: Option<Fault>,
     visitor: &mut V,
 ) -> Result<ExitStatus, Stop>
-    requires settled { V.settled visitor.old }
-    requires few { tally.passed ≤ tally.count }
-    requires few_bytes { tally.passed_size ≤ tally.size }
+    requires { V.settled visitor.old }
     ensures closes { Closes V.takes V.leaves is_check tally fault visitor.old visitor.new result }
     ensures settled { IfOk result (λ _. V.settled visitor.new) }
 {

@@ -3,13 +3,13 @@
 #![tactic(auto)]
 
 ghost use Rattle.cli_run.specs.Alike.{OneCount, OneRun, OneWithin};
-ghost use Rattle.cli_run.specs.Laws.{OneFront, OneOutput, PlainRuns, SomeOutput};
-ghost use Rattle.cli_run.specs.Stated.{NoneTruncated, StatedSuffice};
+ghost use Rattle.cli_run.specs.Laws.{NoneTruncated, OneFront, OneOutput, PlainRuns, SomeOutput, StatedSuffice};
 
 use dbus_count::laws::one_table;
 use dbus_stream::{Sink, Source};
 
 /// Of each list of messages, and a fault after them or none, a command has an output.
+#[tactic(auto, using(crate::proofs::Outputs::some_output))]
 pub fn some_output()
     ensures { SomeOutput }
 {}
@@ -26,17 +26,20 @@ pub fn one_front()
 {}
 
 /// By settings that ask for no more, a command does what it does under their limits alone.
+#[tactic(auto, using(crate::proofs::RunSteps::plainly))]
 pub fn plain_run<R: Source, W: Sink, E: Sink>()
     ensures { PlainRuns R.left R.calls R.failures W.held W.failures E.held E.failures }
 {}
 
 /// Bytes that state how many a message has, and that are neither a message nor refused, are fewer
 /// than they state.
+#[tactic(auto, using(crate::proofs::MessageEnds::partial_short))]
 pub fn stated_suffice()
     ensures { StatedSuffice }
 {}
 
 /// No fault of bytes is that of an input that ends within a message.
+#[tactic(auto, using(crate::proofs::MessageEnds::refused_reason))]
 pub fn none_truncated()
     ensures { NoneTruncated }
 {}

@@ -7,13 +7,11 @@
 
 mod by_name;
 mod closing;
-mod count_lines;
 mod counted;
 mod counting;
 mod filtering;
 mod going;
 mod handing;
-mod json_lines;
 pub mod laws;
 mod output;
 mod output_writer;

@@ -7,13 +7,11 @@ ghost use Rattle.dbus_validate.specs.Validating.{IsValidatedWhole};
 ghost use Rattle.cli_report.specs.Gathering.{gathered_bytes};
 ghost use Rattle.cli_report.specs.Devices.{writing};
 ghost use Rattle.cli_run.specs.Handing.{HandsOne, IsPicked, WritesOne};
-ghost use Rattle.cli_run.specs.Commands.{command_of};
-ghost use Rattle.cli_run.specs.Output.{is_check};
+ghost use Rattle.cli_run.specs.Output.{command_of, is_check};
 
 use crate::filtering::select;
-use crate::json_lines::write_json_line;
 use crate::place::{Carried, Lent};
-use crate::showing::show;
+use crate::showing::{show, write_json_line};
 use crate::swapping::swap;
 use crate::window::lets_through;
 use cli_options::{Command, Selection};

@@ -2,7 +2,7 @@
 ghost use Rattle.std.specs.Prelude.{◌≡◌, []};
 ghost use Rattle.cli_report.specs.Gathering.{gathered_bytes};
 ghost use Rattle.cli_run.specs.OutputWriting.{FailsBy, LeavesWritten, WritesAll};
-ghost use Rattle.cli_run.specs.OutputLaws as laws;
+ghost use Rattle.cli_run.specs.VisitorLaws.{output_adds_up};
 
 use crate::output::{Output, hand_one, is_check};
 use crate::place::{Carried, Lent};
@@ -87,7 +87,7 @@ impl<A: Allocator + Copy, W: Sink, E: Sink> MessageVisitor for OutputWriter<'_, 
         }
     }
 
-    ghost adds_up = { laws.adds_up W.held W.failures E.held E.failures };
+    ghost adds_up = { output_adds_up W.held W.failures E.held E.failures };
 }
 
 // Why a run fails that fails by this cause. If memory ran out, what is gathered is written first,

@@ -1,13 +1,17 @@
-//! A message as text.
+//! A message as text, and as a line of JSON.
 ghost use Rattle.std.specs.Prelude.{◌≡◌, ℕ, List, length};
 ghost use Rattle.dbus_value_model.specs.declared.order.Order.{Order};
 ghost use Rattle.dbus_message_model.specs.Messages.{MessageTree};
 ghost use Rattle.dbus_header.specs.MessageOutcomes.{IsWhole};
 ghost use Rattle.dbus_validate.specs.Validating.{IsValidatedWhole};
 ghost use Rattle.dbus_show.specs.ShownMessages.{message_text};
+ghost use Rattle.cli_report.specs.Devices.{writing};
 ghost use Rattle.cli_report.specs.Gathering.{GathersOrNot, gathered_bytes};
+ghost use Rattle.cli_run.specs.Handing.{WritesJson};
 
+use crate::place::Place;
 use cli_report::{Cause, Gathered, Page};
+use dbus_json::write_json;
 use dbus_show_view::write_message;
 use dbus_stream::Sink;
 use dbus_validate::Validated;
@@ -34,6 +38,41 @@ pub(crate) fn show<W: Sink>(
         failed: false,
     };
     write_message(&mut page, bytes, limits, validated, number);
+    if page.failed {
+        Err(Cause::WriteFailed)
+    } else {
+        Ok(())
+    }
+}
+
+/// Writes or gathers the line of JSON of the message that the bytes are.
+pub(crate) fn write_json_line<W: Sink>(
+    bytes: &[u8],
+    validated: &Validated,
+    limits: Limits,
+    place: Place,
+    gathered: &mut Gathered,
+    first: &mut W,
+) -> Result<(), Cause>
+    requires { IsValidatedWhole limits bytes.now validated.now }
+    ensures { (order : Order) (m : MessageTree) →
+        IsWhole limits bytes.now order m (length bytes.now) →
+        WritesJson (writing W.held W.failures first.old first.new) order m place
+        (gathered_bytes gathered.old) (gathered_bytes gathered.new) result }
+{
+    let mut page = Page {
+        gathered,
+        first,
+        failed: false,
+    };
+    write_json(
+        &mut page,
+        bytes,
+        limits,
+        validated,
+        place.number,
+        place.offset,
+    );
     if page.failed {
         Err(Cause::WriteFailed)
     } else {

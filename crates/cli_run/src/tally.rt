@@ -2,7 +2,7 @@
 ghost use Rattle.std.specs.Prelude.{◌≡◌, ◌≤◌, ◌<◌, ◌+◌, ◌-◌, ◌^◌, IfErr, IfOk, string_bytes, true};
 ghost use Rattle.cli_run.specs.Parts.{HasLastLine, closing_line, status_at};
 
-use crate::count_lines::{counts_line, ok_line};
+use crate::closing::{counts_line, ok_line};
 use crate::counted::Counted;
 use cli_report::ExitStatus;
 use dbus_value_model::Fault;
@@ -73,15 +73,13 @@ pub(crate) fn closing_line<A: Allocator + Copy>(
     tally: Tally,
     fault: Option<Fault>,
 ) -> Result<String<A>, AllocError>
-    requires few { tally.passed ≤ tally.count }
-    requires few_bytes { tally.passed_size ≤ tally.size }
     ensures line { IfOk result (λ line. string_bytes line ≡
         closing_line is_check tally tally.passed fault) }
     ensures due { IfErr result (λ _. HasLastLine is_check tally.passed fault) }
 {
     if tally.passed > 0 {
-        let count = tally.count - tally.passed;
-        let size = tally.size - tally.passed_size;
+        let count = tally.count.saturating_sub(tally.passed);
+        let size = tally.size.saturating_sub(tally.passed_size);
         return counts_line(alloc, count, size, tally.passed, tally.passed_size);
     }
     if fault.is_none() && is_check {

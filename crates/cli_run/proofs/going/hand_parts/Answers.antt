@@ -1,7 +1,6 @@
 use Rattle.std.proofs.Common.{◌≡◌, Bool, not, true, false, arith, refl, sym, ◌∙◌}
 use Rattle.dbus_stream.specs.RawReading.{done_of}
-use Rattle.cli_run.proofs.GoClosing.{closes, few}
-use Rattle.cli_run.proofs.GoEnds.{finished, not_told, halts, stays, breaks, goes_on}
+use Rattle.cli_run.proofs.GoEnds.{breaks, closes, finished, goes_on, halts, not_told, stays}
 use Rattle.cli_run.proofs.GoSteps.{gone_none, within, done_small, grows, reach, stop_hand}
 use Rattle.cli_run.proofs.going.hand_parts.Goals as goal
 
@@ -26,13 +25,6 @@ pub returns-in-Err-clause-passes : goal.returns-in-Err-clause-passes
 returns-in-Err-clause-passes g c =
     stop_hand c.parts.invariant.0 g.met.V.MessageVisitor.adds_up c.hand_all.new.messages c.hand_all.new.visitor c.in-Err.cause c.in-Err.ensures.hands
 
-pub close-requires : goal.close-requires
-close-requires g c =
-    let laws = g.met.V.MessageVisitor.adds_up in
-    let r = reach c.parts.invariant.0 laws c.hand_all.new.messages c.hand_all.new.visitor c.in-Ok.counted c.up_to-tally.result c.up_to-tally.ensures c.in-Ok.ensures.hands in
-    let both = few (finished laws r c.in-None.is) in
-    record { settled = c.in-Ok.ensures.settled; few = both.0; few_bytes = both.1 }
-
 pub returns-in-None-clause-passes : goal.returns-in-None-clause-passes
 returns-in-None-clause-passes g c =
     let laws = g.met.V.MessageVisitor.adds_up in
@@ -51,14 +43,6 @@ returns-in-Err-tell-clause-passes g c =
     let r = reach c.parts.invariant.0 laws c.hand_all.new.messages c.hand_all.new.visitor c.in-Ok.counted c.up_to-tally.result c.up_to-tally.ensures c.in-Ok.ensures.hands in
     not_told laws r c.in-Some.is c.in-Ok.ensures.settled c.tell.new.visitor c.in-Err-tell.stop c.in-Err-tell.ensures.tells
 
-pub close-requires-then-not-settings : goal.close-requires-then-not-settings
-close-requires-then-not-settings g c =
-    let laws = g.met.V.MessageVisitor.adds_up in
-    let r = reach c.parts.invariant.0 laws c.hand_all.new.messages c.hand_all.new.visitor c.in-Ok.counted c.up_to-tally.result c.up_to-tally.ensures c.in-Ok.ensures.hands in
-    let told = c.in-Ok-tell.ensures.tells in
-    let both = few (halts laws r c.in-Some.is told.0 told.1 told.2 (unset c.args.settings.keeps_going c.if-not-settings.true)) in
-    record { settled = c.in-Ok-tell.ensures.settled; few = both.0; few_bytes = both.1 }
-
 pub returns-then-not-settings-clause-passes : goal.returns-then-not-settings-clause-passes
 returns-then-not-settings-clause-passes g c =
     let laws = g.met.V.MessageVisitor.adds_up in
@@ -66,14 +50,6 @@ returns-then-not-settings-clause-passes g c =
     let told = c.in-Ok-tell.ensures.tells in
     let ended = halts laws r c.in-Some.is told.0 told.1 told.2 (unset c.args.settings.keeps_going c.if-not-settings.true) in
     closes ended laws c.in-Ok-tell.ensures.settled c.close-then-not-settings.new.visitor c.close-then-not-settings.result c.close-then-not-settings.ensures.closes
-
-pub close-requires-in-Ok-false : goal.close-requires-in-Ok-false
-close-requires-in-Ok-false g c =
-    let laws = g.met.V.MessageVisitor.adds_up in
-    let r = reach c.parts.invariant.0 laws c.hand_all.new.messages c.hand_all.new.visitor c.in-Ok.counted c.up_to-tally.result c.up_to-tally.ensures c.in-Ok.ensures.hands in
-    let told = c.in-Ok-tell.ensures.tells in
-    let both = few (stays laws r c.in-Some.is told.0 told.1 told.2 c.pass_over.new.self (set c.args.settings.keeps_going c.if-not-settings.false) (rw c.in-Ok-false.field-0-test at c.in-Ok-false.ensures.passes) c.in-Ok-false.ensures.failed) in
-    record { settled = c.in-Ok-tell.ensures.settled; few = both.0; few_bytes = both.1 }
 
 pub returns-in-Ok-false-clause-passes : goal.returns-in-Ok-false-clause-passes
 returns-in-Ok-false-clause-passes g c =

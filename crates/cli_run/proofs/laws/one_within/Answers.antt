@@ -1,4 +1,4 @@
-use Rattle.cli_run.proofs.SameCuts.{one_within}
+use Rattle.cli_run.proofs.SameRuns.{one_within}
 use Rattle.cli_run.proofs.laws.one_within.Goals as goal
 
 pub returns : goal.returns

@@ -13,8 +13,8 @@ returns-in-Ok g c =
     let first : c.pass_through-ended.new.visitor.first.now ≡ c.first-1.given.0 = search rules in
     let second : c.pass_through-ended.new.visitor.second.now ≡ c.second-1.given.0 = search rules in
     let source : c.pass_through-ended.result.1.now ≡ c.reader-1.given.0 = search rules in
-    inl (ran g.W.Sink.held g.W.Sink.failures g.E.Sink.held g.E.Sink.failures _ c.pass_through-ended.new.visitor c.args.settings c.args.command own refl c.new-2.ensures g.R.Source.left g.R.Source.calls g.R.Source.failures
-    c.args.reads c.args.reader.now c.pass_through-ended.result.1.now c.is_check-is_check.result (c.is_check-is_check.ensures ∙ ap is_check own) source first second (rw c.in-Ok.is at c.pass_through-ended.ensures.settled) passes)
+    inl (ran g.W.Sink.held g.W.Sink.failures g.E.Sink.held g.E.Sink.failures _ c.pass_through-ended.new.visitor c.args.settings c.args.command own refl c.new-2.ensures first second g.R.Source.left g.R.Source.calls
+    g.R.Source.failures c.args.reads c.args.reader.now c.pass_through-ended.result.1.now c.is_check-is_check.result (c.is_check-is_check.ensures ∙ ap is_check own) source (rw c.in-Ok.is at c.pass_through-ended.ensures.settled) passes)
 
 pub returns : goal.returns
 returns g c =
@@ -30,7 +30,7 @@ returns g c =
       failed = c.tell_stop.ensures.failed;
       stop = c.in-Err.stop;
       before = c.second-1.given.0;
-      within = gave_up g.W.Sink.held g.W.Sink.failures g.E.Sink.held g.E.Sink.failures _ c.pass_through-ended.new.visitor c.args.settings c.args.command own refl c.new-2.ensures g.R.Source.left g.R.Source.calls g.R.Source.failures
-          c.args.reads c.args.reader.now c.pass_through-ended.result.1.now c.is_check-is_check.result checks source first second passes;
+      within = gave_up g.W.Sink.held g.W.Sink.failures g.E.Sink.held g.E.Sink.failures _ c.pass_through-ended.new.visitor c.args.settings c.args.command own refl c.new-2.ensures first second g.R.Source.left g.R.Source.calls
+          g.R.Source.failures c.args.reads c.args.reader.now c.pass_through-ended.result.1.now c.is_check-is_check.result checks source passes;
       tells = subst (λ (x : Bool). TellsStop g.E.Sink.held g.E.Sink.failures x c.in-Err.stop c.second-1.given.0 c.tell_stop.new.second) checks c.tell_stop.ensures.tells;
     })

@@ -1,5 +1,5 @@
-use Rattle.std.proofs.Common.{◌≡◌, rules, refl, subst}
-use Rattle.dbus_value_model.specs.declared.order.Order.{Order}
+use Rattle.std.proofs.Common.{◌≡◌, rules, refl}
+use Rattle.std.proofs.Math.Path.{transport}
 use Rattle.dbus_show.specs.ShownMessages.{message_text}
 use Rattle.cli_report.specs.Gathering.{Breaks, Passes, gathered_bytes}
 use Rattle.cli_run.proofs.LentSteps.{validated_whole}
@@ -11,8 +11,7 @@ returns-then-page g c = λ order m whole.
     let goes = c.write_message.ensures.shown m own.1 in
     let same = goes.same_first in
     let back : c.write_message.new.draft.first.now ≡ c.first-1.given.0 = search rules in
-    subst (λ (o : Order). Breaks g.W.Sink.held g.W.Sink.failures (message_text o m c.args.number) (gathered_bytes c.args.gathered.now) c.args.first.now c.first-1.given.0) own.0
-    (subst (λ (w : g.row.W.Denot). Breaks g.W.Sink.held g.W.Sink.failures (message_text c.args.validated.now.order m c.args.number) (gathered_bytes c.args.gathered.now) c.args.first.now w) back (goes.breaks refl c.if-page.true))
+    transport (λ i. Breaks g.W.Sink.held g.W.Sink.failures (message_text (own.0 i) m c.args.number) (gathered_bytes c.args.gathered.now) c.args.first.now (back i)) (goes.breaks refl c.if-page.true)
 
 pub returns-else-page : goal.returns-else-page
 returns-else-page g c = λ order m whole.
@@ -22,6 +21,4 @@ returns-else-page g c = λ order m whole.
     let too = goes.same_gathered in
     let back : c.write_message.new.draft.first.now ≡ c.first-1.given.0 = search rules in
     let kept : c.write_message.new.draft.gathered.now ≡ c.gathered-1.given.0 = search rules in
-    subst (λ (o : Order). Passes g.W.Sink.held g.W.Sink.failures (message_text o m c.args.number) (gathered_bytes c.args.gathered.now) (gathered_bytes c.gathered-1.given.0) c.args.first.now c.first-1.given.0) own.0
-    (subst (λ x. Passes g.W.Sink.held g.W.Sink.failures (message_text c.args.validated.now.order m c.args.number) (gathered_bytes c.args.gathered.now) (gathered_bytes x) c.args.first.now c.first-1.given.0) kept
-    (subst (λ (w : g.row.W.Denot). Passes g.W.Sink.held g.W.Sink.failures (message_text c.args.validated.now.order m c.args.number) (gathered_bytes c.args.gathered.now) (gathered_bytes c.write_message.new.draft.gathered.now) c.args.first.now w) back (goes.passes refl c.if-page.false)))
+    transport (λ i. Passes g.W.Sink.held g.W.Sink.failures (message_text (own.0 i) m c.args.number) (gathered_bytes c.args.gathered.now) (gathered_bytes (kept i)) c.args.first.now (back i)) (goes.passes refl c.if-page.false)

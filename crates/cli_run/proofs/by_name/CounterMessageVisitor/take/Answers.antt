@@ -1,5 +1,5 @@
 use Rattle.std.proofs.Common.{refl, rules}
-use Rattle.cli_run.specs.ToldLaws.{wrote_nothing}
+use Rattle.cli_run.specs.VisitorLaws.{wrote_nothing}
 use Rattle.cli_run.proofs.LentSteps.{views_it}
 use Rattle.cli_run.proofs.by_name.CounterMessageVisitor.take.Goals as goal
 

@@ -1,9 +1,10 @@
 use Rattle.std.proofs.Common.{◌≡◌, rules, refl, subst}
+use Rattle.std.proofs.Math.Path.{transport}
 use Rattle.dbus_value_model.specs.declared.order.Order.{Order}
 use Rattle.dbus_json.specs.JsonMessages.{IsJsonLine}
 use Rattle.cli_report.specs.Gathering.{Breaks, Passes, gathered_bytes}
 use Rattle.cli_run.proofs.LentSteps.{validated_whole}
-use Rattle.cli_run.proofs.json_lines.write_json_line.Goals as goal
+use Rattle.cli_run.proofs.showing.write_json_line.Goals as goal
 
 pub returns-then-page : goal.returns-then-page
 returns-then-page g c = λ order m whole.
@@ -15,7 +16,7 @@ returns-then-page g c = λ order m whole.
     let back : c.write_json.new.draft.first.now ≡ c.first-1.given.0 = search rules in (
       text,
       subst (λ (o : Order). IsJsonLine o m c.args.place.number c.args.place.offset text) own.0 written.1,
-      subst (λ (w : g.row.W.Denot). Breaks g.W.Sink.held g.W.Sink.failures text (gathered_bytes c.args.gathered.now) c.args.first.now w) back (goes.breaks refl c.if-page.true),
+      transport (λ i. Breaks g.W.Sink.held g.W.Sink.failures text (gathered_bytes c.args.gathered.now) c.args.first.now (back i)) (goes.breaks refl c.if-page.true),
     )
 
 pub returns-else-page : goal.returns-else-page
@@ -30,6 +31,5 @@ returns-else-page g c = λ order m whole.
     let kept : c.write_json.new.draft.gathered.now ≡ c.gathered-1.given.0 = search rules in (
       text,
       subst (λ (o : Order). IsJsonLine o m c.args.place.number c.args.place.offset text) own.0 written.1,
-      subst (λ x. Passes g.W.Sink.held g.W.Sink.failures text (gathered_bytes c.args.gathered.now) (gathered_bytes x) c.args.first.now c.first-1.given.0) kept
-          (subst (λ (w : g.row.W.Denot). Passes g.W.Sink.held g.W.Sink.failures text (gathered_bytes c.args.gathered.now) (gathered_bytes c.write_json.new.draft.gathered.now) c.args.first.now w) back (goes.passes refl c.if-page.false)),
+      transport (λ i. Passes g.W.Sink.held g.W.Sink.failures text (gathered_bytes c.args.gathered.now) (gathered_bytes (kept i)) c.args.first.now (back i)) (goes.passes refl c.if-page.false),
     )
