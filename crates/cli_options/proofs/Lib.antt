@@ -4,6 +4,5 @@ pub mod Learned
 pub mod Selections
 pub mod Nothing
 pub mod Numbers
-pub mod Options
 pub mod SameCommands
 pub mod Tells

@@ -1,21 +1,22 @@
 -- The command line of the program, as `clap` reads it: its name and then a subcommand with its
 -- words.
 use Rattle.std.specs.Prelude.{◌≡◌, ℕ, Some, true, false, codes, pos}
-use Rattle.clap.specs.Words.{App, Rule, Text, app_of, new_app, new_rule, with_rule, with_subcommand}
+use Rattle.clap.specs.Words.{App, Rule, Text, app_of, new_app, new_rule, rule_of, with_rule, with_subcommand}
 use Rattle.clap.specs.Simple.{on_top}
 use Rattle.clap.specs.declared.builder.action.ArgAction.TheVariants.{SetTrue, Append}
+use Rattle.clap.specs.declared.builder.arg.Arg.{Arg}
 use Rattle.clap.specs.declared.builder.command.Command.{Command}
 use Rattle.clap.specs.declared.builder.command.Command.TheViews.{out-Command}
 use Rattle.clap.specs.declared.builder.value_parser.ValueParser.TheVariants.{Signed}
 use Rattle.dbus_value_model.specs.declared.limits.TheConstants.{ARRAY_LIMIT, DEPTH_LIMIT, MESSAGE_LIMIT}
 
--- the option `--to`, which must be there, with one value
-abbrev pub to_rule : Rule
-to_rule = record (new_rule (codes "to")) { long = Some (codes "to"); value_names = 1; required = true }
+-- an option with one value
+abbrev pub word_rule : Text → Rule
+word_rule name = record (new_rule name) { long = Some name; value_names = 1 }
 
--- the option `--side`, which must be there, with one value
-abbrev pub side_rule : Rule
-side_rule = record (new_rule (codes "side")) { long = Some (codes "side"); value_names = 1; required = true }
+-- one that must be there
+abbrev pub needed_rule : Text → Rule
+needed_rule name = record (word_rule name) { required = true }
 
 -- the rules' texts, each one word, of which one must be there
 abbrev pub text_rule : Rule
@@ -25,25 +26,17 @@ text_rule = record (new_rule (codes "rule")) { value_names = 1; required = true;
 abbrev pub flag_rule : Text → Rule
 flag_rule name = record (new_rule name) { long = Some name; action = Some SetTrue }
 
--- the option `--owner`, with one value each time
+-- the option `--owner`, which may occur again and again
 abbrev pub owner_rule : Rule
-owner_rule = record (new_rule (codes "owner")) { long = Some (codes "owner"); value_names = 1; action = Some Append }
+owner_rule = record (word_rule (codes "owner")) { action = Some Append }
 
--- an option with one value, a number from 0 up to this one
+-- an option whose value is a number from 0 up to this one
 abbrev pub limit_rule : Text → ℕ → Rule
-limit_rule name most = record (new_rule name) { long = Some name; value_names = 1; parser = Some (Signed (pos 0) (pos most)) }
+limit_rule name most = record (word_rule name) { parser = Some (Signed (pos 0) (pos most)) }
 
 -- the most messages that `--skip` and `--limit` name: the greatest number of 32 bits
 abbrev pub most_messages : ℕ
 most_messages = 4294967295
-
--- the option `--fds`, with one value
-abbrev pub fds_rule : Rule
-fds_rule = record (new_rule (codes "fds")) { long = Some (codes "fds"); value_names = 1 }
-
--- the option `--handshake`, with one value
-abbrev pub handshake_rule : Rule
-handshake_rule = record (new_rule (codes "handshake")) { long = Some (codes "handshake"); value_names = 1 }
 
 -- the command with the options that each has: `--explain`, four for limits, and `--handshake`
 abbrev pub with_options : App → App
@@ -53,7 +46,7 @@ with_options app = with_rule
     (with_rule
     (with_rule (with_rule app (flag_rule (codes "explain"))) (limit_rule (codes "max-message") MESSAGE_LIMIT))
     (limit_rule (codes "max-array") ARRAY_LIMIT))
-    (limit_rule (codes "max-depth") DEPTH_LIMIT)) fds_rule) handshake_rule
+    (limit_rule (codes "max-depth") DEPTH_LIMIT)) (word_rule (codes "fds"))) (word_rule (codes "handshake"))
 
 -- and with `--keep-going`, which all but `swap` have
 abbrev pub with_keep_going : App → App
@@ -73,7 +66,7 @@ abbrev pub check_app : App
 check_app = with_keep_going (new_app (codes "check"))
 
 abbrev pub swap_app : App
-swap_app = with_options (with_rule (new_app (codes "swap")) to_rule)
+swap_app = with_options (with_rule (new_app (codes "swap")) (needed_rule (codes "to")))
 
 abbrev pub filter_app : App
 filter_app = with_window (with_rule (with_rule (with_rule (with_rule (new_app (codes "filter")) text_rule) (flag_rule (codes "invert"))) owner_rule) (flag_rule (codes "learn-owners")))
@@ -82,7 +75,7 @@ abbrev pub count_app : App
 count_app = with_keep_going (with_rule (new_app (codes "count")) (flag_rule (codes "json")))
 
 abbrev pub handshake_app : App
-handshake_app = with_rule (new_app (codes "handshake")) side_rule
+handshake_app = with_rule (new_app (codes "handshake")) (needed_rule (codes "side"))
 
 -- the program has a version, and one of the subcommands must be named
 abbrev pub bare_app : App
@@ -96,12 +89,12 @@ wire_app = with_subcommand
     (with_subcommand (with_subcommand (with_subcommand (with_subcommand bare_app show_app.top) json_app.top) check_app.top) count_app.top)
     swap_app.top) filter_app.top) handshake_app.top
 
+-- clap reads this of the argument, which no subcommand shares
+pub record IsArg (rule : Rule) (arg : Arg) : Type 0 where
+  pub rule_is : rule_of arg ≡ rule
+  pub local : arg.global ≡ false
+
 -- clap reads this of the command, and it has no argument that its subcommands share
 pub record IsLocal (app : App) (command : Command) : Type 0 where
   pub app_is : app_of command ≡ app
   pub local : (out-Command command).has_globals ≡ false
-
--- the command has more options after its own, and nothing else is new
-pub record Adds (more : App → App) (old new : Command) : Type 0 where
-  pub app_is : app_of new ≡ more (app_of old)
-  pub as_local : (out-Command new).has_globals ≡ (out-Command old).has_globals

@@ -1,0 +1,4 @@
+use Rattle.cli_options.proofs.wire.show_command.Goals as goal
+
+pub returns : goal.returns
+returns c = c.with_window.ensures _ c.bare.ensures
