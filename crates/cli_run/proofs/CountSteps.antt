@@ -1,6 +1,6 @@
 -- The messages of a source are counted as if they were handed to a visitor that makes nothing of
 -- them.
-use Rattle.std.proofs.Common.{◌≡◌, ℕ, ◌+◌, Bool, false, true, List, [], Option, None, Some, Result, Ok, Err, length, refl, sym, ap, ◌∙◌, inl, inr, arith, subst}
+use Rattle.std.proofs.Common.{◌≡◌, ℕ, ◌+◌, false, true, List, [], Option, None, Some, Result, Ok, Err, length, refl, sym, ◌∙◌, inl, inr, arith, subst}
 use Rattle.std.proofs.Math.Path.{transport}
 use Rattle.std.specs.Io.KnownBytes.{IsAtEnd}
 use Rattle.std.proofs.lemmas.Bool.{or_parts}

@@ -7,13 +7,11 @@ use Rattle.dbus_count.specs.declared.form.Form.{Form}
 use Rattle.dbus_device.specs.Write.{Wrote}
 use Rattle.cli_report.specs.Devices.{Writing, reading, taken, writing}
 use Rattle.cli_report.specs.declared.ending.ExitStatus.{ExitStatus}
-use Rattle.cli_run.specs.ByName.{CountsMessages, CountsThrough, EndsCount, IsUnwritten, LeavesCounted, after_messages, counting}
-use Rattle.cli_run.specs.Going.{GoesThrough, StopsWithin}
+use Rattle.cli_run.specs.ByName.{CountsMessages, CountsThrough, EndsCount, after_messages, counting}
+use Rattle.cli_run.specs.Going.{GoesThrough}
 use Rattle.cli_run.specs.Inputs.{Placed}
-use Rattle.cli_run.specs.Told.{GotSecond}
 use Rattle.cli_run.specs.declared.by_name.Counter.{Counter}
-use Rattle.cli_run.specs.declared.visitor.Stop.{Stop}
-use Rattle.cli_run.proofs.EndSteps.{goes_as, stops_as}
+use Rattle.cli_run.proofs.EndSteps.{goes_as}
 
 module _ {R W E : Type 0} (left : R → Option (List ℕ)) (calls read_failures : R → ℕ) (held : E → Option (List ℕ)) (failures : E → ℕ) (w : Writing W) (settings : Settings) (form : Form) (most : ℕ) (r0 r1 : R)
     (a b : Counter E) {r2 : R} {e1 : E} (source : r1 ≡ r2) (second : b.second.now ≡ e1) where

@@ -6,7 +6,7 @@ use Rattle.std.proofs.lemmas.List.{length-drop}
 use Rattle.dbus_texts.specs.Types.{NumberCode, BOOLEAN, UNIX_FD, TypeTree, NumberType, TextType, VariantType, ArrayType, StructType, EntryType, TypeTrees, NoTypes, MoreTypes, IsShaped, AreShaped}
 use Rattle.dbus_types.specs.Alignments.{width, length_width, alignment_of}
 use Rattle.dbus_texts.proofs.KindFacts.{shaped_of}
-use Rattle.dbus_value_model.specs.WantedTexts.{WantedText, IsWanted, Of, Only, kind_of}
+use Rattle.dbus_value_model.specs.WantedTexts.{WantedText, IsWanted, Of, kind_of}
 use Rattle.dbus_value_model.specs.ComputedTexts.{is_kind, break_at}
 use Rattle.dbus_value_model.specs.Bytes.{gap_to}
 use Rattle.dbus_value_model.specs.Items.{fault, text_reason}
