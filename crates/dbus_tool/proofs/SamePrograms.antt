@@ -21,7 +21,7 @@ use Rattle.cli_options.specs.declared.asked.Asked.TheVariants.{Messages, Count, 
 use Rattle.cli_options.specs.declared.form.Form.{Form}
 use Rattle.dbus_handshake_input.specs.declared.side.Side.{Side}
 use Rattle.cli_options.specs.declared.command.Command.{Command}
-use Rattle.cli_options.specs.declared.command.Command.TheVariants.{Show, Json, Check, Swap, Filter}
+use Rattle.cli_options.specs.declared.command.Command.TheVariants.{Filter}
 use Rattle.cli_options.specs.declared.settings.Settings.{Settings}
 use Rattle.cli_options.specs.declared.usage_fault.RefusedRule.{RefusedRule}
 use Rattle.cli_options.specs.declared.usage_fault.UsageFault.{UsageFault}
@@ -31,6 +31,7 @@ use Rattle.cli_report.specs.declared.ending.ExitStatus.{ExitStatus}
 use Rattle.cli_report.specs.declared.ending.ExitStatus.TheVariants as status
 use Rattle.cli_run.specs.Alike.{EndAlike, ReadAlike}
 use Rattle.cli_run.specs.Output.{IsExact}
+use Rattle.cli_run.proofs.SameOutputs.{acts_as}
 use Rattle.cli_run.proofs.SameRuns.{one_count, one_run}
 use Rattle.dbus_tool.specs.Alike.{IsOneWay, NameOneWay, OneProgram}
 use Rattle.dbus_tool.specs.Handshaking.{TakesHandshake, ahead}
@@ -76,17 +77,9 @@ module _ {R W E : Type 0} (left : R → Option (List ℕ)) (calls failures : R �
 
 -- ---- what is done in one way
 
-exact_too : (a b : Command) → AreSameCommand a b → IsExact a → IsExact b
-exact_too Show Show h exact = tt
-exact_too Json Json h exact = exact
-exact_too Check Check h exact = tt
-exact_too (Swap x) (Swap y) h exact = tt
-exact_too (Filter x) (Filter y) h exact = tt
-exact_too a b h exact = absurd h
-
 one_way_too : (a b : Asked) → AreSameAsked a b → IsOneWay a → IsOneWay b
 one_way_too (Messages c s) (Messages d t) h one =
-    (exact_too c d h.0 one.0, subst (λ (x : Settings). x.explains ≡ false) h.1 one.1, subst (λ (x : Settings). x.handshake ≡ None) h.1 one.2)
+    ((acts_as c d h.0).exact one.0, subst (λ (x : Settings). x.explains ≡ false) h.1 one.1, subst (λ (x : Settings). x.handshake ≡ None) h.1 one.2)
 one_way_too (Count s f) (Count t g) h one = (subst (λ (x : Settings). x.explains ≡ false) h.0 one.0, subst (λ (x : Settings). x.handshake ≡ None) h.0 one.1)
 one_way_too (Handshake a) b h one = absurd one
 one_way_too (Messages c s) (Count t g) h one = absurd h
