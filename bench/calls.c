@@ -66,7 +66,7 @@ static int build(void) {
 static int matching(void) {
     static struct dbus_wire_rule_id found[ROOM];
     uint64_t count;
-    return dbus_wire_rules_matching(&rules, bytes, length, NULL, NULL, 0, found, ROOM, &count) == DBUS_WIRE_WHOLE;
+    return dbus_wire_rules_matching(&rules, bytes, length, NULL, found, ROOM, &count) == DBUS_WIRE_WHOLE;
 }
 
 static void measure(const char *name, int (*call)(void)) {

@@ -24,7 +24,7 @@ RULES = (
     ("type='method_call',member='Hello'",),
     ("sender='org.freedesktop.DBus', interface=org.freedesktop.DBus",),
     ("sender='org.example.Lab'",),
-    ("sender='org.example.Lab'", "org.example.Go=:1.5", "org.example.Lab=:1.3", "org.example.Lab=:1.4"),
+    ("sender='org.example.Lab'", "org.example.Go=:1.5", "org.example.Lab=:1.4"),
     ("path_namespace='/org/freedesktop'",),
     ("arg0namespace='org'",),
     ("arg0='it'\\''s',eavesdrop='true'",),

@@ -416,18 +416,32 @@ class Rules(unittest.TestCase):
     def test_each_case_of_a_message(self):
         for name, text, owners, *columns, said in read_cases(CASES / "matches.txt"):
             with self.subTest(name), Rule(read_bytes(text)) as rule:
-                owners = dict(word.split("=") for word in owners.split())
+                for word in owners.split():
+                    rule.set_owner(*word.split("="))
                 for message in (Message.parse(read_bytes(column)) for column in columns if column):
-                    self.assertEqual(rule.matches(message, owners), said == "yes")
+                    self.assertEqual(rule.matches(message), said == "yes")
 
     def test_texts_that_are_no_rules(self):
         for text, fault in (("type", "rule refused at 4: NoEquals"), (b"arg0=\xff", "rule refused at 5: NotUtf8")):
             self.assertRaisesRegex(BadRule, fault, Rule, text)
         self.assertEqual(str(Rule("arg0=" + "x" * 1000)), f"arg0='{'x' * 1000}'")
 
-    def test_owners_that_are_no_names(self):
+    def test_owners_that_change(self):
         message = Message.parse(SESSION[:169])
-        self.assertRaises(ValueError, Rule("").matches, message, {"org.a.B\norg.a.C": ":1.1"})
+        with Rule("sender='org.a.B'") as rule:
+            for name, owner, matches in (
+                ("org.a.C", message.sender, False),
+                ("org.a.B", message.sender, True),
+                ("org.a.B", ":1.7", False),
+                ("org.a.B", message.sender, True),
+                ("org.a.B", None, False),
+            ):
+                rule.set_owner(name, owner)
+                self.assertEqual(rule.matches(message), matches)
+
+    def test_owners_that_are_no_names(self):
+        for name, owner in (("org.a.B\norg.a.C", ":1.1"), ("", ":1.1"), ("org.a.B", "b"), ("\ud800", None)):
+            self.assertRaises(ValueError, Rule("").set_owner, name, owner)
 
     def test_a_closed_rule(self):
         with Rule("") as rule:

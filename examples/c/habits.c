@@ -109,7 +109,7 @@ static void reasons(const char *prefix, size_t (*name_of)(uint32_t, uint8_t *, s
 }
 
 static void rules(void) {
-    static const uint8_t text[] = "type='signal',arg0='hi'", not_utf8[] = "arg0=\xFF";
+    static const uint8_t text[] = "type='signal',arg0='hi'", not_utf8[] = "arg0=\xFF", name[] = "org.a.B", owner[] = ":1.7";
     struct dbus_wire_rules rules = {0};
     struct dbus_wire_rule_id signals = {0, 0, 0}, all = {0, 0, 0}, found[2];
     struct dbus_wire_rule_refused told;
@@ -117,24 +117,30 @@ static void rules(void) {
 
     expect(dbus_wire_rules_remove(&rules, &signals) == DBUS_WIRE_NO_RULE, "there is no rule");
     expect(dbus_wire_rules_text(&rules, &signals, NULL, 0, &length) == DBUS_WIRE_NO_RULE && length == 7, "and no text is written");
-    expect(dbus_wire_rules_matching(&rules, SIGNAL, SIGNAL_LENGTH, NULL, NULL, 0, NULL, 0, &count) == DBUS_WIRE_WHOLE && count == 0,
+    expect(dbus_wire_rules_matching(&rules, SIGNAL, SIGNAL_LENGTH, NULL, NULL, 0, &count) == DBUS_WIRE_WHOLE && count == 0,
            "without rules none matches");
+    expect(dbus_wire_rules_owner(&rules, NULL, 0, owner, sizeof owner - 1) == DBUS_WIRE_REFUSED &&
+               dbus_wire_rules_owner(&rules, name, sizeof name - 1, not_utf8, sizeof not_utf8 - 1) == DBUS_WIRE_REFUSED,
+           "these are no names");
     expect(dbus_wire_rules_add(&rules, not_utf8, sizeof not_utf8 - 1, &signals, &told) == DBUS_WIRE_REFUSED, "a rule is UTF-8");
     expect(told.reason == DBUS_WIRE_RULE_REASON_NOT_UTF8 && told.offset == 5 && rules.inner == NULL, "the last byte is not");
     expect(dbus_wire_rules_add(&rules, text, sizeof text - 1, &signals, &told) == DBUS_WIRE_OK, "this is a rule");
-    expect(dbus_wire_rules_matching(&rules, SIGNAL, SIGNAL_LENGTH - 1, NULL, NULL, 0, found, 2, &length) == DBUS_WIRE_PARTIAL &&
+    expect(dbus_wire_rules_matching(&rules, SIGNAL, SIGNAL_LENGTH - 1, NULL, found, 2, &length) == DBUS_WIRE_PARTIAL &&
                length == 7,
            "a front is partial, by rules");
-    expect(dbus_wire_rules_matching(&rules, SIGNAL, SIGNAL_LENGTH, NULL, NULL, 0, found, 2, &count) == DBUS_WIRE_WHOLE && count == 1 &&
+    expect(dbus_wire_rules_matching(&rules, SIGNAL, SIGNAL_LENGTH, NULL, found, 2, &count) == DBUS_WIRE_WHOLE && count == 1 &&
                found[0].number == signals.number,
            "it matches the signal");
     expect(dbus_wire_rules_add(&rules, NULL, 0, &all, &told) == DBUS_WIRE_OK, "no text is the rule without keys");
     expect(dbus_wire_rules_text(&rules, &all, NULL, 0, &length) == DBUS_WIRE_NO_ROOM && length == 0, "whose text is empty");
-    expect(dbus_wire_rules_matching(&rules, SIGNAL, SIGNAL_LENGTH, NULL, NULL, 0, found, 1, &count) == DBUS_WIRE_NO_ROOM && count == 2,
+    expect(dbus_wire_rules_matching(&rules, SIGNAL, SIGNAL_LENGTH, NULL, found, 1, &count) == DBUS_WIRE_NO_ROOM && count == 2,
            "both match the signal, and one has room");
+    expect(dbus_wire_rules_owner(&rules, name, sizeof name - 1, owner, sizeof owner - 1) == DBUS_WIRE_OK &&
+               dbus_wire_rules_owner(&rules, name, sizeof name - 1, NULL, 0) == DBUS_WIRE_OK,
+           "an owner comes and goes");
     expect(dbus_wire_rules_remove(&rules, &signals) == DBUS_WIRE_OK && dbus_wire_rules_remove(&rules, &signals) == DBUS_WIRE_NO_RULE,
            "a rule is removed once");
-    expect(dbus_wire_rules_matching(&rules, SIGNAL, SIGNAL_LENGTH, NULL, NULL, 0, found, 1, &count) == DBUS_WIRE_WHOLE && count == 1 &&
+    expect(dbus_wire_rules_matching(&rules, SIGNAL, SIGNAL_LENGTH, NULL, found, 1, &count) == DBUS_WIRE_WHOLE && count == 1 &&
                found[0].number == all.number,
            "the other is left");
     dbus_wire_rules_free(&rules);

@@ -93,7 +93,7 @@ static void deny(const struct peer *client, const struct dbus_wire_parts *call) 
 
 static int is_denied(const struct peer *client, const struct dbus_wire_parts *parts) {
     uint64_t count;
-    uint32_t answer = dbus_wire_rules_matching(&rules, client->bytes, (size_t)parts->length, &limits, NULL, 0, NULL, 0, &count);
+    uint32_t answer = dbus_wire_rules_matching(&rules, client->bytes, (size_t)parts->length, &limits, NULL, 0, &count);
     if (answer != DBUS_WIRE_WHOLE && answer != DBUS_WIRE_NO_ROOM) fail("out of memory");
     return count > 0;
 }

@@ -1,6 +1,6 @@
 /* Writes those D-Bus messages on standard input that a match rule matches, as
  * `dbus-wire filter RULE` does: the first word is the rule, and each further one an owner of a
- * name, as org.a.B=:1.7. The exit status is 2 if the rule is refused, and 1 if the input is. The
+ * name, as org.a.B=:1.7. The exit status is 2 if a word is refused, and 1 if the input is. The
  * rule's canonical text has to make the rule that it is of. */
 #include <dbus_wire.h>
 
@@ -32,31 +32,33 @@ static int add_again(struct dbus_wire_rules *rules, struct dbus_wire_rule_id *id
            dbus_wire_rules_text(rules, id, (uint8_t *)again, sizeof again, &other) == DBUS_WIRE_OK && strcmp(text, again) == 0;
 }
 
-/* The owners as one text, each a line. Returns its length. */
-static size_t owner_lines(int count, char **owners, char *text, size_t room) {
-    size_t length = 0;
-    int i;
-    for (i = 0; i < count && length < room; i++) length += (size_t)snprintf(text + length, room - length, "%s\n", owners[i]);
-    return length < room ? length : 0;
+/* Notes the owner of a name, as org.a.B=:1.7. */
+static uint32_t note(struct dbus_wire_rules *rules, const char *word) {
+    const char *sign = strchr(word, '=');
+    if (sign == NULL) return DBUS_WIRE_REFUSED;
+    return dbus_wire_rules_owner(rules, (const uint8_t *)word, (size_t)(sign - word), (const uint8_t *)sign + 1, strlen(sign + 1));
 }
 
 int main(int count_of_words, char **words) {
     static uint8_t bytes[1 << 20];
-    static char owners[1 << 16];
     struct dbus_wire_rules rules = {0};
     struct dbus_wire_rule_id id, found;
     struct dbus_wire_checked told;
     uint64_t matches = 0;
-    size_t count, at = 0, owners_length;
+    size_t count, at = 0;
+    int i;
 
     if (count_of_words < 2 || add(&rules, words[1], strlen(words[1]), &id) != DBUS_WIRE_OK) return 2;
     if (!add_again(&rules, &id)) return 4;
-    owners_length = owner_lines(count_of_words - 2, words + 2, owners, sizeof owners);
+    for (i = 2; i < count_of_words; i++)
+        switch (note(&rules, words[i])) {
+        case DBUS_WIRE_OK: break;
+        case DBUS_WIRE_REFUSED: return 2;
+        default: return 3;
+        }
     count = fread(bytes, 1, sizeof bytes, stdin);
     while (at < count && dbus_wire_check(bytes + at, count - at, NULL, &told) == DBUS_WIRE_WHOLE) {
-        if (dbus_wire_rules_matching(&rules, bytes + at, count - at, NULL, (const uint8_t *)owners, owners_length, &found, 1,
-                                     &matches) != DBUS_WIRE_WHOLE)
-            return 3;
+        if (dbus_wire_rules_matching(&rules, bytes + at, count - at, NULL, &found, 1, &matches) != DBUS_WIRE_WHOLE) return 3;
         if (matches > 0) {
             if (found.number != id.number) return 4;
             fwrite(bytes + at, 1, (size_t)told.length, stdout);
@@ -64,7 +66,7 @@ int main(int count_of_words, char **words) {
         at += (size_t)told.length;
     }
     dbus_wire_rules_free(&rules);
-    if (dbus_wire_rules_matching(&rules, bytes, at, NULL, NULL, 0, &found, 1, &matches) != (at > 0 ? DBUS_WIRE_WHOLE : DBUS_WIRE_PARTIAL) ||
+    if (dbus_wire_rules_matching(&rules, bytes, at, NULL, &found, 1, &matches) != (at > 0 ? DBUS_WIRE_WHOLE : DBUS_WIRE_PARTIAL) ||
         (at > 0 && matches > 0))
         return 4;
     return at < count;

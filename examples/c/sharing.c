@@ -35,7 +35,7 @@ static void ask(struct asker *asker) {
     size_t at = 0, next;
     asker->matches = 0;
     while ((next = (size_t)dbus_wire_wanted(bytes + at, length - at, NULL)) > 0 && next <= length - at) {
-        asker->answer = dbus_wire_rules_matching(&asker->rules, bytes + at, next, NULL, NULL, 0, found, RULES, &count);
+        asker->answer = dbus_wire_rules_matching(&asker->rules, bytes + at, next, NULL, found, RULES, &count);
         if (asker->answer != DBUS_WIRE_WHOLE) return;
         asker->matches += (size_t)count;
         at += next;
@@ -81,6 +81,7 @@ static void on_shared(struct dbus_wire_rules *rules, struct dbus_wire_rules *oth
     expect(add(other, "member='A'", &none) == DBUS_WIRE_SHARED, "no rule is added to shared rules");
     expect(dbus_wire_rules_remove(rules, id) == DBUS_WIRE_SHARED && dbus_wire_rules_remove(other, &none) == DBUS_WIRE_SHARED,
            "none is removed");
+    expect(dbus_wire_rules_owner(rules, (const uint8_t *)"org.a.B", 7, NULL, 0) == DBUS_WIRE_SHARED, "no owner is noted");
     answer = dbus_wire_rules_text(rules, id, one, sizeof one, &first);
     if (answer == DBUS_WIRE_NO_MEMORY) out_of_memory();
     if (dbus_wire_rules_text(other, id, two, sizeof two, &second) == DBUS_WIRE_NO_MEMORY) out_of_memory();

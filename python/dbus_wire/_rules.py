@@ -5,7 +5,7 @@ from __future__ import annotations
 import ctypes
 import threading
 import weakref
-from collections.abc import Iterator, Mapping
+from collections.abc import Iterator
 from contextlib import contextmanager
 from ctypes import byref
 from types import TracebackType
@@ -14,7 +14,6 @@ from . import _library
 from ._library import NO_MEMORY, NO_ROOM, REFUSED, SHARED, Bytes, as_bytes, library
 from ._limits import limits_struct
 from ._messages import Message
-from ._texts import TextKind, check_text
 
 
 class BadRule(ValueError):
@@ -34,8 +33,8 @@ class BadRule(ValueError):
 
 
 class RuleSet:
-    """Match rules, each with a number; those that match a message are found without asking each of
-    them.
+    """Match rules, each with a number, and the owners of names, which a rule's `sender` is compared
+    with; the rules that match a message are found without asking each of them.
 
     It may be shared by threads, whose calls wait for each other; those of sets that `share` makes
     do not. `close`, or the end of a `with`, frees it; ValueError is raised by its other calls from
@@ -43,7 +42,8 @@ class RuleSet:
 
         rules = RuleSet()
         number = rules.add("type='signal',sender='org.a.B'")
-        wanted = [message for message in messages(capture) if number in rules.matching(message, {"org.a.B": ":1.7"})]
+        rules.set_owner("org.a.B", ":1.7")
+        wanted = [message for message in messages(capture) if number in rules.matching(message)]
     """
 
     __slots__ = ("_handle", "_ids", "_lock", "_free", "__weakref__")
@@ -73,25 +73,36 @@ class RuleSet:
             _raise_if_failed(library.dbus_wire_rules_remove(byref(self._handle), byref(self._ids[number])))
             del self._ids[number]
 
+    def set_owner(self, name: str, owner: str | None) -> None:
+        """Notes the owner of the name, a unique name, in place of the one that was noted before;
+        None or an empty text: the name has none from then on. Raises ValueError if one of the two
+        is no bus name."""
+        names = [text.encode("utf-8", "surrogatepass") for text in (name, owner or "")]
+        with self._open():
+            answer = library.dbus_wire_rules_owner(byref(self._handle), *(word for data in names for word in (data, len(data))))
+        _raise_if_failed(answer)
+        if answer == REFUSED:
+            raise ValueError(f"{name!r} or {owner!r} is no bus name")
+
     def share(self) -> RuleSet:
-        """A set of the same rules, by the same numbers, for another thread: no rule is copied. From
-        then on neither changes: `add` and `remove` raise ValueError."""
+        """A set of the same rules, by the same numbers, with the same owners of names, for another
+        thread: nothing is copied. From then on neither changes: `add`, `remove` and `set_owner`
+        raise ValueError."""
         other = RuleSet()
         with self._open():
             _raise_if_failed(library.dbus_wire_rules_share(byref(self._handle), byref(other._handle)))
             other._ids.update(self._ids)
         return other
 
-    def matching(self, message: Message, owners: Mapping[str, str] | None = None) -> list[int]:
+    def matching(self, message: Message) -> list[int]:
         """The numbers of the rules each key of which holds of the message. A `sender` that is a
-        well-known name matches a message whose sender is that name itself, or its owner's unique
-        name by the owners. Raises ValueError if the owners have texts that are no bus names."""
-        lines, count = _owner_lines(owners or {}), ctypes.c_uint64()
-        data = message.data
+        well-known name matches a message whose sender is that name itself, or the owner of it that
+        `set_owner` noted."""
+        data, count = message.data, ctypes.c_uint64()
         with self._open():
             found = (_library.RuleId * len(self._ids))()
             answer = library.dbus_wire_rules_matching(
-                byref(self._handle), data, len(data), byref(limits_struct(None)), lines, len(lines), found, len(found), byref(count)
+                byref(self._handle), data, len(data), byref(limits_struct(None)), found, len(found), byref(count)
             )
         _raise_if_failed(answer)
         return [rule.number for rule in found[: count.value]]
@@ -136,7 +147,8 @@ class Rule:
     it is its canonical text.
 
         with Rule("type='signal',sender='org.a.B'") as rule:
-            wanted = [message for message in messages(capture) if rule.matches(message, {"org.a.B": ":1.7"})]
+            rule.set_owner("org.a.B", ":1.7")
+            wanted = [message for message in messages(capture) if rule.matches(message)]
 
     It is a RuleSet of one rule, with the same errors.
     """
@@ -148,9 +160,13 @@ class Rule:
         self._rules = RuleSet()
         self._number = self._rules.add(text)
 
-    def matches(self, message: Message, owners: Mapping[str, str] | None = None) -> bool:
+    def set_owner(self, name: str, owner: str | None) -> None:
+        """Notes the owner of the name, as `RuleSet.set_owner` does."""
+        self._rules.set_owner(name, owner)
+
+    def matches(self, message: Message) -> bool:
         """Whether each key of the rule holds of the message, as `RuleSet.matching` says."""
-        return bool(self._rules.matching(message, owners))
+        return bool(self._rules.matching(message))
 
     def __str__(self) -> str:
         return self._rules.text(self._number)
@@ -164,13 +180,6 @@ class Rule:
 
     def __exit__(self, kind: type[BaseException] | None, error: BaseException | None, traceback: TracebackType | None) -> None:
         self.close()
-
-
-def _owner_lines(owners: Mapping[str, str]) -> bytes:
-    for text in (*owners, *owners.values()):
-        if check_text(TextKind.BUS_NAME, text) is not None:
-            raise ValueError(f"{text!r} is no bus name")
-    return "".join(f"{name}={owner}\n" for name, owner in owners.items()).encode("utf-8")
 
 
 def _name_of(reason: int) -> str:

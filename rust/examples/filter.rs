@@ -6,16 +6,7 @@ use std::error::Error;
 use std::io::{self, Read, Write};
 use std::process::ExitCode;
 
-use dbus_wire::{Message, Owners, Rule, RuleError};
-
-fn owners(words: impl Iterator<Item = String>) -> Result<Owners, Box<dyn Error>> {
-    let mut owners = Owners::default();
-    for word in words {
-        let (name, owner) = word.split_once('=').ok_or("an owner is NAME=UNIQUE")?;
-        owners.add(name, owner)?;
-    }
-    Ok(owners)
-}
+use dbus_wire::{Message, Rule, RuleError};
 
 fn main() -> Result<ExitCode, Box<dyn Error>> {
     let mut words = std::env::args().skip(1);
@@ -27,14 +18,17 @@ fn main() -> Result<ExitCode, Box<dyn Error>> {
         }
         Err(other) => return Err(other.into()),
     };
-    let owners = owners(words)?;
+    for word in words {
+        let (name, owner) = word.split_once('=').ok_or("an owner is NAME=UNIQUE")?;
+        rule.set_owner(name, owner)?;
+    }
     let mut bytes = Vec::new();
     io::stdin().read_to_end(&mut bytes)?;
     let mut out = io::BufWriter::new(io::stdout().lock());
     let mut rest = &bytes[..];
     while !rest.is_empty() {
         let message = Message::parse(rest)?;
-        if rule.matches(&message, &owners)? {
+        if rule.matches(&message)? {
             out.write_all(message.bytes())?;
         }
         rest = &rest[message.bytes().len()..];

@@ -27,8 +27,8 @@
 //!   [`rebuild`] changes one, and keeps its header fields in their places.
 //! * [`byteswap`] writes a message in the other byte order, and [`check_text`] checks names,
 //!   signatures and other texts.
-//! * A match [`Rule`], or a [`RuleSet`] of many, says which messages a program wants; [`Owners`]
-//!   says who owns the names that they ask for. Threads ask [`SharedRules`] at the same time.
+//! * A match [`Rule`], or a [`RuleSet`] of many, says which messages a program wants, and keeps who
+//!   owns the names that they ask for. Threads ask [`SharedRules`] at the same time.
 //! * [`Server`] and [`Client`] are the ends of the authentication handshake, and [`client_line`]
 //!   and [`server_line`] give the lines of one between others.
 //! * [`Limits`] are those that a message has to keep, and a [`Fault`] says where and why bytes are
@@ -74,7 +74,7 @@ pub use handshake::{Client, External, HandshakeError, Server, Status, Step};
 pub use limits::{Descriptors, Limits};
 pub use line::{client_line, server_line, Command, Line, LineFault};
 pub use message::{Flags, Kind, Message};
-pub use rule::{Owners, Rule, RuleError, RuleFault, RuleId, RuleSet, SharedRules};
+pub use rule::{OwnerError, Rule, RuleError, RuleFault, RuleId, RuleSet, SharedRules};
 pub use swap::{byteswap, SwapError};
 pub use sys::dbus_wire_flat_item as FlatItem;
 pub use text::{check_text, TextFault, TextKind};

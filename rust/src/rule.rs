@@ -44,47 +44,44 @@ impl fmt::Display for RuleError {
 
 impl Error for RuleError {}
 
-/// Well-known names and the unique names of their owners, which a rule's `sender` is compared with.
-///
-/// ```
-/// use dbus_wire::Owners;
-///
-/// let mut owners = Owners::default();
-/// owners.add("org.a.B", ":1.7")?;
-/// # Ok::<(), dbus_wire::TextFault>(())
-/// ```
-#[derive(Clone, Debug, Default)]
-pub struct Owners {
-    // A line for each, as the library takes them.
-    lines: String,
+/// Why the owner of a name is not noted.
+#[derive(Clone, Copy, Debug, PartialEq, Eq, Hash)]
+pub enum OwnerError {
+    /// The name is no bus name, or the owner neither a bus name nor empty: the fault of the first
+    /// of the two that has one.
+    Refused(TextFault),
+    /// There is no memory for it.
+    OutOfMemory,
 }
 
-impl Owners {
-    /// Adds a name and its owner. Both are bus names; else the fault of the first that is none.
-    pub fn add(&mut self, name: &str, owner: &str) -> Result<(), TextFault> {
-        for text in [name, owner] {
-            check_text(TextKind::BusName, text.as_bytes())?;
+impl fmt::Display for OwnerError {
+    fn fmt(&self, f: &mut fmt::Formatter<'_>) -> fmt::Result {
+        match self {
+            OwnerError::Refused(fault) => fault.fmt(f),
+            OwnerError::OutOfMemory => OutOfMemory.fmt(f),
         }
-        self.lines += &format!("{name}={owner}\n");
-        Ok(())
     }
 }
+
+impl Error for OwnerError {}
 
 /// The id of a rule: it stands for the rule in the [`RuleSet`] that it was added to, and for no
 /// other rule of that set.
 #[derive(Clone, Copy, Debug, PartialEq, Eq, Hash)]
 pub struct RuleId(sys::dbus_wire_rule_id);
 
-/// Match rules. Those that match a message are found without asking each of them.
+/// Match rules, and the owners of names, which a rule's `sender` is compared with. The rules that
+/// match a message are found without asking each of them.
 ///
 /// ```
-/// use dbus_wire::{Message, Owners, RuleSet};
+/// use dbus_wire::{Message, RuleSet};
 ///
 /// # let signal = b"l\x04\0\x01\0\0\0\0\x01\0\0\0\x2a\0\0\0\x01\x01o\0\x01\0\0\0/\0\0\0\0\0\0\0\x02\x01s\0\x03\0\0\0a.b\0\0\0\0\0\x03\x01s\0\x01\0\0\0c\0\0\0\0\0\0\0";
 /// let mut rules = RuleSet::default();
 /// let (signals, errors) = (rules.add("type='signal',member=c")?, rules.add("type='error'")?);
-/// assert_eq!(rules.matching(&Message::parse(signal)?, &Owners::default())?, [signals]);
+/// assert_eq!(rules.matching(&Message::parse(signal)?)?, [signals]);
 /// assert!(rules.remove(errors) && !rules.remove(errors));
+/// rules.set_owner("org.a.B", ":1.7")?;
 /// # Ok::<(), Box<dyn std::error::Error>>(())
 /// ```
 #[derive(Debug)]
@@ -133,10 +130,27 @@ impl RuleSet {
         was
     }
 
+    /// Notes the owner of a name, a unique name, in place of the one that was noted before; an
+    /// empty text: the name has none from then on. After an error the set has the owners that it
+    /// had.
+    pub fn set_owner(&mut self, name: &str, owner: &str) -> Result<(), OwnerError> {
+        // SAFETY: slices and a reference, as `sys` says; only calls write `raw`.
+        let answer = unsafe { sys::dbus_wire_rules_owner(&mut self.raw, name.as_ptr(), name.len(), owner.as_ptr(), owner.len()) };
+        match answer {
+            sys::DBUS_WIRE_OK => Ok(()),
+            sys::DBUS_WIRE_REFUSED => {
+                let is = |text: &str| check_text(TextKind::BusName, text.as_bytes()).map(drop);
+                Err(OwnerError::Refused(is(name).and_then(|()| is(owner)).expect_err("one is no name")))
+            }
+            _ => Err(OwnerError::OutOfMemory),
+        }
+    }
+
     /// The rules each key of which holds of the message. A `sender` that is a well-known name
-    /// matches a message whose SENDER is that name itself, or that of its owner.
-    pub fn matching(&mut self, message: &Message<'_>, owners: &Owners) -> Result<Vec<RuleId>, OutOfMemory> {
-        let (bytes, owners, mut count) = (message.bytes(), owners.lines.as_bytes(), 0);
+    /// matches a message whose SENDER is that name itself, or that of its owner, which
+    /// [`RuleSet::set_owner`] noted.
+    pub fn matching(&mut self, message: &Message<'_>) -> Result<Vec<RuleId>, OutOfMemory> {
+        let (bytes, mut count) = (message.bytes(), 0);
         let mut ids = vec![sys::dbus_wire_rule_id::default(); self.count];
         // SAFETY: slices and references, as `sys` says; only calls write `raw`.
         let answer = unsafe {
@@ -145,8 +159,6 @@ impl RuleSet {
                 bytes.as_ptr(),
                 bytes.len(),
                 &Limits::default().raw(),
-                owners.as_ptr(),
-                owners.len(),
                 ids.as_mut_ptr(),
                 ids.len(),
                 &mut count,
@@ -187,13 +199,13 @@ impl Drop for RuleSet {
     }
 }
 
-/// Match rules that stay as they are, and that many threads may ask at the same time: each by a
-/// `SharedRules` of its own, which [`SharedRules::share`] makes without copying a rule. The last of
-/// them frees the rules.
+/// Match rules that stay as they are, and the owners of names with them, which many threads may ask
+/// at the same time: each by a `SharedRules` of its own, which [`SharedRules::share`] makes without
+/// copying a rule. The last of them frees the rules.
 ///
 /// ```
 /// use std::thread;
-/// use dbus_wire::{Message, Owners, RuleSet, SharedRules};
+/// use dbus_wire::{Message, RuleSet, SharedRules};
 ///
 /// # let signal = b"l\x04\0\x01\0\0\0\0\x01\0\0\0\x2a\0\0\0\x01\x01o\0\x01\0\0\0/\0\0\0\0\0\0\0\x02\x01s\0\x03\0\0\0a.b\0\0\0\0\0\x03\x01s\0\x01\0\0\0c\0\0\0\0\0\0\0";
 /// let mut rules = RuleSet::default();
@@ -202,8 +214,8 @@ impl Drop for RuleSet {
 /// let mut other = one.share()?;
 /// let message = Message::parse(signal)?;
 /// thread::scope(|scope| {
-///     scope.spawn(|| assert_eq!(one.matching(&message, &Owners::default()), Ok(vec![signals])));
-///     assert_eq!(other.matching(&message, &Owners::default()), Ok(vec![signals]));
+///     scope.spawn(|| assert_eq!(one.matching(&message), Ok(vec![signals])));
+///     assert_eq!(other.matching(&message), Ok(vec![signals]));
 /// });
 /// # Ok::<(), Box<dyn std::error::Error>>(())
 /// ```
@@ -234,8 +246,8 @@ impl SharedRules {
     }
 
     /// The rules each key of which holds of the message, as [`RuleSet::matching`] says.
-    pub fn matching(&mut self, message: &Message<'_>, owners: &Owners) -> Result<Vec<RuleId>, OutOfMemory> {
-        self.rules.matching(message, owners)
+    pub fn matching(&mut self, message: &Message<'_>) -> Result<Vec<RuleId>, OutOfMemory> {
+        self.rules.matching(message)
     }
 
     /// The canonical text of the rule, as [`RuleSet::text`] gives it.
@@ -247,11 +259,11 @@ impl SharedRules {
 /// A match rule by itself: which messages a program wants. It is a [`RuleSet`] of one rule.
 ///
 /// ```
-/// use dbus_wire::{Message, Owners, Rule};
+/// use dbus_wire::{Message, Rule};
 ///
 /// # let signal = b"l\x04\0\x01\0\0\0\0\x01\0\0\0\x2a\0\0\0\x01\x01o\0\x01\0\0\0/\0\0\0\0\0\0\0\x02\x01s\0\x03\0\0\0a.b\0\0\0\0\0\x03\x01s\0\x01\0\0\0c\0\0\0\0\0\0\0";
 /// let mut rule = Rule::parse("type='signal',member=c")?;
-/// assert!(rule.matches(&Message::parse(signal)?, &Owners::default())?);
+/// assert!(rule.matches(&Message::parse(signal)?)?);
 /// assert_eq!(rule.to_text()?, "type='signal',member='c'");
 /// # Ok::<(), Box<dyn std::error::Error>>(())
 /// ```
@@ -269,9 +281,14 @@ impl Rule {
         Ok(Self { rules, id })
     }
 
+    /// Notes the owner of a name, as [`RuleSet::set_owner`] does.
+    pub fn set_owner(&mut self, name: &str, owner: &str) -> Result<(), OwnerError> {
+        self.rules.set_owner(name, owner)
+    }
+
     /// Whether each key of the rule holds of the message, as [`RuleSet::matching`] says.
-    pub fn matches(&mut self, message: &Message<'_>, owners: &Owners) -> Result<bool, OutOfMemory> {
-        Ok(!self.rules.matching(message, owners)?.is_empty())
+    pub fn matches(&mut self, message: &Message<'_>) -> Result<bool, OutOfMemory> {
+        Ok(!self.rules.matching(message)?.is_empty())
     }
 
     /// Its canonical text, as [`RuleSet::text`] gives it.

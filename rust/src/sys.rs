@@ -378,14 +378,19 @@ extern "C" {
         out: *mut dbus_wire_rule_refused,
     ) -> u32;
     pub fn dbus_wire_rules_remove(rules: *mut dbus_wire_rules, id: *const dbus_wire_rule_id) -> u32;
+    pub fn dbus_wire_rules_owner(
+        rules: *mut dbus_wire_rules,
+        name: *const u8,
+        name_length: usize,
+        owner: *const u8,
+        owner_length: usize,
+    ) -> u32;
     pub fn dbus_wire_rules_share(rules: *mut dbus_wire_rules, other: *mut dbus_wire_rules) -> u32;
     pub fn dbus_wire_rules_matching(
         rules: *mut dbus_wire_rules,
         bytes: *const u8,
         length: usize,
         limits: *const dbus_wire_limits,
-        owners: *const u8,
-        owners_length: usize,
         ids: *mut dbus_wire_rule_id,
         room: usize,
         count: *mut u64,

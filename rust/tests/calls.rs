@@ -4,7 +4,7 @@ use std::thread;
 
 use dbus_wire::{
     build, byteswap, check, check_text, client_line, server_line, wanted, Answer, BuildError, Checker, Client, Command,
-    Descriptors, External, Fault, HandshakeError, Kind, Limits, Line, LineFault, Message, Order, Owners, ParseError, Parts,
+    Descriptors, External, Fault, HandshakeError, Kind, Limits, Line, LineFault, Message, Order, OwnerError, ParseError, Parts,
     Reason, Rule, RuleError, RuleReason, RuleSet, Server, SharedRules, Status, SwapError, Taken, TextFault, TextKind, Value,
     Values,
 };
@@ -382,22 +382,30 @@ fn texts_are_of_their_kinds() {
 fn rules_match_messages_by_their_keys_and_owners() {
     let bytes = signal("s", b"\x02\0\0\0hi\0");
     let message = Message::parse(&bytes).unwrap();
-    let mut owners = Owners::default();
-    let holds = |text: &str, owners: &Owners| Rule::parse(text).unwrap().matches(&message, owners).unwrap();
     for (text, right) in [("", true), ("type='signal',arg0='hi'", true), ("member='E'", false), ("sender='org.a.B'", false)] {
-        assert_eq!(holds(text, &owners), right, "{text}");
+        assert_eq!(Rule::parse(text).unwrap().matches(&message).unwrap(), right, "{text}");
     }
-    owners.add("org.a.B", ":1.2").unwrap();
-    assert!(holds("sender='org.a.B'", &owners));
-    assert_eq!(owners.add("org.a.B\nx", ":1.2"), Err(TextFault::Bad { at: 7 }));
-    assert!(!holds("sender='org.a.C'", &owners));
+    let mut rule = Rule::parse("sender='org.a.B'").unwrap();
+    for (name, owner, right) in [
+        ("org.a.C", ":1.2", false),
+        ("org.a.B", ":1.2", true),
+        ("org.a.B", ":1.3", false),
+        ("org.a.B", ":1.2", true),
+        ("org.a.B", "", false),
+    ] {
+        rule.set_owner(name, owner).unwrap();
+        assert_eq!(rule.matches(&message).unwrap(), right, "{name} of {owner}");
+    }
+    assert_eq!(rule.set_owner("org.a.B\nx", ":1.2"), Err(OwnerError::Refused(TextFault::Bad { at: 7 })));
+    assert_eq!(rule.set_owner("org.a.B", "b"), Err(OwnerError::Refused(TextFault::Bad { at: 1 })));
 
     let mut rules = RuleSet::default();
     let [all, mine, errors] = ["", "sender='org.a.B'", "type='error'"].map(|text| rules.add(text).unwrap());
-    let found = rules.matching(&message, &owners).unwrap();
+    rules.set_owner("org.a.B", ":1.2").unwrap();
+    let found = rules.matching(&message).unwrap();
     assert!(found.len() == 2 && found.contains(&all) && found.contains(&mine));
     assert!(rules.remove(mine) && !rules.remove(mine) && rules.text(mine).unwrap().is_none());
-    assert_eq!(rules.matching(&message, &owners).unwrap(), [all]);
+    assert_eq!(rules.matching(&message).unwrap(), [all]);
     assert_eq!(rules.text(errors).unwrap().unwrap(), "type='error'");
 }
 
@@ -412,7 +420,7 @@ fn shared_rules_are_asked_by_many_threads() {
             let (mut shared, bytes) = (first.share().unwrap(), bytes.clone());
             thread::spawn(move || {
                 let message = Message::parse(&bytes).unwrap();
-                (0..1000).for_each(|_| assert_eq!(shared.matching(&message, &Owners::default()).unwrap(), [all]));
+                (0..1000).for_each(|_| assert_eq!(shared.matching(&message).unwrap(), [all]));
                 shared
             })
         })
@@ -429,7 +437,7 @@ fn rules_have_a_canonical_text_or_a_fault() {
     let text = Rule::parse(&long).unwrap().to_text().unwrap();
     assert_eq!(text, format!("type='error',arg0='{}'", "x".repeat(1000)));
     let mut rule = thread::spawn(move || Rule::parse(&text).unwrap()).join().unwrap();
-    assert!(!rule.matches(&Message::parse(&signal("", b"")).unwrap(), &Owners::default()).unwrap());
+    assert!(!rule.matches(&Message::parse(&signal("", b"")).unwrap()).unwrap());
     for (text, at, reason) in [("a", 1, RuleReason::NoEquals), ("arg0='a", 5, RuleReason::OpenQuote), ("a\0", 1, RuleReason::Nul)]
     {
         let Err(RuleError::Refused(fault)) = Rule::parse(text) else { panic!("{text}") };

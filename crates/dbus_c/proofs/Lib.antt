@@ -4,7 +4,6 @@ pub mod Telling
 pub mod Swapped
 pub mod Fronts
 pub mod Outcomes
-pub mod OwnerLines
 pub mod RuleTelling
 pub mod EndsMade
 mod Built

@@ -12,42 +12,28 @@ use Rattle.dbus_rule.specs.declared.rule.Rule.{Rule}
 use Rattle.dbus_rule_set.specs.Held.{Collects, EntryMatches}
 use Rattle.dbus_rule_set.specs.declared.handle.RuleHandle.{RuleHandle}
 use Rattle.dbus_c.specs.Outcomes.{IsFirstView, TellsApart}
-use Rattle.dbus_c.specs.Owners.{AreOwnersIn, of_lines, none}
 use Rattle.dbus_c.specs.Rules.{HasFound, TellsAll, TellsFound, TellsMatching, written, no_room}
 use Rattle.dbus_c.proofs.Outcomes.{whole_answered}
 
-one_owners : (w : List ℕ) (os us : List Ownership) → AreOwnersIn w os → AreOwnersIn w us → os ≡ us
-one_owners w os us (of_lines u e) (of_lines v f) = e ∙ sym f
-one_owners w os us (of_lines u e) (none v f) = absurd (v u)
-one_owners w os us (none u e) (of_lines v f) = absurd (u v)
-one_owners w os us (none u e) (none v f) = e ∙ sym f
-
-module _ (rules : List (RuleHandle × Rule Global)) (limits : Limits) (b owners : List ℕ) (old : List RuleHandle) (count : ℕ) where
+module _ (rules : List (RuleHandle × Rule Global)) (os : List Ownership) (limits : Limits) (b : List ℕ) (old : List RuleHandle) (count : ℕ) where
   module _ (v : ViewState) (is : IsFirstView limits b v) where
     apart : (answer : ℕ) → (answer ≡ 1 → ⊥) → (answer ≡ 2 → ⊥) → TellsApart limits b answer
     apart answer = whole_answered limits b is.order is.message (length v.bytes) is.whole answer
 
-    pub memory_told : TellsMatching rules limits b owners 3 old old count count
+    pub memory_told : TellsMatching rules os limits b 3 old old count count
     memory_told = record { apart = apart 3 (λ one. absurd cc) (λ two. absurd cc); message = λ h. inr refl; found = nothing; unchanged = λ h. (refl, refl) } where
-      nothing : HasFound 3 → (order : Order) (m : MessageTree) (n : ℕ) (os : List Ownership) → IsWhole limits b order m n → AreOwnersIn owners os → TellsFound rules m os 3 old old count
+      nothing : HasFound 3 → (order : Order) (m : MessageTree) (n : ℕ) → IsWhole limits b order m n → TellsFound rules m os 3 old old count
       nothing (inl e) = absurd cc
       nothing (inr e) = absurd cc
 
-    module _ (os : List Ownership) (given : AreOwnersIn owners os) (handles : List RuleHandle)
-        (searched : (order : Order) (m : MessageTree) → Views v order m → Collects (EntryMatches m os) rules [] handles) where
-      found : (answer : ℕ) (new : List RuleHandle) → TellsAll handles answer old new → (order : Order) (m : MessageTree) (n : ℕ) (us : List Ownership) → IsWhole limits b order m n → AreOwnersIn owners us
-          → TellsFound rules m us answer old new (length handles)
-      found answer new told order m n us whole others =
+    module _ (handles : List RuleHandle) (searched : (order : Order) (m : MessageTree) → Views v order m → Collects (EntryMatches m os) rules [] handles) where
+      found : (answer : ℕ) (new : List RuleHandle) → TellsAll handles answer old new → (order : Order) (m : MessageTree) (n : ℕ) → IsWhole limits b order m n → TellsFound rules m os answer old new (length handles)
+      found answer new told order m n whole =
           let same : is.message ≡ m = (one_whole limits b is.order order is.message m (length v.bytes) n is.whole whole).1 in
-          let here = searched is.order is.message is.views in (
-            handles,
-            subst (λ (x : MessageTree). Collects (EntryMatches x us) rules [] handles) same
-                (subst (λ (ys : List Ownership). Collects (EntryMatches is.message ys) rules [] handles) (one_owners owners os us given others) here),
-            told,
-            refl,
-          )
+          let here = searched is.order is.message is.views in
+          (handles, subst (λ (x : MessageTree). Collects (EntryMatches x os) rules [] handles) same here, told, refl)
 
-      pub found_told : (answer : ℕ) (new : List RuleHandle) → TellsAll handles answer old new → TellsMatching rules limits b owners answer old new count (length handles)
+      pub found_told : (answer : ℕ) (new : List RuleHandle) → TellsAll handles answer old new → TellsMatching rules os limits b answer old new count (length handles)
       found_told answer new (written room whole is_new) = record {
         apart = apart answer (λ one. let wrong : 0 ≡ 1 = sym whole ∙ one in absurd cc) (λ two. let wrong : 0 ≡ 2 = sym whole ∙ two in absurd cc);
         message = λ h. inl (inl whole);

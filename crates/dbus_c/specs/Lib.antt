@@ -10,7 +10,6 @@ pub mod Outcomes
 pub mod TextKinds
 pub mod TextChecking
 pub mod Checkers
-pub mod Owners
 pub mod RuleReasons
 pub mod Rules
 pub mod Handshakes

@@ -3,6 +3,8 @@
 use Rattle.std.specs.Prelude.{◌≡◌, ◌⊎◌, ℕ, ◌+◌, ◌<◌, ◌≤◌, List, [], ◌∷◌, ◌++◌, length, drop, Option, Some, None, IsUtf8}
 use Rattle.std.specs.Str.Lossy.{utf8_valid_len}
 use Rattle.std.specs.declared.alloc.Global.{Global}
+use Rattle.dbus_texts.specs.Kinds.{IsKind}
+use Rattle.dbus_texts.specs.declared.text_kind.TextKind.TheVariants.{BusName}
 use Rattle.dbus_value_model.specs.declared.limits.Limits.{Limits}
 use Rattle.dbus_value_model.specs.declared.order.Order.{Order}
 use Rattle.dbus_message_model.specs.Messages.{MessageTree}
@@ -15,11 +17,10 @@ use Rattle.dbus_rule.specs.declared.fault.RuleReason.{RuleReason}
 use Rattle.dbus_rule.specs.declared.rule.Rule.{Rule}
 use Rattle.dbus_rule_set.specs.Held.{Collects, EntryMatches}
 use Rattle.dbus_rule_set.specs.declared.handle.RuleHandle.{RuleHandle}
-use Rattle.dbus_c_handle.specs.Rules.{Adds, KeepsAll, SharesNone, SharesRules}
+use Rattle.dbus_c_handle.specs.Rules.{Adds, KeepsAll, SetsOwner, SharesNone, SharesRules}
 use Rattle.dbus_c_handle.specs.declared.kept.Kept.{Kept}
 use Rattle.dbus_c_handle.specs.declared.share_fault.ShareFault.TheVariants.{Memory, TooMany}
 use Rattle.dbus_c.specs.Outcomes.{BeginsWithMessage, TellsApart}
-use Rattle.dbus_c.specs.Owners.{AreOwnersIn}
 use Rattle.dbus_c.specs.RuleReasons.{rule_reason_number}
 use Rattle.dbus_c.specs.declared.answers.TheConstants.{WHOLE, REFUSED, NO_MEMORY, NO_ROOM, NO_RULE, SHARED}
 use Rattle.dbus_c.specs.declared.rule_reasons.TheConstants.{NOT_UTF8}
@@ -43,6 +44,17 @@ abbrev pub removal_told : Option (Rule Global) → ℕ
 removal_told None = NO_RULE
 removal_told (Some rule) = WHOLE
 
+-- a name's owner is a bus name, or empty, which is none
+abbrev pub IsOwner : List ℕ → Type 0
+IsOwner owner = (owner ≡ []) ⊎ IsKind BusName owner
+
+-- the name's owner is noted, or that it has none; or one of the two is no name, or memory ran out,
+-- and all that is kept stays
+pub data TellsOwner (name owner : List ℕ) (before after : Option Kept) (answer : ℕ) : Type 0 where
+  noted : IsKind BusName name → IsOwner owner → SetsOwner name owner before after → answer ≡ WHOLE → TellsOwner name owner before after answer
+  no_name : (IsKind BusName name → IsOwner owner → ⊥) → after ≡ before → answer ≡ REFUSED → TellsOwner name owner before after answer
+  no_memory : KeepsAll before after → answer ≡ NO_MEMORY → TellsOwner name owner before after answer
+
 -- the rules are shared with another handle; or memory ran out, and all that both keep stays, so
 -- rules that were not shared are not; or so many handles share the rules that no further one can,
 -- and the rules of both stay
@@ -64,14 +76,12 @@ TellsFound rules m os answer old new count =
 abbrev pub HasFound : ℕ → Type 0
 HasFound answer = (answer ≡ WHOLE) ⊎ (answer ≡ NO_ROOM)
 
--- what is told of rules, and of the message that bytes begin with, with the owners that other bytes
--- give
-pub record TellsMatching (rules : List (RuleHandle × Rule Global)) (limits : Limits) (b owners : List ℕ) (answer : ℕ) (old new : List RuleHandle)
+-- what is told of rules, with the owners of names, and of the message that bytes begin with
+pub record TellsMatching (rules : List (RuleHandle × Rule Global)) (os : List Ownership) (limits : Limits) (b : List ℕ) (answer : ℕ) (old new : List RuleHandle)
     (count_old count_new : ℕ) : Type 0 where
   pub apart : TellsApart limits b answer
   pub message : BeginsWithMessage limits b → HasFound answer ⊎ (answer ≡ NO_MEMORY)
-  pub found : HasFound answer → (order : Order) (m : MessageTree) (n : ℕ) (os : List Ownership) → IsWhole limits b order m n → AreOwnersIn owners os
-      → TellsFound rules m os answer old new count_new
+  pub found : HasFound answer → (order : Order) (m : MessageTree) (n : ℕ) → IsWhole limits b order m n → TellsFound rules m os answer old new count_new
   pub unchanged : (HasFound answer → ⊥) → (new ≡ old) × (count_new ≡ count_old)
 
 -- a text and a 0 after it are written, or there is no room for both, and its length is told; or

@@ -5,7 +5,8 @@
 //! [`dbus_wire_parts_of`] gives a message's parts, and [`dbus_wire_swap`] byteswaps.
 //! [`dbus_wire_flatten`] gives all values of its body as one row of items, and
 //! [`dbus_wire_flatten_fields`] those of its header fields. [`dbus_wire_checker_new`] makes a
-//! checker that is handed one piece after another, and [`dbus_wire_rules_add`] keeps match rules;
+//! checker that is handed one piece after another, and [`dbus_wire_rules_add`] keeps match rules,
+//! [`dbus_wire_rules_owner`] the owners of names that their senders may be;
 //! [`dbus_wire_server_new`] and [`dbus_wire_client_new`] make an end of a handshake;
 //! [`dbus_wire_client_line`] and [`dbus_wire_server_line`] give the lines of one between others,
 //! [`dbus_wire_build`] builds a message of its parts, whose body [`dbus_wire_put_number`] and its
@@ -25,7 +26,6 @@ mod handshake_lines;
 mod handshakes;
 pub mod line_command;
 mod names;
-mod owners;
 mod parts;
 mod reasons;
 mod rule_reasons;
@@ -61,7 +61,7 @@ pub use rule_reasons::{
 };
 pub use rules::{
     RuleRefused, dbus_wire_rules_add, dbus_wire_rules_free, dbus_wire_rules_matching,
-    dbus_wire_rules_remove, dbus_wire_rules_share, dbus_wire_rules_text,
+    dbus_wire_rules_owner, dbus_wire_rules_remove, dbus_wire_rules_share, dbus_wire_rules_text,
 };
 pub use swapping::dbus_wire_swap;
 pub use texts::{TextChecked, dbus_wire_text_check};

@@ -1,21 +1,23 @@
 //! Match rules that C keeps from call to call.
 #![tactic(auto)]
 
-ghost use Rattle.std.specs.Prelude.{◌≡◌, None, true, false};
+ghost use Rattle.std.specs.Prelude.{◌≡◌, MatchOption, None, true, false};
 ghost use Rattle.dbus_c.specs.GivenLimits.{limits_of};
-ghost use Rattle.dbus_c.specs.Rules.{TellsAll, TellsMatching, TellsRule, TellsRuleText, TellsSharing, removal_told, rule_fault_told};
-ghost use Rattle.dbus_c_handle.specs.Rules.{given_of, is_shared, rules_of};
+ghost use Rattle.dbus_c.specs.Rules.{IsOwner, TellsAll, TellsMatching, TellsOwner, TellsRule, TellsRuleText, TellsSharing, removal_told, rule_fault_told};
+ghost use Rattle.dbus_c_handle.specs.Rules.{given_of, is_shared, owners_of, rules_of};
+ghost use Rattle.dbus_texts.specs.Kinds.{IsKind};
+ghost use Rattle.dbus_texts.specs.declared.text_kind.TextKind.TheVariants.{BusName};
 ghost use Rattle.dbus_rule_set.specs.Held.{rule_at, without};
 
 use crate::answers::{NO_MEMORY, NO_ROOM, NO_RULE, REFUSED, SHARED, WHOLE};
 use crate::checking::{answer_to_none, first_view};
 use crate::given_limits::{WireLimits, given_limits};
 use crate::names::put_text;
-use crate::owners::owners_in;
 use crate::rule_reasons::{NOT_UTF8, rule_reason_number};
 use dbus_c_handle::{ShareFault, WireHandle};
 use dbus_match::RuleFault;
 use dbus_rule_set::RuleHandle;
+use dbus_texts::check_bus_name;
 use std::alloc::Global;
 
 /// Why a text spells no rule.
@@ -82,6 +84,7 @@ pub extern "C" fn dbus_wire_rules_remove(
     ensures told { is_shared rules.old.state ≡ false → result ≡ removal_told (rule_at id.now (rules_of rules.old.state)) }
     ensures removed { is_shared rules.old.state ≡ false → rules_of rules.new.state ≡ without id.now (rules_of rules.old.state) }
     ensures given { given_of rules.new.state ≡ given_of rules.old.state }
+    ensures owners { owners_of rules.new.state ≡ owners_of rules.old.state }
     ensures own { is_shared rules.new.state ≡ is_shared rules.old.state }
     ensures shared { is_shared rules.old.state ≡ true → (result ≡ SHARED) × (rules.new.state ≡ rules.old.state) }
 {
@@ -91,6 +94,29 @@ pub extern "C" fn dbus_wire_rules_remove(
         WHOLE
     } else {
         NO_RULE
+    }
+}
+
+/// Notes that the name has this owner, in place of the one that it had, for the rules: [`WHOLE`].
+/// With an empty owner, it has none from then on. Else what is kept stays: [`REFUSED`] if the name
+/// is no bus name, or the owner is neither a bus name nor empty; [`NO_MEMORY`] if memory runs out.
+/// For rules that are shared it notes none, whatever the texts are: [`SHARED`]. D-Bus
+/// Specification, "Bus names".
+#[unsafe(no_mangle)]
+pub extern "C" fn dbus_wire_rules_owner(
+    alloc: Global,
+    rules: &mut WireHandle,
+    name: &[u8],
+    owner: &[u8],
+) -> u32
+    ensures told { is_shared rules.old.state ≡ false → TellsOwner name.now owner.now rules.old.state rules.new.state result }
+    ensures own { is_shared rules.new.state ≡ is_shared rules.old.state }
+    ensures shared { is_shared rules.old.state ≡ true → (result ≡ SHARED) × (rules.new.state ≡ rules.old.state) }
+{
+    if rules.are_shared(alloc) {
+        SHARED
+    } else {
+        note_owner(alloc, rules, name, owner)
     }
 }
 
@@ -121,32 +147,27 @@ pub extern "C" fn dbus_wire_rules_share(
 /// [`crate::dbus_wire_check`]. Of a message, [`NO_MEMORY`] if memory runs out. In these three cases
 /// `ids` and `count` stay as they are.
 ///
-/// A rule's `sender` that is a well-known name matches a message whose SENDER is that name, or one
-/// that `owners` gives it: a line `name=unique` for each owner of a name. The text is UTF-8; else
-/// it names no owners. It takes memory for them, and for what it finds. D-Bus Specification, "Match
-/// Rules".
+/// A rule's `sender` matches a message whose SENDER is that name, or the owner that
+/// [`dbus_wire_rules_owner`] noted of it. It takes memory for what it finds. D-Bus Specification,
+/// "Match Rules".
 #[unsafe(no_mangle)]
 pub extern "C" fn dbus_wire_rules_matching(
     alloc: Global,
     rules: &mut WireHandle,
     bytes: &[u8],
     limits: &WireLimits,
-    owners: &[u8],
     ids: &mut [RuleHandle],
     count: &mut u64,
 ) -> u32
     ensures same { rules.new.state ≡ rules.old.state }
-    ensures told { TellsMatching (rules_of rules.old.state) (limits_of limits.now) bytes.now owners.now result
+    ensures told { TellsMatching (rules_of rules.old.state) (owners_of rules.old.state) (limits_of limits.now) bytes.now result
         ids.old ids.new count.old count.new }
 {
     let within = given_limits(limits);
     let Some(view) = first_view(bytes, within) else {
         return answer_to_none(bytes, within);
     };
-    let Ok(owners) = owners_in(alloc, owners) else {
-        return NO_MEMORY;
-    };
-    let Ok(found) = rules.matching(alloc, &view, &owners) else {
+    let Ok(found) = rules.matching(alloc, &view) else {
         return NO_MEMORY;
     };
     *count = found.len() as u64;
@@ -211,4 +232,46 @@ fn fault_at(at: usize, reason: u32) -> RuleRefused
         reason,
         reserved: 0,
     }
+}
+
+// Notes the owner of the name for rules that are not shared.
+fn note_owner(alloc: Global, rules: &mut WireHandle, name: &[u8], owner: &[u8]) -> u32
+    requires { is_shared rules.old.state ≡ false }
+    ensures told { TellsOwner name.now owner.now rules.old.state rules.new.state result }
+    ensures own { is_shared rules.new.state ≡ false }
+{
+    let Some(name) = bus_name(name) else {
+        return REFUSED;
+    };
+    let Some(owner) = owner_name(owner) else {
+        return REFUSED;
+    };
+    match rules.set_owner(alloc, name, owner) {
+        Ok(_) => WHOLE,
+        Err(_) => NO_MEMORY,
+    }
+}
+
+// The text, if it is a bus name.
+fn bus_name(text: &[u8]) -> Option<&str>
+    ensures { MatchOption result (IsKind BusName text.now → ⊥) (λ name. IsKind BusName text.now × (name.now ≡ text.now)) }
+{
+    let Ok(name) = str::from_utf8(text) else {
+        return None;
+    };
+    if check_bus_name(text).is_ok() {
+        Some(name)
+    } else {
+        None
+    }
+}
+
+// The text, if it is a bus name or empty.
+fn owner_name(text: &[u8]) -> Option<&str>
+    ensures { MatchOption result (IsOwner text.now → ⊥) (λ name. IsOwner text.now × (name.now ≡ text.now)) }
+{
+    if text.is_empty() {
+        return Some("");
+    }
+    bus_name(text)
 }

@@ -14,7 +14,7 @@ use Rattle.dbus_c_handle.specs.declared.kept.Kept.{Kept}
 
 pub all_kept : (old mid new : Option Kept) → KeepsAll old mid → KeepsAll mid new → KeepsAll old new
 all_kept old mid new a b = record {
-  stay = record { rules = b.stay.rules ∙ a.stay.rules; given = b.stay.given ∙ a.stay.given };
+  stay = record { rules = b.stay.rules ∙ a.stay.rules; given = b.stay.given ∙ a.stay.given; owners = b.stay.owners ∙ a.stay.owners };
   shared = b.shared ∙ a.shared;
   other = b.other ∙ a.other;
 }
@@ -29,6 +29,7 @@ added_to w rule old mid new spelled same (Ok h) a = (
     unheld = ap (rule_at h) (sym same.stay.rules) ∙ a.unheld;
     number = a.number ∙ same.stay.given;
     given = a.given ∙ ap (λ n. n + 1) same.stay.given;
+    owners = a.owners ∙ same.stay.owners;
   },
 )
 added_to w rule old mid new spelled same (Err fault) (is, kept) = (subst (λ (f : RuleFault). IsRuleFault w f) (sym is) tt, all_kept old mid new same kept)

@@ -1,12 +1,15 @@
--- The match rules that a handle keeps, each by what stands for it, and what its calls do with them.
+-- The match rules that a handle keeps, each by what stands for it, the owners of names that it
+-- keeps with them, and what its calls do with both.
 -- D-Bus Specification, "Match Rules".
-use Rattle.std.specs.Prelude.{◌≡◌, ℕ, ◌+◌, List, [], Option, Some, None, Result, Ok, Err, Bool, true, false, String, string_bytes}
+use Rattle.std.specs.Prelude.{◌≡◌, ℕ, ◌+◌, List, [], ◌∷◌, Option, Some, None, Result, Ok, Err, Bool, true, false, String, string_bytes}
 use Rattle.std.specs.declared.alloc.Global.{Global}
 use Rattle.std.specs.declared.alloc.AllocError.{AllocError}
+use Rattle.dbus_match.specs.Matching.{Ownership}
 use Rattle.dbus_rule.specs.Rules.{SpellsRule, canonical}
 use Rattle.dbus_rule.specs.RuleViews.{rule_pairs}
 use Rattle.dbus_rule.specs.declared.rule.Rule.{Rule}
 use Rattle.dbus_rule_set.specs.Held.{held, given, rule_at, with_rule}
+use Rattle.dbus_rule_set.specs.Owners.{GivesOwner}
 use Rattle.dbus_rule_set.specs.declared.handle.RuleHandle.{RuleHandle}
 use Rattle.dbus_c_handle.specs.declared.kept.Kept.{Kept}
 use Rattle.dbus_c_handle.specs.declared.kept.Kept.TheVariants as kept
@@ -15,15 +18,21 @@ use Rattle.dbus_c_handle.specs.declared.share_fault.ShareFault.TheVariants.{Memo
 
 -- the rules that are kept
 abbrev pub rules_of : Option Kept → List (RuleHandle × Rule Global)
-rules_of (Some (kept.Rules s)) = held s
-rules_of (Some (kept.Shared s)) = held s.value
+rules_of (Some (kept.Rules s)) = held s.rules
+rules_of (Some (kept.Shared s)) = held s.value.rules
 rules_of _ = []
 
 -- how many were added since the first of them
 abbrev pub given_of : Option Kept → ℕ
-given_of (Some (kept.Rules s)) = given s
-given_of (Some (kept.Shared s)) = given s.value
+given_of (Some (kept.Rules s)) = given s.rules
+given_of (Some (kept.Shared s)) = given s.value.rules
 given_of _ = 0
+
+-- the owners of names that are kept
+abbrev pub owners_of : Option Kept → List Ownership
+owners_of (Some (kept.Rules s)) = s.owners
+owners_of (Some (kept.Shared s)) = s.value.owners
+owners_of _ = []
 
 -- they are shared, so no call changes them
 abbrev pub is_shared : Option Kept → Bool
@@ -36,13 +45,26 @@ pub record AddsRule (rule : Rule Global) (old new : Option Kept) (h : RuleHandle
   pub unheld : rule_at h (rules_of old) ≡ None
   pub number : h.number ≡ given_of old
   pub given : given_of new ≡ given_of old + 1
+  pub owners : owners_of new ≡ owners_of old
 
 -- the rule that the text spells comes to them
 abbrev pub Adds : List ℕ → (old new : Option Kept) → RuleHandle → Type 0
 Adds w old new h = (rule : Rule Global) × SpellsRule w (rule_pairs rule) × AddsRule rule old new h
 
--- the rules stay
+-- the rules stay, and the owners of names
 pub record KeepsRules (old new : Option Kept) : Type 0 where
+  pub rules : rules_of new ≡ rules_of old
+  pub given : given_of new ≡ given_of old
+  pub owners : owners_of new ≡ owners_of old
+
+-- the owner that a text names: none if it is empty
+abbrev pub owner_named : List ℕ → Option (List ℕ)
+owner_named [] = None
+owner_named (b ∷ w) = Some (b ∷ w)
+
+-- a name has the owner from then on that the text names, and the rules stay
+pub record SetsOwner (name owner : List ℕ) (old new : Option Kept) : Type 0 where
+  pub owners : GivesOwner name (owner_named owner) (owners_of old) (owners_of new)
   pub rules : rules_of new ≡ rules_of old
   pub given : given_of new ≡ given_of old
 

@@ -3,8 +3,35 @@
 
 use dbus_c_auth::Handshake;
 use dbus_check::Checker;
-use dbus_rule_set::RuleSet;
+use dbus_rule_set::{Owners, RuleSet};
+use std::alloc::Global;
 use std::sync::Arc;
+
+/// Match rules, and the owners of the names that their senders may be.
+#[derive(Drop)]
+pub struct KeptRules {
+    /// The rules.
+    pub rules: RuleSet,
+    /// The owners of names.
+    pub owners: Owners,
+}
+
+impl KeptRules {
+    ghost use Rattle.std.specs.Prelude.{◌≡◌, []};
+    ghost use Rattle.dbus_rule_set.specs.Held.{held, given};
+
+    /// No rule, and no owner of a name. It allocates nothing.
+    pub fn new(alloc: Global) -> KeptRules
+        ensures rules { held result.rules ≡ [] }
+        ensures given { given result.rules ≡ 0 }
+        ensures owners { result.owners ≡ [] }
+    {
+        KeptRules {
+            rules: RuleSet::new(alloc),
+            owners: Owners::new(alloc),
+        }
+    }
+}
 
 /// What a handle keeps in its block.
 #[derive(Drop)]
@@ -12,9 +39,9 @@ pub enum Kept {
     /// A checker of messages, in a block of its own: it is large.
     Checker(Box<Checker>),
     /// Match rules.
-    Rules(RuleSet),
-    /// Match rules that other handles may keep too. They stay as they are.
-    Shared(Arc<RuleSet>),
+    Rules(KeptRules),
+    /// Match rules that other handles may keep too. They stay as they are, and so do the owners.
+    Shared(Arc<KeptRules>),
     /// An end of a handshake.
     Handshake(Handshake),
 }

@@ -14,5 +14,5 @@ mod share_fault;
 mod sharing;
 
 pub use handle::WireHandle;
-pub use kept::Kept;
+pub use kept::{Kept, KeptRules};
 pub use share_fault::ShareFault;

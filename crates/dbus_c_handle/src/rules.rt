@@ -1,14 +1,15 @@
 //! Match rules that a handle keeps.
 #![tactic(auto)]
 
-ghost use Rattle.std.specs.Prelude.{◌≡◌, Some, MatchResult, false};
+ghost use Rattle.std.specs.Prelude.{◌≡◌, Some, MatchResult, OnErr, OnOk, false};
 ghost use Rattle.dbus_rule.specs.declared.fault.RuleFault.TheVariants.{Memory};
-ghost use Rattle.dbus_c_handle.specs.Rules.{AddsRule, KeepsAll, is_shared};
+ghost use Rattle.dbus_c_handle.specs.Rules.{AddsRule, KeepsAll, SetsOwner, is_shared, owner_named};
+ghost use Rattle.dbus_rule_set.specs.Owners.{GivesOwner};
 
 use crate::handle::WireHandle;
-use crate::kept::Kept;
-use dbus_match::{Owner, Rule, RuleFault, parse_rule, rule_text};
-use dbus_rule_set::{RuleHandle, RuleSet};
+use crate::kept::{Kept, KeptRules};
+use dbus_match::{Rule, RuleFault, parse_rule, rule_text};
+use dbus_rule_set::{Owners, RuleHandle};
 use dbus_view::MessageView;
 use std::alloc::{AllocError, Global};
 
@@ -16,11 +17,10 @@ impl WireHandle {
     ghost use Rattle.std.specs.Prelude.{◌≡◌, [], IfOk, MatchResult, false, is_some};
     ghost use Rattle.dbus_value_model.specs.declared.order.Order.{Order};
     ghost use Rattle.dbus_message_model.specs.Messages.{MessageTree};
-    ghost use Rattle.dbus_match.specs.Matching.{ownerships};
     ghost use Rattle.dbus_rule.specs.RuleReadings.{IsRuleFault};
     ghost use Rattle.dbus_rule_set.specs.Held.{Collects, EntryMatches, rule_at, without};
     ghost use Rattle.dbus_view.specs.Views.{Views};
-    ghost use Rattle.dbus_c_handle.specs.Rules.{Adds, IsWritten, KeepsAll, given_of, is_shared, rules_of};
+    ghost use Rattle.dbus_c_handle.specs.Rules.{Adds, IsWritten, KeepsAll, SetsOwner, given_of, is_shared, owners_of, rules_of};
 
     /// Keeps the rule that the text spells, as [`parse_rule`] reads it, beside the rules that it
     /// keeps, and returns what stands for the rule. Its fault if there is one, or `Memory` if
@@ -47,7 +47,7 @@ impl WireHandle {
     {
         match self.take_box(alloc) {
             Some(kept) => Ok(kept),
-            None => Ok(Box::new(alloc, Kept::Rules(RuleSet::new(alloc)))?),
+            None => Ok(Box::new(alloc, Kept::Rules(KeptRules::new(alloc)))?),
         }
     }
 
@@ -57,37 +57,53 @@ impl WireHandle {
         ensures was { result ≡ is_some (rule_at handle (rules_of self.old.state)) }
         ensures removed { rules_of self.new.state ≡ without handle (rules_of self.old.state) }
         ensures given { given_of self.new.state ≡ given_of self.old.state }
+        ensures owners { owners_of self.new.state ≡ owners_of self.old.state }
         ensures own { is_shared self.new.state ≡ false }
     {
         let Some(mut kept) = self.take_box(alloc) else {
             return false;
         };
         let was = match &mut *kept {
-            Kept::Rules(rules) => rules.remove(handle).is_some(),
+            Kept::Rules(own) => own.rules.remove(handle).is_some(),
             _ => false,
         };
         *self = WireHandle::of(kept);
         was
     }
 
-    /// What stands for each rule that matches the message that the view is of, as
-    /// [`RuleSet::matching`] says; an error only if memory runs out.
+    /// Gives the name this owner, in place of the one that it has; an empty one: it has none from
+    /// then on. An error if memory runs out: then it keeps all that it kept. Else a handle that
+    /// keeps something else frees that. The rules must not be shared.
+    pub fn set_owner(&mut self, alloc: Global, name: &str, owner: &str) -> Result<(), AllocError>
+        requires { is_shared self.old.state ≡ false }
+        ensures set { MatchResult result (λ _. SetsOwner name.now owner.now self.old.state self.new.state)
+            (λ _. KeepsAll self.old.state self.new.state) }
+        ensures own { is_shared self.new.state ≡ false }
+    {
+        let mut kept = self.take_or_make(alloc)?;
+        let set = set_owner_in(alloc, &mut kept, name, owner);
+        *self = WireHandle::of(kept);
+        set
+    }
+
+    /// What stands for each rule that matches the message that the view is of, with the owners of
+    /// names that it keeps, as [`dbus_rule_set::RuleSet::matching_by`] says; an error only if
+    /// memory runs out.
     pub fn matching(
         &mut self,
         alloc: Global,
         view: &MessageView,
-        owners: &[Owner],
     ) -> Result<Vec<RuleHandle>, AllocError>
         ensures same { self.new.state ≡ self.old.state }
         ensures found { (order : Order) (m : MessageTree) → Views view.now order m →
-            IfOk result (λ found. Collects (EntryMatches m (ownerships owners.now)) (rules_of self.old.state) [] found.items) }
+            IfOk result (λ found. Collects (EntryMatches m (owners_of self.old.state)) (rules_of self.old.state) [] found.items) }
     {
         let mut found = Vec::new(alloc);
         let Some(kept) = self.take_box(alloc) else {
             return Ok(found);
         };
         let searched = match kept.rules() {
-            Some(rules) => rules.matching(view, owners, &mut found),
+            Some(own) => own.rules.matching_by(view, &own.owners, &mut found),
             None => Ok(()),
         };
         *self = WireHandle::of(kept);
@@ -107,7 +123,7 @@ impl WireHandle {
     {
         let kept = self.take_box(alloc)?;
         let text = match kept.rules() {
-            Some(rules) => match rules.get(handle) {
+            Some(own) => match own.rules.get(handle) {
                 Some(rule) => Some(rule_text(alloc, rule)),
                 None => None,
             },
@@ -121,15 +137,16 @@ impl WireHandle {
 impl Kept {
     ghost use Rattle.std.specs.Prelude.{◌≡◌, [], Some, MatchOption};
     ghost use Rattle.dbus_rule_set.specs.Held.{held};
-    ghost use Rattle.dbus_c_handle.specs.Rules.{rules_of};
+    ghost use Rattle.dbus_c_handle.specs.Rules.{owners_of, rules_of};
 
-    /// The rules, shared or not; `None` if something else is kept.
-    pub(crate) fn rules(&self) -> Option<&RuleSet>
-        ensures { MatchOption result (rules_of (Some self.now) ≡ []) (λ rules. held rules.now ≡ rules_of (Some self.now)) }
+    /// The rules with the owners of names, shared or not; `None` if something else is kept.
+    pub(crate) fn rules(&self) -> Option<&KeptRules>
+        ensures rules { MatchOption result (rules_of (Some self.now) ≡ []) (λ own. held own.now.rules ≡ rules_of (Some self.now)) }
+        ensures owners { MatchOption result (Unit {0}) (λ own. own.now.owners ≡ owners_of (Some self.now)) }
     {
         match self {
-            Kept::Rules(rules) => Some(rules),
-            Kept::Shared(rules) => Some(&**rules),
+            Kept::Rules(own) => Some(own),
+            Kept::Shared(own) => Some(&**own),
             _ => None,
         }
     }
@@ -144,12 +161,12 @@ fn add_to(alloc: Global, kept: &mut Kept, rule: Rule) -> Result<RuleHandle, Rule
     ensures own { is_shared (Some kept.new) ≡ false }
 {
     let added = match kept {
-        Kept::Rules(rules) => rules.add(rule),
+        Kept::Rules(own) => own.rules.add(rule),
         _ => {
-            let mut rules = RuleSet::new(alloc);
-            let added = rules.add(rule);
+            let mut own = KeptRules::new(alloc);
+            let added = own.rules.add(rule);
             if added.is_ok() {
-                *kept = Kept::Rules(rules);
+                *kept = Kept::Rules(own);
             }
             added
         }
@@ -158,4 +175,35 @@ fn add_to(alloc: Global, kept: &mut Kept, rule: Rule) -> Result<RuleHandle, Rule
         Ok(handle) => Ok(handle),
         Err(_) => Err(RuleFault::Memory),
     }
+}
+
+// Gives the name this owner among those that are kept, which are not shared, in place of what is
+// kept otherwise; or all stays.
+fn set_owner_in(alloc: Global, kept: &mut Kept, name: &str, owner: &str) -> Result<(), AllocError>
+    requires { is_shared (Some kept.old) ≡ false }
+    ensures set { MatchResult result (λ _. SetsOwner name.now owner.now (Some kept.old) (Some kept.new))
+        (λ _. KeepsAll (Some kept.old) (Some kept.new)) }
+    ensures own { is_shared (Some kept.new) ≡ false }
+{
+    match kept {
+        Kept::Rules(own) => set_or_remove(&mut own.owners, name, owner),
+        _ => {
+            let mut own = KeptRules::new(alloc);
+            set_or_remove(&mut own.owners, name, owner)?;
+            *kept = Kept::Rules(own);
+            Ok(())
+        }
+    }
+}
+
+// Gives the name this owner, or none if that is empty.
+fn set_or_remove(owners: &mut Owners, name: &str, owner: &str) -> Result<(), AllocError>
+    ensures set { OnOk result (GivesOwner name.now (owner_named owner.now) owners.old owners.new) }
+    ensures unchanged { OnErr result (owners.new ≡ owners.old) }
+{
+    if owner.is_empty() {
+        owners.remove(name);
+        return Ok(());
+    }
+    owners.set(name, owner)
 }

@@ -7,9 +7,8 @@ ghost use Rattle.dbus_c_handle.specs.declared.share_fault.ShareFault.TheVariants
 ghost use Rattle.dbus_c_handle.specs.Rules.{KeepsAll, KeepsRules, is_shared};
 
 use crate::handle::WireHandle;
-use crate::kept::Kept;
+use crate::kept::{Kept, KeptRules};
 use crate::share_fault::ShareFault;
-use dbus_rule_set::RuleSet;
 use std::alloc::Global;
 use std::mem;
 use std::sync::Arc;
@@ -37,7 +36,7 @@ impl WireHandle {
     /// Shares the rules that it keeps with another handle, which from then on keeps the same rules:
     /// what it kept before is freed. No rule is copied, and each handle may be used by a thread of
     /// its own at the same time. A handle that keeps no rules shares a set of none, and frees what
-    /// else it keeps.
+    /// else it keeps. The owners of names are shared as the rules are.
     ///
     /// [`ShareFault`]: both keep what they kept, and rules that were not shared are not shared; or
     /// 2^63 handles share the rules, and both keep the rules that they kept.
@@ -45,7 +44,7 @@ impl WireHandle {
         ensures { MatchResult result (λ _. SharesRules self.old.state self.new.state other.new.state)
             (λ fault. SharesNone fault self.old.state self.new.state other.old.state other.new.state) }
     {
-        let mut place = Box::new(alloc, Kept::Rules(RuleSet::new(alloc)))?;
+        let mut place = Box::new(alloc, Kept::Rules(KeptRules::new(alloc)))?;
         let mut kept = self.take_or_make(alloc)?;
         make_shared(alloc, &mut kept);
         let shared = one_more(&kept);
@@ -63,13 +62,13 @@ fn make_shared(alloc: Global, kept: &mut Kept)
     ensures rules { KeepsRules (Some kept.old) (Some kept.new) }
     ensures failed { is_shared (Some kept.new) ≡ false → KeepsAll (Some kept.old) (Some kept.new) }
 {
-    *kept = match mem::replace(kept, Kept::Rules(RuleSet::new(alloc))) {
+    *kept = match mem::replace(kept, Kept::Rules(KeptRules::new(alloc))) {
         Kept::Shared(rules) => Kept::Shared(rules),
         Kept::Rules(rules) => match Arc::new(alloc, rules) {
             Ok(rules) => Kept::Shared(rules),
             Err(refused) => Kept::Rules(refused.value),
         },
-        other => match Arc::new(alloc, RuleSet::new(alloc)) {
+        other => match Arc::new(alloc, KeptRules::new(alloc)) {
             Ok(rules) => Kept::Shared(rules),
             Err(_) => other,
         },
@@ -77,7 +76,7 @@ fn make_shared(alloc: Global, kept: &mut Kept)
 }
 
 // The rules that are kept, for one handle more, if they are shared.
-fn one_more(kept: &Kept) -> Result<Arc<RuleSet>, ShareFault>
+fn one_more(kept: &Kept) -> Result<Arc<KeptRules>, ShareFault>
     ensures { MatchResult result (λ rules. (is_shared (Some kept.now) ≡ true) × KeepsRules (Some kept.now) (Some (Shared rules)))
         (λ fault. fault ≡ (if is_shared (Some kept.now) then TooMany else Memory)) }
 {
