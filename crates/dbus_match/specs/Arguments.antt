@@ -1,6 +1,5 @@
 -- What rules see of the values of a body. D-Bus Specification, "Match Rules".
 use Rattle.std.specs.Prelude.{◌≡◌, ℕ, Option, Some, None, List, [], ◌∷◌}
-use Rattle.arrayvec.specs.ArrayVec.{ArrayVec}
 use Rattle.dbus_value_model.specs.Values.{ValueTree, ValueTrees, NoValues, MoreValues}
 use Rattle.dbus_value_model.specs.declared.order.Order.{Order}
 use Rattle.dbus_message_model.specs.Messages.{MessageTree}
@@ -32,6 +31,5 @@ AreArguments (a ∷ ns) NoValues = ⊥
 AreArguments (a ∷ ns) (MoreValues x xs) = IsArgument a (Some x) × AreArguments ns xs
 
 -- those that are noted are the first values of the message's body
-abbrev pub AreNoted : ViewState → Option (ArrayVec Argument) → Type 0
-AreNoted v None = Unit {0}
-AreNoted v (Some ns) = (order : Order) (m : MessageTree) → Views v order m → AreArguments ns.items m.body
+abbrev pub AreNoted : ViewState → List Argument → Type 0
+AreNoted v ns = (order : Order) (m : MessageTree) → Views v order m → AreArguments ns m.body

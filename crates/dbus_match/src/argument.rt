@@ -8,7 +8,7 @@ ghost use Rattle.dbus_message_model.specs.Lookups.{body_value};
 ghost use Rattle.dbus_message_model.specs.Messages.{MessageTree};
 ghost use Rattle.dbus_values.specs.Seen.{IsSeen};
 ghost use Rattle.dbus_view.specs.Views.{Views};
-ghost use Rattle.dbus_match.specs.Arguments.{AreArguments, IsArgument};
+ghost use Rattle.dbus_match.specs.Arguments.{AreArguments, AreNoted, IsArgument};
 
 use arrayvec::ArrayVec;
 use dbus_values::ValueView;
@@ -51,8 +51,7 @@ fn argument_of(seen: ValueView<'_>) -> Argument<'_>
 
 /// The values of the body that rules may ask for.
 pub(crate) fn arguments_of<'a>(view: &MessageView<'a>) -> Arguments<'a>
-    ensures { (order : Order) (m : MessageTree) → Views view.now order m →
-        AreArguments result.items m.body }
+    ensures { AreNoted view.now result.items }
 {
     let mut left = view.body();
     let mut arguments = ArrayVec::new();
@@ -66,7 +65,7 @@ pub(crate) fn arguments_of<'a>(view: &MessageView<'a>) -> Arguments<'a>
 }
 
 /// Argument `n` of the first values of some, if it is one of them.
-pub(crate) fn argument_in<'a>(arguments: &[Argument<'a>], n: usize) -> Option<Argument<'a>>
+fn argument_in<'a>(arguments: &[Argument<'a>], n: usize) -> Option<Argument<'a>>
     ensures { (xs : ValueTrees) → AreArguments arguments.now xs →
         IfSome result (λ a. IsArgument a (body_value n xs)) }
 {
@@ -78,7 +77,7 @@ pub(crate) fn argument_in<'a>(arguments: &[Argument<'a>], n: usize) -> Option<Ar
 }
 
 /// Value `n` of the body. The values before it are passed over.
-pub(crate) fn argument_at<'a>(view: &MessageView<'a>, n: usize) -> Argument<'a>
+fn argument_at<'a>(view: &MessageView<'a>, n: usize) -> Argument<'a>
     ensures { (order : Order) (m : MessageTree) → Views view.now order m →
         IsArgument result (body_value n m.body) }
 {
@@ -86,5 +85,17 @@ pub(crate) fn argument_at<'a>(view: &MessageView<'a>, n: usize) -> Argument<'a>
         Some(ArgView::Str(text)) => Argument::Str(text),
         Some(ArgView::Path(text)) => Argument::Path(text),
         _ => Argument::Other,
+    }
+}
+
+/// Value `n` of the body, if the first of its values, or none of them, are noted.
+pub(crate) fn seen<'a>(view: &MessageView<'a>, noted: &[Argument<'a>], n: usize) -> Argument<'a>
+    requires { AreNoted view.now noted.now }
+    ensures { (order : Order) (m : MessageTree) → Views view.now order m →
+        IsArgument result (body_value n m.body) }
+{
+    match argument_in(noted, n) {
+        Some(argument) => argument,
+        None => argument_at(view, n),
     }
 }

@@ -10,7 +10,6 @@
 
 mod argument;
 mod asked;
-mod asked_view;
 mod compare;
 mod copies;
 pub mod laws;

@@ -9,17 +9,15 @@ ghost use Rattle.dbus_rule.specs.RuleViews.{rule_pairs};
 ghost use Rattle.dbus_match.specs.Matching.{Matches, ownerships};
 
 use crate::asked::span_of;
-use crate::asked_view::AskedView;
 use crate::owner::Owner;
-use crate::view_matching::matches_asked;
+use crate::view_matching::matches_view;
 use dbus_rule::Rule;
 use dbus_view::MessageView;
 use std::alloc::{Allocator, Global};
 use std::marker::Model;
 
 /// A message of which many rules are asked. Of all owners of names, those around the message's
-/// SENDER are found once, so that not each rule goes over the others; and the values of its body
-/// are gone through once, if a rule asks for one after the first. D-Bus Specification, "Match
+/// SENDER are found once, so that not each rule goes over the others. D-Bus Specification, "Match
 /// Rules".
 ///
 /// ```rust
@@ -35,7 +33,7 @@ use std::marker::Model;
 /// ```
 #[derive(Drop)]
 pub struct Matcher<'a, A: Allocator = Global> {
-    asked: AskedView<'a>,
+    view: &'a MessageView<'a>,
     owners: &'a [Owner<A>],
     /// Some of the owners; all of SENDER are among them.
     near: &'a [Owner<A>],
@@ -47,9 +45,9 @@ impl<'a, A: Allocator> Model for Matcher<'a, A> {
 
     ghost Value = { MatcherState };
 
-    ghost view = { λ s. record { view = s.asked; owners = ownerships s.owners.now } };
+    ghost view = { λ s. record { view = s.view.now; owners = ownerships s.owners.now } };
 
-    ghost invariant = { λ s. SenderOwnsAlike s.asked (ownerships s.near.now) (ownerships s.owners.now) };
+    ghost invariant = { λ s. SenderOwnsAlike s.view.now (ownerships s.near.now) (ownerships s.owners.now) };
 }
 
 impl<'a, A: Allocator> Matcher<'a, A> {
@@ -58,7 +56,7 @@ impl<'a, A: Allocator> Matcher<'a, A> {
         ensures { result ≡ record { view = view.now; owners = ownerships owners.now } }
     {
         Matcher {
-            asked: AskedView::new(view),
+            view,
             owners,
             near: owners,
         }
@@ -71,7 +69,7 @@ impl<'a, A: Allocator> Matcher<'a, A> {
         ensures same { self.new ≡ self.old }
     {
         self.narrow(rule);
-        matches_asked(rule, &mut self.asked, self.near)
+        matches_view(rule, self.view, self.near)
     }
 
     /// Leaves out owners that are not near SENDER, if the rule asks for a sender.
@@ -81,7 +79,7 @@ impl<'a, A: Allocator> Matcher<'a, A> {
         if self.near.is_empty() || rule.sender().is_none() {
             return;
         }
-        if let Some(unique) = self.asked.view().sender() {
+        if let Some(unique) = self.view.sender() {
             self.near = span_of(self.near, unique);
         }
     }

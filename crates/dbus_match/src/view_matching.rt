@@ -7,37 +7,40 @@ ghost use Rattle.dbus_message_model.specs.Lookups.{body_value};
 ghost use Rattle.dbus_message_model.specs.Messages.{MessageTree};
 ghost use Rattle.dbus_view.specs.Views.{Views};
 ghost use Rattle.dbus_rule.specs.RuleViews.{rule_pairs};
+ghost use Rattle.dbus_match.specs.Arguments.{AreNoted};
 ghost use Rattle.dbus_match.specs.Matching.{HoldsAt, Matches, ownerships, string_of, string_or_path_of};
 
-use crate::argument::Argument;
+use crate::argument::{Argument, arguments_of, seen};
 use crate::asked::{is_name_in, is_path_in, is_sender, is_text, is_type, meets_path};
-use crate::asked_view::AskedView;
 use crate::owner::Owner;
 use dbus_rule::{Condition, Key, Rule};
 use dbus_view::MessageView;
 use std::alloc::Allocator;
 
+/// Rules of more keys have the values of the body noted.
+const FEW_KEYS: usize = 12;
+
 /// The text of argument `n`, if that is a STRING.
-fn string_seen<'a>(asked: &mut AskedView<'a>, n: u8) -> Option<&'a str>
-    ensures text { (order : Order) (m : MessageTree) → Views asked.old order m →
+fn string_seen<'a>(view: &MessageView<'a>, noted: &[Argument<'a>], n: u8) -> Option<&'a str>
+    requires { AreNoted view.now noted.now }
+    ensures { (order : Order) (m : MessageTree) → Views view.now order m →
         MatchOption result (string_of (body_value n m.body) ≡ None) (λ s.
         string_of (body_value n m.body) ≡ Some s.now) }
-    ensures same { asked.new ≡ asked.old }
 {
-    match asked.get(usize::from(n)) {
+    match seen(view, noted, usize::from(n)) {
         Argument::Str(text) => Some(text),
         _ => None,
     }
 }
 
 /// The text of argument `n`, if that is a STRING or an OBJECT_PATH.
-fn string_or_path_seen<'a>(asked: &mut AskedView<'a>, n: u8) -> Option<&'a str>
-    ensures text { (order : Order) (m : MessageTree) → Views asked.old order m →
+fn string_or_path_seen<'a>(view: &MessageView<'a>, noted: &[Argument<'a>], n: u8) -> Option<&'a str>
+    requires { AreNoted view.now noted.now }
+    ensures { (order : Order) (m : MessageTree) → Views view.now order m →
         MatchOption result (string_or_path_of (body_value n m.body) ≡ None) (λ s.
         string_or_path_of (body_value n m.body) ≡ Some s.now) }
-    ensures same { asked.new ≡ asked.old }
 {
-    match asked.get(usize::from(n)) {
+    match seen(view, noted, usize::from(n)) {
         Argument::Str(text) => Some(text),
         Argument::Path(text) => Some(text),
         Argument::Other => None,
@@ -45,18 +48,18 @@ fn string_or_path_seen<'a>(asked: &mut AskedView<'a>, n: u8) -> Option<&'a str>
 }
 
 /// Whether the condition holds of the message.
-fn holds<A: Allocator>(
+fn holds<'a, A: Allocator>(
     condition: &Condition<A>,
-    asked: &mut AskedView<'_>,
+    view: &MessageView<'a>,
+    noted: &[Argument<'a>],
     owners: &[Owner<A>],
 ) -> bool
-    ensures holds { (order : Order) (m : MessageTree) → Views asked.old order m →
+    requires { AreNoted view.now noted.now }
+    ensures { (order : Order) (m : MessageTree) → Views view.now order m →
         IsTrue result ↔
         HoldsAt condition.now.key (string_bytes condition.now.value) m (ownerships owners.now) }
-    ensures same { asked.new ≡ asked.old }
 {
     let value = condition.value.as_str();
-    let view = asked.view();
     match condition.key {
         Key::MessageType => is_type(view.kind(), value),
         Key::Sender => is_sender(view.sender(), value, owners),
@@ -65,30 +68,40 @@ fn holds<A: Allocator>(
         Key::Path => is_text(view.path(), value),
         Key::PathNamespace => is_path_in(view.path(), value),
         Key::Destination => is_text(view.destination(), value),
-        Key::Arg(n) => is_text(string_seen(asked, n), value),
-        Key::ArgPath(n) => meets_path(string_or_path_seen(asked, n), value),
-        Key::Arg0Namespace => is_name_in(string_seen(asked, 0), value),
+        Key::Arg(n) => is_text(string_seen(view, noted, n), value),
+        Key::ArgPath(n) => meets_path(string_or_path_seen(view, noted, n), value),
+        Key::Arg0Namespace => is_name_in(string_seen(view, noted, 0), value),
         Key::Eavesdrop => true,
     }
 }
 
-/// Whether each key of the rule holds of the message.
-pub(crate) fn matches_asked<A: Allocator>(
+/// Whether each key of the rule holds of the message, of which these values are noted.
+fn matches_by<'a, A: Allocator>(
     rule: &Rule<A>,
-    asked: &mut AskedView<'_>,
+    view: &MessageView<'a>,
+    noted: &[Argument<'a>],
     owners: &[Owner<A>],
 ) -> bool
-    ensures matches { (order : Order) (m : MessageTree) → Views asked.old order m →
+    requires { AreNoted view.now noted.now }
+    ensures { (order : Order) (m : MessageTree) → Views view.now order m →
         IsTrue result ↔ Matches (rule_pairs rule.now) m (ownerships owners.now) }
-    ensures same { asked.new ≡ asked.old }
 {
     let conditions = rule.conditions();
     for condition in conditions {
-        if !holds(condition, asked, owners) {
+        if !holds(condition, view, noted, owners) {
             return false;
         }
     }
     true
+}
+
+/// The same, with the values of the body noted first.
+fn matches_noted<A: Allocator>(rule: &Rule<A>, view: &MessageView, owners: &[Owner<A>]) -> bool
+    ensures { (order : Order) (m : MessageTree) → Views view.now order m →
+        IsTrue result ↔ Matches (rule_pairs rule.now) m (ownerships owners.now) }
+{
+    let noted = arguments_of(view);
+    matches_by(rule, view, noted.as_slice(), owners)
 }
 
 /// Whether each key of the rule holds of the message that the view is of, as [`crate::matches`]
@@ -105,6 +118,9 @@ pub fn matches_view<A: Allocator>(rule: &Rule<A>, view: &MessageView, owners: &[
     ensures { (order : Order) (m : MessageTree) → Views view.now order m →
         IsTrue result ↔ Matches (rule_pairs rule.now) m (ownerships owners.now) }
 {
-    let mut asked = AskedView::new(view);
-    matches_asked(rule, &mut asked, owners)
+    if rule.conditions().len() > FEW_KEYS {
+        matches_noted(rule, view, owners)
+    } else {
+        matches_by(rule, view, &[], owners)
+    }
 }
