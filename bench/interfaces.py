@@ -17,7 +17,7 @@ OWN = ("src/*.rt", "specs/*.antt", "proofs/**/*.antt", "wrong/*.edit")
 HEAD = re.compile(r"( *)(pub (?:const |unsafe |ghost )*fn|(?:pub\(\w+\) )?(?:const |unsafe |ghost )*fn) (\w+)")
 CLAUSE = re.compile(r"\s+(ensures|requires|decreases)\b")
 # Lines that say nothing to another crate.
-SILENT = re.compile(r"\s*(//|use |$)")
+SILENT = re.compile(r"\s*(//|use |#!?\[tactic\b|$)")
 IMPORT = re.compile(r"\bRattle\.(\w+)\.specs\.(\w+)")
 WORD = re.compile(r"\w+")
 COMMENT = re.compile(r"^ *(//|--).*\n", re.M)
