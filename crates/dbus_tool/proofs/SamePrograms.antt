@@ -1,12 +1,21 @@
 -- Two runs of the program by words that name one way, over the same input, end alike.
-use Rattle.std.proofs.Common.{◌≡◌, ◌≢◌, ℕ, Bool, false, ◌&&◌, List, [], ◌∷◌, ◌++◌, None, Some, Option, Result, Ok, Err, IfOk, string_bytes, sym, ap, ◌∙◌, subst, arith, inl, inr}
+use Rattle.std.proofs.Common.{◌≡◌, ◌≢◌, ℕ, Bool, false, ◌&&◌, List, [], ◌∷◌, ◌++◌, None, Some, Option, Result, Ok, Err, IfOk, string_bytes, refl, sym, ap, ◌∙◌, subst, arith, inl, inr, append-nil}
+use Rattle.std.specs.Io.KnownBytes.{Appends}
 use Rattle.std.specs.declared.alloc.Global.{Global}
 use Rattle.clap.specs.Words.{Row, Text, subcommand_of}
 use Rattle.clap.specs.Faults.{fault_of}
 use Rattle.clap.specs.Kinds.{IsAmong}
 use Rattle.clap.specs.declared.error.kind.ErrorKind.TheVariants.{DisplayHelp, DisplayVersion}
+use Rattle.dbus_device.specs.Write.{Wrote}
+use Rattle.dbus_value_model.proofs.Numbers.{IsBytes-rest}
 use Rattle.dbus_count.specs.Laws.{OneTable}
+use Rattle.dbus_handshake_input.specs.Alike.{FollowsAlike, IsOfInput}
+use Rattle.dbus_handshake_input.specs.declared.fault.HandshakeFault.{HandshakeFault}
+use Rattle.dbus_handshake_input.specs.declared.fault.HandshakeFault.TheVariants.{Memory as OutOfMemory, Device, Refused}
+use Rattle.dbus_handshake_input.specs.declared.fault.HandshakeReason.{HandshakeReason}
 use Rattle.dbus_handshake_input.specs.declared.read_ahead.ReadAhead.{ReadAhead}
+use Rattle.dbus_handshake_input.specs.declared.size.HandshakeSize.{HandshakeSize}
+use Rattle.dbus_handshake_input.proofs.SameHandshakes.{one_handshake, one_passing}
 use Rattle.dbus_rule.proofs.FaultLaws.{not_both}
 use Rattle.dbus_rule.specs.declared.rule.Rule.{Rule}
 use Rattle.dbus_rule.specs.Rules.{SpellsRule}
@@ -29,12 +38,16 @@ use Rattle.cli_options.specs.declared.usage_fault.UsageFault.TheVariants.{Memory
 use Rattle.cli_report.specs.Devices.{Reading, Writing, writing}
 use Rattle.cli_report.specs.declared.ending.ExitStatus.{ExitStatus}
 use Rattle.cli_report.specs.declared.ending.ExitStatus.TheVariants as status
-use Rattle.cli_run.specs.Alike.{EndAlike, ReadAlike}
+use Rattle.cli_report.specs.Gathering.{Passes}
+use Rattle.cli_report.specs.declared.gathering.Unwritten.{Unwritten}
+use Rattle.cli_run.specs.Alike.{EndAlike, GotAlike, ReadAlike}
 use Rattle.cli_run.specs.Output.{IsExact}
 use Rattle.cli_run.proofs.SameOutputs.{acts_as}
+use Rattle.cli_run.specs.VisitorLaws.{wrote_nothing}
 use Rattle.cli_run.proofs.SameRuns.{one_count, one_run}
 use Rattle.dbus_tool.specs.Alike.{IsOneWay, NameOneWay, OneProgram}
-use Rattle.dbus_tool.specs.Handshaking.{TakesHandshake, ahead}
+use Rattle.dbus_tool.specs.Handshaking.{TakesHandshake, TellsHandshake, ahead, handshake_line}
+use Rattle.dbus_tool.specs.Listing.{EndsList, IsListed, Lengthens, Lists, WritesLines, last_line}
 use Rattle.dbus_tool.specs.Words.{Does, DoesBy, DoesTask, Notes, RunsNoted, RunsWords, table_form}
 use Rattle.dbus_tool.specs.declared.words.Task.{Task}
 use Rattle.dbus_tool.specs.declared.words.Task.TheVariants.{Run, CountAll}
@@ -78,62 +91,174 @@ module _ {R W E : Type 0} (left : R → Option (List ℕ)) (calls failures : R �
 -- ---- what is done in one way
 
 one_way_too : (a b : Asked) → AreSameAsked a b → IsOneWay a → IsOneWay b
-one_way_too (Messages c s) (Messages d t) h one =
-    ((acts_as c d h.0).exact one.0, subst (λ (x : Settings). x.explains ≡ false) h.1 one.1, subst (λ (x : Settings). x.handshake ≡ None) h.1 one.2)
-one_way_too (Count s f) (Count t g) h one = (subst (λ (x : Settings). x.explains ≡ false) h.0 one.0, subst (λ (x : Settings). x.handshake ≡ None) h.0 one.1)
-one_way_too (Handshake a) b h one = absurd one
+one_way_too (Messages c s) (Messages d t) h one = ((acts_as c d h.0).exact one.0, subst (λ (x : Settings). x.explains ≡ false) h.1 one.1)
+one_way_too (Count s f) (Count t g) h one = subst (λ (x : Settings). x.explains ≡ false) h.0 one
+one_way_too (Handshake a) (Handshake b) h one = tt
+one_way_too (Handshake a) (Messages d t) h one = absurd h
+one_way_too (Handshake a) (Count t g) h one = absurd h
 one_way_too (Messages c s) (Count t g) h one = absurd h
 one_way_too (Messages c s) (Handshake b) h one = absurd h
 one_way_too (Count s f) (Messages d t) h one = absurd h
 one_way_too (Count s f) (Handshake b) h one = absurd h
 
-module _ {R W E : Type 0} (left : R → Option (List ℕ)) (calls failures : R → ℕ) (old new : ReadAhead R) (w : Writing W) (end : ExitStatus) (settings : Settings) where
-  -- without a handshake
-  directly : (e : Writing E) (task : Task) → settings.handshake ≡ None → DoesTask left calls failures old new w e settings task end → DoesBy (ahead left calls failures old new) w e settings task end
-  directly e task none does = elim does [
-    | inl h ↦ (
-        let same : h.0 ≡ old = subst (λ (side : Option Side). TakesHandshake left calls failures side old h.0 (Ok tt)) none h.1 in
-        subst (λ (x : ReadAhead R). DoesBy (ahead left calls failures x new) w e settings task end) same h.2
-        )
-    | inr h ↦ absurd (subst (λ (side : Option Side). TakesHandshake left calls failures side old new (Err h.0)) none h.1)
-  ]
-
-  -- and without a note
-  unnoted : (e : Writing E) (c : Command) → end ≢ status.Failed → settings.explains ≡ false → settings.handshake ≡ None → RunsNoted left calls failures old new w e settings c end
-      → DoesBy (ahead left calls failures old new) w e settings (Run c) end
-  unnoted e c done off none does = elim does [
+-- without a note
+module _ {R W E : Type 0} (left : R → Option (List ℕ)) (calls failures : R → ℕ) (old new : ReadAhead R) (w : Writing W) (e : Writing E) (settings : Settings) where
+  unnoted : (c : Command) (end : ExitStatus) → end ≢ status.Failed → settings.explains ≡ false → RunsNoted left calls failures old new w e settings c end
+      → DoesTask left calls failures old new w e settings (Run c) end
+  unnoted c end done off does = elim does [
     | inl h ↦ (
         let same : h.0 ≡ e.old = subst (λ (b : Bool). Notes e.held e.failures (b && lacks_owner c) e.old h.0 (Ok tt)) off h.1 in
-        subst (λ (x : E). DoesBy (ahead left calls failures old new) w (writing e.held e.failures x e.new) settings (Run c) end) same (directly (writing e.held e.failures h.0 e.new) (Run c) none h.2)
+        subst (λ (x : E). DoesTask left calls failures old new w (writing e.held e.failures x e.new) settings (Run c) end) same h.2
         )
     | inr h ↦ absurd (done h.2)
   ]
 
+-- ---- what is written of a handshake
+
+wrote_none : {W : Type 0} (held : W → Option (List ℕ)) (failures : W → ℕ) (old new : W) → new ≡ old → Wrote held failures old [] new
+wrote_none held failures old new same = subst (λ (x : _). Wrote held failures old [] x) (sym same) (wrote_nothing held failures old)
+
+wrote_gathered : {W : Type 0} (held : W → Option (List ℕ)) (failures : W → ℕ) (old new : W) (bytes : List ℕ) → Passes held failures bytes [] [] old new → Wrote held failures old bytes new
+wrote_gathered held failures old new bytes h =
+    record { appended = subst (λ l. Appends (held old) (held new) l) (sym (h.joined ∙ append-nil h.written)) h.appended; failed = h.failed }
+
+module _ {E : Type 0} (e : Writing E) (end : ExitStatus) (done : end ≢ status.Failed) where
+  fault_of_input : (T : Type 0) (why : HandshakeFault) → TellsHandshake e.held e.failures e.old e.new why end → IsOfInput {T = T} (Err why)
+  fault_of_input T OutOfMemory told = absurd (done told.0)
+  fault_of_input T Device told = absurd (done told.0)
+  fault_of_input T (Refused at why) told = tt
+
+  refused_told : (at : ℕ) (why : HandshakeReason) → TellsHandshake e.held e.failures e.old e.new (Refused at why) end
+      → (end ≡ status.Refused) × Wrote e.held e.failures e.old (handshake_line at why) e.new
+  refused_told at why told = elim told [
+    | inl shown ↦ elim shown [
+      | inl h ↦ h
+      | inr h ↦ absurd (done h.0)
+    ]
+    | inr h ↦ absurd (done h.0)
+  ]
+
+module _ {E F : Type 0} (e : Writing E) (f : Writing F) (end other : ExitStatus) (done : end ≢ status.Failed) (other_done : other ≢ status.Failed) where
+  tells_alike : (why because : HandshakeFault) → why ≡ because → TellsHandshake e.held e.failures e.old e.new why end → TellsHandshake f.held f.failures f.old f.new because other
+      → (other ≡ end) × GotAlike e f
+  tells_alike OutOfMemory because same told telling = absurd (done told.0)
+  tells_alike Device because same told telling = absurd (done told.0)
+  tells_alike (Refused at why) because same told telling =
+      let h = refused_told e end done at why told in
+      let k = refused_told f other other_done at why (subst (λ (x : HandshakeFault). TellsHandshake f.held f.failures f.old f.new x other) (sym same) telling) in
+      (k.0 ∙ sym h.0, (handshake_line at why, h.1, k.1))
+
+  lists_alike : (read other_read : Result HandshakeSize HandshakeFault) → read ≡ other_read → EndsList e read (Ok tt) end → EndsList f other_read (Ok tt) other → (other ≡ end) × GotAlike e f
+  lists_alike (Ok size) (Ok other_size) same h k = (k.0 ∙ sym h.0, ([], wrote_none e.held e.failures e.old e.new h.1, wrote_none f.held f.failures f.old f.new k.1))
+  lists_alike (Err why) (Err because) same h k = (let is : why ≡ because = cc in tells_alike why because is h k)
+  lists_alike (Ok size) (Err because) same h k = absurd cc
+  lists_alike (Err why) (Ok other_size) same h k = absurd cc
+
+-- a list that was written
+module _ {R W E : Type 0} (left : R → Option (List ℕ)) (calls failures : R → ℕ) (old new : ReadAhead R) (w : Writing W) (e : Writing E) (side : Side) (end : ExitStatus) (done : end ≢ status.Failed) where
+  record IsWritten : Type 0 where
+    read : Result HandshakeSize HandshakeFault
+    of : IsOfInput read
+    text : List ℕ
+    listed : IsListed left calls old new side read text
+    wrote : Wrote w.held w.failures w.old (text ++ last_line read) w.new
+    ends : EndsList e read (Ok tt) end
+
+  written : Lists left calls failures old new w e side end → IsWritten
+  written h = by_put h.read h.put h.lines h.ends
+    where
+      of_read : (read : Result HandshakeSize HandshakeFault) → EndsList e read (Ok tt) end → IsOfInput read
+      of_read (Ok size) ends = tt
+      of_read (Err why) ends = fault_of_input e end done HandshakeSize why ends
+
+      by_put : (read : Result HandshakeSize HandshakeFault) (put : Result (Unit {0}) Unwritten) → WritesLines left calls old new w side read put → EndsList e read put end → IsWritten
+      by_put read (Ok x) lines ends =
+          record { read = read; of = of_read read ends; text = lines.0; listed = lines.1; wrote = wrote_gathered w.held w.failures w.old w.new (lines.0 ++ last_line read) lines.2; ends = ends }
+      by_put read (Err u) lines ends = absurd (done ends.0)
+
+-- ---- two runs
+
 module _ {R S W V E F : Type 0} (one_table : OneTable) (left : R → Option (List ℕ)) (calls failures : R → ℕ) (other_left : S → Option (List ℕ)) (other_calls other_failures : S → ℕ) (r0 r1 : ReadAhead R)
     (s0 s1 : ReadAhead S) (w : Writing W) (v : Writing V) (e : Writing E) (f : Writing F) (end other : ExitStatus) (input : ReadAlike (ahead left calls failures r0 r1) (ahead other_left other_calls other_failures s0 s1))
     (done : end ≢ status.Failed) (other_done : other ≢ status.Failed) where
-  abbrev r : Reading (ReadAhead R)
-  r = ahead left calls failures r0 r1
+  -- what follows in both sources is the same
+  abbrev FromHere : ReadAhead R → ReadAhead S → Type 0
+  FromHere r s = ReadAlike (ahead left calls failures r r1) (ahead other_left other_calls other_failures s s1)
 
-  abbrev s : Reading (ReadAhead S)
-  s = ahead other_left other_calls other_failures s0 s1
+  taken_alike : (side : Option Side) (r : ReadAhead R) (s : ReadAhead S) (a b : Result (Unit {0}) HandshakeFault) → IsOfInput a → IsOfInput b
+      → TakesHandshake left calls failures side r0 r a → TakesHandshake other_left other_calls other_failures side s0 s b → (a ≡ b) × IfOk a (λ x. FromHere r s)
+  taken_alike None r s (Ok x) (Ok y) of other_of h k =
+      (refl, subst (λ (t : ReadAhead S). FromHere r t) (sym k) (subst (λ (t : ReadAhead R). FromHere t s0) (sym h) input))
+  taken_alike None r s (Err why) b of other_of h k = absurd h
+  taken_alike None r s (Ok x) (Err because) of other_of h k = absurd k
+  taken_alike (Some side) r s a b of other_of h k =
+      let one = one_passing left calls other_left other_calls side input.0 r0 r s0 s a b input.2 input.3 of other_of h.0 k.0 in
+      (one.0, begun a one.1)
+    where
+      begun : (a : Result (Unit {0}) HandshakeFault) → IfOk a (λ x. (bytes : List ℕ) × FollowsAlike left other_left input.0 bytes r s) → IfOk a (λ x. FromHere r s)
+      begun (Ok x) g = (g.1.0, IsBytes-rest input.0 g.0 g.1.0 g.1.1 input.1, g.1.2, g.1.3)
+      begun (Err why) g = tt
 
-  runs_alike : (c d : Command) (settings : Settings) → AreSameCommand c d → IsExact c → settings.explains ≡ false → DoesBy r w e settings (Run c) end → DoesBy s v f settings (Run d) other → EndAlike w v e f end other
-  runs_alike c d settings same exact off does doing =
-      (one_run (ReadAhead R) (ReadAhead S) W V E F r s w v e f settings _ _ c d end other same (record { input = input; explains = inl off; done = done; other_done = other_done }) does doing).1 exact
+  tasks_alike : (settings : Settings) (task copy : Task)
+      → ((r : ReadAhead R) (s : ReadAhead S) → FromHere r s → DoesBy (ahead left calls failures r r1) w e settings task end → DoesBy (ahead other_left other_calls other_failures s s1) v f settings copy other
+      → EndAlike w v e f end other)
+      → DoesTask left calls failures r0 r1 w e settings task end → DoesTask other_left other_calls other_failures s0 s1 v f settings copy other → EndAlike w v e f end other
+  tasks_alike settings task copy from does doing = elim does [
+    | inl h ↦ elim doing [
+      | inl k ↦ from h.0 k.0 (taken_alike settings.handshake h.0 k.0 (Ok tt) (Ok tt) tt tt h.1 k.1).1 h.2 k.2
+      | inr k ↦ (
+          let one = taken_alike settings.handshake h.0 s1 (Ok tt) (Err k.0) tt (fault_of_input f other other_done (Unit {0}) k.0 k.3) h.1 k.1 in
+          absurd (let is : ◌≡◌ {A = Result (Unit {0}) HandshakeFault} (Ok tt) (Err k.0) = one.0 in cc)
+          )
+    ]
+    | inr h ↦ elim doing [
+      | inl k ↦ (
+          let one = taken_alike settings.handshake r1 k.0 (Err h.0) (Ok tt) (fault_of_input e end done (Unit {0}) h.0 h.3) tt h.1 k.1 in
+          absurd (let is : ◌≡◌ {A = Result (Unit {0}) HandshakeFault} (Err h.0) (Ok tt) = one.0 in cc)
+          )
+      | inr k ↦ (
+          let one = taken_alike settings.handshake r1 s1 (Err h.0) (Err k.0) (fault_of_input e end done (Unit {0}) h.0 h.3) (fault_of_input f other other_done (Unit {0}) k.0 k.3) h.1 k.1 in
+          let same : h.0 ≡ k.0 = let is : ◌≡◌ {A = Result (Unit {0}) HandshakeFault} (Err h.0) (Err k.0) = one.0 in cc in
+          let all = tells_alike e f end other done other_done h.0 k.0 same h.3 k.3 in
+          record { status_is = all.0; first = ([], wrote_none w.held w.failures w.old w.new h.2, wrote_none v.held v.failures v.old v.new k.2); second = all.1 }
+          )
+    ]
+  ]
+
+  listed_alike : (side : Side) → Lists left calls failures r0 r1 w e side end → Lists other_left other_calls other_failures s0 s1 v f side other → EndAlike w v e f end other
+  listed_alike side lists listing =
+      let h = written left calls failures r0 r1 w e side end done lists in
+      let k = written other_left other_calls other_failures s0 s1 v f side other other_done listing in
+      let one = one_handshake left calls other_left other_calls Lengthens Lengthens side input.0 r0 r1 s0 s1 [] h.text [] k.text h.read k.read input.2 input.3 h.of k.of h.listed k.listed in
+      let texts : h.text ≡ k.text = one.2 ∙ sym one.3 in
+      let all : h.text ++ last_line h.read ≡ k.text ++ last_line k.read = λ i. texts i ++ last_line (one.1 i) in
+      let ends = lists_alike e f end other done other_done h.read k.read one.1 h.ends k.ends in
+      record { status_is = ends.0; first = (h.text ++ last_line h.read, h.wrote, subst (λ l. Wrote v.held v.failures v.old l v.new) (sym all) k.wrote); second = ends.1 }
+
+  runs_alike : (c d : Command) (settings : Settings) → AreSameCommand c d → IsExact c → settings.explains ≡ false → DoesTask left calls failures r0 r1 w e settings (Run c) end
+      → DoesTask other_left other_calls other_failures s0 s1 v f settings (Run d) other → EndAlike w v e f end other
+  runs_alike c d settings same exact off = tasks_alike settings (Run c) (Run d) (λ r s here does doing.
+      (one_run (ReadAhead R) (ReadAhead S) W V E F (ahead left calls failures r r1) (ahead other_left other_calls other_failures s s1) w v e f settings _ _ c d end other same
+      (record { input = here; explains = inl off; done = done; other_done = other_done }) does doing).1 exact)
+
+  counts_alike : (settings : Settings) (form : Form) → settings.explains ≡ false → DoesTask left calls failures r0 r1 w e settings (CountAll form) end
+      → DoesTask other_left other_calls other_failures s0 s1 v f settings (CountAll form) other → EndAlike w v e f end other
+  counts_alike settings form off = tasks_alike settings (CountAll form) (CountAll form) (λ r s here does doing.
+      one_count (ReadAhead R) (ReadAhead S) W V E F one_table (ahead left calls failures r r1) (ahead other_left other_calls other_failures s s1) w v e f settings (table_form form) _ _ end other
+      (record { input = here; explains = inl off; done = done; other_done = other_done }) does doing)
 
   alike : (a b : Asked) → AreSameAsked a b → IsOneWay a → Does left calls failures r0 r1 w e (Ok a) end → Does other_left other_calls other_failures s0 s1 v f (Ok b) other → EndAlike w v e f end other
   alike (Messages c settings) (Messages d t) same one does doing =
       let there = subst (λ (x : Settings). Does other_left other_calls other_failures s0 s1 v f (Ok (Messages d x)) other) (sym same.1) doing in
-      runs_alike c d settings same.0 one.0 one.1 (unnoted left calls failures r0 r1 w end settings e c done one.1 one.2 does)
-      (unnoted other_left other_calls other_failures s0 s1 v other settings f d other_done one.1 one.2 there)
+      runs_alike c d settings same.0 one.0 one.1 (unnoted left calls failures r0 r1 w e settings c end done one.1 does)
+      (unnoted other_left other_calls other_failures s0 s1 v f settings d other other_done one.1 there)
   alike (Count settings form) (Count t g) same one does doing =
       let there = subst (λ (x : Settings). Does other_left other_calls other_failures s0 s1 v f (Ok (Count x g)) other) (sym same.0) doing in
-      let all = subst (λ (x : Form). Does other_left other_calls other_failures s0 s1 v f (Ok (Count settings x)) other) (sym same.1) there in
-      one_count (ReadAhead R) (ReadAhead S) W V E F one_table r s w v e f settings (table_form form) _ _ end other
-      (record { input = input; explains = inl one.0; done = done; other_done = other_done }) (directly left calls failures r0 r1 w end settings e (CountAll form) one.1 does)
-      (directly other_left other_calls other_failures s0 s1 v other settings f (CountAll form) one.1 all)
-  alike (Handshake a) b same one does doing = absurd one
+      counts_alike settings form one does (subst (λ (x : Form). Does other_left other_calls other_failures s0 s1 v f (Ok (Count settings x)) other) (sym same.1) there)
+  alike (Handshake side) (Handshake b) same one does doing =
+      listed_alike side does (subst (λ (x : Side). Does other_left other_calls other_failures s0 s1 v f (Ok (Handshake x)) other) (sym same) doing)
+  alike (Handshake side) (Messages d u) same one does doing = absurd same
+  alike (Handshake side) (Count u g) same one does doing = absurd same
   alike (Messages c t) (Count u g) same one does doing = absurd same
   alike (Messages c t) (Handshake b) same one does doing = absurd same
   alike (Count t g) (Messages d u) same one does doing = absurd same

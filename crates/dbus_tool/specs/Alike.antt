@@ -1,6 +1,5 @@
--- One law for the program: words that name what is done with messages, and an input, have one
--- output and one status.
-use Rattle.std.specs.Prelude.{◌≡◌, ◌≢◌, ℕ, false, List, [], None, Option}
+-- One law for the program: words that name something, and an input, have one output and one status.
+use Rattle.std.specs.Prelude.{◌≡◌, ◌≢◌, ℕ, false, List, [], Option}
 use Rattle.clap.specs.Words.{Text}
 use Rattle.clap.specs.Faults.{fault_of}
 use Rattle.dbus_handshake_input.specs.declared.read_ahead.ReadAhead.{ReadAhead}
@@ -16,12 +15,11 @@ use Rattle.cli_run.specs.Output.{IsExact}
 use Rattle.dbus_tool.specs.Handshaking.{ahead}
 use Rattle.dbus_tool.specs.Words.{RunsWords}
 
--- what is asked for is done in one way: a command other than `json`, or `count`, which explains
--- nothing and reads no handshake
+-- what is asked for is done in one way: it is not `json`, and nothing is explained
 abbrev pub IsOneWay : Asked → Type 0
-IsOneWay (Messages command settings) = IsExact command × (settings.explains ≡ false) × (settings.handshake ≡ None)
-IsOneWay (Count settings form) = (settings.explains ≡ false) × (settings.handshake ≡ None)
-IsOneWay (Handshake side) = ⊥
+IsOneWay (Messages command settings) = IsExact command × (settings.explains ≡ false)
+IsOneWay (Count settings form) = settings.explains ≡ false
+IsOneWay (Handshake side) = Unit {0}
 
 -- words in which clap finds no fault name this
 pub record NameOneWay (words : List Text) : Type 0 where
