@@ -1,5 +1,5 @@
 #!/usr/bin/env python3
-"""readme_test.py: runs the commands that README.md and docs/RECIPES.md show with their output, and compares.
+"""readme_test.py: runs the commands that README.md, cases/README.md and docs/RECIPES.md show with their output.
 
 A command is a line `$ ..` of an indented block; what it writes, on standard output and standard error, are the lines after it. `dbus-wire` is the
 program that was built by `make build`. Without it README's commands are run by `rt try`, which builds the program without proofs for each run: some
@@ -18,7 +18,8 @@ import tempfile
 
 from crate_list import ROOT, folder_of
 
-README, RECIPES, EXAMPLES = ROOT / "README.md", ROOT / "docs" / "RECIPES.md", ROOT / "docs" / "EXAMPLES.md"
+README, CASES = ROOT / "README.md", ROOT / "cases" / "README.md"
+RECIPES, EXAMPLES = ROOT / "docs" / "RECIPES.md", ROOT / "docs" / "EXAMPLES.md"
 BUILT = folder_of("dbus_wire") / "out" / "dbus_wire"
 
 # `rt try` does not wait for input that comes late, and what it says itself, and empty lines, come on standard error too.
@@ -89,7 +90,7 @@ def is_as_shown(command, wanted, folder):
 
 
 def main():
-    text = "".join(page.read_text() for page in ((README, RECIPES) if BUILT.exists() else (README,)))
+    text = "".join(page.read_text() for page in ((README, CASES, RECIPES) if BUILT.exists() else (README, CASES)))
     misquotes = list(misquoted(EXAMPLES.read_text()))
     for crate in misquotes:
         print(f"the code from {crate} is not there")

@@ -54,9 +54,10 @@ def read_parts(column, folder):
 def main(*paths):
     for path in paths:
         cases = read_cases(path)
-        spelled = sum(read_bytes(column) is not None for case in cases for column in case[1:] if column)
+        spelled = [it for it in (read_bytes(column) for case in cases for column in case[1:] if column) if it is not None]
         assert len({case[0] for case in cases}) == len(cases) and len({len(case) for case in cases}) == 1, path
-        print(f"{path}: {len(cases)} cases of {len(cases[0])} columns, {spelled} of them bytes")
+        total = sum(map(sum, spelled)) % 2**32
+        print(f"{path}: {len(cases)} cases of {len(cases[0])} columns, {len(spelled)} of them bytes, whose sum is {total}")
 
 
 if __name__ == "__main__":
