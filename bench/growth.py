@@ -3,7 +3,8 @@
 more at 8N than at N. The least of three runs, less what the same stream takes under one rule that matches nothing.
 
 learned, owned: N rules, each of the well-known sender of its own, whose names have owners: as the stream tells, or as is given by
-`--owner`; the owners are N connections. Over 4,000 signals of the last of them.
+`--owner`; the owners are N connections. Over 4,000 signals of the last of them. alone: the same if one connection owns all names, over
+1,000 of its signals.
 keys: 100 rules of N keys `argN`, of which the last does not hold. reach: 100 rules of the one key `argN` behind N values. Both over
 2,000 signals of 64 texts.
 """
@@ -37,15 +38,25 @@ def changes(count):
     return b"".join(signal(n + 1, "sss", (name(n), "", f":1.{n}"), CHANGED) for n in range(count))
 
 
+def rules(count):
+    return [f"sender='{name(n)}',member='Nothing'" for n in range(count)]
+
+
 def learned(count):
-    rules = [f"sender='{name(n)}',member='Nothing'" for n in range(count)]
-    return ("filter", "--learn-owners", *rules), changes(count) + sent(4_000, "s", ("a",), f":1.{count - 1}")
+    return ("filter", "--learn-owners", *rules(count)), changes(count) + sent(4_000, "s", ("a",), f":1.{count - 1}")
+
+
+def owned_by(count, owner_of):
+    owners = [word for n in range(count) for word in ("--owner", f"{name(n)}={owner_of(n)}")]
+    return ("filter", *owners, *rules(count))
 
 
 def owned(count):
-    rules = [f"sender='{name(n)}',member='Nothing'" for n in range(count)]
-    owners = [word for n in range(count) for word in ("--owner", f"{name(n)}=:1.{n}")]
-    return ("filter", *owners, *rules), sent(4_000, "s", ("a",), f":1.{count - 1}")
+    return owned_by(count, lambda n: f":1.{n}"), sent(4_000, "s", ("a",), f":1.{count - 1}")
+
+
+def alone(count):
+    return owned_by(count, lambda _: ":1.7"), sent(1_000, "s", ("a",), ":1.7")
 
 
 def keys(count):
@@ -57,7 +68,7 @@ def reach(count):
     return ("filter", *[f"arg{count - 1}='b'"] * 100), sent(2_000, "s" * 64, ("a",) * 64, ":1.7")
 
 
-ROWS = {learned: OWNERS, owned: OWNERS, keys: KEYS, reach: KEYS}
+ROWS = {learned: OWNERS, owned: OWNERS, alone: OWNERS, keys: KEYS, reach: KEYS}
 
 
 def least(command_line, path):

@@ -7,7 +7,7 @@ them, so that many messages are cut by the end of a reader's buffer; texts: an a
 a(iiuxsb); bytes: an array of 32,000 bytes; doubles: an array of 1,000 doubles. All are in little endian.
 
 FOLDER/NAME.worst has the most work a byte that a legal message asks for: one message of about 1 MB, an array of elements that are
-small, or nested, or wide; `fields` has header fields of no meaning in its place.
+small, or nested, or wide; `fields` has header fields of no meaning in its place, and `signed` many messages of 255 empty signatures.
 
 The search makes COUNT random types (200), of at most six kinds within structs, arrays, dictionaries and variants. Of each it fills an array
 with least values, counts by valgrind the instructions per byte of PROGRAM's `check`, and prints the dearest ten, the dearest first.
@@ -184,6 +184,7 @@ WORST = {
     "unspelled": lambda: array_message("ag", 1, bytes(2)),
     "untyped": lambda: array_message("a" + "(" * 31 + "gggg" + ")" * 31, 8, bytes(8)),
     "rows": lambda: array_of("(gggg)", [""] * 4),
+    "signed": lambda: signal(1, "g" * 255, [""] * 255) * (WORST_SIZE // 1_000),
     "mixed": lambda: array_of("(ggay)", ["", "", []]),
     "held": lambda: array_of("v", ("(ggg)", [""] * 3)),
     "lists": lambda: array_of("(" * 31 + "ayay" + ")" * 31, within([[], []])),
