@@ -45,8 +45,8 @@ use Rattle.cli_run.proofs.WindowSteps.{written_all}
 abbrev plain : Settings → Settings
 plain asked = record asked { explains = false; keeps_going = false; window = record { skip = 0; limit = None } }
 
--- `check` makes no texts, and its line goes to the first writer. Of another command the line goes to
--- the second
+-- `check` makes no texts, and its line goes to the first writer. Of another command the line goes
+-- to the second
 no_texts : (items : List Placed) (texts : List (List ℕ)) → IsOutputOfAll Check [] items texts → texts ≡ []
 no_texts [] texts made = made
 no_texts (m ∷ items) texts made =

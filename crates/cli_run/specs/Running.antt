@@ -1,5 +1,5 @@
--- What a command does with what it reads, what it writes of it, and why it gives up. limits are those
--- that each message keeps, and most is how many reads may be made.
+-- What a command does with what it reads, what it writes of it, and why it gives up. limits are
+-- those that each message keeps, and most is how many reads may be made.
 use Rattle.std.specs.Prelude.{◌⊎◌, ℕ, List, None, ◌≡◌, Option}
 use Rattle.dbus_device.specs.Write.{Wrote, Stopped}
 use Rattle.dbus_value_model.specs.declared.limits.Limits.{Limits}

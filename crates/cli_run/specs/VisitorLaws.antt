@@ -1,5 +1,5 @@
--- The laws of the visitors, and of what a writer or a window lets through of more. They are here, and
--- not in proofs/, because the trait's law names them.
+-- The laws of the visitors, and of what a writer or a window lets through of more. They are here,
+-- and not in proofs/, because the trait's law names them.
 use Rattle.std.proofs.Common.{◌≡◌, ℕ, ◌+◌, Bool, true, false, List, [], ◌++◌, length, Option, refl, sym, ap, ◌∙◌, subst, arith, length-append, zero, suc, ◌-◌, ◌∷◌, None, Some, option_map, take, drop, length-drop, append_assoc}
 use Rattle.std.specs.Io.KnownBytes.{Appends}
 use Rattle.std.proofs.KnownBytes.{Appends-nil, Appends-trans}

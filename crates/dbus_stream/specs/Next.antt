@@ -36,7 +36,7 @@ module _ {R T B G : Type 0} {b : Ghosts B} (k : Taking T G) where
     pub last : List ℕ
     pub before : List ℕ
     pub joined : bytes ≡ before ++ last
-    -- each of the reads before gave a byte, at least
+    -- the reads are at most one more than the bytes that came before those of the last one
     pub few : count ≤ length before + 1
     pub last_fits : length last ≤ b.room.size
     pub between : R

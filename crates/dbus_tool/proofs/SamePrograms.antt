@@ -35,7 +35,7 @@ use Rattle.cli_options.specs.declared.settings.Settings.{Settings}
 use Rattle.cli_options.specs.declared.usage_fault.RefusedRule.{RefusedRule}
 use Rattle.cli_options.specs.declared.usage_fault.UsageFault.{UsageFault}
 use Rattle.cli_options.specs.declared.usage_fault.UsageFault.TheVariants.{Memory, Help, Version, Usage, Rule as BadRule}
-use Rattle.cli_report.specs.Devices.{Reading, Writing, writing}
+use Rattle.cli_report.specs.Devices.{Writing, writing}
 use Rattle.cli_report.specs.declared.ending.ExitStatus.{ExitStatus}
 use Rattle.cli_report.specs.declared.ending.ExitStatus.TheVariants as status
 use Rattle.cli_report.specs.Gathering.{Passes}
@@ -48,7 +48,7 @@ use Rattle.cli_run.proofs.SameRuns.{one_count, one_run}
 use Rattle.dbus_tool.specs.Alike.{IsOneWay, NameOneWay, OneProgram}
 use Rattle.dbus_tool.specs.Handshaking.{TakesHandshake, TellsHandshake, ahead, handshake_line}
 use Rattle.dbus_tool.specs.Listing.{EndsList, IsListed, Lengthens, Lists, WritesLines, last_line}
-use Rattle.dbus_tool.specs.Words.{Does, DoesBy, DoesTask, Notes, RunsNoted, RunsWords, table_form}
+use Rattle.dbus_tool.specs.Words.{Does, DoesBy, DoesTask, Notes, RunsNoted, table_form}
 use Rattle.dbus_tool.specs.declared.words.Task.{Task}
 use Rattle.dbus_tool.specs.declared.words.Task.TheVariants.{Run, CountAll}
 use Rattle.dbus_tool.proofs.SameAsked.{AreSameAsked, marked, mark, same_asked}
