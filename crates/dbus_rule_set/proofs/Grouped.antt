@@ -1,10 +1,10 @@
 -- Owners by name, and the groups of the names that each owns.
-use Rattle.std.proofs.Common.{◌≡◌, ◌≢◌, ◌⊎◌, ⊎_elim, inl, inr, ℕ, Bool, true, false, not, cond, if◌then◌else◌, List, [], ◌∷◌, ◌++◌, Option, None, Some, Less, refl, sym, ap, ◌∙◌, subst}
+use Rattle.std.proofs.Common.{◌≡◌, ◌≢◌, ◌⊎◌, ⊎_elim, inl, inr, ℕ, zero, suc, Bool, true, false, not, cond, if◌then◌else◌, List, [], ◌∷◌, ◌++◌, Option, None, Some, Less, refl, sym, ap, ◌∙◌, subst, arith}
 use Rattle.std.specs.Prelude.{◌↔◌, String, string_bytes}
 use Rattle.std.specs.BTreeMap.{BTreeMap, IsOrdered, is_at}
 use Rattle.std.specs.Bool.{Decides}
 use Rattle.std.specs.Cmp.Lexicographic.{slice_cmp}
-use Rattle.std.specs.List.{AllByRecursion}
+use Rattle.std.specs.List.{All, AllByRecursion}
 use Rattle.std.specs.List.Sorted.{IsStrictlySortedBy}
 use Rattle.std.specs.Map.{keys_of, lookup}
 use Rattle.std.specs.Option.{option_map}
@@ -12,13 +12,16 @@ use Rattle.std.specs.Ordering.{is_eq, nat_cmp}
 use Rattle.std.specs.Str.{bytes_eq}
 use Rattle.std.specs.String.{string_cmp}
 use Rattle.std.specs.declared.alloc.Global.{Global}
-use Rattle.std.proofs.lemmas.Bool.{cond-false}
+use Rattle.std.proofs.lemmas.Bool.{cond-false, cond_both}
+use Rattle.std.proofs.lemmas.List.Elements.{All-filter, All-push}
+use Rattle.std.proofs.lemmas.List.Kept.{AllPairs-filter}
+use Rattle.std.proofs.lemmas.List.Quantifiers.{all_pairs_push}
 use Rattle.std.proofs.lemmas.Map.Keys.{sorted_head, sorted_tail}
 use Rattle.std.proofs.lemmas.Map.Text.{is_eq-slice_cmp}
 use Rattle.std.proofs.lemmas.Slice.Eq.{bytes_eq-Decides}
 use Rattle.dbus_match.specs.Matching.{IsOwned, Ownership}
-use Rattle.dbus_rule_set.specs.Groups.{others, owner_in}
-use Rattle.dbus_rule_set.specs.Owners.{GivesOwner, owners_by_name}
+use Rattle.dbus_rule_set.specs.Groups.{IsGroup, others, owner_in}
+use Rattle.dbus_rule_set.specs.Owners.{AreOf, GivesOwner, owners_by_name}
 
 -- ---- owners that come and go
 
@@ -41,6 +44,26 @@ owned_more (p ∷ os) o n u =
       λ h. ⊎_elim (λ e. inl (inl e)) (λ k. ⊎_elim (λ j. inl (inr j)) (λ e. inr e) (rest.0 k)) h,
       λ h. ⊎_elim (λ j. ⊎_elim (λ e. inl e) (λ k. inr (rest.1 (inl k))) j) (λ e. inr (rest.1 (inr e))) h,
     )
+
+absent : (os : List Ownership) (name unique : List ℕ) → AreOf unique os → (IsOwned os name unique → ⊥) → All (λ o. o.name ≢ name) os
+absent [] name unique own none i d within = absurd (omega arith)
+absent (o ∷ os) name unique own none zero d within = λ e. none (inl (e, own 0 d within))
+absent (o ∷ os) name unique own none (suc i) d within = absent os name unique (λ j e inside. own (suc j) e (omega arith)) (λ k. none (inr k)) i d (omega arith)
+
+-- a group with one more name, and without one
+more_group : (unique name : List ℕ) (os : List Ownership) → IsGroup unique os → (IsOwned os name unique → ⊥) → IsGroup unique (os ++ record { name = name; unique = unique } ∷ [])
+more_group unique name os group new =
+    let o : Ownership = record { name = name; unique = unique } in
+    record {
+      own = All-push (λ p. p.unique ≡ unique) os o group.own refl;
+      once_each = all_pairs_push (λ p q. p.name ≢ q.name) os o group.once_each (absent os name unique group.own new);
+    }
+
+less_group : (u name : List ℕ) (os : List Ownership) → IsGroup u os → IsGroup u (others name os)
+less_group u name os group = record {
+  own = All-filter (λ o. not (bytes_eq o.name name)) (λ o. o.unique ≡ u) os group.own;
+  once_each = AllPairs-filter (λ o p. o.name ≢ p.name) (λ o. not (bytes_eq o.name name)) os group.once_each;
+}
 
 module _ (name unique : List ℕ) (G H : List ℕ → List Ownership) where
   -- the name comes to the group of the unique name
@@ -69,6 +92,19 @@ module _ (name unique : List ℕ) (G H : List ℕ → List Ownership) where
         | false ↦ λ d. (λ h. (h, λ e. let f : false ≡ true = d.1 e.1 in cc), λ h. h.0)
       ] in
       subst (λ (os : List Ownership). IsOwned os n u ↔ (IsOwned (G u) n u × (((name ≡ n) × (unique ≡ u)) → ⊥))) (sym (is u)) (step (bytes_eq unique u) (bytes_eq-Decides unique u))
+
+  pub joined_groups : Joins → ((u : List ℕ) → IsGroup u (G u)) → (IsOwned (G unique) name unique → ⊥) → (u : List ℕ) → IsGroup u (H u)
+  joined_groups is groups new u =
+      let o : Ownership = record { name = name; unique = unique } in
+      let step : (b : Bool) → Decides b (unique ≡ u) → IsGroup u (if b then G u ++ o ∷ [] else G u) =
+      elim [
+        | true ↦ λ d. subst (λ (w : List ℕ). IsGroup w (G w ++ o ∷ [])) (d.0 refl) (more_group unique name (G unique) (groups unique) new)
+        | false ↦ λ d. groups u
+      ] in
+      subst (λ os. IsGroup u os) (sym (is u)) (step (bytes_eq unique u) (bytes_eq-Decides unique u))
+
+  pub left_groups : Leaves → ((u : List ℕ) → IsGroup u (G u)) → (u : List ℕ) → IsGroup u (H u)
+  left_groups is groups u = subst (λ os. IsGroup u os) (sym (is u)) (cond_both (bytes_eq unique u) (others name (G u)) (G u) (IsGroup u) (λ _. less_group u name (G u) (groups u)) (λ _. groups u))
 
 -- each unique name stands by the names that it owns
 abbrev pub Agree : (F : List ℕ → Option (List ℕ)) (G : List ℕ → List Ownership) → Type 0

@@ -57,7 +57,7 @@ impl Owners {
     ghost use Rattle.std.specs.Prelude.{◌≡◌, [], None, Some, OnErr, OnOk};
     ghost use Rattle.dbus_match.specs.Matching.{ownerships};
     ghost use Rattle.dbus_match.specs.Matchers.{OwnsAlike};
-    ghost use Rattle.dbus_rule_set.specs.Owners.{GivesOwner, HaveOneOwner};
+    ghost use Rattle.dbus_rule_set.specs.Owners.{AreOf, GivesOwner, HaveEachNameOnce, HaveOneOwner};
 
     /// No name has an owner. It allocates nothing.
     pub fn new(alloc: Global) -> Owners
@@ -105,9 +105,11 @@ impl Owners {
         }
     }
 
-    /// The names that the unique name owns, each with it.
+    /// The names that the unique name owns, each once and with it, and no others.
     pub fn of(&self, unique: &str) -> &[Owner]
         ensures alike { OwnsAlike unique.now (ownerships result.now) self.now }
+        ensures own { AreOf unique.now (ownerships result.now) }
+        ensures once_each { HaveEachNameOnce (ownerships result.now) }
         ensures once { HaveOneOwner self.now }
     {
         group_of(&self.by_unique, unique)

@@ -2,7 +2,7 @@ use Rattle.std.proofs.Common.{rules, ◌≡◌, Some, None, List, ℕ, string_by
 use Rattle.std.specs.Str.{bytes_eq}
 use Rattle.std.proofs.lemmas.Map.Text.{text_keys}
 use Rattle.dbus_rule_set.specs.Groups.{group, others, owner_in}
-use Rattle.dbus_rule_set.proofs.Grouped.{Changes, Leaves, grouped_less, gives}
+use Rattle.dbus_rule_set.proofs.Grouped.{Changes, Leaves, grouped_less, gives, left_groups}
 use Rattle.dbus_rule_set.proofs.owners.Owners.remove.Goals as goal
 
 pub invariant_of-self : goal.invariant_of-self
@@ -18,6 +18,7 @@ invariant_of-self c =
     record {
       ordered = c.remove.ensures.ordered;
       grouped = grouped_less (owner_in before) (owner_in c.remove.new.self) (group c.self.inside.by_unique) (group c.leave.new.groups) name c.self.invariant.grouped old was change gone;
+      each = left_groups name old (group c.self.inside.by_unique) (group c.leave.new.groups) gone c.self.invariant.each;
     }
 
 pub returns-in-Some : goal.returns-in-Some
