@@ -120,12 +120,13 @@ pub extern "C" fn dbus_wire_rules_owner(
     }
 }
 
-/// Shares the rules with `other`, another handle, which from then on keeps the same rules, and
-/// frees what it kept before: [`WHOLE`]. From then on no call changes the rules of either, and each
-/// may be used by a thread of its own at the same time; what they share is freed with the last of
-/// them. [`NO_MEMORY`] if memory runs out: then both keep what they kept, and rules that were not
-/// shared are not shared. [`SHARED`] if 2^63 handles share the rules: then `other` keeps what it
-/// kept. D-Bus Specification, "Match Rules".
+/// Shares the rules and the owners of names with `other`, another handle, which from then on keeps
+/// the same rules and owners, and frees what it kept before: [`WHOLE`]. From then on no call
+/// changes the rules or the owners of either, and each may be used by a thread of its own at the
+/// same time; what they share is freed with the last of them. [`NO_MEMORY`] if memory runs out:
+/// then both keep what they kept, and rules that were not shared are not shared. [`SHARED`] if 2^63
+/// handles share the rules: then `other` keeps what it kept, and the rules and owners of `rules`
+/// stay as they are. D-Bus Specification, "Match Rules".
 #[unsafe(no_mangle)]
 pub extern "C" fn dbus_wire_rules_share(
     alloc: Global,
@@ -204,7 +205,8 @@ pub extern "C" fn dbus_wire_rules_text(
     }
 }
 
-/// Frees the rules, if there are any: from then on there are none.
+/// Frees the rules and the owners of names, if there are any: from then on there are none of
+/// either. Those that are shared are freed with the last handle that keeps them.
 #[unsafe(no_mangle)]
 pub extern "C" fn dbus_wire_rules_free(alloc: Global, rules: &mut WireHandle)
     ensures { rules.new.state ≡ None }

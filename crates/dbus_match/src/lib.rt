@@ -3,9 +3,9 @@
 //!
 //! [`matches`] asks whether a rule matches a decoded message, and [`matches_view`] asks the same of
 //! a view, and allocates nothing. Both take the [`Owner`]s of well-known names, which a rule's
-//! `sender` needs. A [`Matcher`] asks many rules of one message, and for many rules at once there is
-//! the crate `dbus_rule_set`. docs/MATCH-RULES.md has the rules in our words, and where they differ
-//! from the specification. Examples are at [`parse_rule`] and [`matches`].
+//! `sender` needs. A [`Matcher`] asks many rules of one message, and for many rules at once there
+//! is the crate `dbus_rule_set`. docs/MATCH-RULES.md has the rules in our words, and where they
+//! differ from the specification. Examples are at [`parse_rule`] and [`matches`].
 #![tactic(auto)]
 
 mod argument;

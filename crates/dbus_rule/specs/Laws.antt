@@ -1,5 +1,5 @@
--- The laws of rules: a text spells one rule or has one fault, and never both; and the canonical text
--- of a rule spells it. D-Bus Specification, "Match Rules".
+-- The laws of rules: a text spells one rule or has one fault, and never both; and the canonical
+-- text of a rule spells it. D-Bus Specification, "Match Rules".
 use Rattle.std.specs.Prelude.{◌≡◌, ◌⊎◌, ℕ, List}
 use Rattle.dbus_rule.specs.declared.fault.RuleReason.{RuleReason}
 use Rattle.dbus_rule.specs.Rules.{Pair, IsRule, SpellsRule, canonical}

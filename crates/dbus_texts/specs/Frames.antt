@@ -6,8 +6,8 @@ use Rattle.dbus_texts.specs.declared.signature.Frame.{Frame}
 use Rattle.dbus_texts.specs.declared.signature.SigPlace.{SigPlace}
 use Rattle.dbus_texts.specs.declared.signature.SigPlace.TheVariants.{After, One, Element, Key}
 
--- of frames, the innermost first, each has more containers open around it than there are frames before it, and at
--- most 32 of each kind; k frames stand before these
+-- of frames, the innermost first, each has more containers open around it than there are frames
+-- before it, and at most 32 of each kind; k frames come before these
 abbrev pub AreBounded : ℕ → List Frame → Type 0
 AreBounded k [] = ⊤
 AreBounded k (f ∷ fs) = ((k < f.arrays + f.structs) × ((f.arrays ≤ 32) × (f.structs ≤ 32))) × AreBounded (k + 1) fs

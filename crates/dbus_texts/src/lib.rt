@@ -3,7 +3,7 @@
 //!
 //! [`check_path`], [`check_bus_name`], [`check_signature`] and their like say whether a text is of
 //! a kind, or at which place it breaks. [`TextScan`] does the same of a text that comes in pieces.
-//! None allocates. `dbus_match` reads the values of rules by them.
+//! None allocates. `dbus_rule` reads the values of rules by them.
 #![tactic(auto)]
 
 mod ascii;
