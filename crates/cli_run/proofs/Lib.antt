@@ -13,8 +13,6 @@ pub mod GoEnds
 pub mod EndSteps
 pub mod NameSteps
 pub mod RunSteps
-pub mod ValueEnds
-pub mod MessageEnds
 pub mod SameParts
 pub mod SameOutputs
 pub mod SameRuns

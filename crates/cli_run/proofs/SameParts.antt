@@ -23,7 +23,7 @@ use Rattle.dbus_stream.specs.Passing.{StatesAll}
 use Rattle.dbus_stream.proofs.PassSteps.{states_front}
 use Rattle.cli_report.specs.Gathering.{IsPrefixTo}
 use Rattle.cli_run.specs.Inputs.{BeginWithParts, IsLast, IsPart, Part, PassedOver, Whole}
-use Rattle.cli_run.proofs.MessageEnds.{partial_short, refused_reason}
+use Rattle.dbus_stream.proofs.MessageEnds.{partial_short, refused_reason}
 
 -- parts but for what was kept
 abbrev pub bare : List Part → List Part

@@ -1,7 +1,7 @@
 -- The laws over what a command writes: of all messages and the fault after them there is an output,
 -- and of each command but `json` exactly one. And what a command does by its settings is what it
 -- does under limits alone, if they ask for no more.
-use Rattle.std.specs.Prelude.{◌≡◌, ℕ, false, List, Option, ◌<◌, length}
+use Rattle.std.specs.Prelude.{◌≡◌, ℕ, false, List, Option}
 use Rattle.dbus_value_model.specs.declared.fault.Fault.{Fault}
 use Rattle.dbus_stream.specs.Cut.{CutMessage}
 use Rattle.cli_options.specs.Windows.{ask_more}
@@ -12,11 +12,6 @@ use Rattle.cli_report.specs.declared.ending.ExitStatus.{ExitStatus}
 use Rattle.cli_run.specs.Running.{Runs, RunsWith}
 use Rattle.cli_run.specs.Output.{IsExact, IsFirstOutput, IsFront}
 use Rattle.cli_report.specs.Gathering.{IsPrefixTo}
-use Rattle.dbus_value_model.specs.ByteNumbers.{IsBytes}
-use Rattle.dbus_value_model.specs.declared.limits.Limits.{Limits}
-use Rattle.dbus_header.specs.MessageOutcomes.{IsPartial, IsRefused}
-use Rattle.dbus_header.specs.StatedLengths.{StatesLength}
-use Rattle.dbus_stream.specs.Lasting.{is_truncated}
 
 -- of each list of messages, and a fault after them or none, the command has an output
 abbrev pub SomeOutput : Type 0
@@ -39,14 +34,3 @@ PlainRuns {R} {W} {E} left calls failures held write_failures second_held second
     (settings : Settings) (most : ℕ) (command : Command) (r0 r1 : R) (w0 w1 : W) (e0 e1 : E) (end : ExitStatus) → ask_more settings ≡ false
     → RunsWith (reading left calls failures r0 r1) (writing held write_failures w0 w1) (writing second_held second_failures e0 e1) settings most command end
     → Runs (reading left calls failures r0 r1) (writing held write_failures w0 w1) (writing second_held second_failures e0 e1) settings.limits most command end
-
--- ---- what passing over a refused message rests on. D-Bus Specification, "Message Format"
-
--- bytes that are neither a message nor refused are fewer than they state, so once as many are there
--- no more are wanted
-abbrev pub StatedSuffice : Type 0
-StatedSuffice = (limits : Limits) (bytes : List ℕ) (n : ℕ) → IsBytes bytes → StatesLength limits bytes n → IsPartial limits bytes → length bytes < n
-
--- no fault of bytes is that of an input that ends within a message
-abbrev pub NoneTruncated : Type 0
-NoneTruncated = (limits : Limits) (bytes : List ℕ) (fault : Fault) → IsBytes bytes → IsRefused limits bytes fault → is_truncated fault.reason ≡ false

@@ -3,7 +3,7 @@
 #![tactic(auto)]
 
 ghost use Rattle.cli_run.specs.Alike.{OneCount, OneRun, OneWithin};
-ghost use Rattle.cli_run.specs.Laws.{NoneTruncated, OneFront, OneOutput, PlainRuns, SomeOutput, StatedSuffice};
+ghost use Rattle.cli_run.specs.Laws.{OneFront, OneOutput, PlainRuns, SomeOutput};
 
 use dbus_count::laws::one_table;
 use dbus_stream::{Sink, Source};
@@ -29,19 +29,6 @@ pub fn one_front()
 #[tactic(auto, using(crate::proofs::RunSteps::plainly))]
 pub fn plain_run<R: Source, W: Sink, E: Sink>()
     ensures { PlainRuns R.left R.calls R.failures W.held W.failures E.held E.failures }
-{}
-
-/// Bytes that state how many a message has, and that are neither a message nor refused, are fewer
-/// than they state.
-#[tactic(auto, using(crate::proofs::MessageEnds::partial_short))]
-pub fn stated_suffice()
-    ensures { StatedSuffice }
-{}
-
-/// No fault of bytes is that of an input that ends within a message.
-#[tactic(auto, using(crate::proofs::MessageEnds::refused_reason))]
-pub fn none_truncated()
-    ensures { NoneTruncated }
 {}
 
 /// Two runs of a command by the same settings, neither of which failed, that read the same input

@@ -1,4 +1,6 @@
 pub mod Lists
+pub mod ValueEnds
+pub mod MessageEnds
 pub mod NextSteps
 pub mod GathererSteps
 pub mod RawSteps

@@ -1,6 +1,6 @@
 //! Laws of streams. Each function's contract is one, and it does nothing at run time.
 ghost use Rattle.dbus_value_model.specs.declared.limits.Limits.{Limits};
-ghost use Rattle.dbus_stream.specs.StreamLaws.{OneCut, CutOfPrefix, EachCut};
+ghost use Rattle.dbus_stream.specs.StreamLaws.{CutOfPrefix, EachCut, NoneTruncated, OneCut, StatedSuffice};
 ghost use Rattle.dbus_stream.specs.Headline.{Headline};
 
 use std::alloc::Allocator;
@@ -34,4 +34,17 @@ pub fn cut_of_prefix()
 /// Each list of bytes is cut, under any limits.
 pub fn each_cut()
     ensures { EachCut }
+{}
+
+/// Bytes that state how many a message has, and that are neither a message nor refused, are fewer
+/// than they state.
+#[tactic(auto, using(crate::proofs::MessageEnds::partial_short))]
+pub fn stated_suffice()
+    ensures { StatedSuffice }
+{}
+
+/// No fault of bytes is that of an input that ends within a message.
+#[tactic(auto, using(crate::proofs::MessageEnds::refused_reason))]
+pub fn none_truncated()
+    ensures { NoneTruncated }
 {}

@@ -32,9 +32,9 @@ use Rattle.dbus_header.proofs.Fields.{open_to}
 use Rattle.dbus_header.proofs.MessageParts.{Agrees-fields, Agrees-fixed, Agrees-message_items, field_signature}
 use Rattle.dbus_header.proofs.Decoded.{refused_read, whole_read}
 use Rattle.dbus_value_model.specs.Items as items
-use Rattle.cli_run.specs.Laws.{NoneTruncated, StatedSuffice}
 use Rattle.dbus_stream.specs.Lasting.{is_truncated}
-use Rattle.cli_run.proofs.ValueEnds.{Fits, Moves, IsOwn, after_fits, contents_fit, ends_fit, fields_fit, fits_as, moved_fits, nul_fits, number_fits, own_else, own_if, own_text, padding_fits, padding_to, signature_fits, text_fits, text_within, value_fits}
+use Rattle.dbus_stream.specs.StreamLaws.{NoneTruncated, StatedSuffice}
+use Rattle.dbus_stream.proofs.ValueEnds.{Fits, Moves, IsOwn, after_fits, contents_fit, ends_fit, fields_fit, fits_as, moved_fits, nul_fits, number_fits, own_else, own_if, own_text, padding_fits, padding_to, signature_fits, text_fits, text_within, value_fits}
 
 -- ---- rows
 
