@@ -32,7 +32,7 @@ use Rattle.cli_run.specs.Visiting.{AddsUp, TakesOne}
 use Rattle.cli_run.specs.declared.counted.Counted.{Counted}
 use Rattle.cli_run.specs.declared.counted.NoMessage.{NoMessage}
 use Rattle.cli_run.specs.declared.counted.NoMessage.TheVariants.{Reader as FromReader, Writer}
-use Rattle.cli_run.specs.declared.place.Place.{Place}
+use Rattle.cli_run.specs.declared.place.MessagePlace.{MessagePlace}
 use Rattle.cli_run.specs.declared.visitor.Stop.{Stop}
 use Rattle.cli_run.specs.declared.visitor.Stop.TheVariants.{Cause as ByCause}
 use Rattle.dbus_stream.proofs.RawSteps.{starts, unread}
@@ -77,7 +77,7 @@ item_of l = record { order = l.gives.order; message = l.gives.message; size = l.
 
 -- it was taken, or not, by its bytes
 pub took_lent : {R A S : Type 0} (takes : S → S → List Placed → (told : List ℕ) → Type 0) (leaves : S → S → List Placed → (told : List ℕ) → Stop → Type 0) (s2 s3 : S) (limits : Limits)
-    (w bytes : List ℕ) (j : Validated) (old new : RawReader R A) → bytes ≡ lent_of new → raw.limits_of old ≡ limits → (l : Lends w j old new) → (place : Place) (res : Result (Unit {0}) Cause)
+    (w bytes : List ℕ) (j : Validated) (old new : RawReader R A) → bytes ≡ lent_of new → raw.limits_of old ≡ limits → (l : Lends w j old new) → (place : MessagePlace) (res : Result (Unit {0}) Cause)
     → ((order : Order) (m : MessageTree) → IsWhole limits bytes order m (length bytes)
     → TakesOne takes leaves s2 s3 (record { place = place; item = record { order = order; message = m; size = length bytes } }) res) → TakesOne takes leaves s2 s3 (record { place = place; item = item_of l }) res
 took_lent takes leaves s2 s3 limits w bytes j old new e same l place res one =
@@ -125,7 +125,7 @@ module _ {R T B G S : Type 0} {b : Ghosts B} {k : Taking T G} {left : R → Opti
           (subst (λ l. IsWhole l (rest ++ r.bytes) item.order item.message item.size) h.read.limits_are whole)
 
       -- one more message, which is at this place
-      module _ (place : Place) (number : place.number ≡ count + 1) (offset : place.offset ≡ done_of mid) where
+      module _ (place : MessagePlace) (number : place.number ≡ count + 1) (offset : place.offset ≡ done_of mid) where
         last_is : all ++ record { place = place; item = item } ∷ [] ≡ placed (before + 1) (done_of old) (wholes (h.items ++ item ∷ []))
         last_is = placed_last (before + 1) (done_of old) h.items item place (omega (arith, number, h.count_is)) (offset ∙ h.done)
 

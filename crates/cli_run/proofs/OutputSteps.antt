@@ -25,7 +25,7 @@ use Rattle.cli_run.specs.Visiting.{LetsGo, TakesOne, TellsOne}
 use Rattle.cli_run.specs.Windows.{written}
 use Rattle.cli_run.specs.declared.output_writer.OutputWriter.{OutputWriter}
 use Rattle.cli_run.specs.declared.place.Carried.{Carried}
-use Rattle.cli_run.specs.declared.place.Place.{Place}
+use Rattle.cli_run.specs.declared.place.MessagePlace.{MessagePlace}
 use Rattle.cli_run.specs.declared.visitor.Stop.TheVariants.{Untold}
 
 -- what the first writer gets of texts: all of them, since `check` makes none
@@ -55,7 +55,7 @@ module _ {A W E : Type 0} (held : W → Option (List ℕ)) (failures : W → ℕ
     tells = told_nothing second_held second_failures (is_check own) a.second.now b.second.now same;
   }
 
-  module _ (order : Order) (m : MessageTree) (place : Place) (size : ℕ) (same : b.second.now ≡ a.second.now) where
+  module _ (order : Order) (m : MessageTree) (place : MessagePlace) (size : ℕ) (same : b.second.now ≡ a.second.now) where
     abbrev Takes : Result (Unit {0}) Cause → Type 0
     Takes res = TakesOne (WritesAll held failures second_held second_failures) (LeavesWritten held failures second_held second_failures) a b
         (record { place = place; item = record { order = order; message = m; size = size } }) res

@@ -13,7 +13,7 @@ use Rattle.cli_options.specs.declared.settings.Settings.{Settings}
 use Rattle.cli_run.specs.Inputs.{Part, Whole, PassedOver, Placed, placed, placed_at, size_of, sizes_of, wholes, IsLast, IsPart, BeginWithParts}
 use Rattle.cli_run.specs.Output.{check_line, fault_line}
 use Rattle.cli_run.specs.Parts.{AreTold, closing_line, passed_count, passed_sizes}
-use Rattle.cli_run.specs.declared.place.Place.{Place}
+use Rattle.cli_run.specs.declared.place.MessagePlace.{MessagePlace}
 use Rattle.cli_run.specs.declared.tally.Tally.{Tally}
 
 -- ---- the input
@@ -151,7 +151,7 @@ placed_both n offset (PassedOver kept fault size ∷ parts) more =
     placed_both (n + 1) (offset + size) parts more ∙ moved n offset (placed (n + 1) (offset + size) parts) parts size more
 
 -- one message more
-pub placed_last : (n offset : ℕ) (items : List CutMessage) (item : CutMessage) (place : Place) → place.number ≡ n + length items → place.offset ≡ offset + sizes items
+pub placed_last : (n offset : ℕ) (items : List CutMessage) (item : CutMessage) (place : MessagePlace) → place.number ≡ n + length items → place.offset ≡ offset + sizes items
     → placed n offset (wholes items) ++ record { place = place; item = item } ∷ [] ≡ placed n offset (wholes (items ++ item ∷ []))
 placed_last n offset [] item place number at =
     let same_number : place.number ≡ n = omega (arith, number) in

@@ -9,7 +9,7 @@ use Rattle.dbus_stream.specs.Cut.{CutMessage, CutOutcome, Ended, Unfinished, Ref
 use Rattle.dbus_stream.specs.Lasting.{is_truncated}
 use Rattle.dbus_stream.specs.Passing.{StatesAll}
 use Rattle.cli_report.specs.Gathering.{IsPrefixTo}
-use Rattle.cli_run.specs.declared.place.Place.{Place}
+use Rattle.cli_run.specs.declared.place.MessagePlace.{MessagePlace}
 
 -- a part of an input: a message; or one that is refused and passed over, which has so many bytes,
 -- with those that were kept of the input from there on when it was refused
@@ -63,7 +63,7 @@ IsLast goes_on limits kept rest (Refused fault) at_end =
 
 -- a message of an input, and its place there
 pub record Placed : Type 0 where
-  pub place : Place
+  pub place : MessagePlace
   pub item : CutMessage
 
 abbrev pub placed_at : (n offset : ℕ) → CutMessage → Placed

@@ -6,7 +6,7 @@ ghost use Rattle.cli_run.specs.Handing.{GivesNext};
 ghost use Rattle.cli_run.specs.Onward.{RawHandsOn};
 
 use crate::counted::{Counted, NoMessage};
-use crate::place::{Lent, Place};
+use crate::place::{Lent, MessagePlace};
 use crate::visitor::MessageVisitor;
 use cli_report::{Cause, Unwritten};
 use dbus_stream::{RawReader, ReadFault, Source};
@@ -89,7 +89,7 @@ pub(crate) fn hand_all<R: Source, A: Allocator + Copy, V: MessageVisitor>(
                     bytes: messages.message(),
                     validated,
                     limits,
-                    place: Place {
+                    place: MessagePlace {
                         number: count,
                         offset,
                     },

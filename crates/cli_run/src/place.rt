@@ -6,7 +6,7 @@ use dbus_value_model::Limits;
 
 /// The place of a message among the messages of its input.
 #[derive(Clone, Copy, Debug, PartialEq, Eq)]
-pub(crate) struct Place {
+pub(crate) struct MessagePlace {
     /// Its number, counted from 1.
     pub(crate) number: u64,
     /// Where it begins, in bytes from the start of the input.
@@ -29,5 +29,5 @@ pub(crate) struct Lent<'a> {
     pub(crate) bytes: &'a [u8],
     pub(crate) validated: Validated,
     pub(crate) limits: Limits,
-    pub(crate) place: Place,
+    pub(crate) place: MessagePlace,
 }

@@ -9,7 +9,7 @@ ghost use Rattle.cli_report.specs.Devices.{writing};
 ghost use Rattle.cli_report.specs.Gathering.{GathersOrNot, gathered_bytes};
 ghost use Rattle.cli_run.specs.Handing.{WritesJson};
 
-use crate::place::Place;
+use crate::place::MessagePlace;
 use cli_report::{Cause, Gathered, Page};
 use dbus_json::write_json;
 use dbus_show_view::write_message;
@@ -50,7 +50,7 @@ pub(crate) fn write_json_line<W: Sink>(
     bytes: &[u8],
     validated: &Validated,
     limits: Limits,
-    place: Place,
+    place: MessagePlace,
     gathered: &mut Gathered,
     first: &mut W,
 ) -> Result<(), Cause>

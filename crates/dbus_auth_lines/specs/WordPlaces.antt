@@ -7,28 +7,28 @@ use Rattle.dbus_auth_lines.specs.ClientCommands as client
 use Rattle.dbus_auth_lines.specs.ServerCommands.{ServerCommand}
 use Rattle.dbus_auth_lines.specs.ServerCommands as server
 use Rattle.dbus_auth_lines.specs.Lines.{words, at_word_end, by_hex}
-use Rattle.dbus_auth_lines.specs.declared.words.Place.{Place}
+use Rattle.dbus_auth_lines.specs.declared.words.WordPlace.{WordPlace}
 use Rattle.dbus_auth_lines.specs.declared.places.ClientWords.{ClientWords}
 use Rattle.dbus_auth_lines.specs.declared.places.ClientWords.TheVariants as c
 use Rattle.dbus_auth_lines.specs.declared.places.ServerWords.{ServerWords}
 use Rattle.dbus_auth_lines.specs.declared.places.ServerWords.TheVariants as s
 
-abbrev pub text_at : List ℕ → Place → List ℕ
+abbrev pub text_at : List ℕ → WordPlace → List ℕ
 text_at line p = take p.length (drop p.at line)
 
-abbrev pub IsWithin : List ℕ → Place → Type 0
+abbrev pub IsWithin : List ℕ → WordPlace → Type 0
 IsWithin line p = p.at + p.length ≤ length line
 
 -- the place is in the line, and its text is this
-abbrev pub HasTextAt : List ℕ → Place → List ℕ → Type 0
+abbrev pub HasTextAt : List ℕ → WordPlace → List ℕ → Type 0
 HasTextAt line p text = IsWithin line p × (text ≡ text_at line p)
 
 -- and its text spells these bytes in hexadecimal; no text spells none
-abbrev pub HasHexAt : List ℕ → Place → List ℕ → Type 0
+abbrev pub HasHexAt : List ℕ → WordPlace → List ℕ → Type 0
 HasHexAt line p bytes = IsWithin line p × (decode_of (text_at line p) ≡ Ok bytes)
 
 -- and its text has these words
-abbrev pub HasWordsAt : List ℕ → Place → List (List ℕ) → Type 0
+abbrev pub HasWordsAt : List ℕ → WordPlace → List (List ℕ) → Type 0
 HasWordsAt line p ws = IsWithin line p × (words (text_at line p) ≡ ws)
 
 -- the texts at the places in a client's line are those of this command
@@ -59,7 +59,7 @@ AreSpaces line from to = (k : ℕ) → from ≤ k → k < to → slice_index lin
 
 -- where the next word is, from an offset on: after spaces alone, and up to a space or the line's
 -- end
-pub record IsNextWord (line : List ℕ) (from : ℕ) (p : Place) : Type 0 where
+pub record IsNextWord (line : List ℕ) (from : ℕ) (p : WordPlace) : Type 0 where
   pub follows : from ≤ p.at
   pub within : IsWithin line p
   pub after_spaces : AreSpaces line from p.at
@@ -68,17 +68,17 @@ pub record IsNextWord (line : List ℕ) (from : ℕ) (p : Place) : Type 0 where
   pub ends : p.at + p.length < length line → slice_index line (p.at + p.length) ≡ 32
 
 -- if only spaces come from an offset on, it is there and has no bytes
-pub record HasNoWord (line : List ℕ) (from : ℕ) (p : Place) : Type 0 where
+pub record HasNoWord (line : List ℕ) (from : ℕ) (p : WordPlace) : Type 0 where
   pub here : p.at ≡ from
   pub none : p.length ≡ 0
   pub all_spaces : AreSpaces line from (length line)
 
-abbrev pub IsWordOrNone : List ℕ → ℕ → Place → Type 0
+abbrev pub IsWordOrNone : List ℕ → ℕ → WordPlace → Type 0
 IsWordOrNone line from p = IsWithin line p × (IsNextWord line from p ⊎ HasNoWord line from p)
 
 -- all from the next word on up to the line's end, the spaces after the last word too; if no word
 -- comes, no bytes at the line's end
-pub record AreNextWords (line : List ℕ) (from : ℕ) (p : Place) : Type 0 where
+pub record AreNextWords (line : List ℕ) (from : ℕ) (p : WordPlace) : Type 0 where
   pub follows : from ≤ p.at
   pub to_end : p.at + p.length ≡ length line
   pub after_spaces : AreSpaces line from p.at
@@ -86,7 +86,7 @@ pub record AreNextWords (line : List ℕ) (from : ℕ) (p : Place) : Type 0 wher
 
 -- what follows ERROR and one space, up to the line's end; nothing, at the line's end, if no space
 -- follows
-pub record IsErrorText (line : List ℕ) (p : Place) : Type 0 where
+pub record IsErrorText (line : List ℕ) (p : WordPlace) : Type 0 where
   pub at : p.at ≡ min 6 (length line)
   pub to_end : p.at + p.length ≡ length line
 

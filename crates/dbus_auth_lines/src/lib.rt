@@ -28,5 +28,5 @@ pub use cutter::{LineCutter, LineFault};
 pub use lines::{ClientLine, Guid, ServerLine};
 pub use places::{ClientWords, ServerWords, client_words, server_words};
 pub use reading::{read_client, read_server};
-pub use words::Place;
+pub use words::WordPlace;
 pub use writing::{TextFault, client_text, server_text};

@@ -9,7 +9,7 @@ ghost use Rattle.dbus_auth_lines.specs.ServerCommands as server;
 ghost use Rattle.dbus_auth_lines.specs.Lines.{command_name, words, alone, auth_by, accepted, client_meaning, server_meaning, client_name, server_name, client_row, server_row};
 ghost use Rattle.dbus_auth_lines.specs.WordPlaces.{AreClientPlaces, AreServerPlaces, IsErrorText, IsWithin, SaysToClient, SaysToServer, client_found, is_hex, server_found, text_at};
 
-use crate::words::{Place, is_alone, next_word, only_word, text_at, word_len, words_from};
+use crate::words::{WordPlace, is_alone, next_word, only_word, text_at, word_len, words_from};
 
 /// What a line of a client says, by the places of its words in the line.
 #[derive(Clone, Copy, PartialEq, Eq, Debug, Drop)]
@@ -19,18 +19,18 @@ pub enum ClientWords {
     /// `AUTH` with a mechanism and its initial response.
     AuthBy {
         /// The mechanism's name.
-        mech: Place,
+        mech: WordPlace,
         /// The response's hexadecimal digits, or no bytes where the mechanism ends.
-        response: Place,
+        response: WordPlace,
     },
     /// `CANCEL`, which gives the mechanism up.
     Cancel,
     /// `BEGIN`, the last line: messages follow.
     Begin,
     /// `DATA` and its hexadecimal digits, or no bytes where the command ends.
-    DataOf(Place),
+    DataOf(WordPlace),
     /// `ERROR` and its text, which may be empty: all after one space, up to the line's end.
-    Error(Place),
+    Error(WordPlace),
     /// `NEGOTIATE_UNIX_FD`, which asks to pass descriptors.
     Negotiate,
     /// Any other line.
@@ -42,13 +42,13 @@ pub enum ClientWords {
 pub enum ServerWords {
     /// `REJECTED` and the mechanisms that the server offers: from the first one up to the line's
     /// end, spaces after the last one too. If there are none, no bytes at the line's end.
-    Rejected(Place),
+    Rejected(WordPlace),
     /// `OK` and the 32 hexadecimal digits of the server's GUID.
-    Accepted(Place),
+    Accepted(WordPlace),
     /// `DATA` and its hexadecimal digits, or no bytes where the command ends.
-    DataOf(Place),
+    DataOf(WordPlace),
     /// `ERROR` and its text, which may be empty: all after one space, up to the line's end.
-    Error(Place),
+    Error(WordPlace),
     /// `AGREE_UNIX_FD`, which agrees to pass descriptors.
     Agree,
     /// Any other line.
@@ -266,12 +266,12 @@ fn find_accepted(line: &[u8], end: usize) -> ServerWords
 }
 
 /// What comes after `ERROR` and one space.
-fn error_text(line: &[u8]) -> Place
+fn error_text(line: &[u8]) -> WordPlace
     ensures is { text_at line.now result ≡ drop 6 line.now }
     ensures place { IsErrorText line.now result }
 {
     let at = line.len().min(6);
-    Place {
+    WordPlace {
         at,
         length: line.len() - at,
     }

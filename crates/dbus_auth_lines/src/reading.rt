@@ -11,7 +11,7 @@ ghost use Rattle.dbus_auth_lines.specs.WordPlaces.{AreClientPlaces, AreServerPla
 
 use crate::lines::{ClientLine, Guid, ServerLine};
 use crate::places::{ClientWords, ServerWords, find_client, find_server};
-use crate::words::{Place, next_word, text_at};
+use crate::words::{WordPlace, next_word, text_at};
 use std::alloc::{AllocError, Allocator};
 
 /// What a line of a client means, given without its CR LF.
@@ -100,7 +100,7 @@ fn copy_server<A: Allocator + Copy>(
 fn read_hex<A: Allocator + Copy>(
     alloc: A,
     line: &[u8],
-    word: Place,
+    word: WordPlace,
 ) -> Result<Option<Vec<u8, A>>, AllocError>
     requires { IsWithin line.now word }
     ensures { IfOk result (λ r. option_map (λ v. v.items) r ≡
@@ -114,7 +114,7 @@ fn read_hex<A: Allocator + Copy>(
 }
 
 /// A copy of the text there.
-fn copy_text<A: Allocator>(alloc: A, line: &[u8], text: Place) -> Result<Vec<u8, A>, AllocError>
+fn copy_text<A: Allocator>(alloc: A, line: &[u8], text: WordPlace) -> Result<Vec<u8, A>, AllocError>
     requires { IsWithin line.now text }
     ensures { IfOk result (λ copy. copy.items ≡ text_at line.now text) }
 {

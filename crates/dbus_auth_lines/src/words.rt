@@ -7,7 +7,7 @@ ghost use Rattle.dbus_auth_lines.specs.WordPlaces.{AreNextWords, AreSpaces, IsNe
 
 /// Where a text stands in a line. If there is no such text, it has no bytes.
 #[derive(Clone, Copy, PartialEq, Eq, Debug, Drop)]
-pub struct Place {
+pub struct WordPlace {
     /// Its offset, in bytes from the line's first.
     pub at: usize,
     /// The number of bytes that it has.
@@ -15,7 +15,7 @@ pub struct Place {
 }
 
 /// The text there.
-pub(crate) fn text_at(line: &[u8], place: Place) -> &[u8]
+pub(crate) fn text_at(line: &[u8], place: WordPlace) -> &[u8]
     requires { IsWithin line.now place }
     ensures { result.now ≡ text_at line.now place }
 {
@@ -66,14 +66,14 @@ fn space_count(bytes: &[u8]) -> usize
 
 /// From the first word on, up to the line's end.
 #[tactic(auto, using(crate::proofs::Spaces::words_at, crate::proofs::Spaces::starts_at))]
-pub(crate) fn words_from(line: &[u8], from: usize) -> Place
+pub(crate) fn words_from(line: &[u8], from: usize) -> WordPlace
     requires { from ≤ length line.now }
     ensures place { AreNextWords line.now from result }
     ensures is { words (text_at line.now result) ≡ words (drop from line.now) }
     ensures starts { at_word_end (text_at line.now result) ≡ true → result.length ≡ 0 }
 {
     let at = from + space_count(rest_of(line, from));
-    Place {
+    WordPlace {
         at,
         length: line.len() - at,
     }
@@ -81,7 +81,7 @@ pub(crate) fn words_from(line: &[u8], from: usize) -> Place
 
 /// The first word from there on.
 #[tactic(auto, using(crate::proofs::Spaces::word_cut, crate::proofs::Spaces::no_words))]
-pub(crate) fn next_word(line: &[u8], from: usize) -> Option<Place>
+pub(crate) fn next_word(line: &[u8], from: usize) -> Option<WordPlace>
     requires { from ≤ length line.now }
     ensures is { MatchOption result (words (drop from line.now) ≡ [])
         (λ p. words (drop from line.now) ≡ text_at line.now p ∷ words (drop (p.at + p.length) line.now)) }
@@ -91,7 +91,7 @@ pub(crate) fn next_word(line: &[u8], from: usize) -> Option<Place>
     if left.length == 0 {
         return None;
     }
-    Some(Place {
+    Some(WordPlace {
         at: left.at,
         length: word_len(rest_of(line, left.at)),
     })
@@ -106,13 +106,13 @@ pub(crate) fn is_alone(line: &[u8], from: usize) -> bool
 }
 
 /// The only word from there on; no bytes if there is none, and `None` if there are more.
-pub(crate) fn only_word(line: &[u8], from: usize) -> Option<Place>
+pub(crate) fn only_word(line: &[u8], from: usize) -> Option<WordPlace>
     requires { from ≤ length line.now }
     ensures is { option_map (text_at line.now) result ≡ one_word (words (drop from line.now)) }
     ensures place { IfSome result (λ p. IsWordOrNone line.now from p) }
 {
     let Some(word) = next_word(line, from) else {
-        return Some(Place {
+        return Some(WordPlace {
             at: from,
             length: 0,
         });

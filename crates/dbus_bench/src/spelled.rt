@@ -4,7 +4,7 @@ use crate::timing::Rounds;
 use dbus_body::{
     PutFault, begin_struct, close_array, open_array, put_number, put_signature, put_text,
 };
-use dbus_c_build::{Given, Place, PlacedParts, build};
+use dbus_c_build::{ByteRange, Given, PlacedParts, build};
 use dbus_message::message_type;
 use dbus_value::{Limits, Order};
 use std::alloc::Global;
@@ -47,10 +47,10 @@ fn put_body(out: &mut Vec<u8>) -> Result<(), PutFault> {
 }
 
 // Appends the text of a header field, and gives its place, or none if memory ran out.
-fn place(out: &mut Vec<u8>, text: &str) -> Option<Place> {
+fn place(out: &mut Vec<u8>, text: &str) -> Option<ByteRange> {
     let start = out.len();
     out.extend_from_slice(text.as_bytes()).ok()?;
-    Some(Place {
+    Some(ByteRange {
         start,
         length: text.len(),
     })
@@ -73,7 +73,7 @@ fn placed(out: &mut Vec<u8>) -> PlacedParts {
         destination: None,
         sender: place(out, SENDER),
         signature: place(out, "sa{sv}as"),
-        body: Place { start: 0, length },
+        body: ByteRange { start: 0, length },
     }
 }
 

@@ -12,7 +12,7 @@ use Rattle.dbus_c_build.specs.Placed.{HasParts}
 use Rattle.dbus_c_build.specs.Building.{IsBuilt, IsRefusal, MakeNone}
 use Rattle.dbus_c_build.specs.Kept.{AreKept, IsKept}
 use Rattle.dbus_c_build.specs.declared.given.Given.{Given}
-use Rattle.dbus_c_build.specs.declared.placed.Place.{Place}
+use Rattle.dbus_c_build.specs.declared.placed.ByteRange.{ByteRange}
 use Rattle.dbus_c_build.specs.declared.placed.PlacedParts.{PlacedParts}
 use Rattle.dbus_c_build.specs.declared.refusal.Refusal.{Refusal}
 use Rattle.dbus_c_build.specs.declared.refusal.Refusal.TheVariants as refusals
@@ -25,7 +25,7 @@ use Rattle.dbus_c.specs.declared.parts.Parts.{Parts}
 
 -- ---- numbers stand for one header
 
-abbrev pub made : Order → (kind flags serial reply_serial unix_fds : ℕ) → (path interface member error_name destination sender signature : Option Place) → Place → PlacedParts
+abbrev pub made : Order → (kind flags serial reply_serial unix_fds : ℕ) → (path interface member error_name destination sender signature : Option ByteRange) → ByteRange → PlacedParts
 made order kind flags serial reply_serial unix_fds path interface member error_name destination sender signature body = record {
   order = order;
   kind = kind;
@@ -53,14 +53,14 @@ stands_for k w p s =
     ∙ ap (λ (x : ℕ). made p.order w.kind w.flags x p.reply_serial p.unix_fds p.path p.interface p.member p.error_name p.destination p.sender p.signature p.body) s.numbers.2
     ∙ ap (λ (x : ℕ). made p.order w.kind w.flags w.serial x p.unix_fds p.path p.interface p.member p.error_name p.destination p.sender p.signature p.body) s.numbers.3
     ∙ ap (λ (x : ℕ). made p.order w.kind w.flags w.serial w.reply_serial x p.path p.interface p.member p.error_name p.destination p.sender p.signature p.body) s.numbers.4
-    ∙ ap (λ (x : Option Place). made p.order w.kind w.flags w.serial w.reply_serial w.unix_fds x p.interface p.member p.error_name p.destination p.sender p.signature p.body) s.path
-    ∙ ap (λ (x : Option Place). made p.order w.kind w.flags w.serial w.reply_serial w.unix_fds (place_given w.path) x p.member p.error_name p.destination p.sender p.signature p.body) s.interface
-    ∙ ap (λ (x : Option Place). made p.order w.kind w.flags w.serial w.reply_serial w.unix_fds (place_given w.path) (place_given w.interface) x p.error_name p.destination p.sender p.signature p.body) s.member
-    ∙ ap (λ (x : Option Place). made p.order w.kind w.flags w.serial w.reply_serial w.unix_fds (place_given w.path) (place_given w.interface) (place_given w.member) x p.destination p.sender p.signature p.body) s.error_name
-    ∙ ap (λ (x : Option Place). made p.order w.kind w.flags w.serial w.reply_serial w.unix_fds (place_given w.path) (place_given w.interface) (place_given w.member) (place_given w.error_name) x p.sender p.signature p.body) s.destination
-    ∙ ap (λ (x : Option Place). made p.order w.kind w.flags w.serial w.reply_serial w.unix_fds (place_given w.path) (place_given w.interface) (place_given w.member) (place_given w.error_name) (place_given w.destination) x p.signature p.body) s.sender
-    ∙ ap (λ (x : Option Place). made p.order w.kind w.flags w.serial w.reply_serial w.unix_fds (place_given w.path) (place_given w.interface) (place_given w.member) (place_given w.error_name) (place_given w.destination) (place_given w.sender) x p.body) s.signature
-    ∙ ap (λ (x : Place). made p.order w.kind w.flags w.serial w.reply_serial w.unix_fds (place_given w.path) (place_given w.interface) (place_given w.member) (place_given w.error_name) (place_given w.destination) (place_given w.sender) (place_given w.signature) x) s.body.1
+    ∙ ap (λ (x : Option ByteRange). made p.order w.kind w.flags w.serial w.reply_serial w.unix_fds x p.interface p.member p.error_name p.destination p.sender p.signature p.body) s.path
+    ∙ ap (λ (x : Option ByteRange). made p.order w.kind w.flags w.serial w.reply_serial w.unix_fds (place_given w.path) x p.member p.error_name p.destination p.sender p.signature p.body) s.interface
+    ∙ ap (λ (x : Option ByteRange). made p.order w.kind w.flags w.serial w.reply_serial w.unix_fds (place_given w.path) (place_given w.interface) x p.error_name p.destination p.sender p.signature p.body) s.member
+    ∙ ap (λ (x : Option ByteRange). made p.order w.kind w.flags w.serial w.reply_serial w.unix_fds (place_given w.path) (place_given w.interface) (place_given w.member) x p.destination p.sender p.signature p.body) s.error_name
+    ∙ ap (λ (x : Option ByteRange). made p.order w.kind w.flags w.serial w.reply_serial w.unix_fds (place_given w.path) (place_given w.interface) (place_given w.member) (place_given w.error_name) x p.sender p.signature p.body) s.destination
+    ∙ ap (λ (x : Option ByteRange). made p.order w.kind w.flags w.serial w.reply_serial w.unix_fds (place_given w.path) (place_given w.interface) (place_given w.member) (place_given w.error_name) (place_given w.destination) x p.signature p.body) s.sender
+    ∙ ap (λ (x : Option ByteRange). made p.order w.kind w.flags w.serial w.reply_serial w.unix_fds (place_given w.path) (place_given w.interface) (place_given w.member) (place_given w.error_name) (place_given w.destination) (place_given w.sender) x p.body) s.signature
+    ∙ ap (λ (x : ByteRange). made p.order w.kind w.flags w.serial w.reply_serial w.unix_fds (place_given w.path) (place_given w.interface) (place_given w.member) (place_given w.error_name) (place_given w.destination) (place_given w.sender) (place_given w.signature) x) s.body.1
 
 pub stands_once : (k : Kept) (w : Parts) (p q : PlacedParts) → StandFor k w p → StandFor k w q → p ≡ q
 stands_once k w p q s t = stands_for k w p s ∙ ap (λ (o : Order). stood_for o w) (one_order p.order q.order (sym s.order ∙ t.order)) ∙ sym (stands_for k w q t)

@@ -19,7 +19,7 @@ use Rattle.dbus_validate.specs.declared.validating.Validated.{Validated}
 use Rattle.dbus_validate.proofs.SeenSteps.{AreKnown, slice_of_front, unknown}
 use Rattle.dbus_c_build.specs.Placed.{IsInside, added, field_given, field_of, fields_after, in_place, known_codes, number_field, stays, text_at, text_code}
 use Rattle.dbus_c_build.specs.Placed as placed
-use Rattle.dbus_c_build.specs.declared.placed.Place.{Place}
+use Rattle.dbus_c_build.specs.declared.placed.ByteRange.{ByteRange}
 use Rattle.dbus_c_build.specs.declared.placed.PlacedParts.{PlacedParts}
 use Rattle.dbus_c_build.proofs.OnlyMessage.{parts_spelled}
 use Rattle.dbus_c_build.specs.Spelled.{spelled}
@@ -60,15 +60,15 @@ module _ (b : List ℕ) (n : ℕ) where
       → MatchOption o (field_of b c (place_given t) 0 ≡ []) (λ v. field_of b c (place_given t) 0 ≡ field c v ∷ [])
   text_given c t None is text = subst (λ (u : TextPlace). field_of b c (place_given u) 0 ≡ []) (sym is) refl
   text_given c t (Some v) is text =
-      let q : Place = record { start = t.offset; length = t.length } in
+      let q : ByteRange = record { start = t.offset; length = t.length } in
       let there : place_given t ≡ Some q = ap (λ (k : ℕ). if nat_eq k 0 then None else Some q) is.0 in
       let here : text_at b q ≡ text_in v = sym (is.1 ∙ slice_front n t.offset t.length b is.2) in
-      ap (λ (o : Option Place). field_of b c o 0) there ∙ ap (λ (s : List ℕ). field c (TextValue (text_code c) s) ∷ []) here ∙ ap (λ (u : ValueTree). field c u ∷ []) (sym (text v refl))
+      ap (λ (o : Option ByteRange). field_of b c o 0) there ∙ ap (λ (s : List ℕ). field c (TextValue (text_code c) s) ∷ []) here ∙ ap (λ (u : ValueTree). field c u ∷ []) (sym (text v refl))
 
   place_inside : (t : TextPlace) (o : Option ValueTree) → IsPlaceOf o (take n b) t → IsInside b (place_given t)
   place_inside t None is = subst (λ (u : TextPlace). IsInside b (place_given u)) (sym is) tt
   place_inside t (Some v) is =
-      let q : Place = record { start = t.offset; length = t.length } in
+      let q : ByteRange = record { start = t.offset; length = t.length } in
       let there : place_given t ≡ Some q = ap (λ (k : ℕ). if nat_eq k 0 then None else Some q) is.0 in
       subst (IsInside b) (sym there) (omega (arith, is.2, length-take n b))
 

@@ -11,7 +11,7 @@ use Rattle.dbus_c_build.specs.Placed.{HasParts}
 use Rattle.dbus_c_build.specs.Building.{IsRefusal}
 use Rattle.dbus_c_build.specs.Kept.{IsKept}
 use Rattle.dbus_c_build.specs.declared.given.Given.{Given}
-use Rattle.dbus_c_build.specs.declared.placed.Place.{Place}
+use Rattle.dbus_c_build.specs.declared.placed.ByteRange.{ByteRange}
 use Rattle.dbus_c_build.specs.declared.placed.PlacedParts.{PlacedParts}
 use Rattle.dbus_c_build.specs.declared.refusal.Refusal.{Refusal}
 use Rattle.dbus_c_build.specs.declared.refusal.Refusal.TheVariants as refusals
@@ -24,7 +24,7 @@ use Rattle.dbus_c.specs.declared.parts.Parts.{Parts}
 use Rattle.dbus_c.specs.declared.parts.TextPlace.{TextPlace}
 
 -- the place that numbers stand for, or none
-abbrev pub place_given : TextPlace → Option Place
+abbrev pub place_given : TextPlace → Option ByteRange
 place_given t = if nat_eq t.is_there 0 then None else Some (record { start = t.offset; length = t.length })
 
 -- what is kept of another message: nothing, or its header fields and its byte order

@@ -5,7 +5,7 @@ use Rattle.dbus_auth_lines.specs.Cut.{Fault, TooLong, BadByte}
 use Rattle.dbus_auth_lines.specs.FirstLine.{Beginning, WholeLine, Faulty, Unfinished}
 use Rattle.dbus_auth_lines.specs.Lines.{client_meaning, command_name, server_meaning}
 use Rattle.dbus_auth_lines.specs.WordPlaces.{AreClientPlaces, AreServerPlaces, SaysToServer, SaysToClient}
-use Rattle.dbus_auth_lines.specs.declared.words.Place.{Place}
+use Rattle.dbus_auth_lines.specs.declared.words.WordPlace.{WordPlace}
 use Rattle.dbus_auth_lines.specs.declared.places.ClientWords.{ClientWords}
 use Rattle.dbus_auth_lines.specs.declared.places.ClientWords.TheVariants as c
 use Rattle.dbus_auth_lines.specs.declared.places.ServerWords.{ServerWords}
@@ -16,14 +16,14 @@ use Rattle.dbus_c.specs.declared.line_command.TheConstants as command
 use Rattle.dbus_c.specs.declared.parts.TextPlace.{TextPlace}
 
 -- where a text stands; of one without bytes all is 0
-abbrev pub place_told : Place → TextPlace
+abbrev pub place_told : WordPlace → TextPlace
 place_told p = if p.length == 0 then record { offset = 0; length = 0; is_there = 0 } else record { offset = p.at; length = p.length; is_there = 1 }
 
-abbrev pub nowhere : Place
+abbrev pub nowhere : WordPlace
 nowhere = record { at = 0; length = 0 }
 
 -- of a line of this length
-abbrev pub line_told : ℕ → (command : ℕ) → (mechanism text : Place) → HandshakeLine
+abbrev pub line_told : ℕ → (command : ℕ) → (mechanism text : WordPlace) → HandshakeLine
 line_told n command mechanism text =
     record { length = n; offset = 0; command = command; is_too_long = 0; mechanism = place_told mechanism; text = place_told text }
 

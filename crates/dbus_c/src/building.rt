@@ -16,7 +16,7 @@ use crate::checking::{Checked, check_all, fault_told, nothing_told};
 use crate::given_limits::{WireLimits, given_limits};
 use crate::parts::{Parts, TextPlace, order_byte};
 use crate::reasons::reason_number;
-use dbus_c_build::{Given, Place, PlacedParts, Refusal, build};
+use dbus_c_build::{ByteRange, Given, PlacedParts, Refusal, build};
 use dbus_message_model::field_code::SIGNATURE;
 use dbus_message_model::order_named;
 use dbus_validate::validate;
@@ -229,7 +229,7 @@ fn placed_parts(parts: &Parts, given: &Given<'_>) -> Result<PlacedParts, Reason>
         destination: place_given(&parts.destination),
         sender: place_given(&parts.sender),
         signature: place_given(&parts.signature),
-        body: Place {
+        body: ByteRange {
             start: parts.body as usize,
             length: (parts.length - parts.body) as usize,
         },
@@ -237,13 +237,13 @@ fn placed_parts(parts: &Parts, given: &Given<'_>) -> Result<PlacedParts, Reason>
 }
 
 // The place that numbers stand for, or none.
-fn place_given(text: &TextPlace) -> Option<Place>
+fn place_given(text: &TextPlace) -> Option<ByteRange>
     ensures { result ≡ place_given text.now }
 {
     if text.is_there == 0 {
         return None;
     }
-    Some(Place {
+    Some(ByteRange {
         start: text.offset as usize,
         length: text.length as usize,
     })

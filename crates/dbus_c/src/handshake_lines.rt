@@ -12,10 +12,10 @@ use crate::line_command::{
 };
 use crate::parts::TextPlace;
 use dbus_auth_lines::scanning::{BadLine, first_line};
-use dbus_auth_lines::{ClientWords, Place, ServerWords, client_words, server_words};
+use dbus_auth_lines::{ClientWords, ServerWords, WordPlace, client_words, server_words};
 
 // No text.
-const NOWHERE: Place = Place { at: 0, length: 0 };
+const NOWHERE: WordPlace = WordPlace { at: 0, length: 0 };
 
 /// A line of a handshake. Fields that do not apply are 0. D-Bus Specification, "Authentication
 /// Protocol".
@@ -105,7 +105,7 @@ fn server_told(length: usize, words: ServerWords) -> HandshakeLine
 }
 
 // A line of a handshake as C is told it.
-fn line_told(length: usize, command: u32, mechanism: Place, text: Place) -> HandshakeLine
+fn line_told(length: usize, command: u32, mechanism: WordPlace, text: WordPlace) -> HandshakeLine
     ensures { result ≡ line_told length command mechanism text }
 {
     HandshakeLine {
@@ -119,7 +119,7 @@ fn line_told(length: usize, command: u32, mechanism: Place, text: Place) -> Hand
 }
 
 // Where a text stands; there is none if it has no bytes.
-fn place_told(place: Place) -> TextPlace
+fn place_told(place: WordPlace) -> TextPlace
     ensures { result ≡ place_told place }
 {
     if place.length == 0 {

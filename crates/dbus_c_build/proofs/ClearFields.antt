@@ -10,7 +10,7 @@ use Rattle.dbus_value_model.specs.declared.order.Order.{Order}
 use Rattle.dbus_message_model.specs.Messages.{FieldTree, has_code}
 use Rattle.dbus_c_build.specs.Placed.{text_code, number_value, number_of, place_of, field_of, field_given, stays, in_place, added, known_codes, fields_after}
 use Rattle.dbus_c_build.specs.Building.{HaveBytes, IsShort, most_of}
-use Rattle.dbus_c_build.specs.declared.placed.Place.{Place}
+use Rattle.dbus_c_build.specs.declared.placed.ByteRange.{ByteRange}
 use Rattle.dbus_c_build.specs.declared.placed.PlacedParts.{PlacedParts}
 use Rattle.dbus_c_build.proofs.Anywhere.{IsSpelled, AreSpelled}
 use Rattle.dbus_c_build.proofs.SameFields.{AreClear, spelled_sound}
@@ -49,7 +49,7 @@ module _ (bounds : Bounds) (order : Order) (depth : ℕ) where
   clear_number code n true small few = tt
   clear_number code n false small few = (inl (small, omega arith, (refl, omega (arith, few))), tt)
 
-  clear_field : (b : List ℕ) (code : ℕ) (q : Option Place) (n : ℕ) → code < 256 → IsShort code q → n < 2 ^ 32 → AreClear bounds order depth (field_of b code q n)
+  clear_field : (b : List ℕ) (code : ℕ) (q : Option ByteRange) (n : ℕ) → code < 256 → IsShort code q → n < 2 ^ 32 → AreClear bounds order depth (field_of b code q n)
   clear_field b code None n small short few = clear_number code n (nat_eq n 0) small few
   clear_field b code (Some q) n small short few = (inl (small, short_sig (text_code code), omega (arith, most_fits code, short, length-take q.length (drop q.start b))), tt)
 

@@ -24,7 +24,7 @@ use Rattle.dbus_validate.specs.declared.validating.Validated.{Validated}
 use Rattle.dbus_c_build.specs.Placed.{HasParts, IsInside, place_of, text_at, text_code, field_of, field_given, stays, in_place, added, known_codes, fields_after}
 use Rattle.dbus_c_build.specs.Spelled.{spelled}
 use Rattle.dbus_c_build.specs.Building.{HaveBytes, HaveNoBytes, IsBuilt, IsShort, IsRefusal, MakeNone, most_of, fields_length}
-use Rattle.dbus_c_build.specs.declared.placed.Place.{Place}
+use Rattle.dbus_c_build.specs.declared.placed.ByteRange.{ByteRange}
 use Rattle.dbus_c_build.specs.declared.placed.PlacedParts.{PlacedParts}
 use Rattle.dbus_c_build.specs.declared.refusal.Refusal.{Refusal}
 use Rattle.dbus_c_build.specs.declared.refusal.Refusal.TheVariants as refusals
@@ -34,12 +34,12 @@ use Rattle.dbus_c_build.proofs.SameFields.{sound_field}
 
 -- ---- places by their codes
 
-if_is : (P : ℕ → Option Place → Type 0) (code k : ℕ) (x y : Option Place) (same : Bool) → nat_eq code k ≡ same → P k x → P code y → P code (if same then x else y)
+if_is : (P : ℕ → Option ByteRange → Type 0) (code k : ℕ) (x y : Option ByteRange) (same : Bool) → nat_eq code k ≡ same → P k x → P code y → P code (if same then x else y)
 if_is P code k x y true e there else_there = subst (λ (c : ℕ). P c x) (sym (eqb-true code k e)) there
 if_is P code k x y false e there else_there = else_there
 
 -- what holds of each place holds by its code
-pub by_code : (p : PlacedParts) (P : ℕ → Option Place → Type 0) → ((code : ℕ) → P code None) → P 0 (Some p.body)
+pub by_code : (p : PlacedParts) (P : ℕ → Option ByteRange → Type 0) → ((code : ℕ) → P code None) → P 0 (Some p.body)
     → (P 1 p.path × P 2 p.interface × P 3 p.member × P 4 p.error_name × P 6 p.destination × P 7 p.sender × P 8 p.signature) → (code : ℕ) → P code (place_of code p)
 by_code p P none body h code =
     if_is P code 0 _ _ (nat_eq code 0) refl body (if_is P code 1 _ _ (nat_eq code 1) refl h.0 (if_is P code 2 _ _ (nat_eq code 2) refl h.1
@@ -84,7 +84,7 @@ module _ (order : Order) (most : ℕ) where
       let one = field_length order g.code g.value front sound.code in
       (short_value g.value sound.depth (length (with_padding 8 front) + 1 + 1 + length (sig (type_of g.value)) + 1) sound.formed (omega (arith, within, all, rest, one)), short_fields gs depth (with_value order (field_struct g) front) formed.1 (omega (arith, within, all)))
 
-length_at : (b : List ℕ) (q : Place) → IsInside b (Some q) → length (text_at b q) ≡ q.length
+length_at : (b : List ℕ) (q : ByteRange) → IsInside b (Some q) → length (text_at b q) ≡ q.length
 length_at b q inside = omega (arith, inside, length-take q.length (drop q.start b), length-drop q.start b)
 
 -- ---- the field that the parts have of a code is short if all fields are
@@ -138,7 +138,7 @@ module _ (most : ℕ) where
         by true is = short_kept kept changed is parts.0
         by false is = short_added known_codes is among parts.1
 
-text_short : (most : ℕ) (b : List ℕ) (code : ℕ) (q : Option Place) (n : ℕ) → IsInside b q → ((n : ℕ) → n ≤ most → n < 256 ^ length_width (text_code code) → n ≤ most_of code)
+text_short : (most : ℕ) (b : List ℕ) (code : ℕ) (q : Option ByteRange) (n : ℕ) → IsInside b q → ((n : ℕ) → n ≤ most → n < 256 ^ length_width (text_code code) → n ≤ most_of code)
     → HaveShort most (field_of b code q n) → IsShort code q
 text_short most b code None n inside bound short = tt
 text_short most b code (Some q) n inside bound short = subst (λ (k : ℕ). k ≤ most_of code) (length_at b q inside) (bound (length (text_at b q)) short.0.0 short.0.1)

@@ -9,7 +9,7 @@ use Rattle.dbus_message_model.specs.Messages.{FieldTree, MessageTree, IsMessage,
 use Rattle.dbus_header.specs.NoMessage.{IsFaultAtEnd}
 use Rattle.dbus_c_build.specs.Placed.{HasParts, IsInside, place_of, fields_after}
 use Rattle.dbus_c_build.specs.Spelled.{spelled}
-use Rattle.dbus_c_build.specs.declared.placed.Place.{Place}
+use Rattle.dbus_c_build.specs.declared.placed.ByteRange.{ByteRange}
 use Rattle.dbus_c_build.specs.declared.placed.PlacedParts.{PlacedParts}
 use Rattle.dbus_c_build.specs.declared.refusal.Refusal.{Refusal}
 use Rattle.dbus_c_build.specs.declared.refusal.Refusal.TheVariants as refusals
@@ -29,7 +29,7 @@ MakeNone limits b kept p = (m : MessageTree) → HasParts b kept p m → IsMessa
 abbrev pub most_of : ℕ → ℕ
 most_of code = if nat_eq code 8 then 255 else MESSAGE_LIMIT
 
-abbrev pub IsShort : ℕ → Option Place → Type 0
+abbrev pub IsShort : ℕ → Option ByteRange → Type 0
 IsShort code None = Unit {0}
 IsShort code (Some q) = q.length ≤ most_of code
 

@@ -5,11 +5,11 @@ use Rattle.std.specs.List.{flat_map}
 use Rattle.dbus_texts.specs.Types.{TextCode, STRING, OBJECT_PATH, SIGNATURE, UINT32}
 use Rattle.dbus_value_model.specs.Values.{NumberValue, TextValue}
 use Rattle.dbus_message_model.specs.Messages.{FieldTree, MessageTree, body_bytes, fd_count, has_code, is_known}
-use Rattle.dbus_c_build.specs.declared.placed.Place.{Place}
+use Rattle.dbus_c_build.specs.declared.placed.ByteRange.{ByteRange}
 use Rattle.dbus_c_build.specs.declared.placed.PlacedParts.{PlacedParts}
 
 -- the place of the text of a field by its code, and of the body under 0
-abbrev pub place_of : ℕ → PlacedParts → Option Place
+abbrev pub place_of : ℕ → PlacedParts → Option ByteRange
 place_of code p =
     if nat_eq code 0 then Some p.body else if nat_eq code 1 then p.path else if nat_eq code 2 then p.interface
     else if nat_eq code 3 then p.member else if nat_eq code 4 then p.error_name else if nat_eq code 6 then p.destination
@@ -20,12 +20,12 @@ abbrev pub number_of : ℕ → PlacedParts → ℕ
 number_of code p = if nat_eq code 5 then p.reply_serial else if nat_eq code 9 then p.unix_fds else 0
 
 -- the place lies within the bytes, if there is one
-abbrev pub IsInside : List ℕ → Option Place → Type 0
+abbrev pub IsInside : List ℕ → Option ByteRange → Type 0
 IsInside b None = Unit {0}
 IsInside b (Some q) = q.start + q.length ≤ length b
 
 -- what stands there
-abbrev pub text_at : List ℕ → Place → List ℕ
+abbrev pub text_at : List ℕ → ByteRange → List ℕ
 text_at b q = take q.length (drop q.start b)
 
 -- ---- fields
@@ -34,7 +34,7 @@ text_at b q = take q.length (drop q.start b)
 abbrev pub text_code : ℕ → TextCode
 text_code code = if nat_eq code 1 then OBJECT_PATH else if nat_eq code 8 then SIGNATURE else STRING
 
-abbrev pub text_value : List ℕ → (code : ℕ) → Place → FieldTree
+abbrev pub text_value : List ℕ → (code : ℕ) → ByteRange → FieldTree
 text_value b code q = record { code = code; value = TextValue (text_code code) (text_at b q) }
 
 abbrev pub number_value : (code number : ℕ) → FieldTree
@@ -45,7 +45,7 @@ abbrev pub number_field : (code number : ℕ) → List FieldTree
 number_field code n = if nat_eq n 0 then [] else number_value code n ∷ []
 
 -- the field of a text, if there is one, or else of a number
-abbrev pub field_of : List ℕ → (code : ℕ) → Option Place → (number : ℕ) → List FieldTree
+abbrev pub field_of : List ℕ → (code : ℕ) → Option ByteRange → (number : ℕ) → List FieldTree
 field_of b code (Some q) n = text_value b code q ∷ []
 field_of b code None n = number_field code n
 

@@ -17,5 +17,5 @@ mod refusal;
 
 pub use building::build;
 pub use given::Given;
-pub use placed::{Place, PlacedParts};
+pub use placed::{ByteRange, PlacedParts};
 pub use refusal::Refusal;

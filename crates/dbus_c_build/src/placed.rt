@@ -13,7 +13,7 @@ pub(crate) const BODY: u8 = 0;
 
 /// A place among bytes: where a text or a body is.
 #[derive(Clone, Copy, Debug, Drop)]
-pub struct Place {
+pub struct ByteRange {
     /// Its offset, in bytes from the first.
     pub start: usize,
     /// Its number of bytes.
@@ -36,29 +36,29 @@ pub struct PlacedParts {
     /// The number of the UNIX_FDS field, or 0 for no such field.
     pub unix_fds: u32,
     /// The PATH.
-    pub path: Option<Place>,
+    pub path: Option<ByteRange>,
     /// The INTERFACE.
-    pub interface: Option<Place>,
+    pub interface: Option<ByteRange>,
     /// The MEMBER.
-    pub member: Option<Place>,
+    pub member: Option<ByteRange>,
     /// The ERROR_NAME.
-    pub error_name: Option<Place>,
+    pub error_name: Option<ByteRange>,
     /// The DESTINATION.
-    pub destination: Option<Place>,
+    pub destination: Option<ByteRange>,
     /// The SENDER.
-    pub sender: Option<Place>,
+    pub sender: Option<ByteRange>,
     /// The SIGNATURE: the types of the values in the body.
-    pub signature: Option<Place>,
+    pub signature: Option<ByteRange>,
     /// The bytes of the body, spelled as they are in a message, where a body begins at a multiple
     /// of 8.
-    pub body: Place,
+    pub body: ByteRange,
 }
 
 impl PlacedParts {
     ghost use Rattle.dbus_c_build.specs.Placed.{number_of, place_of};
 
     /// The place of the text of a field by its code, or of the body.
-    pub(crate) fn place(&self, code: u8) -> Option<Place>
+    pub(crate) fn place(&self, code: u8) -> Option<ByteRange>
         ensures { result ≡ place_of code self.now }
     {
         match code {

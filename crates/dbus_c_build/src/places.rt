@@ -7,7 +7,7 @@ ghost use Rattle.dbus_c_build.specs.Placed.{IsInside, place_of, text_at};
 ghost use Rattle.dbus_c_build.specs.Building.{AreGood, AreGoodBelow, HaveNoBytes, IsShort, most_of};
 ghost use Rattle.dbus_c_build.specs.declared.placed.PlacedParts.{PlacedParts};
 
-use crate::placed::{BODY, Place, PlacedParts};
+use crate::placed::{BODY, ByteRange, PlacedParts};
 use crate::refusal::Refusal;
 use dbus_message_model::field_code::{SIGNATURE, UNIX_FDS};
 use dbus_value_model::MESSAGE_LIMIT;
@@ -24,7 +24,7 @@ fn most_of(code: u8) -> usize
 }
 
 /// Whether the place of a code is within the bytes and not too long.
-fn check_place(bytes: &[u8], place: Place, code: u8) -> Result<(), Refusal>
+fn check_place(bytes: &[u8], place: ByteRange, code: u8) -> Result<(), Refusal>
     ensures inside { OnOk result (IsInside bytes.now (Some place)) }
     ensures short { OnOk result (IsShort code (Some place)) }
     ensures refused { IfErr result (λ why. (kept : List FieldTree) (p : PlacedParts) →
@@ -54,7 +54,7 @@ pub(crate) fn check_places(bytes: &[u8], parts: &PlacedParts) -> Result<(), Refu
 }
 
 /// What is at a place.
-pub(crate) fn text_at<'a>(bytes: &'a [u8], place: Place) -> &'a [u8]
+pub(crate) fn text_at<'a>(bytes: &'a [u8], place: ByteRange) -> &'a [u8]
     requires { IsInside bytes.now (Some place) }
     ensures text { result.now ≡ text_at bytes.now place }
     ensures length { length result.now ≡ place.length }

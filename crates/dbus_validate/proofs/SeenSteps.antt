@@ -11,7 +11,7 @@ use Rattle.dbus_value_model.specs.Values.{ValueTree}
 use Rattle.dbus_message_model.specs.Messages.{FieldTree, Want, Anything, OfType, Name, Serial, want, is_particular, is_known, has_code, lacks, required, text_in, number_in, body_signature, fd_count}
 use Rattle.dbus_message_model.specs.Lookups.{field_value}
 use Rattle.dbus_validate.specs.declared.field_values.Held.{Held}
-use Rattle.dbus_validate.specs.declared.seen.Place.{Place}
+use Rattle.dbus_validate.specs.declared.seen.FieldPlace.{FieldPlace}
 use Rattle.dbus_validate.specs.declared.seen.Seen.{Seen}
 use Rattle.dbus_validate.specs.Held.{IsNoted}
 use Rattle.dbus_validate.specs.Seen.{StandsAt, IsNotedOf, AreNoted, ArePlaced, fields_before, field_start, known_start, text_start, field_text_start}
@@ -40,13 +40,13 @@ known_below c known = elim (cases_lt c 10) [ inl h ↦ h | inr h ↦ let no = un
 
 -- ---- what is noted
 
-as_noted : (v : Option ValueTree) (bytes : List ℕ) (p : Option Place) → IsNotedOf v bytes p → is_some p ≡ is_some v
+as_noted : (v : Option ValueTree) (bytes : List ℕ) (p : Option FieldPlace) → IsNotedOf v bytes p → is_some p ≡ is_some v
 as_noted None bytes None n = refl
 as_noted None bytes (Some p) n = absurd n
 as_noted (Some v) bytes None n = absurd n
 as_noted (Some v) bytes (Some p) n = refl
 
-abbrev place_of : Held → Place
+abbrev place_of : Held → FieldPlace
 place_of h = record { start = h.start; length = h.length; number = h.number }
 
 stands : (w : Want) (v : ValueTree) (bytes : List ℕ) (h : Held) → is_particular w ≡ true → IsNoted w v bytes h → h.start + h.length ≤ length bytes → StandsAt v bytes (place_of h)
@@ -77,10 +77,10 @@ module _ (fs : List FieldTree) (bytes : List ℕ) (seen : Seen) (noted : AreNote
       put_noted : code < 10 → new.places ≡ set seen.places code (Some (place_of h)) → (c : ℕ) → is_known c ≡ true → (same : Bool) → eqb code c ≡ same
           → IsNotedOf (field_value c (fs ++ (record { code = code; value = v }) ∷ [])) bytes (get_or new.places c None)
       put_noted lt put c known true e =
-          new_noted c known e (ap (λ (l : List (Option Place)). get_or l code None) put ∙ get_or-set_same seen.places code (Some (place_of h)) None (omega arith))
+          new_noted c known e (ap (λ (l : List (Option FieldPlace)). get_or l code None) put ∙ get_or-set_same seen.places code (Some (place_of h)) None (omega arith))
       put_noted lt put c known false e =
           let ne = eqb-false code c e in
-          other_kept c known e (ap (λ (l : List (Option Place)). get_or l c None) put ∙ get_or-set_other seen.places code c (Some (place_of h)) None (λ same. ne (sym same)))
+          other_kept c known e (ap (λ (l : List (Option FieldPlace)). get_or l c None) put ∙ get_or-set_other seen.places code c (Some (place_of h)) None (λ same. ne (sym same)))
 
       pub noted_more : code < 10 → new.places ≡ set seen.places code (Some (place_of h)) → AreNoted (fs ++ (record { code = code; value = v }) ∷ []) bytes new
       noted_more lt put = λ c known. put_noted lt put c known (eqb code c) refl
@@ -89,7 +89,7 @@ module _ (fs : List FieldTree) (bytes : List ℕ) (seen : Seen) (noted : AreNote
     pub noted_past : 10 ≤ code → new.places ≡ seen.places → AreNoted (fs ++ (record { code = code; value = v }) ∷ []) bytes new
     noted_past le same = λ c known.
         let below = known_below c known in
-        other_kept c known (ne_eqb code c (omega arith)) (ap (λ (l : List (Option Place)). get_or l c None) same)
+        other_kept c known (ne_eqb code c (omega arith)) (ap (λ (l : List (Option FieldPlace)). get_or l c None) same)
 
 -- ---- what is noted of the first bytes
 
@@ -104,7 +104,7 @@ noted_front (OfType t) v front rest h fits is = (is.0 ∙ slice_of_front front r
 noted_front (Name k) v front rest h fits is = (is.0 ∙ slice_of_front front rest h.start h.length fits, is.1)
 noted_front Serial v front rest h fits is = (is.0 ∙ slice_of_front front rest h.start h.length fits, is.1)
 
-noted_longer : (v : Option ValueTree) (front rest : List ℕ) (p : Option Place) → IsNotedOf v front p → IsNotedOf v (front ++ rest) p
+noted_longer : (v : Option ValueTree) (front rest : List ℕ) (p : Option FieldPlace) → IsNotedOf v front p → IsNotedOf v (front ++ rest) p
 noted_longer None front rest None is = tt
 noted_longer None front rest (Some p) is = absurd is
 noted_longer (Some v) front rest None is = absurd is
@@ -140,14 +140,14 @@ before_other c (g ∷ fs) f v is = go (eqb g.code c) is (λ e. before_other c fs
 
 -- a field after others: its own text is placed after them, and the others stay
 module _ (order : Order) (fs : List FieldTree) (seen new : Seen) (placed : ArePlaced order fs seen) (f : FieldTree) (alone : is_known f.code && has_code f.code fs ≡ false) where
-  others_placed : (c : ℕ) (v : ValueTree) (p : Place) → is_known c ≡ true → eqb f.code c ≡ false → get_or new.places c None ≡ get_or seen.places c None
+  others_placed : (c : ℕ) (v : ValueTree) (p : FieldPlace) → is_known c ≡ true → eqb f.code c ≡ false → get_or new.places c None ≡ get_or seen.places c None
       → field_value c (fs ++ f ∷ []) ≡ Some v → get_or new.places c None ≡ Some p → p.start ≡ field_text_start order c (fs ++ f ∷ []) v
   others_placed c v p known other kept is noted =
       let was = sym (value_other c fs f other) ∙ is in
       placed c v p known was (sym kept ∙ noted) ∙ ap (λ (l : List FieldTree). text_start (known_start (field_start order l)) v) (sym (before_other c fs f v was))
 
   module _ (h : Held) (begins : is_known f.code ≡ true → h.start ≡ text_start (known_start (field_start order fs)) f.value) where
-    last_placed : (c : ℕ) (v : ValueTree) (p : Place) → is_known c ≡ true → eqb f.code c ≡ true → get_or new.places f.code None ≡ Some (place_of h)
+    last_placed : (c : ℕ) (v : ValueTree) (p : FieldPlace) → is_known c ≡ true → eqb f.code c ≡ true → get_or new.places f.code None ≡ Some (place_of h)
         → field_value c (fs ++ f ∷ []) ≡ Some v → get_or new.places c None ≡ Some p → p.start ≡ field_text_start order c (fs ++ f ∷ []) v
     last_placed c v p known same put is noted =
         let there : f.code ≡ c = eqb-true f.code c same in
@@ -157,24 +157,24 @@ module _ (order : Order) (fs : List FieldTree) (seen new : Seen) (placed : ArePl
         let one : f.value ≡ v = cc in
         let slot : Some (place_of h) ≡ Some p = sym (subst (λ (k : ℕ). get_or new.places k None ≡ Some (place_of h)) there put) ∙ noted in
         let at : place_of h ≡ p = cc in
-        ap (λ (q : Place). q.start) (sym at) ∙ begins is_one ∙ ap (λ (w : ValueTree). text_start (known_start (field_start order fs)) w) one
+        ap (λ (q : FieldPlace). q.start) (sym at) ∙ begins is_one ∙ ap (λ (w : ValueTree). text_start (known_start (field_start order fs)) w) one
         ∙ ap (λ (l : List FieldTree). text_start (known_start (field_start order l)) v) (sym (before_last c fs f none same))
 
     pub placed_more : length seen.places ≡ 10 → f.code < 10 → new.places ≡ set seen.places f.code (Some (place_of h)) → ArePlaced order (fs ++ f ∷ []) new
     placed_more ten lt put = λ c v p known is noted. go c v p known is noted (eqb f.code c) refl
       where
-        go : (c : ℕ) (v : ValueTree) (p : Place) → is_known c ≡ true → field_value c (fs ++ f ∷ []) ≡ Some v → get_or new.places c None ≡ Some p → (same : Bool) → eqb f.code c ≡ same → p.start ≡ field_text_start order c (fs ++ f ∷ []) v
+        go : (c : ℕ) (v : ValueTree) (p : FieldPlace) → is_known c ≡ true → field_value c (fs ++ f ∷ []) ≡ Some v → get_or new.places c None ≡ Some p → (same : Bool) → eqb f.code c ≡ same → p.start ≡ field_text_start order c (fs ++ f ∷ []) v
         go c v p known is noted true e =
-            last_placed c v p known e (ap (λ (l : List (Option Place)). get_or l f.code None) put ∙ get_or-set_same seen.places f.code (Some (place_of h)) None (omega arith)) is noted
+            last_placed c v p known e (ap (λ (l : List (Option FieldPlace)). get_or l f.code None) put ∙ get_or-set_same seen.places f.code (Some (place_of h)) None (omega arith)) is noted
         go c v p known is noted false e =
             let ne = eqb-false f.code c e in
-            others_placed c v p known e (ap (λ (l : List (Option Place)). get_or l c None) put ∙ get_or-set_other seen.places f.code c (Some (place_of h)) None (λ same. ne (sym same))) is noted
+            others_placed c v p known e (ap (λ (l : List (Option FieldPlace)). get_or l c None) put ∙ get_or-set_other seen.places f.code c (Some (place_of h)) None (λ same. ne (sym same))) is noted
 
   -- a field that is not known
   pub placed_past : 10 ≤ f.code → new.places ≡ seen.places → ArePlaced order (fs ++ f ∷ []) new
   placed_past le same = λ c v p known is noted.
       let below = known_below c known in
-      others_placed c v p known (ne_eqb f.code c (omega arith)) (ap (λ (l : List (Option Place)). get_or l c None) same) is noted
+      others_placed c v p known (ne_eqb f.code c (omega arith)) (ap (λ (l : List (Option FieldPlace)). get_or l c None) same) is noted
 
 -- ---- the fields that are required
 
@@ -227,21 +227,21 @@ count_of [] = refl
 count_of (f ∷ fs) = elim (eqb f.code 9) as (λ b. cond b (number_in f.value) (fd_count fs) ≡ number_of (cond b (Some f.value) (field_value 9 fs))) [ true ↦ refl | false ↦ count_of fs ]
 
 module _ (bytes : List ℕ) where
-  abbrev pub text_at : Option Place → List ℕ
+  abbrev pub text_at : Option FieldPlace → List ℕ
   text_at None = []
   text_at (Some p) = take p.length (drop p.start bytes)
 
-  seen_text : (v : Option ValueTree) (p : Option Place) → IsNotedOf v bytes p → text_of v ≡ text_at p
+  seen_text : (v : Option ValueTree) (p : Option FieldPlace) → IsNotedOf v bytes p → text_of v ≡ text_at p
   seen_text None None n = refl
   seen_text None (Some p) n = absurd n
   seen_text (Some v) None n = absurd n
   seen_text (Some v) (Some p) n = n.text
 
-  abbrev pub number_at : Option Place → ℕ
+  abbrev pub number_at : Option FieldPlace → ℕ
   number_at None = 0
   number_at (Some p) = p.number
 
-  seen_number : (v : Option ValueTree) (p : Option Place) → IsNotedOf v bytes p → number_of v ≡ number_at p
+  seen_number : (v : Option ValueTree) (p : Option FieldPlace) → IsNotedOf v bytes p → number_of v ≡ number_at p
   seen_number None None n = refl
   seen_number None (Some p) n = absurd n
   seen_number (Some v) None n = absurd n

@@ -8,17 +8,17 @@ use Rattle.dbus_value_model.specs.Spelling.{spellings}
 use Rattle.dbus_value_model.specs.Values.{ValueTree, TextValue, value_trees}
 use Rattle.dbus_message_model.specs.Messages.{FieldTree, field_struct, is_known, text_in, number_in}
 use Rattle.dbus_message_model.specs.Lookups.{field_value}
-use Rattle.dbus_validate.specs.declared.seen.Place.{Place}
+use Rattle.dbus_validate.specs.declared.seen.FieldPlace.{FieldPlace}
 use Rattle.dbus_validate.specs.declared.seen.Seen.{Seen}
 
 -- its text stands there, within the bytes, and its number is this, where it has one
-pub record StandsAt (v : ValueTree) (bytes : List ℕ) (p : Place) : Type 0 where
+pub record StandsAt (v : ValueTree) (bytes : List ℕ) (p : FieldPlace) : Type 0 where
   pub text : text_in v ≡ take p.length (drop p.start bytes)
   pub inside : p.start + p.length ≤ length bytes
   pub number : number_in v ≡ p.number
 
 -- where there is a value its place is noted, and where there is none nothing is
-abbrev pub IsNotedOf : Option ValueTree → List ℕ → Option Place → Type 0
+abbrev pub IsNotedOf : Option ValueTree → List ℕ → Option FieldPlace → Type 0
 IsNotedOf None bytes None = Unit {0}
 IsNotedOf None bytes (Some p) = ⊥
 IsNotedOf (Some v) bytes None = ⊥
@@ -58,4 +58,4 @@ field_text_start order c fs v = text_start (known_start (field_start order (fiel
 
 -- of each known code the text of the first field is noted where that field has it
 abbrev pub ArePlaced : Order → List FieldTree → Seen → Type 0
-ArePlaced order fs seen = (c : ℕ) (v : ValueTree) (p : Place) → is_known c ≡ true → field_value c fs ≡ Some v → slice_index_or seen.places c None ≡ Some p → p.start ≡ field_text_start order c fs v
+ArePlaced order fs seen = (c : ℕ) (v : ValueTree) (p : FieldPlace) → is_known c ≡ true → field_value c fs ≡ Some v → slice_index_or seen.places c None ≡ Some p → p.start ≡ field_text_start order c fs v

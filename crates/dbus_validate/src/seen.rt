@@ -20,7 +20,7 @@ const UNIX_FDS: u8 = 9;
 
 /// Where the value of a known field is.
 #[derive(Clone, Copy)]
-pub struct Place {
+pub struct FieldPlace {
     /// The offset of its text, or 0 if it is no text.
     pub start: u32,
     /// The number of bytes of its text, or 0.
@@ -29,7 +29,7 @@ pub struct Place {
     pub number: u32,
 }
 
-impl Place {
+impl FieldPlace {
     /// Its text in the bytes.
     pub fn text<'a>(&self, bytes: &'a [u8]) -> &'a [u8]
         requires { self.now.start + self.now.length ≤ length bytes.now }
@@ -45,7 +45,7 @@ impl Place {
 pub struct Seen {
     /// Of each code the value of the field that was seen, if one was: the codes of the known fields
     /// are 1 to 9.
-    pub places: [Option<Place>; 10],
+    pub places: [Option<FieldPlace>; 10],
 }
 
 impl Seen {
@@ -59,7 +59,7 @@ impl Seen {
     }
 
     /// Where the value of the field of a code is, if it was seen.
-    pub fn get(&self, code: u8) -> Option<Place>
+    pub fn get(&self, code: u8) -> Option<FieldPlace>
         ensures { result ≡ slice_index_or self.now.places code None }
     {
         let index = usize::from(code);
@@ -94,7 +94,7 @@ impl Seen {
     {
         let at = usize::from(code);
         if at < self.places.len() {
-            self.places[at] = Some(Place {
+            self.places[at] = Some(FieldPlace {
                 start: held.start as u32,
                 length: held.length as u32,
                 number: held.number,

@@ -6,7 +6,7 @@ use Rattle.dbus_value_model.specs.Values.{ValueTree, NumberValue, IsWellFormed}
 use Rattle.dbus_message_model.specs.Lookups.{field_value}
 use Rattle.dbus_message_model.specs.Messages.{MessageTree, want}
 use Rattle.dbus_validate.specs.declared.validating.Validated.{Validated}
-use Rattle.dbus_validate.specs.declared.seen.Place.{Place}
+use Rattle.dbus_validate.specs.declared.seen.FieldPlace.{FieldPlace}
 use Rattle.dbus_message_model.specs.KnownFields.{WantsText, IsTextOf}
 use Rattle.dbus_validate.specs.Seen.{AreNoted}
 use Rattle.dbus_validate.specs.Validating.{IsValidatedWhole}
@@ -25,14 +25,14 @@ module _ (limits : Limits) (bytes : List ℕ) (j : Validated) (h : IsValidatedWh
 
   module _ (c : ℕ) (wants : WantsText (want c)) where
     -- its text stands there
-    pub record TextThere (p : Place) : Type 0 where
+    pub record TextThere (p : FieldPlace) : Type 0 where
       pub value : ValueTree
       pub is : field_value c read.fields ≡ Some value
       pub inside : p.start + p.length ≤ length bytes
       pub text : IsTextOf (want c) (Some value) (take p.length (drop p.start bytes))
       pub utf8 : IsUtf8 (take p.length (drop p.start bytes))
 
-    pub text_there : (p : Place) → Some p ≡ slice_index_or j.fields.places c None → TextThere p
+    pub text_there : (p : FieldPlace) → Some p ≡ slice_index_or j.fields.places c None → TextThere p
     text_there p e =
         let ok = valid limits bytes j h in
         let s = stands read.fields bytes j.fields c noted (text_known (want c) wants) p e in
@@ -49,7 +49,7 @@ module _ (limits : Limits) (bytes : List ℕ) (j : Validated) (h : IsValidatedWh
     pub no_text : None ≡ slice_index_or j.fields.places c None → field_value c read.fields ≡ None
     no_text e = absent read.fields bytes j.fields c noted (text_known (want c) wants) e
 
-  pub number_there : (p : Place) → Some p ≡ slice_index_or j.fields.places 5 None → field_value 5 read.fields ≡ Some (NumberValue UINT32 p.number)
+  pub number_there : (p : FieldPlace) → Some p ≡ slice_index_or j.fields.places 5 None → field_value 5 read.fields ≡ Some (NumberValue UINT32 p.number)
   number_there p e =
       let ok = valid limits bytes j h in
       let s = stands read.fields bytes j.fields 5 noted refl p e in
