@@ -16,7 +16,7 @@ use crate::given_limits::WireLimits;
 use dbus_message_model::field_code::{
     DESTINATION, ERROR_NAME, INTERFACE, MEMBER, PATH, REPLY_SERIAL, SENDER, SIGNATURE, UNIX_FDS,
 };
-use dbus_validate::Seen;
+use dbus_validate::FieldPlaces;
 use dbus_value_model::Order;
 
 /// Where a text, as that of a header field, is among the bytes that were handed in.
@@ -115,7 +115,7 @@ pub(crate) fn order_byte(order: Order) -> u32
 }
 
 // Where the text of the field of a known code is.
-fn place_of(seen: &Seen, code: u8) -> TextPlace
+fn place_of(seen: &FieldPlaces, code: u8) -> TextPlace
     ensures there { (bytes : List ℕ) (fs : List FieldTree) → AreNoted fs bytes seen.now →
         is_known code ≡ true → IsPlaceOf (field_value code fs) bytes result }
     ensures own { (order : Order) (bytes : List ℕ) (fs : List FieldTree) →
@@ -137,7 +137,7 @@ fn place_of(seen: &Seen, code: u8) -> TextPlace
 }
 
 // The number of the field of a known code.
-fn number_of(seen: &Seen, code: u8) -> u32
+fn number_of(seen: &FieldPlaces, code: u8) -> u32
     ensures { (bytes : List ℕ) (fs : List FieldTree) → AreNoted fs bytes seen.now →
         is_known code ≡ true → result ≡ number_of (field_value code fs) }
 {

@@ -19,7 +19,7 @@ use Rattle.dbus_header.proofs.FieldLoop.{with_front, goes_on, is_done, starts}
 use Rattle.dbus_value_validator.specs.Endings.{IsNotRead}
 use Rattle.dbus_value_validator.proofs.ReadParts.{not_partial, not_same, not_first}
 use Rattle.dbus_validate.specs.declared.field_values.Held.{Held}
-use Rattle.dbus_validate.specs.declared.seen.Seen.{Seen}
+use Rattle.dbus_validate.specs.declared.seen.FieldPlaces.{FieldPlaces}
 use Rattle.dbus_validate.specs.Held.{IsNoted, IsHeldField}
 use Rattle.dbus_validate.specs.Seen.{AreNoted, ArePlaced, field_start, known_start, text_start}
 
@@ -50,14 +50,14 @@ next_start order fs f place after here ends = ends ∙ ap (λ (k : ℕ). k + len
 module _ (limits : Limits) (order : Order) (bytes : List ℕ) (at n : ℕ) where
   -- these fields were read up to a place and noted, and what is read from there on, in so many
   -- turns, comes after them
-  pub record Left (turns place : ℕ) (seen : Seen) : Type 0 where
+  pub record Left (turns place : ℕ) (seen : FieldPlaces) : Type 0 where
     pub front : List FieldTree
     pub noted : AreNoted front (take (at + n) bytes) seen
     pub placed : ArePlaced order front seen
     pub here : place ≡ field_start order front
     pub leads : fields_read limits order n at (drop at bytes) ≡ with_front front (up_to turns (at + n) (field_read limits order (at + n)) (reverse front) place (drop place bytes))
 
-  pub none_left : (seen : Seen) → at ≡ 16 → AreNoted [] (take (at + n) bytes) seen → Left (n - 0) at seen
+  pub none_left : (seen : FieldPlaces) → at ≡ 16 → AreNoted [] (take (at + n) bytes) seen → Left (n - 0) at seen
   unfolding fields_read spelling
   none_left seen begins noted = record { front = []; noted = noted; placed = λ c v p known is slot. absurd cc; here = begins; leads = sym (starts (field_read limits order) n at (drop at bytes)) }
 
@@ -73,7 +73,7 @@ module _ (limits : Limits) (order : Order) (bytes : List ℕ) (at n : ℕ) where
       (read_passes (field (bounds_of limits) order inner (at + n) before) (field_read limits order (at + n) before) (Agrees-field limits order inner (at + n) opened before) place (drop place bytes) (bytes_at bytes place are) f q r read).0.place
 
   module _ (deep : 3 ≤ limits.depth) (are : (i : ℕ) → get_or bytes i 0 < 256) where
-    pub one_left : (turns rest place code : ℕ) (held : Held) (seen new : Seen) (left : Left turns place seen) → turns ≡ suc rest → place < at + n → is_known code && has_code code left.front ≡ false
+    pub one_left : (turns rest place code : ℕ) (held : Held) (seen new : FieldPlaces) (left : Left turns place seen) → turns ≡ suc rest → place < at + n → is_known code && has_code code left.front ≡ false
         → ((before : List FieldTree) → is_known code && has_code code before ≡ false → IsHeldField limits order (at + n) before place bytes code held)
         → ((v : ValueTree) → IsNoted (want code) v bytes held → AreNoted (left.front ++ (record { code = code; value = v }) ∷ []) (take (at + n) bytes) new)
         → ((v : ValueTree) → (is_known code ≡ true → held.start ≡ text_start (known_start (field_start order left.front)) v) → ArePlaced order (left.front ++ (record { code = code; value = v }) ∷ []) new)
@@ -89,7 +89,7 @@ module _ (limits : Limits) (order : Order) (bytes : List ℕ) (at n : ℕ) where
           leads = left.leads ∙ goes_on (field_read limits order (at + n)) (at + n) left.front turns rest place (drop place bytes) f held.after (drop held.after bytes) more lt one.1;
         }
 
-  pub left_ends : (turns place : ℕ) (seen : Seen) → Left turns place seen → place ≡ at + n
+  pub left_ends : (turns place : ℕ) (seen : FieldPlaces) → Left turns place seen → place ≡ at + n
       → (fs : List FieldTree) × (fields_read limits order n at (drop at bytes) ≡ Done fs (at + n) (drop (at + n) bytes)) × AreNoted fs (take (at + n) bytes) seen × ArePlaced order fs seen
   left_ends turns place seen left here = (
     left.front,
@@ -98,7 +98,7 @@ module _ (limits : Limits) (order : Order) (bytes : List ℕ) (at n : ℕ) where
     left.placed,
   )
 
-  module _ (turns place : ℕ) (seen : Seen) (left : Left turns place seen) where
+  module _ (turns place : ℕ) (seen : FieldPlaces) (left : Left turns place seen) where
     not_left : IsNotRead (up_to turns (at + n) (field_read limits order (at + n)) (reverse left.front) place (drop place bytes)) → IsNotRead (fields_read limits order n at (drop at bytes))
     not_left unread = not_same (fields_read limits order n at (drop at bytes)) _ left.leads (not_first (up_to turns (at + n) (field_read limits order (at + n)) (reverse left.front) place (drop place bytes)) _ unread)
 

@@ -19,7 +19,7 @@ use Rattle.dbus_header.proofs.OutcomeLaws.{whole_reads}
 use Rattle.dbus_header.proofs.StatedLengths.{header_states}
 use Rattle.dbus_value_validator.specs.Endings.{EndsAt, IsNotRead}
 use Rattle.dbus_validate.specs.declared.validating.Head.{Head}
-use Rattle.dbus_validate.specs.declared.seen.Seen.{Seen}
+use Rattle.dbus_validate.specs.declared.seen.FieldPlaces.{FieldPlaces}
 use Rattle.dbus_validate.specs.Headed.{IsHeaded, validated_of}
 use Rattle.dbus_validate.specs.Seen.{AreNoted}
 use Rattle.dbus_validate.specs.Validating.{IsValidated}
@@ -28,7 +28,7 @@ use Rattle.dbus_validate.proofs.Firsts.{has_stated}
 use Rattle.dbus_validate.proofs.WholeRefusals.{no_body}
 use Rattle.dbus_validate.proofs.WholeSteps.{signed, made, whole, is_validated}
 
-module _ (limits : Limits) (bytes : List ℕ) (are : (i : ℕ) → get_or bytes i 0 < 256) (x : Head) (seen : Seen) (p : IsHeaded limits bytes x seen) where
+module _ (limits : Limits) (bytes : List ℕ) (are : (i : ℕ) → get_or bytes i 0 < 256) (x : Head) (seen : FieldPlaces) (p : IsHeaded limits bytes x seen) where
   abbrev h : FixedHeader
   h = x.header
 

@@ -12,7 +12,7 @@ use Rattle.dbus_message_model.specs.Messages.{FieldTree, Want, Anything, OfType,
 use Rattle.dbus_message_model.specs.Lookups.{field_value}
 use Rattle.dbus_validate.specs.declared.field_values.Held.{Held}
 use Rattle.dbus_validate.specs.declared.seen.FieldPlace.{FieldPlace}
-use Rattle.dbus_validate.specs.declared.seen.Seen.{Seen}
+use Rattle.dbus_validate.specs.declared.seen.FieldPlaces.{FieldPlaces}
 use Rattle.dbus_validate.specs.Held.{IsNoted}
 use Rattle.dbus_validate.specs.Seen.{StandsAt, IsNotedOf, AreNoted, ArePlaced, fields_before, field_start, known_start, text_start, field_text_start}
 
@@ -55,11 +55,11 @@ stands (OfType t) v bytes h known is fits = record { text = is.0; inside = fits;
 stands (Name k) v bytes h known is fits = record { text = is.0; inside = fits; number = is.1 }
 stands Serial v bytes h known is fits = record { text = is.0; inside = fits; number = is.1 }
 
-module _ (fs : List FieldTree) (bytes : List ℕ) (seen : Seen) (noted : AreNoted fs bytes seen) where
+module _ (fs : List FieldTree) (bytes : List ℕ) (seen : FieldPlaces) (noted : AreNoted fs bytes seen) where
   pub has_noted : (c : ℕ) → is_known c ≡ true → is_some (get_or seen.places c None) ≡ has_code c fs
   has_noted c known = as_noted (field_value c fs) bytes (get_or seen.places c None) (noted c known) ∙ value_has c fs
 
-  module _ (new : Seen) (code : ℕ) (v : ValueTree) (h : Held) (alone : is_known code && has_code code fs ≡ false) (is : IsNoted (want code) v bytes h) (fits : h.start + h.length ≤ length bytes) where
+  module _ (new : FieldPlaces) (code : ℕ) (v : ValueTree) (h : Held) (alone : is_known code && has_code code fs ≡ false) (is : IsNoted (want code) v bytes h) (fits : h.start + h.length ≤ length bytes) where
     other_kept : (c : ℕ) → is_known c ≡ true → eqb code c ≡ false → get_or new.places c None ≡ get_or seen.places c None
         → IsNotedOf (field_value c (fs ++ (record { code = code; value = v }) ∷ [])) bytes (get_or new.places c None)
     other_kept c known other kept = rw (kept, value_other c fs (record { code = code; value = v }) other) (noted c known)
@@ -115,10 +115,10 @@ noted_longer (Some v) front rest (Some p) is = record {
 }
 
 -- and is so of all of them
-pub noted_of_all : (fs : List FieldTree) (n : ℕ) (bytes : List ℕ) (seen : Seen) → AreNoted fs (take n bytes) seen → AreNoted fs bytes seen
+pub noted_of_all : (fs : List FieldTree) (n : ℕ) (bytes : List ℕ) (seen : FieldPlaces) → AreNoted fs (take n bytes) seen → AreNoted fs bytes seen
 noted_of_all fs n bytes seen noted = subst (λ (l : List ℕ). AreNoted fs l seen) (take-append-drop n bytes) (λ c known. noted_longer (field_value c fs) (take n bytes) (drop n bytes) (get_or seen.places c None) (noted c known))
 
-pub noted_of_more : (fs : List FieldTree) (n k : ℕ) (bytes : List ℕ) (seen : Seen) → AreNoted fs (take n bytes) seen → AreNoted fs (take (n + k) bytes) seen
+pub noted_of_more : (fs : List FieldTree) (n k : ℕ) (bytes : List ℕ) (seen : FieldPlaces) → AreNoted fs (take n bytes) seen → AreNoted fs (take (n + k) bytes) seen
 noted_of_more fs n k bytes seen noted =
     subst (λ (l : List ℕ). AreNoted fs l seen) (sym (take-add n k bytes)) (λ c known. noted_longer (field_value c fs) (take n bytes) (take k (drop n bytes)) (get_or seen.places c None) (noted c known))
 
@@ -139,7 +139,7 @@ before_other c (g ∷ fs) f v is = go (eqb g.code c) is (λ e. before_other c fs
     go false e others = ap (λ (l : List FieldTree). g ∷ l) (others e)
 
 -- a field after others: its own text is placed after them, and the others stay
-module _ (order : Order) (fs : List FieldTree) (seen new : Seen) (placed : ArePlaced order fs seen) (f : FieldTree) (alone : is_known f.code && has_code f.code fs ≡ false) where
+module _ (order : Order) (fs : List FieldTree) (seen new : FieldPlaces) (placed : ArePlaced order fs seen) (f : FieldTree) (alone : is_known f.code && has_code f.code fs ≡ false) where
   others_placed : (c : ℕ) (v : ValueTree) (p : FieldPlace) → is_known c ≡ true → eqb f.code c ≡ false → get_or new.places c None ≡ get_or seen.places c None
       → field_value c (fs ++ f ∷ []) ≡ Some v → get_or new.places c None ≡ Some p → p.start ≡ field_text_start order c (fs ++ f ∷ []) v
   others_placed c v p known other kept is noted =
@@ -247,7 +247,7 @@ module _ (bytes : List ℕ) where
   seen_number (Some v) None n = absurd n
   seen_number (Some v) (Some p) n = n.number
 
-  module _ (fs : List FieldTree) (seen : Seen) (noted : AreNoted fs bytes seen) where
+  module _ (fs : List FieldTree) (seen : FieldPlaces) (noted : AreNoted fs bytes seen) where
     pub signature_there : body_signature fs ≡ text_at (get_or seen.places 8 None)
     signature_there = signature_of fs ∙ seen_text (field_value 8 fs) (get_or seen.places 8 None) (noted 8 refl)
 

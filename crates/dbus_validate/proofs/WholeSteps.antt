@@ -20,7 +20,7 @@ use Rattle.dbus_header.specs.MessageItems.{field}
 use Rattle.dbus_header.specs.MessageOutcomes.{IsWhole}
 use Rattle.dbus_header.proofs.Decoded.{whole_read}
 use Rattle.dbus_header.proofs.MessageParts.{Agrees-fields, field_signature}
-use Rattle.dbus_validate.specs.declared.seen.Seen.{Seen}
+use Rattle.dbus_validate.specs.declared.seen.FieldPlaces.{FieldPlaces}
 use Rattle.dbus_validate.specs.Validating.{IsValidated}
 use Rattle.dbus_validate.specs.Seen.{AreNoted, ArePlaced}
 use Rattle.dbus_validate.proofs.BodyPlaces.{body_begins, body_there}
@@ -58,7 +58,7 @@ module _ (limits : Limits) (bytes : List ℕ) (are : (i : ℕ) → get_or bytes 
       unfolding message_read
       whole read = whole_read limits bytes (bytes_from bytes are) h.order made (start + h.body) (drop (start + h.body) bytes) (rw (headed, fielded, none, padded, read) refl)
 
-      pub is_validated : IsWhole limits bytes h.order made (start + h.body) → (seen : Seen) → AreNoted fs (take (start + h.body) bytes) seen → ArePlaced h.order fs seen → start ≡ 16 + h.fields + gap_to 8 (16 + h.fields)
+      pub is_validated : IsWhole limits bytes h.order made (start + h.body) → (seen : FieldPlaces) → AreNoted fs (take (start + h.body) bytes) seen → ArePlaced h.order fs seen → start ≡ 16 + h.fields + gap_to 8 (16 + h.fields)
           → IsValidated limits bytes (record { length = start + h.body; order = h.order; kind = h.kind; flags = h.flags; serial = h.serial; fields = seen; body = start })
       is_validated is seen noted placed suffix =
           let begins = body_begins (bounds_of limits) h.order (limits.depth - 1) h.fields start fs (drop 16 bytes) (drop (16 + h.fields) bytes) sequence suffix in

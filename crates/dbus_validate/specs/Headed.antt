@@ -8,12 +8,12 @@ use Rattle.dbus_message_model.specs.Messages.{FieldTree, lacks, required}
 use Rattle.dbus_header.specs.HeaderReading.{fixed_header, fields_read}
 use Rattle.dbus_validate.specs.declared.validating.Head.{Head}
 use Rattle.dbus_validate.specs.declared.validating.Validated.{Validated}
-use Rattle.dbus_validate.specs.declared.seen.Seen.{Seen}
+use Rattle.dbus_validate.specs.declared.seen.FieldPlaces.{FieldPlaces}
 use Rattle.dbus_validate.specs.Seen.{AreNoted, ArePlaced}
 
 -- the bytes begin with what stands before a message's body, and as many bytes follow as the body
 -- has: of its values nothing is said
-pub record IsHeaded (limits : Limits) (bytes : List ℕ) (x : Head) (seen : Seen) : Type 0 where
+pub record IsHeaded (limits : Limits) (bytes : List ℕ) (x : Head) (seen : FieldPlaces) : Type 0 where
   pub fields : List FieldTree
   pub opened : 0 < limits.depth
   pub headed : fixed_header limits 0 bytes ≡ Done x.header 16 (drop 16 bytes)
@@ -27,5 +27,5 @@ pub record IsHeaded (limits : Limits) (bytes : List ℕ) (x : Head) (seen : Seen
   pub placed : ArePlaced x.header.order fields seen
 
 -- what is validated of the message, with where the values of its known fields stand
-abbrev pub validated_of : Head → Seen → Validated
+abbrev pub validated_of : Head → FieldPlaces → Validated
 validated_of x seen = record { length = x.end; order = x.header.order; kind = x.header.kind; flags = x.header.flags; serial = x.header.serial; fields = seen; body = x.start }

@@ -9,7 +9,7 @@ use Rattle.dbus_value_model.specs.Values.{ValueTree, TextValue, value_trees}
 use Rattle.dbus_message_model.specs.Messages.{FieldTree, field_struct, is_known, text_in, number_in}
 use Rattle.dbus_message_model.specs.Lookups.{field_value}
 use Rattle.dbus_validate.specs.declared.seen.FieldPlace.{FieldPlace}
-use Rattle.dbus_validate.specs.declared.seen.Seen.{Seen}
+use Rattle.dbus_validate.specs.declared.seen.FieldPlaces.{FieldPlaces}
 
 -- its text stands there, within the bytes, and its number is this, where it has one
 pub record StandsAt (v : ValueTree) (bytes : List ℕ) (p : FieldPlace) : Type 0 where
@@ -26,7 +26,7 @@ IsNotedOf (Some v) bytes (Some p) = StandsAt v bytes p
 
 -- of each known code the value of the first field is noted, and nothing where there is no field of
 -- it
-abbrev pub AreNoted : List FieldTree → List ℕ → Seen → Type 0
+abbrev pub AreNoted : List FieldTree → List ℕ → FieldPlaces → Type 0
 AreNoted fs bytes seen = (c : ℕ) → is_known c ≡ true → IsNotedOf (field_value c fs) bytes (slice_index_or seen.places c None)
 
 -- ---- where the texts begin
@@ -57,5 +57,5 @@ abbrev pub field_text_start : Order → (c : ℕ) → List FieldTree → ValueTr
 field_text_start order c fs v = text_start (known_start (field_start order (fields_before c fs))) v
 
 -- of each known code the text of the first field is noted where that field has it
-abbrev pub ArePlaced : Order → List FieldTree → Seen → Type 0
+abbrev pub ArePlaced : Order → List FieldTree → FieldPlaces → Type 0
 ArePlaced order fs seen = (c : ℕ) (v : ValueTree) (p : FieldPlace) → is_known c ≡ true → field_value c fs ≡ Some v → slice_index_or seen.places c None ≡ Some p → p.start ≡ field_text_start order c fs v

@@ -11,7 +11,7 @@ ghost use Rattle.dbus_validate.specs.Held.{HoldsField};
 ghost use Rattle.dbus_validate.specs.Seen.{AreNoted, ArePlaced};
 
 use crate::field_values::{Held, validate_field_value};
-use crate::seen::Seen;
+use crate::seen::FieldPlaces;
 use dbus_header::FIELD_DEPTH;
 use dbus_value_model::{Limits, Order};
 use dbus_value_validator::padding;
@@ -68,7 +68,7 @@ pub(crate) fn validate_fields(
     n: usize,
     order: Order,
     limits: Limits,
-    seen: &mut Seen,
+    seen: &mut FieldPlaces,
 ) -> bool
     requires inside { at + n ≤ length bytes.now }
     requires few { at + n < 2 ^ 32 }

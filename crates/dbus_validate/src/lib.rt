@@ -14,6 +14,6 @@ mod seen;
 mod validating;
 mod whole;
 
-pub use seen::{FieldPlace, Seen};
+pub use seen::{FieldPlace, FieldPlaces};
 pub use validating::{Validated, validate, validate_known};
 pub use whole::Whole;

@@ -42,20 +42,20 @@ impl FieldPlace {
 /// Where the values of the known fields are, each by its code. D-Bus Specification, "Header
 /// Fields".
 #[derive(Clone, Copy)]
-pub struct Seen {
+pub struct FieldPlaces {
     /// Of each code the value of the field that was seen, if one was: the codes of the known fields
     /// are 1 to 9.
     pub places: [Option<FieldPlace>; 10],
 }
 
-impl Seen {
+impl FieldPlaces {
     ghost use Rattle.dbus_validate.specs.Seen.{AreNoted, ArePlaced, field_start, known_start, text_start};
 
     /// None.
-    pub(crate) fn none() -> Seen
+    pub(crate) fn none() -> FieldPlaces
         ensures { (bytes : List ℕ) → AreNoted [] bytes result }
     {
-        Seen { places: [None; 10] }
+        FieldPlaces { places: [None; 10] }
     }
 
     /// Where the value of the field of a code is, if it was seen.

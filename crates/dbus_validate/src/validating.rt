@@ -16,7 +16,7 @@ ghost use Rattle.dbus_validate.specs.Headed.{IsHeaded, validated_of};
 ghost use Rattle.dbus_validate.specs.Seen.{AreNoted};
 
 use crate::fields::validate_fields;
-use crate::seen::Seen;
+use crate::seen::FieldPlaces;
 use dbus_header::{FixedHeader, read_fixed_header};
 use dbus_value_model::{Limits, Order};
 use dbus_value_validator::{padding, validate_values};
@@ -35,13 +35,20 @@ pub struct Validated {
     /// The serial.
     pub serial: u32,
     /// Where the values of its known fields are.
-    pub fields: Seen,
+    pub fields: FieldPlaces,
     /// The offset of its body, which ends where the message does.
     pub body: usize,
 }
 
 /// Whether from `at` up to `end` the bytes are a body of the types that the SIGNATURE field says.
-fn is_body(bytes: &[u8], at: usize, end: usize, order: Order, seen: &Seen, limits: Limits) -> bool
+fn is_body(
+    bytes: &[u8],
+    at: usize,
+    end: usize,
+    order: Order,
+    seen: &FieldPlaces,
+    limits: Limits,
+) -> bool
     requires at_most { at ≤ end }
     requires inside { end ≤ length bytes.now }
     requires noted { (fs : List FieldTree) × AreNoted fs bytes.now seen.now }
@@ -78,7 +85,7 @@ pub(crate) struct Head {
 
 impl Head {
     /// What is validated of the message, with where the values of its known fields are.
-    fn validated(&self, fields: Seen) -> Validated
+    fn validated(&self, fields: FieldPlaces) -> Validated
         ensures { result ≡ validated_of self.now fields }
     {
         Validated {
@@ -97,7 +104,7 @@ impl Head {
 /// bytes of the body are there; its values are not looked at. `seen`, which had none, gets the
 /// places of the values of its known fields.
 #[inline(always)]
-fn read_head(bytes: &[u8], limits: Limits, seen: &mut Seen) -> Option<Head>
+fn read_head(bytes: &[u8], limits: Limits, seen: &mut FieldPlaces) -> Option<Head>
     requires unseen { (b : List ℕ) → AreNoted [] b seen.old }
     ensures headed { IfSome result (λ x. IsHeaded limits bytes.now x seen.new) }
     ensures none { result ≡ None → BeginsWithNone limits bytes.now }
@@ -140,7 +147,7 @@ pub fn validate(bytes: &[u8], limits: Limits) -> Option<Validated>
     ensures validated { IfSome result (λ j. IsValidated limits bytes.now j) }
     ensures none { result ≡ None → BeginsWithNone limits bytes.now }
 {
-    let mut seen = Seen::none();
+    let mut seen = FieldPlaces::none();
     let head = read_head(bytes, limits, &mut seen)?;
     if !is_body(
         bytes,
@@ -163,7 +170,7 @@ pub fn validate_known(bytes: &[u8], limits: Limits) -> Validated
         IsWhole limits bytes.now order m (length bytes.now) }
     ensures validated { IsValidatedWhole limits bytes.now result }
 {
-    let mut seen = Seen::none();
+    let mut seen = FieldPlaces::none();
     match read_head(bytes, limits, &mut seen) {
         Some(head) => head.validated(seen),
         None => unreachable!(),

@@ -5,7 +5,7 @@ use Rattle.dbus_message_model.specs.Lookups.{field_value}
 use Rattle.dbus_message_model.specs.Messages.{FieldTree, is_known, field_struct, field_array}
 use Rattle.dbus_validate.specs.Seen.{AreNoted, IsNotedOf, StandsAt}
 use Rattle.dbus_validate.specs.declared.seen.FieldPlace.{FieldPlace}
-use Rattle.dbus_validate.specs.declared.seen.Seen.{Seen}
+use Rattle.dbus_validate.specs.declared.seen.FieldPlaces.{FieldPlaces}
 use Rattle.dbus_walk.proofs.Signed.{held_formed}
 
 -- ---- the first field of a code
@@ -27,7 +27,7 @@ formed_of (suc depth_left) c fs h v e = each_formed depth_left c fs h.1 v e
 
 -- ---- what is noted
 
-module _ (fs : List FieldTree) (bytes : List ℕ) (seen : Seen) (c : ℕ) (noted : AreNoted fs bytes seen) (known : is_known c ≡ true) where
+module _ (fs : List FieldTree) (bytes : List ℕ) (seen : FieldPlaces) (c : ℕ) (noted : AreNoted fs bytes seen) (known : is_known c ≡ true) where
   pub stands : (p : FieldPlace) → Some p ≡ slice_index_or seen.places c None → (v : ValueTree) × (field_value c fs ≡ Some v) × StandsAt v bytes p
   stands p e = go (field_value c fs) refl (subst (λ (o : Option FieldPlace). IsNotedOf (field_value c fs) bytes o) (sym e) (noted c known))
     where

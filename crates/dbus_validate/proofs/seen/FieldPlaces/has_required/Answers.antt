@@ -3,7 +3,7 @@ use Rattle.std.proofs.lemmas.List.{drop_all}
 use Rattle.std.proofs.lemmas.Bool.{and_parts}
 use Rattle.dbus_message_model.specs.Messages.{is_known, has_code, lacks}
 use Rattle.dbus_validate.proofs.SeenSteps.{lacks_later, lacks_one}
-use Rattle.dbus_validate.proofs.seen.Seen.has_required.Goals as goal
+use Rattle.dbus_validate.proofs.seen.FieldPlaces.has_required.Goals as goal
 
 pub loop-code-preserved : goal.loop-code-preserved
 loop-code-preserved c = λ bytes fs noted.

@@ -2,7 +2,7 @@ use Rattle.std.proofs.Common.{◌≡◌, ℕ, length, set, Some, ap, arith, refl
 use Rattle.dbus_message_model.specs.Messages.{FieldTree}
 use Rattle.dbus_validate.specs.declared.seen.FieldPlace.{FieldPlace}
 use Rattle.dbus_validate.proofs.SeenSteps.{noted_more, noted_past, placed_more, placed_past}
-use Rattle.dbus_validate.proofs.seen.Seen.note.Goals as goal
+use Rattle.dbus_validate.proofs.seen.FieldPlaces.note.Goals as goal
 
 pub returns-then-at-lt10-clause-noted : goal.returns-then-at-lt10-clause-noted
 returns-then-at-lt10-clause-noted c = λ bytes fs v noted alone is fits.

@@ -2,7 +2,7 @@ use Rattle.std.proofs.Common.{◌≡◌, ◌&&◌, Bool, true, sym, ap, ◌∙�
 use Rattle.std.specs.Option.{is_some}
 use Rattle.dbus_message_model.specs.Messages.{is_known, has_code}
 use Rattle.dbus_validate.proofs.SeenSteps.{has_noted}
-use Rattle.dbus_validate.proofs.seen.Seen.has.Goals as goal
+use Rattle.dbus_validate.proofs.seen.FieldPlaces.has.Goals as goal
 
 pub returns-then-is_known : goal.returns-then-is_known
 returns-then-is_known c = λ bytes fs noted.
