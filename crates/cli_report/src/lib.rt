@@ -20,4 +20,4 @@ pub use gathered::Gathered;
 pub use gathering::{Unwritten, put_out, write_out};
 pub use lines::refused_line;
 pub use page::Page;
-pub use telling::{Refusal, refusal_text};
+pub use telling::{RefusedMessage, refusal_text};

@@ -13,7 +13,7 @@ use std::alloc::{AllocError, Allocator};
 
 /// A message that is refused.
 #[derive(Clone, Copy, Debug, PartialEq, Eq)]
-pub struct Refusal {
+pub struct RefusedMessage {
     /// Its number among the messages of its input, from 1.
     pub number: u64,
     /// Where it begins, in bytes from the start of the input.
@@ -31,7 +31,7 @@ pub fn refusal_text<R: Source, A: Allocator + Copy>(
     alloc: A,
     goes_on: bool,
     explains: bool,
-    refusal: Refusal,
+    refusal: RefusedMessage,
     messages: &RawReader<R, A>,
 ) -> Result<String<A>, AllocError>
     ensures { IfOk result (λ text.
@@ -49,11 +49,11 @@ pub fn refusal_text<R: Source, A: Allocator + Copy>(
 fn line_of<A: Allocator + Copy>(
     alloc: A,
     goes_on: bool,
-    refusal: Refusal,
+    refusal: RefusedMessage,
 ) -> Result<String<A>, AllocError>
     ensures { IfOk result (λ line. string_bytes line ≡ line_of goes_on refusal) }
 {
-    let Refusal {
+    let RefusedMessage {
         number,
         offset,
         fault,
@@ -69,7 +69,7 @@ fn line_of<A: Allocator + Copy>(
 // The lines that explain a message that is refused, by the bytes that the reader keeps.
 fn explanation<R: Source, A: Allocator + Copy>(
     alloc: A,
-    refusal: Refusal,
+    refusal: RefusedMessage,
     messages: &RawReader<R, A>,
 ) -> Result<String<A>, AllocError>
     ensures { IfOk result (λ text. Explains refusal (kept messages.now) (string_bytes text)) }
@@ -87,7 +87,7 @@ fn explanation<R: Source, A: Allocator + Copy>(
 // The lines that explain a message that is refused, by its bytes.
 fn explained_by<A: Allocator + Copy>(
     alloc: A,
-    refusal: Refusal,
+    refusal: RefusedMessage,
     bytes: &[u8],
 ) -> Result<String<A>, AllocError>
     ensures { IfOk result (λ text. Explains refusal bytes.now (string_bytes text)) }

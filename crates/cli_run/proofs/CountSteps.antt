@@ -27,7 +27,7 @@ use Rattle.cli_run.specs.Parts.{IsToldLast}
 use Rattle.cli_run.specs.Visiting.{AddsUp}
 use Rattle.cli_report.specs.Devices.{Taken, reading, taken}
 use Rattle.cli_report.specs.Telling.{IsToldBy, line_of}
-use Rattle.cli_report.specs.declared.telling.Refusal.{Refusal}
+use Rattle.cli_report.specs.declared.telling.RefusedMessage.{RefusedMessage}
 use Rattle.cli_report.specs.declared.ending.Cause.{Cause}
 use Rattle.cli_report.specs.declared.ending.Cause.TheVariants.{Memory, ReadFailed, WriteFailed, TooManyReads}
 use Rattle.cli_run.specs.declared.counted.Counted.{Counted}
@@ -64,7 +64,7 @@ told_last : (settings : Settings) (n offset : ℕ) (kept : List ℕ) (fault : Op
     → IsToldLast settings n offset kept fault (fault_line offset fault)
 told_last settings n offset kept None explains halts = refl
 told_last settings n offset kept (Some fault) explains halts =
-    let refusal : Refusal = record { number = n; offset = offset; fault = fault } in
+    let refusal : RefusedMessage = record { number = n; offset = offset; fault = fault } in
     transport (λ i. IsToldBy (sym halts i) (sym explains i) refusal kept (line_of false refusal)) refl
 
 -- of a new reader, which keeps nothing

@@ -19,7 +19,7 @@ use Rattle.cli_options.specs.declared.command.Command.TheVariants.{Show, Json, C
 use Rattle.cli_options.specs.declared.selection.Selection.{Selection}
 use Rattle.cli_options.specs.declared.settings.Settings.{Settings}
 use Rattle.cli_report.specs.Telling.{IsToldBy, line_of}
-use Rattle.cli_report.specs.declared.telling.Refusal.{Refusal}
+use Rattle.cli_report.specs.declared.telling.RefusedMessage.{RefusedMessage}
 use Rattle.cli_report.specs.declared.ending.ExitStatus.TheVariants as status
 use Rattle.cli_run.specs.Inputs.{Part, PassedOver, Placed, Whole, placed, placed_at}
 use Rattle.cli_run.specs.Output.{IsExact, IsOutputOf, IsOutputOfAll, IsTextOf, Picks, is_check, owners_after, owners_known}
@@ -51,7 +51,7 @@ are_passed settings n offset (PassedOver kept fault size ∷ parts) told t = (t.
 module _ (settings : Settings) where
   -- without explanations it is a line
   module _ (off : settings.explains ≡ false) where
-    line_is : (refusal : Refusal) (kept text : List ℕ) → IsTold settings refusal kept text → text ≡ line_of settings.keeps_going refusal
+    line_is : (refusal : RefusedMessage) (kept text : List ℕ) → IsTold settings refusal kept text → text ≡ line_of settings.keeps_going refusal
     line_is refusal kept text t = subst (λ b. IsToldBy settings.keeps_going b refusal kept text) off t
 
     bare_told : (n offset : ℕ) (parts : List Part) (text : List ℕ) → AreTold settings n offset parts text → AreTold settings n offset (bare parts) text

@@ -5,13 +5,13 @@ use Rattle.cli_options.specs.declared.settings.Settings.{Settings}
 use Rattle.cli_run.specs.Inputs.{Part, Whole, PassedOver, size_of, sizes_of}
 use Rattle.cli_run.specs.Output.{counts_line, ok_line, status_of}
 use Rattle.cli_report.specs.Telling.{IsToldBy}
-use Rattle.cli_report.specs.declared.telling.Refusal.{Refusal}
+use Rattle.cli_report.specs.declared.telling.RefusedMessage.{RefusedMessage}
 use Rattle.cli_report.specs.declared.ending.ExitStatus.{ExitStatus}
 use Rattle.cli_report.specs.declared.ending.ExitStatus.TheVariants as status
 use Rattle.cli_run.specs.declared.tally.Tally.{Tally}
 
 -- what is told of a refused message by these settings
-abbrev pub IsTold : Settings → Refusal → (kept text : List ℕ) → Type 0
+abbrev pub IsTold : Settings → RefusedMessage → (kept text : List ℕ) → Type 0
 IsTold settings refusal kept text = IsToldBy settings.keeps_going settings.explains refusal kept text
 
 -- what is told of a part: of a message nothing. One is passed over only if the run is to go on

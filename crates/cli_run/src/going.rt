@@ -12,7 +12,7 @@ use crate::handing::hand_all;
 use crate::tally::{Tally, closing_line};
 use crate::visitor::{MessageVisitor, Stop};
 use cli_options::Settings;
-use cli_report::{Cause, ExitStatus, Refusal, Unwritten, give_up, refusal_text};
+use cli_report::{Cause, ExitStatus, RefusedMessage, Unwritten, give_up, refusal_text};
 use dbus_stream::{RawReader, ReadFault, Sink, Source};
 use dbus_value_model::Fault;
 use std::alloc::Allocator;
@@ -75,7 +75,7 @@ fn hand_parts<R: Source, A: Allocator + Copy, V: MessageVisitor>(
             Some(fault) => fault,
             None => return close(alloc, is_check, tally, None, visitor),
         };
-        let refusal = Refusal {
+        let refusal = RefusedMessage {
             number: counted.count + 1,
             offset: counted.size,
             fault,
@@ -99,7 +99,7 @@ fn hand_parts<R: Source, A: Allocator + Copy, V: MessageVisitor>(
 fn tell<R: Source, A: Allocator + Copy, V: MessageVisitor>(
     alloc: A,
     settings: Settings,
-    refusal: Refusal,
+    refusal: RefusedMessage,
     messages: &RawReader<R, A>,
     visitor: &mut V,
 ) -> Result<(), Stop>

@@ -14,8 +14,8 @@ use Rattle.dbus_c_build.specs.Kept.{AreKept, IsKept}
 use Rattle.dbus_c_build.specs.declared.given.Given.{Given}
 use Rattle.dbus_c_build.specs.declared.placed.ByteRange.{ByteRange}
 use Rattle.dbus_c_build.specs.declared.placed.PlacedParts.{PlacedParts}
-use Rattle.dbus_c_build.specs.declared.refusal.Refusal.{Refusal}
-use Rattle.dbus_c_build.specs.declared.refusal.Refusal.TheVariants as refusals
+use Rattle.dbus_c_build.specs.declared.placed_fault.PlacedFault.{PlacedFault}
+use Rattle.dbus_c_build.specs.declared.placed_fault.PlacedFault.TheVariants as refusals
 use Rattle.dbus_c_build.proofs.OnlyMessage.{one_order}
 use Rattle.dbus_c.specs.Building.{AreNoParts, Builds, FieldsOf, Keeps, KeepsOrder, Kept, Nothing, built, fields_kept, no_room, StandFor, StandForNone, place_given, refusal_told, field_told}
 use Rattle.dbus_c.specs.Building as builds
@@ -86,7 +86,7 @@ module _ (limits : Limits) (b : List ℕ) (k : Kept) (w : Parts) where
   no_parts_none Overrun (named, inr (inr ends)) = λ p m stand has valid. absurd (omega (arith, ends, stand.body.0))
   no_parts_none _ none = absurd none
 
-  makes_none : (p : PlacedParts) (why : Refusal) → (why ≡ refusals.Memory → ⊥) → IsRefusal limits b (fields_kept k) p why → MakeNone limits b (fields_kept k) p
+  makes_none : (p : PlacedParts) (why : PlacedFault) → (why ≡ refusals.Memory → ⊥) → IsRefusal limits b (fields_kept k) p why → MakeNone limits b (fields_kept k) p
   makes_none p refusals.Memory other is = absurd (other refl)
   makes_none p (refusals.Outside code) other is = is.0
   makes_none p (refusals.TooLong code) other is = is.0
@@ -101,7 +101,7 @@ module _ (limits : Limits) (b : List ℕ) (k : Kept) (w : Parts) where
     pub no_parts_refused : (reason : Reason) → AreNoParts k w reason → answer ≡ 2 → told ≡ field_told reason 0 → new ≡ old → Builds limits b k w answer told old new
     no_parts_refused reason none two told_is same = builds.refused (no_parts_none reason none) two (builds.no_parts reason none told_is) same
 
-    pub parts_refused : (p : PlacedParts) (why : Refusal) → StandFor k w p → (why ≡ refusals.Memory → ⊥) → IsRefusal limits b (fields_kept k) p why → answer ≡ 2 → told ≡ refusal_told why → new ≡ old → Builds limits b k w answer told old new
+    pub parts_refused : (p : PlacedParts) (why : PlacedFault) → StandFor k w p → (why ≡ refusals.Memory → ⊥) → IsRefusal limits b (fields_kept k) p why → answer ≡ 2 → told ≡ refusal_told why → new ≡ old → Builds limits b k w answer told old new
     parts_refused p why stand other is two told_is same = builds.refused (stands_for_none p stand (makes_none p why other is)) two (builds.why p why stand other is told_is) same
 
     built_if : (p : PlacedParts) (out : List ℕ) → StandFor k w p → IsBuilt limits b (fields_kept k) p out → told ≡ whole_told p.order (length out)

@@ -13,8 +13,8 @@ use Rattle.dbus_c_build.specs.Kept.{IsKept}
 use Rattle.dbus_c_build.specs.declared.given.Given.{Given}
 use Rattle.dbus_c_build.specs.declared.placed.ByteRange.{ByteRange}
 use Rattle.dbus_c_build.specs.declared.placed.PlacedParts.{PlacedParts}
-use Rattle.dbus_c_build.specs.declared.refusal.Refusal.{Refusal}
-use Rattle.dbus_c_build.specs.declared.refusal.Refusal.TheVariants as refusals
+use Rattle.dbus_c_build.specs.declared.placed_fault.PlacedFault.{PlacedFault}
+use Rattle.dbus_c_build.specs.declared.placed_fault.PlacedFault.TheVariants as refusals
 use Rattle.dbus_c.specs.Checking.{Tells, whole_told, nothing_told, fault_told}
 use Rattle.dbus_c.specs.Outcomes.{BeginsWithMessage}
 use Rattle.dbus_c.specs.ReasonNumbers.{reason_number}
@@ -68,7 +68,7 @@ abbrev pub field_told : Reason → (code : ℕ) → Checked
 field_told reason code = record { length = 0; offset = 0; order = 0; reason = reason_number reason; field = code; reserved = 0 }
 
 -- what is told of parts of which nothing is built
-abbrev pub refusal_told : Refusal → Checked
+abbrev pub refusal_told : PlacedFault → Checked
 refusal_told refusals.Memory = nothing_told
 refusal_told (refusals.Outside code) = field_told Overrun code
 refusal_told (refusals.TooLong code) = field_told (if nat_eq code 8 then Signature else MessageTooLong) code
@@ -85,7 +85,7 @@ AreNoParts k w _ = ⊥
 -- such reason.
 pub data IsWhy (limits : Limits) (b : List ℕ) (k : Kept) (w : Parts) (told : Checked) : Type 0 where
   no_parts : (reason : Reason) → AreNoParts k w reason → told ≡ field_told reason 0 → IsWhy limits b k w told
-  why : (p : PlacedParts) (reason : Refusal) → StandFor k w p → (reason ≡ refusals.Memory → ⊥) → IsRefusal limits b (fields_kept k) p reason → told ≡ refusal_told reason → IsWhy limits b k w told
+  why : (p : PlacedParts) (reason : PlacedFault) → StandFor k w p → (reason ≡ refusals.Memory → ⊥) → IsRefusal limits b (fields_kept k) p reason → told ≡ refusal_told reason → IsWhy limits b k w told
 
 -- An answer, what is told beside it and the new bytes hold of the parts under the limits. A message
 -- is built exactly if one within the limits has these parts, and then it is written if there is

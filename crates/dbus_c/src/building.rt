@@ -16,7 +16,7 @@ use crate::checking::{Checked, check_all, fault_told, nothing_told};
 use crate::given_limits::{WireLimits, given_limits};
 use crate::parts::{Parts, TextPlace, order_byte};
 use crate::reasons::reason_number;
-use dbus_c_build::{ByteRange, Given, PlacedParts, Refusal, build};
+use dbus_c_build::{ByteRange, Given, PlacedFault, PlacedParts, build};
 use dbus_message_model::field_code::SIGNATURE;
 use dbus_message_model::order_named;
 use dbus_validate::validate;
@@ -119,7 +119,7 @@ fn build_given(
         Err(why) => {
             *told = refusal_told(why);
             match why {
-                Refusal::Memory => NO_MEMORY,
+                PlacedFault::Memory => NO_MEMORY,
                 _ => REFUSED,
             }
         }
@@ -163,14 +163,14 @@ fn field_told(reason: Reason, code: u8) -> Checked
 }
 
 // What is told of parts of which nothing is built.
-fn refusal_told(why: Refusal) -> Checked
+fn refusal_told(why: PlacedFault) -> Checked
     ensures { result ≡ refusal_told why }
 {
     match why {
-        Refusal::Memory => nothing_told(),
-        Refusal::Outside(code) => field_told(Reason::Overrun, code),
-        Refusal::TooLong(code) => field_told(too_long(code), code),
-        Refusal::Format(fault) => fault_told(fault),
+        PlacedFault::Memory => nothing_told(),
+        PlacedFault::Outside(code) => field_told(Reason::Overrun, code),
+        PlacedFault::TooLong(code) => field_told(too_long(code), code),
+        PlacedFault::Format(fault) => fault_told(fault),
     }
 }
 

@@ -26,8 +26,8 @@ use Rattle.dbus_c_build.specs.Spelled.{spelled}
 use Rattle.dbus_c_build.specs.Building.{HaveBytes, HaveNoBytes, IsBuilt, IsShort, IsRefusal, MakeNone, most_of, fields_length}
 use Rattle.dbus_c_build.specs.declared.placed.ByteRange.{ByteRange}
 use Rattle.dbus_c_build.specs.declared.placed.PlacedParts.{PlacedParts}
-use Rattle.dbus_c_build.specs.declared.refusal.Refusal.{Refusal}
-use Rattle.dbus_c_build.specs.declared.refusal.Refusal.TheVariants as refusals
+use Rattle.dbus_c_build.specs.declared.placed_fault.PlacedFault.{PlacedFault}
+use Rattle.dbus_c_build.specs.declared.placed_fault.PlacedFault.TheVariants as refusals
 use Rattle.dbus_c_build.proofs.Anywhere.{AreSpelled, formed_structs, structs}
 use Rattle.dbus_c_build.proofs.OnlyMessage.{parts_spelled, contents_within, only_message}
 use Rattle.dbus_c_build.proofs.SameFields.{sound_field}
@@ -174,7 +174,7 @@ module _ (limits : Limits) (b : List ℕ) (kept : List FieldTree) (p : PlacedPar
       let same : length (spellings p.order 16 (structs m.fields)) ≡ fields_length b kept p = ap (λ (fs : List FieldTree). length (spellings p.order 16 (structs fs))) has.fields in
       absurd (omega (arith, many.1, same, contents_within limits p.order m valid, limits.array_in))
 
-  pub refused_so : (why : Refusal) → HaveNoBytes b kept p why → IsRefusal limits b kept p why
+  pub refused_so : (why : PlacedFault) → HaveNoBytes b kept p why → IsRefusal limits b kept p why
   refused_so refusals.Memory h = tt
   refused_so (refusals.Outside code) h = (outside_none code h.1, h)
   refused_so (refusals.TooLong code) (inl h) = (long_none code (inl h.2), inl h)

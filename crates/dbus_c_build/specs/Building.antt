@@ -11,8 +11,8 @@ use Rattle.dbus_c_build.specs.Placed.{HasParts, IsInside, place_of, fields_after
 use Rattle.dbus_c_build.specs.Spelled.{spelled}
 use Rattle.dbus_c_build.specs.declared.placed.ByteRange.{ByteRange}
 use Rattle.dbus_c_build.specs.declared.placed.PlacedParts.{PlacedParts}
-use Rattle.dbus_c_build.specs.declared.refusal.Refusal.{Refusal}
-use Rattle.dbus_c_build.specs.declared.refusal.Refusal.TheVariants as refusals
+use Rattle.dbus_c_build.specs.declared.placed_fault.PlacedFault.{PlacedFault}
+use Rattle.dbus_c_build.specs.declared.placed_fault.PlacedFault.TheVariants as refusals
 
 -- the bytes are a message within the limits that has exactly these parts
 pub record IsBuilt (limits : Limits) (b : List ℕ) (kept : List FieldTree) (p : PlacedParts) (built : List ℕ) : Type 0 where
@@ -50,7 +50,7 @@ fields_length b kept p = length (spellings p.order 16 (value_trees (map field_st
 -- Why parts have no bytes that could be a message: the first place that is outside, or whose text
 -- is too long, the body's before those of the fields in the order of their codes; or each is good,
 -- and all fields together are too long.
-abbrev pub HaveNoBytes : List ℕ → (kept : List FieldTree) → PlacedParts → Refusal → Type 0
+abbrev pub HaveNoBytes : List ℕ → (kept : List FieldTree) → PlacedParts → PlacedFault → Type 0
 HaveNoBytes b kept p refusals.Memory = Unit {0}
 HaveNoBytes b kept p (refusals.Outside code) = AreGoodBelow b p code × (IsInside b (place_of code p) → ⊥)
 HaveNoBytes b kept p (refusals.TooLong code) =
@@ -65,7 +65,7 @@ pub record HaveBytes (b : List ℕ) (kept : List FieldTree) (p : PlacedParts) : 
   pub numbers : (p.kind < 256) × (p.flags < 256) × (p.serial < 2 ^ 32) × (p.reply_serial < 2 ^ 32) × (p.unix_fds < 2 ^ 32)
 
 -- why nothing is built: memory ran out; else no message has these parts, and this shows it
-abbrev pub IsRefusal : Limits → List ℕ → (kept : List FieldTree) → PlacedParts → Refusal → Type 0
+abbrev pub IsRefusal : Limits → List ℕ → (kept : List FieldTree) → PlacedParts → PlacedFault → Type 0
 IsRefusal limits b kept p refusals.Memory = Unit {0}
 IsRefusal limits b kept p (refusals.Format f) = MakeNone limits b kept p × HaveBytes b kept p × IsFaultAtEnd limits (spelled b kept p) f
 IsRefusal limits b kept p why = MakeNone limits b kept p × HaveNoBytes b kept p why

@@ -11,8 +11,8 @@ ghost use Rattle.dbus_c_build.specs.Spelled.{fixed_items, spelled};
 use crate::given::Given;
 use crate::kept::append_fields;
 use crate::placed::{BODY, PlacedParts};
+use crate::placed_fault::PlacedFault;
 use crate::places::{check_places, text_at};
-use crate::refusal::Refusal;
 use dbus_body::{begin_struct, put_number};
 use dbus_check::fault_at_end;
 use dbus_marshal::writing::overwrite_32;
@@ -59,7 +59,7 @@ fn spell<A: Allocator + Copy>(
     alloc: A,
     given: &Given<'_>,
     parts: &PlacedParts,
-) -> Result<Vec<u8, A>, Refusal>
+) -> Result<Vec<u8, A>, PlacedFault>
     requires kept { (fs : List FieldTree) × AreKept given.now parts.now.order fs }
     ensures spelled { (fs : List FieldTree) → AreKept given.now parts.now.order fs →
         IfOk result (λ v. v.items ≡ spelled given.now.bytes.now fs parts.now) }
@@ -77,7 +77,7 @@ fn spell<A: Allocator + Copy>(
     append_fields(&mut out, given, parts)?;
     let length = out.len() - FIELDS_START;
     if length > ARRAY_LIMIT as usize {
-        return Err(Refusal::TooLong(BODY));
+        return Err(PlacedFault::TooLong(BODY));
     }
     set_length(&mut out, parts.order, length as u32);
     // A body begins where a struct could.
@@ -93,14 +93,14 @@ fn spell<A: Allocator + Copy>(
 /// have, in the order of their codes. `given` says which bytes the places are in.
 ///
 /// Some message within the limits has these parts exactly if it returns one. Else it returns the
-/// [`Refusal`], which says why; that of `Format` is the fault of the bytes that the parts spell. It
-/// takes one block of memory for a header of up to 512 bytes, and a few for a longer one. D-Bus
-/// Specification, "Message Format".
+/// [`PlacedFault`], which says why; that of `Format` is the fault of the bytes that the parts
+/// spell. It takes one block of memory for a header of up to 512 bytes, and a few for a longer one.
+/// D-Bus Specification, "Message Format".
 pub fn build<A: Allocator + Copy>(
     alloc: A,
     given: &Given<'_>,
     parts: &PlacedParts,
-) -> Result<Vec<u8, A>, Refusal>
+) -> Result<Vec<u8, A>, PlacedFault>
     requires kept { (fs : List FieldTree) × AreKept given.now parts.now.order fs }
     ensures built { (fs : List FieldTree) → AreKept given.now parts.now.order fs →
         IfOk result (λ v. IsBuilt given.now.limits given.now.bytes.now fs parts.now v.items) }
@@ -110,6 +110,6 @@ pub fn build<A: Allocator + Copy>(
     let out = spell(alloc, given, parts)?;
     match validate(out.as_slice(), given.limits) {
         Some(_) => Ok(out),
-        None => Err(Refusal::Format(fault_at_end(out.as_slice(), given.limits))),
+        None => Err(PlacedFault::Format(fault_at_end(out.as_slice(), given.limits))),
     }
 }

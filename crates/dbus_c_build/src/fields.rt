@@ -9,11 +9,11 @@ ghost use Rattle.dbus_message_model.specs.Messages.{field_struct};
 ghost use Rattle.dbus_c_build.specs.Placed.{text_code, number_field, field_given};
 ghost use Rattle.dbus_c_build.specs.Spelled.{with_fields};
 ghost use Rattle.dbus_c_build.specs.Building.{AreGood};
-ghost use Rattle.dbus_c_build.specs.declared.refusal.Refusal.TheVariants.{Memory};
+ghost use Rattle.dbus_c_build.specs.declared.placed_fault.PlacedFault.TheVariants.{Memory};
 
 use crate::placed::PlacedParts;
+use crate::placed_fault::PlacedFault;
 use crate::places::text_at;
-use crate::refusal::Refusal;
 use dbus_body::{PutFault, begin_struct, put_number, put_signature, put_text};
 use dbus_message_model::field_code::{PATH, SIGNATURE};
 use dbus_value_model::Order;
@@ -84,7 +84,7 @@ pub(crate) fn append_given<A: Allocator>(
     bytes: &[u8],
     parts: &PlacedParts,
     code: u8,
-) -> Result<(), Refusal>
+) -> Result<(), PlacedFault>
     requires { AreGood bytes.now parts.now }
     ensures appended { OnOk result (out.new.items ≡
         with_fields parts.now.order (field_given bytes.now parts.now code) out.old.items) }

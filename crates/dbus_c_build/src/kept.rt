@@ -12,12 +12,12 @@ ghost use Rattle.dbus_c_build.specs.Building.{AreGood};
 ghost use Rattle.dbus_c_build.specs.Kept.{AreKept};
 ghost use Rattle.dbus_c_build.specs.Placed.{added, fields_after, in_place, known_codes, stays};
 ghost use Rattle.dbus_c_build.specs.Spelled.{with_fields};
-ghost use Rattle.dbus_c_build.specs.declared.refusal.Refusal.TheVariants.{Memory};
+ghost use Rattle.dbus_c_build.specs.declared.placed_fault.PlacedFault.TheVariants.{Memory};
 
 use crate::fields::append_given;
 use crate::given::Given;
 use crate::placed::PlacedParts;
-use crate::refusal::Refusal;
+use crate::placed_fault::PlacedFault;
 use dbus_body::begin_struct;
 use dbus_message_model::field_code::UNIX_FDS;
 use dbus_message_model::field_table::is_known;
@@ -62,7 +62,7 @@ fn append_kept<A: Allocator>(
     out: &mut Vec<u8, A>,
     given: &Given<'_>,
     parts: &PlacedParts,
-) -> Result<(), Refusal>
+) -> Result<(), PlacedFault>
     requires kept { (fs : List FieldTree) × AreKept given.now parts.now.order fs }
     requires good { AreGood given.now.bytes.now parts.now }
     ensures appended { (fs : List FieldTree) → AreKept given.now parts.now.order fs →
@@ -106,7 +106,7 @@ fn append_added<A: Allocator>(
     out: &mut Vec<u8, A>,
     given: &Given<'_>,
     parts: &PlacedParts,
-) -> Result<(), Refusal>
+) -> Result<(), PlacedFault>
     requires good { AreGood given.now.bytes.now parts.now }
     ensures appended { (fs : List FieldTree) → AreKept given.now parts.now.order fs →
         OnOk result (out.new.items ≡ with_fields parts.now.order
@@ -128,7 +128,7 @@ pub(crate) fn append_fields<A: Allocator>(
     out: &mut Vec<u8, A>,
     given: &Given<'_>,
     parts: &PlacedParts,
-) -> Result<(), Refusal>
+) -> Result<(), PlacedFault>
     requires kept { (fs : List FieldTree) × AreKept given.now parts.now.order fs }
     requires good { AreGood given.now.bytes.now parts.now }
     ensures appended { (fs : List FieldTree) → AreKept given.now parts.now.order fs →

@@ -12,10 +12,10 @@ mod given;
 mod kept;
 pub mod laws;
 mod placed;
+mod placed_fault;
 mod places;
-mod refusal;
 
 pub use building::build;
 pub use given::Given;
 pub use placed::{ByteRange, PlacedParts};
-pub use refusal::Refusal;
+pub use placed_fault::PlacedFault;

@@ -8,7 +8,7 @@ ghost use Rattle.dbus_c_build.specs.Building.{AreGood, AreGoodBelow, HaveNoBytes
 ghost use Rattle.dbus_c_build.specs.declared.placed.PlacedParts.{PlacedParts};
 
 use crate::placed::{BODY, ByteRange, PlacedParts};
-use crate::refusal::Refusal;
+use crate::placed_fault::PlacedFault;
 use dbus_message_model::field_code::{SIGNATURE, UNIX_FDS};
 use dbus_value_model::MESSAGE_LIMIT;
 
@@ -24,24 +24,24 @@ fn most_of(code: u8) -> usize
 }
 
 /// Whether the place of a code is within the bytes and not too long.
-fn check_place(bytes: &[u8], place: ByteRange, code: u8) -> Result<(), Refusal>
+fn check_place(bytes: &[u8], place: ByteRange, code: u8) -> Result<(), PlacedFault>
     ensures inside { OnOk result (IsInside bytes.now (Some place)) }
     ensures short { OnOk result (IsShort code (Some place)) }
     ensures refused { IfErr result (λ why. (kept : List FieldTree) (p : PlacedParts) →
         place_of code p ≡ Some place → AreGoodBelow bytes.now p code → HaveNoBytes bytes.now kept p why) }
 {
     if place.start > bytes.len() || bytes.len() - place.start < place.length {
-        return Err(Refusal::Outside(code));
+        return Err(PlacedFault::Outside(code));
     }
     if place.length > most_of(code) {
-        return Err(Refusal::TooLong(code));
+        return Err(PlacedFault::TooLong(code));
     }
     Ok(())
 }
 
 /// Whether each place is within the bytes and not too long: if not, the first that is not says why,
 /// the body's before those of the fields in the order of their codes.
-pub(crate) fn check_places(bytes: &[u8], parts: &PlacedParts) -> Result<(), Refusal>
+pub(crate) fn check_places(bytes: &[u8], parts: &PlacedParts) -> Result<(), PlacedFault>
     ensures good { OnOk result (AreGood bytes.now parts.now) }
     ensures refused { IfErr result (λ why. (kept : List FieldTree) → HaveNoBytes bytes.now kept parts.now why) }
 {

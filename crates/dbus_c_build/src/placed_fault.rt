@@ -9,7 +9,7 @@ use std::alloc::AllocError;
 /// length, the body's before those of the fields in the order of their codes; then the length of
 /// all fields; then the fault of the bytes.
 #[derive(Clone, Copy, PartialEq, Eq, Debug, Drop)]
-pub enum Refusal {
+pub enum PlacedFault {
     /// An allocation failed.
     Memory,
     /// The place of the text of this field, or of the body, is not within the bytes.
@@ -23,25 +23,25 @@ pub enum Refusal {
     Format(Fault),
 }
 
-impl From<AllocError> for Refusal {
+impl From<AllocError> for PlacedFault {
     ghost use Rattle.std.specs.Prelude.{◌≡◌};
-    ghost use Rattle.dbus_c_build.specs.declared.refusal.Refusal.TheVariants.{Memory};
+    ghost use Rattle.dbus_c_build.specs.declared.placed_fault.PlacedFault.TheVariants.{Memory};
 
     ghost from_gives = { λ _ e. e ≡ Memory };
 
     fn from(_: AllocError) -> Self {
-        Refusal::Memory
+        PlacedFault::Memory
     }
 }
 
 /// The texts are short enough for their lengths by then, so that nothing but memory runs out.
-impl From<PutFault> for Refusal {
+impl From<PutFault> for PlacedFault {
     ghost use Rattle.std.specs.Prelude.{◌≡◌};
-    ghost use Rattle.dbus_c_build.specs.declared.refusal.Refusal.TheVariants.{Memory};
+    ghost use Rattle.dbus_c_build.specs.declared.placed_fault.PlacedFault.TheVariants.{Memory};
 
     ghost from_gives = { λ _ e. e ≡ Memory };
 
     fn from(_: PutFault) -> Self {
-        Refusal::Memory
+        PlacedFault::Memory
     }
 }
