@@ -27,7 +27,7 @@ use Rattle.dbus_value_checker.specs.Fronts.{Fronts}
 use Rattle.dbus_value_checker.specs.Suspended.{On, onward, done}
 use Rattle.dbus_value_checker.specs.Denotations as values
 use Rattle.dbus_value_checker.specs.Moves.{values_on}
-use Rattle.dbus_value_checker.specs.declared.values.Values.{Values}
+use Rattle.dbus_value_checker.specs.declared.values.ValueChecker.{ValueChecker}
 use Rattle.dbus_check.specs.Heading.{Kept, missing, body_on, after_fields, fields_on, message_on}
 use Rattle.dbus_check.specs.Progress.{To, Moves, Flows}
 use Rattle.dbus_check.specs.declared.progress.Progress.{Progress}
@@ -93,7 +93,7 @@ module _ (limits : Limits) (order : Order) (body : ℕ) (kept : Kept) (bounds : 
       ap (λ (b : Bounds). onward (fields (value b order limits.depth end) (types_spelled kept.text)) (onward (ends end) done) o c) bounds_is
       ∙ ap (λ (e : ℕ). onward (fields (value (bounds_with limits (index_limit limits.fds kept.count)) order limits.depth e) (types_spelled kept.text)) (onward (ends e) done) o c) end_is
 
-  pub body_flows : (x : Values) (text : List ℕ) (to : To) → text ≡ kept.text → IsKind kinds.Signature kept.text
+  pub body_flows : (x : ValueChecker) (text : List ℕ) (to : To) → text ≡ kept.text → IsKind kinds.Signature kept.text
       → ((ts : TypeTrees) (last : On) → text ≡ sigs ts → AreShaped ts → values.Denotes x (values_on bounds order limits.depth end ts last o))
       → ((c : List ℕ) → body_on limits order body kept o c ≡ to c) → Flows x bounds order limits.depth end (onward (ends end) done) to
   body_flows x text to text_is signature begun same =

@@ -11,7 +11,7 @@ use Rattle.dbus_value_laws.proofs.Agreement.{after_done}
 use Rattle.dbus_value_checker.specs.Suspended.{On, onward, done}
 use Rattle.dbus_value_checker.specs.Denotations.{Answer, Denotes}
 use Rattle.dbus_value_checker.specs.Moves.{Runs, IsLive, offset_of}
-use Rattle.dbus_value_checker.specs.declared.values.Values.{Values}
+use Rattle.dbus_value_checker.specs.declared.values.ValueChecker.{ValueChecker}
 use Rattle.dbus_value_checker.proofs.Calls.{denotes_same, over_last}
 use Rattle.dbus_check.specs.Progress.{To, Flows, after_bytes}
 use Rattle.dbus_texts.specs.Types.{TypeTrees, NoTypes, MoreTypes, AreShaped}
@@ -46,21 +46,21 @@ module _ (bounds : Bounds) (order : Order) (room end : ℕ) where
       (omega (arith, place, long, one, a, l), omega (arith, two, a))
 
 -- what a run promises
-abbrev pub Ran : Values → List ℕ → Result ℕ Fault → Values → Type 0
+abbrev pub Ran : ValueChecker → List ℕ → Result ℕ Fault → ValueChecker → Type 0
 Ran old s r new = (answer : Answer) → Denotes old answer → Runs s r new answer
 
-module _ (bounds : Bounds) (order : Order) (room end : ℕ) (last : On) (to : To) (x : Values) (w : Flows x bounds order room end last to) where
+module _ (bounds : Bounds) (order : Order) (room end : ℕ) (last : On) (to : To) (x : ValueChecker) (w : Flows x bounds order room end last to) where
   abbrev run : On → On
   run next = onward (fields (value bounds order room end) w.types) next
 
   abbrev answer : On → Answer
   answer next = record { last = next; to = λ c. run next w.start (w.given ++ c) }
 
-  pub flows_refused : (v : Values) (s : List ℕ) (f : Fault) → Ran x s (Err f) v → (c : List ℕ) → to (s ++ c) ≡ Faulty f
+  pub flows_refused : (v : ValueChecker) (s : List ℕ) (f : Fault) → Ran x s (Err f) v → (c : List ℕ) → to (s ++ c) ≡ Faulty f
   flows_refused v s f runs c = sym (w.same (s ++ c)) ∙ runs (answer last) (w.value last) c
 
   -- some bytes were taken
-  module _ (v : Values) (s : List ℕ) (n : ℕ) (runs : Ran x s (Ok n) v) where
+  module _ (v : ValueChecker) (s : List ℕ) (n : ℕ) (runs : Ran x s (Ok n) v) where
     pub flows_there : n ≤ length s
     flows_there = (runs (answer last) (w.value last)).0
 

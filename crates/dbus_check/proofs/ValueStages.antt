@@ -9,7 +9,7 @@ use Rattle.dbus_value_model.specs.declared.fault.Reason.TheVariants as reasons
 use Rattle.dbus_value_model.specs.Reading.{Outcome, Done, Faulty, Partial, after, ends}
 use Rattle.dbus_value_checker.specs.Suspended.{On, onward, done}
 use Rattle.dbus_value_checker.specs.Moves.{IsLive, offset_of}
-use Rattle.dbus_value_checker.specs.declared.values.Values.{Values}
+use Rattle.dbus_value_checker.specs.declared.values.ValueChecker.{ValueChecker}
 use Rattle.dbus_check.specs.Heading.{fields_on}
 use Rattle.dbus_check.specs.Progress.{To, WantsFields, WantsMore, WantsBody, after_bytes}
 use Rattle.dbus_check.specs.declared.progress.Progress.{Progress}
@@ -42,7 +42,7 @@ module _ (x : Progress) (to : To) (w : WantsMore x to) where
         same = λ c. ap (λ (p : ℕ). last p c) is ∙ u.2 c;
       }
 
-module _ (x : Progress) (to : To) (w : WantsMore x to) (v : Values) (s : List ℕ) where
+module _ (x : Progress) (to : To) (w : WantsMore x to) (v : ValueChecker) (s : List ℕ) where
   abbrev after_it : On
   after_it = fields_on x.limits x.order x.kind x.body w.turns x.end w.kept
 
@@ -106,7 +106,7 @@ module _ (x : Progress) (to : To) (w : WantsBody x to) (over : IsLive x.values.d
       ∙ ap (λ (r : Outcome (Unit {0})). after r (λ _. done)) (ends_there x.end (offset_of x.values) c there)
       ∙ ap (λ (p : ℕ). Done tt p c) there
 
-module _ (x : Progress) (to : To) (w : WantsBody x to) (v : Values) (s : List ℕ) where
+module _ (x : Progress) (to : To) (w : WantsBody x to) (v : ValueChecker) (s : List ℕ) where
   abbrev ended : On
   ended = onward (ends x.end) done
 

@@ -14,7 +14,7 @@ use Rattle.dbus_value_model.specs.declared.stop.Stop.TheVariants as stops
 use Rattle.dbus_value_model.specs.Reading.{Outcome, Done, Faulty, Partial, after, padding, ends, fields, value}
 use Rattle.dbus_value_checker.specs.Suspended.{On, onward, done}
 use Rattle.dbus_value_checker.specs.Denotations as values
-use Rattle.dbus_value_checker.specs.declared.values.Values.{Values}
+use Rattle.dbus_value_checker.specs.declared.values.ValueChecker.{ValueChecker}
 use Rattle.dbus_header.specs.HeaderReading.{wanted_value}
 use Rattle.dbus_message_model.specs.Messages.{is_known, want}
 use Rattle.dbus_check.specs.Heading.{Kept, kept_of, has, body_on, fields_on, message_on}
@@ -55,7 +55,7 @@ pub record WantsPadding (x : Progress) (to : To) : Type 0 where
 
 -- Values are under way, and last is read after them: they are of these types and began at the
 -- offset start, and these bytes of them were taken.
-pub record Flows (x : Values) (bounds : Bounds) (order : Order) (room end : ℕ) (last : On) (to : To) : Type 0 where
+pub record Flows (x : ValueChecker) (bounds : Bounds) (order : Order) (room end : ℕ) (last : On) (to : To) : Type 0 where
   pub types : TypeTrees
   pub start : ℕ
   pub given : List ℕ

@@ -7,7 +7,7 @@ ghost use Rattle.dbus_value_model.specs.declared.stop.Stop.TheVariants.{Partial}
 use crate::seen::Seen;
 use arrayvec::ArrayVec;
 use dbus_header::read_fixed_header;
-use dbus_value_checker::{Values, front, padding};
+use dbus_value_checker::{ValueChecker, front, padding};
 use dbus_value_model::{Limits, Order, Reason, Stop, refuse};
 
 /// What is read next.
@@ -51,7 +51,7 @@ pub(crate) struct Progress {
     /// The body's signature.
     pub(crate) signature: ArrayVec<u8, 255>,
     /// The values that are under way.
-    pub(crate) values: Values,
+    pub(crate) values: ValueChecker,
 }
 
 impl Progress {
@@ -74,7 +74,7 @@ impl Progress {
             fds: 0,
             seen: Seen::none(),
             signature: ArrayVec::new(),
-            values: Values::new(),
+            values: ValueChecker::new(),
         }
     }
 

@@ -18,7 +18,7 @@ use Rattle.dbus_value_laws.proofs.ValueSteps.{single_shaped}
 use Rattle.dbus_value_checker.specs.Suspended.{done}
 use Rattle.dbus_value_checker.specs.Denotations.{Answer, after_piece}
 use Rattle.dbus_value_checker.specs.Moves.{Runs, IsLive, offset_of, values_on}
-use Rattle.dbus_value_checker.specs.declared.values.Values.{Values}
+use Rattle.dbus_value_checker.specs.declared.values.ValueChecker.{ValueChecker}
 use Rattle.dbus_value_checker.proofs.Calls.{over_last}
 use Rattle.dbus_walk.specs.Standing.{Stands}
 use Rattle.dbus_unmarshal.specs.Validating.{IsSpelledThere, Validates}
@@ -76,7 +76,7 @@ module _ (bounds : Bounds) (order : Order) (depth_left end : ℕ) (t : TypeTree)
         | inr w ↦ let e : Done tt w.1 w.2 ≡ Faulty f = w.4 in absurd cc
       ]
 
-  pub validated : (new : Values) (n : ℕ) (live : Bool) → Runs s (Ok n) new answer → (IsTrue live ↔ IsLive new.doing) → Validates bounds order depth_left end t at bytes (Ok (not live))
+  pub validated : (new : ValueChecker) (n : ℕ) (live : Bool) → Runs s (Ok n) new answer → (IsTrue live ↔ IsLive new.doing) → Validates bounds order depth_left end t at bytes (Ok (not live))
   validated new n true runs is = waits (runs.2 (is.0 refl))
   validated new n false runs is =
       whole (offset_of new) (drop n s) (ap answer.to (sym (take-append-drop n s)) ∙ sym (over_last new (after_piece answer (take n s)) runs.1 (λ h. let e : false ≡ true = is.1 h in absurd cc) (drop n s)))

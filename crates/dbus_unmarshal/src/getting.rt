@@ -16,7 +16,7 @@ use crate::type_text::put_type;
 use crate::values::build_value;
 use arrayvec::ArrayVec;
 use dbus_types::SigType;
-use dbus_value_checker::{Values, rest_after};
+use dbus_value_checker::{ValueChecker, rest_after};
 use dbus_value_model::{Bounds, Fault, Got, Limits, Order, Refusal};
 use dbus_walk::{Source, Spot, lengths_of};
 use std::alloc::Allocator;
@@ -142,7 +142,7 @@ fn is_whole(
     ensures { (t : TypeTree) → IsSingleType t → spot.now.types.now ≡ sig t →
         Validates bounds order spot.now.depth_left end t spot.now.at bytes.now result }
 {
-    let mut values = Values::new();
+    let mut values = ValueChecker::new();
     values.begin(bounds, order, spot.at, end, spot.types, spot.depth_left);
     values.run(rest_after(bytes, spot.at))?;
     Ok(!values.is_live())

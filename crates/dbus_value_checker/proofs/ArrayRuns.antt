@@ -7,7 +7,7 @@ use Rattle.dbus_value_model.specs.Bytes.{gap_to}
 use Rattle.dbus_types.specs.SignatureCodes.{first_code, free_width_of}
 use Rattle.dbus_types.proofs.TypeCodes.{begins, after_code}
 use Rattle.dbus_value_model.specs.Reading.{Partial}
-use Rattle.dbus_value_checker.specs.declared.values.Values.{Values}
+use Rattle.dbus_value_checker.specs.declared.values.ValueChecker.{ValueChecker}
 use Rattle.dbus_value_checker.specs.declared.values.Doing.{Doing}
 use Rattle.dbus_value_checker.specs.Suspended.{On, Work, Parts, Elements, work}
 use Rattle.dbus_value_checker.specs.Denotations.{Answer, rest_of, HasFrames, HasNotes, Goes, Numbers, after_piece}
@@ -17,10 +17,10 @@ use Rattle.dbus_value_checker.proofs.FrameLaws.{frames_reach, frames_small, fram
 use Rattle.dbus_value_checker.proofs.NextValues.{false_true}
 
 -- how many bytes its whole numbers have
-abbrev pub whole_in : Values → ℕ → ℕ
+abbrev pub whole_in : ValueChecker → ℕ → ℕ
 whole_in x w = (x.inner.end - x.offset) - (x.inner.end - x.offset) % w
 
-numbers_at : (x : Values) (d : Doing) (answer : Answer) (c w : ℕ) (ws : List Work) → HasFrames x.offset x ws → HasNotes x → ((s : List ℕ) → rest_of answer x ws x.offset s ≡ answer.to s) → x.inner.array ≡ true → get_or x.text.items x.inner.pos 0 ≡ c
+numbers_at : (x : ValueChecker) (d : Doing) (answer : Answer) (c w : ℕ) (ws : List Work) → HasFrames x.offset x ws → HasNotes x → ((s : List ℕ) → rest_of answer x ws x.offset s ≡ answer.to s) → x.inner.array ≡ true → get_or x.text.items x.inner.pos 0 ≡ c
     → ((t : TypeTree) → first_code t ≡ c → w ≡ free_width_of t) → 0 < w → gap_to w x.offset ≡ 0 → x.offset + w ≤ x.inner.end → (0 < whole_in x w) × Numbers (record x { doing = d }) (whole_in x w) answer
 numbers_at x d answer c w [] h noted same a code is some aligned fits = absurd h
 numbers_at x d answer c w (Parts depth_left end ts ∷ ws) h noted same a code is some aligned fits = absurd (false_true x.inner.array h.0.is.parts a)
@@ -57,11 +57,11 @@ numbers_at x d answer c w (Elements turns depth_left end t ∷ ws) h noted same 
       },
     )
 
-pub numbers_begin : (x : Values) (d : Doing) (answer : Answer) (c w : ℕ) → Goes x answer → x.inner.array ≡ true → get_or x.text.items x.inner.pos 0 ≡ c → ((t : TypeTree) → first_code t ≡ c → w ≡ free_width_of t) → 0 < w → gap_to w x.offset ≡ 0 → x.offset + w ≤ x.inner.end
+pub numbers_begin : (x : ValueChecker) (d : Doing) (answer : Answer) (c w : ℕ) → Goes x answer → x.inner.array ≡ true → get_or x.text.items x.inner.pos 0 ≡ c → ((t : TypeTree) → first_code t ≡ c → w ≡ free_width_of t) → 0 < w → gap_to w x.offset ≡ 0 → x.offset + w ≤ x.inner.end
     → (0 < whole_in x w) × Numbers (record x { doing = d }) (whole_in x w) answer
 numbers_begin x d answer c w g a code is some aligned fits = numbers_at x d answer c w g.ws g.frames g.noted g.same a code is some aligned fits
 
-module _ (x : Values) (left : ℕ) (answer : Answer) (b : Numbers x left answer) where
+module _ (x : ValueChecker) (left : ℕ) (answer : Answer) (b : Numbers x left answer) where
   abbrev elements_on : ℕ → On
   elements_on turns = work x.bounds x.order (Elements turns b.depth_left b.stop (NumberType b.code)) (rest_of answer x b.ws)
 

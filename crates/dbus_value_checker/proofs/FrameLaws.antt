@@ -4,7 +4,7 @@ use Rattle.dbus_value_checker.specs.declared.values.Frame.{Frame}
 use Rattle.dbus_value_checker.specs.Suspended.{Work, Parts, Elements}
 use Rattle.dbus_value_checker.specs.Frames.{IsFrame, AreFrames, extra, Framed}
 use Rattle.std.proofs.lemmas.List.{reverse-append, length-reverse}
-use Rattle.dbus_value_checker.specs.declared.values.Values.{Values}
+use Rattle.dbus_value_checker.specs.declared.values.ValueChecker.{ValueChecker}
 use Rattle.dbus_value_checker.specs.Denotations.{HasFrames}
 use Rattle.dbus_value_checker.specs.Moves.{Pushed}
 
@@ -37,7 +37,7 @@ frame_within reach low high bottom text f fs (w ∷ ws) h = (h.0.low_is, h.0.hig
 -- ---- a frame is pushed
 
 -- what is known of the innermost frame
-pub record Inner (x : Values) : Type 0 where
+pub record Inner (x : ValueChecker) : Type 0 where
   pub low : x.offset ≤ x.inner.end
   pub high : x.inner.top ≤ length x.text.items
   pub stop : x.inner.stop ≤ x.inner.top
@@ -45,7 +45,7 @@ pub record Inner (x : Values) : Type 0 where
   pub count : length x.frames.items + extra x.inner.array + 2 * x.inner.depth_left ≤ 128
   pub depth_left : x.inner.top + 255 * x.inner.depth_left ≤ 255 * 65
 
-pub inner_of : (x : Values) (reach : ℕ) (ws : List Work) → HasFrames reach x ws → Inner x
+pub inner_of : (x : ValueChecker) (reach : ℕ) (ws : List Work) → HasFrames reach x ws → Inner x
 inner_of x reach [] h = absurd h
 inner_of x reach (w ∷ ws) h = record { low = h.0.low_is; high = h.0.high_is; stop = h.0.stop_is; pos = h.0.pos_is; count = omega (arith, h.0.count_is, length-reverse x.frames.items); depth_left = h.0.room_is }
 
@@ -54,12 +54,12 @@ within reach low high next more bottom text f fs [] le top h = h
 within reach low high next more bottom text f fs (w ∷ ws) le top h = (assumption h, h.1)
 
 -- further on, within the innermost frame
-pub frames_at : (x : Values) (ws : List Work) (reach more o : ℕ) → HasFrames reach x ws → reach ≤ more → o ≤ x.inner.end → HasFrames more (record x { offset = o }) ws
+pub frames_at : (x : ValueChecker) (ws : List Work) (reach more o : ℕ) → HasFrames reach x ws → reach ≤ more → o ≤ x.inner.end → HasFrames more (record x { offset = o }) ws
 frames_at x ws reach more o h le fits =
     within more x.offset (length x.text.items) o (length x.text.items) x.end x.text.items x.inner (reverse x.frames.items) ws fits (inner_of x reach ws h).high
     (frames_reach reach more x.offset (length x.text.items) x.end x.text.items (x.inner ∷ reverse x.frames.items) ws le h)
 
-pub pushed_frames : (x y : Values) (f : Frame) (reach : ℕ) (v : Work) (ws : List Work) → Pushed x y f → HasFrames reach x ws
+pub pushed_frames : (x y : ValueChecker) (f : Frame) (reach : ℕ) (v : Work) (ws : List Work) → Pushed x y f → HasFrames reach x ws
     → Framed reach x.offset (length x.text.items) (suc (length x.frames.items)) x.text.items f v → f.end ≤ x.inner.end → x.inner.top ≤ f.top → HasFrames reach y (v ∷ ws)
 pushed_frames x y f reach v ws p h framed end top =
     let back : reverse y.frames.items ≡ x.inner ∷ reverse x.frames.items = ap (λ (fs : List Frame). reverse fs) p.frames ∙ reverse-append x.frames.items (x.inner ∷ []) in

@@ -22,7 +22,7 @@ use Rattle.dbus_texts.specs.Types.{TypeTree, NumberType}
 use Rattle.dbus_types.proofs.TypeCodes.{boolean_is, descriptor_is}
 use Rattle.dbus_value_model.specs.declared.stop.Stop.{Stop}
 use Rattle.dbus_value_model.specs.declared.stop.Stop.TheVariants as stops
-use Rattle.dbus_value_checker.specs.declared.values.Values.{Values}
+use Rattle.dbus_value_checker.specs.declared.values.ValueChecker.{ValueChecker}
 use Rattle.dbus_value_checker.specs.Moves.{Moves}
 use Rattle.dbus_value_checker.specs.Fronts.{Halts, Fronts, Lack}
 use Rattle.dbus_value_checker.specs.Suspended.{On, onward, done}
@@ -47,7 +47,7 @@ module _ {X A : Type 0} (view : X → A × ℕ) (o : ℕ) (s : List ℕ) (run : 
   front_refused f h c = sym (same (s ++ c)) ∙ ap (λ (r : Outcome A). after r next) (h c)
 
   -- nothing is changed then
-  pub front_stops : (x : Values) (last : On) (e : Stop) → Fronts view o s (Err e) run → Moves x s (Err e) x (record { last = last; to = answer })
+  pub front_stops : (x : ValueChecker) (last : On) (e : Stop) → Fronts view o s (Err e) run → Moves x s (Err e) x (record { last = last; to = answer })
   front_stops x last stops.Partial h = (refl, front_waits h)
   front_stops x last (stops.Refused f) h = front_refused f h
 

@@ -4,7 +4,7 @@ use Rattle.std.specs.Prelude.{◌⊎◌}
 use Rattle.std.proofs.lemmas.List.{length-append, reverse-append, take_all}
 use Rattle.dbus_texts.specs.Types.{NoTypes, MoreTypes, sig, sigs, IsShaped, TypeTrees, AreShaped}
 use Rattle.dbus_value_model.specs.Reading.{value}
-use Rattle.dbus_value_checker.specs.declared.values.Values.{Values}
+use Rattle.dbus_value_checker.specs.declared.values.ValueChecker.{ValueChecker}
 use Rattle.dbus_value_checker.specs.declared.values.Frame.{Frame}
 use Rattle.dbus_value_checker.specs.declared.values.Doing.TheVariants as rust
 use Rattle.dbus_types.specs.SignatureCodes.{IsTypeEnd}
@@ -20,7 +20,7 @@ use Rattle.dbus_value_checker.proofs.Slices.{slice_room, slice_whole, slice_afte
 use Rattle.dbus_types.specs.TypeLengths.{AreLengths}
 
 -- a state whose only frame is that of these types
-pub begun_goes : (x : Values) (types : List ℕ) (depth_left : ℕ) (ts : TypeTrees) (last : On)
+pub begun_goes : (x : ValueChecker) (types : List ℕ) (depth_left : ℕ) (ts : TypeTrees) (last : On)
     → x.frames.items ≡ [] → x.text.items ≡ types → ((more : List ℕ) × AreLengths types more × (x.lengths.items ≡ more)) → x.inner ≡ record { array = false; pos = 0; stop = length types; top = length types; end = x.end; depth_left = depth_left }
     → x.offset ≤ x.end → x.end < 18446744073709551616 → depth_left ≤ 64 → length types ≤ 255 → types ≡ sigs ts → AreShaped ts
     → Goes x (values_on x.bounds x.order depth_left x.end ts last x.offset)
@@ -55,7 +55,7 @@ begun_goes x types depth_left ts last none text sizes inner at_most near few sho
 pub false_true : (b : Bool) → b ≡ false → b ≡ true → ⊥
 false_true b e d = cc
 
-next_element_at : (x : Values) (answer : Answer) (ws : List Work) → HasFrames x.offset x ws → HasNotes x → ((c : List ℕ) → rest_of answer x ws x.offset c ≡ answer.to c) → x.inner.array ≡ true → x.offset < x.inner.end → Wants x x.inner.pos x.inner.stop answer
+next_element_at : (x : ValueChecker) (answer : Answer) (ws : List Work) → HasFrames x.offset x ws → HasNotes x → ((c : List ℕ) → rest_of answer x ws x.offset c ≡ answer.to c) → x.inner.array ≡ true → x.offset < x.inner.end → Wants x x.inner.pos x.inner.stop answer
 next_element_at x answer [] h noted same a lt = absurd h
 next_element_at x answer (Parts depth_left end ts ∷ ws) h noted same a lt = absurd (false_true x.inner.array h.0.is.parts a)
 next_element_at x answer (Elements zero depth_left end t ∷ ws) h noted same a lt = absurd (let n = h.0.is.turns_is in omega arith)
@@ -83,12 +83,12 @@ next_element_at x answer (Elements (suc turns) depth_left end t ∷ ws) h noted 
           (sym (elements_more x.bounds x.order turns depth_left end t (rest_of answer x ws) x.offset c (omega arith)) ∙ same c));
     }
 
-pub next_element : (x : Values) (answer : Answer) → Goes x answer → x.inner.array ≡ true → x.offset < x.inner.end → Wants x x.inner.pos x.inner.stop answer
+pub next_element : (x : ValueChecker) (answer : Answer) → Goes x answer → x.inner.array ≡ true → x.offset < x.inner.end → Wants x x.inner.pos x.inner.stop answer
 next_element x answer g a lt = next_element_at x answer g.ws g.frames g.noted g.same a lt
 
 -- ---- a part is wanted
 
-pub next_part_at : (x : Values) (answer : Answer) (ws : List Work) (q : ℕ) → IsTypeEnd (take x.inner.stop x.text.items) x.inner.pos q → HasFrames (suc x.offset) x ws → HasNotes x
+pub next_part_at : (x : ValueChecker) (answer : Answer) (ws : List Work) (q : ℕ) → IsTypeEnd (take x.inner.stop x.text.items) x.inner.pos q → HasFrames (suc x.offset) x ws → HasNotes x
     → ((c : List ℕ) → rest_of answer x ws x.offset c ≡ answer.to c) → x.inner.array ≡ false → x.inner.pos < x.inner.stop → x.inner.stop ≤ length x.text.items
     → Wants (record x { inner = record x.inner { pos = q } }) x.inner.pos q answer
 next_part_at x answer [] q is h noted same a lt le = absurd h
@@ -122,7 +122,7 @@ next_part_at x answer (Parts depth_left end (MoreTypes t ts) ∷ ws) q is h note
           (sym (parts_more x.bounds x.order depth_left end t ts (rest_of answer x ws) x.offset c) ∙ same c));
     }
 
-pub next_part : (x : Values) (answer : Answer) (q : ℕ) → IsTypeEnd (take x.inner.stop x.text.items) x.inner.pos q → Goes x answer → x.inner.array ≡ false → x.inner.pos < x.inner.stop → x.inner.stop ≤ length x.text.items
+pub next_part : (x : ValueChecker) (answer : Answer) (q : ℕ) → IsTypeEnd (take x.inner.stop x.text.items) x.inner.pos q → Goes x answer → x.inner.array ≡ false → x.inner.pos < x.inner.stop → x.inner.stop ≤ length x.text.items
     → Wants (record x { inner = record x.inner { pos = q } }) x.inner.pos q answer
 next_part x answer q is g a lt le =
     next_part_at x answer g.ws q is (frames_reach x.offset (suc x.offset) x.offset (length x.text.items) x.end x.text.items (x.inner ∷ reverse x.frames.items) g.ws (omega arith) g.frames) g.noted g.same a lt le
@@ -133,10 +133,10 @@ empty_reverse : (fs : List Frame) → length fs ≡ 0 → reverse fs ≡ []
 empty_reverse [] e = refl
 empty_reverse (f ∷ fs) e = absurd (omega arith)
 
-abbrev pub IsOver : Values → Type 0
+abbrev pub IsOver : ValueChecker → Type 0
 IsOver x = ((x.inner.array ≡ true) × (x.inner.end ≤ x.offset)) ⊎ ((x.inner.array ≡ false) × (x.inner.stop ≤ x.inner.pos))
 
-over_at : (x : Values) (answer : Answer) (w : Work) (ws : List Work) → HasFrames x.offset x (w ∷ ws) → ((c : List ℕ) → rest_of answer x (w ∷ ws) x.offset c ≡ answer.to c) → IsOver x → (c : List ℕ) → rest_of answer x ws x.offset c ≡ answer.to c
+over_at : (x : ValueChecker) (answer : Answer) (w : Work) (ws : List Work) → HasFrames x.offset x (w ∷ ws) → ((c : List ℕ) → rest_of answer x (w ∷ ws) x.offset c ≡ answer.to c) → IsOver x → (c : List ℕ) → rest_of answer x ws x.offset c ≡ answer.to c
 over_at x answer (Parts depth_left end NoTypes) ws h same over c = same c
 over_at x answer (Parts depth_left end (MoreTypes t ts)) ws h same over c = elim over [
   | inl o ↦ absurd (false_true x.inner.array h.0.is.parts o.0)
@@ -157,7 +157,7 @@ over_at x answer (Elements turns depth_left end t) ws h same over c = elim over 
 ]
 
 -- the state y is left when the frame of x is popped, as x is reached when it is pushed
-popped_at : (x y : Values) (answer : Answer) (ws : List Work) → HasFrames x.offset x ws → HasNotes x → ((c : List ℕ) → rest_of answer x ws x.offset c ≡ answer.to c) → IsOver x → Pushed y x x.inner → Goes y answer
+popped_at : (x y : ValueChecker) (answer : Answer) (ws : List Work) → HasFrames x.offset x ws → HasNotes x → ((c : List ℕ) → rest_of answer x ws x.offset c ≡ answer.to c) → IsOver x → Pushed y x x.inner → Goes y answer
 popped_at x y answer [] h noted same over p = absurd h
 popped_at x y answer (w ∷ ws) h noted same over p =
     let back : reverse x.frames.items ≡ y.inner ∷ reverse y.frames.items = ap (λ (fs : List Frame). reverse fs) p.frames ∙ reverse-append y.frames.items (y.inner ∷ []) in
@@ -175,20 +175,20 @@ popped_at x y answer (w ∷ ws) h noted same over p =
       same = rw (← p.offset, ← p.bounds, ← p.order) (over_at x answer w ws h same over);
     }
 
-pub next_popped : (x y : Values) (answer : Answer) → Goes x answer → IsOver x → Pushed y x x.inner → Goes y answer
+pub next_popped : (x y : ValueChecker) (answer : Answer) → Goes x answer → IsOver x → Pushed y x x.inner → Goes y answer
 next_popped x y answer g over p = popped_at x y answer g.ws g.frames g.noted g.same over p
 
-last_at : (x : Values) (answer : Answer) (ws : List Work) (fs : List Frame) → fs ≡ reverse x.frames.items → AreFrames x.offset x.offset (length x.text.items) x.end x.text.items (x.inner ∷ fs) ws → ((c : List ℕ) → rest_of answer x ws x.offset c ≡ answer.to c) → HasFrames x.offset x ws → IsOver x → fs ≡ []
+last_at : (x : ValueChecker) (answer : Answer) (ws : List Work) (fs : List Frame) → fs ≡ reverse x.frames.items → AreFrames x.offset x.offset (length x.text.items) x.end x.text.items (x.inner ∷ fs) ws → ((c : List ℕ) → rest_of answer x ws x.offset c ≡ answer.to c) → HasFrames x.offset x ws → IsOver x → fs ≡ []
     → (x.offset ≤ x.end) × (x.end < 18446744073709551616) × ((c : List ℕ) → answer.last x.offset c ≡ answer.to c)
 last_at x answer [] fs e h same g over none = absurd h
 last_at x answer (w ∷ []) [] e h same g over none = ((let a = h.0.low_is in let b = h.1.0 in omega arith), h.1.1, over_at x answer w [] g same over)
 last_at x answer (w ∷ (v ∷ ws)) [] e h same g over none = absurd h.1
 last_at x answer (w ∷ ws) (f ∷ fs) e h same g over none = absurd cc
 
-pub next_last : (x : Values) (answer : Answer) → Goes x answer → IsOver x → length x.frames.items ≡ 0 → (x.offset ≤ x.end) × (x.end < 18446744073709551616) × ((c : List ℕ) → answer.last x.offset c ≡ answer.to c)
+pub next_last : (x : ValueChecker) (answer : Answer) → Goes x answer → IsOver x → length x.frames.items ≡ 0 → (x.offset ≤ x.end) × (x.end < 18446744073709551616) × ((c : List ℕ) → answer.last x.offset c ≡ answer.to c)
 next_last x answer g over none =
     last_at x answer g.ws (reverse x.frames.items) refl g.frames g.same g.frames over (empty_reverse x.frames.items none)
 
 -- the type that is wanted is noted
-pub wants_doing : (x : Values) (pos stop p s : ℕ) (answer : Answer) → Wants x pos stop answer → Wants (record x { doing = rust.Wanted p s }) pos stop answer
+pub wants_doing : (x : ValueChecker) (pos stop p s : ℕ) (answer : Answer) → Wants x pos stop answer → Wants (record x { doing = rust.Wanted p s }) pos stop answer
 wants_doing x pos stop p s answer w = record { ws = w.ws; type = w.type; frames = w.frames; noted = w.noted; text = w.text; type_noted = w.type_noted; complete = w.complete; element = w.element; pos_is = w.pos_is; stop_is = w.stop_is; same = w.same }

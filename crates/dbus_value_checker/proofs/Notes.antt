@@ -3,7 +3,7 @@ use Rattle.std.proofs.Common.{◌≡◌, ℕ, ◌+◌, ◌-◌, ◌<◌, ◌≤�
 use Rattle.std.proofs.lemmas.List.{reverse-append, length-append, take-take, take_all, drop-drop, drop-take, drop_at, take-append-drop, get_or-take, get_or-drop}
 use Rattle.dbus_texts.specs.Types.{sig}
 use Rattle.dbus_types.specs.TypeLengths.{AreLengths}
-use Rattle.dbus_value_checker.specs.declared.values.Values.{Values}
+use Rattle.dbus_value_checker.specs.declared.values.ValueChecker.{ValueChecker}
 use Rattle.dbus_value_checker.specs.declared.values.Frame.{Frame}
 use Rattle.dbus_value_checker.specs.Suspended.{Work}
 use Rattle.dbus_value_checker.specs.Frames.{slice, AreFrames, AreNoted, IsNoted}
@@ -29,7 +29,7 @@ same_notes a b l m fs gs text lengths frames h =
     (subst (λ (k : List ℕ). (length l ≡ length k) × AreNoted k l fs) text h))
 
 -- a frame is pushed
-pub pushed_notes : (x y : Values) (f : Frame) → Pushed x y f → HasNotes x → IsNoted x.text.items x.lengths.items f.pos f.stop → HasNotes y
+pub pushed_notes : (x y : ValueChecker) (f : Frame) → Pushed x y f → HasNotes x → IsNoted x.text.items x.lengths.items f.pos f.stop → HasNotes y
 pushed_notes x y f p noted own =
     let back : reverse y.frames.items ≡ x.inner ∷ reverse x.frames.items = ap (λ (fs : List Frame). reverse fs) p.frames ∙ reverse-append x.frames.items (x.inner ∷ []) in
     let all : f ∷ (x.inner ∷ reverse x.frames.items) ≡ y.inner ∷ reverse y.frames.items = sym (rw (p.inner, back) refl) in

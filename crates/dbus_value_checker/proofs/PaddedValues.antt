@@ -13,7 +13,7 @@ use Rattle.dbus_value_model.specs.Items.{fault}
 use Rattle.dbus_value_model.specs.ValueItems.{number_row, text_row}
 use Rattle.dbus_value_model.specs.ValueReaders.{array_frame}
 use Rattle.dbus_value_model.specs.Reading.{Reader, Faulty, after, padding, number, text, nul, value}
-use Rattle.dbus_value_checker.specs.declared.values.Values.{Values}
+use Rattle.dbus_value_checker.specs.declared.values.ValueChecker.{ValueChecker}
 use Rattle.dbus_value_checker.specs.declared.values.Frame.{Frame}
 use Rattle.dbus_types.specs.SignatureCodes.{first_code}
 use Rattle.dbus_types.proofs.TypeCodes.{begins, after_code}
@@ -35,7 +35,7 @@ use Rattle.dbus_value_checker.proofs.Notes.{part_noted, pushed_notes}
 
 -- ---- the padding of a value
 
-module _ (x : Values) (pos stop : ℕ) (answer : Answer) (w : Wants x pos stop answer) (seen : List ℕ) (seen_is : seen ≡ x.text.items) where
+module _ (x : ValueChecker) (pos stop : ℕ) (answer : Answer) (w : Wants x pos stop answer) (seen : List ℕ) (seen_is : seen ≡ x.text.items) where
   abbrev code : ℕ
   code = get_or seen pos 0
 
@@ -75,7 +75,7 @@ module _ (x : Values) (pos stop : ℕ) (answer : Answer) (w : Wants x pos stop a
 
 -- ---- what stands after the padding
 
-module _ (x : Values) (pos stop n : ℕ) (answer : Answer) (r : Ready x pos stop n answer) (code : ℕ) (there : get_or x.text.items pos 0 ≡ code) where
+module _ (x : ValueChecker) (pos stop n : ℕ) (answer : Answer) (r : Ready x pos stop n answer) (code : ℕ) (there : get_or x.text.items pos 0 ≡ code) where
   pub ready_first : first_code r.wants.type ≡ code
   ready_first = sym (slice_head x.text.items pos stop (first_code r.wants.type) (after_code r.wants.type) r.wants.pos_is (r.wants.text ∙ begins r.wants.type)) ∙ there
 
@@ -129,7 +129,7 @@ module _ (x : Values) (pos stop n : ℕ) (answer : Answer) (r : Ready x pos stop
     abbrev f : Frame
     f = record { array = false; pos = pos + 1; stop = stop - 1; top = x.inner.top; end = x.inner.end; depth_left = inner }
 
-    abbrev z : Values
+    abbrev z : ValueChecker
     z = record x { offset = x.offset + n }
 
     -- what stands within the brackets, and that there is room for its frame
@@ -261,7 +261,7 @@ module _ (x : Values) (pos stop n : ℕ) (answer : Answer) (r : Ready x pos stop
       pub array_stops : (e : Stop) → Sizes (Err e) → Moves x s (Err e) x answer
       array_stops e h = front_stops (λ (m : ℕ × ℕ). m) (x.offset + n) s frame fill answer.to array_same x answer.last e (sizes (Err e) h)
 
-      pub array_goes : (y : Values) (size k : ℕ) → Sizes (Ok (size, k)) → 4 ≤ k → x.offset + n + k + size ≤ x.inner.end
+      pub array_goes : (y : ValueChecker) (size k : ℕ) → Sizes (Ok (size, k)) → 4 ≤ k → x.offset + n + k + size ≤ x.inner.end
           → Pushed (record x { offset = x.offset + n + k }) y (record { array = true; pos = pos + 1; stop = stop; top = x.inner.top; end = x.offset + n + k + size; depth_left = inner })
           → Goes y (after_piece answer (take k s))
       array_goes y size k h some fits p =
@@ -269,7 +269,7 @@ module _ (x : Values) (pos stop n : ℕ) (answer : Answer) (r : Ready x pos stop
           let i = inner_of x (suc x.offset) r.wants.ws r.wants.frames in
           let w : Work = Elements size inner (q + size) ready_array.0 in
           let g : Frame = record { array = true; pos = pos + 1; stop = stop; top = x.inner.top; end = q + size; depth_left = inner } in
-          let z : Values = record x { offset = q } in
+          let z : ValueChecker = record x { offset = q } in
           let some_code = element_there.0 in
           let framed : Framed q q (length x.text.items) (suc (length x.frames.items)) x.text.items g w = record {
             low_is = omega arith;

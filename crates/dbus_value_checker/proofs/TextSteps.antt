@@ -12,7 +12,7 @@ use Rattle.dbus_value_model.specs.ComputedTexts.{is_kind, break_at}
 use Rattle.dbus_value_model.specs.declared.fault.Reason.{Reason}
 use Rattle.dbus_value_model.specs.Items.{fault, text_reason}
 use Rattle.dbus_value_model.specs.Reading.{Outcome, Faulty, Partial, after, text, nul}
-use Rattle.dbus_value_checker.specs.declared.values.Values.{Values}
+use Rattle.dbus_value_checker.specs.declared.values.ValueChecker.{ValueChecker}
 use Rattle.dbus_value_checker.specs.declared.values.Doing.{Doing}
 use Rattle.dbus_value_checker.specs.Suspended.{onward}
 use Rattle.dbus_value_checker.specs.Denotations.{Answer, rest_of, Goes, Texts, Nuls, after_piece}
@@ -59,7 +59,7 @@ one_byte_breaks k w b h unlike =
 
 -- ---- a text that is under way
 
-module _ (x : Values) (code left : ℕ) (answer : Answer) (t : Texts x code left answer) where
+module _ (x : ValueChecker) (code left : ℕ) (answer : Answer) (t : Texts x code left answer) where
   so_far : break_at (kind_of t.kind) t.bytes ≡ length t.bytes
   so_far = ap (λ (k : WantedText). break_at k t.bytes) (sym t.scans) ∙ prefix_break (scans.kind_of x.scan) t.bytes (stands_prefix x.scan t.bytes t.stands)
 
@@ -168,7 +168,7 @@ module _ (x : Values) (code left : ℕ) (answer : Answer) (t : Texts x code left
 
 -- ---- the zero after it
 
-module _ (x : Values) (answer : Answer) (u : Nuls x answer) where
+module _ (x : ValueChecker) (answer : Answer) (u : Nuls x answer) where
   abbrev seen : Unit {0} → Unit {0} × ℕ
   seen z = (tt, 1)
 
@@ -188,8 +188,8 @@ empty_list [] h = refl
 empty_list (b ∷ s) h = absurd (omega arith)
 
 -- what is under way is noted
-pub texts_doing : (x : Values) (d : Doing) (code left : ℕ) (answer : Answer) → Texts x code left answer → Texts (record x { doing = d }) code left answer
+pub texts_doing : (x : ValueChecker) (d : Doing) (code left : ℕ) (answer : Answer) → Texts x code left answer → Texts (record x { doing = d }) code left answer
 texts_doing x d code left answer t = record { ws = t.ws; kind = t.kind; size = t.size; start = t.start; bytes = t.bytes; frames = t.frames; noted = t.noted; kind_is = t.kind_is; scans = t.scans; stands = t.stands; offset = t.offset; left_is = t.left_is; fits = t.fits; near = t.near; same = t.same }
 
-pub nuls_doing : (x : Values) (d : Doing) (answer : Answer) → Nuls x answer → Nuls (record x { doing = d }) answer
+pub nuls_doing : (x : ValueChecker) (d : Doing) (answer : Answer) → Nuls x answer → Nuls (record x { doing = d }) answer
 nuls_doing x d answer u = record { ws = u.ws; frames = u.frames; noted = u.noted; fits = u.fits; near = u.near; same = u.same }

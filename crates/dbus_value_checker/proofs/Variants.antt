@@ -11,7 +11,7 @@ use Rattle.dbus_value_model.specs.declared.fault.Reason.TheVariants as reasons
 use Rattle.dbus_value_model.specs.declared.stop.Stop.{Stop}
 use Rattle.dbus_value_model.specs.Items.{fault}
 use Rattle.dbus_value_model.specs.Reading.{Reader, Faulty, after, text, value}
-use Rattle.dbus_value_checker.specs.declared.values.Values.{Values}
+use Rattle.dbus_value_checker.specs.declared.values.ValueChecker.{ValueChecker}
 use Rattle.dbus_value_checker.specs.declared.values.Frame.{Frame}
 use Rattle.dbus_value_checker.specs.Suspended.{On, onward, Work, Parts, Elements, works, held_text, own, own_of}
 use Rattle.dbus_value_checker.specs.Fronts.{Fronts}
@@ -46,7 +46,7 @@ frames_same reach low high bottom a b (f ∷ fs) [] e h = absurd h
 
 -- ---- a variant that is wanted
 
-module _ (x : Values) (pos stop : ℕ) (answer : Answer) (w : Wants x pos stop answer) (there : get_or x.text.items pos 0 ≡ 118) where
+module _ (x : ValueChecker) (pos stop : ℕ) (answer : Answer) (w : Wants x pos stop answer) (there : get_or x.text.items pos 0 ≡ 118) where
   variant_same : (c : List ℕ) → own x.bounds x.order x.inner.end (own_of VariantType x.inner.depth_left) (rest_of answer x w.ws) x.offset c ≡ answer.to c
   variant_same c =
       let e = variant_is w.type (code_first x pos stop answer w x.text.items refl ∙ there) in
@@ -74,7 +74,7 @@ module _ (x : Values) (pos stop : ℕ) (answer : Answer) (w : Wants x pos stop a
       t = take n (drop 1 s)
 
       -- the frame of the value, once its type is noted after the first bytes of those in use
-      pub variant_goes : (y : Values) → ((more : List ℕ) × AreLengths types more × (y.lengths.items ≡ take x.inner.top x.lengths.items ++ more)) → y.bounds ≡ x.bounds → y.order ≡ x.order → y.end ≡ x.end → y.offset ≡ x.offset + (n + 2) → y.text.items ≡ take x.inner.top x.text.items ++ types → y.frames.items ≡ x.frames.items ++ x.inner ∷ []
+      pub variant_goes : (y : ValueChecker) → ((more : List ℕ) × AreLengths types more × (y.lengths.items ≡ take x.inner.top x.lengths.items ++ more)) → y.bounds ≡ x.bounds → y.order ≡ x.order → y.end ≡ x.end → y.offset ≡ x.offset + (n + 2) → y.text.items ≡ take x.inner.top x.text.items ++ types → y.frames.items ≡ x.frames.items ++ x.inner ∷ []
           → y.inner ≡ record { array = false; pos = x.inner.top; stop = x.inner.top + n; top = x.inner.top + n; end = x.inner.end; depth_left = inner } → Goes y (after_piece answer (take (n + 2) s))
       unfolding t
       variant_goes y sizes bounds order end offset text frames_are inner_is =

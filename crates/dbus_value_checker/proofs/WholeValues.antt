@@ -14,7 +14,7 @@ use Rattle.dbus_value_validator.specs.Endings.{EndsAt}
 use Rattle.dbus_value_validator.specs.NotedTypes.{AreNoted}
 use Rattle.dbus_value_validator.proofs.NumberArrays.{boolean_ends}
 use Rattle.dbus_value_validator.proofs.Spelled.{value_spelled}
-use Rattle.dbus_value_checker.specs.declared.values.Values.{Values}
+use Rattle.dbus_value_checker.specs.declared.values.ValueChecker.{ValueChecker}
 use Rattle.dbus_value_checker.specs.Frames.{slice, IsNoted}
 use Rattle.dbus_value_checker.specs.Denotations.{Answer, rest_of, Goes, Wants, after_piece}
 use Rattle.dbus_value_checker.proofs.Chains.{take-both}
@@ -34,7 +34,7 @@ type_noted text lengths pos stop noted = λ at t more there e.
     let within : pos + at < stop = omega (arith, long, some, length-append (sig t) more, length-drop (pos + at) (take stop text), length-take stop text) in
     noted (pos + at) t more (omega arith) within left
 
-module _ (x : Values) (pos stop : ℕ) (answer : Answer) (w : Wants x pos stop answer) (s : List ℕ) (before end m : ℕ) (v : ValueTree) (r : List ℕ) where
+module _ (x : ValueChecker) (pos stop : ℕ) (answer : Answer) (w : Wants x pos stop answer) (s : List ℕ) (before end m : ℕ) (v : ValueTree) (r : List ℕ) where
   pub whole_goes : before % 8 ≡ x.offset % 8 → 0 < m → end ≤ before + (x.inner.end - x.offset) → Spelled x.bounds x.order x.inner.depth_left end w.type before s v (before + m) r → Goes (record x { offset = x.offset + m }) (after_piece answer (take m s))
   whole_goes same some ends there =
       let low = (inner_of x (suc x.offset) w.ws w.frames).low in
@@ -60,7 +60,7 @@ types_are text pos stop le = ap (λ k. drop pos (take k text)) (let e : stop ≡
 
 -- The same, of what the validator reads in bytes that begin at a multiple of 8: one value, or some
 -- of an array, one after another.
-module _ (x : Values) (answer : Answer) (bytes : List ℕ) (n : ℕ) (are : (i : ℕ) → get_or bytes i 0 < 256) where
+module _ (x : ValueChecker) (answer : Answer) (bytes : List ℕ) (n : ℕ) (are : (i : ℕ) → get_or bytes i 0 < 256) where
   abbrev before : ℕ
   before = x.offset % 8
 
@@ -68,7 +68,7 @@ module _ (x : Values) (answer : Answer) (bytes : List ℕ) (n : ℕ) (are : (i :
   here = drop (n - before) bytes
 
   -- what is wanted after so many bytes
-  abbrev further : ℕ → Values
+  abbrev further : ℕ → ValueChecker
   further m = record x { offset = x.offset + m }
 
   abbrev onwards : ℕ → Answer

@@ -1,4 +1,4 @@
--- What the fields of `Values` stand for: what they answer to the bytes still to come.
+-- What the fields of `ValueChecker` stand for: what they answer to the bytes still to come.
 use Rattle.std.specs.Prelude.{◌≡◌, ℕ, suc, ◌+◌, ◌*◌, ◌<◌, ◌≤◌, List, ◌∷◌, ◌++◌, length, reverse, Option, None, true}
 use Rattle.dbus_texts.specs.Types.{NumberCode, NumberType, TextCode, TypeTree, text_code, sig, IsShaped}
 use Rattle.dbus_types.specs.Alignments.{width}
@@ -8,7 +8,7 @@ use Rattle.dbus_value_model.specs.WantedTexts.{kind_of, Of}
 use Rattle.dbus_value_model.specs.Bytes.{gap_to}
 use Rattle.dbus_value_model.specs.ValueItems.{number_row}
 use Rattle.dbus_value_model.specs.Reading.{Outcome, after, text, nul, value}
-use Rattle.dbus_value_checker.specs.declared.values.Values.{Values}
+use Rattle.dbus_value_checker.specs.declared.values.ValueChecker.{ValueChecker}
 use Rattle.dbus_value_checker.specs.declared.values.Doing.{Doing}
 use Rattle.dbus_value_checker.specs.declared.values.Doing.TheVariants as doing
 use Rattle.dbus_value_checker.specs.Suspended.{On, onward, Work, Elements, works, own, own_of, opened_by}
@@ -23,25 +23,25 @@ pub record Answer : Type 0 where
 abbrev pub after_piece : Answer → List ℕ → Answer
 after_piece answer w = record { last = answer.last; to = λ c. answer.to (w ++ c) }
 
-abbrev pub rest_of : Answer → Values → List Work → On
+abbrev pub rest_of : Answer → ValueChecker → List Work → On
 rest_of answer x ws = works x.bounds x.order answer.last ws
 
-abbrev pub HasFrames : ℕ → Values → List Work → Type 0
+abbrev pub HasFrames : ℕ → ValueChecker → List Work → Type 0
 HasFrames reach x ws = AreFrames reach x.offset (length x.text.items) x.end x.text.items (x.inner ∷ reverse x.frames.items) ws
 
 -- the lengths of the types are noted
-abbrev pub HasNotes : Values → Type 0
+abbrev pub HasNotes : ValueChecker → Type 0
 HasNotes x = (length x.lengths.items ≡ length x.text.items) × AreNoted x.text.items x.lengths.items (x.inner ∷ reverse x.frames.items)
 
 -- the containers go on
-pub record Goes (x : Values) (answer : Answer) : Type 0 where
+pub record Goes (x : ValueChecker) (answer : Answer) : Type 0 where
   pub ws : List Work
   pub frames : HasFrames x.offset x ws
   pub noted : HasNotes x
   pub same : (c : List ℕ) → rest_of answer x ws x.offset c ≡ answer.to c
 
 -- a value of the type that stands there is wanted
-pub record Wants (x : Values) (pos stop : ℕ) (answer : Answer) : Type 0 where
+pub record Wants (x : ValueChecker) (pos stop : ℕ) (answer : Answer) : Type 0 where
   pub ws : List Work
   pub type : TypeTree
   pub frames : HasFrames (suc x.offset) x ws
@@ -55,7 +55,7 @@ pub record Wants (x : Values) (pos stop : ℕ) (answer : Answer) : Type 0 where
   pub same : (c : List ℕ) → onward (value x.bounds x.order x.inner.depth_left x.inner.end type) (rest_of answer x ws) x.offset c ≡ answer.to c
 
 -- a value of the type that stands there is wanted, and so many bytes of padding before it are there
-pub record Ready (x : Values) (pos stop n : ℕ) (answer : Answer) : Type 0 where
+pub record Ready (x : ValueChecker) (pos stop n : ℕ) (answer : Answer) : Type 0 where
   pub before : Answer
   pub wants : Wants x pos stop before
   pub fits : x.offset + n ≤ x.inner.end
@@ -64,7 +64,7 @@ pub record Ready (x : Values) (pos stop n : ℕ) (answer : Answer) : Type 0 wher
   pub same : (c : List ℕ) → own x.bounds x.order x.inner.end (own_of wants.type x.inner.depth_left) (works x.bounds x.order (rest_of answer x wants.ws) (opened_by wants.type x.inner.depth_left x.inner.end)) (x.offset + n) c ≡ answer.to c
 
 -- so many bytes of a text of a type are wanted
-pub record Texts (x : Values) (code left : ℕ) (answer : Answer) : Type 0 where
+pub record Texts (x : ValueChecker) (code left : ℕ) (answer : Answer) : Type 0 where
   pub ws : List Work
   pub kind : TextCode
   pub size : ℕ
@@ -82,7 +82,7 @@ pub record Texts (x : Values) (code left : ℕ) (answer : Answer) : Type 0 where
   pub same : (c : List ℕ) → after (text (kind_of kind) size start (bytes ++ c)) (λ t. onward nul (rest_of answer x ws)) ≡ answer.to c
 
 -- the zero after a text is wanted
-pub record Nuls (x : Values) (answer : Answer) : Type 0 where
+pub record Nuls (x : ValueChecker) (answer : Answer) : Type 0 where
   pub ws : List Work
   pub frames : HasFrames x.offset x ws
   pub noted : HasNotes x
@@ -92,7 +92,7 @@ pub record Nuls (x : Values) (answer : Answer) : Type 0 where
 
 -- so many bytes of an array's elements are wanted: after these, which began at the offset start,
 -- they are so many whole numbers, any of which may stand there
-pub record Numbers (x : Values) (left : ℕ) (answer : Answer) : Type 0 where
+pub record Numbers (x : ValueChecker) (left : ℕ) (answer : Answer) : Type 0 where
   pub ws : List Work
   pub code : NumberCode
   pub count : ℕ
@@ -110,7 +110,7 @@ pub record Numbers (x : Values) (left : ℕ) (answer : Answer) : Type 0 where
   pub fits : x.offset + left ≤ x.inner.end
   pub same : (c : List ℕ) → rest_of answer x (Elements (count + turns) depth_left stop (NumberType code) ∷ ws) start (bytes ++ c) ≡ answer.to c
 
-abbrev pub denotes : Doing → Values → Answer → Type 0
+abbrev pub denotes : Doing → ValueChecker → Answer → Type 0
 denotes (doing.Wanted pos stop) x answer = Wants x pos stop answer
 denotes (doing.Text code left) x answer = (0 < left) × Texts x code left answer
 denotes (doing.Numbers left) x answer = (0 < left) × Numbers x left answer
@@ -118,5 +118,5 @@ denotes doing.Nul x answer = Nuls x answer
 denotes doing.Over x answer = (x.offset ≤ x.end) × (x.end < 18446744073709551616) × ((c : List ℕ) → answer.last x.offset c ≡ answer.to c)
 
 -- the fields stand for this answer
-abbrev pub Denotes : Values → Answer → Type 0
+abbrev pub Denotes : ValueChecker → Answer → Type 0
 Denotes x answer = denotes x.doing x answer

@@ -1,4 +1,4 @@
--- What the frames of `Values` stand for: the containers that are open.
+-- What the frames of `ValueChecker` stand for: the containers that are open.
 use Rattle.std.specs.Prelude.{◌≡◌, ℕ, ◌+◌, ◌*◌, ◌<◌, ◌≤◌, List, [], ◌∷◌, ◌++◌, get_or, length, take, drop, Bool, true, false}
 use Rattle.dbus_texts.specs.Types.{TypeTree, TypeTrees, sig, sigs, IsShaped, AreShaped}
 use Rattle.dbus_value_checker.specs.declared.values.Frame.{Frame}

@@ -1,4 +1,4 @@
--- What a call makes of `Values`.
+-- What a call makes of `ValueChecker`.
 use Rattle.std.specs.Prelude.{◌≡◌, ℕ, ◌+◌, ◌-◌, ◌≤◌, List, [], ◌∷◌, ◌++◌, length, take, false, Result, Ok, Err}
 use Rattle.dbus_texts.specs.Types.{TypeTrees}
 use Rattle.dbus_value_model.specs.declared.limits.Bounds.{Bounds}
@@ -7,7 +7,7 @@ use Rattle.dbus_value_model.specs.declared.fault.Fault.{Fault}
 use Rattle.dbus_value_model.specs.declared.stop.Stop.{Stop}
 use Rattle.dbus_value_model.specs.declared.stop.Stop.TheVariants as stops
 use Rattle.dbus_value_model.specs.Reading.{Faulty, Partial, value, fields}
-use Rattle.dbus_value_checker.specs.declared.values.Values.{Values}
+use Rattle.dbus_value_checker.specs.declared.values.ValueChecker.{ValueChecker}
 use Rattle.dbus_value_checker.specs.declared.values.Frame.{Frame}
 use Rattle.dbus_value_checker.specs.declared.values.Doing.{Doing}
 use Rattle.dbus_value_checker.specs.declared.values.Doing.TheVariants as doing
@@ -17,19 +17,19 @@ use Rattle.dbus_value_checker.specs.Denotations.{Answer, after_piece, Wants, Den
 
 -- a call that was handed the bytes s: it took so many; or they end within what is wanted, and
 -- nothing changed; or a fault shows
-abbrev pub Moves : Values → List ℕ → Result ℕ Stop → Values → Answer → Type 0
+abbrev pub Moves : ValueChecker → List ℕ → Result ℕ Stop → ValueChecker → Answer → Type 0
 Moves old s (Ok n) new answer = (n ≤ length s) × Denotes new (after_piece answer (take n s))
 Moves old s (Err stops.Partial) new answer = (new ≡ old) × (answer.to s ≡ Partial)
 Moves old s (Err (stops.Refused f)) new answer = (c : List ℕ) → answer.to (s ++ c) ≡ Faulty f
 
 -- a container was opened, or a fault shows
-abbrev pub Opens : Result (Unit {0}) Stop → Values → Answer → Type 0
+abbrev pub Opens : Result (Unit {0}) Stop → ValueChecker → Answer → Type 0
 Opens (Ok x) new answer = Denotes new answer
 Opens (Err stops.Partial) new answer = ⊥
 Opens (Err (stops.Refused f)) new answer = (c : List ℕ) → answer.to c ≡ Faulty f
 
 -- a frame was pushed
-pub record Pushed (x y : Values) (f : Frame) : Type 0 where
+pub record Pushed (x y : ValueChecker) (f : Frame) : Type 0 where
   pub bounds : y.bounds ≡ x.bounds
   pub order : y.order ≡ x.order
   pub end : y.end ≡ x.end
@@ -41,9 +41,9 @@ pub record Pushed (x y : Values) (f : Frame) : Type 0 where
 
 -- once a frame is pushed for what stands within the brackets at pos, n bytes further, its first
 -- part is wanted
-abbrev pub Enters : Values → (pos stop n depth_left : ℕ) → Answer → Type 0
+abbrev pub Enters : ValueChecker → (pos stop n depth_left : ℕ) → Answer → Type 0
 Enters x pos stop n depth_left answer =
-    (y : Values) → Pushed (record x { offset = x.offset + n }) y (record { array = false; pos = pos + 1; stop = stop - 1; top = x.inner.top; end = x.inner.end; depth_left = depth_left })
+    (y : ValueChecker) → Pushed (record x { offset = x.offset + n }) y (record { array = false; pos = pos + 1; stop = stop - 1; top = x.inner.top; end = x.inner.end; depth_left = depth_left })
     → (q : ℕ) → IsTypeEnd (take y.inner.stop y.text.items) y.inner.pos q → Wants (record y { inner = record y.inner { pos = q } }) y.inner.pos q answer
 
 -- something is wanted still
@@ -63,7 +63,7 @@ abbrev pub nothing_on : On → ℕ → Answer
 nothing_on last o = record { last = last; to = last o }
 
 -- up to where the bytes are taken
-abbrev pub offset_of : Values → ℕ
+abbrev pub offset_of : ValueChecker → ℕ
 offset_of x = x.offset
 
 -- how many bytes the wanted type has
@@ -76,6 +76,6 @@ wide doing.Over = 0
 
 -- A run over the bytes s: it took so many, and where something is wanted still, it is not whole in
 -- the others; or a fault shows.
-abbrev pub Runs : List ℕ → Result ℕ Fault → Values → Answer → Type 0
+abbrev pub Runs : List ℕ → Result ℕ Fault → ValueChecker → Answer → Type 0
 Runs s (Ok n) new answer = (n ≤ length s) × Denotes new (after_piece answer (take n s)) × (IsLive new.doing → answer.to s ≡ Partial)
 Runs s (Err f) new answer = (c : List ℕ) → answer.to (s ++ c) ≡ Faulty f

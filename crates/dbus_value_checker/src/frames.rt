@@ -4,11 +4,11 @@
 
 ghost use Rattle.std.specs.Prelude.{◌≡◌, ◌≢◌, ◌+◌, ◌-◌, ◌<◌, ◌≤◌, ◌^◌, length, take, slice_index, true, IfOk, IfErr};
 
-use crate::values::{Doing, Frame, Values};
+use crate::values::{Doing, Frame, ValueChecker};
 use dbus_types::free_width;
 use dbus_value_model::{Reason, Stop, gap, refuse};
 
-impl Values {
+impl ValueChecker {
     ghost use Rattle.dbus_types.specs.SignatureCodes.{IsTypeEnd};
     ghost use Rattle.dbus_value_checker.specs.Denotations.{Answer, Denotes, Goes, HasNotes, Ready, denotes};
     ghost use Rattle.dbus_value_checker.specs.Frames.{IsNoted};

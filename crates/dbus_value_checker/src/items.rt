@@ -5,11 +5,11 @@ ghost use Rattle.std.specs.Prelude.{◌≡◌, ◌≢◌, ◌-◌, ◌<◌, leng
 
 use crate::fronts::{array_front, front, number_front, padding, rest_after, variant_front};
 use crate::signatures::sign;
-use crate::values::{Doing, Frame, Values};
+use crate::values::{Doing, Frame, ValueChecker};
 use dbus_types::boundary;
 use dbus_value_model::{Reason, Stop, refuse};
 
-impl Values {
+impl ValueChecker {
     ghost use Rattle.dbus_value_checker.specs.Codes.{IsNumberCode};
     ghost use Rattle.dbus_value_checker.specs.Denotations.{Answer, Wants, Ready, Numbers};
     ghost use Rattle.dbus_value_checker.specs.Moves.{Moves, wide};

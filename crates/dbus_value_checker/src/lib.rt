@@ -17,4 +17,4 @@ pub use fronts::{
     array_front, byte, ended_front, fixed, front, length_front, nul_front, number_front, padding,
     rest_after, short_length_front, signature_front, text_front, variant_front, word,
 };
-pub use values::Values;
+pub use values::ValueChecker;

@@ -8,7 +8,7 @@ ghost use Rattle.dbus_value_model.specs.WantedTexts as wanted;
 ghost use Rattle.dbus_value_model.specs.Items.{text_reason};
 
 use crate::fronts::{front, length_front, nul_front};
-use crate::values::{Doing, Values};
+use crate::values::{Doing, ValueChecker};
 use dbus_types::{TextKind, TextScan};
 use dbus_value_model::{Reason, Stop, refuse};
 
@@ -34,7 +34,7 @@ pub fn reason_of_code(code: u8) -> Reason
     }
 }
 
-impl Values {
+impl ValueChecker {
     ghost use Rattle.dbus_value_checker.specs.Denotations.{Answer, Ready, Texts, Nuls};
     ghost use Rattle.dbus_value_checker.specs.Moves.{Moves, Opens};
     ghost use Rattle.dbus_value_model.specs.declared.stop.Stop.TheVariants.{Partial};

@@ -45,10 +45,10 @@ pub(crate) enum Doing {
 /// bytes, allocates nothing, and holds no byte of what it took but signatures of variants: of those
 /// that are open and, until the next variant begins, of some that are over.
 ///
-/// [`Values::begin`] says which values are wanted, [`Values::run`] takes their bytes in pieces of
-/// any length, and [`Values::is_live`] says whether more of them are wanted.
+/// [`ValueChecker::begin`] says which values are wanted, [`ValueChecker::run`] takes their bytes in
+/// pieces of any length, and [`ValueChecker::is_live`] says whether more of them are wanted.
 #[derive(Drop)]
-pub struct Values {
+pub struct ValueChecker {
     pub(crate) bounds: Bounds,
     pub(crate) order: Order,
     /// The offset where the values end at the latest.
@@ -70,7 +70,7 @@ pub struct Values {
     pub(crate) doing: Doing,
 }
 
-impl Values {
+impl ValueChecker {
     ghost use Rattle.dbus_value_checker.specs.Denotations.{Answer, Denotes};
     ghost use Rattle.dbus_value_checker.specs.Moves.{Moves, Runs, IsLive, offset_of, wide, values_on, nothing_on};
     ghost use Rattle.dbus_value_model.specs.declared.stop.Stop.TheVariants.{Partial};
@@ -78,10 +78,10 @@ impl Values {
     ghost use Rattle.dbus_texts.specs.Types.{TypeTrees, sigs, AreShaped};
 
     /// Nothing is wanted, and no byte is taken.
-    pub fn new() -> Values
+    pub fn new() -> ValueChecker
         ensures { (last : On) → Denotes result (nothing_on last 0) }
     {
-        Values {
+        ValueChecker {
             bounds: Limits::specification().bounds(),
             order: Order::Little,
             end: 0,
@@ -165,8 +165,8 @@ impl Values {
     }
 
     /// Takes all of the bytes at once if they are an array's numbers, of which more are wanted
-    /// after them: whether they are. It says no less than [`Values::run`], and is quicker if the
-    /// bytes come one by one.
+    /// after them: whether they are. It says no less than [`ValueChecker::run`], and is quicker if
+    /// the bytes come one by one.
     pub fn skip(&mut self, bytes: &[u8]) -> bool
         requires valid { (answer : Answer) × Denotes self.old answer }
         ensures runs { result ≡ true → (answer : Answer) → Denotes self.old answer →

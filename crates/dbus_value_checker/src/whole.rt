@@ -4,7 +4,7 @@
 ghost use Rattle.std.specs.Prelude.{◌≡◌, ◌+◌, ◌<◌, ◌≤◌, ◌⊎◌, length, take, drop, IfSome, IfOk, IfErr};
 
 use crate::fronts::rest_after;
-use crate::values::{Doing, Values};
+use crate::values::{Doing, ValueChecker};
 use dbus_value_model::{Stop, gap};
 use dbus_value_validator::{Source, booleans_end, one_value};
 
@@ -14,7 +14,7 @@ const MOST_MISSES: u8 = 8;
 /// Of fewer bytes than that a value is tried only if they are all that it may have.
 const FEW: usize = 64;
 
-impl Values {
+impl ValueChecker {
     ghost use Rattle.dbus_value_checker.specs.Denotations.{Answer, Denotes, Goes, after_piece};
     ghost use Rattle.dbus_value_checker.specs.Moves.{Moves, IsLive, wide};
     ghost use Rattle.dbus_value_model.specs.declared.stop.Stop.TheVariants.{Partial};

@@ -7,11 +7,11 @@ use crate::asked::Asked;
 use crate::outcome::Outcome;
 use crate::places::{piece, rest};
 use dbus_types::check_signature;
-use dbus_value_checker::Values;
+use dbus_value_checker::ValueChecker;
 use dbus_value_model::Fault;
 
 // Wants the value that is asked for; else, if no such value can be wanted, this is false.
-fn begin(values: &mut Values, asked: Asked<'_>) -> bool
+fn begin(values: &mut ValueChecker, asked: Asked<'_>) -> bool
     ensures { IsTrue result → IsUnderWay values.new }
 {
     let Asked {
@@ -37,7 +37,7 @@ fn begin(values: &mut Values, asked: Asked<'_>) -> bool
 }
 
 // Hands bytes to the checker: how many it took.
-fn hand(values: &mut Values, bytes: &[u8]) -> Result<usize, Fault>
+fn hand(values: &mut ValueChecker, bytes: &[u8]) -> Result<usize, Fault>
     requires { IsUnderWay values.old }
     ensures { IfOk result (λ n. (n ≤ length bytes.now) × IsUnderWay values.new) }
 {
@@ -45,7 +45,7 @@ fn hand(values: &mut Values, bytes: &[u8]) -> Result<usize, Fault>
 }
 
 // What the checker says that took all it could.
-fn outcome_of(values: &Values) -> Outcome {
+fn outcome_of(values: &ValueChecker) -> Outcome {
     if values.is_live() {
         Outcome::Partial
     } else {
@@ -55,7 +55,7 @@ fn outcome_of(values: &Values) -> Outcome {
 
 /// What a checker says of bytes in two pieces that meet at `place`.
 pub(crate) fn check_in_two(
-    values: &mut Values,
+    values: &mut ValueChecker,
     asked: Asked<'_>,
     bytes: &[u8],
     place: usize,
@@ -76,7 +76,7 @@ pub(crate) fn check_in_two(
 /// With which byte, handed over one by one, a checker says something else than that more are
 /// wanted, and what.
 pub(crate) fn check_by_bytes(asked: Asked<'_>, bytes: &[u8]) -> (usize, Outcome) {
-    let mut values = Values::new();
+    let mut values = ValueChecker::new();
     if !begin(&mut values, asked) {
         return (0, Outcome::NotAsked);
     }

@@ -10,7 +10,7 @@ use crate::validating::validate;
 use crate::writing::say_writing;
 use case_questions::{Memory, Question, Reply};
 use dbus_types::push_type;
-use dbus_value_checker::Values;
+use dbus_value_checker::ValueChecker;
 use dbus_value_model::{Value, copy, first_past, type_of};
 use std::alloc::{AllocError, Allocator};
 
@@ -45,7 +45,7 @@ struct Places<'a, A: Allocator + Copy> {
     kind: Kind,
     asked: Asked<'a>,
     bytes: &'a [u8],
-    values: Values,
+    values: ValueChecker,
 }
 
 impl<A: Allocator + Copy> Places<'_, A> {
@@ -84,7 +84,7 @@ fn say_kind<A: Allocator + Copy>(
         kind,
         asked,
         bytes,
-        values: Values::new(),
+        values: ValueChecker::new(),
     };
     say_places(reply, &mut places, asked.at, last);
 }
