@@ -21,7 +21,7 @@ use Rattle.dbus_c.specs.Building.{AreNoParts, Builds, FieldsOf, Keeps, KeepsOrde
 use Rattle.dbus_c.specs.Building as builds
 use Rattle.dbus_c.specs.Checking.{whole_told}
 use Rattle.dbus_c.specs.declared.checking.Checked.{Checked}
-use Rattle.dbus_c.specs.declared.parts.Parts.{Parts}
+use Rattle.dbus_c.specs.declared.parts.WireParts.{WireParts}
 
 -- ---- numbers stand for one header
 
@@ -43,10 +43,10 @@ made order kind flags serial reply_serial unix_fds path interface member error_n
   body = body;
 }
 
-abbrev pub stood_for : Order → Parts → PlacedParts
+abbrev pub stood_for : Order → WireParts → PlacedParts
 stood_for order w = made order w.kind w.flags w.serial w.reply_serial w.unix_fds (place_given w.path) (place_given w.interface) (place_given w.member) (place_given w.error_name) (place_given w.destination) (place_given w.sender) (place_given w.signature) (record { start = w.body; length = w.length - w.body })
 
-stands_for : (k : Kept) (w : Parts) (p : PlacedParts) → StandFor k w p → p ≡ stood_for p.order w
+stands_for : (k : Kept) (w : WireParts) (p : PlacedParts) → StandFor k w p → p ≡ stood_for p.order w
 stands_for k w p s =
     ap (λ (x : ℕ). made p.order x p.flags p.serial p.reply_serial p.unix_fds p.path p.interface p.member p.error_name p.destination p.sender p.signature p.body) s.numbers.0
     ∙ ap (λ (x : ℕ). made p.order w.kind x p.serial p.reply_serial p.unix_fds p.path p.interface p.member p.error_name p.destination p.sender p.signature p.body) s.numbers.1
@@ -62,7 +62,7 @@ stands_for k w p s =
     ∙ ap (λ (x : Option ByteRange). made p.order w.kind w.flags w.serial w.reply_serial w.unix_fds (place_given w.path) (place_given w.interface) (place_given w.member) (place_given w.error_name) (place_given w.destination) (place_given w.sender) x p.body) s.signature
     ∙ ap (λ (x : ByteRange). made p.order w.kind w.flags w.serial w.reply_serial w.unix_fds (place_given w.path) (place_given w.interface) (place_given w.member) (place_given w.error_name) (place_given w.destination) (place_given w.sender) (place_given w.signature) x) s.body.1
 
-pub stands_once : (k : Kept) (w : Parts) (p q : PlacedParts) → StandFor k w p → StandFor k w q → p ≡ q
+pub stands_once : (k : Kept) (w : WireParts) (p q : PlacedParts) → StandFor k w p → StandFor k w q → p ≡ q
 stands_once k w p q s t = stands_for k w p s ∙ ap (λ (o : Order). stood_for o w) (one_order p.order q.order (sym s.order ∙ t.order)) ∙ sym (stands_for k w q t)
 
 -- the fields of what is kept are those that are given
@@ -78,7 +78,7 @@ given_so g (FieldsOf own m) order keeps same =
 
 -- ---- nothing is built
 
-module _ (limits : Limits) (b : List ℕ) (k : Kept) (w : Parts) where
+module _ (limits : Limits) (b : List ℕ) (k : Kept) (w : WireParts) where
   no_parts_none : (reason : Reason) → AreNoParts k w reason → StandForNone limits b k w
   no_parts_none ByteOrder none = λ p m stand has valid. none p.order stand.keeps stand.order
   no_parts_none Overrun (named, inl kind) = λ p m stand has valid. absurd (omega (arith, kind, stand.numbers.0, has.numbers.0, valid.kind_fits))

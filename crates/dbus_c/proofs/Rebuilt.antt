@@ -27,7 +27,7 @@ use Rattle.dbus_c_build.proofs.Refusing.{by_code}
 use Rattle.dbus_c.specs.Building.{Builds, ComesBack, FieldsOf, Rebuilds, StandFor, built, no_memory, no_message, no_room, place_given, rebuilt, refused}
 use Rattle.dbus_c.specs.Parting.{HasParts, IsPlaceOf, number_of}
 use Rattle.dbus_c.specs.declared.checking.Checked.{Checked}
-use Rattle.dbus_c.specs.declared.parts.Parts.{Parts}
+use Rattle.dbus_c.specs.declared.parts.WireParts.{WireParts}
 use Rattle.dbus_c.specs.declared.parts.TextPlace.{TextPlace}
 use Rattle.dbus_c.proofs.Built.{stands_once, stood_for}
 
@@ -86,7 +86,7 @@ serial_given n (Some v) is serial =
 
 -- ---- the parts of the message that the bytes begin with
 
-module _ (limits : Limits) (b : List ℕ) (w : Parts) (has : HasParts limits b w) where
+module _ (limits : Limits) (b : List ℕ) (w : WireParts) (has : HasParts limits b w) where
   abbrev m : MessageTree
   m = has.message
 
@@ -219,7 +219,7 @@ module _ (limits : Limits) (b : List ℕ) (w : Parts) (has : HasParts limits b w
     comes_back (no_message none tells same) = absurd (none (has.order, m, w.length, has.whole))
 
 -- what is built of the message that is validated
-pub changed : (limits given : Limits) (b : List ℕ) (w : Parts) (j : Validated) (first : IsValidated given b j) (answer : ℕ) (told : Checked) (old new : List ℕ) → given ≡ limits
+pub changed : (limits given : Limits) (b : List ℕ) (w : WireParts) (j : Validated) (first : IsValidated given b j) (answer : ℕ) (told : Checked) (old new : List ℕ) → given ≡ limits
     → Builds given b (FieldsOf j.order first.message) w answer told old new → Rebuilds limits b w answer told old new
 changed limits given b w j first answer told old new same builds =
     subst (λ (l : Limits). Rebuilds l b w answer told old new) same (rebuilt j.order first.message j.length first.whole builds)

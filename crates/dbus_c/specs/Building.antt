@@ -20,7 +20,7 @@ use Rattle.dbus_c.specs.Outcomes.{BeginsWithMessage}
 use Rattle.dbus_c.specs.ReasonNumbers.{reason_number}
 use Rattle.dbus_c.specs.declared.answers.TheConstants.{WHOLE, REFUSED, NO_MEMORY, NO_ROOM}
 use Rattle.dbus_c.specs.declared.checking.Checked.{Checked}
-use Rattle.dbus_c.specs.declared.parts.Parts.{Parts}
+use Rattle.dbus_c.specs.declared.parts.WireParts.{WireParts}
 use Rattle.dbus_c.specs.declared.parts.TextPlace.{TextPlace}
 
 -- the place that numbers stand for, or none
@@ -46,7 +46,7 @@ Keeps g Nothing = g.kept ≡ None
 Keeps g (FieldsOf order m) = MatchOption g.kept ⊥ (λ j. IsKept g.limits g.bytes.now order j m.fields)
 
 -- the numbers stand for these parts
-pub record StandFor (k : Kept) (w : Parts) (p : PlacedParts) : Type 0 where
+pub record StandFor (k : Kept) (w : WireParts) (p : PlacedParts) : Type 0 where
   pub keeps : KeepsOrder k p.order
   pub order : w.order ≡ order_byte p.order
   pub numbers : (p.kind ≡ w.kind) × (p.flags ≡ w.flags) × (p.serial ≡ w.serial) × (p.reply_serial ≡ w.reply_serial) × (p.unix_fds ≡ w.unix_fds)
@@ -60,7 +60,7 @@ pub record StandFor (k : Kept) (w : Parts) (p : PlacedParts) : Type 0 where
   pub body : (w.body ≤ w.length) × (p.body ≡ record { start = w.body; length = w.length - w.body })
 
 -- no message within the limits has the parts that the numbers stand for
-abbrev pub StandForNone : Limits → List ℕ → Kept → Parts → Type 0
+abbrev pub StandForNone : Limits → List ℕ → Kept → WireParts → Type 0
 StandForNone limits b k w = (p : PlacedParts) (m : MessageTree) → StandFor k w p → HasParts b (fields_kept k) p m → IsMessage limits p.order m → ⊥
 
 -- what is told of a field, or under 0 of no field
@@ -76,21 +76,21 @@ refusal_told (refusals.Format f) = fault_told f
 
 -- why numbers stand for no parts: they name no byte order, or not that of the message that is kept;
 -- or they do, and a number does not fit
-abbrev pub AreNoParts : Kept → Parts → Reason → Type 0
+abbrev pub AreNoParts : Kept → WireParts → Reason → Type 0
 AreNoParts k w ByteOrder = (order : Order) → KeepsOrder k order → w.order ≡ order_byte order → ⊥
 AreNoParts k w Overrun = ((order : Order) × KeepsOrder k order × (w.order ≡ order_byte order)) × ((255 < w.kind) ⊎ ((255 < w.flags) ⊎ (w.length < w.body)))
 AreNoParts k w _ = ⊥
 
 -- Why the parts are refused, and what is told of it: nothing else may be told. Want of memory is no
 -- such reason.
-pub data IsWhy (limits : Limits) (b : List ℕ) (k : Kept) (w : Parts) (told : Checked) : Type 0 where
+pub data IsWhy (limits : Limits) (b : List ℕ) (k : Kept) (w : WireParts) (told : Checked) : Type 0 where
   no_parts : (reason : Reason) → AreNoParts k w reason → told ≡ field_told reason 0 → IsWhy limits b k w told
   why : (p : PlacedParts) (reason : PlacedFault) → StandFor k w p → (reason ≡ refusals.Memory → ⊥) → IsRefusal limits b (fields_kept k) p reason → told ≡ refusal_told reason → IsWhy limits b k w told
 
 -- An answer, what is told beside it and the new bytes hold of the parts under the limits. A message
 -- is built exactly if one within the limits has these parts, and then it is written if there is
 -- room; but memory may run out.
-pub data Builds (limits : Limits) (b : List ℕ) (k : Kept) (w : Parts) (answer : ℕ) (told : Checked) (old new : List ℕ) : Type 0 where
+pub data Builds (limits : Limits) (b : List ℕ) (k : Kept) (w : WireParts) (answer : ℕ) (told : Checked) (old new : List ℕ) : Type 0 where
   built : (p : PlacedParts) (m : MessageTree) → StandFor k w p → HasParts b (fields_kept k) p m → IsMessage limits p.order m → length (message_bytes p.order m) ≤ length old → answer ≡ WHOLE
       → told ≡ whole_told p.order (length (message_bytes p.order m)) → new ≡ message_bytes p.order m ++ drop (length (message_bytes p.order m)) old → Builds limits b k w answer told old new
   no_room : (p : PlacedParts) (m : MessageTree) → StandFor k w p → HasParts b (fields_kept k) p m → IsMessage limits p.order m → length old < length (message_bytes p.order m) → answer ≡ NO_ROOM
@@ -100,12 +100,12 @@ pub data Builds (limits : Limits) (b : List ℕ) (k : Kept) (w : Parts) (answer 
 
 -- The same if the fields of the message that the bytes begin with are kept. If they begin with
 -- none, that is told of them.
-pub data Rebuilds (limits : Limits) (b : List ℕ) (w : Parts) (answer : ℕ) (told : Checked) (old new : List ℕ) : Type 0 where
+pub data Rebuilds (limits : Limits) (b : List ℕ) (w : WireParts) (answer : ℕ) (told : Checked) (old new : List ℕ) : Type 0 where
   rebuilt : (order : Order) (m : MessageTree) (n : ℕ) → IsWhole limits b order m n → Builds limits b (FieldsOf order m) w answer told old new → Rebuilds limits b w answer told old new
   no_message : (BeginsWithMessage limits b → ⊥) → Tells limits b answer told → new ≡ old → Rebuilds limits b w answer told old new
 
 -- of parts that are those of the message that the bytes begin with it comes back, byte for byte;
 -- they are not refused
-pub record ComesBack (b : List ℕ) (w : Parts) (answer : ℕ) (old new : List ℕ) : Type 0 where
+pub record ComesBack (b : List ℕ) (w : WireParts) (answer : ℕ) (old new : List ℕ) : Type 0 where
   pub same : answer ≡ WHOLE → new ≡ take w.length b ++ drop w.length old
   pub accepted : answer ≡ REFUSED → ⊥

@@ -8,7 +8,7 @@ use Rattle.dbus_message_model.specs.Lookups.{field_value}
 use Rattle.dbus_message_model.specs.Messages.{FieldTree, MessageTree, order_byte, body_start, body_bytes, text_in, number_in}
 use Rattle.dbus_header.specs.MessageOutcomes.{IsWhole}
 use Rattle.dbus_validate.specs.Seen.{field_text_start}
-use Rattle.dbus_c.specs.declared.parts.Parts.{Parts}
+use Rattle.dbus_c.specs.declared.parts.WireParts.{WireParts}
 use Rattle.dbus_c.specs.declared.parts.TextPlace.{TextPlace}
 
 -- where the text of a field's value stands among a message's bytes; of no value all is 0
@@ -30,7 +30,7 @@ number_of (Some v) = number_in v
 
 -- the texts of the known fields stand there, each where its own field has it, and their numbers are
 -- these
-pub record HasFields (order : Order) (fs : List FieldTree) (b : List ℕ) (p : Parts) : Type 0 where
+pub record HasFields (order : Order) (fs : List FieldTree) (b : List ℕ) (p : WireParts) : Type 0 where
   pub path : IsFieldPlace order 1 fs b p.path
   pub interface : IsFieldPlace order 2 fs b p.interface
   pub member : IsFieldPlace order 3 fs b p.member
@@ -44,7 +44,7 @@ pub record HasFields (order : Order) (fs : List FieldTree) (b : List ℕ) (p : P
 -- the bytes begin with a message within the limits that has these parts: its fields stand among its
 -- own bytes, and its body begins after the header and the padding to 8, and ends where the message
 -- does
-pub record HasParts (limits : Limits) (b : List ℕ) (p : Parts) : Type 0 where
+pub record HasParts (limits : Limits) (b : List ℕ) (p : WireParts) : Type 0 where
   pub order : Order
   pub message : MessageTree
   pub whole : IsWhole limits b order message p.length

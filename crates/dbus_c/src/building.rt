@@ -14,7 +14,7 @@ ghost use Rattle.dbus_c.specs.Parting.{HasParts};
 use crate::answers::{NO_MEMORY, NO_ROOM, REFUSED, WHOLE};
 use crate::checking::{Checked, check_all, fault_told, nothing_told};
 use crate::given_limits::{WireLimits, given_limits};
-use crate::parts::{Parts, TextPlace, order_byte};
+use crate::parts::{TextPlace, WireParts, order_byte};
 use crate::reasons::reason_number;
 use dbus_c_build::{ByteRange, Given, PlacedFault, PlacedParts, build};
 use dbus_message_model::field_code::SIGNATURE;
@@ -42,7 +42,7 @@ use std::alloc::Global;
 #[unsafe(no_mangle)]
 pub extern "C" fn dbus_wire_build(
     alloc: Global,
-    parts: &Parts,
+    parts: &WireParts,
     bytes: &[u8],
     limits: &WireLimits,
     out: &mut [u8],
@@ -71,7 +71,7 @@ pub extern "C" fn dbus_wire_build(
 #[unsafe(no_mangle)]
 pub extern "C" fn dbus_wire_rebuild(
     alloc: Global,
-    parts: &Parts,
+    parts: &WireParts,
     bytes: &[u8],
     limits: &WireLimits,
     out: &mut [u8],
@@ -98,7 +98,7 @@ pub extern "C" fn dbus_wire_rebuild(
 // Builds the message of what is given, and writes it.
 fn build_given(
     alloc: Global,
-    parts: &Parts,
+    parts: &WireParts,
     given: &Given<'_>,
     out: &mut [u8],
     told: &mut Checked,
@@ -186,7 +186,7 @@ fn too_long(code: u8) -> Reason
 }
 
 // The byte order that is named, if it is one, and that of the message that is kept.
-fn order_given(parts: &Parts, given: &Given<'_>) -> Option<Order>
+fn order_given(parts: &WireParts, given: &Given<'_>) -> Option<Order>
     ensures { (k : Kept) → Keeps given.now k → MatchOption result
         ((order : Order) → KeepsOrder k order → parts.now.order ≡ order_byte order → ⊥)
         (λ order. KeepsOrder k order × (parts.now.order ≡ order_byte order)) }
@@ -204,7 +204,7 @@ fn order_given(parts: &Parts, given: &Given<'_>) -> Option<Order>
 }
 
 // The parts that the numbers stand for, or why they stand for none.
-fn placed_parts(parts: &Parts, given: &Given<'_>) -> Result<PlacedParts, Reason>
+fn placed_parts(parts: &WireParts, given: &Given<'_>) -> Result<PlacedParts, Reason>
     ensures { (k : Kept) → Keeps given.now k →
         MatchResult result (λ p. StandFor k parts.now p) (λ reason. AreNoParts k parts.now reason) }
 {

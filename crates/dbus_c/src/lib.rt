@@ -54,7 +54,7 @@ pub use handshakes::{
     dbus_wire_handshake_take, dbus_wire_server_new,
 };
 pub use names::{dbus_wire_reason_name, names_are_texts};
-pub use parts::{Parts, TextPlace, dbus_wire_parts_of};
+pub use parts::{TextPlace, WireParts, dbus_wire_parts_of};
 pub use reasons::{field_named, reason_number, reasons_have_one_number};
 pub use rule_reasons::{
     NOT_UTF8, dbus_wire_rule_reason_name, rule_names_are_texts, rule_reason_number,

@@ -34,7 +34,7 @@ pub struct TextPlace {
 /// The parts of a message. D-Bus Specification, "Message Format" and "Header Fields".
 #[repr(C)]
 #[derive(Drop)]
-pub struct Parts {
+pub struct WireParts {
     /// The number of bytes that it has.
     pub length: u64,
     /// The offset of its body, which begins after the header and its padding, and ends where the
@@ -75,7 +75,7 @@ pub struct Parts {
 ///
 /// D-Bus Specification, "Message Format" and "Header Fields".
 #[unsafe(no_mangle)]
-pub extern "C" fn dbus_wire_parts_of(bytes: &[u8], limits: &WireLimits, out: &mut Parts) -> u32
+pub extern "C" fn dbus_wire_parts_of(bytes: &[u8], limits: &WireLimits, out: &mut WireParts) -> u32
     ensures whole { BeginsWithMessage (limits_of limits.now) bytes.now ↔ (result ≡ WHOLE) }
     ensures apart { TellsApart (limits_of limits.now) bytes.now result }
     ensures parts { result ≡ WHOLE → HasParts (limits_of limits.now) bytes.now out.new }
@@ -84,7 +84,7 @@ pub extern "C" fn dbus_wire_parts_of(bytes: &[u8], limits: &WireLimits, out: &mu
     match first_validated(bytes, limits) {
         Ok(validated) => {
             let seen = &validated.fields;
-            *out = Parts {
+            *out = WireParts {
                 length: validated.length as u64,
                 body: validated.body as u64,
                 order: order_byte(validated.order),

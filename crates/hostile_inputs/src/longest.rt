@@ -3,7 +3,7 @@
 //! Both are replies to serial 1. The body is two arrays of BYTE, the first of 2^26 bytes, the most
 //! that an array may have.
 
-use crate::parts::{Part, Parts};
+use crate::parts::{Part, PartsSource};
 use crate::reading::{built, checked};
 use dbus_stream::{CheckReader, MessageReader};
 use std::io;
@@ -37,11 +37,11 @@ const TOO_LONG: &[Part] = &[
 
 // What both readers answer of a message, and then after it.
 fn try_message(rt: &HostRuntime, name: &str, parts: &'static [Part]) -> io::Result<()> {
-    let mut reader = CheckReader::new(Parts::new(parts));
+    let mut reader = CheckReader::new(PartsSource::new(parts));
     let first = checked(&mut reader);
     let then = checked(&mut reader);
     println!(rt; "{name}, checked: {first}, then {then}")?;
-    let mut reader = MessageReader::new(rt.alloc(), Parts::new(parts));
+    let mut reader = MessageReader::new(rt.alloc(), PartsSource::new(parts));
     let first = built(&mut reader);
     let then = built(&mut reader);
     println!(rt; "{name}, built: {first}, then {then}")

@@ -1,7 +1,7 @@
 //! A million messages of 24 bytes, of which each read gives the second half of one and the first of
 //! the next.
 
-use crate::parts::{Part, Parts};
+use crate::parts::{Part, PartsSource};
 use crate::reading::{Answer, built, checked};
 use dbus_stream::{CheckReader, MessageReader};
 use refusing_alloc::Refusing;
@@ -32,7 +32,7 @@ struct Round {
 }
 
 // A round of a reader whose memory comes from there.
-fn build_round(heap: &Refusing, reader: &mut MessageReader<Parts, &Refusing>) -> Round {
+fn build_round(heap: &Refusing, reader: &mut MessageReader<PartsSource, &Refusing>) -> Round {
     heap.refuse_none();
     let mut given = 0u64;
     for _ in 0..ROUND {
@@ -50,7 +50,7 @@ fn build_round(heap: &Refusing, reader: &mut MessageReader<Parts, &Refusing>) ->
 // The messages built. The first round also takes what the reader keeps.
 fn build_all(rt: &HostRuntime) -> io::Result<()> {
     let heap = Refusing::none(rt.alloc());
-    let mut reader = MessageReader::new(&heap, Parts::new(MESSAGES));
+    let mut reader = MessageReader::new(&heap, PartsSource::new(MESSAGES));
     let mut last = build_round(&heap, &mut reader);
     let mut given = last.given;
     let mut differing = 0u64;
@@ -70,7 +70,7 @@ fn build_all(rt: &HostRuntime) -> io::Result<()> {
 
 // The messages checked.
 fn check_all(rt: &HostRuntime) -> io::Result<()> {
-    let mut reader = CheckReader::new(Parts::new(MESSAGES));
+    let mut reader = CheckReader::new(PartsSource::new(MESSAGES));
     let mut given = 0u64;
     for _ in 0..ROUNDS * ROUND {
         if let Answer::Given(_) = checked(&mut reader) {

@@ -8,7 +8,7 @@ pub(crate) type Part = (&'static [u8], u64);
 
 /// A source of parts one after the other. Each read gives the bytes of a part once.
 #[derive(Drop)]
-pub(crate) struct Parts {
+pub(crate) struct PartsSource {
     parts: &'static [Part],
     // Which part is next, and how often it was given.
     next: usize,
@@ -16,10 +16,10 @@ pub(crate) struct Parts {
     calls: u64,
 }
 
-impl Parts {
+impl PartsSource {
     /// A source of these parts.
     pub(crate) fn new(parts: &'static [Part]) -> Self {
-        Parts {
+        PartsSource {
             parts,
             next: 0,
             given: 0,
@@ -54,7 +54,7 @@ fn copy(buffer: &mut [u8], bytes: &[u8]) -> usize
     bytes.len()
 }
 
-impl Source for Parts {
+impl Source for PartsSource {
     ghost left = { λ s. None };
 
     ghost failures = { λ s. 0 };

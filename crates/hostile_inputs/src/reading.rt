@@ -1,6 +1,6 @@
 //! What a reader answers.
 
-use crate::parts::Parts;
+use crate::parts::PartsSource;
 use dbus_stream::{CheckReader, MessageReader, ReadFault};
 use std::alloc::Allocator;
 use std::fmt;
@@ -27,7 +27,7 @@ impl fmt::Display for Answer {
 }
 
 /// What a reader that checks answers.
-pub(crate) fn checked(reader: &mut CheckReader<Parts>) -> Answer {
+pub(crate) fn checked(reader: &mut CheckReader<PartsSource>) -> Answer {
     match reader.next() {
         Ok(Some(length)) => Answer::Given(length),
         Ok(None) => Answer::End,
@@ -36,7 +36,7 @@ pub(crate) fn checked(reader: &mut CheckReader<Parts>) -> Answer {
 }
 
 /// What a reader that builds messages answers.
-pub(crate) fn built<A: Allocator + Copy>(reader: &mut MessageReader<Parts, A>) -> Answer {
+pub(crate) fn built<A: Allocator + Copy>(reader: &mut MessageReader<PartsSource, A>) -> Answer {
     match reader.next() {
         Ok(Some((_, message))) => Answer::Given(message.size() as u64),
         Ok(None) => Answer::End,
