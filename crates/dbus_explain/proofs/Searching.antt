@@ -12,7 +12,7 @@ use Rattle.dbus_explain.specs.Leads.{Leads}
 use Rattle.dbus_explain.specs.Places.{AreBodyTypes, Enters, IsAmong, IsIn, IsSignatureField, IsTyped, Pass, Passes, field_type, first_element}
 use Rattle.dbus_explain.specs.declared.path.Step.{Step}
 use Rattle.dbus_explain.specs.declared.path.Step.TheVariants.{Key, Value}
-use Rattle.dbus_explain.specs.declared.search.Spot.{Spot}
+use Rattle.dbus_explain.specs.declared.search.ValuePlace.{ValuePlace}
 
 pub some_map : {A : Type 0} {P Q : A → Type 0} (o : Option A) → ((a : A) → P a → Q a) → IfSome o P → IfSome o Q
 some_map None f h = h
@@ -82,6 +82,6 @@ module _ (bytes : List ℕ) (at : ℕ) where
 
   -- ---- a step from a type
 
-  module _ (t : TypeTree) (p : ℕ) (step : Step) (spot : Spot) where
+  module _ (t : TypeTree) (p : ℕ) (step : Step) (spot : ValuePlace) where
     pub leads_by : (u : TypeTree) → t ≡ u → Leads bytes at u p step spot → Leads bytes at t p step spot
     leads_by u is h = subst (λ (x : TypeTree). Leads bytes at x p step spot) (sym is) h

@@ -8,7 +8,7 @@ ghost use Rattle.dbus_explain.specs.Places.{AreBodyTypes, IsAmong, IsInField, Is
 ghost use Rattle.dbus_explain.specs.declared.path.Step.{Step as StepTo};
 
 use crate::path::{Step, write_step};
-use crate::search::{Search, Spot};
+use crate::search::{Search, ValuePlace};
 use dbus_show::{Draft, write_field_name, write_integer};
 use dbus_types::TextKind;
 use dbus_value_model::{Order, Reason, padding_length};
@@ -93,7 +93,7 @@ fn field_code(search: &Search) -> Option<u8>
     requires { 16 ≤ search.now.at }
     ensures { IfSome result (IsInField search.now.bytes.now search.now.at) }
 {
-    let first = Spot {
+    let first = ValuePlace {
         types: FIELD,
         place: FIELDS,
     };
@@ -133,7 +133,7 @@ fn write_value<D: Draft>(draft: &mut D, search: &Search, body: usize)
 }
 
 // The value of the body in which the fault is, and its number from 0.
-fn body_value<'a>(search: &Search<'a>, body: usize) -> Option<(usize, Spot<'a>)>
+fn body_value<'a>(search: &Search<'a>, body: usize) -> Option<(usize, ValuePlace<'a>)>
     requires within { body ≤ search.now.at }
     requires fields { 16 ≤ search.now.at }
     ensures { IfSome result (λ r. (ts : TypeTrees) × (t : TypeTree) × AreBodyTypes search.now.bytes.now search.now.at ts ×
@@ -141,11 +141,11 @@ fn body_value<'a>(search: &Search<'a>, body: usize) -> Option<(usize, Spot<'a>)>
         IsAmong search.now.bytes.now search.now.at ts body r.0 t r.1.place) }
 {
     let types = body_types(search)?;
-    search.among(Spot { types, place: body })
+    search.among(ValuePlace { types, place: body })
 }
 
 // Appends the steps from a value to the one in it in which the fault is.
-fn write_steps<'a, D: Draft>(draft: &mut D, search: &Search<'a>, value: Spot<'a>)
+fn write_steps<'a, D: Draft>(draft: &mut D, search: &Search<'a>, value: ValuePlace<'a>)
     ensures { (steps : List StepTo) × D.gains draft.old (path_text steps) draft.new × ((t : TypeTree) →
         sig t ≡ value.entry.types.now → IsShaped true t →
         IsPath search.now.bytes.now search.now.at t value.entry.place steps) }
@@ -171,7 +171,7 @@ fn body_types<'a>(search: &Search<'a>) -> Option<&'a [u8]>
         if let Some(types) = signature_field(search, place) {
             return Some(types);
         }
-        place = search.passed(Spot {
+        place = search.passed(ValuePlace {
             types: FIELD,
             place,
         })?;

@@ -28,7 +28,7 @@ pub(crate) struct Search<'a> {
 
 /// Where a value is to be, before its padding, and the bytes of its type.
 #[derive(Clone, Copy)]
-pub(crate) struct Spot<'a> {
+pub(crate) struct ValuePlace<'a> {
     pub(crate) types: &'a [u8],
     pub(crate) place: usize,
 }
@@ -56,7 +56,7 @@ impl<'a> Search<'a> {
     }
 
     /// The place after a value of the type, if it is valid and ends at or before the fault.
-    pub(crate) fn passed(&self, spot: Spot<'a>) -> Option<usize>
+    pub(crate) fn passed(&self, spot: ValuePlace<'a>) -> Option<usize>
         requires { spot.place ≤ self.now.at }
         ensures some { IfSome result (λ after. (t : TypeTree) → sig t ≡ spot.entry.types.now → IsShaped true t →
             Passes self.now.bytes.now self.now.at t spot.entry.place after) }
@@ -78,7 +78,7 @@ impl<'a> Search<'a> {
 
     /// How many values of the type are passed from the place on, and where the next one is, in
     /// which the fault is.
-    pub(crate) fn after_values(&self, first: Spot<'a>) -> Option<(usize, Spot<'a>)>
+    pub(crate) fn after_values(&self, first: ValuePlace<'a>) -> Option<(usize, ValuePlace<'a>)>
         requires { first.place ≤ self.now.at }
         ensures types { IfSome result (λ r. r.1.types.now ≡ first.entry.types.now) }
         ensures passed { IfSome result (λ r. (t : TypeTree) → sig t ≡ first.entry.types.now → IsShaped true t →
@@ -90,7 +90,7 @@ impl<'a> Search<'a> {
         let mut place = first.place;
         // Each value has a byte at least.
         for count in 0..self.bytes.len() {
-            let spot = Spot { types, place };
+            let spot = ValuePlace { types, place };
             match self.passed(spot) {
                 Some(after) => place = after,
                 None => return Some((count, spot)),
@@ -101,7 +101,7 @@ impl<'a> Search<'a> {
 
     /// Of values of these types, which begin at the place, the one in which the fault is, and its
     /// number from 0.
-    pub(crate) fn among(&self, values: Spot<'a>) -> Option<(usize, Spot<'a>)>
+    pub(crate) fn among(&self, values: ValuePlace<'a>) -> Option<(usize, ValuePlace<'a>)>
         requires { values.place ≤ self.now.at }
         ensures found { IfSome result (λ r. (ts : TypeTrees) → sigs ts ≡ values.entry.types.now → AreShaped ts →
             (t : TypeTree) × (sig t ≡ r.1.types.now) × IsShaped true t ×
@@ -115,7 +115,7 @@ impl<'a> Search<'a> {
                 return None;
             }
             let (first, others) = types.split_at(type_end(types, 0));
-            let spot = Spot {
+            let spot = ValuePlace {
                 types: first,
                 place,
             };
@@ -130,7 +130,7 @@ impl<'a> Search<'a> {
 
     /// The text of this kind whose length is at the place, and the place after it, if it is valid
     /// and ends at or before the fault.
-    pub(crate) fn typed(&self, place: usize, kind: TextKind) -> Option<Spot<'a>>
+    pub(crate) fn typed(&self, place: usize, kind: TextKind) -> Option<ValuePlace<'a>>
         ensures typed { IfSome result (λ spot. IsTyped self.now.bytes.now self.now.at kind place spot.types.now spot.place) }
         ensures within { IfSome result (λ spot. spot.place ≤ self.now.at) }
     {
@@ -139,14 +139,14 @@ impl<'a> Search<'a> {
         }
         let length = short_text(self.bytes, place, self.at, kind)?;
         let first = place + 1;
-        Some(Spot {
+        Some(ValuePlace {
             types: &self.bytes[first..first + length],
             place: first + length + 1,
         })
     }
 
     // The element in which the fault is, of an array of this type whose length is at the place.
-    fn element(&self, types: &'a [u8], place: usize) -> Option<(Step, Spot<'a>)>
+    fn element(&self, types: &'a [u8], place: usize) -> Option<(Step, ValuePlace<'a>)>
         ensures leads { IfSome result (λ r. (t : TypeTree) → sig t ≡ types.now → IsShaped true t →
             Leads self.now.bytes.now self.now.at (ArrayType t) place r.0 r.1) }
         ensures within { IfSome result (λ r. r.1.place ≤ self.now.at) }
@@ -156,7 +156,7 @@ impl<'a> Search<'a> {
         };
         let length = self.aligned(place, b'a')?;
         let first = self.aligned(self.skip(length, 4)?, *code)?;
-        let (index, element) = self.after_values(Spot {
+        let (index, element) = self.after_values(ValuePlace {
             types,
             place: first,
         })?;
@@ -164,31 +164,31 @@ impl<'a> Search<'a> {
     }
 
     // The value in which the fault is, of a struct of these types at the place.
-    fn member(&self, types: &'a [u8], place: usize) -> Option<(Step, Spot<'a>)>
+    fn member(&self, types: &'a [u8], place: usize) -> Option<(Step, ValuePlace<'a>)>
         ensures leads { IfSome result (λ r. (ts : TypeTrees) → sigs ts ≡ types.now → AreShaped ts →
             Leads self.now.bytes.now self.now.at (StructType ts) place r.0 r.1) }
         ensures within { IfSome result (λ r. r.1.place ≤ self.now.at) }
     {
         let place = self.aligned(place, b'(')?;
-        let (index, spot) = self.among(Spot { types, place })?;
+        let (index, spot) = self.among(ValuePlace { types, place })?;
         Some((Step::Number(index), spot))
     }
 
     // The half in which the fault is, of a dict entry of these two types at the place.
-    fn half(&self, types: &'a [u8], place: usize) -> Option<(Step, Spot<'a>)>
+    fn half(&self, types: &'a [u8], place: usize) -> Option<(Step, ValuePlace<'a>)>
         ensures leads { IfSome result (λ r. (k v : TypeTree) → sigs (MoreTypes k (MoreTypes v NoTypes)) ≡ types.now →
             AreShaped (MoreTypes k (MoreTypes v NoTypes)) →
             Leads self.now.bytes.now self.now.at (EntryType k v) place r.0 r.1) }
         ensures within { IfSome result (λ r. r.1.place ≤ self.now.at) }
     {
         let place = self.aligned(place, b'{')?;
-        let (index, spot) = self.among(Spot { types, place })?;
+        let (index, spot) = self.among(ValuePlace { types, place })?;
         let step = if index == 0 { Step::Key } else { Step::Value };
         Some((step, spot))
     }
 
     // The value of a variant whose signature's length is at the place.
-    fn inner(&self, place: usize) -> Option<(Step, Spot<'a>)>
+    fn inner(&self, place: usize) -> Option<(Step, ValuePlace<'a>)>
         ensures leads { IfSome result (λ r. Leads self.now.bytes.now self.now.at VariantType place r.0 r.1) }
         ensures within { IfSome result (λ r. r.1.place ≤ self.now.at) }
     {
@@ -197,7 +197,7 @@ impl<'a> Search<'a> {
     }
 
     /// The value inside of this one in which the fault is, and the step to it.
-    pub(crate) fn entered(&self, spot: Spot<'a>) -> Option<(Step, Spot<'a>)>
+    pub(crate) fn entered(&self, spot: ValuePlace<'a>) -> Option<(Step, ValuePlace<'a>)>
         ensures leads { IfSome result (λ r. (t : TypeTree) → sig t ≡ spot.entry.types.now → IsShaped true t →
             Leads self.now.bytes.now self.now.at t spot.entry.place r.0 r.1) }
         ensures within { IfSome result (λ r. r.1.place ≤ self.now.at) }
