@@ -10,8 +10,8 @@ use Rattle.dbus_rule.specs.Faults.{IsFault}
 use Rattle.dbus_match.specs.Matching.{Ownership}
 use Rattle.dbus_rule.specs.Rules.{Pair, SpellsRule}
 use Rattle.dbus_rule.specs.RuleViews.{rule_pairs}
-use Rattle.cli_options.specs.declared.form.Form.{Form}
-use Rattle.cli_options.specs.declared.form.Form.TheVariants as written
+use Rattle.cli_options.specs.declared.form.CountForm.{CountForm}
+use Rattle.cli_options.specs.declared.form.CountForm.TheVariants as written
 use Rattle.dbus_handshake_input.specs.declared.side.Side.{Side}
 use Rattle.dbus_handshake_input.specs.declared.side.Side.TheVariants.{Client, Server}
 use Rattle.cli_options.specs.CommandLine.{wire_app}
@@ -90,7 +90,7 @@ pub record HasSettings (rows : List Row) (settings : Settings) : Type 0 where
   pub window : HasWindow rows settings.window
 
 -- the form of tables is JSON if its flag is given
-abbrev pub HasForm : List Row → Form → Type 0
+abbrev pub HasForm : List Row → CountForm → Type 0
 HasForm rows form = (form ≡ written.Json) ↔ IsGiven (codes "json") rows
 
 -- the subcommand and the words after it name a command and its settings, the settings and the form

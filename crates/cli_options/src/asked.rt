@@ -1,6 +1,6 @@
 //! What words ask for.
 use crate::command::Command;
-use crate::form::Form;
+use crate::form::CountForm;
 use crate::settings::Settings;
 use dbus_handshake_input::Side;
 
@@ -10,7 +10,7 @@ pub enum Asked {
     /// A command over messages, by its settings.
     Messages(Command, Settings),
     /// Tables of how many messages have each name, by these settings and in this form.
-    Count(Settings, Form),
+    Count(Settings, CountForm),
     /// A list of the lines of this side's handshake.
     Handshake(Side),
 }

@@ -7,7 +7,7 @@ ghost use Rattle.cli_options.specs.Told.{TellsKind, Tells, TellsCommand, TellsFa
 
 use crate::asked::Asked;
 use crate::command::Command;
-use crate::form::Form;
+use crate::form::CountForm;
 use crate::limits_named::{limits_named, window_named};
 use crate::owners::owners_given;
 use crate::rules::rules_spelled;
@@ -84,13 +84,13 @@ fn handshake_named(alloc: Global, inner: &ArgMatches) -> Result<Asked, UsageFaul
 }
 
 // The form of the tables of `count`.
-fn form_named(inner: &ArgMatches) -> Form
+fn form_named(inner: &ArgMatches) -> CountForm
     ensures { HasForm (rows_of (found_of inner.now)) result }
 {
     if is_given(inner, "json") {
-        Form::Json
+        CountForm::Json
     } else {
-        Form::Text
+        CountForm::Text
     }
 }
 

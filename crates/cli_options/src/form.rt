@@ -2,7 +2,7 @@
 
 /// How the tables of `count` are written: in words, or as objects of JSON.
 #[derive(Clone, Copy, Debug, PartialEq, Eq)]
-pub enum Form {
+pub enum CountForm {
     /// In words.
     Text,
     /// As objects of JSON, RFC 8259.

@@ -27,7 +27,7 @@ pub use asked::Asked;
 pub use command::Command;
 pub use command_line::command_of;
 pub use dbus_handshake_input::Side;
-pub use form::Form;
+pub use form::CountForm;
 pub use selection::Selection;
 pub use settings::Settings;
 pub use usage_fault::{RefusedRule, UsageFault};

@@ -31,8 +31,8 @@ use Rattle.cli_options.specs.declared.asked.Asked.{Asked}
 use Rattle.cli_options.specs.declared.asked.Asked.TheVariants.{Messages, Count, Handshake}
 use Rattle.cli_options.specs.declared.command.Command.{Command}
 use Rattle.cli_options.specs.declared.command.Command.TheVariants.{Show, Json, Check, Swap, Filter}
-use Rattle.cli_options.specs.declared.form.Form.{Form}
-use Rattle.cli_options.specs.declared.form.Form.TheVariants as written
+use Rattle.cli_options.specs.declared.form.CountForm.{CountForm}
+use Rattle.cli_options.specs.declared.form.CountForm.TheVariants as written
 use Rattle.cli_options.specs.declared.selection.Selection.{Selection}
 use Rattle.cli_options.specs.declared.settings.Settings.{Settings}
 use Rattle.cli_options.specs.declared.window.Window.{Window}
@@ -229,7 +229,7 @@ same_command name rows a b p q = absurd (let e = sym (marked name rows a p) ∙ 
 
 -- ---- what is asked for
 
-same_form : (a b : Form) {P : Type 0} → (a ≡ written.Json) ↔ P → (b ≡ written.Json) ↔ P → a ≡ b
+same_form : (a b : CountForm) {P : Type 0} → (a ≡ written.Json) ↔ P → (b ≡ written.Json) ↔ P → a ≡ b
 same_form written.Json written.Json p q = refl
 same_form written.Text written.Text p q = refl
 same_form written.Json written.Text p q = sym (q.1 (p.0 refl))

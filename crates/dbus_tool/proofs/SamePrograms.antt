@@ -27,7 +27,7 @@ use Rattle.cli_options.specs.Told.{TellsFault}
 use Rattle.cli_options.specs.Unowned.{lacks_owner}
 use Rattle.cli_options.specs.declared.asked.Asked.{Asked}
 use Rattle.cli_options.specs.declared.asked.Asked.TheVariants.{Messages, Count, Handshake}
-use Rattle.cli_options.specs.declared.form.Form.{Form}
+use Rattle.cli_options.specs.declared.form.CountForm.{CountForm}
 use Rattle.dbus_handshake_input.specs.declared.side.Side.{Side}
 use Rattle.cli_options.specs.declared.command.Command.{Command}
 use Rattle.cli_options.specs.declared.command.Command.TheVariants.{Filter}
@@ -241,7 +241,7 @@ module _ {R S W V E F : Type 0} (one_table : OneTable) (left : R → Option (Lis
       (one_run (ReadAhead R) (ReadAhead S) W V E F (ahead left calls failures r r1) (ahead other_left other_calls other_failures s s1) w v e f settings _ _ c d end other same
       (record { input = here; explains = inl off; done = done; other_done = other_done }) does doing).1 exact)
 
-  counts_alike : (settings : Settings) (form : Form) → settings.explains ≡ false → DoesTask left calls failures r0 r1 w e settings (CountAll form) end
+  counts_alike : (settings : Settings) (form : CountForm) → settings.explains ≡ false → DoesTask left calls failures r0 r1 w e settings (CountAll form) end
       → DoesTask other_left other_calls other_failures s0 s1 v f settings (CountAll form) other → EndAlike w v e f end other
   counts_alike settings form off = tasks_alike settings (CountAll form) (CountAll form) (λ r s here does doing.
       one_count (ReadAhead R) (ReadAhead S) W V E F one_table (ahead left calls failures r r1) (ahead other_left other_calls other_failures s s1) w v e f settings (table_form form) _ _ end other
@@ -254,7 +254,7 @@ module _ {R S W V E F : Type 0} (one_table : OneTable) (left : R → Option (Lis
       (unnoted other_left other_calls other_failures s0 s1 v f settings d other other_done one.1 there)
   alike (Count settings form) (Count t g) same one does doing =
       let there = subst (λ (x : Settings). Does other_left other_calls other_failures s0 s1 v f (Ok (Count x g)) other) (sym same.0) doing in
-      counts_alike settings form one does (subst (λ (x : Form). Does other_left other_calls other_failures s0 s1 v f (Ok (Count settings x)) other) (sym same.1) there)
+      counts_alike settings form one does (subst (λ (x : CountForm). Does other_left other_calls other_failures s0 s1 v f (Ok (Count settings x)) other) (sym same.1) there)
   alike (Handshake side) (Handshake b) same one does doing =
       listed_alike side does (subst (λ (x : Side). Does other_left other_calls other_failures s0 s1 v f (Ok (Handshake x)) other) (sym same) doing)
   alike (Handshake side) (Messages d u) same one does doing = absurd same

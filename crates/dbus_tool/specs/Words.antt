@@ -18,8 +18,8 @@ use Rattle.dbus_handshake_input.specs.declared.read_ahead.ReadAhead.{ReadAhead}
 use Rattle.cli_options.specs.declared.asked.Asked.{Asked}
 use Rattle.cli_options.specs.declared.asked.Asked.TheVariants.{Messages, Count, Handshake}
 use Rattle.cli_options.specs.declared.command.Command.{Command}
-use Rattle.cli_options.specs.declared.form.Form.{Form}
-use Rattle.cli_options.specs.declared.form.Form.TheVariants as asked
+use Rattle.cli_options.specs.declared.form.CountForm.{CountForm}
+use Rattle.cli_options.specs.declared.form.CountForm.TheVariants as asked
 use Rattle.dbus_count.specs.declared.form.Form as tables
 use Rattle.dbus_count.specs.declared.form.Form.TheVariants as written
 use Rattle.cli_options.specs.declared.settings.Settings.{Settings}
@@ -43,7 +43,7 @@ ShowsText w e text end = ((end ≡ status.Done) × Wrote w.held w.failures w.old
     ⊎ ((end ≡ status.Failed) × Told e.held e.failures e.old e.new cause.WriteFailed × (n : ℕ) × Stopped w.held w.failures w.old text n w.new)
 
 -- the form in which the tables are written
-abbrev pub table_form : Form → tables.Form
+abbrev pub table_form : CountForm → tables.Form
 table_form asked.Text = written.Text
 table_form asked.Json = written.Json
 

@@ -9,7 +9,7 @@ ghost use Rattle.dbus_tool.specs.Words.{DoesTask, Notes, RefusesRule, RunsWords,
 use crate::lines::handshake_line;
 use crate::listing::write_lines;
 use crate::rule_lines::rule_text;
-use cli_options::{Asked, Command, Form, RefusedRule, Settings, UsageFault, command_of};
+use cli_options::{Asked, Command, CountForm, RefusedRule, Settings, UsageFault, command_of};
 use cli_report::{Cause, ExitStatus, Unwritten, give_up};
 use cli_run::{count_by_name, run_with};
 use dbus_handshake_input::{HandshakeFault, ReadAhead, Side, pass_handshake};
@@ -104,7 +104,7 @@ enum Task {
     // A command is run.
     Run(Command),
     // The messages are counted by their names, for tables in this form.
-    CountAll(Form),
+    CountAll(CountForm),
 }
 
 // Does it by the settings, after the handshake if they name its side.
@@ -149,12 +149,12 @@ fn take_handshake<R: Source>(
 }
 
 // The form of tables, as they are written.
-fn table_form(form: Form) -> dbus_count::Form
+fn table_form(form: CountForm) -> dbus_count::Form
     ensures { result ≡ table_form form }
 {
     match form {
-        Form::Text => dbus_count::Form::Text,
-        Form::Json => dbus_count::Form::Json,
+        CountForm::Text => dbus_count::Form::Text,
+        CountForm::Json => dbus_count::Form::Json,
     }
 }
 
