@@ -6,7 +6,7 @@ ghost use Rattle.std.specs.Prelude.{◌≡◌, ◌+◌, ◌<◌, ◌≤◌, ◌�
 use crate::fronts::rest_after;
 use crate::values::{Doing, ValueChecker};
 use dbus_value_model::{Stop, gap};
-use dbus_value_validator::{Source, booleans_end, one_value};
+use dbus_value_validator::{UntrustedBytes, booleans_end, one_value};
 
 /// How many values of a piece are tried in vain. What is tried in vain is gone over twice.
 const MOST_MISSES: u8 = 8;
@@ -38,7 +38,7 @@ impl ValueChecker {
         }
         let here = &bytes[n - before..];
         let end = here.len().min(before + (self.inner.end - self.offset));
-        let source = Source {
+        let source = UntrustedBytes {
             bytes: here,
             order: self.order,
             bounds: self.bounds,

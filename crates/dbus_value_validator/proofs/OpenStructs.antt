@@ -16,7 +16,7 @@ use Rattle.dbus_value_laws.proofs.ReadSteps.{after_after, padding_is}
 use Rattle.dbus_value_laws.proofs.ValueSteps.{value_struct, shaped_inside}
 use Rattle.dbus_value_validator.specs.Endings.{Answers, EndsAt, IsNotRead}
 use Rattle.dbus_value_validator.specs.Sources.{value_in, values_in}
-use Rattle.dbus_value_validator.specs.declared.source.Source.{Source}
+use Rattle.dbus_value_validator.specs.declared.untrusted_bytes.UntrustedBytes.{UntrustedBytes}
 use Rattle.dbus_value_validator.proofs.ReadParts.{not_first, answers_same, answers_unmade, made_first}
 use Rattle.dbus_value_validator.proofs.ValueSteps.{as_struct}
 
@@ -58,7 +58,7 @@ closing_over part room (us ∷ outer) o s le =
 
 -- of these types us are left, within the structs outer, and what is said of what is left is said of
 -- values of all
-pub record Left (source : Source) (end : ℕ) (types : List ℕ) (ts : TypeTrees) (at depth_left place pos depth : ℕ) : Type 0 where
+pub record Left (source : UntrustedBytes) (end : ℕ) (types : List ℕ) (ts : TypeTrees) (at depth_left place pos depth : ℕ) : Type 0 where
   pub us : TypeTrees
   pub outer : List TypeTrees
   pub text : sigs us ++ closing_text outer ≡ drop pos types
@@ -67,7 +67,7 @@ pub record Left (source : Source) (end : ℕ) (types : List ℕ) (ts : TypeTrees
   pub many : length outer ≡ depth
   pub leads : (r : Option ℕ) → Answers source.bytes.now r (left_in (λ room. value source.bounds source.order room end) (depth_left - depth) us outer place (drop place source.bytes.now)) → Answers source.bytes.now r (values_in source depth_left end ts at)
 
-module _ (source : Source) (end : ℕ) (types : List ℕ) (ts : TypeTrees) (at depth_left : ℕ) where
+module _ (source : UntrustedBytes) (end : ℕ) (types : List ℕ) (ts : TypeTrees) (at depth_left : ℕ) where
   abbrev part : ℕ → TypeTree → Reader ValueTree
   part room = value source.bounds source.order room end
 

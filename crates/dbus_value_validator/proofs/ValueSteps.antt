@@ -9,7 +9,7 @@ use Rattle.dbus_types.specs.SignatureCodes.{free_width_of}
 use Rattle.dbus_value_model.specs.FreeNumbers.{IsFree}
 use Rattle.dbus_value_model.proofs.FreeNumbers.{free_is}
 use Rattle.dbus_value_validator.specs.Sources.{value_in}
-use Rattle.dbus_value_validator.specs.declared.source.Source.{Source}
+use Rattle.dbus_value_validator.specs.declared.untrusted_bytes.UntrustedBytes.{UntrustedBytes}
 use Rattle.dbus_value_model.specs.declared.fault.Reason.TheVariants as reasons
 use Rattle.dbus_value_model.specs.declared.limits.Bounds.{Bounds}
 use Rattle.dbus_value_model.specs.declared.order.Order.{Order}
@@ -146,7 +146,7 @@ module _ (bounds : Bounds) (order : Order) (depth_left end at : ℕ) (bytes : Li
   as_entry k v is answer = subst AnswersHere (sym is) (answers_same bytes r _ _ (value_entry bounds order depth_left end k v at (drop at bytes)) answer)
 
 -- a number of a width, any of which is valid
-pub free_value : (source : Source) (end at wide size depth_left : ℕ) (t : TypeTree) (r : Option ℕ) → 0 < wide → wide ≡ free_width_of t → wide ≡ size
+pub free_value : (source : UntrustedBytes) (end at wide size depth_left : ℕ) (t : TypeTree) (r : Option ℕ) → 0 < wide → wide ≡ free_width_of t → wide ≡ size
     → ((index_limit : Option ℕ) (order : Order) (k : NumberCode) → width k ≡ size → IsFree index_limit k → Answers source.bytes.now r (number_value index_limit order end k at (drop at source.bytes.now)))
     → Answers source.bytes.now r (value_in source depth_left end t at)
 free_value source end at wide size depth_left t r some is same gives =

@@ -9,8 +9,8 @@ ghost use Rattle.dbus_value_validator.specs.Endings.{Answers};
 ghost use Rattle.dbus_value_validator.specs.Sources.{value_in};
 
 use crate::numbers::{boolean, descriptor, free_number};
-use crate::source::Source;
 use crate::texts::{long_text, signature};
+use crate::untrusted_bytes::UntrustedBytes;
 use dbus_types::{TextKind, free_width};
 
 /// Whether a basic type has this code. D-Bus Specification, "Basic types".
@@ -26,7 +26,12 @@ pub(crate) fn is_basic(code: u8) -> bool
 
 /// A value of the basic type that has this code: the offset after it. Of all other codes None says
 /// nothing.
-pub(crate) fn basic_value(source: &Source<'_>, at: usize, end: usize, code: u8) -> Option<usize>
+pub(crate) fn basic_value(
+    source: &UntrustedBytes<'_>,
+    at: usize,
+    end: usize,
+    code: u8,
+) -> Option<usize>
     requires at_most { at ≤ end }
     requires inside { end ≤ length source.now.bytes.now }
     ensures gives { (depth_left : ℕ) (t : TypeTree) → first_code t ≡ code → IsBasic t →

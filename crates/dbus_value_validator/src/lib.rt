@@ -13,14 +13,14 @@ mod ends;
 mod items;
 mod numbers;
 mod plain;
-mod source;
 mod texts;
+mod untrusted_bytes;
 mod validating;
 mod values;
 
 pub use items::{is_ended_text, padding, word};
 pub use numbers::booleans_end;
-pub use source::Source;
 pub use texts::short_text;
+pub use untrusted_bytes::UntrustedBytes;
 pub use validating::{validate_value, validate_values};
 pub use values::one_value;

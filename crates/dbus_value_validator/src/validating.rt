@@ -6,7 +6,7 @@ ghost use Rattle.dbus_texts.specs.Types.{TypeTree, TypeTrees, sig, sigs, IsShape
 ghost use Rattle.dbus_value_validator.specs.Endings.{IsSpelledTo, AreSpelledTo, IsNotSpelled, AreNotSpelled};
 
 use crate::ends::wants_lengths;
-use crate::source::Source;
+use crate::untrusted_bytes::UntrustedBytes;
 use crate::values::{all_values, noted_values, own_value};
 use dbus_value_model::{Bounds, Order};
 
@@ -37,7 +37,7 @@ pub fn validate_values(
         AreNotSpelled bounds order depth_left end ts at bytes.now }
     ensures moves { IfSome result (λ after. (at ≤ after) × (after ≤ end)) }
 {
-    let source = Source {
+    let source = UntrustedBytes {
         bytes,
         order,
         bounds,
@@ -70,7 +70,7 @@ pub fn validate_value(
         IsNotSpelled bounds order depth_left end t at bytes.now }
     ensures moves { IfSome result (λ after. (at ≤ after) × (after ≤ end)) }
 {
-    let source = Source {
+    let source = UntrustedBytes {
         bytes,
         order,
         bounds,

@@ -19,8 +19,8 @@ use crate::brackets::repeats;
 use crate::ends::{end_of, is_container, wants_lengths};
 use crate::items::padding;
 use crate::numbers::{booleans_end, free_number};
-use crate::source::Source;
 use crate::texts::short_text;
+use crate::untrusted_bytes::UntrustedBytes;
 use dbus_types::{TextKind, boundary, free_width, lengths_in};
 
 /// A value of the one type that `types` spell, which begin at `pos` of a signature whose lengths
@@ -28,7 +28,7 @@ use dbus_types::{TextKind, boundary, free_width, lengths_in};
 /// them. Nothing is allocated.
 #[cycle(values)]
 pub fn one_value(
-    source: &Source<'_>,
+    source: &UntrustedBytes<'_>,
     at: usize,
     end: usize,
     types: &[u8],
@@ -66,7 +66,7 @@ pub fn one_value(
 /// Values of the types that `types` spell, one after another.
 #[cycle(values)]
 pub(crate) fn all_values(
-    source: &Source<'_>,
+    source: &UntrustedBytes<'_>,
     at: usize,
     end: usize,
     types: &[u8],
@@ -133,7 +133,7 @@ pub(crate) fn all_values(
 
 /// The same, with the lengths of the types noted first.
 pub(crate) fn noted_values(
-    source: &Source<'_>,
+    source: &UntrustedBytes<'_>,
     at: usize,
     end: usize,
     types: &[u8],
@@ -147,7 +147,7 @@ pub(crate) fn noted_values(
     ensures moves { IfSome result (λ q. (at ≤ q) × (q ≤ end)) }
 {
     let mut table = [0; 255];
-    let noted = Source {
+    let noted = UntrustedBytes {
         bytes: source.bytes,
         order: source.order,
         bounds: source.bounds,
@@ -158,7 +158,7 @@ pub(crate) fn noted_values(
 
 /// A variant.
 #[cycle(values)]
-fn variant(source: &Source<'_>, at: usize, end: usize, depth_left: u8) -> Option<usize>
+fn variant(source: &UntrustedBytes<'_>, at: usize, end: usize, depth_left: u8) -> Option<usize>
     requires at_most { at ≤ end }
     requires inside { end ≤ length source.now.bytes.now }
     ensures gives { Answers source.now.bytes.now result (variant_in source.now depth_left end at) }
@@ -180,7 +180,7 @@ fn variant(source: &Source<'_>, at: usize, end: usize, depth_left: u8) -> Option
 /// A value of the one type that `types` spell, which are a signature of their own.
 #[cycle(values)]
 pub(crate) fn own_value(
-    source: &Source<'_>,
+    source: &UntrustedBytes<'_>,
     at: usize,
     end: usize,
     types: &[u8],
@@ -203,7 +203,7 @@ pub(crate) fn own_value(
 /// The same, with the lengths of the types noted first.
 #[cycle(values)]
 fn noted_value(
-    source: &Source<'_>,
+    source: &UntrustedBytes<'_>,
     at: usize,
     end: usize,
     types: &[u8],
@@ -217,7 +217,7 @@ fn noted_value(
     ensures moves { IfSome result (λ q. (at ≤ q) × (q ≤ end)) }
 {
     let mut table = [0; 255];
-    let noted = Source {
+    let noted = UntrustedBytes {
         bytes: source.bytes,
         order: source.order,
         bounds: source.bounds,
@@ -229,7 +229,7 @@ fn noted_value(
 /// An array, whose elements are of the one type that `types` spell.
 #[cycle(values)]
 fn array(
-    source: &Source<'_>,
+    source: &UntrustedBytes<'_>,
     at: usize,
     end: usize,
     types: &[u8],
@@ -283,7 +283,7 @@ fn array(
 /// first.
 #[cycle(values)]
 fn noted_elements(
-    source: &Source<'_>,
+    source: &UntrustedBytes<'_>,
     at: usize,
     n: usize,
     types: &[u8],
@@ -296,7 +296,7 @@ fn noted_elements(
     ensures ends { IfSome result (λ q. q ≡ at + n) }
 {
     let mut table = [0; 255];
-    let noted = Source {
+    let noted = UntrustedBytes {
         bytes: source.bytes,
         order: source.order,
         bounds: source.bounds,
@@ -308,7 +308,7 @@ fn noted_elements(
 /// Elements of the one type that `types` spell, up to the end of the next n bytes.
 #[cycle(values)]
 fn elements(
-    source: &Source<'_>,
+    source: &UntrustedBytes<'_>,
     at: usize,
     n: usize,
     types: &[u8],
@@ -337,7 +337,7 @@ fn elements(
 /// A dict entry, whose key and value are of the two types that `types` spell.
 #[cycle(values)]
 fn entry(
-    source: &Source<'_>,
+    source: &UntrustedBytes<'_>,
     at: usize,
     end: usize,
     types: &[u8],

@@ -6,7 +6,7 @@ use dbus_value_model::{Bounds, Order};
 /// A message's bytes, and what holds of all values of one signature in them: what
 /// [`one_value`](crate::one_value) goes over.
 #[derive(Clone, Copy)]
-pub struct Source<'a> {
+pub struct UntrustedBytes<'a> {
     /// The bytes. They begin at the message's first byte, or at a multiple of 8 from it: padding
     /// counts from their first.
     pub bytes: &'a [u8],
