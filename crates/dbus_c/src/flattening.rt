@@ -10,7 +10,7 @@ ghost use Rattle.dbus_message_model.specs.Messages.{MessageTree};
 ghost use Rattle.dbus_types.specs.TypeLengths.{AreLengths};
 ghost use Rattle.dbus_validate.specs.Wholes.{IsOwn, IsWholeOf, WasValidated};
 ghost use Rattle.dbus_walk.specs.Standing.{AllStandAt};
-ghost use Rattle.dbus_walk.specs.declared.spot.Source.{Source};
+ghost use Rattle.dbus_walk.specs.declared.spot.MessageBytes.{MessageBytes};
 
 use crate::answers::{NO_ROOM, WHOLE};
 use crate::checking::first_validated;
@@ -129,7 +129,7 @@ fn spot_of<'a>(part: Part, whole: &Whole<'a>, table: &'a mut [u8; 255]) -> Spot<
     ensures begins { (m : MessageTree) → IsWholeOf whole.now m →
         result.at ≡ start_of part whole.now.validated.now.order m }
     ensures noted { AreLengths result.types.now result.lengths.now }
-    ensures stand { (source : Source) (m : MessageTree) → IsOwn whole.now source →
+    ensures stand { (source : MessageBytes) (m : MessageTree) → IsOwn whole.now source →
         IsWholeOf whole.now m →
         (rest : List ℕ) × AllStandAt source result (values_of part m) rest }
 {

@@ -23,7 +23,7 @@ use dbus_message_model::field_code::UNIX_FDS;
 use dbus_message_model::field_table::is_known;
 use dbus_validate::Validated;
 use dbus_value_model::gap;
-use dbus_walk::{FIELDS_START, Source, Spot, field_at, fields_end, lengths_of, skip_value};
+use dbus_walk::{FIELDS_START, MessageBytes, Spot, field_at, fields_end, lengths_of, skip_value};
 use std::alloc::{AllocError, Allocator};
 
 /// Whether a field of the message stays as it is.
@@ -41,7 +41,7 @@ fn stays(parts: &PlacedParts, kept: &Validated, code: u8) -> bool
 /// bytes are the same wherever it is.
 fn append_same<A: Allocator>(
     out: &mut Vec<u8, A>,
-    source: &Source<'_>,
+    source: &MessageBytes<'_>,
     at: usize,
     end: usize,
 ) -> Result<(), AllocError>
@@ -74,7 +74,7 @@ fn append_kept<A: Allocator>(
         Some(kept) => kept,
         None => return Ok(()),
     };
-    let source = Source {
+    let source = MessageBytes {
         bytes: &given.bytes[..kept.length],
         order: kept.order,
     };

@@ -14,7 +14,7 @@ use dbus_message_model::{HeaderField, Parts};
 use dbus_unmarshal::{build_typed, build_values};
 use dbus_validate::{Validated, Whole};
 use dbus_value_model::Limits;
-use dbus_walk::{FIELDS_START, Source, field_at, fields_end};
+use dbus_walk::{FIELDS_START, MessageBytes, field_at, fields_end};
 use std::alloc::{AllocError, Allocator};
 
 /// For how many fields room is made at the start: most messages have no more.
@@ -24,7 +24,7 @@ const FIELD_ROOM: usize = 8;
 /// open in the message.
 fn build_field<A: Allocator + Copy>(
     alloc: A,
-    source: &Source<'_>,
+    source: &MessageBytes<'_>,
     at: usize,
     depth_left: u8,
 ) -> Result<(HeaderField<A>, usize), AllocError>
@@ -42,7 +42,7 @@ fn build_field<A: Allocator + Copy>(
 /// The header fields of a message in which `depth_left` containers may be open.
 fn build_fields<A: Allocator + Copy>(
     alloc: A,
-    source: &Source<'_>,
+    source: &MessageBytes<'_>,
     depth_left: u8,
 ) -> Result<Vec<HeaderField<A>, A>, AllocError>
     requires stand { (fs : List FieldTree) × (rest : List ℕ) × FieldsStand source.now depth_left fs rest }

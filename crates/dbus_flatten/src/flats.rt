@@ -9,7 +9,7 @@ ghost use Rattle.dbus_flatten.specs.Flattening.{AreFlat};
 
 use crate::flat_item::FlatItem;
 use crate::flattener::Flattener;
-use dbus_walk::{Source, Spot, walk_values};
+use dbus_walk::{MessageBytes, Spot, walk_values};
 
 /// Writes items of the values that follow one another at a spot: a row of one for each value and
 /// all its parts, each container before its parts. Those from place `first` of the row on, which
@@ -19,7 +19,12 @@ use dbus_walk::{Source, Spot, walk_values};
 /// An array of numbers is one item, and so is one without elements. Nothing is validated anew, and
 /// the time is linear in the bytes, whatever `first` is. D-Bus Specification, "Marshaling (Wire
 /// Format)".
-pub fn flatten(source: &Source<'_>, spot: &Spot<'_>, first: usize, out: &mut [FlatItem]) -> usize
+pub fn flatten(
+    source: &MessageBytes<'_>,
+    spot: &Spot<'_>,
+    first: usize,
+    out: &mut [FlatItem],
+) -> usize
     requires stand { AllStandThere source.now spot.now }
     requires noted { AreLengths spot.now.types.now spot.now.lengths.now }
     ensures flat { (vs : ValueTrees) (rest : List ℕ) → AllStandAt source.now spot.now vs rest →

@@ -19,7 +19,7 @@ use crate::flattener::Flattener;
 use crate::numbers::number_at;
 use dbus_types::boundary;
 use dbus_value_model::gap;
-use dbus_walk::{Container, Run, Source, Spot, Visitor};
+use dbus_walk::{Container, MessageBytes, Run, Spot, Visitor};
 use std::convert::Infallible;
 
 impl Visitor for Flattener<'_> {
@@ -53,7 +53,7 @@ impl Visitor for Flattener<'_> {
     fn number(
         &mut self,
         _gathered: &mut usize,
-        source: &Source<'_>,
+        source: &MessageBytes<'_>,
         spot: &Spot<'_>,
         start: usize,
         size: u8,
@@ -72,7 +72,7 @@ impl Visitor for Flattener<'_> {
     fn long_text(
         &mut self,
         _gathered: &mut usize,
-        _source: &Source<'_>,
+        _source: &MessageBytes<'_>,
         spot: &Spot<'_>,
         start: usize,
         size: usize,
@@ -91,7 +91,7 @@ impl Visitor for Flattener<'_> {
     fn short_text(
         &mut self,
         _gathered: &mut usize,
-        _source: &Source<'_>,
+        _source: &MessageBytes<'_>,
         spot: &Spot<'_>,
         size: usize,
     ) -> Result<(), Infallible> {
@@ -109,7 +109,7 @@ impl Visitor for Flattener<'_> {
     fn whole_array(
         &mut self,
         _gathered: &mut usize,
-        _source: &Source<'_>,
+        _source: &MessageBytes<'_>,
         spot: &Spot<'_>,
         run: Run,
     ) -> Result<(), Infallible> {
@@ -127,7 +127,7 @@ impl Visitor for Flattener<'_> {
     fn open_array(
         &mut self,
         _gathered: &usize,
-        source: &Source<'_>,
+        source: &MessageBytes<'_>,
         spot: &Spot<'_>,
         start: usize,
     ) -> Result<usize, Infallible> {

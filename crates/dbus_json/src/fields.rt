@@ -10,7 +10,7 @@ use crate::json::Json;
 use dbus_message_model::field_table::is_known;
 use dbus_show::{Draft, write_field_name, write_integer};
 use dbus_value_text::{FieldForm, write_types, write_value};
-use dbus_walk::{Source, Spot};
+use dbus_walk::{MessageBytes, Spot};
 
 /// The fields that are known, as members by their names.
 pub(crate) struct KnownFields;
@@ -25,7 +25,12 @@ impl FieldForm for KnownFields {
         is_known(code)
     }
 
-    fn field<D: Draft>(draft: &mut D, source: &Source<'_>, code: u8, spot: &Spot<'_>) -> usize {
+    fn field<D: Draft>(
+        draft: &mut D,
+        source: &MessageBytes<'_>,
+        code: u8,
+        spot: &Spot<'_>,
+    ) -> usize {
         draft.push_code(b'"');
         write_field_name(draft, code);
         draft.push_str("\":");
@@ -46,7 +51,12 @@ impl FieldForm for OtherFields {
         !is_known(code)
     }
 
-    fn field<D: Draft>(draft: &mut D, source: &Source<'_>, code: u8, spot: &Spot<'_>) -> usize {
+    fn field<D: Draft>(
+        draft: &mut D,
+        source: &MessageBytes<'_>,
+        code: u8,
+        spot: &Spot<'_>,
+    ) -> usize {
         draft.push_str("{\"code\":");
         write_integer(draft, code);
         draft.push_str(",\"type\":\"");

@@ -10,7 +10,7 @@ use crate::doubles::write_double;
 use crate::texts::write_string;
 use dbus_show::{Draft, write_hex};
 use dbus_value_text::{ValueForm, write_number_at, write_types};
-use dbus_walk::{Container, Source};
+use dbus_walk::{Container, MessageBytes};
 
 /// Values as JSON.
 pub(crate) struct Json;
@@ -25,7 +25,7 @@ impl ValueForm for Json {
     ghost separator_text = { codes "," };
 
     #[inline]
-    fn number<D: Draft>(draft: &mut D, source: &Source<'_>, at: usize, code: u8) {
+    fn number<D: Draft>(draft: &mut D, source: &MessageBytes<'_>, at: usize, code: u8) {
         if code == b'd' {
             write_double(draft, source.order.u64_at(source.bytes, at));
         } else {

@@ -10,7 +10,7 @@ use Rattle.dbus_walk.specs.Layouts.{IsNumberAt, IsTextAt, IsLaidOut}
 use Rattle.dbus_walk.specs.Standing.{StandsAt}
 use Rattle.dbus_walk.specs.declared.spot.Layout.{Layout}
 use Rattle.dbus_walk.specs.declared.spot.Layout.TheVariants as kind
-use Rattle.dbus_walk.specs.declared.spot.Source.{Source}
+use Rattle.dbus_walk.specs.declared.spot.MessageBytes.{MessageBytes}
 use Rattle.dbus_walk.specs.declared.spot.Spot.{Spot}
 use Rattle.dbus_walk.proofs.ReadThere.{formed_utf8}
 use Rattle.dbus_show.specs.ShownValues.{value_text}
@@ -27,7 +27,7 @@ other_number UINT32 n other = absurd (other refl)
 other_number k n other = refl
 
 -- what is neither a number nor a text
-pub laid_other : (source : Source) (spot : Spot) (v : ValueTree) (rest : List ℕ) (l : Layout) → IsLaidOut source spot v rest l → ((x y : ℕ) → l ≡ kind.Number x y → ⊥) → ((x y : ℕ) → l ≡ kind.LongText x y → ⊥) → ((x : ℕ) → l ≡ kind.ShortText x → ⊥) → bare v ≡ value_text v
+pub laid_other : (source : MessageBytes) (spot : Spot) (v : ValueTree) (rest : List ℕ) (l : Layout) → IsLaidOut source spot v rest l → ((x y : ℕ) → l ≡ kind.Number x y → ⊥) → ((x y : ℕ) → l ≡ kind.LongText x y → ⊥) → ((x : ℕ) → l ≡ kind.ShortText x → ⊥) → bare v ≡ value_text v
 laid_other source spot v rest (kind.Number start size) p number long short = absurd (number start size refl)
 laid_other source spot v rest (kind.LongText start n) p number long short = absurd (long start n refl)
 laid_other source spot v rest (kind.ShortText n) p number long short = absurd (short n refl)
@@ -36,7 +36,7 @@ laid_other source spot v rest (kind.Array run) p number long short = ap bare p.i
 laid_other source spot v rest (kind.Struct start) p number long short = ap bare p.is ∙ sym (ap value_text p.is)
 laid_other source spot v rest (kind.Entry start) p number long short = ap bare p.is ∙ sym (ap value_text p.is)
 
-module _ {source : Source} {spot : Spot} {v : ValueTree} {rest : List ℕ} (s : StandsAt source spot v rest) where
+module _ {source : MessageBytes} {spot : Spot} {v : ValueTree} {rest : List ℕ} (s : StandsAt source spot v rest) where
   -- a text that stands there
   pub text_utf8 : {size start n : ℕ} → IsTextAt source spot v size start n → IsUtf8 (take n (drop (start + size) source.bytes.now))
   text_utf8 p = subst IsUtf8 (sym p.read) (formed_utf8 spot.depth_left p.code p.text (subst (λ (u : ValueTree). IsWellFormed spot.depth_left u) p.is s.formed))

@@ -12,7 +12,7 @@ use crate::plain::Plain;
 use dbus_message_model::field_table::is_known;
 use dbus_show::{Draft, write_field_name, write_integer};
 use dbus_value_text::{FieldForm, write_value};
-use dbus_walk::{Layout, Source, Spot, layout, text_in};
+use dbus_walk::{Layout, MessageBytes, Spot, layout, text_in};
 
 /// All fields, each after its name.
 pub(crate) struct Named;
@@ -27,7 +27,12 @@ impl FieldForm for Named {
         true
     }
 
-    fn field<D: Draft>(draft: &mut D, source: &Source<'_>, code: u8, spot: &Spot<'_>) -> usize {
+    fn field<D: Draft>(
+        draft: &mut D,
+        source: &MessageBytes<'_>,
+        code: u8,
+        spot: &Spot<'_>,
+    ) -> usize {
         write_field_name(draft, code);
         draft.push_code(b'=');
         if is_known(code) {
@@ -39,7 +44,7 @@ impl FieldForm for Named {
 
 /// Appends a text or a UINT32 alone, and of any other type the text of the value: the offset after
 /// the value.
-fn write_bare<D: Draft>(draft: &mut D, source: &Source<'_>, spot: &Spot<'_>) -> usize
+fn write_bare<D: Draft>(draft: &mut D, source: &MessageBytes<'_>, spot: &Spot<'_>) -> usize
     requires stands { StandsThere source.now spot.now }
     requires noted { AreLengths spot.now.types.now spot.now.lengths.now }
     ensures shown { (v : ValueTree) (rest : List ℕ) → StandsAt source.now spot.now v rest →

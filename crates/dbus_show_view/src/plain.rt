@@ -8,7 +8,7 @@ ghost use Rattle.dbus_show_view.specs.PlainLaws.{whole_text};
 
 use dbus_show::{Draft, write_hex, write_quoted};
 use dbus_value_text::{ValueForm, write_number_at, write_types};
-use dbus_walk::{Container, Source};
+use dbus_walk::{Container, MessageBytes};
 
 /// Values as text for a reader.
 pub(crate) struct Plain;
@@ -23,7 +23,7 @@ impl ValueForm for Plain {
     ghost separator_text = { codes ", " };
 
     #[inline]
-    fn number<D: Draft>(draft: &mut D, source: &Source<'_>, at: usize, code: u8) {
+    fn number<D: Draft>(draft: &mut D, source: &MessageBytes<'_>, at: usize, code: u8) {
         draft.push_code(code);
         draft.push_code(b':');
         write_number_at(draft, source.bytes, at, source.order, code);

@@ -11,7 +11,7 @@ ghost use Rattle.dbus_swap.specs.ByteswapLaws.{none_byteswapped, more_byteswappe
 
 use crate::byteswapper::Byteswapper;
 use crate::numbers::{byteswap_4, byteswap_number, byteswap_numbers};
-use dbus_walk::{Container, Run, Source, Spot, Visitor};
+use dbus_walk::{Container, MessageBytes, Run, Spot, Visitor};
 use std::convert::Infallible;
 
 impl Visitor for Byteswapper<'_> {
@@ -46,7 +46,7 @@ impl Visitor for Byteswapper<'_> {
     fn number(
         &mut self,
         _gathered: &mut (),
-        _source: &Source<'_>,
+        _source: &MessageBytes<'_>,
         _spot: &Spot<'_>,
         start: usize,
         size: u8,
@@ -59,7 +59,7 @@ impl Visitor for Byteswapper<'_> {
     fn long_text(
         &mut self,
         _gathered: &mut (),
-        _source: &Source<'_>,
+        _source: &MessageBytes<'_>,
         _spot: &Spot<'_>,
         start: usize,
         _size: usize,
@@ -72,7 +72,7 @@ impl Visitor for Byteswapper<'_> {
     fn short_text(
         &mut self,
         _gathered: &mut (),
-        _source: &Source<'_>,
+        _source: &MessageBytes<'_>,
         _spot: &Spot<'_>,
         _size: usize,
     ) -> Result<(), Infallible> {
@@ -83,7 +83,7 @@ impl Visitor for Byteswapper<'_> {
     fn whole_array(
         &mut self,
         _gathered: &mut (),
-        _source: &Source<'_>,
+        _source: &MessageBytes<'_>,
         _spot: &Spot<'_>,
         run: Run,
     ) -> Result<(), Infallible> {
@@ -96,7 +96,7 @@ impl Visitor for Byteswapper<'_> {
     fn open_array(
         &mut self,
         _gathered: &(),
-        _source: &Source<'_>,
+        _source: &MessageBytes<'_>,
         _spot: &Spot<'_>,
         start: usize,
     ) -> Result<(), Infallible> {

@@ -9,12 +9,12 @@ ghost use Rattle.dbus_swap.specs.Byteswapping.{other, Replaces};
 
 use crate::numbers::byteswap_4;
 use crate::values::byteswap_value;
-use dbus_walk::{FIELDS_START, Source, Spot, field_at, fields_end, lengths_of};
+use dbus_walk::{FIELDS_START, MessageBytes, Spot, field_at, fields_end, lengths_of};
 
 /// Byteswaps a message's fields, as `byteswap_value` does: of each the value alone, since its code
 /// and its signature are bytes.
 pub(crate) fn byteswap_fields(
-    source: &Source<'_>,
+    source: &MessageBytes<'_>,
     out: &mut [u8],
     depth_left: u8,
     table: &mut [u8; 255],

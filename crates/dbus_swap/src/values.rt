@@ -11,10 +11,10 @@ ghost use Rattle.dbus_swap.specs.Byteswapping.{other, Replaces};
 use crate::byteswapper::Byteswapper;
 use crate::numbers::byteswap_4;
 use dbus_value_model::gap;
-use dbus_walk::{Source, Spot, walk_value, walk_values};
+use dbus_walk::{MessageBytes, Spot, walk_value, walk_values};
 
 /// Byteswaps the length of the STRING or OBJECT_PATH at a spot, as `byteswap_value` does.
-fn byteswap_text(source: &Source<'_>, out: &mut [u8], spot: &Spot<'_>) -> usize
+fn byteswap_text(source: &MessageBytes<'_>, out: &mut [u8], spot: &Spot<'_>) -> usize
     requires stands { StandsThere source.now spot.now }
     requires code { (slice_index spot.now.types.now 0 ≡ 115) ⊎ (slice_index spot.now.types.now 0 ≡ 111) }
     requires as_long { length out.old ≡ length source.now.bytes.now }
@@ -29,7 +29,7 @@ fn byteswap_text(source: &Source<'_>, out: &mut [u8], spot: &Spot<'_>) -> usize
 }
 
 /// Byteswaps the value at a spot, if it is in `out` as in the source: the offset after it.
-pub(crate) fn byteswap_value(source: &Source<'_>, out: &mut [u8], spot: &Spot<'_>) -> usize
+pub(crate) fn byteswap_value(source: &MessageBytes<'_>, out: &mut [u8], spot: &Spot<'_>) -> usize
     requires stands { StandsThere source.now spot.now }
     requires noted { AreLengths spot.now.types.now spot.now.lengths.now }
     requires as_long { length out.old ≡ length source.now.bytes.now }
@@ -50,7 +50,7 @@ pub(crate) fn byteswap_value(source: &Source<'_>, out: &mut [u8], spot: &Spot<'_
 }
 
 /// Byteswaps the values at a spot, one after another, as `byteswap_value` does.
-pub(crate) fn byteswap_values(source: &Source<'_>, out: &mut [u8], spot: &Spot<'_>)
+pub(crate) fn byteswap_values(source: &MessageBytes<'_>, out: &mut [u8], spot: &Spot<'_>)
     requires stand { AllStandThere source.now spot.now }
     requires noted { AreLengths spot.now.types.now spot.now.lengths.now }
     requires as_long { length out.old ≡ length source.now.bytes.now }

@@ -11,7 +11,7 @@ use crate::opening::{element_type, open_elements, open_entry, open_struct, open_
 use crate::placing::{built, place};
 use crate::texts::{long_text_at, short_text_at};
 use dbus_value_model::Value;
-use dbus_walk::{Container, Run, Source, Spot, Visitor};
+use dbus_walk::{Container, MessageBytes, Run, Spot, Visitor};
 use std::alloc::{AllocError, Allocator};
 
 impl<A: Allocator + Copy> Visitor for Builder<A> {
@@ -44,7 +44,7 @@ impl<A: Allocator + Copy> Visitor for Builder<A> {
     fn number(
         &mut self,
         gathered: &mut Gathered<A>,
-        source: &Source<'_>,
+        source: &MessageBytes<'_>,
         spot: &Spot<'_>,
         start: usize,
         _size: u8,
@@ -59,7 +59,7 @@ impl<A: Allocator + Copy> Visitor for Builder<A> {
     fn long_text(
         &mut self,
         gathered: &mut Gathered<A>,
-        source: &Source<'_>,
+        source: &MessageBytes<'_>,
         spot: &Spot<'_>,
         start: usize,
         size: usize,
@@ -71,7 +71,7 @@ impl<A: Allocator + Copy> Visitor for Builder<A> {
     fn short_text(
         &mut self,
         gathered: &mut Gathered<A>,
-        source: &Source<'_>,
+        source: &MessageBytes<'_>,
         spot: &Spot<'_>,
         size: usize,
     ) -> Result<(), AllocError> {
@@ -82,7 +82,7 @@ impl<A: Allocator + Copy> Visitor for Builder<A> {
     fn whole_array(
         &mut self,
         gathered: &mut Gathered<A>,
-        source: &Source<'_>,
+        source: &MessageBytes<'_>,
         spot: &Spot<'_>,
         run: Run,
     ) -> Result<(), AllocError> {
@@ -105,7 +105,7 @@ impl<A: Allocator + Copy> Visitor for Builder<A> {
     fn open_array(
         &mut self,
         gathered: &Gathered<A>,
-        source: &Source<'_>,
+        source: &MessageBytes<'_>,
         _spot: &Spot<'_>,
         start: usize,
     ) -> Result<Gathered<A>, AllocError> {

@@ -18,7 +18,7 @@ use arrayvec::ArrayVec;
 use dbus_types::SigType;
 use dbus_value_checker::{ValueChecker, rest_after};
 use dbus_value_model::{Bounds, Fault, Got, Limits, Order, Refusal};
-use dbus_walk::{Source, Spot, lengths_of};
+use dbus_walk::{MessageBytes, Spot, lengths_of};
 use std::alloc::Allocator;
 
 /// The value of a type at a place, and the place after it, as [`get_within`] says under the limits
@@ -116,7 +116,7 @@ pub fn get_within<A: Allocator + Copy>(
         Ok(false) => return Ok(Got::Partial),
         Err(fault) => return Err(Refusal::Format(fault)),
     }
-    match build_value(alloc, &Source { bytes, order }, &spot, wanted) {
+    match build_value(alloc, &MessageBytes { bytes, order }, &spot, wanted) {
         Ok((value, next)) => Ok(Got::Done(value, next)),
         Err(_) => Err(Refusal::Memory),
     }

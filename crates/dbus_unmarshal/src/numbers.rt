@@ -16,12 +16,12 @@ ghost use Rattle.dbus_unmarshal.specs.Builds.{AreBuilt};
 
 use crate::placing::push_part;
 use dbus_value_model::Value;
-use dbus_walk::{Source, Spot};
+use dbus_walk::{MessageBytes, Spot};
 use std::alloc::{AllocError, Allocator};
 
 /// The number that begins at `start`, of the type that has this code.
 #[inline(always)]
-pub(crate) fn number_at<A: Allocator>(source: &Source<'_>, start: usize, code: u8) -> Value<A>
+pub(crate) fn number_at<A: Allocator>(source: &MessageBytes<'_>, start: usize, code: u8) -> Value<A>
     requires inside { (k : NumberCode) → number_code k ≡ code → start + width k ≤ length source.now.bytes.now }
     requires known { (k : NumberCode) × (number_code k ≡ code) }
     ensures built { (k : NumberCode) (n : ℕ) → number_code k ≡ code → IsNumber k n →
@@ -48,7 +48,7 @@ pub(crate) fn number_at<A: Allocator>(source: &Source<'_>, start: usize, code: u
 /// made for all of them at once.
 pub(crate) fn numbers_up_to<A: Allocator + Copy>(
     alloc: A,
-    source: &Source<'_>,
+    source: &MessageBytes<'_>,
     spot: &Spot<'_>,
     end: usize,
     size: u8,

@@ -9,14 +9,14 @@ ghost use Rattle.dbus_walk.specs.Standing.{StandsAt, StandsThere};
 ghost use Rattle.dbus_unmarshal.specs.Builds.{IsBuilt};
 
 use dbus_value_model::Value;
-use dbus_walk::{Source, Spot, text_in};
+use dbus_walk::{MessageBytes, Spot, text_in};
 use std::alloc::{AllocError, Allocator};
 
 /// The STRING or OBJECT_PATH of `size` bytes at a spot. Its length is at `start`.
 #[inline(always)]
 pub(crate) fn long_text_at<A: Allocator + Copy>(
     alloc: A,
-    source: &Source<'_>,
+    source: &MessageBytes<'_>,
     spot: &Spot<'_>,
     start: usize,
     size: usize,
@@ -39,7 +39,7 @@ pub(crate) fn long_text_at<A: Allocator + Copy>(
 #[inline(always)]
 pub(crate) fn short_text_at<A: Allocator + Copy>(
     alloc: A,
-    source: &Source<'_>,
+    source: &MessageBytes<'_>,
     spot: &Spot<'_>,
     size: usize,
 ) -> Result<Value<A>, AllocError>

@@ -18,7 +18,7 @@ use crate::placing::{fields_of, held_value};
 use crate::texts::{long_text_at, short_text_at};
 use dbus_types::{SigType, spelled_type, spelled_types};
 use dbus_value_model::Value;
-use dbus_walk::{Layout, Source, Spot, layout, lengths_of, walk_value, walk_values};
+use dbus_walk::{Layout, MessageBytes, Spot, layout, lengths_of, walk_value, walk_values};
 use std::alloc::{AllocError, Allocator};
 use std::sync::Arc;
 
@@ -28,7 +28,7 @@ use std::sync::Arc;
 /// `AllocError` if an allocation failed. D-Bus Specification, "Marshaling (Wire Format)".
 pub fn build_value<A: Allocator + Copy>(
     alloc: A,
-    source: &Source<'_>,
+    source: &MessageBytes<'_>,
     spot: &Spot<'_>,
     wanted: &SigType<A>,
 ) -> Result<(Value<A>, usize), AllocError>
@@ -51,7 +51,7 @@ pub fn build_value<A: Allocator + Copy>(
 /// `AllocError` if an allocation failed. D-Bus Specification, "Marshaling (Wire Format)".
 pub fn build_values<A: Allocator + Copy>(
     alloc: A,
-    source: &Source<'_>,
+    source: &MessageBytes<'_>,
     spot: &Spot<'_>,
 ) -> Result<Vec<Value<A>, A>, AllocError>
     requires stand { AllStandThere source.now spot.now }
@@ -74,7 +74,7 @@ pub fn build_values<A: Allocator + Copy>(
 /// `AllocError` if an allocation failed. D-Bus Specification, "Marshaling (Wire Format)".
 pub fn build_typed<A: Allocator + Copy>(
     alloc: A,
-    source: &Source<'_>,
+    source: &MessageBytes<'_>,
     at: usize,
     types: &[u8],
     depth_left: u8,
@@ -102,7 +102,7 @@ pub fn build_typed<A: Allocator + Copy>(
 /// without its type and without a walk.
 fn build_at<A: Allocator + Copy>(
     alloc: A,
-    source: &Source<'_>,
+    source: &MessageBytes<'_>,
     spot: &Spot<'_>,
 ) -> Result<(Value<A>, usize), AllocError>
     requires stands { StandsThere source.now spot.now }

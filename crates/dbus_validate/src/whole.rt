@@ -8,12 +8,12 @@ ghost use Rattle.dbus_value_model.specs.Values.{MoreValues, NoValues};
 ghost use Rattle.dbus_message_model.specs.Messages.{MessageTree, body_start, field_array};
 ghost use Rattle.dbus_walk.specs.Fields.{FieldsStand};
 ghost use Rattle.dbus_walk.specs.Standing.{AllStandAt};
-ghost use Rattle.dbus_walk.specs.declared.spot.Source.{Source};
+ghost use Rattle.dbus_walk.specs.declared.spot.MessageBytes.{MessageBytes};
 ghost use Rattle.dbus_validate.specs.Wholes.{WasValidated, IsOwn, IsWholeOf};
 
 use crate::validating::Validated;
 use dbus_value_model::Limits;
-use dbus_walk::{Source, Spot, lengths_of};
+use dbus_walk::{MessageBytes, Spot, lengths_of};
 
 /// The offset of the array of the header fields.
 const FIELDS_AT: usize = 12;
@@ -34,13 +34,13 @@ pub struct Whole<'a> {
 
 impl<'a> Whole<'a> {
     /// The bytes of the message, without those after it.
-    pub fn source(&self) -> Source<'a>
+    pub fn source(&self) -> MessageBytes<'a>
         requires validated { WasValidated self.now }
         ensures own { IsOwn self.now result }
         ensures fields { (m : MessageTree) → IsWholeOf self.now m →
             (rest : List ℕ) × FieldsStand result self.now.limits.depth m.fields rest }
     {
-        Source {
+        MessageBytes {
             bytes: &self.bytes[..self.validated.length],
             order: self.validated.order,
         }
@@ -51,7 +51,7 @@ impl<'a> Whole<'a> {
         requires validated { WasValidated self.now }
         ensures begins { result.at ≡ 12 }
         ensures noted { AreLengths result.types.now result.lengths.now }
-        ensures stand { (source : Source) (m : MessageTree) → IsOwn self.now source → IsWholeOf self.now m →
+        ensures stand { (source : MessageBytes) (m : MessageTree) → IsOwn self.now source → IsWholeOf self.now m →
             (rest : List ℕ) × AllStandAt source result (MoreValues (field_array m.fields) NoValues) rest }
     {
         Spot {
@@ -67,7 +67,7 @@ impl<'a> Whole<'a> {
         requires validated { WasValidated self.now }
         ensures begins { (m : MessageTree) → IsWholeOf self.now m → result.at ≡ body_start self.now.validated.now.order m.fields }
         ensures noted { AreLengths result.types.now result.lengths.now }
-        ensures stand { (source : Source) (m : MessageTree) → IsOwn self.now source → IsWholeOf self.now m →
+        ensures stand { (source : MessageBytes) (m : MessageTree) → IsOwn self.now source → IsWholeOf self.now m →
             AllStandAt source result m.body [] }
     {
         let types = self.validated.fields.signature(self.bytes);

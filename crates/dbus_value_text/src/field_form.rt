@@ -8,7 +8,7 @@ ghost use Rattle.dbus_walk.specs.Standing.{StandsAt, StandsThere, end_of};
 ghost use Rattle.dbus_value_text.specs.Gaining.{GainsSome};
 
 use dbus_show::Draft;
-use dbus_walk::{Source, Spot};
+use dbus_walk::{MessageBytes, Spot};
 
 /// A form in which header fields are written: which fields it takes, by their codes, and what it
 /// writes of each.
@@ -25,7 +25,7 @@ pub trait FieldForm {
 
     /// Appends the field that has this code, and whose value is at a spot: the offset after the
     /// value.
-    fn field<D: Draft>(draft: &mut D, source: &Source<'_>, code: u8, spot: &Spot<'_>) -> usize
+    fn field<D: Draft>(draft: &mut D, source: &MessageBytes<'_>, code: u8, spot: &Spot<'_>) -> usize
         requires taken { is_taken code ≡ true }
         requires stands { StandsThere source.now spot.now }
         requires noted { AreLengths spot.now.types.now spot.now.lengths.now }

@@ -14,7 +14,7 @@ ghost use Rattle.dbus_value_text.specs.Gaining.{GainsSome};
 ghost use Rattle.dbus_value_text.specs.Forms.{AreTexts, IsListed, joined, told_types};
 
 use dbus_show::Draft;
-use dbus_walk::{Container, Source};
+use dbus_walk::{Container, MessageBytes};
 
 /// A form in which values are written: what it writes of a number, of a text and of an array of
 /// BYTE, and what comes around and between the parts of a container.
@@ -34,7 +34,7 @@ pub trait ValueForm {
     ghost separator_text: { List ℕ };
 
     /// Appends the number at `at`, of the type that has this code.
-    fn number<D: Draft>(draft: &mut D, source: &Source<'_>, at: usize, code: u8)
+    fn number<D: Draft>(draft: &mut D, source: &MessageBytes<'_>, at: usize, code: u8)
         requires ascii { code < 128 }
         requires inside { (k : NumberCode) → number_code k ≡ code → at + width k ≤ length source.now.bytes.now }
         ensures written { (k : NumberCode) → number_code k ≡ code →

@@ -11,13 +11,13 @@ ghost use Rattle.dbus_value_text.specs.Gaining.{GainsSome};
 use crate::value_form::ValueForm;
 use crate::writer::Writer;
 use dbus_show::Draft;
-use dbus_walk::{Source, Spot, walk_value};
+use dbus_walk::{MessageBytes, Spot, walk_value};
 use std::marker::PhantomData;
 
 /// Appends the text of the value at a spot, in a form: the offset after the value.
 pub fn write_value<F: ValueForm, D: Draft>(
     draft: &mut D,
-    source: &Source<'_>,
+    source: &MessageBytes<'_>,
     spot: &Spot<'_>,
 ) -> usize
     requires stands { StandsThere source.now spot.now }

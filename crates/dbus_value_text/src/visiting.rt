@@ -10,7 +10,7 @@ ghost use Rattle.dbus_value_text.specs.WritingLaws.{none_written, more_written, 
 use crate::value_form::ValueForm;
 use crate::writer::Writer;
 use dbus_show::Draft;
-use dbus_walk::{Container, Run, Source, Spot, Visitor, text_in};
+use dbus_walk::{Container, MessageBytes, Run, Spot, Visitor, text_in};
 use std::convert::Infallible;
 
 impl<D: Draft, F: ValueForm> Visitor for Writer<'_, D, F> {
@@ -43,7 +43,7 @@ impl<D: Draft, F: ValueForm> Visitor for Writer<'_, D, F> {
     fn number(
         &mut self,
         _gathered: &mut (),
-        source: &Source<'_>,
+        source: &MessageBytes<'_>,
         spot: &Spot<'_>,
         start: usize,
         _size: u8,
@@ -56,7 +56,7 @@ impl<D: Draft, F: ValueForm> Visitor for Writer<'_, D, F> {
     fn long_text(
         &mut self,
         _gathered: &mut (),
-        source: &Source<'_>,
+        source: &MessageBytes<'_>,
         spot: &Spot<'_>,
         start: usize,
         size: usize,
@@ -73,7 +73,7 @@ impl<D: Draft, F: ValueForm> Visitor for Writer<'_, D, F> {
     fn short_text(
         &mut self,
         _gathered: &mut (),
-        source: &Source<'_>,
+        source: &MessageBytes<'_>,
         spot: &Spot<'_>,
         size: usize,
     ) -> Result<(), Infallible> {
@@ -85,7 +85,7 @@ impl<D: Draft, F: ValueForm> Visitor for Writer<'_, D, F> {
     fn whole_array(
         &mut self,
         _gathered: &mut (),
-        source: &Source<'_>,
+        source: &MessageBytes<'_>,
         _spot: &Spot<'_>,
         run: Run,
     ) -> Result<(), Infallible> {
@@ -97,7 +97,7 @@ impl<D: Draft, F: ValueForm> Visitor for Writer<'_, D, F> {
     fn open_array(
         &mut self,
         _gathered: &(),
-        _source: &Source<'_>,
+        _source: &MessageBytes<'_>,
         spot: &Spot<'_>,
         _start: usize,
     ) -> Result<(), Infallible> {

@@ -12,7 +12,7 @@ use Rattle.dbus_value_model.specs.Spelling.{spelling}
 use Rattle.dbus_value_model.specs.Values.{ValueTree, ValueTrees, NumberValue, TextValue, ArrayValue, NoValues, MoreValues, type_of, IsNumber, IsWellFormed}
 use Rattle.dbus_value_model.specs.ValueViews.{byte_values}
 use Rattle.dbus_walk.specs.declared.spot.Run.{Run}
-use Rattle.dbus_walk.specs.declared.spot.Source.{Source}
+use Rattle.dbus_walk.specs.declared.spot.MessageBytes.{MessageBytes}
 use Rattle.dbus_walk.specs.declared.spot.Spot.{Spot}
 use Rattle.dbus_walk.specs.Layouts.{IsNumberAt, IsTextAt, IsVariantAt, IsArrayAt, of_elements}
 use Rattle.dbus_walk.specs.Standing.{Stands, AllStand, StandsAt}
@@ -55,7 +55,7 @@ number_apart order bytes at v (views.Entry e) k n is seen = let other = seen.3 i
 number_apart order bytes at v (views.Variant e) k n is seen = let other = seen.2 in absurd cc
 number_apart order bytes at v view k n is seen = tt
 
-module _ (source : Source) (spot : Spot) (v : ValueTree) (rest : List ℕ) (s : StandsAt source spot v rest) where
+module _ (source : MessageBytes) (spot : Spot) (v : ValueTree) (rest : List ℕ) (s : StandsAt source spot v rest) where
   coded : first_code (type_of v) ≡ get_or spot.types.now 0 0
   coded = code_is (type_of v) spot.types.now s.text
 

@@ -9,7 +9,7 @@ use Rattle.dbus_value_model.specs.declared.order.Order.{Order}
 use Rattle.dbus_value_model.specs.Spelling.{spelling}
 use Rattle.dbus_value_model.specs.Values.{ValueTree, ValueTrees, NumberValue, value_trees}
 use Rattle.dbus_walk.specs.Standing.{AllStand, ElementsStand}
-use Rattle.dbus_walk.specs.declared.spot.Source.{Source}
+use Rattle.dbus_walk.specs.declared.spot.MessageBytes.{MessageBytes}
 use Rattle.dbus_walk.specs.declared.spot.Spot.{Spot}
 
 -- several values: the bytes of the message and their order, where the first value begins, the types
@@ -22,7 +22,7 @@ pub record ValuesState : Type 0 where
   pub depth_left : ℕ
 
 -- values that stand at a spot of a message's bytes
-abbrev pub values_at : Source → Spot → ValuesState
+abbrev pub values_at : MessageBytes → Spot → ValuesState
 values_at source spot = record { order = source.order; bytes = source.bytes.now; at = spot.at; types = spot.types.now; depth_left = spot.depth_left }
 
 -- these trees stand there, one of each type, and rest are the bytes after them

@@ -7,14 +7,14 @@ ghost use Rattle.dbus_value_model.specs.Values.{ValueTrees};
 use crate::passing::pass;
 use crate::view::ValueView;
 use dbus_value_model::{Order, gap};
-use dbus_walk::{Run, Source, Spot, number_width};
+use dbus_walk::{MessageBytes, Run, Spot, number_width};
 use std::marker::Model;
 
 /// Elements of an array, which follow one another. All have one type. D-Bus Specification,
 /// "Marshaling (Wire Format)".
 #[derive(Drop)]
 pub struct Elements<'a> {
-    source: Source<'a>,
+    source: MessageBytes<'a>,
     at: usize,
     end: usize,
     element: &'a [u8],
@@ -52,7 +52,7 @@ impl<'a> Elements<'a> {
     /// The elements of a run in the bytes, which have this type. At most `depth_left` containers
     /// may be open in each.
     pub(crate) fn new(
-        source: &Source<'a>,
+        source: &MessageBytes<'a>,
         run: Run,
         element: &'a [u8],
         depth_left: u8,

@@ -11,11 +11,11 @@ use crate::seeing::{array_view, number_view};
 use crate::values::Values;
 use crate::view::ValueView;
 use dbus_types::lengths_in;
-use dbus_walk::{Layout, Source, Spot, layout, skip_value, text_in};
+use dbus_walk::{Layout, MessageBytes, Spot, layout, skip_value, text_in};
 
 /// How the value at a spot is seen, and the offset after it. Only a container other than an array
 /// is gone through.
-pub(crate) fn pass<'a>(source: &Source<'a>, spot: &Spot<'a>) -> (ValueView<'a>, usize)
+pub(crate) fn pass<'a>(source: &MessageBytes<'a>, spot: &Spot<'a>) -> (ValueView<'a>, usize)
     requires stands { StandsThere source.now spot.now }
     requires few { length spot.now.types.now ≤ 255 }
     ensures seen { (v : ValueTree) (rest : List ℕ) → StandsAt source.now spot.now v rest →
@@ -68,7 +68,7 @@ pub(crate) fn pass<'a>(source: &Source<'a>, spot: &Spot<'a>) -> (ValueView<'a>, 
 }
 
 /// The offset after a struct or a dict entry. How long the types in it are is noted first.
-fn after_parts(source: &Source<'_>, spot: &Spot<'_>) -> usize
+fn after_parts(source: &MessageBytes<'_>, spot: &Spot<'_>) -> usize
     requires stands { StandsThere source.now spot.now }
     requires few { length spot.now.types.now ≤ 255 }
     ensures { (v : ValueTree) (rest : List ℕ) → StandsAt source.now spot.now v rest →

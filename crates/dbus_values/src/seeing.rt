@@ -13,10 +13,10 @@ ghost use Rattle.dbus_values.specs.States.{weight};
 
 use crate::elements::Elements;
 use crate::view::ValueView;
-use dbus_walk::{Run, Source, Spot};
+use dbus_walk::{MessageBytes, Run, Spot};
 
 /// How an array is seen, whose elements are there.
-pub(crate) fn array_view<'a>(source: &Source<'a>, spot: &Spot<'a>, run: Run) -> ValueView<'a>
+pub(crate) fn array_view<'a>(source: &MessageBytes<'a>, spot: &Spot<'a>, run: Run) -> ValueView<'a>
     requires stands { StandsThere source.now spot.now }
     requires few { length spot.now.types.now ≤ 255 }
     requires laid { (v : ValueTree) (rest : List ℕ) → StandsAt source.now spot.now v rest →
@@ -35,7 +35,7 @@ pub(crate) fn array_view<'a>(source: &Source<'a>, spot: &Spot<'a>, run: Run) -> 
 
 /// How the number is seen that begins at `start`, of the type that has this code.
 #[inline]
-pub(crate) fn number_view<'a>(source: &Source<'_>, start: usize, code: u8) -> ValueView<'a>
+pub(crate) fn number_view<'a>(source: &MessageBytes<'_>, start: usize, code: u8) -> ValueView<'a>
     requires inside { (k : NumberCode) → number_code k ≡ code → start + width k ≤ length source.now.bytes.now }
     requires known { (k : NumberCode) × (number_code k ≡ code) }
     ensures seen { (k : NumberCode) (n : ℕ) → number_code k ≡ code → IsNumber k n →

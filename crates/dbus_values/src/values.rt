@@ -7,7 +7,7 @@ ghost use Rattle.dbus_value_model.specs.Values.{ValueTrees, NoValues};
 use crate::passing::pass;
 use crate::view::ValueView;
 use dbus_types::type_end;
-use dbus_walk::{Source, Spot};
+use dbus_walk::{MessageBytes, Spot};
 use std::marker::Model;
 
 /// Values of a message that follow one another, one of each type of a signature: the fields of a
@@ -15,7 +15,7 @@ use std::marker::Model;
 /// a body. D-Bus Specification, "Marshaling (Wire Format)".
 #[derive(Drop)]
 pub struct Values<'a> {
-    source: Source<'a>,
+    source: MessageBytes<'a>,
     at: usize,
     types: &'a [u8],
     depth_left: u8,
@@ -49,7 +49,7 @@ impl<'a> Values<'a> {
 
     /// The values in the bytes from `at` on, one of each type of the signature. At most
     /// `depth_left` containers may be open in them.
-    pub fn new(source: &Source<'a>, at: usize, types: &'a [u8], depth_left: u8) -> Values<'a>
+    pub fn new(source: &MessageBytes<'a>, at: usize, types: &'a [u8], depth_left: u8) -> Values<'a>
         requires { SomeAreLeft (record {
           order = source.now.order;
           bytes = source.now.bytes.now;
@@ -86,7 +86,7 @@ impl<'a> Values<'a> {
     }
 
     /// The bytes, and where in them the values are. How long their types are is not noted there.
-    pub fn place(&self) -> (Source<'a>, Spot<'a>)
+    pub fn place(&self) -> (MessageBytes<'a>, Spot<'a>)
         ensures place { values_at result.0 result.1 ≡ self.now }
         ensures some { SomeAreLeft self.now }
     {

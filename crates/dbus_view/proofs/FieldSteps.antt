@@ -8,7 +8,7 @@ use Rattle.dbus_values.specs.States.{ValuesState, AreLeft, IsAfter}
 use Rattle.dbus_values.proofs.Views.{one_left}
 use Rattle.dbus_walk.specs.Fields.{FieldsLeft, FieldStands, IsFieldAt, field_end}
 use Rattle.dbus_walk.specs.declared.fields.FieldSpot.{FieldSpot}
-use Rattle.dbus_walk.specs.declared.spot.Source.{Source}
+use Rattle.dbus_walk.specs.declared.spot.MessageBytes.{MessageBytes}
 use Rattle.dbus_walk.proofs.FieldParts.{FirstField, first_field}
 
 single_value : (depth_left : ℕ) (f : FieldTree) → IsWellFormed depth_left (field_struct f) → IsSingleType (type_of f.value)
@@ -16,7 +16,7 @@ single_value zero f h = absurd h
 single_value (suc zero) f h = absurd h.1.0
 single_value (suc (suc depth_left)) f h = h.1.0.0
 
-module _ {source : Source} {depth_left at end : ℕ} {fs : List FieldTree} {rest : List ℕ} (l : FieldsLeft source depth_left at end fs rest) (some : at ≡ end → ⊥) where
+module _ {source : MessageBytes} {depth_left at end : ℕ} {fs : List FieldTree} {rest : List ℕ} (l : FieldsLeft source depth_left at end fs rest) (some : at ≡ end → ⊥) where
   pub first : FirstField source depth_left at end rest fs
   first = first_field fs l (omega (arith, l.stand.ends, some))
 

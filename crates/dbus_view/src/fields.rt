@@ -5,7 +5,7 @@ ghost use Rattle.std.specs.Prelude.{◌-◌, ℕ, List};
 ghost use Rattle.dbus_message_model.specs.Messages.{FieldTree};
 
 use dbus_values::Values;
-use dbus_walk::{FIELDS_START, Source, field_at, fields_end};
+use dbus_walk::{FIELDS_START, MessageBytes, field_at, fields_end};
 use std::marker::Model;
 
 /// A header field, seen in place. D-Bus Specification, "Header Fields".
@@ -21,7 +21,7 @@ pub struct FieldView<'a> {
 /// "Header Fields".
 #[derive(Drop)]
 pub struct Fields<'a> {
-    source: Source<'a>,
+    source: MessageBytes<'a>,
     at: usize,
     end: usize,
     depth_left: u8,
@@ -52,7 +52,7 @@ impl<'a> Fields<'a> {
     ghost use Rattle.dbus_view.specs.FieldViews.{FieldsAreLeft};
 
     /// The fields of a message, in which at most `depth_left` containers may be open.
-    pub(crate) fn new(source: &Source<'a>, depth_left: u8) -> Fields<'a>
+    pub(crate) fn new(source: &MessageBytes<'a>, depth_left: u8) -> Fields<'a>
         requires { (fs : List FieldTree) × (rest : List ℕ) × FieldsStand source.now depth_left fs rest }
         ensures { (fs : List FieldTree) (rest : List ℕ) →
             FieldsStand source.now depth_left fs rest → FieldsAreLeft result fs }

@@ -22,7 +22,7 @@ use dbus_message_model::field_code::{
 use dbus_validate::{Validated, validate};
 use dbus_value_model::{Fault, Limits, Order, Reason};
 use dbus_values::Values;
-use dbus_walk::{Source, text_in};
+use dbus_walk::{MessageBytes, text_in};
 use std::marker::Model;
 
 /// A view of a message, which borrows its bytes. D-Bus Specification, "Message Format".
@@ -231,7 +231,7 @@ impl<'a> MessageView<'a> {
         ensures left { (order : Order) (m : MessageTree) → Views self.now order m → FieldsAreLeft result m.fields }
         ensures one { ViewsOne self.now }
     {
-        let source = Source {
+        let source = MessageBytes {
             bytes: self.bytes,
             order: self.validated.order,
         };
@@ -256,7 +256,7 @@ impl<'a> MessageView<'a> {
         ensures left { (order : Order) (m : MessageTree) → Views self.now order m → AreLeft result m.body [] }
         ensures one { ViewsOne self.now }
     {
-        let source = Source {
+        let source = MessageBytes {
             bytes: self.bytes,
             order: self.validated.order,
         };

@@ -15,7 +15,7 @@ use Rattle.dbus_walk.specs.Containers.{inside}
 use Rattle.dbus_walk.specs.Fields.{FieldsStand, FieldsLeft, FieldStands, field_types, field_end}
 use Rattle.dbus_walk.specs.Standing.{Stands, AllStand, ElementsStand}
 use Rattle.dbus_walk.specs.declared.container.Container.TheVariants as kind
-use Rattle.dbus_walk.specs.declared.spot.Source.{Source}
+use Rattle.dbus_walk.specs.declared.spot.MessageBytes.{MessageBytes}
 use Rattle.dbus_walk.proofs.Containers.{variant_parts, array_stands, array_found, elements_there}
 use Rattle.dbus_walk.proofs.Enclosed.{struct_parts}
 use Rattle.dbus_walk.proofs.Fronts.{parts_end}
@@ -26,7 +26,7 @@ use Rattle.dbus_walk.proofs.Seams.{stands_positive}
 
 -- ---- a field
 
-module _ (source : Source) (depth_left at : ℕ) (f : FieldTree) (rest : List ℕ) (s : FieldStands source depth_left at f rest) (start : ℕ) (begins : start ≡ at + gap_to 8 at) where
+module _ (source : MessageBytes) (depth_left at : ℕ) (f : FieldTree) (rest : List ℕ) (s : FieldStands source depth_left at f rest) (start : ℕ) (begins : start ≡ at + gap_to 8 at) where
   abbrev bytes : List ℕ
   bytes = source.bytes.now
 
@@ -100,7 +100,7 @@ module _ (source : Source) (depth_left at : ℕ) (f : FieldTree) (rest : List �
       }
 
 -- whatever field it is
-pub field_inside : {source : Source} {depth_left at : ℕ} → (f : FieldTree) × (rest : List ℕ) × FieldStands source depth_left at f rest → {g : ℕ} → g ≡ gap_to 8 at
+pub field_inside : {source : MessageBytes} {depth_left at : ℕ} → (f : FieldTree) × (rest : List ℕ) × FieldStands source depth_left at f rest → {g : ℕ} → g ≡ gap_to 8 at
     → (3 ≤ depth_left) × (at + g + 1 + 1 + get_or source.bytes.now (at + g + 1) 0 + 1 ≤ length source.bytes.now)
 field_inside {source} {depth_left} {at} (f, rest, s) {g} e = let p = field_apart source depth_left at f rest s (at + g) (omega (arith, e)) _ refl in (p.deep, p.inside)
 
@@ -110,7 +110,7 @@ gaps : (gap_to 4 12 ≡ 0) × (gap_to 8 16 ≡ 0)
 unfolding gap_to
 gaps = (refl, refl)
 
-module _ (source : Source) (depth_left : ℕ) (fs : List FieldTree) (rest : List ℕ) (s : FieldsStand source depth_left fs rest) where
+module _ (source : MessageBytes) (depth_left : ℕ) (fs : List FieldTree) (rest : List ℕ) (s : FieldsStand source depth_left fs rest) where
   pub fields_apart : (n : ℕ) → n ≡ number_of source.order (take 4 (drop 12 source.bytes.now)) → (16 + n ≤ length source.bytes.now) × FieldsLeft source depth_left 16 (16 + n) fs rest
   fields_apart n read =
       let p = array_stands s refl in
@@ -126,18 +126,18 @@ module _ (source : Source) (depth_left : ℕ) (fs : List FieldTree) (rest : List
 -- ---- fields one after another
 
 -- Of the fields fs, some are left, from `place` on; of those before them Q holds.
-pub record Walked (source : Source) (depth_left end : ℕ) (fs : List FieldTree) (rest : List ℕ) (Q : List FieldTree → Type 0) (place : ℕ) : Type 0 where
+pub record Walked (source : MessageBytes) (depth_left end : ℕ) (fs : List FieldTree) (rest : List ℕ) (Q : List FieldTree → Type 0) (place : ℕ) : Type 0 where
   pub left : List FieldTree
   pub stand : FieldsLeft source depth_left place end left rest
   pub done : List FieldTree
   pub joins : fs ≡ done ++ left
   pub walked : Q done
 
-pub none_walked : (source : Source) (depth_left at end : ℕ) (fs : List FieldTree) (rest : List ℕ) (Q : List FieldTree → Type 0) → FieldsLeft source depth_left at end fs rest → Q [] → Walked source depth_left end fs rest Q at
+pub none_walked : (source : MessageBytes) (depth_left at end : ℕ) (fs : List FieldTree) (rest : List ℕ) (Q : List FieldTree → Type 0) → FieldsLeft source depth_left at end fs rest → Q [] → Walked source depth_left end fs rest Q at
 none_walked source depth_left at end fs rest Q stand walked = record { left = fs; stand = stand; done = []; joins = refl; walked = walked }
 
 -- the first of some fields, and those after it
-pub record FirstField (source : Source) (depth_left place end : ℕ) (rest : List ℕ) (fs : List FieldTree) : Type 0 where
+pub record FirstField (source : MessageBytes) (depth_left place end : ℕ) (rest : List ℕ) (fs : List FieldTree) : Type 0 where
   pub f : FieldTree
   pub others : List FieldTree
   pub begins : fs ≡ f ∷ others
@@ -146,7 +146,7 @@ pub record FirstField (source : Source) (depth_left place end : ℕ) (rest : Lis
   pub some : place < field_end source place f
   pub left : FieldsLeft source depth_left (field_end source place f) end others rest
 
-module _ {source : Source} {depth_left place end : ℕ} {rest : List ℕ} where
+module _ {source : MessageBytes} {depth_left place end : ℕ} {rest : List ℕ} where
   pub first_field : (fs : List FieldTree) → FieldsLeft source depth_left place end fs rest → place < end → FirstField source depth_left place end rest fs
   first_field [] l lt = absurd (omega (arith, lt, none_ends l.stand))
   first_field (f ∷ others) l lt =

@@ -10,7 +10,7 @@ use Rattle.dbus_value_model.specs.Spelling.{spellings}
 use Rattle.dbus_value_model.specs.Values.{ValueTree, NoValues, MoreValues}
 use Rattle.dbus_walk.specs.declared.container.Container.TheVariants as kind
 use Rattle.dbus_walk.specs.declared.spot.Layout.{Layout}
-use Rattle.dbus_walk.specs.declared.spot.Source.{Source}
+use Rattle.dbus_walk.specs.declared.spot.MessageBytes.{MessageBytes}
 use Rattle.dbus_walk.specs.declared.spot.Spot.{Spot}
 use Rattle.dbus_walk.specs.Containers.{inside}
 use Rattle.dbus_walk.specs.Layouts.{of_parts, IsNumberAt, IsTextAt, IsVariantAt, IsArrayAt, IsStructAt, IsEntryAt, IsLaidOut}
@@ -34,11 +34,11 @@ short_coded SIGNATURE w e = e
 short_coded k w e = absurd (omega arith)
 
 -- a layout is another's
-pub laid_as : (source : Source) (spot : Spot) {l m : Layout} → l ≡ m → ((v : ValueTree) (rest : List ℕ) → StandsAt source spot v rest → IsLaidOut source spot v rest l)
+pub laid_as : (source : MessageBytes) (spot : Spot) {l m : Layout} → l ≡ m → ((v : ValueTree) (rest : List ℕ) → StandsAt source spot v rest → IsLaidOut source spot v rest l)
     → (v : ValueTree) (rest : List ℕ) → StandsAt source spot v rest → IsLaidOut source spot v rest m
 laid_as source spot e laid v rest s = subst (λ (k : Layout). IsLaidOut source spot v rest k) e (laid v rest s)
 
-module _ (source : Source) (spot : Spot) (v : ValueTree) (rest : List ℕ) (s : StandsAt source spot v rest) where
+module _ (source : MessageBytes) (spot : Spot) (v : ValueTree) (rest : List ℕ) (s : StandsAt source spot v rest) where
   pub number_laid : (size start : ℕ) → 0 < size → ((t : TypeTree) → first_code t ≡ get_or spot.types.now 0 0 → size ≡ number_width t) → start ≡ spot.at + gap_to size spot.at → IsNumberAt source spot v start size
   number_laid size start some wide place =
       let p = number_stands s size some wide in

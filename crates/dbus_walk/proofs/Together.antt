@@ -11,7 +11,7 @@ use Rattle.dbus_value_model.specs.Bytes.{gap_to, pad}
 use Rattle.dbus_value_model.specs.declared.order.Order.{Order}
 use Rattle.dbus_value_model.specs.Spelling.{spelling, spellings}
 use Rattle.dbus_value_model.specs.Values.{ValueTree, ValueTrees, NoValues, MoreValues, StructValue, type_of, types_of}
-use Rattle.dbus_walk.specs.declared.spot.Source.{Source}
+use Rattle.dbus_walk.specs.declared.spot.MessageBytes.{MessageBytes}
 use Rattle.dbus_walk.specs.declared.spot.Spot.{Spot}
 use Rattle.dbus_walk.specs.Rows.{IsRow, FieldsStandAt, between}
 use Rattle.dbus_walk.specs.Standing.{Stands, AllStand}
@@ -116,7 +116,7 @@ unfolding gap_to
 aligned at = omega arith
 
 -- and they stand at the spot, within one bracket more
-pub fields_inside : (source : Source) (spot : Spot) (outer : ℕ) {vs : ValueTrees} {rest : List ℕ} → gap_to 8 spot.at ≡ 0
+pub fields_inside : (source : MessageBytes) (spot : Spot) (outer : ℕ) {vs : ValueTrees} {rest : List ℕ} → gap_to 8 spot.at ≡ 0
     → (o : OneStruct source.order (spot.depth_left - outer) (between (outer + 1 + 1) spot.types.now) spot.at source.bytes.now vs rest) → FieldsStandAt source spot (outer + 1) o.xs rest
 fields_inside source spot outer {vs} {rest} padded o =
     let deep : spot.depth_left - outer - 1 ≡ spot.depth_left - (outer + 1) = omega arith in

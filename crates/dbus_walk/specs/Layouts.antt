@@ -14,7 +14,7 @@ use Rattle.dbus_walk.specs.Widths.{number_width}
 use Rattle.dbus_walk.specs.declared.spot.Layout.{Layout}
 use Rattle.dbus_walk.specs.declared.spot.Layout.TheVariants as layout
 use Rattle.dbus_walk.specs.declared.spot.Run.{Run}
-use Rattle.dbus_walk.specs.declared.spot.Source.{Source}
+use Rattle.dbus_walk.specs.declared.spot.MessageBytes.{MessageBytes}
 use Rattle.dbus_walk.specs.declared.spot.Spot.{Spot}
 
 -- the type of an array's elements, as text
@@ -26,7 +26,7 @@ abbrev pub of_parts : List ℕ → List ℕ
 of_parts types = take (length types - 1 - 1) (drop 1 types)
 
 -- a number of so many bytes begins at an offset, and each number has so many whose type begins so
-pub record IsNumberAt (source : Source) (spot : Spot) (v : ValueTree) (start size : ℕ) : Type 0 where
+pub record IsNumberAt (source : MessageBytes) (spot : Spot) (v : ValueTree) (start size : ℕ) : Type 0 where
   pub code : NumberCode
   pub n : ℕ
   pub is : v ≡ NumberValue code n
@@ -40,7 +40,7 @@ pub record IsNumberAt (source : Source) (spot : Spot) (v : ValueTree) (start siz
 
 -- a text of n bytes stands after its length, which has so many bytes and begins at an offset; one
 -- byte more follows it
-pub record IsTextAt (source : Source) (spot : Spot) (v : ValueTree) (size start n : ℕ) : Type 0 where
+pub record IsTextAt (source : MessageBytes) (spot : Spot) (v : ValueTree) (size start n : ℕ) : Type 0 where
   pub code : TextCode
   pub text : List ℕ
   pub is : v ≡ TextValue code text
@@ -52,7 +52,7 @@ pub record IsTextAt (source : Source) (spot : Spot) (v : ValueTree) (size start 
   pub ends : start + size + n + 1 ≡ end_of source spot v
 
 -- what a variant holds has this type, a single one, and stands at an offset
-pub record IsVariantAt (source : Source) (spot : Spot) (v : ValueTree) (rest : List ℕ) (types : List ℕ) (at : ℕ) : Type 0 where
+pub record IsVariantAt (source : MessageBytes) (spot : Spot) (v : ValueTree) (rest : List ℕ) (types : List ℕ) (at : ℕ) : Type 0 where
   pub x : ValueTree
   pub is : v ≡ VariantValue x
   pub some : 0 < spot.depth_left
@@ -64,7 +64,7 @@ pub record IsVariantAt (source : Source) (spot : Spot) (v : ValueTree) (rest : L
 
 -- the bytes of an array begin at the spot, and of its elements, as its type and its length say, the
 -- places and the width are these
-pub record IsRunAt (source : Source) (spot : Spot) (run : Run) : Type 0 where
+pub record IsRunAt (source : MessageBytes) (spot : Spot) (run : Run) : Type 0 where
   pub code : slice_index spot.types.now 0 ≡ 97
   pub long : 2 ≤ length spot.types.now
   pub wide : (t : TypeTree) → first_code t ≡ slice_index spot.types.now 1 → run.size ≡ number_width t
@@ -74,7 +74,7 @@ pub record IsRunAt (source : Source) (spot : Spot) (run : Run) : Type 0 where
 
 -- an array's elements stand from an offset up to another, and each that is a number has so many
 -- bytes
-pub record IsArrayAt (source : Source) (spot : Spot) (v : ValueTree) (rest : List ℕ) (run : Run) : Type 0 where
+pub record IsArrayAt (source : MessageBytes) (spot : Spot) (v : ValueTree) (rest : List ℕ) (run : Run) : Type 0 where
   pub type : TypeTree
   pub xs : ValueTrees
   pub is : v ≡ ArrayValue type xs
@@ -86,7 +86,7 @@ pub record IsArrayAt (source : Source) (spot : Spot) (v : ValueTree) (rest : Lis
   pub ends : run.end ≡ end_of source spot v
 
 -- a struct's fields stand from an offset on
-pub record IsStructAt (source : Source) (spot : Spot) (v : ValueTree) (rest : List ℕ) (start : ℕ) : Type 0 where
+pub record IsStructAt (source : MessageBytes) (spot : Spot) (v : ValueTree) (rest : List ℕ) (start : ℕ) : Type 0 where
   pub xs : ValueTrees
   pub is : v ≡ StructValue xs
   pub some : 0 < spot.depth_left
@@ -96,7 +96,7 @@ pub record IsStructAt (source : Source) (spot : Spot) (v : ValueTree) (rest : Li
   pub ends : start + length (spellings source.order start xs) ≡ end_of source spot v
 
 -- a dict entry's key and its value stand from an offset on
-pub record IsEntryAt (source : Source) (spot : Spot) (v : ValueTree) (rest : List ℕ) (start : ℕ) : Type 0 where
+pub record IsEntryAt (source : MessageBytes) (spot : Spot) (v : ValueTree) (rest : List ℕ) (start : ℕ) : Type 0 where
   pub x : ValueTree
   pub y : ValueTree
   pub is : v ≡ EntryValue x y
@@ -105,7 +105,7 @@ pub record IsEntryAt (source : Source) (spot : Spot) (v : ValueTree) (rest : Lis
   pub held : AllStand source.order spot.depth_left (of_parts spot.types.now) start source.bytes.now (MoreValues x (MoreValues y NoValues)) rest
   pub ends : start + length (spellings source.order start (MoreValues x (MoreValues y NoValues))) ≡ end_of source spot v
 
-abbrev pub IsLaidOut : Source → Spot → ValueTree → (rest : List ℕ) → Layout → Type 0
+abbrev pub IsLaidOut : MessageBytes → Spot → ValueTree → (rest : List ℕ) → Layout → Type 0
 IsLaidOut source spot v rest (layout.Number start size) = IsNumberAt source spot v start size
 IsLaidOut source spot v rest (layout.LongText start n) = IsTextAt source spot v 4 start n
 IsLaidOut source spot v rest (layout.ShortText n) = IsTextAt source spot v 1 spot.at n

@@ -3,7 +3,7 @@
 use Rattle.std.specs.Prelude.{◌≡◌, ℕ, ◌+◌, ◌-◌, ◌<◌, ◌≤◌, List, length, take, drop, get_or}
 use Rattle.dbus_value_model.specs.Values.{ValueTrees}
 use Rattle.dbus_walk.specs.Standing.{AllStand}
-use Rattle.dbus_walk.specs.declared.spot.Source.{Source}
+use Rattle.dbus_walk.specs.declared.spot.MessageBytes.{MessageBytes}
 use Rattle.dbus_walk.specs.declared.spot.Spot.{Spot}
 
 -- what stands between so many brackets and those that close them
@@ -18,5 +18,5 @@ pub record IsRow (types lengths : List ℕ) (row : ℕ) : Type 0 where
   pub long : row + row ≤ length types
 
 -- what a struct or a dict entry holds around which so many others are open stands at a spot
-abbrev pub FieldsStandAt : Source → Spot → (outer : ℕ) → ValueTrees → (rest : List ℕ) → Type 0
+abbrev pub FieldsStandAt : MessageBytes → Spot → (outer : ℕ) → ValueTrees → (rest : List ℕ) → Type 0
 FieldsStandAt source spot outer vs rest = AllStand source.order (spot.depth_left - outer) (between (outer + 1) spot.types.now) spot.at source.bytes.now vs rest

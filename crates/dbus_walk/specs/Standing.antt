@@ -5,7 +5,7 @@ use Rattle.dbus_texts.specs.Types.{TypeTree, sig, sigs, IsShaped, AreShaped}
 use Rattle.dbus_value_model.specs.declared.order.Order.{Order}
 use Rattle.dbus_value_model.specs.Spelling.{spelling, spellings, IsWithinLimits, AreWithinLimits}
 use Rattle.dbus_value_model.specs.Values.{ValueTree, ValueTrees, type_of, types_of, AllOf, IsWellFormed, AreWellFormed}
-use Rattle.dbus_walk.specs.declared.spot.Source.{Source}
+use Rattle.dbus_walk.specs.declared.spot.MessageBytes.{MessageBytes}
 use Rattle.dbus_walk.specs.declared.spot.Spot.{Spot}
 
 -- A value whose type has this text stands in the bytes from an offset on, and rest are the bytes
@@ -21,15 +21,15 @@ pub record Stands (order : Order) (depth_left : ℕ) (types : List ℕ) (at : �
   pub spelled : drop at bytes ≡ spelling order at v ++ rest
 
 -- it stands at this spot
-abbrev pub StandsAt : Source → Spot → ValueTree → (rest : List ℕ) → Type 0
+abbrev pub StandsAt : MessageBytes → Spot → ValueTree → (rest : List ℕ) → Type 0
 StandsAt source spot v rest = Stands source.order spot.depth_left spot.types.now spot.at source.bytes.now v rest
 
 -- some value does
-abbrev pub StandsThere : Source → Spot → Type 0
+abbrev pub StandsThere : MessageBytes → Spot → Type 0
 StandsThere source spot = (v : ValueTree) × (rest : List ℕ) × StandsAt source spot v rest
 
 -- the offset after it
-abbrev pub end_of : Source → Spot → ValueTree → ℕ
+abbrev pub end_of : MessageBytes → Spot → ValueTree → ℕ
 end_of source spot v = spot.at + length (spelling source.order spot.at v)
 
 -- values whose types have this text stand in the bytes, one after another
@@ -43,14 +43,14 @@ pub record AllStand (order : Order) (depth_left : ℕ) (types : List ℕ) (at : 
   pub spelled : drop at bytes ≡ spellings order at vs ++ rest
   pub inside : at ≤ length bytes
 
-abbrev pub AllStandAt : Source → Spot → ValueTrees → (rest : List ℕ) → Type 0
+abbrev pub AllStandAt : MessageBytes → Spot → ValueTrees → (rest : List ℕ) → Type 0
 AllStandAt source spot vs rest = AllStand source.order spot.depth_left spot.types.now spot.at source.bytes.now vs rest
 
-abbrev pub AllStandThere : Source → Spot → Type 0
+abbrev pub AllStandThere : MessageBytes → Spot → Type 0
 AllStandThere source spot = (vs : ValueTrees) × (rest : List ℕ) × AllStandAt source spot vs rest
 
 -- the offset after them
-abbrev pub end_of_all : Source → Spot → ValueTrees → ℕ
+abbrev pub end_of_all : MessageBytes → Spot → ValueTrees → ℕ
 end_of_all source spot vs = spot.at + length (spellings source.order spot.at vs)
 
 -- elements whose one type has this text stand in the bytes, one after another, up to an end
@@ -67,8 +67,8 @@ pub record ElementsStand (order : Order) (depth_left : ℕ) (types : List ℕ) (
   pub ends : end ≡ at + length (spellings order at vs)
   pub inside : at ≤ length bytes
 
-abbrev pub ElementsStandAt : Source → Spot → (end : ℕ) → ValueTrees → (rest : List ℕ) → Type 0
+abbrev pub ElementsStandAt : MessageBytes → Spot → (end : ℕ) → ValueTrees → (rest : List ℕ) → Type 0
 ElementsStandAt source spot end vs rest = ElementsStand source.order spot.depth_left spot.types.now spot.at end source.bytes.now vs rest
 
-abbrev pub ElementsStandThere : Source → Spot → (end : ℕ) → Type 0
+abbrev pub ElementsStandThere : MessageBytes → Spot → (end : ℕ) → Type 0
 ElementsStandThere source spot end = (vs : ValueTrees) × (rest : List ℕ) × ElementsStandAt source spot end vs rest

@@ -5,7 +5,7 @@ ghost use Rattle.std.specs.Prelude.{ℕ, List};
 ghost use Rattle.dbus_message_model.specs.Messages.{FieldTree};
 ghost use Rattle.dbus_walk.specs.Fields.{FieldsStand, FieldsLeft, FieldStands, IsFieldAt};
 
-use crate::spot::Source;
+use crate::spot::MessageBytes;
 use dbus_value_model::gap;
 
 /// The offset of a message's first header field. D-Bus Specification, "Message Format".
@@ -27,7 +27,7 @@ pub struct FieldSpot<'a> {
 /// The offset after a message's header fields, the first of which begins at [`FIELDS_START`].
 /// D-Bus Specification, "Message Format".
 #[inline]
-pub fn fields_end(source: &Source<'_>) -> usize
+pub fn fields_end(source: &MessageBytes<'_>) -> usize
     requires stand { (depth_left : ℕ) × (fs : List FieldTree) × (rest : List ℕ) ×
         FieldsStand source.now depth_left fs rest }
     ensures { (depth_left : ℕ) (fs : List FieldTree) (rest : List ℕ) →
@@ -41,7 +41,7 @@ pub fn fields_end(source: &Source<'_>) -> usize
 /// in the message. The next one begins at the end of its value. D-Bus Specification, "Header
 /// Fields".
 #[inline]
-pub fn field_at<'a>(source: &Source<'a>, at: usize, depth_left: u8) -> FieldSpot<'a>
+pub fn field_at<'a>(source: &MessageBytes<'a>, at: usize, depth_left: u8) -> FieldSpot<'a>
     requires stands { (f : FieldTree) × (rest : List ℕ) × FieldStands source.now depth_left at f rest }
     ensures { (f : FieldTree) (rest : List ℕ) → FieldStands source.now depth_left at f rest →
         IsFieldAt source.now at f rest result }

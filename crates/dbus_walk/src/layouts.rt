@@ -8,14 +8,14 @@ ghost use Rattle.dbus_walk.specs.Standing.{StandsAt, StandsThere};
 ghost use Rattle.dbus_walk.specs.Layouts.{IsArrayAt, IsLaidOut};
 
 use crate::numbers::number_width;
-use crate::spot::{Layout, Run, Source, Spot};
+use crate::spot::{Layout, MessageBytes, Run, Spot};
 use dbus_types::boundary;
 use dbus_value_model::gap;
 
 /// How the value at a spot is laid out. Nothing in it is gone through. D-Bus Specification,
 /// "Marshaling (Wire Format)".
 #[inline(always)]
-pub fn layout<'a>(source: &Source<'a>, spot: &Spot<'_>) -> Layout<'a>
+pub fn layout<'a>(source: &MessageBytes<'a>, spot: &Spot<'_>) -> Layout<'a>
     requires stands { StandsThere source.now spot.now }
     ensures { (v : ValueTree) (rest : List ℕ) → StandsAt source.now spot.now v rest →
         IsLaidOut source.now spot.now v rest result }
@@ -73,7 +73,7 @@ fn parts_gap(at: usize) -> usize
 
 /// A STRING or an OBJECT_PATH.
 #[inline]
-fn long_text<'a>(source: &Source<'a>, spot: &Spot<'_>) -> Layout<'a>
+fn long_text<'a>(source: &MessageBytes<'a>, spot: &Spot<'_>) -> Layout<'a>
     requires stands { StandsThere source.now spot.now }
     requires code { (slice_index spot.now.types.now 0 ≡ 115) ⊎ (slice_index spot.now.types.now 0 ≡ 111) }
     ensures { (v : ValueTree) (rest : List ℕ) → StandsAt source.now spot.now v rest →
@@ -88,7 +88,7 @@ fn long_text<'a>(source: &Source<'a>, spot: &Spot<'_>) -> Layout<'a>
 
 /// A VARIANT.
 #[inline]
-fn variant<'a>(source: &Source<'a>, spot: &Spot<'_>) -> Layout<'a>
+fn variant<'a>(source: &MessageBytes<'a>, spot: &Spot<'_>) -> Layout<'a>
     requires stands { StandsThere source.now spot.now }
     requires code { slice_index spot.now.types.now 0 ≡ 118 }
     ensures { (v : ValueTree) (rest : List ℕ) → StandsAt source.now spot.now v rest →
@@ -104,7 +104,7 @@ fn variant<'a>(source: &Source<'a>, spot: &Spot<'_>) -> Layout<'a>
 
 /// Where the elements of an array are.
 #[inline(always)]
-fn array(source: &Source<'_>, spot: &Spot<'_>) -> Run
+fn array(source: &MessageBytes<'_>, spot: &Spot<'_>) -> Run
     requires stands { StandsThere source.now spot.now }
     requires code { slice_index spot.now.types.now 0 ≡ 97 }
     ensures { (v : ValueTree) (rest : List ℕ) → StandsAt source.now spot.now v rest →

@@ -23,7 +23,7 @@ pub use layouts::layout;
 pub use lengths::lengths_of;
 pub use numbers::number_width;
 pub use skip::{Skip, skip_value};
-pub use spot::{Layout, Run, Source, Spot};
+pub use spot::{Layout, MessageBytes, Run, Spot};
 pub use texts::text_in;
 pub use visitor::Visitor;
 pub use walk::{walk_value, walk_values};

@@ -7,7 +7,7 @@ ghost use Rattle.dbus_types.specs.TypeLengths.{AreLengths};
 ghost use Rattle.dbus_walk.specs.Standing.{StandsAt, StandsThere, end_of};
 
 use crate::container::Container;
-use crate::spot::{Run, Source, Spot};
+use crate::spot::{MessageBytes, Run, Spot};
 use crate::visitor::Visitor;
 use crate::walk::walk_value;
 use std::convert::Infallible;
@@ -44,7 +44,7 @@ impl Visitor for Skip {
     fn number(
         &mut self,
         _gathered: &mut (),
-        _source: &Source<'_>,
+        _source: &MessageBytes<'_>,
         _spot: &Spot<'_>,
         _start: usize,
         _size: u8,
@@ -56,7 +56,7 @@ impl Visitor for Skip {
     fn long_text(
         &mut self,
         _gathered: &mut (),
-        _source: &Source<'_>,
+        _source: &MessageBytes<'_>,
         _spot: &Spot<'_>,
         _start: usize,
         _size: usize,
@@ -68,7 +68,7 @@ impl Visitor for Skip {
     fn short_text(
         &mut self,
         _gathered: &mut (),
-        _source: &Source<'_>,
+        _source: &MessageBytes<'_>,
         _spot: &Spot<'_>,
         _size: usize,
     ) -> Result<(), Infallible> {
@@ -79,7 +79,7 @@ impl Visitor for Skip {
     fn whole_array(
         &mut self,
         _gathered: &mut (),
-        _source: &Source<'_>,
+        _source: &MessageBytes<'_>,
         _spot: &Spot<'_>,
         _run: Run,
     ) -> Result<(), Infallible> {
@@ -90,7 +90,7 @@ impl Visitor for Skip {
     fn open_array(
         &mut self,
         _gathered: &(),
-        _source: &Source<'_>,
+        _source: &MessageBytes<'_>,
         _spot: &Spot<'_>,
         _start: usize,
     ) -> Result<(), Infallible> {
@@ -131,7 +131,7 @@ impl Visitor for Skip {
 }
 
 /// The offset after the value at a spot. The elements of arrays are not gone through.
-pub fn skip_value(source: &Source<'_>, spot: &Spot<'_>) -> usize
+pub fn skip_value(source: &MessageBytes<'_>, spot: &Spot<'_>) -> usize
     requires stands { StandsThere source.now spot.now }
     requires noted { AreLengths spot.now.types.now spot.now.lengths.now }
     ensures { (v : ValueTree) (rest : List ℕ) → StandsAt source.now spot.now v rest →

@@ -5,7 +5,7 @@ use dbus_value_model::Order;
 
 /// A message's bytes, and their byte order.
 #[derive(Clone, Copy)]
-pub struct Source<'a> {
+pub struct MessageBytes<'a> {
     /// The bytes. Offsets count from the first of them.
     pub bytes: &'a [u8],
     /// The byte order of the numbers in them.

@@ -19,7 +19,7 @@ ghost use Rattle.dbus_walk.specs.declared.container.Container.TheVariants.{Array
 ghost use Rattle.dbus_walk.specs.Containers.{IsOf, inside, parts, is_none};
 
 use crate::container::Container;
-use crate::spot::{Run, Source, Spot};
+use crate::spot::{MessageBytes, Run, Spot};
 use dbus_value_model::Order;
 
 /// What takes the values that a walk comes to, and gathers something of them.
@@ -68,7 +68,7 @@ pub trait Visitor {
     fn number(
         &mut self,
         gathered: &mut Self::Many,
-        source: &Source<'_>,
+        source: &MessageBytes<'_>,
         spot: &Spot<'_>,
         start: usize,
         size: u8,
@@ -87,7 +87,7 @@ pub trait Visitor {
     fn long_text(
         &mut self,
         gathered: &mut Self::Many,
-        source: &Source<'_>,
+        source: &MessageBytes<'_>,
         spot: &Spot<'_>,
         start: usize,
         size: usize,
@@ -105,7 +105,7 @@ pub trait Visitor {
     fn short_text(
         &mut self,
         gathered: &mut Self::Many,
-        source: &Source<'_>,
+        source: &MessageBytes<'_>,
         spot: &Spot<'_>,
         size: usize,
     ) -> Result<(), Self::Stop>
@@ -121,7 +121,7 @@ pub trait Visitor {
     fn whole_array(
         &mut self,
         gathered: &mut Self::Many,
-        source: &Source<'_>,
+        source: &MessageBytes<'_>,
         spot: &Spot<'_>,
         run: Run,
     ) -> Result<(), Self::Stop>
@@ -144,7 +144,7 @@ pub trait Visitor {
     fn open_array(
         &mut self,
         gathered: &Self::Many,
-        source: &Source<'_>,
+        source: &MessageBytes<'_>,
         spot: &Spot<'_>,
         start: usize,
     ) -> Result<Self::Many, Self::Stop>

@@ -20,7 +20,7 @@ ghost use Rattle.dbus_walk.specs.Standing.{StandsAt, StandsThere, AllStandAt, Al
 use crate::container::Container;
 use crate::layouts::layout;
 use crate::rows::{known_row, row_of};
-use crate::spot::{Layout, Run, Source, Spot};
+use crate::spot::{Layout, MessageBytes, Run, Spot};
 use crate::visitor::{Visitor, next_part};
 use dbus_types::lengths_in;
 
@@ -32,7 +32,7 @@ use dbus_types::lengths_in;
 pub fn walk_value<V: Visitor>(
     visitor: &mut V,
     gathered: &mut V::Many,
-    source: &Source<'_>,
+    source: &MessageBytes<'_>,
     spot: &Spot<'_>,
 ) -> Result<usize, V::Stop>
     requires ready { V.ready visitor.old (length source.now.bytes.now) }
@@ -54,7 +54,7 @@ pub fn walk_value<V: Visitor>(
 fn value<V: Visitor>(
     visitor: &mut V,
     gathered: &mut V::Many,
-    source: &Source<'_>,
+    source: &MessageBytes<'_>,
     spot: &mut Spot<'_>,
     row: usize,
 ) -> Result<(), V::Stop>
@@ -100,7 +100,7 @@ fn value<V: Visitor>(
 fn variant<V: Visitor>(
     visitor: &mut V,
     gathered: &mut V::Many,
-    source: &Source<'_>,
+    source: &MessageBytes<'_>,
     spot: &mut Spot<'_>,
     types: &[u8],
     at: usize,
@@ -136,7 +136,7 @@ fn variant<V: Visitor>(
 fn noted_variant<V: Visitor>(
     visitor: &mut V,
     gathered: &mut V::Many,
-    source: &Source<'_>,
+    source: &MessageBytes<'_>,
     held: &mut Spot<'_>,
     start: usize,
 ) -> Result<(), V::Stop>
@@ -165,7 +165,7 @@ fn noted_variant<V: Visitor>(
 fn variant_of<V: Visitor>(
     visitor: &mut V,
     gathered: &mut V::Many,
-    source: &Source<'_>,
+    source: &MessageBytes<'_>,
     held: &mut Spot<'_>,
     start: usize,
 ) -> Result<(), V::Stop>
@@ -197,7 +197,7 @@ fn variant_of<V: Visitor>(
 fn array<V: Visitor>(
     visitor: &mut V,
     gathered: &mut V::Many,
-    source: &Source<'_>,
+    source: &MessageBytes<'_>,
     spot: &Spot<'_>,
     run: Run,
 ) -> Result<(), V::Stop>
@@ -233,7 +233,7 @@ fn array<V: Visitor>(
 fn elements<V: Visitor>(
     visitor: &mut V,
     gathered: &mut V::Many,
-    source: &Source<'_>,
+    source: &MessageBytes<'_>,
     spot: &Spot<'_>,
     end: usize,
 ) -> Result<(), V::Stop>
@@ -276,7 +276,7 @@ fn elements<V: Visitor>(
 fn entry<V: Visitor>(
     visitor: &mut V,
     gathered: &mut V::Many,
-    source: &Source<'_>,
+    source: &MessageBytes<'_>,
     spot: &mut Spot<'_>,
     start: usize,
 ) -> Result<(), V::Stop>
@@ -309,7 +309,7 @@ fn entry<V: Visitor>(
 fn structure<V: Visitor>(
     visitor: &mut V,
     gathered: &mut V::Many,
-    source: &Source<'_>,
+    source: &MessageBytes<'_>,
     spot: &mut Spot<'_>,
     start: usize,
     row: usize,
@@ -340,7 +340,7 @@ fn structure<V: Visitor>(
 fn alone<V: Visitor>(
     visitor: &mut V,
     gathered: &mut V::Many,
-    source: &Source<'_>,
+    source: &MessageBytes<'_>,
     spot: &mut Spot<'_>,
     start: usize,
 ) -> Result<(), V::Stop>
@@ -374,7 +374,7 @@ fn alone<V: Visitor>(
 fn together<V: Visitor>(
     visitor: &mut V,
     gathered: &mut V::Many,
-    source: &Source<'_>,
+    source: &MessageBytes<'_>,
     spot: &mut Spot<'_>,
     start: usize,
     row: usize,
@@ -409,7 +409,7 @@ fn together<V: Visitor>(
 fn whole<V: Visitor>(
     visitor: &mut V,
     gathered: &mut V::Many,
-    source: &Source<'_>,
+    source: &MessageBytes<'_>,
     spot: &mut Spot<'_>,
     kind: Container,
 ) -> Result<(), V::Stop>
@@ -440,7 +440,7 @@ fn whole<V: Visitor>(
 fn listed<V: Visitor>(
     visitor: &mut V,
     gathered: &mut V::Many,
-    source: &Source<'_>,
+    source: &MessageBytes<'_>,
     spot: &mut Spot<'_>,
 ) -> Result<(), V::Stop>
     requires ready { V.ready visitor.old (length source.now.bytes.now) }
@@ -461,7 +461,7 @@ fn listed<V: Visitor>(
 fn nested<V: Visitor>(
     visitor: &mut V,
     gathered: &mut V::Many,
-    source: &Source<'_>,
+    source: &MessageBytes<'_>,
     spot: &mut Spot<'_>,
     outer: usize,
     row: usize,
@@ -497,7 +497,7 @@ fn nested<V: Visitor>(
 fn nested_fields<V: Visitor>(
     visitor: &mut V,
     gathered: &mut V::Many,
-    source: &Source<'_>,
+    source: &MessageBytes<'_>,
     spot: &mut Spot<'_>,
     outer: usize,
     row: usize,
@@ -529,7 +529,7 @@ fn nested_fields<V: Visitor>(
 fn fields<V: Visitor>(
     visitor: &mut V,
     gathered: &mut V::Many,
-    source: &Source<'_>,
+    source: &MessageBytes<'_>,
     spot: &mut Spot<'_>,
     outer: usize,
 ) -> Result<(), V::Stop>
@@ -565,7 +565,7 @@ fn fields<V: Visitor>(
 pub fn walk_values<V: Visitor>(
     visitor: &mut V,
     gathered: &mut V::Many,
-    source: &Source<'_>,
+    source: &MessageBytes<'_>,
     spot: &Spot<'_>,
 ) -> Result<usize, V::Stop>
     requires ready { V.ready visitor.old (length source.now.bytes.now) }
