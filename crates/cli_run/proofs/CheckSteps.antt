@@ -20,8 +20,8 @@ use Rattle.cli_report.specs.declared.ending.Cause.{Cause}
 use Rattle.cli_report.specs.declared.ending.Cause.TheVariants.{Memory, WriteFailed}
 use Rattle.cli_run.specs.declared.counted.Counted.{Counted}
 use Rattle.cli_run.specs.declared.tally.Tally.{Tally}
-use Rattle.cli_run.specs.declared.visitor.Stop.{Stop}
-use Rattle.cli_run.specs.declared.visitor.Stop.TheVariants.{Cause as ByCause, Untold}
+use Rattle.cli_run.specs.declared.visitor.RunStop.{RunStop}
+use Rattle.cli_run.specs.declared.visitor.RunStop.TheVariants.{Cause as ByCause, Untold}
 use Rattle.cli_run.proofs.EndSteps.{stops_as}
 use Rattle.cli_run.proofs.PartLaws.{line_is}
 
@@ -38,10 +38,10 @@ module _ {R W E : Type 0} (r : Reading R) (w : Writing W) (e : Writing E) (setti
   Ends end = RunsWith r w e settings most Check end
 
   -- the second writer was told nothing before
-  abbrev Within : Stop → Type 0
+  abbrev Within : RunStop → Type 0
   Within stop = StopsWithin (taken r) settings most true (WritesSome w (writing e.held e.failures e.old e.old) settings Check) stop
 
-  stops : (stop : Stop) (end : ExitStatus) → end ≡ status.Failed → TellsStop e.held e.failures true stop e.old e.new → Within stop → Ends end
+  stops : (stop : RunStop) (end : ExitStatus) → end ≡ status.Failed → TellsStop e.held e.failures true stop e.old e.new → Within stop → Ends end
   stops stop end failed tells within = inr (record { failed = failed; stop = stop; before = e.old; within = within; tells = tells })
 
   -- nothing was written, since reading was given up
@@ -80,7 +80,7 @@ module _ {R W E : Type 0} (r : Reading R) (w : Writing W) (e : Writing E) (setti
         inl (record { tally = tally_of counted; fault = counted.fault; told = []; text = text; through = t; came = came; end_is = end_is })
 
     -- or not all of it
-    within : (stop : Stop) (more : List ℕ) → IsMore (taken r) settings most true stop t.parts t.rest more → IsStopOf (taken r) most stop → GotFirst w.held w.failures true stop more w.old w.new
+    within : (stop : RunStop) (more : List ℕ) → IsMore (taken r) settings most true stop t.parts t.rest more → IsStopOf (taken r) most stop → GotFirst w.held w.failures true stop more w.old w.new
         → GotSecond e.held e.failures true stop [] e.old e.old → Within stop
     within stop more due caused first second = record {
       parts = t.parts;

@@ -31,8 +31,8 @@ use Rattle.cli_report.specs.declared.telling.RefusedMessage.{RefusedMessage}
 use Rattle.cli_report.specs.declared.ending.Cause.{Cause}
 use Rattle.cli_report.specs.declared.ending.Cause.TheVariants.{Memory, ReadFailed, WriteFailed, TooManyReads}
 use Rattle.cli_run.specs.declared.counted.Counted.{Counted}
-use Rattle.cli_run.specs.declared.visitor.Stop.{Stop}
-use Rattle.cli_run.specs.declared.visitor.Stop.TheVariants.{Cause as ByCause}
+use Rattle.cli_run.specs.declared.visitor.RunStop.{RunStop}
+use Rattle.cli_run.specs.declared.visitor.RunStop.TheVariants.{Cause as ByCause}
 use Rattle.cli_run.proofs.GoSteps.{wholes_tally}
 use Rattle.cli_run.proofs.HandSteps.{Faults}
 use Rattle.cli_run.proofs.PartLaws.{is_last, parts_of, sizes-wholes, told_of}
@@ -41,7 +41,7 @@ use Rattle.cli_run.proofs.PartLaws.{is_last, parts_of, sizes-wholes, told_of}
 abbrev pub counts : (a b : Unit {0}) → List Placed → (told : List ℕ) → Type 0
 counts a b items told = Unit {0}
 
-abbrev pub gives_up : (a b : Unit {0}) → List Placed → (told : List ℕ) → Stop → Type 0
+abbrev pub gives_up : (a b : Unit {0}) → List Placed → (told : List ℕ) → RunStop → Type 0
 gives_up a b items told stop = IsUnwritten stop
 
 pub adds_up : AddsUp counts gives_up (λ _. Unit {0})

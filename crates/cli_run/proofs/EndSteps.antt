@@ -17,15 +17,15 @@ use Rattle.cli_run.specs.Running.{Writes, WritesSome}
 use Rattle.cli_run.specs.Told.{GotFirst, GotSecond, first_of, second_of}
 use Rattle.cli_run.specs.Windows.{written}
 use Rattle.cli_run.specs.declared.output_writer.OutputWriter.{OutputWriter}
-use Rattle.cli_run.specs.declared.visitor.Stop.{Stop}
-use Rattle.cli_run.specs.declared.visitor.Stop.TheVariants.{Cause as ByCause, Untold}
+use Rattle.cli_run.specs.declared.visitor.RunStop.{RunStop}
+use Rattle.cli_run.specs.declared.visitor.RunStop.TheVariants.{Cause as ByCause, Untold}
 
 -- what became of it is said otherwise
 pub goes_as : {t : Taken} {settings : Settings} {most : ℕ} {is_check : Bool} {P Q : List Placed → (told : List ℕ) → Type 0} {end : ExitStatus} → ((items : List Placed) (told : List ℕ) → P items told → Q items told)
     → GoesThrough t settings most is_check P end → GoesThrough t settings most is_check Q end
 goes_as f g = record { tally = g.tally; fault = g.fault; told = g.told; text = g.text; through = g.through; came = f _ _ g.came; end_is = g.end_is }
 
-pub stops_as : {t : Taken} {settings : Settings} {most : ℕ} {is_check : Bool} {P Q : List Placed → (told : List ℕ) → Stop → Type 0} {stop : Stop}
+pub stops_as : {t : Taken} {settings : Settings} {most : ℕ} {is_check : Bool} {P Q : List Placed → (told : List ℕ) → RunStop → Type 0} {stop : RunStop}
     → ((items : List Placed) (told : List ℕ) → P items told stop → Q items told stop) → StopsWithin t settings most is_check P stop → StopsWithin t settings most is_check Q stop
 stops_as f s = record { parts = s.parts; rest = s.rest; told = s.told; covers = s.covers; more = s.more; all = s.all; caused = s.caused; came = f _ _ s.came }
 
@@ -55,13 +55,13 @@ module _ {A W E : Type 0} (held : W → Option (List ℕ)) (failures : W → ℕ
   broken : (bytes : List ℕ) → Breaks held failures bytes (gathered_bytes a.gathered) a.first.now b.first.now → Breaks held failures bytes [] a.first.now b.first.now
   broken bytes p = subst (λ (g : List ℕ). Breaks held failures bytes g a.first.now b.first.now) none p
 
-  first_as : (c : Bool) (stop : Stop) (bytes : List ℕ) → LeavesFirst held failures c stop bytes (gathered_bytes a.gathered) a.first.now b.first.now → GotFirst held failures c stop bytes a.first.now b.first.now
+  first_as : (c : Bool) (stop : RunStop) (bytes : List ℕ) → LeavesFirst held failures c stop bytes (gathered_bytes a.gathered) a.first.now b.first.now → GotFirst held failures c stop bytes a.first.now b.first.now
   first_as c (ByCause WriteFailed) bytes p = broken bytes p
   first_as c (ByCause cause) bytes p = passes_whole held failures bytes (gathered_bytes a.gathered) [] a.first.now b.first.now none refl p
   first_as true Untold bytes p = broken bytes p
   first_as false Untold bytes p = passes_whole held failures bytes (gathered_bytes a.gathered) [] a.first.now b.first.now none refl p
 
-  leaves_as : (stop : Stop) (items : List Placed) (told : List ℕ) → LeavesWritten held failures second_held second_failures a b items told stop → WritesSome w e settings command items told stop
+  leaves_as : (stop : RunStop) (items : List Placed) (told : List ℕ) → LeavesWritten held failures second_held second_failures a b items told stop → WritesSome w e settings command items told stop
   leaves_as stop items told h = record {
     texts = h.texts;
     made = made_as items h.texts h.made;
@@ -78,7 +78,7 @@ module _ {A W E : Type 0} (held : W → Option (List ℕ)) (failures : W → ℕ
         → GoesThrough (taken (reading left calls read_failures r0 r2)) settings most (is_check command) (Writes w e settings command) end
     ran {end} last g = transport (λ i. GoesThrough (taken (reading left calls read_failures r0 (source i))) settings most (checks i) (Writes w e settings command) end) (goes_as (writes_as last) g)
 
-    pub gave_up : {stop : Stop} → StopsWithin (taken (reading left calls read_failures r0 r1)) settings most c (LeavesWritten held failures second_held second_failures a b) stop
+    pub gave_up : {stop : RunStop} → StopsWithin (taken (reading left calls read_failures r0 r1)) settings most c (LeavesWritten held failures second_held second_failures a b) stop
         → StopsWithin (taken (reading left calls read_failures r0 r2)) settings most (is_check command) (WritesSome w e settings command) stop
     gave_up {stop} s =
         transport (λ i. StopsWithin (taken (reading left calls read_failures r0 (source i))) settings most (checks i) (WritesSome w e settings command) stop) (stops_as (leaves_as stop) s)

@@ -13,8 +13,8 @@ use Rattle.cli_run.specs.Handing.{GivesNext, Stays}
 use Rattle.cli_run.specs.Inputs.{Placed}
 use Rattle.cli_run.specs.Visiting.{AddsUp}
 use Rattle.cli_run.specs.declared.counted.NoMessage.TheVariants.{Reader, Writer}
-use Rattle.cli_run.specs.declared.visitor.Stop.{Stop}
-use Rattle.cli_run.specs.declared.visitor.Stop.TheVariants.{Cause as ByCause}
+use Rattle.cli_run.specs.declared.visitor.RunStop.{RunStop}
+use Rattle.cli_run.specs.declared.visitor.RunStop.TheVariants.{Cause as ByCause}
 
 pub stays : {R A : Type 0} (old : RawReader R A) → stopped_of old ≡ None → Stays old old
 stays old unstopped = record { unread = record { source = refl; reads = refl; most_reads = refl; limits = refl; ended = refl }; kept_is = refl; done = refl; unstopped = unstopped }
@@ -31,7 +31,7 @@ looked old mid from n k s =
     }
 
 module _ {R A S : Type 0} (left : R → Option (List ℕ)) (calls failures : R → ℕ) {takes : S → S → List Placed → (told : List ℕ) → Type 0}
-    {leaves : S → S → List Placed → (told : List ℕ) → Stop → Type 0} {settled : S → Type 0} (laws : AddsUp takes leaves settled) (old new : RawReader R A) (unstopped : stopped_of old ≡ None)
+    {leaves : S → S → List Placed → (told : List ℕ) → RunStop → Type 0} {settled : S → Type 0} (laws : AddsUp takes leaves settled) (old new : RawReader R A) (unstopped : stopped_of old ≡ None)
     (n : ReadsNothing old new) where
   -- a message that is kept
   pub gives_kept : (j : Validated) (s : S) → Lends (kept old) j old new → GivesNext left calls failures takes leaves settled old new s s (Ok (Some j))

@@ -31,13 +31,13 @@ use Rattle.cli_report.specs.declared.ending.Cause.TheVariants.{Memory, ReadFaile
 use Rattle.cli_report.specs.declared.ending.ExitStatus.{ExitStatus}
 use Rattle.cli_run.specs.declared.counted.Counted.{Counted}
 use Rattle.cli_run.specs.declared.tally.Tally.{Tally}
-use Rattle.cli_run.specs.declared.visitor.Stop.{Stop}
-use Rattle.cli_run.specs.declared.visitor.Stop.TheVariants.{Cause as ByCause, Untold}
+use Rattle.cli_run.specs.declared.visitor.RunStop.{RunStop}
+use Rattle.cli_run.specs.declared.visitor.RunStop.TheVariants.{Cause as ByCause, Untold}
 use Rattle.cli_run.proofs.PartLaws.{parts_more, placed_past, sizes-both, passed-both, passed_sizes-both}
 use Rattle.cli_run.proofs.ReadSteps.{read_none, read_on}
 use Rattle.cli_run.proofs.GoSteps.{Begun, HasCovered, HasEnded, HasGone, HasReached, refused_is, none_is, covers_read, covers, Took, Within, Through, Stopped, More, stops_plain, all_called}
 
-module _ {R A S : Type 0} {takes : S → S → List Placed → (told : List ℕ) → Type 0} {leaves : S → S → List Placed → (told : List ℕ) → Stop → Type 0} {settled : S → Type 0} (laws : AddsUp takes leaves settled)
+module _ {R A S : Type 0} {takes : S → S → List Placed → (told : List ℕ) → Type 0} {leaves : S → S → List Placed → (told : List ℕ) → RunStop → Type 0} {settled : S → Type 0} (laws : AddsUp takes leaves settled)
     {run : Begun R A S} {mid : RawReader R A} {counted : Counted} {tally : Tally} {s1 : S} (h : HasReached run takes mid counted tally s1) where
   abbrev items : List Placed
   items = placed 1 0 h.gone.parts
@@ -125,7 +125,7 @@ module _ {R A S : Type 0} {takes : S → S → List Placed → (told : List ℕ)
     tellable (Refused other) e at_end = refl
     tellable outcome e at_end = (refl, at_end (λ f is. absurd cc))
 
-    pub not_told : settled s1 → (s2 : S) (stop : Stop) → Tells takes leaves Due s1 s2 (Err stop) → Within run leaves mid stop s2
+    pub not_told : settled s1 → (s2 : S) (stop : RunStop) → Tells takes leaves Due s1 s2 (Err stop) → Within run leaves mid stop s2
     not_told rests s2 (ByCause Memory) same =
         let came = (laws.rests run.s0 s1 items h.gone.told h.gone.came rests).0 in
         stops_plain run leaves Memory mid h.gone.parts (kept mid) h.gone.told s2 h.gone.covered (inl refl) h.gone.failed (subst (λ (s : S). leaves run.s0 s items h.gone.told (ByCause Memory)) (sym same) came)
@@ -295,8 +295,8 @@ module _ {R A S : Type 0} {takes : S → S → List Placed → (told : List ℕ)
   abbrev line : List ℕ
   line = closing_line run.is_check tally tally.passed fault
 
-  module _ {leaves : S → S → List Placed → (told : List ℕ) → Stop → Type 0} {settled : S → Type 0} (laws : AddsUp takes leaves settled) (rests : settled s1) (s2 : S) where
-    pub closes : (res : Result ExitStatus Stop) → Closes takes leaves run.is_check tally fault s1 s2 res
+  module _ {leaves : S → S → List Placed → (told : List ℕ) → RunStop → Type 0} {settled : S → Type 0} (laws : AddsUp takes leaves settled) (rests : settled s1) (s2 : S) where
+    pub closes : (res : Result ExitStatus RunStop) → Closes takes leaves run.is_check tally fault s1 s2 res
         → PassesAll (Took run new) run.settings (most_reads_of run.old) run.is_check takes leaves run.s0 s2 res
     closes (Ok end) c = record {
       tally = tally;

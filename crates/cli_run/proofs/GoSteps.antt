@@ -27,8 +27,8 @@ use Rattle.cli_report.specs.declared.ending.Cause.{Cause}
 use Rattle.cli_report.specs.declared.ending.Cause.TheVariants.{Memory, ReadFailed, WriteFailed, TooManyReads}
 use Rattle.cli_run.specs.declared.counted.Counted.{Counted}
 use Rattle.cli_run.specs.declared.tally.Tally.{Tally}
-use Rattle.cli_run.specs.declared.visitor.Stop.{Stop}
-use Rattle.cli_run.specs.declared.visitor.Stop.TheVariants.{Cause as ByCause}
+use Rattle.cli_run.specs.declared.visitor.RunStop.{RunStop}
+use Rattle.cli_run.specs.declared.visitor.RunStop.TheVariants.{Cause as ByCause}
 use Rattle.cli_run.proofs.PartLaws.{parts_more, parts_both, parts_of, few_parts, few_passed, few_passed_sizes, stated_some, sizes-both, passed-both, passed_sizes-both, sizes-wholes, passed-wholes, passed_sizes-wholes, placed_both, told_both, told_of}
 
 -- a refusal is no end of the input
@@ -140,10 +140,10 @@ module _ {R A S : Type 0} (run : Begun R A S) where
   abbrev pub Through : RawReader R A → Tally → Option Fault → (told text : List ℕ) → Type 0
   Through new tally fault told text = IsThrough (Took new) run.settings (most_reads_of run.old) run.is_check tally fault told text
 
-  abbrev pub Stopped : RawReader R A → Stop → Type 0
+  abbrev pub Stopped : RawReader R A → RunStop → Type 0
   Stopped new stop = IsStopOf (Took new) (most_reads_of run.old) stop
 
-  abbrev pub More : RawReader R A → Stop → List Part → List ℕ → List ℕ → Type 0
+  abbrev pub More : RawReader R A → RunStop → List Part → List ℕ → List ℕ → Type 0
   More new stop parts rest more = IsMore (Took new) run.settings (most_reads_of run.old) run.is_check stop parts rest more
 
   module _ (takes : S → S → List Placed → (told : List ℕ) → Type 0) where
@@ -196,8 +196,8 @@ module _ {R A S : Type 0} (run : Begun R A S) where
       pub through : Through new tally fault told text
       pub came : takes run.s0 s (placed 1 0 through.parts) (told ++ text)
 
-  module _ (leaves : S → S → List Placed → (told : List ℕ) → Stop → Type 0) where
-    abbrev pub Within : RawReader R A → Stop → S → Type 0
+  module _ (leaves : S → S → List Placed → (told : List ℕ) → RunStop → Type 0) where
+    abbrev pub Within : RawReader R A → RunStop → S → Type 0
     Within new stop s = StopsWithin (Took new) run.settings (most_reads_of run.old) run.is_check (leaves run.s0 s) stop
 
     -- nothing is told of the rest
@@ -239,7 +239,7 @@ module _ {R A S : Type 0} {takes : S → S → List Placed → (told : List ℕ)
       let at : done_of mid ≡ 0 + sizes_of h.parts = omega (arith, h.done) in
       (λ i. placed 1 0 h.parts ++ placed (n i) (at i) (wholes items)) ∙ sym (placed_both 1 0 h.parts (wholes items))
 
-  module _ {leaves : S → S → List Placed → (told : List ℕ) → Stop → Type 0} {settled : S → Type 0} (laws : AddsUp takes leaves settled) (new : RawReader R A) (s2 : S) where
+  module _ {leaves : S → S → List Placed → (told : List ℕ) → RunStop → Type 0} {settled : S → Type 0} (laws : AddsUp takes leaves settled) (new : RawReader R A) (s2 : S) where
     covered_next : (items : List CutMessage) (rest last : List ℕ) → rest ≡ last → HasRead gathering run.left run.calls run.settings.limits (kept mid) mid.reader new.reader items rest
         → HasCovered run new (h.parts ++ wholes items) last h.told
     covered_next items rest last e r =

@@ -33,8 +33,8 @@ use Rattle.cli_run.specs.declared.counted.Counted.{Counted}
 use Rattle.cli_run.specs.declared.counted.NoMessage.{NoMessage}
 use Rattle.cli_run.specs.declared.counted.NoMessage.TheVariants.{Reader as FromReader, Writer}
 use Rattle.cli_run.specs.declared.place.MessagePlace.{MessagePlace}
-use Rattle.cli_run.specs.declared.visitor.Stop.{Stop}
-use Rattle.cli_run.specs.declared.visitor.Stop.TheVariants.{Cause as ByCause}
+use Rattle.cli_run.specs.declared.visitor.RunStop.{RunStop}
+use Rattle.cli_run.specs.declared.visitor.RunStop.TheVariants.{Cause as ByCause}
 use Rattle.dbus_stream.proofs.RawSteps.{starts, unread}
 use Rattle.cli_run.proofs.LentSteps.{lent_size, lent_whole}
 use Rattle.cli_run.proofs.PartLaws.{placed_last}
@@ -76,7 +76,7 @@ abbrev pub item_of : {R A : Type 0} {w : List ℕ} {j : Validated} {old new : Ra
 item_of l = record { order = l.gives.order; message = l.gives.message; size = l.size }
 
 -- it was taken, or not, by its bytes
-pub took_lent : {R A S : Type 0} (takes : S → S → List Placed → (told : List ℕ) → Type 0) (leaves : S → S → List Placed → (told : List ℕ) → Stop → Type 0) (s2 s3 : S) (limits : Limits)
+pub took_lent : {R A S : Type 0} (takes : S → S → List Placed → (told : List ℕ) → Type 0) (leaves : S → S → List Placed → (told : List ℕ) → RunStop → Type 0) (s2 s3 : S) (limits : Limits)
     (w bytes : List ℕ) (j : Validated) (old new : RawReader R A) → bytes ≡ lent_of new → raw.limits_of old ≡ limits → (l : Lends w j old new) → (place : MessagePlace) (res : Result (Unit {0}) Cause)
     → ((order : Order) (m : MessageTree) → IsWhole limits bytes order m (length bytes)
     → TakesOne takes leaves s2 s3 (record { place = place; item = record { order = order; message = m; size = length bytes } }) res) → TakesOne takes leaves s2 s3 (record { place = place; item = item_of l }) res
@@ -86,7 +86,7 @@ took_lent takes leaves s2 s3 limits w bytes j old new e same l place res one =
 
 -- what was read after that
 module _ {R T B G S : Type 0} {b : Ghosts B} {k : Taking T G} {left : R → Option (List ℕ)} {calls failures : R → ℕ} {takes : S → S → List Placed → (told : List ℕ) → Type 0}
-    {leaves : S → S → List Placed → (told : List ℕ) → Stop → Type 0} {settled : S → Type 0} (laws : AddsUp takes leaves settled) {limits : Limits} {kept : List ℕ} {before count : ℕ}
+    {leaves : S → S → List Placed → (told : List ℕ) → RunStop → Type 0} {settled : S → Type 0} (laws : AddsUp takes leaves settled) {limits : Limits} {kept : List ℕ} {before count : ℕ}
     {old mid : Reader R T B b} {rest : List ℕ} {s0 s1 : S} (h : HasHanded k left calls failures takes limits kept before count old mid rest s0 s1) {new : Reader R T B b}
     (r : Reads k left calls rest mid new) where
   abbrev all : List Placed
@@ -201,7 +201,7 @@ module _ {R T B G S : Type 0} {b : Ghosts B} {k : Taking T G} {left : R → Opti
 
 -- a reader of raw messages
 module _ {R A S : Type 0} {left : R → Option (List ℕ)} {calls failures : R → ℕ} {takes : S → S → List Placed → (told : List ℕ) → Type 0}
-    {leaves : S → S → List Placed → (told : List ℕ) → Stop → Type 0} {settled : S → Type 0} (laws : AddsUp takes leaves settled) {limits : Limits} {before : ℕ} where
+    {leaves : S → S → List Placed → (told : List ℕ) → RunStop → Type 0} {settled : S → Type 0} (laws : AddsUp takes leaves settled) {limits : Limits} {before : ℕ} where
   -- so it is if the reader looks at what it keeps
   pub still : {count : ℕ} {s0 s1 : S} (old mid from : RawReader R A) → HasHanded gathering left calls failures takes limits (kept old) before count old.reader mid.reader (kept mid) s0 s1 → Stays mid from
       → HasHanded gathering left calls failures takes limits (kept old) before count old.reader from.reader (kept from) s0 s1

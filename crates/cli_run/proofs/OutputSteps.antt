@@ -26,7 +26,7 @@ use Rattle.cli_run.specs.Windows.{written}
 use Rattle.cli_run.specs.declared.output_writer.OutputWriter.{OutputWriter}
 use Rattle.cli_run.specs.declared.place.Carried.{Carried}
 use Rattle.cli_run.specs.declared.place.MessagePlace.{MessagePlace}
-use Rattle.cli_run.specs.declared.visitor.Stop.TheVariants.{Untold}
+use Rattle.cli_run.specs.declared.visitor.RunStop.TheVariants.{Untold}
 
 -- what the first writer gets of texts: all of them, since `check` makes none
 first_made : (command : Command) (os : List Ownership) (order : Order) (m : MessageTree) (n offset : ℕ) (window : Window) (texts : List (List ℕ)) → IsOutputOf command os order m n offset texts

@@ -34,8 +34,8 @@ use Rattle.cli_report.specs.declared.ending.ExitStatus.TheVariants as status
 use Rattle.cli_report.specs.declared.ending.Cause.{Cause}
 use Rattle.cli_report.specs.declared.ending.Cause.TheVariants.{Memory, WriteFailed}
 use Rattle.cli_run.specs.declared.tally.Tally.{Tally}
-use Rattle.cli_run.specs.declared.visitor.Stop.{Stop}
-use Rattle.cli_run.specs.declared.visitor.Stop.TheVariants.{Cause as ByCause, Untold}
+use Rattle.cli_run.specs.declared.visitor.RunStop.{RunStop}
+use Rattle.cli_run.specs.declared.visitor.RunStop.TheVariants.{Cause as ByCause, Untold}
 use Rattle.cli_run.proofs.Outputs.{front_of_first}
 use Rattle.cli_run.proofs.PartLaws.{line_is, sizes-wholes}
 use Rattle.cli_run.proofs.SameOutputs.{none_last}
@@ -222,10 +222,10 @@ module _ {R W E : Type 0} (r : Reading R) (w : Writing W) (e : Writing E) (asked
   -- ---- the run was given up, and before is the second writer before it was told why
 
   module _ (before : E) where
-    abbrev Within : Stop → Type 0
+    abbrev Within : RunStop → Type 0
     Within stop = StopsWithin (taken r) (plain asked) most (is_check command) (WritesSome w (writing e.held e.failures e.old before) (plain asked) command) stop
 
-    abbrev messages_of : (stop : Stop) (s : Within stop) → AreMessages limits s.covers.bytes s.parts s.rest s.told
+    abbrev messages_of : (stop : RunStop) (s : Within stop) → AreMessages limits s.covers.bytes s.parts s.rest s.told
     messages_of stop s = are_messages asked 1 0 s.covers.bytes s.parts s.rest s.told s.covers.begin s.covers.tells
 
     -- nothing is told
@@ -334,7 +334,7 @@ module _ {R W E : Type 0} (r : Reading R) (w : Writing W) (e : Writing E) (asked
         inl (answers h s.came.texts s.came.made end (subst (λ (l : List ℕ). Wrote w.held w.failures w.old l w.new) out first)
         (inr (second.0, subst (λ (x : E). Stopped e.held e.failures e.old (line_of h) second.0 x) (sym tells) half, failed)))
 
-    stopped : (stop : Stop) (end : ExitStatus) → Within stop → end ≡ status.Failed → TellsStop e.held e.failures (is_check command) stop before e.new → Runs r w e limits most command end
+    stopped : (stop : RunStop) (end : ExitStatus) → Within stop → end ≡ status.Failed → TellsStop e.held e.failures (is_check command) stop before e.new → Runs r w e limits most command end
     stopped (ByCause cause) end s failed tells =
         let nothing = ap (λ l. second_of (is_check command) l) (none_told cause s) ∙ second_nothing (is_check command) in
         inr (record { failed = failed; cause = cause; fails = fails cause s; told = told_after cause (subst (λ l. Wrote e.held e.failures e.old l before) nothing s.came.second) tells })

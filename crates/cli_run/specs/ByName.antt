@@ -19,8 +19,8 @@ use Rattle.cli_run.specs.Going.{GivesUp, GoesThrough}
 use Rattle.cli_run.specs.Inputs.{Placed}
 use Rattle.cli_run.specs.Told.{GotSecond}
 use Rattle.cli_run.specs.declared.by_name.Counter.{Counter}
-use Rattle.cli_run.specs.declared.visitor.Stop.{Stop}
-use Rattle.cli_run.specs.declared.visitor.Stop.TheVariants.{Cause as ByCause}
+use Rattle.cli_run.specs.declared.visitor.RunStop.{RunStop}
+use Rattle.cli_run.specs.declared.visitor.RunStop.TheVariants.{Cause as ByCause}
 
 -- the count of a name after more messages
 abbrev pub after_messages : List Placed → (name : List ℕ) → Option Count → Option Count
@@ -32,7 +32,7 @@ abbrev pub counting : List Placed → Counting
 counting items name = after_messages items name None
 
 -- no write to the first writer failed
-abbrev pub IsUnwritten : Stop → Type 0
+abbrev pub IsUnwritten : RunStop → Type 0
 IsUnwritten (ByCause WriteFailed) = ⊥
 IsUnwritten stop = Unit {0}
 
@@ -44,7 +44,7 @@ module _ {E : Type 0} (held : E → Option (List ℕ)) (failures : E → ℕ) wh
     pub tells : Wrote held failures old.second.now told new.second.now
 
   -- this was told, as far as this stop let it
-  pub record LeavesCounted (old new : Counter E) (items : List Placed) (told : List ℕ) (stop : Stop) : Type 0 where
+  pub record LeavesCounted (old new : Counter E) (items : List Placed) (told : List ℕ) (stop : RunStop) : Type 0 where
     pub same_second : new.second.ghost_name ≡ old.second.ghost_name
     pub unwritten : IsUnwritten stop
     pub tells : GotSecond held failures false stop told old.second.now new.second.now

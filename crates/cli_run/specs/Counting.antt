@@ -12,7 +12,7 @@ use Rattle.cli_run.specs.Output.{fault_line}
 use Rattle.cli_run.specs.declared.counted.Counted.{Counted}
 use Rattle.cli_run.specs.declared.counted.NoMessage.{NoMessage}
 use Rattle.cli_run.specs.declared.counted.NoMessage.TheVariants.{Reader, Writer}
-use Rattle.cli_run.specs.declared.visitor.Stop.TheVariants.{Cause as ByCause}
+use Rattle.cli_run.specs.declared.visitor.RunStop.TheVariants.{Cause as ByCause}
 
 -- what a fault of the reader after these messages comes to
 abbrev pub ended_by : ℕ → ℕ → ReadFault → Result Counted Cause

@@ -20,8 +20,8 @@ use Rattle.cli_report.specs.declared.ending.Cause.TheVariants.{Memory, ReadFaile
 use Rattle.cli_report.specs.declared.ending.ExitStatus.{ExitStatus}
 use Rattle.cli_report.specs.declared.ending.ExitStatus.TheVariants as status
 use Rattle.cli_run.specs.declared.tally.Tally.{Tally}
-use Rattle.cli_run.specs.declared.visitor.Stop.{Stop}
-use Rattle.cli_run.specs.declared.visitor.Stop.TheVariants.{Cause as ByCause, Untold}
+use Rattle.cli_run.specs.declared.visitor.RunStop.{RunStop}
+use Rattle.cli_run.specs.declared.visitor.RunStop.TheVariants.{Cause as ByCause, Untold}
 
 -- why a run is given up by which a refused message is not passed over
 abbrev pub cause_of : ReadFault → Cause
@@ -30,7 +30,7 @@ cause_of read.TooManyReads = TooManyReads
 cause_of fault = ReadFailed
 
 -- the source shows why it stopped
-abbrev pub IsStopOf : Taken → (most : ℕ) → Stop → Type 0
+abbrev pub IsStopOf : Taken → (most : ℕ) → RunStop → Type 0
 IsStopOf t most (ByCause ReadFailed) = t.failures1 ≡ one_more t.failures0
 IsStopOf t most (ByCause TooManyReads) = (t.failures1 ≡ t.failures0) × RisesBy most t.calls0 t.calls1
 IsStopOf t most stop = t.failures1 ≡ t.failures0
@@ -82,7 +82,7 @@ module _ (t : Taken) (settings : Settings) (most : ℕ) (is_check : Bool) where
       × (settings.keeps_going ≡ true) × IsToldLast settings (length parts + 1) (sizes_of parts) kept (Some fault) more)
 
   -- this was told after the parts, or was to be told if a write of it failed
-  abbrev pub IsMore : Stop → List Part → (rest more : List ℕ) → Type 0
+  abbrev pub IsMore : RunStop → List Part → (rest more : List ℕ) → Type 0
   IsMore (ByCause Memory) parts rest more = (more ≡ []) ⊎ LacksLast parts rest more
   IsMore (ByCause ReadFailed) parts rest more = IsAllOf parts rest more
   IsMore (ByCause WriteFailed) parts rest more = more ≡ []
@@ -90,7 +90,7 @@ module _ (t : Taken) (settings : Settings) (most : ℕ) (is_check : Bool) where
   IsMore Untold parts rest more = AreDue parts rest more
 
   -- some of the first parts were taken, and told. left says what became of them
-  pub record StopsWithin (left : List Placed → (told : List ℕ) → Stop → Type 0) (stop : Stop) : Type 0 where
+  pub record StopsWithin (left : List Placed → (told : List ℕ) → RunStop → Type 0) (stop : RunStop) : Type 0 where
     pub parts : List Part
     pub rest : List ℕ
     pub told : List ℕ
@@ -111,22 +111,22 @@ module _ (t : Taken) (settings : Settings) (most : ℕ) (is_check : Bool) where
     pub end_is : end ≡ status_at tally.passed fault
 
   -- it was given up, and the second writer was told why
-  pub record GivesUp {E : Type 0} (e : Writing E) (left : E → List Placed → (told : List ℕ) → Stop → Type 0) (end : ExitStatus) : Type 0 where
+  pub record GivesUp {E : Type 0} (e : Writing E) (left : E → List Placed → (told : List ℕ) → RunStop → Type 0) (end : ExitStatus) : Type 0 where
     pub failed : end ≡ status.Failed
-    pub stop : Stop
+    pub stop : RunStop
     pub before : E
     pub within : StopsWithin (left before) stop
     pub tells : TellsStop e.held e.failures is_check stop before e.new
 
-  module _ {S : Type 0} (takes : S → S → List Placed → (told : List ℕ) → Type 0) (leaves : S → S → List Placed → (told : List ℕ) → Stop → Type 0) (s0 s1 : S) where
-    abbrev pub PassesAll : Result ExitStatus Stop → Type 0
+  module _ {S : Type 0} (takes : S → S → List Placed → (told : List ℕ) → Type 0) (leaves : S → S → List Placed → (told : List ℕ) → RunStop → Type 0) (s0 s1 : S) where
+    abbrev pub PassesAll : Result ExitStatus RunStop → Type 0
     PassesAll (Ok end) = GoesThrough (takes s0 s1) end
     PassesAll (Err stop) = StopsWithin (leaves s0 s1) stop
 
-module _ {S : Type 0} (takes : S → S → List Placed → (told : List ℕ) → Type 0) (leaves : S → S → List Placed → (told : List ℕ) → Stop → Type 0) where
+module _ {S : Type 0} (takes : S → S → List Placed → (told : List ℕ) → Type 0) (leaves : S → S → List Placed → (told : List ℕ) → RunStop → Type 0) where
   -- the last line was told, if there is one, and this is the status; or a write of it failed; or
   -- for want of memory it was not told
-  abbrev pub Closes : (is_check : Bool) → Tally → Option Fault → S → S → Result ExitStatus Stop → Type 0
+  abbrev pub Closes : (is_check : Bool) → Tally → Option Fault → S → S → Result ExitStatus RunStop → Type 0
   Closes is_check tally fault a b (Ok end) = takes a b [] (closing_line is_check tally tally.passed fault) × (end ≡ status_at tally.passed fault)
   Closes is_check tally fault a b (Err (ByCause Memory)) = (b ≡ a) × HasLastLine is_check tally.passed fault
   Closes is_check tally fault a b (Err (ByCause cause)) = ⊥

@@ -23,8 +23,8 @@ use Rattle.cli_run.specs.declared.counted.NoMessage.{NoMessage}
 use Rattle.cli_run.specs.declared.counted.NoMessage.TheVariants.{Reader, Writer}
 use Rattle.cli_run.specs.declared.place.Carried.{Carried}
 use Rattle.cli_run.specs.declared.place.MessagePlace.{MessagePlace}
-use Rattle.cli_run.specs.declared.visitor.Stop.{Stop}
-use Rattle.cli_run.specs.declared.visitor.Stop.TheVariants.{Cause as ByCause}
+use Rattle.cli_run.specs.declared.visitor.RunStop.{RunStop}
+use Rattle.cli_run.specs.declared.visitor.RunStop.TheVariants.{Cause as ByCause}
 
 -- a line of JSON of one message was written or gathered, which has this place in its input
 abbrev pub WritesJson : {W : Type 0} → Writing W → Order → MessageTree → MessagePlace → List ℕ → List ℕ → Result (Unit {0}) Cause → Type 0
@@ -62,7 +62,7 @@ pub record Stays {R A : Type 0} (old now : RawReader R A) : Type 0 where
   pub unstopped : stopped_of now ≡ None
 
 module _ {R S : Type 0} (left : R → Option (List ℕ)) (calls failures : R → ℕ) (takes : S → S → List Placed → (told : List ℕ) → Type 0)
-    (leaves : S → S → List Placed → (told : List ℕ) → Stop → Type 0) (settled : S → Type 0) where
+    (leaves : S → S → List Placed → (told : List ℕ) → RunStop → Type 0) (settled : S → Type 0) where
   -- what a reader validates of its next message, which it lends. A visitor let go of what it held
   -- back before a read, and if there is no next message
   abbrev pub GivesFrom : {A : Type 0} → RawReader R A → RawReader R A → S → S → Result (Option Validated) NoMessage → Type 0

@@ -22,8 +22,8 @@ use Rattle.cli_report.specs.declared.ending.Cause.{Cause}
 use Rattle.cli_report.specs.declared.ending.Cause.TheVariants.{ReadFailed, TooManyReads}
 use Rattle.cli_run.specs.Inputs.{Placed, placed, wholes}
 use Rattle.cli_run.specs.declared.counted.Counted.{Counted}
-use Rattle.cli_run.specs.declared.visitor.Stop.{Stop}
-use Rattle.cli_run.specs.declared.visitor.Stop.TheVariants.{Cause as ByCause}
+use Rattle.cli_run.specs.declared.visitor.RunStop.{RunStop}
+use Rattle.cli_run.specs.declared.visitor.RunStop.TheVariants.{Cause as ByCause}
 
 -- the fault that a reader answers for good after it
 abbrev pub stop_of : Option Fault → Option ReadFault
@@ -61,7 +61,7 @@ module _ {R T B G : Type 0} {b : Ghosts B} (k : Taking T G) (left : R → Option
     pub limits_are : limits_of k new ≡ limits
     pub at_end : IsTrueEnd left old → IsTrueEnd left new
 
-  module _ {S : Type 0} (failures : R → ℕ) (takes : S → S → List Placed → (told : List ℕ) → Type 0) (leaves : S → S → List Placed → (told : List ℕ) → Stop → Type 0)
+  module _ {S : Type 0} (failures : R → ℕ) (takes : S → S → List Placed → (told : List ℕ) → Type 0) (leaves : S → S → List Placed → (told : List ℕ) → RunStop → Type 0)
       (before : ℕ) where
     -- all messages were handed on, up to the end of the input or a fault
     pub record HandsAllOn (counted : Counted) (old new : Reader R T B b) (s0 s1 : S) : Type 0 where
@@ -93,7 +93,7 @@ module _ {R T B G : Type 0} {b : Ghosts B} (k : Taking T G) (left : R → Option
     HandsOn old new s0 s1 (Err cause) = HandsSomeOn cause old new s0 s1
 
 module _ {R A S : Type 0} (left : R → Option (List ℕ)) (calls failures : R → ℕ) (takes : S → S → List Placed → (told : List ℕ) → Type 0)
-    (leaves : S → S → List Placed → (told : List ℕ) → Stop → Type 0) (limits : Limits) (before : ℕ) where
+    (leaves : S → S → List Placed → (told : List ℕ) → RunStop → Type 0) (limits : Limits) (before : ℕ) where
   -- a reader of raw messages keeps the rest then, and answers the fault
   pub record HandsRawOn (counted : Counted) (old new : RawReader R A) (s0 s1 : S) : Type 0 where
     pub all : HandsAllOn gathering left calls limits (raw.kept old) failures takes leaves before counted old.reader new.reader s0 s1

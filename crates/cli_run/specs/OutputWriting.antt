@@ -9,13 +9,13 @@ use Rattle.cli_run.specs.Inputs.{Placed}
 use Rattle.cli_run.specs.Told.{GotSecond, first_of, second_of}
 use Rattle.cli_run.specs.Windows.{after, written}
 use Rattle.cli_run.specs.declared.output_writer.OutputWriter.{OutputWriter}
-use Rattle.cli_run.specs.declared.visitor.Stop.{Stop}
-use Rattle.cli_run.specs.declared.visitor.Stop.TheVariants.{Cause as ByCause, Untold}
+use Rattle.cli_run.specs.declared.visitor.RunStop.{RunStop}
+use Rattle.cli_run.specs.declared.visitor.RunStop.TheVariants.{Cause as ByCause, Untold}
 
 module _ {W : Type 0} (held : W → Option (List ℕ)) (failures : W → ℕ) where
   -- what was done with bytes for the first writer, if a run is given up: unless a write to it
   -- failed, all was written. g is what was gathered before
-  abbrev pub LeavesFirst : (is_check : Bool) → Stop → (bytes g : List ℕ) → W → W → Type 0
+  abbrev pub LeavesFirst : (is_check : Bool) → RunStop → (bytes g : List ℕ) → W → W → Type 0
   LeavesFirst is_check (ByCause cause) bytes g w0 w1 = Leaves held failures cause bytes g [] w0 w1
   LeavesFirst true Untold bytes g w0 w1 = Breaks held failures bytes g w0 w1
   LeavesFirst false Untold bytes g w0 w1 = Passes held failures bytes g [] w0 w1
@@ -43,7 +43,7 @@ module _ {A W E : Type 0} (held : W → Option (List ℕ)) (failures : W → ℕ
     pub tells : Wrote second_held second_failures old.second.now (second_of (is_check (command_of old.output)) told) new.second.now
 
   -- the same, as far as this stop lets it come
-  pub record LeavesWritten (old new : OutputWriter A W E) (items : List Placed) (told : List ℕ) (stop : Stop) : Type 0 where
+  pub record LeavesWritten (old new : OutputWriter A W E) (items : List Placed) (told : List ℕ) (stop : RunStop) : Type 0 where
     pub same_first : new.first.ghost_name ≡ old.first.ghost_name
     pub same_second : new.second.ghost_name ≡ old.second.ghost_name
     pub texts : List (List ℕ)

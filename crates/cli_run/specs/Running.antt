@@ -12,7 +12,7 @@ use Rattle.cli_run.specs.Told.{GotFirst, GotSecond, first_of, second_of}
 use Rattle.cli_run.specs.Windows.{written}
 use Rattle.cli_report.specs.Devices.{Reading, Writing, taken, writing, RisesAtMost}
 use Rattle.cli_report.specs.declared.ending.ExitStatus.{ExitStatus}
-use Rattle.cli_run.specs.declared.visitor.Stop.{Stop}
+use Rattle.cli_run.specs.declared.visitor.RunStop.{RunStop}
 use Rattle.std.specs.Io.KnownBytes.{Appends, Consumes, IsAtEnd}
 use Rattle.std.specs.List.{concat}
 use Rattle.dbus_value_model.specs.declared.fault.Fault.{Fault}
@@ -24,7 +24,7 @@ use Rattle.cli_report.specs.Failing.{Told}
 use Rattle.cli_report.specs.declared.ending.ExitStatus.TheVariants as status
 use Rattle.cli_report.specs.declared.ending.Cause.{Cause}
 use Rattle.cli_report.specs.declared.ending.Cause.TheVariants.{ReadFailed, WriteFailed, TooManyReads}
-use Rattle.cli_run.specs.declared.visitor.Stop.TheVariants.{Cause as ByCause}
+use Rattle.cli_run.specs.declared.visitor.RunStop.TheVariants.{Cause as ByCause}
 
 -- the second writer got this line, and the status is that of the fault; or a write failed after the
 -- first bytes of the line
@@ -107,7 +107,7 @@ module _ {W E : Type 0} (w : Writing W) (e : Writing E) (settings : Settings) (c
     pub second : Wrote e.held e.failures e.old (second_of (is_check command) told) e.new
 
   -- the same, if the run was given up; of the writer to which a write failed a prefix
-  pub record WritesSome (items : List Placed) (told : List ℕ) (stop : Stop) : Type 0 where
+  pub record WritesSome (items : List Placed) (told : List ℕ) (stop : RunStop) : Type 0 where
     pub texts : List (List ℕ)
     pub made : IsOutputOfAll command (owners_known command None) items texts
     pub first : GotFirst w.held w.failures (is_check command) stop (first_of (is_check command) (written settings.window texts) told) w.old w.new

@@ -7,8 +7,8 @@ use Rattle.cli_report.specs.Gathering.{Breaks}
 use Rattle.cli_report.specs.declared.ending.Cause.{Cause}
 use Rattle.cli_report.specs.declared.ending.Cause.TheVariants.{Memory, WriteFailed}
 use Rattle.cli_report.specs.declared.gathering.Unwritten.{Unwritten}
-use Rattle.cli_run.specs.declared.visitor.Stop.{Stop}
-use Rattle.cli_run.specs.declared.visitor.Stop.TheVariants.{Cause as ByCause, Untold}
+use Rattle.cli_run.specs.declared.visitor.RunStop.{RunStop}
+use Rattle.cli_run.specs.declared.visitor.RunStop.TheVariants.{Cause as ByCause, Untold}
 
 -- what the writers get of what is made and what is told
 abbrev pub first_of : (is_check : Bool) → (out told : List ℕ) → List ℕ
@@ -33,20 +33,20 @@ module _ {W : Type 0} (held : W → Option (List ℕ)) (failures : W → ℕ) wh
   WritesLine line w0 w1 (Err cause) = ⊥
 
   -- the first writer got this if a run was given up, but a prefix of it if a write to it failed
-  abbrev pub GotFirst : (is_check : Bool) → Stop → List ℕ → W → W → Type 0
+  abbrev pub GotFirst : (is_check : Bool) → RunStop → List ℕ → W → W → Type 0
   GotFirst is_check (ByCause WriteFailed) all w0 w1 = Breaks held failures all [] w0 w1
   GotFirst is_check (ByCause cause) all w0 w1 = Wrote held failures w0 all w1
   GotFirst true Untold all w0 w1 = Breaks held failures all [] w0 w1
   GotFirst false Untold all w0 w1 = Wrote held failures w0 all w1
 
   -- and the second
-  abbrev pub GotSecond : (is_check : Bool) → Stop → List ℕ → W → W → Type 0
+  abbrev pub GotSecond : (is_check : Bool) → RunStop → List ℕ → W → W → Type 0
   GotSecond is_check (ByCause cause) all w0 w1 = Wrote held failures w0 all w1
   GotSecond true Untold all w0 w1 = Wrote held failures w0 all w1
   GotSecond false Untold all w0 w1 = (n : ℕ) × Stopped held failures w0 all n w1
 
   -- the second writer is told why a run is given up, unless a write to it failed
-  abbrev pub TellsStop : (is_check : Bool) → Stop → W → W → Type 0
+  abbrev pub TellsStop : (is_check : Bool) → RunStop → W → W → Type 0
   TellsStop is_check (ByCause cause) w0 w1 = Told held failures w0 w1 cause
   TellsStop true Untold w0 w1 = Told held failures w0 w1 WriteFailed
   TellsStop false Untold w0 w1 = w1 ≡ w0

@@ -7,10 +7,10 @@ use Rattle.cli_report.specs.declared.ending.Cause.{Cause}
 use Rattle.cli_report.specs.declared.ending.Cause.TheVariants.{Memory, ReadFailed, WriteFailed, TooManyReads}
 use Rattle.cli_report.specs.declared.gathering.Unwritten.{Unwritten}
 use Rattle.cli_run.specs.Inputs.{Placed}
-use Rattle.cli_run.specs.declared.visitor.Stop.{Stop}
-use Rattle.cli_run.specs.declared.visitor.Stop.TheVariants.{Cause as ByCause, Untold}
+use Rattle.cli_run.specs.declared.visitor.RunStop.{RunStop}
+use Rattle.cli_run.specs.declared.visitor.RunStop.TheVariants.{Cause as ByCause, Untold}
 
-module _ {S : Type 0} (takes : S → S → List Placed → (told : List ℕ) → Type 0) (leaves : S → S → List Placed → (told : List ℕ) → Stop → Type 0) where
+module _ {S : Type 0} (takes : S → S → List Placed → (told : List ℕ) → Type 0) (leaves : S → S → List Placed → (told : List ℕ) → RunStop → Type 0) where
   -- a message was taken; or for want of memory none, or a write of what it makes of it failed
   abbrev pub TakesOne : S → S → Placed → Result (Unit {0}) Cause → Type 0
   TakesOne a b m (Ok x) = takes a b (m ∷ []) []
@@ -24,7 +24,7 @@ module _ {S : Type 0} (takes : S → S → List Placed → (told : List ℕ) →
   TellsOne a b text (Err e) = leaves a b [] text Untold
 
   -- such a text was told, or a write of it failed; or for want of memory nothing was
-  abbrev pub Tells : (List ℕ → Type 0) → S → S → Result (Unit {0}) Stop → Type 0
+  abbrev pub Tells : (List ℕ → Type 0) → S → S → Result (Unit {0}) RunStop → Type 0
   Tells Is a b (Ok x) = (text : List ℕ) × Is text × takes a b [] text
   Tells Is a b (Err (ByCause Memory)) = b ≡ a
   Tells Is a b (Err (ByCause cause)) = ⊥
@@ -40,7 +40,7 @@ module _ {S : Type 0} (takes : S → S → List Placed → (told : List ℕ) →
     pub nothing : (a : S) → takes a a [] []
     -- messages and what is told, and then more
     pub joins : (a b c : S) (s t : List Placed) (p q : List ℕ) → takes a b s p → takes b c t q → takes a c (s ++ t) (p ++ q)
-    pub leaves_after : (a b c : S) (s t : List Placed) (p q : List ℕ) (stop : Stop) → takes a b s p → leaves b c t q stop → leaves a c (s ++ t) (p ++ q) stop
+    pub leaves_after : (a b c : S) (s t : List Placed) (p q : List ℕ) (stop : RunStop) → takes a b s p → leaves b c t q stop → leaves a c (s ++ t) (p ++ q) stop
     -- the reader gives up if nothing is held back
     pub rests : (a b : S) (s : List Placed) (p : List ℕ) → takes a b s p → settled b
         → leaves a b s p (ByCause Memory) × leaves a b s p (ByCause ReadFailed) × leaves a b s p (ByCause TooManyReads)

@@ -8,8 +8,8 @@ use Rattle.std.proofs.Math.Seq.{drop-nil, take-append-add, take-nil}
 use Rattle.dbus_device.specs.Device.{one_more}
 use Rattle.dbus_device.specs.Write.{Wrote, Stopped}
 use Rattle.cli_run.specs.Told.{GotSecond, second_of, first_of}
-use Rattle.cli_run.specs.declared.visitor.Stop.{Stop}
-use Rattle.cli_run.specs.declared.visitor.Stop.TheVariants.{Cause as ByCause, Untold}
+use Rattle.cli_run.specs.declared.visitor.RunStop.{RunStop}
+use Rattle.cli_run.specs.declared.visitor.RunStop.TheVariants.{Cause as ByCause, Untold}
 use Rattle.std.specs.List.{concat}
 use Rattle.std.proofs.lemmas.List.Folds.{concat-append}
 use Rattle.cli_options.specs.declared.window.Window.{Window}
@@ -62,7 +62,7 @@ module _ {W : Type 0} (held : W → Option (List ℕ)) (failures : W → ℕ) wh
   told_nothing is_check w0 w1 same = transport (λ i. Wrote held failures w0 (sym (second_nothing is_check) i) (sym same i)) (wrote_nothing w0)
 
   -- as far as a stop lets it come
-  pub second_after : (is_check : Bool) (stop : Stop) (a b : List ℕ) (w0 w1 w2 : W) → Wrote held failures w0 a w1 → GotSecond held failures is_check stop b w1 w2
+  pub second_after : (is_check : Bool) (stop : RunStop) (a b : List ℕ) (w0 w1 w2 : W) → Wrote held failures w0 a w1 → GotSecond held failures is_check stop b w1 w2
       → GotSecond held failures is_check stop (a ++ b) w0 w2
   second_after is_check (ByCause cause) a b w0 w1 w2 p q = wrote_both a b w0 w1 w2 p q
   second_after true Untold a b w0 w1 w2 p q = wrote_both a b w0 w1 w2 p q
@@ -185,7 +185,7 @@ module _ {W : Type 0} (held : W → Option (List ℕ)) (failures : W → ℕ) wh
   leaves_both WriteFailed a b g0 g1 w0 w1 w2 p q = breaks_after held failures a b g0 g1 w0 w1 w2 p q
   leaves_both cause a b g0 g1 w0 w1 w2 p q = passes_both held failures a b g0 g1 [] w0 w1 w2 p q
 
-  first_after : (is_check : Bool) (stop : Stop) (a b g0 g1 : List ℕ) (w0 w1 w2 : W) → Passes held failures a g0 g1 w0 w1 → LeavesFirst held failures is_check stop b g1 w1 w2
+  first_after : (is_check : Bool) (stop : RunStop) (a b g0 g1 : List ℕ) (w0 w1 w2 : W) → Passes held failures a g0 g1 w0 w1 → LeavesFirst held failures is_check stop b g1 w1 w2
       → LeavesFirst held failures is_check stop (a ++ b) g0 w0 w2
   first_after is_check (ByCause cause) a b g0 g1 w0 w1 w2 p q = leaves_both cause a b g0 g1 w0 w1 w2 p q
   first_after true Untold a b g0 g1 w0 w1 w2 p q = breaks_after held failures a b g0 g1 w0 w1 w2 p q
@@ -231,7 +231,7 @@ module _ {A W E : Type 0} (held : W → Option (List ℕ)) (failures : W → ℕ
               (wrote_both second_held second_failures _ _ a.second.now b.second.now c.second.now h.tells tells);
         }
 
-    leaves_after : (stop : Stop) → LeavesWritten held failures second_held second_failures b c t q stop → LeavesWritten held failures second_held second_failures a c (s ++ t) (p ++ q) stop
+    leaves_after : (stop : RunStop) → LeavesWritten held failures second_held second_failures b c t q stop → LeavesWritten held failures second_held second_failures a c (s ++ t) (p ++ q) stop
     leaves_after stop k =
         let check : is_check (command_of b.output) ≡ is_check own = λ i. is_check (command_of (h.same_output i)) in
         let leaves = transport (λ i. LeavesFirst held failures (check i) stop (first_of (check i) (written b.carried.window k.texts) q) (gathered_bytes b.gathered) b.first.now c.first.now) k.leaves in

@@ -10,7 +10,7 @@ ghost use Rattle.cli_run.specs.Visiting.{Tells};
 
 use crate::handing::hand_all;
 use crate::tally::{Tally, closing_line};
-use crate::visitor::{MessageVisitor, Stop};
+use crate::visitor::{MessageVisitor, RunStop};
 use cli_options::Settings;
 use cli_report::{Cause, ExitStatus, RefusedMessage, Unwritten, give_up, refusal_text};
 use dbus_stream::{RawReader, ReadFault, Sink, Source};
@@ -29,7 +29,7 @@ pub(crate) fn pass_through<R: Source + Drop, A: Allocator + Copy, V: MessageVisi
     reads: u64,
     source: R,
     visitor: &mut V,
-) -> (Result<ExitStatus, Stop>, R)
+) -> (Result<ExitStatus, RunStop>, R)
     requires few { reads ≤ 2 ^ 32 }
     requires settled { V.settled visitor.old }
     ensures passes { PassesAll (taken (reading R.left R.calls R.failures source result.1)) settings reads is_check
@@ -49,7 +49,7 @@ fn hand_parts<R: Source, A: Allocator + Copy, V: MessageVisitor>(
     is_check: bool,
     messages: &mut RawReader<R, A>,
     visitor: &mut V,
-) -> Result<ExitStatus, Stop>
+) -> Result<ExitStatus, RunStop>
     requires new { IsNewReader (source_of messages.old) (most_reads_of messages.old) settings.limits
         messages.old }
     requires settled { V.settled visitor.old }
@@ -68,7 +68,7 @@ fn hand_parts<R: Source, A: Allocator + Copy, V: MessageVisitor>(
     'parts: loop {
         let counted = match hand_all(settings.limits, tally.count, messages, visitor) {
             Ok(counted) => counted,
-            Err(cause) => return Err(Stop::Cause(cause)),
+            Err(cause) => return Err(RunStop::Cause(cause)),
         };
         tally = tally.up_to(counted);
         let fault = match counted.fault {
@@ -90,7 +90,7 @@ fn hand_parts<R: Source, A: Allocator + Copy, V: MessageVisitor>(
         match messages.pass_over() {
             Ok(true) => tally = tally.past(messages.done()),
             Ok(false) => return close(alloc, is_check, tally, Some(fault), visitor),
-            Err(fault) => return Err(Stop::Cause(cause_of(fault))),
+            Err(fault) => return Err(RunStop::Cause(cause_of(fault))),
         }
     }
 }
@@ -102,7 +102,7 @@ fn tell<R: Source, A: Allocator + Copy, V: MessageVisitor>(
     refusal: RefusedMessage,
     messages: &RawReader<R, A>,
     visitor: &mut V,
-) -> Result<(), Stop>
+) -> Result<(), RunStop>
     requires { V.settled visitor.old }
     ensures tells { Tells V.takes V.leaves (IsTold settings refusal (kept messages.now)) visitor.old visitor.new result }
     ensures settled { IfOk result (λ _. V.settled visitor.new) }
@@ -113,11 +113,11 @@ fn tell<R: Source, A: Allocator + Copy, V: MessageVisitor>(
         ..
     } = settings;
     let Ok(text) = refusal_text(alloc, keeps_going, explains, refusal, messages) else {
-        return Err(Stop::Cause(Cause::Memory));
+        return Err(RunStop::Cause(Cause::Memory));
     };
     match visitor.tell(text.as_str()) {
         Ok(()) => Ok(()),
-        Err(Unwritten) => Err(Stop::Untold),
+        Err(Unwritten) => Err(RunStop::Untold),
     }
 }
 
@@ -128,17 +128,17 @@ fn close<A: Allocator + Copy, V: MessageVisitor>(
     tally: Tally,
     fault: Option<Fault>,
     visitor: &mut V,
-) -> Result<ExitStatus, Stop>
+) -> Result<ExitStatus, RunStop>
     requires { V.settled visitor.old }
     ensures closes { Closes V.takes V.leaves is_check tally fault visitor.old visitor.new result }
     ensures settled { IfOk result (λ _. V.settled visitor.new) }
 {
     let Ok(line) = closing_line(alloc, is_check, tally, fault) else {
-        return Err(Stop::Cause(Cause::Memory));
+        return Err(RunStop::Cause(Cause::Memory));
     };
     match visitor.tell(line.as_str()) {
         Ok(()) => Ok(tally.status(fault)),
-        Err(Unwritten) => Err(Stop::Untold),
+        Err(Unwritten) => Err(RunStop::Untold),
     }
 }
 
@@ -155,13 +155,13 @@ fn cause_of(fault: ReadFault) -> Cause
 }
 
 /// Tells the second writer why a run is given up, unless a write to it failed.
-pub(crate) fn tell_stop<E: Sink>(stop: Stop, is_check: bool, second: &mut E) -> ExitStatus
+pub(crate) fn tell_stop<E: Sink>(stop: RunStop, is_check: bool, second: &mut E) -> ExitStatus
     ensures failed { result ≡ ExitStatus.Failed }
     ensures tells { TellsStop E.held E.failures is_check stop second.old second.new }
 {
     match stop {
-        Stop::Cause(cause) => give_up(cause, second),
-        Stop::Untold => {
+        RunStop::Cause(cause) => give_up(cause, second),
+        RunStop::Untold => {
             if is_check {
                 give_up(Cause::WriteFailed, second)
             } else {

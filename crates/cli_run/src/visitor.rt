@@ -14,7 +14,7 @@ use dbus_stream::{Sink, WrittenOnly, write_all};
 
 /// Why a run is given up.
 #[derive(Clone, Copy, Debug, PartialEq, Eq)]
-pub(crate) enum Stop {
+pub(crate) enum RunStop {
     /// By this cause, which the second writer is to be told.
     Cause(Cause),
     /// A write of what is told failed.
@@ -26,14 +26,14 @@ pub(crate) enum Stop {
 /// Its relations say what becomes of it by messages, each with its place in the input, and by what
 /// it tells. Its law says that this adds up.
 pub(crate) trait MessageVisitor {
-    ghost use Rattle.cli_run.specs.declared.visitor.Stop.{Stop};
+    ghost use Rattle.cli_run.specs.declared.visitor.RunStop.{RunStop};
 
     // It took these messages, and told this text: what it was before, and after.
     ghost takes: { Self → Self → List Placed → List ℕ → Type 0 };
 
     // It took these messages and told this text, as far as this stop let it. It holds nothing back,
     // unless a write failed.
-    ghost leaves: { Self → Self → List Placed → List ℕ → Stop → Type 0 };
+    ghost leaves: { Self → Self → List Placed → List ℕ → RunStop → Type 0 };
 
     // It holds nothing back.
     ghost settled: { Self → Type 0 };
