@@ -52,18 +52,12 @@ pub fn code_front(
     ensures few { IfOk result (λ x. x.1 ≤ 8) }
     ensures short { IfErr result (λ e. e ≡ Partial → length bytes.now < 8) }
 {
-    let zeros = match padding(bytes, offset, end, 8) {
-        Ok(zeros) => zeros,
-        Err(stop) => return Err(stop),
-    };
+    let zeros = padding(bytes, offset, end, 8)?;
     let at = offset + zeros;
     if limits.depth < 2 {
         return refuse(at, Reason::TooDeep);
     }
-    let code = match byte(rest_after(bytes, zeros), at, end) {
-        Ok(code) => code,
-        Err(stop) => return Err(stop),
-    };
+    let code = byte(rest_after(bytes, zeros), at, end)?;
     if code == 0 {
         return refuse(at, Reason::FieldCode);
     }
@@ -115,19 +109,11 @@ pub fn only_front(wanted: u8, bytes: &[u8], offset: usize, end: usize) -> Result
     ensures moves { IfOk result (λ _. (3 ≤ length bytes.now) × (offset + 3 ≤ end)) }
     ensures short { IfErr result (λ e. e ≡ Partial → length bytes.now < 3) }
 {
-    let n = match short_length_front(bytes, offset, end) {
-        Ok(n) => n,
-        Err(stop) => return Err(stop),
-    };
+    let n = short_length_front(bytes, offset, end)?;
     let rest = rest_after(bytes, 1);
-    match only_text(wanted, n, rest, offset + 1) {
-        Ok(()) => {}
-        Err(stop) => return Err(stop),
-    }
-    match nul_front(rest_after(rest, 1), offset + 1 + 1) {
-        Ok(()) => Ok(()),
-        Err(stop) => Err(stop),
-    }
+    only_text(wanted, n, rest, offset + 1)?;
+    nul_front(rest_after(rest, 1), offset + 1 + 1)?;
+    Ok(())
 }
 
 /// The reason of a text that is not of the kind that is wanted.
@@ -163,16 +149,10 @@ pub fn name_front(
     ensures moves { IfOk result (λ n. (n ≤ length bytes.now) × (offset + n ≤ end)) }
     ensures short { IfErr result (λ e. e ≡ Partial → length bytes.now < 267) }
 {
-    let zeros = match padding(bytes, offset, end, 4) {
-        Ok(zeros) => zeros,
-        Err(stop) => return Err(stop),
-    };
+    let zeros = padding(bytes, offset, end, 4)?;
     let at = offset + zeros;
     let rest = rest_after(bytes, zeros);
-    let n = match word(rest, at, end, order) {
-        Ok(n) => n,
-        Err(stop) => return Err(stop),
-    };
+    let n = word(rest, at, end, order)?;
     if n > NAME_LIMIT {
         return refuse(at, Reason::NameTooLong);
     }
@@ -180,10 +160,8 @@ pub fn name_front(
     if end - (at + 4) <= n {
         return refuse(at, Reason::Overrun);
     }
-    match ended_front(kind, n, rest_after(rest, 4), at + 4, text_reason(kind)) {
-        Ok(()) => Ok(zeros + (n + 5)),
-        Err(stop) => Err(stop),
-    }
+    ended_front(kind, n, rest_after(rest, 4), at + 4, text_reason(kind))?;
+    Ok(zeros + (n + 5))
 }
 
 /// A UINT32, and how many bytes it has with its padding. `ZeroSerial` at the number if it is to be
@@ -201,14 +179,8 @@ pub fn uint32_front(
     ensures moves { IfOk result (λ x. (x.1 ≤ length bytes.now) × (offset + x.1 ≤ end)) }
     ensures short { IfErr result (λ e. e ≡ Partial → length bytes.now < 8) }
 {
-    let zeros = match padding(bytes, offset, end, 4) {
-        Ok(zeros) => zeros,
-        Err(stop) => return Err(stop),
-    };
-    let n = match word(rest_after(bytes, zeros), offset + zeros, end, order) {
-        Ok(n) => n,
-        Err(stop) => return Err(stop),
-    };
+    let zeros = padding(bytes, offset, end, 4)?;
+    let n = word(rest_after(bytes, zeros), offset + zeros, end, order)?;
     if !serial {
         return Ok((n, zeros + 4));
     }

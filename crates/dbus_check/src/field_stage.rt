@@ -64,13 +64,9 @@ impl Progress {
         ensures few { IfOk result (λ m. m < 4294967296) }
         ensures short { IfErr result (λ e. e ≡ Partial → length bytes.now < 257) }
     {
-        match only_front(b'o', bytes, self.offset + n, self.end) {
-            Ok(()) => {
-                self.hold(code, n + 3, b"o");
-                Ok(3)
-            }
-            Err(stop) => Err(stop),
-        }
+        only_front(b'o', bytes, self.offset + n, self.end)?;
+        self.hold(code, n + 3, b"o");
+        Ok(3)
     }
 
     /// The signature of a value of any type, n bytes further: the value is wanted next.
@@ -83,13 +79,9 @@ impl Progress {
         ensures few { IfOk result (λ m. m < 4294967296) }
         ensures short { IfErr result (λ e. e ≡ Partial → length bytes.now < 257) }
     {
-        match signature_front(TextKind::Single, bytes, self.offset + n, self.end) {
-            Ok(size) => {
-                self.hold(code, n + size + 2, front(rest_after(bytes, 1), size));
-                Ok(size + 2)
-            }
-            Err(stop) => Err(stop),
-        }
+        let size = signature_front(TextKind::Single, bytes, self.offset + n, self.end)?;
+        self.hold(code, n + size + 2, front(rest_after(bytes, 1), size));
+        Ok(size + 2)
     }
 
     /// The body's signature, n bytes further: it is noted.
@@ -102,23 +94,19 @@ impl Progress {
         ensures few { IfOk result (λ m. m < 4294967296) }
         ensures short { IfErr result (λ e. e ≡ Partial → length bytes.now < 270) }
     {
-        match text_field(bytes, self.offset + n, self.end) {
-            Ok(size) => {
-                self.signature.clear();
-                match self
-                    .signature
-                    .try_extend_from_slice(front(rest_after(bytes, 4), size))
-                {
-                    Ok(()) => {}
-                    // There is room for it.
-                    Err(_) => unreachable!(),
-                }
-                self.seen.note(code);
-                self.offset += n + size + 5;
-                Ok(size + 5)
-            }
-            Err(stop) => Err(stop),
+        let size = text_field(bytes, self.offset + n, self.end)?;
+        self.signature.clear();
+        match self
+            .signature
+            .try_extend_from_slice(front(rest_after(bytes, 4), size))
+        {
+            Ok(()) => {}
+            // There is room for it.
+            Err(_) => unreachable!(),
         }
+        self.seen.note(code);
+        self.offset += n + size + 5;
+        Ok(size + 5)
     }
 
     /// The value of a field of this code, n bytes further: all of it, or what is read before it
@@ -137,31 +125,25 @@ impl Progress {
             Wanted::Anything => self.anything(code, n, bytes),
             Wanted::Path => self.path(code, n, bytes),
             Wanted::Signature => self.types(code, n, bytes),
-            Wanted::Name(kind) => match name_field(kind, bytes, at, self.end, self.order) {
-                Ok(size) => {
-                    self.seen.note(code);
-                    self.offset += n + size;
-                    Ok(size)
-                }
-                Err(stop) => Err(stop),
-            },
-            Wanted::Serial => match uint32_field(true, bytes, at, self.end, self.order) {
-                Ok(taken) => {
-                    self.seen.note(code);
-                    self.offset += n + taken.1;
-                    Ok(taken.1)
-                }
-                Err(stop) => Err(stop),
-            },
-            Wanted::Number => match uint32_field(false, bytes, at, self.end, self.order) {
-                Ok((count, size)) => {
-                    self.fds = count;
-                    self.seen.note(code);
-                    self.offset += n + size;
-                    Ok(size)
-                }
-                Err(stop) => Err(stop),
-            },
+            Wanted::Name(kind) => {
+                let size = name_field(kind, bytes, at, self.end, self.order)?;
+                self.seen.note(code);
+                self.offset += n + size;
+                Ok(size)
+            }
+            Wanted::Serial => {
+                let taken = uint32_field(true, bytes, at, self.end, self.order)?;
+                self.seen.note(code);
+                self.offset += n + taken.1;
+                Ok(taken.1)
+            }
+            Wanted::Number => {
+                let (count, size) = uint32_field(false, bytes, at, self.end, self.order)?;
+                self.fds = count;
+                self.seen.note(code);
+                self.offset += n + size;
+                Ok(size)
+            }
         }
     }
 
@@ -175,13 +157,8 @@ impl Progress {
         ensures some { IfOk result (λ n. 0 < n) }
         ensures short { IfErr result (λ e. e ≡ Partial → length bytes.now < 288) }
     {
-        let (code, n) = match self.code(bytes) {
-            Ok(coded) => coded,
-            Err(stop) => return Err(stop),
-        };
-        match self.value(code, n, rest_after(bytes, n)) {
-            Ok(size) => Ok(n + size),
-            Err(stop) => Err(stop),
-        }
+        let (code, n) = self.code(bytes)?;
+        let size = self.value(code, n, rest_after(bytes, n))?;
+        Ok(n + size)
     }
 }

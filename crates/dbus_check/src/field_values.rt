@@ -39,14 +39,9 @@ pub fn name_field(
     ensures moves { IfOk result (λ n. (n ≤ length bytes.now) × (offset + n ≤ end)) }
     ensures short { IfErr result (λ e. e ≡ Partial → length bytes.now < 270) }
 {
-    match only_front(b's', bytes, offset, end) {
-        Ok(()) => {}
-        Err(stop) => return Err(stop),
-    }
-    match name_front(kind, rest_after(bytes, 3), offset + 3, end, order) {
-        Ok(n) => Ok(n + 3),
-        Err(stop) => Err(stop),
-    }
+    only_front(b's', bytes, offset, end)?;
+    let n = name_front(kind, rest_after(bytes, 3), offset + 3, end, order)?;
+    Ok(n + 3)
 }
 
 /// A UINT32: a REPLY_SERIAL, or how many descriptors come with the message.
@@ -65,14 +60,9 @@ pub fn uint32_field(
     ensures moves { IfOk result (λ x. (x.1 ≤ length bytes.now) × (offset + x.1 ≤ end)) }
     ensures short { IfErr result (λ e. e ≡ Partial → length bytes.now < 270) }
 {
-    match only_front(b'u', bytes, offset, end) {
-        Ok(()) => {}
-        Err(stop) => return Err(stop),
-    }
-    match uint32_front(serial, rest_after(bytes, 3), offset + 3, end, order) {
-        Ok((count, n)) => Ok((count, n + 3)),
-        Err(stop) => Err(stop),
-    }
+    only_front(b'u', bytes, offset, end)?;
+    let (count, n) = uint32_front(serial, rest_after(bytes, 3), offset + 3, end, order)?;
+    Ok((count, n + 3))
 }
 
 /// The body's signature: the number of bytes of its text, which comes after the first four, with a
@@ -88,12 +78,6 @@ pub fn text_field(bytes: &[u8], offset: usize, end: usize) -> Result<usize, Stop
         IsKind Signature (take n (drop 4 bytes.now))) }
     ensures short { IfErr result (λ e. e ≡ Partial → length bytes.now < 270) }
 {
-    match only_front(b'g', bytes, offset, end) {
-        Ok(()) => {}
-        Err(stop) => return Err(stop),
-    }
-    match signature_front(TextKind::Signature, rest_after(bytes, 3), offset + 3, end) {
-        Ok(n) => Ok(n),
-        Err(stop) => Err(stop),
-    }
+    only_front(b'g', bytes, offset, end)?;
+    signature_front(TextKind::Signature, rest_after(bytes, 3), offset + 3, end)
 }

@@ -65,10 +65,7 @@ impl Pieces {
             // There is room for it.
             Err(_) => return Ok(0),
         }
-        let taken = match self.progress.run(self.kept.as_slice()) {
-            Ok(taken) => taken,
-            Err(fault) => return Err(fault),
-        };
+        let taken = self.progress.run(self.kept.as_slice())?;
         if taken < before {
             self.keep_after(taken);
             return Ok(given.len());
@@ -98,10 +95,7 @@ impl Pieces {
         requires none { self.old.kept.items ≡ [] }
         ensures { (to : To) → Holds self.old to → Fed piece.now result self.new to }
     {
-        let taken = match self.progress.run(piece) {
-            Ok(taken) => taken,
-            Err(fault) => return Err(fault),
-        };
+        let taken = self.progress.run(piece)?;
         if !self.progress.is_live() {
             return Ok(taken);
         }
@@ -131,17 +125,13 @@ impl Pieces {
     {
         let mut n = 0;
         while n < piece.len() && !self.kept.is_empty() {
-            match self.join(rest_after(piece, n)) {
-                Ok(more) => n += more,
-                Err(fault) => return Err(fault),
-            }
+            let more = self.join(rest_after(piece, n))?;
+            n += more;
         }
         if !self.kept.is_empty() {
             return Ok(n);
         }
-        match self.pass(rest_after(piece, n)) {
-            Ok(more) => Ok(n + more),
-            Err(fault) => Err(fault),
-        }
+        let passed = self.pass(rest_after(piece, n))?;
+        Ok(n + passed)
     }
 }

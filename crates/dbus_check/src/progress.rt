@@ -93,21 +93,17 @@ impl Progress {
         ensures some { IfOk result (λ n. 0 < n) }
         ensures short { IfErr result (λ e. e ≡ Partial → length bytes.now < 16) }
     {
-        match read_fixed_header(front(bytes, 16), self.limits) {
-            Ok(header) => {
-                self.order = header.order;
-                self.kind = header.kind;
-                self.body = header.body;
-                self.offset = 16;
-                self.end = 16 + header.fields as usize;
-                self.fds = 0;
-                self.seen = Seen::none();
-                self.signature.clear();
-                self.stage = Stage::Fields;
-                Ok(16)
-            }
-            Err(stop) => Err(stop),
-        }
+        let header = read_fixed_header(front(bytes, 16), self.limits)?;
+        self.order = header.order;
+        self.kind = header.kind;
+        self.body = header.body;
+        self.offset = 16;
+        self.end = 16 + header.fields as usize;
+        self.fds = 0;
+        self.seen = Seen::none();
+        self.signature.clear();
+        self.stage = Stage::Fields;
+        Ok(16)
     }
 
     /// That no required field is missing, once the fields are over: `FieldMissing` with the lowest
@@ -135,23 +131,19 @@ impl Progress {
         ensures stage { IfOk result (λ _. self.new.stage ≡ Body) }
         ensures short { IfErr result (λ e. e ≡ Partial → length bytes.now < 8) }
     {
-        match padding(bytes, self.offset, self.offset + 8, 8) {
-            Ok(zeros) => {
-                self.offset += zeros;
-                self.end = self.offset + self.body as usize;
-                let fds = self.limits.fds.index_limit(self.fds);
-                self.values.begin(
-                    self.limits.bounds_with(fds),
-                    self.order,
-                    self.offset,
-                    self.end,
-                    self.signature.as_slice(),
-                    self.limits.depth,
-                );
-                self.stage = Stage::Body;
-                Ok(zeros)
-            }
-            Err(stop) => Err(stop),
-        }
+        let zeros = padding(bytes, self.offset, self.offset + 8, 8)?;
+        self.offset += zeros;
+        self.end = self.offset + self.body as usize;
+        let fds = self.limits.fds.index_limit(self.fds);
+        self.values.begin(
+            self.limits.bounds_with(fds),
+            self.order,
+            self.offset,
+            self.end,
+            self.signature.as_slice(),
+            self.limits.depth,
+        );
+        self.stage = Stage::Body;
+        Ok(zeros)
     }
 }

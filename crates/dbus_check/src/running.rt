@@ -32,10 +32,8 @@ impl Progress {
                 if self.offset < self.end {
                     return self.field(bytes);
                 }
-                match self.missing() {
-                    Ok(()) => Ok(0),
-                    Err(stop) => Err(stop),
-                }
+                self.missing()?;
+                Ok(0)
             }
             Stage::Value => self.more(bytes),
             Stage::Padding => self.padding(bytes),

@@ -1,4 +1,5 @@
 use Rattle.std.proofs.Common.{ℕ, ◌+◌, ◌∷◌, Ok, Err, refl, ◌∙◌, arith}
+use Rattle.std.proofs.lemmas.Result.{err_from_is_err_and}
 use Rattle.dbus_texts.specs.Types.{UINT32, NumberType}
 use Rattle.dbus_value_model.specs.WantedTexts.{Of}
 use Rattle.dbus_message_model.specs.Messages.{Name, OfType, Serial, number_in}
@@ -11,40 +12,40 @@ use Rattle.dbus_check.proofs.progress.Progress.value.Goals as goal
 pub returns-in-Signature-clause-moves : goal.returns-in-Signature-clause-moves
 returns-in-Signature-clause-moves c = λ to w. passed_moves c.args.self.now c.types.new.self c.args.bytes.now c.types.result to (c.types.ensures.stage ∙ c.requires.stage) (c.types.ensures.passes to w)
 
-pub returns-in-Ok-clause-moves : goal.returns-in-Ok-clause-moves
-returns-in-Ok-clause-moves c = λ to w.
-    let a = c.args in let x = a.self.now in let fits = c.in-Ok.ensures.moves.1 in
-    let y : Progress = record x { seen = c.note.new.self; offset = x.offset + (a.n + c.in-Ok.size) } in
-    passed_moves x y a.bytes.now (Ok c.in-Ok.size) to c.requires.stage (plain_passed x a.code a.n to w (Name (Of c.in-Name.kind)) c.in-Name.ensures a.bytes.now (plain_code (Name (Of c.in-Name.kind)) a.code c.in-Name.ensures (λ e. cc) (λ e. cc)) nothing_of (λ (m : ℕ). (tt, m)) y c.in-Ok.size (c.in-Ok.ensures.gives x.limits)
+pub returns-in_ok-size-in-Name-clause-moves : goal.returns-in_ok-size-in-Name-clause-moves
+returns-in_ok-size-in-Name-clause-moves c = λ to w.
+    let a = c.args in let x = a.self.now in let fits = c.in_ok-size-in-Name.ensures.moves.1 in
+    let y : Progress = record x { seen = c.note.new.self; offset = x.offset + (a.n + c.in_ok-size-in-Name.size) } in
+    passed_moves x y a.bytes.now (Ok c.in_ok-size-in-Name.size) to c.requires.stage (plain_passed x a.code a.n to w (Name (Of c.in-Name.kind)) c.in-Name.ensures a.bytes.now (plain_code (Name (Of c.in-Name.kind)) a.code c.in-Name.ensures (λ e. cc) (λ e. cc)) nothing_of (λ (m : ℕ). (tt, m)) y c.in_ok-size-in-Name.size (c.in_ok-size-in-Name.ensures.gives x.limits)
     (record { limits = refl; order = refl; kind = refl; body = refl; end = refl; offset = omega arith }) (omega arith) (c.note.ensures w.kept.codes w.keeps.sees) refl refl)
 
-pub returns-in-Err-clause-moves : goal.returns-in-Err-clause-moves
-returns-in-Err-clause-moves c = λ to w.
+pub returns-in_err-size-in-Name-clause-moves : goal.returns-in_err-size-in-Name-clause-moves
+returns-in_err-size-in-Name-clause-moves c = let p = err_from_is_err_and c.from_residual.result c.from_residual.ensures.1 in rw (p.1, p.2) (λ to w.
     let a = c.args in let x = a.self.now in
-    passed_moves x x a.bytes.now (Err c.in-Err.stop) to c.requires.stage (plain_stops x a.code a.n to w (Name (Of c.in-Name.kind)) c.in-Name.ensures a.bytes.now (plain_code (Name (Of c.in-Name.kind)) a.code c.in-Name.ensures (λ e. cc) (λ e. cc)) nothing_of (λ (m : ℕ). (tt, m)) c.in-Err.stop (c.in-Err.ensures.gives x.limits))
+    passed_moves x x a.bytes.now (Err c.in_err-size-in-Name.field-0.0) to c.requires.stage (plain_stops x a.code a.n to w (Name (Of c.in-Name.kind)) c.in-Name.ensures a.bytes.now (plain_code (Name (Of c.in-Name.kind)) a.code c.in-Name.ensures (λ e. cc) (λ e. cc)) nothing_of (λ (m : ℕ). (tt, m)) c.in_err-size-in-Name.field-0.0 (c.in_err-size-in-Name.ensures.gives x.limits)))
 
-pub returns-in-Ok-uint32_field-clause-moves : goal.returns-in-Ok-uint32_field-clause-moves
-returns-in-Ok-uint32_field-clause-moves c = λ to w.
-    let a = c.args in let x = a.self.now in let fits = c.in-Ok-uint32_field.ensures.moves.1 in
-    let taken = c.in-Ok-uint32_field.taken in
-    let y : Progress = record x { seen = c.note-in-Ok-uint32_field.new.self; offset = x.offset + (a.n + taken.1) } in
-    passed_moves x y a.bytes.now (Ok taken.1) to c.requires.stage (plain_passed x a.code a.n to w Serial c.in-Serial.ensures a.bytes.now (plain_code Serial a.code c.in-Serial.ensures (λ e. cc) (λ e. cc)) number_in (λ (x : ℕ × ℕ). x) y taken (c.in-Ok-uint32_field.ensures.gives x.limits)
-    (record { limits = refl; order = refl; kind = refl; body = refl; end = refl; offset = omega arith }) (omega arith) (c.note-in-Ok-uint32_field.ensures w.kept.codes w.keeps.sees) refl refl)
+pub returns-in_ok-taken-in-Serial-clause-moves : goal.returns-in_ok-taken-in-Serial-clause-moves
+returns-in_ok-taken-in-Serial-clause-moves c = λ to w.
+    let a = c.args in let x = a.self.now in let fits = c.in_ok-taken-in-Serial.ensures.moves.1 in
+    let taken = c.in_ok-taken-in-Serial.taken in
+    let y : Progress = record x { seen = c.note-in-Serial.new.self; offset = x.offset + (a.n + taken.1) } in
+    passed_moves x y a.bytes.now (Ok taken.1) to c.requires.stage (plain_passed x a.code a.n to w Serial c.in-Serial.ensures a.bytes.now (plain_code Serial a.code c.in-Serial.ensures (λ e. cc) (λ e. cc)) number_in (λ (x : ℕ × ℕ). x) y taken (c.in_ok-taken-in-Serial.ensures.gives x.limits)
+    (record { limits = refl; order = refl; kind = refl; body = refl; end = refl; offset = omega arith }) (omega arith) (c.note-in-Serial.ensures w.kept.codes w.keeps.sees) refl refl)
 
-pub returns-in-Err-uint32_field-clause-moves : goal.returns-in-Err-uint32_field-clause-moves
-returns-in-Err-uint32_field-clause-moves c = λ to w.
+pub returns-in_err-taken-in-Serial-clause-moves : goal.returns-in_err-taken-in-Serial-clause-moves
+returns-in_err-taken-in-Serial-clause-moves c = let p = err_from_is_err_and c.from_residual-in_err-taken-in-Serial.result c.from_residual-in_err-taken-in-Serial.ensures.1 in rw (p.1, p.2) (λ to w.
     let a = c.args in let x = a.self.now in
-    passed_moves x x a.bytes.now (Err c.in-Err-uint32_field.stop) to c.requires.stage (plain_stops x a.code a.n to w Serial c.in-Serial.ensures a.bytes.now (plain_code Serial a.code c.in-Serial.ensures (λ e. cc) (λ e. cc)) number_in (λ (x : ℕ × ℕ). x) c.in-Err-uint32_field.stop (c.in-Err-uint32_field.ensures.gives x.limits))
+    passed_moves x x a.bytes.now (Err c.in_err-taken-in-Serial.field-0.0) to c.requires.stage (plain_stops x a.code a.n to w Serial c.in-Serial.ensures a.bytes.now (plain_code Serial a.code c.in-Serial.ensures (λ e. cc) (λ e. cc)) number_in (λ (x : ℕ × ℕ). x) c.in_err-taken-in-Serial.field-0.0 (c.in_err-taken-in-Serial.ensures.gives x.limits)))
 
-pub returns-in-Ok-uint32_field-2-clause-moves : goal.returns-in-Ok-uint32_field-2-clause-moves
-returns-in-Ok-uint32_field-2-clause-moves c = λ to w.
-    let a = c.args in let x = a.self.now in let ok = c.in-Ok-uint32_field-2 in let fits = ok.ensures.moves.1 in
+pub returns-in_ok-count-in-Number-clause-moves : goal.returns-in_ok-count-in-Number-clause-moves
+returns-in_ok-count-in-Number-clause-moves c = λ to w.
+    let a = c.args in let x = a.self.now in let ok = c.in_ok-count-in-Number in let fits = ok.ensures.moves.1 in
     let nine = count_code a.code c.in-Number.ensures in
-    let y : Progress = record x { fds = ok.count; seen = c.note-in-Ok-uint32_field-2.new.self; offset = x.offset + (a.n + ok.size) } in
+    let y : Progress = record x { fds = ok.count; seen = c.note-in-Number.new.self; offset = x.offset + (a.n + ok.size) } in
     passed_moves x y a.bytes.now (Ok ok.size) to c.requires.stage (field_passed x a.code a.n to w (OfType (NumberType UINT32)) c.in-Number.ensures a.bytes.now number_in (the_kept (a.code ∷ w.kept.codes) w.kept.text) (λ (y : ℕ × ℕ). y) (λ v. kept_count w.kept a.code w.keeps.no_text w.keeps.no_count v nine w.once)
     y (ok.count, ok.size) (ok.ensures.gives x.limits) (record { limits = refl; order = refl; kind = refl; body = refl; end = refl; offset = omega arith }) (omega arith)
     (record {
-      sees = c.note-in-Ok-uint32_field-2.ensures w.kept.codes w.keeps.sees;
+      sees = c.note-in-Number.ensures w.kept.codes w.keeps.sees;
       text = w.keeps.text;
       signature = w.keeps.signature;
       count = refl;
@@ -52,8 +53,8 @@ returns-in-Ok-uint32_field-2-clause-moves c = λ to w.
       no_count = λ h. absurd ((not_before 9 a.code w.kept.codes h).1 nine);
     }))
 
-pub returns-in-Err-uint32_field-2-clause-moves : goal.returns-in-Err-uint32_field-2-clause-moves
-returns-in-Err-uint32_field-2-clause-moves c = λ to w.
+pub returns-in_err-count-in-Number-clause-moves : goal.returns-in_err-count-in-Number-clause-moves
+returns-in_err-count-in-Number-clause-moves c = let p = err_from_is_err_and c.from_residual-in_err-count-in-Number.result c.from_residual-in_err-count-in-Number.ensures.1 in rw (p.1, p.2) (λ to w.
     let a = c.args in let x = a.self.now in let nine = count_code a.code c.in-Number.ensures in
-    passed_moves x x a.bytes.now (Err c.in-Err-uint32_field-2.stop) to c.requires.stage (field_stops x a.code a.n to w (OfType (NumberType UINT32)) c.in-Number.ensures a.bytes.now number_in (the_kept (a.code ∷ w.kept.codes) w.kept.text) (λ (y : ℕ × ℕ). y) (λ v. kept_count w.kept a.code w.keeps.no_text w.keeps.no_count v nine w.once)
-    c.in-Err-uint32_field-2.stop (c.in-Err-uint32_field-2.ensures.gives x.limits))
+    passed_moves x x a.bytes.now (Err c.in_err-count-in-Number.field-0.0) to c.requires.stage (field_stops x a.code a.n to w (OfType (NumberType UINT32)) c.in-Number.ensures a.bytes.now number_in (the_kept (a.code ∷ w.kept.codes) w.kept.text) (λ (y : ℕ × ℕ). y) (λ v. kept_count w.kept a.code w.keeps.no_text w.keeps.no_count v nine w.once)
+    c.in_err-count-in-Number.field-0.0 (c.in_err-count-in-Number.ensures.gives x.limits)))
