@@ -1,8 +1,9 @@
 -- Lanes of eight bits: what the operations give in one lane, and masks in which each lane is
 -- marked.
-use Rattle.std.proofs.Common.{◌≡◌, ℕ, zero, suc, ◌+◌, ◌-◌, ◌*◌, ◌%◌, ◌^◌, ◌<◌, Bool, true, false, not, ◌&&◌, cond, eqb, ltb, List, ⊎_elim, length, refl, sym, subst, arith}
+use Rattle.std.proofs.Common.{◌≡◌, ℕ, zero, suc, ◌+◌, ◌-◌, ◌*◌, ◌/◌, ◌%◌, ◌^◌, ◌<◌, ◌≤◌, Bool, true, false, not, ◌&&◌, cond, eqb, ltb, List, [], ◌∷◌, ⊎_elim, length, get_or, refl, sym, ap, ◌∙◌, subst, arith, div-mul-le_self}
 use Rattle.std.proofs.lemmas.Bool.{and_parts, cases_lt, eqb-true}
-use Rattle.std.proofs.lemmas.Simd.{mask_l-mod}
+use Rattle.std.proofs.lemmas.Simd.{mask_l-lt, mask_l-mod}
+use Rattle.std.proofs.Math.Nat.{lt-div-mul-add}
 use native.Mathlib.Numerals.{unary_clauses}
 use lib.Lanes.{mask_l, top}
 
@@ -35,14 +36,39 @@ pub top_mark : (p : Bool) → top 7 (cond p 255 0) ≡ p
 top_mark true = refl
 top_mark false = refl
 
--- a mask of ones only
-pub first_one : (b : Bool) (m p : ℕ) → cond b 1 0 + 2 * m + 1 ≡ 2 * p → (b ≡ true) × (m + 1 ≡ p)
-first_one true m p e = (refl, omega arith)
-first_one false m p e = absurd (omega arith)
-
 pub pow_two : (n : ℕ) → 2 ^ suc n ≡ 2 * 2 ^ n
 pow_two n = simp unary_clauses (omega arith)
 
--- the mask of 16 lanes is whole
-pub whole_mask : (ms : List Bool) → length ms ≡ 16 → eqb (mask_l ms % 2 ^ 64) 65535 ≡ true → mask_l ms + 1 ≡ 2 ^ 16
-whole_mask ms long e = omega (arith, eqb-true _ _ e, mask_l-mod ms 64 (omega arith))
+pub two_positive : (n : ℕ) → 0 < 2 ^ n
+two_positive zero = omega arith
+two_positive (suc n) = omega (arith, pow_two n, two_positive n)
+
+-- a mask that is at most 2 ^ k - 1 below that of ones only: each lane from k on is marked
+at_most_one : (b : Bool) → cond b 1 0 ≤ 1
+at_most_one true = omega arith
+at_most_one false = omega arith
+
+is_set : (b : Bool) → 0 < cond b 1 0 → b ≡ true
+is_set true h = refl
+is_set false h = absurd (omega arith)
+
+marked_at : (ms : List Bool) (k i : ℕ) → 2 ^ length ms ≤ mask_l ms + 2 ^ k → k ≤ i → i < length ms → get_or ms i false ≡ true
+marked_at [] k i h from to = absurd (omega arith)
+marked_at (m ∷ ms) zero zero h from to = is_set m (omega (arith, pow_two (length ms), mask_l-lt ms))
+marked_at (m ∷ ms) zero (suc i) h from to = marked_at ms zero i (omega (arith, pow_two (length ms), at_most_one m)) (omega arith) (omega arith)
+marked_at (m ∷ ms) (suc k) zero h from to = absurd (omega arith)
+marked_at (m ∷ ms) (suc k) (suc i) h from to = marked_at ms k i (omega (arith, pow_two (length ms), pow_two k, at_most_one m)) (omega arith) (omega arith)
+
+-- where the masks have the same lanes from k on
+near : (whole part p : ℕ) → 65535 < part + p → part ≤ whole → 2 ^ 16 ≤ whole + p
+near whole part p h k = omega arith
+
+pub marked_from : (ms : List Bool) (k : ℕ) → length ms ≡ 16 → eqb (mask_l ms % 2 ^ 64 / 2 ^ k) (65535 / 2 ^ k) ≡ true → (i : ℕ) → k ≤ i → i < 16 → get_or ms i false ≡ true
+marked_from ms k long e i from to =
+    let mask = mask_l ms in
+    let small : mask % 2 ^ 64 ≡ mask = mask_l-mod ms 64 (omega (arith, long)) in
+    let same : 65535 / 2 ^ k ≡ mask / 2 ^ k = sym (eqb-true _ _ e) ∙ ap (λ (m : ℕ). m / 2 ^ k) small in
+    let ones : 65535 < 65535 / 2 ^ k * 2 ^ k + 2 ^ k = lt-div-mul-add (two_positive k) in
+    let above : 65535 < mask / 2 ^ k * 2 ^ k + 2 ^ k = subst (λ (d : ℕ). 65535 < d * 2 ^ k + 2 ^ k) same ones in
+    let most : 2 ^ 16 ≤ mask + 2 ^ k = near mask (mask / 2 ^ k * 2 ^ k) (2 ^ k) above (div-mul-le_self mask (2 ^ k)) in
+    marked_at ms k i (subst (λ (n : ℕ). 2 ^ n ≤ mask + 2 ^ k) (sym long) most) from (omega (arith, long, to))

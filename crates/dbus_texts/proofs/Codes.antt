@@ -1,7 +1,7 @@
 -- The types that one byte spells.
-use Rattle.std.proofs.Common.{◌≡◌, ℕ, Bool, true, false, ◌||◌, eqb, List, [], ◌∷◌, length, get_or, append-nil, arith, ◌⊎◌, ⊎_elim, inl, inr, refl, sym, ap, ◌∙◌}
+use Rattle.std.proofs.Common.{◌≡◌, ℕ, Bool, true, false, ◌||◌, eqb, List, [], ◌∷◌, ◌++◌, length, get_or, append-nil, arith, ◌⊎◌, ⊎_elim, inl, inr, refl, sym, ap, ap₂, ◌∙◌}
 use Rattle.std.proofs.lemmas.Bool.{eqb-true}
-use Rattle.dbus_texts.specs.Types.{TypeTree, NumberCode, BYTE, BOOLEAN, INT16, UINT16, INT32, UINT32, INT64, UINT64, DOUBLE, UNIX_FD, TextCode, STRING, OBJECT_PATH, SIGNATURE, NumberType, TextType, VariantType, NoTypes, MoreTypes, number_code, text_code, sig, IsBasic, IsComplete}
+use Rattle.dbus_texts.specs.Types.{TypeTree, NumberCode, BYTE, BOOLEAN, INT16, UINT16, INT32, UINT32, INT64, UINT64, DOUBLE, UNIX_FD, TextCode, STRING, OBJECT_PATH, SIGNATURE, NumberType, TextType, VariantType, ArrayType, StructType, EntryType, NoTypes, MoreTypes, number_code, text_code, sig, IsBasic, IsComplete}
 use Rattle.dbus_texts.specs.Signatures.{IsSignature, IsSingle}
 use Rattle.dbus_texts.specs.SignatureScans.{is_basic_code, is_type_code}
 
@@ -79,3 +79,44 @@ coded_single w one e = let t = code_type (get_or w 0 0) e in (t.0, t.2 false 0 0
 
 pub coded_signature : (w : List ℕ) → length w ≡ 1 → is_type_code (get_or w 0 0) ≡ true → IsSignature w
 coded_signature w one e = let t = code_type (get_or w 0 0) e in (MoreTypes t.0 NoTypes, (t.2 false 0 0, tt), one_byte w one ∙ sym t.1 ∙ sym (append-nil (sig t.0)))
+
+-- an array of a code
+pub array_single : (w : List ℕ) → length w ≡ 2 → get_or w 0 0 ≡ 97 → is_type_code (get_or w 1 0) ≡ true → IsSingle w
+array_single [] long a code = absurd (omega arith)
+array_single (x ∷ []) long a code = absurd (omega arith)
+array_single (x ∷ b ∷ []) long a code =
+    let t = code_type b code in
+    (ArrayType t.0, (omega arith, t.2 true 1 0), ap (λ y. y ∷ b ∷ []) a ∙ ap (λ l. 97 ∷ l) (sym t.1))
+array_single (x ∷ b ∷ c ∷ w) long a code = absurd (omega arith)
+
+-- a struct of two codes
+pub pair_single : (w : List ℕ) → length w ≡ 4 → get_or w 0 0 ≡ 40 → is_type_code (get_or w 1 0) ≡ true → is_type_code (get_or w 2 0) ≡ true → get_or w 3 0 ≡ 41 → IsSingle w
+pair_single [] long opens first second closes = absurd (omega arith)
+pair_single (x ∷ []) long opens first second closes = absurd (omega arith)
+pair_single (x ∷ b ∷ []) long opens first second closes = absurd (omega arith)
+pair_single (x ∷ b ∷ c ∷ []) long opens first second closes = absurd (omega arith)
+pair_single (x ∷ b ∷ c ∷ y ∷ []) long opens first second closes =
+    let t = code_type b first in
+    let u = code_type c second in
+    let spelled : sig (StructType (MoreTypes t.0 (MoreTypes u.0 NoTypes))) ≡ 40 ∷ b ∷ c ∷ 41 ∷ [] = ap₂ (λ (p q : List ℕ). 40 ∷ ((p ++ (q ++ [])) ++ 41 ∷ [])) t.1 u.1 in
+    (StructType (MoreTypes t.0 (MoreTypes u.0 NoTypes)), (omega arith, tt, (t.2 false 0 1, (u.2 false 0 1, tt))), ap₂ (λ (p q : ℕ). p ∷ b ∷ c ∷ q ∷ []) opens closes ∙ sym spelled)
+pair_single (x ∷ b ∷ c ∷ y ∷ z ∷ w) long opens first second closes = absurd (omega arith)
+
+-- an array of dict entries of two codes
+pub entries_single : (w : List ℕ) → length w ≡ 5 → get_or w 0 0 ≡ 97 → get_or w 1 0 ≡ 123 → is_basic_code (get_or w 2 0) ≡ true → is_type_code (get_or w 3 0) ≡ true → get_or w 4 0 ≡ 125 → IsSingle w
+entries_single [] long a opens key value closes = absurd (omega arith)
+entries_single (x ∷ []) long a opens key value closes = absurd (omega arith)
+entries_single (x ∷ o ∷ []) long a opens key value closes = absurd (omega arith)
+entries_single (x ∷ o ∷ b ∷ []) long a opens key value closes = absurd (omega arith)
+entries_single (x ∷ o ∷ b ∷ c ∷ []) long a opens key value closes = absurd (omega arith)
+entries_single (x ∷ o ∷ b ∷ c ∷ y ∷ []) long a opens key value closes =
+    let k = basic_type b key in
+    let v = code_type c value in
+    let spelled : sig (ArrayType (EntryType k.0 v.0)) ≡ 97 ∷ 123 ∷ b ∷ c ∷ 125 ∷ [] = ap₂ (λ (p q : List ℕ). 97 ∷ 123 ∷ (p ++ (q ++ 125 ∷ []))) k.1 v.1 in
+    let begun : x ∷ o ∷ b ∷ c ∷ y ∷ [] ≡ 97 ∷ 123 ∷ b ∷ c ∷ y ∷ [] = ap₂ (λ (p q : ℕ). p ∷ q ∷ b ∷ c ∷ y ∷ []) a opens in
+    (ArrayType (EntryType k.0 v.0), (omega arith, (refl, k.2, v.2 false 1 0)), begun ∙ ap (λ (q : ℕ). 97 ∷ 123 ∷ b ∷ c ∷ q ∷ []) closes ∙ sym spelled)
+entries_single (x ∷ o ∷ b ∷ c ∷ y ∷ z ∷ w) long a opens key value closes = absurd (omega arith)
+
+-- the signature of one type
+pub signature_of : (w : List ℕ) → IsSingle w → IsSignature w
+signature_of w h = (MoreTypes h.0 NoTypes, (h.1, tt), h.2 ∙ sym (append-nil (sig h.0)))

@@ -3,7 +3,6 @@ mod Quotients
 pub mod ByteLanes
 pub mod PlainBlocks
 mod NameSteps
-mod WordBlocks
 mod LinkedBlocks
 mod WholeNames
 mod Utf8Steps

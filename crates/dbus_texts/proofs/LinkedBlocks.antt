@@ -1,15 +1,15 @@
 -- Two blocks, the second of which stands one byte after the first: each of its bytes may stand
 -- after the one before it.
-use Rattle.std.proofs.Common.{◌≡◌, ℕ, zero, suc, ◌+◌, ◌-◌, ◌*◌, ◌%◌, ◌^◌, ◌<◌, ◌≤◌, Bool, true, false, not, ◌&&◌, ◌||◌, cond, eqb, List, [], ◌∷◌, ⊎_elim, map, length, get_or, replicate, bit_and, bit_or, refl, sym, ap, ap₂, ◌∙◌, subst, arith, w8, Fits, IsTrue}
+use Rattle.std.proofs.Common.{◌≡◌, ℕ, ◌+◌, ◌-◌, ◌%◌, ◌/◌, ◌^◌, ◌<◌, ◌≤◌, Bool, true, false, not, ◌&&◌, ◌||◌, cond, eqb, List, [], ◌∷◌, ⊎_elim, map, length, drop, get_or, replicate, bit_and, bit_or, refl, sym, ap, ap₂, ◌∙◌, subst, arith, w8, Fits, IsTrue}
 use Rattle.std.proofs.lemmas.Bool.{cases_lt, eqb-true}
-use Rattle.std.proofs.lemmas.Simd.{get_or-chunk, length-chunk}
-use Rattle.std.proofs.lemmas.List.{length-map}
-use lib.Lanes.{zip2, mask_l, top, Each1, Each2, chunk}
-use Rattle.dbus_texts.proofs.ByteLanes.{less, below, same_as, differs, below_holds, first_one, pow_two, whole_mask, top_mark}
+use Rattle.std.proofs.lemmas.Simd.{length-zip2, get_or-zip2, get_or-chunk, Each1-get_or}
+use Rattle.std.proofs.lemmas.List.{length-map, length-drop, get_or-map, get_or-drop}
+use lib.Lanes.{zip2, mask_l, top, Each1, chunk}
+use Rattle.dbus_texts.proofs.ByteLanes.{less, below, same_as, differs, below_holds, marked_from, top_mark}
 use Rattle.dbus_texts.specs.declared.names.Letters.{Letters}
 use Rattle.dbus_texts.specs.declared.names.Letters.TheVariants.{Word}
-use Rattle.dbus_texts.specs.NameScans.{begins, goes_on, separator}
-use Rattle.dbus_texts.specs.Neighbours.{may_follow, extra, first_digits}
+use Rattle.dbus_texts.specs.NameScans.{begins, goes_on}
+use Rattle.dbus_texts.specs.Neighbours.{may_follow, extra, first_digits, AreLinked}
 
 abbrev alpha_mark : ℕ → ℕ → ℕ
 alpha_mark e b = bit_or (bit_or (below (less (bit_or b 32) 97) 26) (same_as b 95)) (same_as b e)
@@ -40,12 +40,12 @@ and_marks true false = refl
 and_marks false true = refl
 and_marks false false = refl
 
-link_mark_is : (l : Letters) (a b : ℕ) → b < 256 → top 7 (link_mark (separator l) (extra l) (first_digits l) a b) ≡ may_follow l a b
-link_mark_is l a b h =
+link_mark_is : (s : ℕ) (l : Letters) (a b : ℕ) → b < 256 → top 7 (link_mark s (extra l) (first_digits l) a b) ≡ may_follow s l a b
+link_mark_is s l a b h =
     ap (top 7) (ap₂ bit_and
-    (ap (λ x. bit_or x (same_as b (separator l))) (goes_on_mark l b h) ∙ or_marks (goes_on l b) (eqb b (separator l)))
-    (ap (bit_or (differs a (separator l))) (begins_mark l b h) ∙ or_marks (not (eqb a (separator l))) (begins l b))
-    ∙ and_marks (goes_on l b || eqb b (separator l)) (not (eqb a (separator l)) || begins l b))
+    (ap (λ x. bit_or x (same_as b s)) (goes_on_mark l b h) ∙ or_marks (goes_on l b) (eqb b s))
+    (ap (bit_or (differs a s)) (begins_mark l b h) ∙ or_marks (not (eqb a s)) (begins l b))
+    ∙ and_marks (goes_on l b || eqb b s) (not (eqb a s) || begins l b))
     ∙ top_mark _
 
 abbrev alphas : ℕ → ℕ → List ℕ → List ℕ
@@ -57,59 +57,54 @@ withins e k n ys = zip2 bit_or (alphas e n ys) (zip2 below (zip2 less ys (replic
 abbrev link_marks : ℕ → ℕ → ℕ → ℕ → List ℕ → List ℕ → List ℕ
 link_marks s e k n xs ys = zip2 bit_and (zip2 bit_or (withins e 10 n ys) (zip2 same_as ys (replicate n s))) (zip2 bit_or (zip2 differs xs (replicate n s)) (withins e k n ys))
 
-abbrev Links : Letters → List ℕ → List ℕ → Type 0
-Links l xs ys = Each2 (λ a b. IsTrue (may_follow l a b)) xs ys
+links_each : (s e k : ℕ) (xs ys : List ℕ) → length xs ≡ length ys → link_marks s e k (length ys) xs ys ≡ zip2 (link_mark s e k) xs ys
+links_each s e k [] [] same = refl
+links_each s e k [] (b ∷ ys) same = absurd (omega arith)
+links_each s e k (a ∷ xs) [] same = absurd (omega arith)
+links_each s e k (a ∷ xs) (b ∷ ys) same = ap (λ r. link_mark s e k a b ∷ r) (links_each s e k xs ys (omega arith))
 
-links_marked : (l : Letters) (xs ys : List ℕ) → length xs ≡ length ys → Each1 (Fits w8) ys → mask_l (map (top 7) (link_marks (separator l) (extra l) (first_digits l) (length ys) xs ys)) + 1 ≡ 2 ^ length ys → Links l xs ys
-links_marked l [] ys same f e = tt
-links_marked l (a ∷ xs) [] same f e = tt
-links_marked l (a ∷ xs) (b ∷ ys) same f e =
-    let twice : 2 ^ suc (length ys) ≡ 2 * 2 ^ length ys = pow_two (length ys) in
-    let ones = first_one (top 7 (link_mark (separator l) (extra l) (first_digits l) a b)) (mask_l (map (top 7) (link_marks (separator l) (extra l) (first_digits l) (length ys) xs ys))) (2 ^ length ys) (omega (arith, e, twice)) in
-    (sym (link_mark_is l a b f.0.fits) ∙ ones.0, links_marked l xs ys (omega arith) f.1 ones.1)
+-- from a lane on each byte of ys may stand after that of xs
+abbrev pub Links : ℕ → Letters → ℕ → List ℕ → List ℕ → Type 0
+Links s l lane xs ys = (i : ℕ) → lane ≤ i → i < 16 → IsTrue (may_follow s l (get_or xs i 0) (get_or ys i 0))
 
-link_marks_each : (s e k : ℕ) (xs ys : List ℕ) → length xs ≡ length ys → length (link_marks s e k (length ys) xs ys) ≡ length ys
-link_marks_each s e k [] [] same = refl
-link_marks_each s e k [] (b ∷ ys) same = absurd (omega arith)
-link_marks_each s e k (a ∷ xs) [] same = absurd (omega arith)
-link_marks_each s e k (a ∷ xs) (b ∷ ys) same = ap suc (link_marks_each s e k xs ys (omega arith))
+links_of_marks : (s : ℕ) (l : Letters) (lane : ℕ) (xs ys : List ℕ) → length xs ≡ 16 → length ys ≡ 16 → Each1 (Fits w8) ys → eqb (mask_l (map (top 7) (link_marks s (extra l) (first_digits l) 16 xs ys)) % 2 ^ 64 / 2 ^ lane) (65535 / 2 ^ lane) ≡ true → Links s l lane xs ys
+links_of_marks s l lane xs ys first second f e i from to =
+    let mark = link_mark s (extra l) (first_digits l) in
+    let marks = link_marks s (extra l) (first_digits l) 16 xs ys in
+    let beside : length xs ≡ length ys = first ∙ sym second in
+    let each : marks ≡ zip2 mark xs ys = subst (λ n. link_marks s (extra l) (first_digits l) n xs ys ≡ zip2 mark xs ys) second (links_each s (extra l) (first_digits l) xs ys beside) in
+    let lanes : length marks ≡ 16 = ap length each ∙ (length-zip2 mark xs ys beside ∙ first) in
+    let marked : get_or (map (top 7) marks) i false ≡ true = marked_from (map (top 7) marks) lane (length-map marks (top 7) ∙ lanes) e i from to in
+    let one : get_or marks i 0 ≡ mark (get_or xs i 0) (get_or ys i 0) = ap (λ (r : List ℕ). get_or r i 0) each ∙ get_or-zip2 mark xs ys i 0 0 0 (omega (arith, first, to)) (omega (arith, second, to)) in
+    let byte = Each1-get_or (Fits w8) ys i 0 (omega (arith, second, to)) f in
+    sym (link_mark_is s l (get_or xs i 0) (get_or ys i 0) byte.fits) ∙ (sym (get_or-map (top 7) marks i 0 false (omega (arith, lanes, to)) ∙ ap (top 7) one) ∙ marked)
 
-links_of_marks : (l : Letters) (xs ys : List ℕ) → length xs ≡ 16 → length ys ≡ 16 → Each1 (Fits w8) ys → eqb (mask_l (map (top 7) (link_marks (separator l) (extra l) (first_digits l) 16 xs ys)) % 2 ^ 64) 65535 ≡ true → Links l xs ys
-links_of_marks l xs ys first second f e =
-    let lanes : length (link_marks (separator l) (extra l) (first_digits l) 16 xs ys) ≡ 16 = subst (λ n. length (link_marks (separator l) (extra l) (first_digits l) n xs ys) ≡ n) second (link_marks_each (separator l) (extra l) (first_digits l) xs ys (first ∙ sym second)) in
-    let tops = length-map (link_marks (separator l) (extra l) (first_digits l) 16 xs ys) (top 7) ∙ lanes in
-    links_marked l xs ys (first ∙ sym second) f (subst (λ n. mask_l (map (top 7) (link_marks (separator l) (extra l) (first_digits l) n xs ys)) + 1 ≡ 2 ^ n) (sym second) (whole_mask _ tops e))
+pub links_of_mask : (s : ℕ) (l : Letters) (e k lane : ℕ) (xs ys : List ℕ) → e ≡ extra l → k ≡ first_digits l → length xs ≡ 16 → length ys ≡ 16 → Each1 (Fits w8) ys → eqb (mask_l (map (top 7) (link_marks s e k 16 xs ys)) % 2 ^ 64 / 2 ^ lane) (65535 / 2 ^ lane) ≡ true → Links s l lane xs ys
+links_of_mask s l e k lane xs ys p q first second f h =
+    links_of_marks s l lane xs ys first second f (rw (p, q) at h)
 
-pub links_of_mask : (l : Letters) (s e k : ℕ) (xs ys : List ℕ) → s ≡ separator l → e ≡ extra l → k ≡ first_digits l → length xs ≡ 16 → length ys ≡ 16 → Each1 (Fits w8) ys → eqb (mask_l (map (top 7) (link_marks s e k 16 xs ys)) % 2 ^ 64) 65535 ≡ true → Links l xs ys
-links_of_mask l s e k xs ys p q r first second f h =
-    links_of_marks l xs ys first second f (rw (p, q, r) at h)
+-- from blocks to the bytes: from start up to a place each byte is followed by one that may stand there
+abbrev pub LinkedTo : ℕ → Letters → List ℕ → ℕ → ℕ → Type 0
+LinkedTo s l xs start to = (i : ℕ) → start ≤ i → i < to → IsTrue (may_follow s l (get_or xs i 0) (get_or xs (i + 1) 0))
 
--- from blocks to the text
-links_at : (l : Letters) (xs ys : List ℕ) → Links l xs ys → (i : ℕ) → i < length xs → i < length ys → IsTrue (may_follow l (get_or xs i 0) (get_or ys i 0))
-links_at l [] ys h i p q = absurd (omega arith)
-links_at l (a ∷ xs) [] h i p q = absurd (omega arith)
-links_at l (a ∷ xs) (b ∷ ys) h zero p q = h.0
-links_at l (a ∷ xs) (b ∷ ys) h (suc i) p q = links_at l xs ys h.1 i (omega arith) (omega arith)
+links_more : (s : ℕ) (l : Letters) (xs : List ℕ) (start at block next : ℕ) → next ≡ block + 1 → block ≤ at → LinkedTo s l xs start at → Links s l (at - block) (chunk block 16 xs) (chunk next 16 xs) → LinkedTo s l xs start (block + 16)
+links_more s l xs start at block next n le before h i from to = ⊎_elim (λ k. before i from k) (λ k. after k) (cases_lt i at)
+  where
+    after : at ≤ i → IsTrue (may_follow s l (get_or xs i 0) (get_or xs (i + 1) 0))
+    after k =
+        let place : block + (i - block) ≡ i = omega arith in
+        let beside : next + (i - block) ≡ i + 1 = omega arith in
+        let within : i - block < 16 = omega arith in
+        let one = h (i - block) (omega arith) within in
+        subst (λ b. IsTrue (may_follow s l (get_or xs i 0) b)) (get_or-chunk next 16 xs (i - block) 0 within ∙ ap (λ j. get_or xs j 0) beside)
+        (subst (λ a. IsTrue (may_follow s l a (get_or (chunk next 16 xs) (i - block) 0))) (get_or-chunk block 16 xs (i - block) 0 within ∙ ap (λ j. get_or xs j 0) place) one)
 
-pub links_after : (l : Letters) (xs : List ℕ) (at next : ℕ) → next ≡ at + 1 → at + 17 ≤ length xs → Links l (chunk at 16 xs) (chunk next 16 xs) → (i : ℕ) → at ≤ i → i < at + 16 → IsTrue (may_follow l (get_or xs i 0) (get_or xs (i + 1) 0))
-links_after l xs at next n room h i p q =
-    let place : at + (i - at) ≡ i = omega arith in
-    let beside : next + (i - at) ≡ i + 1 = omega arith in
-    let within : i - at < 16 = omega arith in
-    let one = links_at l (chunk at 16 xs) (chunk next 16 xs) h (i - at) (omega (arith, length-chunk at 16 xs (omega arith))) (omega (arith, length-chunk next 16 xs (omega arith))) in
-    subst (λ b. IsTrue (may_follow l (get_or xs i 0) b)) (get_or-chunk next 16 xs (i - at) 0 within ∙ ap (λ j. get_or xs j 0) beside)
-    (subst (λ a. IsTrue (may_follow l a (get_or (chunk next 16 xs) (i - at) 0))) (get_or-chunk at 16 xs (i - at) 0 within ∙ ap (λ j. get_or xs j 0) place) one)
+pub links_turn : (s : ℕ) (l : Letters) (xs : List ℕ) (start at : ℕ) → LinkedTo s l xs start at → Links s l 0 (chunk at 16 xs) (chunk (at + 1) 16 xs) → LinkedTo s l xs start (at + 16)
+links_turn s l xs start at before h = links_more s l xs start at at (at + 1) refl (omega arith) before (λ i from to. h i (omega arith) to)
 
-pub links_more : (l : Letters) (xs : List ℕ) (at : ℕ) → at + 17 ≤ length xs → ((i : ℕ) → i < at → IsTrue (may_follow l (get_or xs i 0) (get_or xs (i + 1) 0))) → Links l (chunk at 16 xs) (chunk (at + 1) 16 xs) → (i : ℕ) → i < at + 16 → IsTrue (may_follow l (get_or xs i 0) (get_or xs (i + 1) 0))
-links_more l xs at room before h i q = ⊎_elim (λ k. before i k) (λ k. links_after l xs at (at + 1) refl room h i (omega arith) q) (cases_lt i at)
-
--- one byte more
-pub links_one : (l : Letters) (xs : List ℕ) (at : ℕ) → 1 ≤ at → ((i : ℕ) → i + 1 < at → IsTrue (may_follow l (get_or xs i 0) (get_or xs (i + 1) 0))) → may_follow l (get_or xs (at - 1) 0) (get_or xs at 0) ≡ true → (i : ℕ) → i + 1 < at + 1 → IsTrue (may_follow l (get_or xs i 0) (get_or xs (i + 1) 0))
-links_one l xs at some before h i q =
-    ⊎_elim
-    (λ k. before i k)
-    (λ k.
-    let left : at - 1 ≡ i = omega arith in
-    let right : at ≡ i + 1 = omega arith in
-    subst (λ n. IsTrue (may_follow l (get_or xs i 0) (get_or xs n 0))) right (subst (λ n. IsTrue (may_follow l (get_or xs n 0) (get_or xs at 0))) left h))
-    (cases_lt (i + 1) at)
+pub links_last : (s : ℕ) (l : Letters) (xs : List ℕ) (start at last : ℕ) → length xs ≡ last + 17 → last ≤ at → LinkedTo s l xs start at → Links s l (at - last) (chunk last 16 xs) (chunk (last + 1) 16 xs) → AreLinked s l (drop start xs)
+links_last s l xs start at last long le before h j m =
+    let beside : start + (j + 1) ≡ start + j + 1 = omega arith in
+    subst (λ b. IsTrue (may_follow s l (get_or (drop start xs) j 0) b)) (sym (get_or-drop start xs (j + 1) 0 ∙ ap (λ k. get_or xs k 0) beside))
+    (subst (λ a. IsTrue (may_follow s l a (get_or xs (start + j + 1) 0))) (sym (get_or-drop start xs j 0))
+    (links_more s l xs start at last (last + 1) refl le before h (start + j) (omega arith) (omega (arith, m, length-drop start xs, long))))

@@ -6,7 +6,7 @@ use Rattle.std.proofs.lemmas.Bool.Decides.{nat_tests}
 use Rattle.std.proofs.lemmas.Simd.{length-zip2, mask_l-mod}
 use Rattle.std.proofs.Math.Nat.{lt-div-mul-add}
 use Rattle.std.proofs.lemmas.List.{length-map, length-replicate}
-use Rattle.dbus_texts.proofs.ByteLanes.{less, pow_two}
+use Rattle.dbus_texts.proofs.ByteLanes.{less, pow_two, two_positive}
 use lib.Lanes.{zip2, mask_l, top, Each1}
 
 abbrev pub at_least : ℕ → ℕ → ℕ
@@ -28,10 +28,6 @@ none_marked zero (x ∷ xs) f h = (plain_lane x f.0.fits (unmarked (top 7 (at_le
     unmarked true l = absurd (omega arith)
     unmarked false l = refl
 none_marked (suc k) (x ∷ xs) f h = none_marked k xs f.1 (omega (arith, pow_two k))
-
-two_positive : (n : ℕ) → 0 < 2 ^ n
-two_positive zero = omega arith
-two_positive (suc n) = omega (arith, pow_two n, two_positive n)
 
 pub plain_from : (lanes lane : ℕ) (xs : List ℕ) → lanes ≤ 64 → length xs ≡ lanes → Each1 (Fits w8) xs → eqb (mask_l (map (top 7) (marks lanes xs)) % 2 ^ 64 / 2 ^ lane) 0 ≡ true → AllByRecursion (IsInRange 1 127) (drop lane xs)
 plain_from lanes lane xs few long f e =

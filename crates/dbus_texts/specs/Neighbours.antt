@@ -4,20 +4,15 @@ use Rattle.std.specs.Prelude.{ℕ, ◌+◌, ◌<◌, Bool, not, ◌&&◌, ◌||�
 use Rattle.dbus_texts.specs.Characters.{hyphen, underscore}
 use Rattle.dbus_texts.specs.declared.names.Letters.{Letters}
 use Rattle.dbus_texts.specs.declared.names.Letters.TheVariants.{Word, Name, Unique, WellKnown}
-use Rattle.dbus_texts.specs.Names.{is_word}
-use Rattle.dbus_texts.specs.NameScans.{begins, goes_on, separator}
+use Rattle.dbus_texts.specs.NameScans.{begins, goes_on}
 
--- whether b may stand after a
-abbrev pub may_follow : Letters → ℕ → ℕ → Bool
-may_follow l a b = (goes_on l b || b == separator l) && (not (a == separator l) || begins l b)
+-- whether b may stand after a, if s stands between elements
+abbrev pub may_follow : ℕ → Letters → ℕ → ℕ → Bool
+may_follow s l a b = (goes_on l b || b == s) && (not (a == s) || begins l b)
 
--- each byte may stand after the one before it
-abbrev pub AreLinked : Letters → List ℕ → Type 0
-AreLinked l w = (i : ℕ) → i + 1 < length w → IsTrue (may_follow l (get_or w i 0) (get_or w (i + 1) 0))
-
--- each byte is `[A-Za-z0-9_]`
-abbrev pub AreWords : List ℕ → Type 0
-AreWords w = (i : ℕ) → i < length w → IsTrue (is_word (get_or w i 0))
+-- each byte may stand after the one before it, if s stands between elements
+abbrev pub AreLinked : ℕ → Letters → List ℕ → Type 0
+AreLinked s l w = (i : ℕ) → i + 1 < length w → IsTrue (may_follow s l (get_or w i 0) (get_or w (i + 1) 0))
 
 -- `-` if an element may have it, else `_`, which each may have
 abbrev pub extra : Letters → ℕ

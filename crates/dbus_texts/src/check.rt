@@ -5,13 +5,14 @@ ghost use Rattle.std.specs.Prelude.{◌≡◌, ◌↔◌, ℕ, List, ◌∷◌, 
 ghost use Rattle.dbus_texts.specs.declared.text_kind.TextKind.TheVariants.{Path, Interface, Member, ErrorName, BusName, Signature, Single};
 ghost use Rattle.dbus_texts.specs.declared.check.SigFault.TheVariants.{Memory};
 ghost use Rattle.dbus_texts.specs.Kinds.{IsBreak, IsOfKind};
+ghost use Rattle.dbus_texts.specs.Signatures.{IsSingle};
 ghost use Rattle.dbus_texts.specs.Verdicts.{IsBreakOf, IsTextBreak, IsVerdict, IsPathVerdict, IsSigVerdict};
 
 use crate::scan::ScanState;
-use crate::text_kind::TextKind;
-use crate::type_codes::is_type_code;
+use crate::text_kind::{LONGEST, TextKind};
+use crate::type_codes::{is_basic_code, is_type_code};
 use crate::utf8::is_text;
-use crate::whole_names::is_name;
+use crate::whole_names::is_name_at_once;
 use std::alloc::{AllocError, AllocFailed};
 use thiserror::Error;
 
@@ -58,31 +59,49 @@ impl<T: Drop> From<AllocFailed<T>> for SigFault {
     }
 }
 
-/// The most bytes of a name or a signature.
-const LONGEST: usize = 255;
+/// Whether the text spells one type of a form that most signatures have: a code; an array of one,
+/// or of dict entries of two; or a struct of two.
+#[tactic(auto, using(crate::proofs::Codes::coded_single, crate::proofs::Codes::array_single, crate::proofs::Codes::pair_single, crate::proofs::Codes::entries_single))]
+fn is_common_type(text: &[u8]) -> bool
+    ensures { IsTrue result → IsSingle text.now }
+{
+    match text.len() {
+        1 => is_type_code(text[0]),
+        2 => text[0] == b'a' && is_type_code(text[1]),
+        4 => {
+            text[0] == b'(' && is_type_code(text[1]) && is_type_code(text[2]) && text[3] == b')'
+        }
+        5 => {
+            if text[0] != b'a' || text[1] != b'{' || text[4] != b'}' {
+                return false;
+            }
+            is_basic_code(text[2]) && is_type_code(text[3])
+        }
+        _ => false,
+    }
+}
 
-/// Whether one byte is there, for a signature, and spells a type: so are most signatures of
-/// variants.
-#[tactic(auto, using(crate::proofs::Codes::coded_signature, crate::proofs::Codes::coded_single))]
-fn is_one_code(kind: TextKind, text: &[u8]) -> bool
+/// Whether the text is of the kind, if that is one of signatures, as far as a quick look shows.
+#[tactic(auto, using(crate::proofs::Codes::signature_of))]
+fn is_common_signature(kind: TextKind, text: &[u8]) -> bool
     ensures { IsTrue result → IsOfKind kind text.now }
 {
     match kind {
-        TextKind::Signature | TextKind::Single => text.len() == 1 && is_type_code(text[0]),
+        TextKind::Signature | TextKind::Single => is_common_type(text),
         _ => false,
     }
 }
 
 /// Whether the text is of the kind, limits on length aside, as far as a quick look shows: it knows
-/// each STRING, path and name, and signatures of one byte.
+/// each STRING, paths and names of at least 17 bytes, and the commonest signatures.
 #[inline(always)]
 fn is_seen_at_once(kind: TextKind, text: &[u8]) -> bool
     ensures { IsTrue result → IsOfKind kind text.now }
 {
     match kind {
         TextKind::Text => is_text(text),
-        TextKind::Signature | TextKind::Single => is_one_code(kind, text),
-        _ => is_name(kind, text),
+        TextKind::Signature | TextKind::Single => is_common_signature(kind, text),
+        _ => is_name_at_once(kind, text, 0),
     }
 }
 

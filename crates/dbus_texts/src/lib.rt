@@ -11,7 +11,6 @@ mod byte_scan;
 mod check;
 pub mod laws;
 mod name_blocks;
-mod name_bytes;
 mod names;
 mod scan;
 mod signature;
@@ -26,3 +25,4 @@ pub use check::{
 };
 pub use scan::TextScan;
 pub use text_kind::TextKind;
+pub use whole_names::is_name_at_once;

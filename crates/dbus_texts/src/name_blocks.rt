@@ -1,13 +1,11 @@
-//! Blocks of sixteen bytes of names, each byte validated in a lane of its own.
+//! Texts in which each byte may be where it is in a name, by what the byte is and the one before
+//! it: by blocks of sixteen bytes, each byte in a lane of its own.
 //!
 //! D-Bus Specification, "Valid Object Paths" and "Valid Names".
 #![tactic(auto)]
 
-ghost use Rattle.std.specs.Prelude.{◌≡◌, IsTrue};
-ghost use Rattle.std.specs.List.{AllByRecursion};
-ghost use Rattle.std.specs.Simd.Lanes.{Each2};
-ghost use Rattle.dbus_texts.specs.Names.{is_word};
-ghost use Rattle.dbus_texts.specs.Neighbours.{may_follow, extra, first_digits};
+ghost use Rattle.std.specs.Prelude.{◌≡◌, ℕ, ◌<◌, ◌≤◌, length, drop, get_or, IsTrue};
+ghost use Rattle.dbus_texts.specs.Neighbours.{may_follow, extra, first_digits, AreLinked};
 
 use crate::names::Letters;
 use std::simd::prelude::*;
@@ -23,19 +21,6 @@ const DIGITS: u8 = 10;
 
 /// The mask in which each lane is marked.
 const ALL: u64 = 0xffff;
-
-/// Whether each byte of the block is `[A-Za-z0-9_]`.
-#[inline(always)]
-#[tactic(auto, using(crate::proofs::WordBlocks::words_of_mask))]
-pub fn are_words(block: u8x16) -> bool
-    ensures { IsTrue result → AllByRecursion (λ b. IsTrue (is_word b)) block }
-{
-    let letters = ((block | u8x16::splat(SMALL)) - u8x16::splat(b'a')).simd_lt(u8x16::splat(
-        LETTERS,
-    ));
-    let digits = (block - u8x16::splat(b'0')).simd_lt(u8x16::splat(DIGITS));
-    (letters | digits | block.simd_eq(u8x16::splat(b'_'))).to_bitmask() == ALL
-}
 
 impl Letters {
     /// `-` if an element may have it, else `_`, which each may have.
@@ -61,18 +46,55 @@ impl Letters {
     }
 }
 
-/// Whether each byte of the block may follow the byte at its place in the other.
+/// Whether from a lane on each byte of the block may follow the byte at its place in the other, if
+/// `separator` stands between elements.
 #[inline(always)]
-pub fn are_linked(letters: Letters, before: u8x16, block: u8x16) -> bool
-    ensures { IsTrue result → Each2 (λ a b. IsTrue (may_follow letters a b)) before block }
+fn are_linked(separator: u8, letters: Letters, before: u8x16, block: u8x16, lane: usize) -> bool
+    requires { lane ≤ 16 }
+    ensures { IsTrue result → (i : ℕ) → lane ≤ i → i < 16 →
+        IsTrue (may_follow separator letters (get_or before i 0) (get_or block i 0)) }
 {
-    let separator = u8x16::splat(letters.separator());
+    let separators = u8x16::splat(separator);
     let starts = ((block | u8x16::splat(SMALL)) - u8x16::splat(b'a')).simd_lt(u8x16::splat(LETTERS))
         | block.simd_eq(u8x16::splat(b'_'))
         | block.simd_eq(u8x16::splat(letters.extra()));
     let digits = block - u8x16::splat(b'0');
-    let goes_on = starts | digits.simd_lt(u8x16::splat(DIGITS)) | block.simd_eq(separator);
-    let begins = before.simd_ne(separator)
+    let goes_on = starts | digits.simd_lt(u8x16::splat(DIGITS)) | block.simd_eq(separators);
+    let begins = before.simd_ne(separators)
         | (starts | digits.simd_lt(u8x16::splat(letters.first_digits())));
-    (goes_on & begins).to_bitmask() == ALL
+    (goes_on & begins).to_bitmask() >> lane == ALL >> lane
+}
+
+/// Whether each byte from `start` on, but the first, may follow the one before it, if `separator`
+/// stands between elements. A no says nothing, since fewer than 17 bytes make no block. The last
+/// block ends with the bytes, so bytes before `start` may be in it, of which nothing is asked.
+#[inline(always)]
+pub fn is_linked(separator: u8, letters: Letters, bytes: &[u8], start: usize) -> bool
+    requires { start < length bytes.now }
+    ensures { IsTrue result → AreLinked separator letters (drop start bytes.now) }
+{
+    if bytes.len() <= 16 {
+        return false;
+    }
+    let last = bytes.len() - 17;
+    let mut at = start;
+    while at < last {
+        if !are_linked(
+            separator,
+            letters,
+            u8x16::from_slice(&bytes[at..]),
+            u8x16::from_slice(&bytes[at + 1..]),
+            0,
+        ) {
+            return false;
+        }
+        at += 16;
+    }
+    are_linked(
+        separator,
+        letters,
+        u8x16::from_slice(&bytes[last..]),
+        u8x16::from_slice(&bytes[last + 1..]),
+        at - last,
+    )
 }

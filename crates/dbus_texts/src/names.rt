@@ -55,7 +55,7 @@ pub struct NameScan {
 }
 
 /// `[A-Za-z0-9_]`, of which small letters are asked for first, since most are.
-pub fn is_word(byte: u8) -> bool
+fn is_word(byte: u8) -> bool
     ensures { result ≡ is_word byte }
 {
     byte.is_ascii_lowercase() || byte.is_ascii_alphanumeric() || byte == b'_'

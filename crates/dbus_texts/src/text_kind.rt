@@ -3,6 +3,9 @@
 
 ghost use Rattle.std.specs.Prelude.{◌≡◌};
 
+/// The most bytes of a text of a kind that is limited.
+pub(crate) const LONGEST: usize = 255;
+
 /// A kind of text: which byte strings are allowed where it is wanted.
 ///
 /// D-Bus Specification, "Basic types", "Valid Object Paths" and "Valid Names".
