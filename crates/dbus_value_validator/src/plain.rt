@@ -1,4 +1,5 @@
-//! Texts known by a quick look: ASCII, by blocks of sixteen bytes, and signatures of one code.
+//! Texts known by a quick look: ASCII, by blocks of sixteen bytes, paths and names, and signatures
+//! of one code.
 #![tactic(auto)]
 
 ghost use Rattle.std.specs.Prelude.{◌≡◌, ◌+◌, ◌≤◌, length, take, drop, IsTrue};
@@ -7,6 +8,7 @@ ghost use Rattle.std.specs.Int.{IsInRange};
 ghost use Rattle.dbus_texts.specs.Kinds.{IsKind};
 
 use crate::basic::is_basic;
+use dbus_texts::is_name_at_once;
 use dbus_types::TextKind;
 use std::simd::prelude::*;
 
@@ -47,7 +49,7 @@ fn is_plain(bytes: &[u8], start: usize, n: usize) -> bool
 }
 
 /// Whether n bytes are a text of the kind, as far as a quick look shows: it knows most texts of
-/// ASCII, and signatures of no type or of one basic type. A no says nothing.
+/// ASCII, paths and names, and signatures of no type or of one basic type. A no says nothing.
 #[inline]
 pub(crate) fn is_seen_at_once(kind: TextKind, bytes: &[u8], start: usize, n: usize) -> bool
     requires { start + n ≤ length bytes.now }
@@ -57,6 +59,6 @@ pub(crate) fn is_seen_at_once(kind: TextKind, bytes: &[u8], start: usize, n: usi
         TextKind::Text => is_plain(bytes, start, n),
         TextKind::Signature => n == 0 || n == 1 && is_basic(bytes[start]),
         TextKind::Single => n == 1 && is_basic(bytes[start]),
-        _ => false,
+        _ => is_name_at_once(kind, &bytes[..start + n], start),
     }
 }

@@ -1,5 +1,5 @@
 use Rattle.std.proofs.Common.{◌≡◌, ◌⊎◌, ◌+◌, ◌≤◌, ℕ, List, length, take, drop, get_or, true, inl, inr, refl, sym, ap, subst, ◌∙◌, arith}
-use Rattle.std.proofs.lemmas.List.{length-take, length-drop, get_or-take, drop_more}
+use Rattle.std.proofs.lemmas.List.{length-take, length-drop, get_or-take, drop_more, drop-take}
 use Rattle.dbus_texts.specs.Kinds.{IsKind}
 use Rattle.dbus_texts.specs.Types.{NoTypes}
 use Rattle.dbus_texts.specs.declared.text_kind.TextKind.{TextKind}
@@ -32,3 +32,6 @@ returns-then-n-eq1 c = λ yes. one_there c.args.kind c.args.bytes.now c.args.sta
 
 pub returns-then-n-eq1-2 : goal.returns-then-n-eq1-2
 returns-then-n-eq1-2 c = λ yes. one_there c.args.kind c.args.bytes.now c.args.start c.args.n c.requires c.if-n-eq1-2.true (inr c.in-Single.is) (sym c.is_basic-then-n-eq1-2.ensures ∙ yes)
+
+pub returns-in_default : goal.returns-in_default
+returns-in_default c = λ yes. subst (IsKind c.args.kind) (drop-take c.args.start c.args.n c.args.bytes.now) (c.is_name_at_once.ensures yes)
