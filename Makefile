@@ -27,7 +27,7 @@
 # make wrong-bodies prints the wrong bodies that the prover refuses, and what refuses each; bench/wrong_bodies.py tries those that are due, some or all
 # make instructions prints the instructions per byte of each command, by valgrind, and of libdbus if its headers are there
 # make bench       MB/s of each command on several streams, by user and system time, and of the calls of the libraries
-# make bench-c     nanoseconds of calls of the library for C, and of a set of 100,000 match rules
+# make bench-c     nanoseconds of calls of the library for C, and of a set of 100,000 match rules; MB/s of a checker of pieces
 
 PREFIX ?= /usr/local
 BINDIR ?= $(PREFIX)/bin
@@ -138,6 +138,8 @@ bench: build
 bench-c: library
 	$(CC) -std=c99 -D_GNU_SOURCE -O2 -Iinclude -o out/calls bench/calls.c $(ARCHIVE)
 	head -c 169 samples/session.dbus | out/calls 100000
+	$(CC) -std=c99 -D_GNU_SOURCE -O2 -Iinclude -o out/pieces bench/pieces.c $(ARCHIVE)
+	bench/pieces.sh out/pieces
 
 install: install-program install-c
 

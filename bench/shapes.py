@@ -6,6 +6,8 @@ dictionaries: a signal PropertiesChanged with twelve properties; objects: 16 to 
 them, so that many messages are cut by the end of a reader's buffer; texts: an array of 200 texts; structs: an array of 100 structs
 a(iiuxsb); bytes: an array of 32,000 bytes; doubles: an array of 1,000 doubles. All are in little endian.
 
+FOLDER/NAME.long has one message of about 1 MB, of one text: an object path, or characters of two bytes.
+
 FOLDER/NAME.worst has the most work a byte that a legal message asks for: one message of about 1 MB, an array of elements that are
 small, or nested, or wide; `fields` has header fields of no meaning in its place, and `signed` many messages of 255 empty signatures.
 
@@ -198,6 +200,20 @@ WORST = {
 }
 
 
+
+
+def text_message(code, text):
+    """A signal whose body is one text."""
+    body = struct.pack("<I", len(text)) + text + b"\0"
+    return header(code, len(body)) + body
+
+
+LONG = {
+    "path": lambda: text_message("o", b"/org/freedesktop/devices/abcdefghijklmnopqrstuvwxyz_0123456789" * (WORST_SIZE // 62)),
+    "accents": lambda: text_message("s", "\u00e9".encode() * (WORST_SIZE // 2)),
+}
+
+
 SEARCHED_SIZE = 200_000
 
 
@@ -260,9 +276,10 @@ def main():
     if sys.argv[1] == "--search":
         return search(*sys.argv[2:])
     random.seed(7)
-    for name, shape in WORST.items():
-        with open(f"{sys.argv[1]}/{name}.worst", "wb") as file:
-            file.write(shape())
+    for ending, shapes in (("worst", WORST), ("long", LONG)):
+        for name, shape in shapes.items():
+            with open(f"{sys.argv[1]}/{name}.{ending}", "wb") as file:
+                file.write(shape())
     for name, shape in SHAPES.items():
         with open(f"{sys.argv[1]}/{name}.dbus", "wb") as file:
             written = serial = 0
