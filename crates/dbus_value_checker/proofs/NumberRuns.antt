@@ -64,7 +64,7 @@ module _ (bounds : Bounds) (order : Order) (k : NumberCode) (plain : (index_limi
   begins turns o s aligned le =
       let some = width_positive k in
       elements_more bounds order turns depth_left end (NumberType k) next o s (omega arith)
-      ∙ value_begins bounds order depth_left end (NumberType k) o s (array turns) (λ e. cc)
+      ∙ value_begins bounds order depth_left end (NumberType k) o s (array turns) (omega arith)
       ∙ padding_zeros (width k) end o s (λ x. element turns) (omega arith)
       ∙ ap (λ (n : ℕ). after (zeros n o s) (λ x. element turns)) aligned
 

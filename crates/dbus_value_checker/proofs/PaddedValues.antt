@@ -13,17 +13,19 @@ use Rattle.dbus_value_model.specs.Items.{fault}
 use Rattle.dbus_value_model.specs.ValueItems.{number_row, text_row}
 use Rattle.dbus_value_model.specs.ValueReaders.{array_frame}
 use Rattle.dbus_value_model.specs.Reading.{Reader, Faulty, after, padding, number, text, nul, value}
+use Rattle.arrayvec.specs.ArrayVec.{ArrayVec}
 use Rattle.dbus_value_checker.specs.declared.values.ValueChecker.{ValueChecker}
 use Rattle.dbus_value_checker.specs.declared.values.Frame.{Frame}
 use Rattle.dbus_types.specs.SignatureCodes.{first_code}
-use Rattle.dbus_types.proofs.TypeCodes.{begins, after_code}
+use Rattle.dbus_types.proofs.TypeCodes.{begins, after_code, variant_is}
 use Rattle.dbus_value_checker.specs.Codes.{IsNumberCode}
-use Rattle.dbus_value_checker.specs.Suspended.{On, onward, done, Work, Parts, Elements, elements, work, works, own, own_of, opened_by}
+use Rattle.dbus_value_checker.specs.Suspended.{On, onward, done, Work, Parts, Elements, elements, work, works, TextItem, AString, AHeld, item_code, item_kind, item_width, item_on, head, ALength, own, own_of, opened_by}
 use Rattle.dbus_value_checker.specs.Fronts.{Fronts}
 use Rattle.dbus_value_checker.specs.Frames.{slice, Framed, extra}
 use Rattle.std.proofs.Common.{Result}
 use Rattle.dbus_texts.specs.declared.text_kind.TextKind.{TextKind}
-use Rattle.dbus_value_checker.specs.Denotations.{Answer, rest_of, HasFrames, Goes, Wants, Ready, Texts, after_piece}
+use Rattle.dbus_texts.specs.declared.text_kind.TextKind.TheVariants as kinds
+use Rattle.dbus_value_checker.specs.Denotations.{Answer, rest_of, HasFrames, Goes, Wants, Ready, IsKept, Texts, after_piece}
 use Rattle.dbus_value_checker.specs.Moves.{Moves, Pushed, Enters}
 use Rattle.dbus_value_checker.proofs.Suspension.{works_as, value_begins, after_after}
 use Rattle.dbus_value_checker.proofs.FrontSteps.{front_taken, front_stops}
@@ -45,16 +47,15 @@ module _ (x : ValueChecker) (pos stop : ℕ) (answer : Answer) (w : Wants x pos 
   pub wants_low : x.offset ≤ x.inner.end
   wants_low = (inner_of x (suc x.offset) w.ws w.frames).low
 
-  module _ (other : code ≡ 118 → ⊥) (a : ℕ) (a_is : (t : TypeTree) → first_code t ≡ code → a ≡ alignment_of t) where
+  module _ (a : ℕ) (a_is : (t : TypeTree) → first_code t ≡ code → a ≡ alignment_of t) where
     abbrev begun : Unit {0} → On
     begun z = own x.bounds x.order x.inner.end (own_of w.type x.inner.depth_left) (works x.bounds x.order (rest_of answer x w.ws) (opened_by w.type x.inner.depth_left x.inner.end))
 
     padded_same : (c : List ℕ) → after (padding a x.inner.end x.offset c) begun ≡ answer.to c
     padded_same c =
-        let not_variant : w.type ≡ VariantType → ⊥ = λ h. other (sym code_first ∙ ap first_code h) in
         let is : alignment_of w.type ≡ a = sym (a_is w.type code_first) in
         subst (λ (b : ℕ). after (padding b x.inner.end x.offset c) begun ≡ answer.to c) is
-        (sym (value_begins x.bounds x.order x.inner.depth_left x.inner.end w.type x.offset c (rest_of answer x w.ws) not_variant) ∙ w.same c)
+        (sym (value_begins x.bounds x.order x.inner.depth_left x.inner.end w.type x.offset c (rest_of answer x w.ws) wants_low) ∙ w.same c)
 
     pub wants_ready : (s : List ℕ) (n : ℕ) → Fronts (λ (n : ℕ). (tt, n)) x.offset s (Ok n) (padding a x.inner.end) → x.offset + n ≤ x.inner.end → Ready x pos stop n (after_piece answer (take n s))
     wants_ready s n h fits =
@@ -290,7 +291,39 @@ module _ (x : ValueChecker) (pos stop n : ℕ) (answer : Answer) (r : Ready x po
                 (front_taken (λ (m : ℕ × ℕ). m) (x.offset + n) s frame fill answer.to array_same (size, k) (sizes (Ok (size, k)) h) c));
           }
 
-  -- ---- a text
+  -- ---- a text, or the signature of a variant
+
+  module _ (i : TextItem) (begun : (c : List ℕ) → head x.bounds x.order x.inner.end (ALength i) (rest_of answer x r.wants.ws) (x.offset + n) c ≡ answer.to c) (s : List ℕ) where
+    abbrev sized : Reader ℕ
+    sized = number x.order (item_width i) x.inner.end (text_row x.inner.end)
+
+    abbrev lettered : ℕ → On
+    lettered size p u = after (text (item_kind i) size p u) (λ t. onward nul (item_on x.bounds x.order x.inner.end i (rest_of answer x r.wants.ws) t))
+
+    item_stops : (e : Stop) → Fronts (λ (m : ℕ × ℕ). m) (x.offset + n) s (Err e) sized → Moves x s (Err e) x answer
+    item_stops e h = front_stops (λ (m : ℕ × ℕ). m) (x.offset + n) s sized lettered answer.to begun x answer.last e h
+
+    item_starts : (size k : ℕ) → Fronts (λ (m : ℕ × ℕ). m) (x.offset + n) s (Ok (size, k)) sized → 0 < k → x.offset + n + k + size + 1 ≤ x.inner.end
+        → (scan : TextScan) (held : ArrayVec ℕ) → Of (scans.kind_of scan) ≡ item_kind i → Stands scan [] → IsKept i held.items x.inner.depth_left size []
+        → Texts (record x { offset = x.offset + n + k; scan = scan; held = held }) (item_code i) size (after_piece answer (take k s))
+    item_starts size k gives some fits scan held scans_is stands kept = record {
+      ws = r.wants.ws;
+      item = i;
+      size = size;
+      start = x.offset + n + k;
+      bytes = [];
+      frames = further (x.offset + n + k) (omega arith) (omega arith);
+      noted = r.wants.noted;
+      code_is = refl;
+      kept = kept;
+      scans = scans_is;
+      stands = stands;
+      offset = omega arith;
+      left_is = omega arith;
+      fits = fits;
+      near = r.near;
+      same = front_taken (λ (m : ℕ × ℕ). m) (x.offset + n) s sized lettered answer.to begun (size, k) gives;
+    }
 
   module _ (is : (code ≡ 103) ⊎ ((code ≡ 111) ⊎ (code ≡ 115))) where
     ready_text : (k : TextCode) × (r.wants.type ≡ TextType k)
@@ -299,41 +332,35 @@ module _ (x : ValueChecker) (pos stop n : ℕ) (answer : Answer) (r : Ready x po
     text_is : text_code ready_text.0 ≡ code
     text_is = ap first_code (sym ready_text.1) ∙ ready_first
 
-    abbrev sized : TextCode → Reader ℕ
-    sized k = number x.order (length_width k) x.inner.end (text_row x.inner.end)
-
-    abbrev lettered : ℕ → On
-    lettered size p u = after (text (kind_of ready_text.0) size p u) (λ t. onward nul (rest_of answer x r.wants.ws))
-
-    sized_same : (c : List ℕ) → after (sized ready_text.0 (x.offset + n) c) lettered ≡ answer.to c
-    sized_same c = ready_at (TextType ready_text.0) x.inner.depth_left ready_text.1 refl c
-
     module _ (s : List ℕ) where
       abbrev Counts : Result (ℕ × ℕ) Stop → Type 0
-      Counts e = (k : TextCode) → text_code k ≡ code → Fronts (λ (m : ℕ × ℕ). m) (x.offset + n) s e (sized k)
+      Counts e = (k : TextCode) → text_code k ≡ code → Fronts (λ (m : ℕ × ℕ). m) (x.offset + n) s e (number x.order (length_width k) x.inner.end (text_row x.inner.end))
 
       pub text_stops : (e : Stop) → Counts (Err e) → Moves x s (Err e) x answer
-      text_stops e h = front_stops (λ (m : ℕ × ℕ). m) (x.offset + n) s (sized ready_text.0) lettered answer.to sized_same x answer.last e (h ready_text.0 text_is)
+      text_stops e h = item_stops (AString ready_text.0) (ready_at (TextType ready_text.0) x.inner.depth_left ready_text.1 refl) s e (h ready_text.0 text_is)
 
       module _ (size k : ℕ) (gives : Counts (Ok (size, k))) (some : 0 < k) (fits : x.offset + n + k + size + 1 ≤ x.inner.end) (kind : TextKind) (kind_is : (k : TextCode) → text_code k ≡ code → Of kind ≡ kind_of k) where
-        letters_same : (c : List ℕ) → after (text (kind_of ready_text.0) size (x.offset + n + k) c) (λ t. onward nul (rest_of answer x r.wants.ws)) ≡ answer.to (take k s ++ c)
-        letters_same = front_taken (λ (m : ℕ × ℕ). m) (x.offset + n) s (sized ready_text.0) lettered answer.to sized_same (size, k) (gives ready_text.0 text_is)
-
         pub text_starts : (scan : TextScan) → scans.kind_of scan ≡ kind → Stands scan [] → Texts (record x { offset = x.offset + n + k; scan = scan }) code size (after_piece answer (take k s))
-        text_starts scan scans_is stands = record {
-          ws = r.wants.ws;
-          kind = ready_text.0;
-          size = size;
-          start = x.offset + n + k;
-          bytes = [];
-          frames = further (x.offset + n + k) (omega arith) (omega arith);
-          noted = r.wants.noted;
-          kind_is = text_is;
-          scans = ap Of scans_is ∙ kind_is ready_text.0 text_is;
-          stands = stands;
-          offset = omega arith;
-          left_is = omega arith;
-          fits = fits;
-          near = r.near;
-          same = letters_same;
-        }
+        text_starts scan scans_is stands =
+            subst (λ (d : ℕ). Texts (record x { offset = x.offset + n + k; scan = scan }) d size (after_piece answer (take k s))) text_is
+            (item_starts (AString ready_text.0) (ready_at (TextType ready_text.0) x.inner.depth_left ready_text.1 refl) s size k (gives ready_text.0 text_is) some fits scan x.held (ap Of scans_is ∙ kind_is ready_text.0 text_is) stands tt)
+
+  module _ (is : code ≡ 118) where
+    ready_variant : r.wants.type ≡ VariantType
+    ready_variant = variant_is r.wants.type (ready_first ∙ is)
+
+    pub variant_deep : x.inner.depth_left ≡ 0 → (c : List ℕ) → answer.to c ≡ Faulty (fault (x.offset + n) reasons.TooDeep)
+    variant_deep depth_left c = sym (ready_at VariantType 0 ready_variant depth_left c)
+
+    module _ (inner : ℕ) (depth_left : x.inner.depth_left ≡ suc inner) (s : List ℕ) where
+      abbrev counts : Reader ℕ
+      counts = number x.order 1 x.inner.end (text_row x.inner.end)
+
+      pub variant_stops : (e : Stop) → Fronts (λ (n : ℕ). (n, 1)) (x.offset + n) s (Err e) counts → Moves x s (Err e) x answer
+      variant_stops e h = item_stops (AHeld inner) (ready_at VariantType (suc inner) ready_variant depth_left) s e h
+
+      pub variant_starts : (size : ℕ) → Fronts (λ (n : ℕ). (n, 1)) (x.offset + n) s (Ok size) counts → size < 256 → x.offset + n + 1 + size + 1 ≤ x.inner.end
+          → (scan : TextScan) (held : ArrayVec ℕ) → scans.kind_of scan ≡ kinds.Single → Stands scan [] → held.items ≡ []
+          → Texts (record x { offset = x.offset + n + 1; scan = scan; held = held }) 118 size (after_piece answer (take 1 s))
+      variant_starts size gives few fits scan held scans_is stands none =
+          item_starts (AHeld inner) (ready_at VariantType (suc inner) ready_variant depth_left) s size 1 gives (omega arith) fits scan held (ap Of scans_is) stands (none, omega arith, depth_left)

@@ -16,7 +16,7 @@ use Rattle.dbus_value_model.specs.declared.fault.Reason.TheVariants as reasons
 use Rattle.dbus_value_model.specs.Items.{fault, text_reason}
 use Rattle.dbus_value_model.specs.ValueItems.{array_row}
 use Rattle.dbus_value_model.specs.Reading.{Reader, Outcome, Done, Faulty, Partial, after, zeros, padding, validated, number_of, number, text, up_to, items, value}
-use Rattle.dbus_value_laws.proofs.ReadSteps.{same_after}
+use Rattle.dbus_value_laws.proofs.ReadSteps.{same_after, no_padding}
 use Rattle.dbus_value_laws.proofs.KindLaws.{break_more, computed_whole}
 use Rattle.dbus_value_checker.specs.Suspended.{AnArray, On, onward, Work, Parts, Elements, elements, work, works, head, own, own_of, opened_by}
 
@@ -75,15 +75,21 @@ module _ (bounds : Bounds) (order : Order) (end : ℕ) (next : On) where
       simp after_after (same_after (padding 4 end o s) _ _ (λ x p u. same_after (number order 4 end (array_row bounds t end) p u) _ _ (λ n q v. same_after (padding (alignment_of t) end q v) _ _ (λ x q v.
       elements_up_to n (q + n) (value bounds order inner (q + n) t) [] next q v))))
 
-  -- The law of a value: it begins with its padding, or is a variant, and goes on with its own item
-  -- and the containers that it opens.
-  begins : (depth_left : ℕ) (t : TypeTree) (o : ℕ) (s : List ℕ) → (t ≡ VariantType → ⊥) → onward (value bounds order depth_left end t) next o s ≡ after (padding (alignment_of t) end o s) (λ x. own bounds order end (own_of t depth_left) (works bounds order next (opened_by t depth_left end)))
+  pub variant_begins : (depth_left o : ℕ) (s : List ℕ) → onward (value bounds order depth_left end VariantType) next o s ≡ own bounds order end (own_of VariantType depth_left) next o s
+  unfolding value
+  variant_begins zero o s = refl
+  variant_begins (suc inner) o s = simp after_after
+
+  -- The law of a value: it begins with its padding, and goes on with its own item and the containers
+  -- that it opens.
+  begins : (depth_left : ℕ) (t : TypeTree) (o : ℕ) (s : List ℕ) → o ≤ end → onward (value bounds order depth_left end t) next o s ≡ after (padding (alignment_of t) end o s) (λ x. own bounds order end (own_of t depth_left) (works bounds order next (opened_by t depth_left end)))
   unfolding value
   begins zero (NumberType k) o s h = simp after_after
   begins (suc inner) (NumberType k) o s h = simp after_after
   begins zero (TextType k) o s h = simp after_after
   begins (suc inner) (TextType k) o s h = simp after_after
-  begins depth_left VariantType o s h = absurd (h refl)
+  begins depth_left VariantType o s h =
+      variant_begins depth_left o s ∙ ap (λ (r : Outcome (Unit {0})). after r (λ x. own bounds order end (own_of VariantType depth_left) next)) (sym (no_padding end o s h))
   begins zero (ArrayType t) o s h = simp after_after
   begins (suc inner) (ArrayType t) o s h = array_begins inner t o s
   begins zero (StructType ts) o s h = simp after_after
@@ -91,13 +97,8 @@ module _ (bounds : Bounds) (order : Order) (end : ℕ) (next : On) where
   begins zero (EntryType k v) o s h = simp after_after (same_after (padding 8 end o s) _ _ (λ x p u. sym (simp after_after)))
   begins (suc inner) (EntryType k v) o s h = simp after_after (same_after (padding 8 end o s) _ _ (λ x p u. sym (simp after_after)))
 
-pub value_begins : (bounds : Bounds) (order : Order) (depth_left end : ℕ) (t : TypeTree) (o : ℕ) (s : List ℕ) (next : On) → (t ≡ VariantType → ⊥) → onward (value bounds order depth_left end t) next o s ≡ after (padding (alignment_of t) end o s) (λ x. own bounds order end (own_of t depth_left) (works bounds order next (opened_by t depth_left end)))
+pub value_begins : (bounds : Bounds) (order : Order) (depth_left end : ℕ) (t : TypeTree) (o : ℕ) (s : List ℕ) (next : On) → o ≤ end → onward (value bounds order depth_left end t) next o s ≡ after (padding (alignment_of t) end o s) (λ x. own bounds order end (own_of t depth_left) (works bounds order next (opened_by t depth_left end)))
 value_begins bounds order depth_left end t o s next h = begins bounds order end next depth_left t o s h
-
-pub variant_begins : (bounds : Bounds) (order : Order) (depth_left end : ℕ) (o : ℕ) (s : List ℕ) (next : On) → onward (value bounds order depth_left end VariantType) next o s ≡ own bounds order end (own_of VariantType depth_left) next o s
-unfolding value
-variant_begins bounds order zero end o s next = refl
-variant_begins bounds order (suc inner) end o s next = simp after_after
 
 -- ---- a number
 

@@ -1,21 +1,24 @@
 -- Texts, whose bytes come in pieces.
 use Rattle.std.proofs.Common.{◌-◌, ◌≡◌, ℕ, zero, suc, ◌+◌, ◌<◌, ◌≤◌, List, [], ◌∷◌, ◌++◌, length, take, drop, get_or, true, false, refl, sym, ap, subst, ◌∙◌, arith, append_assoc}
 use Rattle.std.proofs.lemmas.List.{take-take, append-nil, take_more, take_all, take-append-drop, length-append, length-take}
+use Rattle.arrayvec.specs.ArrayVec.{ArrayVec}
+use Rattle.dbus_texts.specs.Types.{TextCode, STRING, OBJECT_PATH, SIGNATURE, text_code}
 use Rattle.dbus_texts.specs.declared.text_kind.TextKind.{TextKind}
+use Rattle.dbus_texts.specs.declared.text_kind.TextKind.TheVariants as kinds
 use Rattle.dbus_texts.specs.declared.scan.TextScan.{TextScan}
 use Rattle.dbus_texts.specs.Kinds.{IsKind}
 use Rattle.dbus_texts.specs.LimitedKinds.{IsPrefixOf}
 use Rattle.dbus_texts.specs.Scans.{Stands}
 use Rattle.dbus_texts.specs.Scans as scans
-use Rattle.dbus_value_model.specs.WantedTexts.{WantedText, Of, kind_of}
+use Rattle.dbus_value_model.specs.WantedTexts.{WantedText, Of, IsWanted}
 use Rattle.dbus_value_model.specs.ComputedTexts.{is_kind, break_at}
 use Rattle.dbus_value_model.specs.declared.fault.Reason.{Reason}
 use Rattle.dbus_value_model.specs.Items.{fault, text_reason}
 use Rattle.dbus_value_model.specs.Reading.{Outcome, Faulty, Partial, after, text, nul}
 use Rattle.dbus_value_checker.specs.declared.values.ValueChecker.{ValueChecker}
 use Rattle.dbus_value_checker.specs.declared.values.Doing.{Doing}
-use Rattle.dbus_value_checker.specs.Suspended.{onward}
-use Rattle.dbus_value_checker.specs.Denotations.{Answer, rest_of, Goes, Texts, Nuls, after_piece}
+use Rattle.dbus_value_checker.specs.Suspended.{On, onward, TextItem, AString, AHeld, item_code, item_kind, item_on}
+use Rattle.dbus_value_checker.specs.Denotations.{Answer, rest_of, Goes, IsKept, Texts, Held, Nuls, after_piece}
 use Rattle.dbus_value_model.specs.declared.stop.Stop.{Stop}
 use Rattle.dbus_value_checker.specs.Fronts.{Fronts}
 use Rattle.dbus_value_checker.specs.Moves.{Moves}
@@ -59,8 +62,25 @@ one_byte_breaks k w b h unlike =
 
 -- ---- a text that is under way
 
+not_held : (k : TextCode) → text_code k ≡ 118 → ⊥
+not_held STRING e = absurd (omega arith)
+not_held OBJECT_PATH e = absurd (omega arith)
+not_held SIGNATURE e = absurd (omega arith)
+
+-- what is kept of it, once more bytes are there
+kept_more : (i : TextItem) (code : ℕ) (old new : List ℕ) (depth_left size : ℕ) (bytes more : List ℕ) (left : ℕ) → item_code i ≡ code → IsKept i old depth_left size bytes → length bytes + left ≡ size → length more ≤ left
+    → (code ≡ 118 → length old + length more ≤ 255 → new ≡ old ++ more) → IsKept i new depth_left size (bytes ++ more)
+kept_more (AString k) code old new depth_left size bytes more left is kept sum few grows = tt
+kept_more (AHeld inner) code old new depth_left size bytes more left is kept sum few grows =
+    let all = ap length kept.0 in
+    let most = kept.1 in
+    (grows (sym is) (omega arith) ∙ ap (λ (u : List ℕ). u ++ more) kept.0, kept.1, kept.2)
+
 module _ (x : ValueChecker) (code left : ℕ) (answer : Answer) (t : Texts x code left answer) where
-  so_far : break_at (kind_of t.kind) t.bytes ≡ length t.bytes
+  abbrev next : List ℕ → On
+  next u = onward nul (item_on x.bounds x.order x.inner.end t.item (rest_of answer x t.ws) u)
+
+  so_far : break_at (item_kind t.item) t.bytes ≡ length t.bytes
   so_far = ap (λ (k : WantedText). break_at k t.bytes) (sym t.scans) ∙ prefix_break (scans.kind_of x.scan) t.bytes (stands_prefix x.scan t.bytes t.stands)
 
   -- m bytes of it are there, of those that may belong to it
@@ -74,46 +94,49 @@ module _ (x : ValueChecker) (code left : ℕ) (answer : Answer) (t : Texts x cod
     stands_on : Stands y (t.bytes ++ take m s)
     stands_on = subst (λ (u : List ℕ). Stands y (t.bytes ++ u)) (ap (take m) given_is ∙ take-take m left s taken_there.1) (stands t.bytes t.stands)
 
-    pub texts_on : Texts (record x { offset = x.offset + m; scan = y }) code (left - m) (after_piece answer (take m s))
-    texts_on =
+    pub texts_on : (held : ArrayVec ℕ) → length given ≤ m → (code ≡ 118 → length x.held.items + length given ≤ 255 → held.items ≡ x.held.items ++ given) → Texts (record x { offset = x.offset + m; scan = y; held = held }) code (left - m) (after_piece answer (take m s))
+    texts_on held all grows =
         let le = taken_there in
+        let given_all : given ≡ take m s = sym (take_all m given all) ∙ ap (take m) given_is ∙ take-take m left s taken_there.1 in
         let size : length (take m s) ≡ m = omega (arith, le.0, length-take m s) in
         let more : length (t.bytes ++ take m s) ≡ length t.bytes + length (take m s) = length-append t.bytes (take m s) in
         let few = le.1 in
         record {
           ws = t.ws;
-          kind = t.kind;
+          item = t.item;
           size = t.size;
           start = t.start;
           bytes = t.bytes ++ take m s;
           frames = frames_at x t.ws x.offset (x.offset + m) (x.offset + m) t.frames (omega arith) (let f = t.fits in omega arith);
           noted = t.noted;
-          kind_is = t.kind_is;
+          code_is = t.code_is;
+          kept = subst (λ (u : List ℕ). IsKept t.item held.items x.inner.depth_left t.size (t.bytes ++ u)) given_all
+              (kept_more t.item code x.held.items held.items x.inner.depth_left t.size t.bytes given left t.code_is t.kept t.left_is given_size.0 grows);
           scans = ap Of kind ∙ t.scans;
           stands = stands_on;
           offset = (let p = t.offset in omega arith);
           left_is = (let l = t.left_is in omega arith);
           fits = (let f = t.fits in omega arith);
           near = t.near;
-          same = λ c. ap (λ (w : List ℕ). after (text (kind_of t.kind) t.size t.start w) (λ u. onward nul (rest_of answer x t.ws))) (append_assoc t.bytes (take m s) c) ∙ t.same (take m s ++ c);
+          same = λ c. ap (λ (w : List ℕ). after (text (item_kind t.item) t.size t.start w) next) (append_assoc t.bytes (take m s) c) ∙ t.same (take m s ++ c);
         }
 
     -- and the next may not stand there
-    pub texts_break : (why : Reason) → m < length given → ((w : List ℕ) → Stands x.scan w → IsPrefixOf (scans.kind_of x.scan) (w ++ take (m + 1) given) → ⊥) → text_reason (kind_of t.kind) ≡ why → (c : List ℕ) → answer.to (s ++ c) ≡ Faulty (fault (x.offset + m) why)
+    pub texts_break : (why : Reason) → m < length given → ((w : List ℕ) → Stands x.scan w → IsPrefixOf (scans.kind_of x.scan) (w ++ take (m + 1) given) → ⊥) → text_reason (item_kind t.item) ≡ why → (c : List ℕ) → answer.to (s ++ c) ≡ Faulty (fault (x.offset + m) why)
     texts_break why breaks_at breaks reason c =
         let few = given_size.0 in
         let long = given_size.1 in
         let lt : m < length s = omega arith in
         let less : m < left = omega arith in
-        let next : m + 1 ≤ left = omega arith in
-        let unlike = subst (λ (u : List ℕ). IsPrefixOf (scans.kind_of x.scan) (t.bytes ++ u) → ⊥) (ap (take (m + 1)) given_is ∙ take-take (m + 1) left s next) (breaks t.bytes t.stands) in
+        let few_more : m + 1 ≤ left = omega arith in
+        let unlike = subst (λ (u : List ℕ). IsPrefixOf (scans.kind_of x.scan) (t.bytes ++ u) → ⊥) (ap (take (m + 1)) given_is ∙ take-take (m + 1) left s few_more) (breaks t.bytes t.stands) in
         let k = scans.kind_of x.scan in
         let w = t.bytes ++ take m s in
         let b = get_or s m 0 in
         let grown : w ++ b ∷ [] ≡ t.bytes ++ take (m + 1) s = take_one s m t.bytes lt in
         let begins : IsPrefixOf k w = subst (λ (j : TextKind). IsPrefixOf j w) kind (stands_prefix y w stands_on) in
         let broken : break_at (Of k) (w ++ b ∷ []) ≡ length w = one_byte_breaks k w b begins (λ p. unlike (subst (λ (u : List ℕ). IsPrefixOf k u) grown p)) in
-        let at : break_at (kind_of t.kind) (w ++ b ∷ []) ≡ length w = ap (λ (j : WantedText). break_at j (w ++ b ∷ [])) (sym t.scans) ∙ broken in
+        let at : break_at (item_kind t.item) (w ++ b ∷ []) ≡ length w = ap (λ (j : WantedText). break_at j (w ++ b ∷ [])) (sym t.scans) ∙ broken in
         let size : length (take m s) ≡ m = omega (arith, length-take m s) in
         let more : length w ≡ length t.bytes + length (take m s) = length-append t.bytes (take m s) in
         let last : length (w ++ b ∷ []) ≡ length w + 1 = length-append w (b ∷ []) in
@@ -122,49 +145,76 @@ module _ (x : ValueChecker) (code left : ℕ) (answer : Answer) (t : Texts x cod
         let split : t.bytes ++ (s ++ c) ≡ (w ++ b ∷ []) ++ (drop (m + 1) s ++ c) =
         ap (λ (u : List ℕ). t.bytes ++ u) (ap (λ (u : List ℕ). u ++ c) (sym (take-append-drop (m + 1) s)) ∙ append_assoc (take (m + 1) s) (drop (m + 1) s) c)
         ∙ sym (append_assoc t.bytes (take (m + 1) s) (drop (m + 1) s ++ c)) ∙ ap (λ (u : List ℕ). u ++ (drop (m + 1) s ++ c)) (sym grown) in
-        let offset : t.start + break_at (kind_of t.kind) (w ++ b ∷ []) ≡ x.offset + m = omega arith in
+        let offset : t.start + break_at (item_kind t.item) (w ++ b ∷ []) ≡ x.offset + m = omega arith in
         sym (t.same (s ++ c))
-        ∙ ap (λ (u : List ℕ). after (text (kind_of t.kind) t.size t.start u) (λ z. onward nul (rest_of answer x t.ws))) split
-        ∙ ap (λ (r : Outcome (List ℕ)). after r (λ z. onward nul (rest_of answer x t.ws))) (text_breaks (kind_of t.kind) t.size t.start (w ++ b ∷ []) (drop (m + 1) s ++ c) (omega arith) (omega arith))
-        ∙ ap (λ (q : ℕ). Faulty (fault q (text_reason (kind_of t.kind)))) offset ∙ ap (λ (r : Reason). Faulty (fault (x.offset + m) r)) reason
+        ∙ ap (λ (u : List ℕ). after (text (item_kind t.item) t.size t.start u) next) split
+        ∙ ap (λ (r : Outcome (List ℕ)). after r next) (text_breaks (item_kind t.item) t.size t.start (w ++ b ∷ []) (drop (m + 1) s ++ c) (omega arith) (omega arith))
+        ∙ ap (λ (q : ℕ). Faulty (fault q (text_reason (item_kind t.item)))) offset ∙ ap (λ (r : Reason). Faulty (fault (x.offset + m) r)) reason
 
   -- no byte of it is there
   pub texts_wait : 0 < left → answer.to [] ≡ Partial
   texts_wait some =
       let l = t.left_is in
-      sym (t.same []) ∙ ap (λ (w : List ℕ). after (text (kind_of t.kind) t.size t.start w) (λ u. onward nul (rest_of answer x t.ws))) (append-nil t.bytes)
-      ∙ ap (λ (r : Outcome (List ℕ)). after r (λ u. onward nul (rest_of answer x t.ws))) (text_waits (kind_of t.kind) t.size t.start t.bytes (omega arith) so_far)
+      sym (t.same []) ∙ ap (λ (w : List ℕ). after (text (item_kind t.item) t.size t.start w) next) (append-nil t.bytes)
+      ∙ ap (λ (r : Outcome (List ℕ)). after r next) (text_waits (item_kind t.item) t.size t.start t.bytes (omega arith) so_far)
 
   -- all of it is there
   module _ (none : left ≡ 0) where
     whole : length t.bytes ≡ t.size
     whole = let l = t.left_is in omega arith
 
-    pub texts_end : IsKind (scans.kind_of x.scan) t.bytes → Nuls x answer
-    texts_end h =
-        let is : is_kind (kind_of t.kind) t.bytes ≡ true = ap (λ (k : WantedText). is_kind k t.bytes) (sym t.scans) ∙ is_wanted (Of (scans.kind_of x.scan)) t.bytes h in
-        let p = t.offset in
-        let w = whole in
-        let at : t.start + t.size ≡ x.offset = omega arith in
-        record {
-          ws = t.ws;
-          frames = t.frames;
-          noted = t.noted;
-          fits = (let f = t.fits in omega arith);
-          near = t.near;
-          same = λ c. subst (λ (q : ℕ). onward nul (rest_of answer x t.ws) q c ≡ answer.to c) at
-              (sym (ap (λ (r : Outcome (List ℕ)). after r (λ u. onward nul (rest_of answer x t.ws))) (text_ends (kind_of t.kind) t.size t.start t.bytes c whole is)) ∙ t.same c);
-        }
+    module _ (h : IsKind (scans.kind_of x.scan) t.bytes) where
+      at_end : (c : List ℕ) → next t.bytes x.offset c ≡ answer.to c
+      at_end c =
+          let is : is_kind (item_kind t.item) t.bytes ≡ true = ap (λ (k : WantedText). is_kind k t.bytes) (sym t.scans) ∙ is_wanted (Of (scans.kind_of x.scan)) t.bytes h in
+          let p = t.offset in
+          let w = whole in
+          let at : t.start + t.size ≡ x.offset = omega arith in
+          subst (λ (q : ℕ). next t.bytes q c ≡ answer.to c) at
+          (sym (ap (λ (r : Outcome (List ℕ)). after r next) (text_ends (item_kind t.item) t.size t.start t.bytes c whole is)) ∙ t.same c)
 
-    pub texts_unlike : (why : Reason) → (IsKind (scans.kind_of x.scan) t.bytes → ⊥) → text_reason (kind_of t.kind) ≡ why → (c : List ℕ) → answer.to c ≡ Faulty (fault x.offset why)
+      fits_end : x.offset + 1 ≤ x.inner.end
+      fits_end = let f = t.fits in omega arith
+
+      abbrev Ends : TextItem → Type 0
+      Ends i = (c : List ℕ) → onward nul (item_on x.bounds x.order x.inner.end i (rest_of answer x t.ws) t.bytes) x.offset c ≡ answer.to c
+
+      pub texts_end : (code ≡ 118 → ⊥) → Nuls x answer
+      texts_end other = string_ends t.item t.code_is at_end
+        where
+          string_ends : (i : TextItem) → item_code i ≡ code → Ends i → Nuls x answer
+          string_ends (AString k) is same = record { ws = t.ws; frames = t.frames; noted = t.noted; fits = fits_end; near = t.near; same = same }
+          string_ends (AHeld inner) is same = absurd (other (sym is))
+
+      pub texts_held : code ≡ 118 → Held x answer
+      texts_held one = held_ends t.item (t.code_is ∙ one) t.kept t.scans at_end
+        where
+          held_ends : (i : TextItem) → item_code i ≡ 118 → IsKept i x.held.items x.inner.depth_left t.size t.bytes → Of (scans.kind_of x.scan) ≡ item_kind i → Ends i → Held x answer
+          held_ends (AString k) is kept kind same = absurd (not_held k is)
+          held_ends (AHeld inner) is kept kind same =
+              let depth_left = kept.2 in
+              let less : inner ≡ x.inner.depth_left - 1 = omega arith in
+              record {
+                ws = t.ws;
+                frames = t.frames;
+                noted = t.noted;
+                some = omega arith;
+                kind = subst (λ (u : List ℕ). IsWanted (Of kinds.Single) u) (sym kept.0) (subst (λ (k : WantedText). IsWanted k t.bytes) kind h);
+                fits = fits_end;
+                near = t.near;
+                same = λ c. subst (λ (u : List ℕ). onward nul (item_on x.bounds x.order x.inner.end (AHeld (x.inner.depth_left - 1)) (rest_of answer x t.ws) u) x.offset c ≡ answer.to c) (sym kept.0)
+                    (subst (λ (d : ℕ). onward nul (item_on x.bounds x.order x.inner.end (AHeld d) (rest_of answer x t.ws) t.bytes) x.offset c ≡ answer.to c) less (same c));
+              }
+
+    pub texts_unlike : (why : Reason) → (IsKind (scans.kind_of x.scan) t.bytes → ⊥) → text_reason (item_kind t.item) ≡ why → (c : List ℕ) → answer.to c ≡ Faulty (fault x.offset why)
     texts_unlike why unlike reason c =
-        let is : is_kind (kind_of t.kind) t.bytes ≡ false = ap (λ (k : WantedText). is_kind k t.bytes) (sym t.scans) ∙ is_not_wanted (Of (scans.kind_of x.scan)) t.bytes unlike in
+        let is : is_kind (item_kind t.item) t.bytes ≡ false = ap (λ (k : WantedText). is_kind k t.bytes) (sym t.scans) ∙ is_not_wanted (Of (scans.kind_of x.scan)) t.bytes unlike in
         let p = t.offset in
         let w = whole in
         let b = so_far in
-        let at : t.start + break_at (kind_of t.kind) t.bytes ≡ x.offset = omega arith in
-        sym (t.same c) ∙ ap (λ (r : Outcome (List ℕ)). after r (λ u. onward nul (rest_of answer x t.ws))) (text_not (kind_of t.kind) t.size t.start t.bytes c whole so_far is)
-        ∙ ap (λ (q : ℕ). Faulty (fault q (text_reason (kind_of t.kind)))) at ∙ ap (λ (r : Reason). Faulty (fault x.offset r)) reason
+        let at : t.start + break_at (item_kind t.item) t.bytes ≡ x.offset = omega arith in
+        sym (t.same c) ∙ ap (λ (r : Outcome (List ℕ)). after r next) (text_not (item_kind t.item) t.size t.start t.bytes c whole so_far is)
+        ∙ ap (λ (q : ℕ). Faulty (fault q (text_reason (item_kind t.item)))) at ∙ ap (λ (r : Reason). Faulty (fault x.offset r)) reason
 
 -- ---- the zero after it
 
@@ -189,7 +239,7 @@ empty_list (b ∷ s) h = absurd (omega arith)
 
 -- what is under way is noted
 pub texts_doing : (x : ValueChecker) (d : Doing) (code left : ℕ) (answer : Answer) → Texts x code left answer → Texts (record x { doing = d }) code left answer
-texts_doing x d code left answer t = record { ws = t.ws; kind = t.kind; size = t.size; start = t.start; bytes = t.bytes; frames = t.frames; noted = t.noted; kind_is = t.kind_is; scans = t.scans; stands = t.stands; offset = t.offset; left_is = t.left_is; fits = t.fits; near = t.near; same = t.same }
+texts_doing x d code left answer t = record { ws = t.ws; item = t.item; size = t.size; start = t.start; bytes = t.bytes; frames = t.frames; noted = t.noted; code_is = t.code_is; kept = t.kept; scans = t.scans; stands = t.stands; offset = t.offset; left_is = t.left_is; fits = t.fits; near = t.near; same = t.same }
 
 pub nuls_doing : (x : ValueChecker) (d : Doing) (answer : Answer) → Nuls x answer → Nuls (record x { doing = d }) answer
 nuls_doing x d answer u = record { ws = u.ws; frames = u.frames; noted = u.noted; fits = u.fits; near = u.near; same = u.same }

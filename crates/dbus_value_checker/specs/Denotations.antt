@@ -1,17 +1,19 @@
 -- What the fields of `ValueChecker` stand for: what they answer to the bytes still to come.
-use Rattle.std.specs.Prelude.{◌≡◌, ℕ, suc, ◌+◌, ◌*◌, ◌<◌, ◌≤◌, List, ◌∷◌, ◌++◌, length, reverse, Option, None, true}
-use Rattle.dbus_texts.specs.Types.{NumberCode, NumberType, TextCode, TypeTree, text_code, sig, IsShaped}
+use Rattle.std.specs.Prelude.{◌≡◌, ℕ, suc, ◌+◌, ◌-◌, ◌*◌, ◌<◌, ◌≤◌, List, ◌∷◌, ◌++◌, length, reverse, Option, None, true}
+use Rattle.dbus_texts.specs.Types.{NumberCode, NumberType, TypeTree, sig, IsShaped}
 use Rattle.dbus_types.specs.Alignments.{width}
 use Rattle.dbus_texts.specs.Scans.{Stands}
 use Rattle.dbus_texts.specs.Scans as scans
-use Rattle.dbus_value_model.specs.WantedTexts.{kind_of, Of}
+use Rattle.dbus_texts.specs.Kinds.{IsKind}
+use Rattle.dbus_texts.specs.declared.text_kind.TextKind.TheVariants as kinds
+use Rattle.dbus_value_model.specs.WantedTexts.{Of}
 use Rattle.dbus_value_model.specs.Bytes.{gap_to}
 use Rattle.dbus_value_model.specs.ValueItems.{number_row}
 use Rattle.dbus_value_model.specs.Reading.{Outcome, after, text, nul, value}
 use Rattle.dbus_value_checker.specs.declared.values.ValueChecker.{ValueChecker}
 use Rattle.dbus_value_checker.specs.declared.values.Doing.{Doing}
 use Rattle.dbus_value_checker.specs.declared.values.Doing.TheVariants as doing
-use Rattle.dbus_value_checker.specs.Suspended.{On, onward, Work, Elements, works, own, own_of, opened_by}
+use Rattle.dbus_value_checker.specs.Suspended.{On, onward, Work, Elements, works, TextItem, AString, AHeld, item_code, item_kind, item_on, own, own_of, opened_by}
 use Rattle.dbus_value_checker.specs.Frames.{slice, AreFrames, AreNoted, IsNoted}
 
 -- what is read after the values, and what is answered to the bytes still to come
@@ -63,23 +65,40 @@ pub record Ready (x : ValueChecker) (pos stop n : ℕ) (answer : Answer) : Type 
   pub there : stop ≤ length x.text.items
   pub same : (c : List ℕ) → own x.bounds x.order x.inner.end (own_of wants.type x.inner.depth_left) (works x.bounds x.order (rest_of answer x wants.ws) (opened_by wants.type x.inner.depth_left x.inner.end)) (x.offset + n) c ≡ answer.to c
 
--- so many bytes of a text of a type are wanted
+-- what is kept of a text of so many bytes, of which these were taken: of a variant's signature all
+abbrev pub IsKept : TextItem → (held : List ℕ) → (depth_left size : ℕ) → (bytes : List ℕ) → Type 0
+IsKept (AString k) held depth_left size bytes = Unit {0}
+IsKept (AHeld inner) held depth_left size bytes = (held ≡ bytes) × (size ≤ 255) × (depth_left ≡ suc inner)
+
+-- so many bytes of a text are wanted, of the type that has this code, or of a variant's signature
 pub record Texts (x : ValueChecker) (code left : ℕ) (answer : Answer) : Type 0 where
   pub ws : List Work
-  pub kind : TextCode
+  pub item : TextItem
   pub size : ℕ
   pub start : ℕ
   pub bytes : List ℕ
   pub frames : HasFrames x.offset x ws
   pub noted : HasNotes x
-  pub kind_is : text_code kind ≡ code
-  pub scans : Of (scans.kind_of x.scan) ≡ kind_of kind
+  pub code_is : item_code item ≡ code
+  pub kept : IsKept item x.held.items x.inner.depth_left size bytes
+  pub scans : Of (scans.kind_of x.scan) ≡ item_kind item
   pub stands : Stands x.scan bytes
   pub offset : start + length bytes ≡ x.offset
   pub left_is : length bytes + left ≡ size
   pub fits : x.offset + left + 1 ≤ x.inner.end
   pub near : x.inner.end < 18446744073709551616
-  pub same : (c : List ℕ) → after (text (kind_of kind) size start (bytes ++ c)) (λ t. onward nul (rest_of answer x ws)) ≡ answer.to c
+  pub same : (c : List ℕ) → after (text (item_kind item) size start (bytes ++ c)) (λ t. onward nul (item_on x.bounds x.order x.inner.end item (rest_of answer x ws) t)) ≡ answer.to c
+
+-- the zero after a variant's signature is wanted, all of which is kept
+pub record Held (x : ValueChecker) (answer : Answer) : Type 0 where
+  pub ws : List Work
+  pub frames : HasFrames x.offset x ws
+  pub noted : HasNotes x
+  pub some : 0 < x.inner.depth_left
+  pub kind : IsKind kinds.Single x.held.items
+  pub fits : x.offset + 1 ≤ x.inner.end
+  pub near : x.inner.end < 18446744073709551616
+  pub same : (c : List ℕ) → onward nul (item_on x.bounds x.order x.inner.end (AHeld (x.inner.depth_left - 1)) (rest_of answer x ws) x.held.items) x.offset c ≡ answer.to c
 
 -- the zero after a text is wanted
 pub record Nuls (x : ValueChecker) (answer : Answer) : Type 0 where

@@ -1,7 +1,7 @@
 -- A reading that is suspended: what is wanted from here on, and what it answers to the bytes that
 -- come. D-Bus Specification, "Marshaling (Wire Format)".
 use Rattle.std.specs.Prelude.{ℕ, zero, suc, ◌+◌, List, [], ◌∷◌, Option, nat_lt, nat_eq, if◌then◌else◌}
-use Rattle.dbus_texts.specs.Types.{NumberCode, TextCode, TypeTree, NumberType, TextType, VariantType, ArrayType, StructType, EntryType, TypeTrees, NoTypes, MoreTypes}
+use Rattle.dbus_texts.specs.Types.{NumberCode, TextCode, text_code, TypeTree, NumberType, TextType, VariantType, ArrayType, StructType, EntryType, TypeTrees, NoTypes, MoreTypes}
 use Rattle.dbus_types.specs.Alignments.{width, length_width, alignment_of}
 use Rattle.dbus_texts.specs.ComputedKinds.{type_spelled}
 use Rattle.dbus_texts.specs.declared.text_kind.TextKind.TheVariants as kinds
@@ -51,28 +51,46 @@ works bounds order last (w ∷ ws) = work bounds order w (works bounds order las
 
 -- ---- items
 
+-- a text with its length before it: a value; or the signature of a variant's value, in which so
+-- many containers may be opened
+pub data TextItem : Type 0 where
+  AString : TextCode → TextItem
+  AHeld : (inner : ℕ) → TextItem
+
+-- the code of its type
+abbrev pub item_code : TextItem → ℕ
+item_code (AString k) = text_code k
+item_code (AHeld inner) = 118
+
+abbrev pub item_kind : TextItem → WantedText
+item_kind (AString k) = kind_of k
+item_kind (AHeld inner) = Of kinds.Single
+
+-- how many bytes its length has
+abbrev pub item_width : TextItem → ℕ
+item_width (AString k) = length_width k
+item_width (AHeld inner) = 1
+
+-- what is read after the text t and the zero that ends it
+abbrev pub item_on : Bounds → Order → ℕ → TextItem → On → List ℕ → On
+item_on bounds order end (AString k) next t = next
+item_on bounds order end (AHeld inner) next t = onward (value bounds order inner end (type_spelled t)) next
+
 -- an item that begins with a number; inner is the room within the container that it opens
 pub data Head : Type 0 where
   ANumber : NumberCode → Head
-  ALength : TextCode → Head
+  ALength : TextItem → Head
   AnArray : (inner : ℕ) → TypeTree → Head
-  AVariant : (inner : ℕ) → Head
 
 abbrev pub head_width : Head → ℕ
 head_width (ANumber k) = width k
-head_width (ALength k) = length_width k
+head_width (ALength i) = item_width i
 head_width (AnArray inner t) = 4
-head_width (AVariant inner) = 1
 
 abbrev pub head_row : Bounds → ℕ → Head → ℕ → ℕ → Option Reason
 head_row bounds end (ANumber k) = number_row bounds.fds k
-head_row bounds end (ALength k) = text_row end
+head_row bounds end (ALength i) = text_row end
 head_row bounds end (AnArray inner t) = array_row bounds t end
-head_row bounds end (AVariant inner) = text_row end
-
--- a variant's value, after its signature
-abbrev pub held_on : Bounds → Order → ℕ → ℕ → On → TypeTree → On
-held_on bounds order inner end next t = onward nul (onward (value bounds order inner end t) next)
 
 -- a text of n bytes, and the zero after it
 abbrev pub ended_text : WantedText → ℕ → Reader (List ℕ)
@@ -86,16 +104,11 @@ counted_text order end width row k o s = after (number order width end row o s) 
 abbrev pub short_text : Order → ℕ → WantedText → Reader (List ℕ)
 short_text order end = counted_text order end 1 (text_row end)
 
--- that of a variant's value
-abbrev pub held_text : Order → ℕ → Reader (List ℕ)
-held_text order end = short_text order end (Of kinds.Single)
-
 -- what stands after the number n
 abbrev pub tail : Bounds → Order → ℕ → Head → On → ℕ → On
 tail bounds order end (ANumber k) next n = next
-tail bounds order end (ALength k) next n = λ p u. after (text (kind_of k) n p u) (λ t. onward nul next)
+tail bounds order end (ALength i) next n = λ p u. after (text (item_kind i) n p u) (λ t. onward nul (item_on bounds order end i next t))
 tail bounds order end (AnArray inner t) next n = λ p u. after (padding (alignment_of t) end p u) (λ x q v. elements n (q + n) (value bounds order inner (q + n) t) next q v)
-tail bounds order end (AVariant inner) next n = λ p u. after (text (Of kinds.Single) n p u) (λ held. held_on bounds order inner end next (type_spelled held))
 
 abbrev pub head : Bounds → Order → ℕ → Head → On → On
 head bounds order end h next o s = after (number order (head_width h) end (head_row bounds end h) o s) (tail bounds order end h next)
@@ -115,9 +128,9 @@ own bounds order end Closed next = λ o s. Faulty (fault o reasons.TooDeep)
 -- a value's
 abbrev pub own_of : TypeTree → ℕ → Own
 own_of (NumberType k) depth_left = AHead (ANumber k)
-own_of (TextType k) depth_left = AHead (ALength k)
+own_of (TextType k) depth_left = AHead (ALength (AString k))
 own_of VariantType zero = Closed
-own_of VariantType (suc inner) = AHead (AVariant inner)
+own_of VariantType (suc inner) = AHead (ALength (AHeld inner))
 own_of (ArrayType t) zero = Closed
 own_of (ArrayType t) (suc inner) = AHead (AnArray inner t)
 own_of (StructType ts) zero = Closed

@@ -14,7 +14,6 @@ ghost use Rattle.dbus_texts.specs.Types.{NumberCode, TextCode, TypeTree, number_
 ghost use Rattle.dbus_types.specs.Alignments.{width, length_width};
 ghost use Rattle.dbus_value_model.specs.Reading.{padding, number, text, nul};
 ghost use Rattle.dbus_texts.specs.Kinds.{IsKind};
-ghost use Rattle.dbus_texts.specs.declared.text_kind.TextKind.TheVariants.{Single};
 ghost use Rattle.dbus_value_model.specs.declared.fault.Reason.TheVariants as reasons;
 ghost use Rattle.dbus_value_model.specs.declared.order.Order.{Order};
 ghost use Rattle.dbus_value_model.specs.WantedTexts.{Of};
@@ -24,7 +23,7 @@ ghost use Rattle.dbus_value_model.specs.ValueReaders.{array_frame};
 ghost use Rattle.dbus_types.specs.SignatureCodes.{first_code};
 ghost use Rattle.dbus_value_model.specs.declared.stop.Stop.TheVariants.{Partial};
 ghost use Rattle.dbus_value_checker.specs.Fronts.{Fronts, IsThere, IsWord, IsByte};
-ghost use Rattle.dbus_value_checker.specs.Suspended.{onward, done, ended_text, short_text, held_text};
+ghost use Rattle.dbus_value_checker.specs.Suspended.{onward, done, ended_text, short_text};
 
 use dbus_types::{TextKind, boundary, text_break};
 use dbus_value_model::{Bounds, Order, Reason, Stop, gap, refuse};
@@ -364,23 +363,4 @@ pub fn signature_front(
         Ok(()) => Ok(n),
         Err(stop) => Err(stop),
     }
-}
-
-/// The signature of a variant's value, with its length before it and the zero after it: how many
-/// bytes the signature has.
-///
-/// `Overrun` at `offset` if the length, the signature or the zero ends past the end; else
-/// `Signature` if the signature breaks, or is not of one complete type; else `Nul` at the byte
-/// after it that is not 0. D-Bus Specification, "Variant".
-pub fn variant_front(bytes: &[u8], offset: usize, end: usize) -> Result<usize, Stop>
-    requires at_most { offset ≤ end }
-    ensures gives { (order : Order) →
-        Fronts (λ n. (take n (drop 1 bytes.now), n + 2)) offset bytes.now result
-        (held_text order end) }
-    ensures moves { IfOk result (λ n.
-        (n + 2 ≤ length bytes.now) × (offset + n + 2 ≤ end) ×
-        IsKind Single (take n (drop 1 bytes.now))) }
-    ensures short { IfErr result (λ e. e ≡ Partial → length bytes.now < 257) }
-{
-    signature_front(TextKind::Single, bytes, offset, end)
 }

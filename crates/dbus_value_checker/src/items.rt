@@ -1,10 +1,9 @@
 //! The fronts of values, taken one by one.
 #![tactic(auto)]
 
-ghost use Rattle.std.specs.Prelude.{◌≡◌, ◌≢◌, ◌-◌, ◌<◌, length, slice_index, IfOk, IfErr, ◌⊎◌};
+ghost use Rattle.std.specs.Prelude.{◌≡◌, ◌-◌, ◌<◌, length, slice_index, IfOk, IfErr, ◌⊎◌};
 
-use crate::fronts::{array_front, front, number_front, padding, rest_after, variant_front};
-use crate::signatures::sign;
+use crate::fronts::{array_front, front, number_front, padding, rest_after};
 use crate::values::{Doing, Frame, ValueChecker};
 use dbus_types::boundary;
 use dbus_value_model::{Reason, Stop, refuse};
@@ -105,42 +104,7 @@ impl ValueChecker {
         Ok(n)
     }
 
-    /// A variant: its value's type is noted, and is wanted.
-    pub(crate) fn variant(&mut self, pos: usize, stop: usize, bytes: &[u8]) -> Result<usize, Stop>
-        requires valid { (answer : Answer) × Wants self.old pos stop answer }
-        requires code { slice_index self.old.text.items pos ≡ 118 }
-        ensures moves { (answer : Answer) → Wants self.old pos stop answer →
-            Moves self.old bytes.now result self.new answer }
-        ensures some { IfOk result (λ n. 0 < n) }
-        ensures short { IfErr result (λ e. e ≡ Partial → length bytes.now < 257) }
-    {
-        let depth_left = self.inner.depth_left;
-        if depth_left == 0 {
-            return refuse(self.offset, Reason::TooDeep);
-        }
-        match variant_front(bytes, self.offset, self.inner.end) {
-            Ok(size) => {
-                let top = self.inner.top;
-                let types = front(rest_after(bytes, 1), size);
-                sign(&mut self.text, &mut self.lengths, top, types);
-                self.frames.push(self.inner);
-                self.inner = Frame {
-                    array: false,
-                    pos: top,
-                    stop: top + size,
-                    top: top + size,
-                    end: self.inner.end,
-                    depth_left: depth_left - 1,
-                };
-                self.offset += size + 2;
-                self.next();
-                Ok(size + 2)
-            }
-            Err(stop) => Err(stop),
-        }
-    }
-
-    /// A value other than a variant, whose padding of n bytes is there.
+    /// A value, whose padding of n bytes is there.
     pub(crate) fn item(
         &mut self,
         pos: usize,
@@ -151,7 +115,6 @@ impl ValueChecker {
     ) -> Result<usize, Stop>
         requires valid { (answer : Answer) × Ready self.old pos stop n answer }
         requires code { slice_index self.old.text.items pos ≡ code }
-        requires other { code ≢ 118 }
         ensures moves { (answer : Answer) → Ready self.old pos stop n answer →
             Moves self.old bytes.now result self.new answer }
         ensures further { IfOk result (λ n. (0 < n) ⊎ (wide self.new.doing < stop - pos)) }
@@ -173,6 +136,9 @@ impl ValueChecker {
         if code == b's' || code == b'o' || code == b'g' {
             return self.string(pos, stop, n, code, bytes);
         }
+        if code == b'v' {
+            return self.variant(pos, stop, n, bytes);
+        }
         self.number(pos, stop, n, code, bytes)
     }
 
@@ -182,12 +148,9 @@ impl ValueChecker {
         ensures moves { (answer : Answer) → Wants self.old pos stop answer →
             Moves self.old bytes.now result self.new answer }
         ensures further { IfOk result (λ n. (0 < n) ⊎ (wide self.new.doing < stop - pos)) }
-        ensures short { IfErr result (λ e. e ≡ Partial → length bytes.now < 257) }
+        ensures short { IfErr result (λ e. e ≡ Partial → length bytes.now < 20) }
     {
         let code = self.text.as_slice()[pos];
-        if code == b'v' {
-            return self.variant(pos, stop, bytes);
-        }
         match padding(bytes, self.offset, self.inner.end, boundary(code)) {
             Ok(n) => match self.item(pos, stop, n, code, rest_after(bytes, n)) {
                 Ok(more) => Ok(n + more),

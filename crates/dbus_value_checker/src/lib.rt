@@ -2,11 +2,13 @@
 //! without allocating.
 //!
 //! Values are a chain of fronts: pieces of few bytes, each of which is read in one go once all of
-//! its bytes are there. A text alone may be long: it is scanned as its bytes come.
+//! its bytes are there. Texts and the signatures of variants alone may be longer: they are scanned
+//! as their bytes come.
 #![tactic(auto)]
 
 mod frames;
 mod fronts;
+mod holding;
 mod items;
 mod signatures;
 mod texts;
@@ -15,6 +17,6 @@ mod whole;
 
 pub use fronts::{
     array_front, byte, ended_front, fixed, front, length_front, nul_front, number_front, padding,
-    rest_after, short_length_front, signature_front, text_front, variant_front, word,
+    rest_after, short_length_front, signature_front, text_front, word,
 };
 pub use values::ValueChecker;

@@ -1,4 +1,4 @@
-//! Texts, whose bytes may come in pieces.
+//! Texts, whose bytes may come in pieces: values, and the signatures of variants.
 #![tactic(auto)]
 
 ghost use Rattle.std.specs.Prelude.{◌≡◌, ◌≢◌, ◌<◌, length, slice_index, IfOk, IfErr, ◌⊎◌};
@@ -6,8 +6,10 @@ ghost use Rattle.dbus_texts.specs.Types.{TextCode, text_code};
 ghost use Rattle.dbus_value_model.specs.WantedTexts.{Of};
 ghost use Rattle.dbus_value_model.specs.WantedTexts as wanted;
 ghost use Rattle.dbus_value_model.specs.Items.{text_reason};
+ghost use Rattle.dbus_value_checker.specs.Suspended.{TextItem, item_code, item_kind};
 
 use crate::fronts::{front, length_front, nul_front};
+use crate::holding::keep;
 use crate::values::{Doing, ValueChecker};
 use dbus_types::{TextKind, TextScan};
 use dbus_value_model::{Reason, Stop, refuse};
@@ -25,7 +27,7 @@ pub fn kind_of_code(code: u8) -> TextKind
 
 /// What is wrong with a text that is none of the type that has this code.
 pub fn reason_of_code(code: u8) -> Reason
-    ensures { (k : TextCode) → text_code k ≡ code → text_reason (wanted.kind_of k) ≡ result }
+    ensures { (i : TextItem) → item_code i ≡ code → text_reason (item_kind i) ≡ result }
 {
     match code {
         b's' => Reason::Text,
@@ -41,7 +43,7 @@ impl ValueChecker {
 
     /// The number of bytes of a text that are still wanted. If none are, the text is validated
     /// whole.
-    fn text_on(&mut self, code: u8, left: usize) -> Result<(), Stop>
+    pub(crate) fn text_on(&mut self, code: u8, left: usize) -> Result<(), Stop>
         requires valid { (answer : Answer) × Texts self.old code left answer }
         ensures opens { (answer : Answer) → Texts self.old code left answer →
             Opens result self.new answer }
@@ -52,6 +54,10 @@ impl ValueChecker {
             return Ok(());
         }
         if self.scan.end() {
+            if code == b'v' {
+                self.hold();
+                return Ok(());
+            }
             self.doing = Doing::Nul;
             return Ok(());
         }
@@ -107,6 +113,7 @@ impl ValueChecker {
             return refuse(self.offset + taken, reason_of_code(code));
         }
         self.offset += taken;
+        keep(&mut self.held, code, given);
         match self.text_on(code, left - taken) {
             Ok(()) => Ok(taken),
             Err(stop) => Err(stop),

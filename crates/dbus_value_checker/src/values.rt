@@ -33,7 +33,7 @@ pub(crate) enum Doing {
     /// Bytes of an array's numbers, any of which are valid there: their number, to the end of the
     /// last whole one.
     Numbers(usize),
-    /// Bytes of a text of the type that has this code: their number.
+    /// Bytes of a text of the type that has this code, or of a variant's signature: their number.
     Text(u8, usize),
     /// The zero after a text.
     Nul,
@@ -67,6 +67,8 @@ pub struct ValueChecker {
     pub(crate) lengths: ArrayVec<u8, 16640>,
     /// A text that is under way.
     pub(crate) scan: TextScan,
+    /// The bytes that were taken of it, if it is the signature of a variant.
+    pub(crate) held: ArrayVec<u8, 255>,
     pub(crate) doing: Doing,
 }
 
@@ -91,6 +93,7 @@ impl ValueChecker {
             text: ArrayVec::new(),
             lengths: ArrayVec::new(),
             scan: TextScan::new(TextKind::Text),
+            held: ArrayVec::new(),
             doing: Doing::Over,
         }
     }
@@ -139,7 +142,7 @@ impl ValueChecker {
         ensures moves { (answer : Answer) → Denotes self.old answer →
             Moves self.old bytes.now result self.new answer }
         ensures further { IfOk result (λ n. (0 < n) ⊎ (wide self.new.doing < wide self.old.doing)) }
-        ensures short { IfErr result (λ e. e ≡ Partial → length bytes.now < 257) }
+        ensures short { IfErr result (λ e. e ≡ Partial → length bytes.now < 20) }
     {
         match self.doing {
             Doing::Wanted(pos, stop) => self.value(pos, stop, bytes),
@@ -185,7 +188,7 @@ impl ValueChecker {
     }
 
     /// Takes what is wanted as far as it is there whole: how many bytes. If something is still
-    /// wanted, what is left of the bytes, fewer than 257, is the front of an item: they are to be
+    /// wanted, what is left of the bytes, fewer than 20, is the front of an item: they are to be
     /// handed again, with more after them.
     ///
     /// A fault comes as soon as the bytes show it, whatever bytes follow; nothing is said of the
@@ -195,7 +198,7 @@ impl ValueChecker {
         requires valid { (answer : Answer) × Denotes self.old answer }
         ensures runs { (answer : Answer) → Denotes self.old answer →
             Runs bytes.now result self.new answer }
-        ensures short { IfOk result (λ n. IsLive self.new.doing → length bytes.now < n + 257) }
+        ensures short { IfOk result (λ n. IsLive self.new.doing → length bytes.now < n + 20) }
     {
         let mut n = 0;
         let mut misses = 0;

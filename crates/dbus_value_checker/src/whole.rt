@@ -93,7 +93,7 @@ impl ValueChecker {
         ensures moves { (answer : Answer) → Denotes self.old answer →
             Moves self.old (drop n bytes.now) result self.new answer }
         ensures further { IfOk result (λ m. (0 < m) ⊎ (wide self.new.doing < wide self.old.doing)) }
-        ensures short { IfErr result (λ e. e ≡ Partial → length (drop n bytes.now) < 257) }
+        ensures short { IfErr result (λ e. e ≡ Partial → length (drop n bytes.now) < 20) }
     {
         if *misses < MOST_MISSES && self.is_tried(bytes, n) {
             if let Some(size) = self.whole(bytes, n) {

@@ -12,25 +12,25 @@ returns-then-is_empty-clause-moves c = λ answer t.
 pub returns-then-taken-given-clause-moves : goal.returns-then-taken-given-clause-moves
 returns-then-taken-given-clause-moves c = λ answer t.
     let a = c.args in let k = c.take-taken.ensures in
-    rw c.refuse.ensures (texts_break a.self.now a.code a.left answer t a.bytes.now c.front-given.result.now c.front-given.ensures c.take-taken.new.self c.take-taken.result k.within k.kind k.stands c.reason_of_code.result c.if-taken-given.true (k.breaks c.if-taken-given.true) (c.reason_of_code.ensures t.kind t.kind_is))
+    rw c.refuse.ensures (texts_break a.self.now a.code a.left answer t a.bytes.now c.front-given.result.now c.front-given.ensures c.take-taken.new.self c.take-taken.result k.within k.kind k.stands c.reason_of_code.result c.if-taken-given.true (k.breaks c.if-taken-given.true) (c.reason_of_code.ensures t.item t.code_is))
 
 pub text_on-requires : goal.text_on-requires
 text_on-requires c =
     let a = c.args in let k = c.take-taken.ensures in
-    record { valid = (_, texts_on a.self.now a.code a.left c.requires.valid.0 c.requires.valid.1 a.bytes.now c.front-given.result.now c.front-given.ensures c.take-taken.new.self c.take-taken.result k.within k.kind k.stands) }
+    record { valid = (_, texts_on a.self.now a.code a.left c.requires.valid.0 c.requires.valid.1 a.bytes.now c.front-given.result.now c.front-given.ensures c.take-taken.new.self c.take-taken.result k.within k.kind k.stands c.keep.new.held c.if-taken-given.false c.keep.ensures) }
 
 pub returns-in-Ok-clause-moves : goal.returns-in-Ok-clause-moves
 returns-in-Ok-clause-moves c = λ answer t.
     let a = c.args in let k = c.take-taken.ensures in (
       (taken_there a.self.now a.code a.left answer t a.bytes.now c.front-given.result.now c.front-given.ensures c.take-taken.new.self c.take-taken.result k.within k.kind k.stands).0,
-      c.in-Ok.ensures.opens _ (texts_on a.self.now a.code a.left answer t a.bytes.now c.front-given.result.now c.front-given.ensures c.take-taken.new.self c.take-taken.result k.within k.kind k.stands),
+      c.in-Ok.ensures.opens _ (texts_on a.self.now a.code a.left answer t a.bytes.now c.front-given.result.now c.front-given.ensures c.take-taken.new.self c.take-taken.result k.within k.kind k.stands c.keep.new.held c.if-taken-given.false c.keep.ensures),
     )
 
 pub returns-in-Err-clause-moves : goal.returns-in-Err-clause-moves
 returns-in-Err-clause-moves c = λ answer t.
     let a = c.args in let k = c.take-taken.ensures in
     opens_after a.self.now c.text_on.new.self a.bytes.now c.take-taken.result c.in-Err.stop answer
-    (c.in-Err.ensures.opens _ (texts_on a.self.now a.code a.left answer t a.bytes.now c.front-given.result.now c.front-given.ensures c.take-taken.new.self c.take-taken.result k.within k.kind k.stands))
+    (c.in-Err.ensures.opens _ (texts_on a.self.now a.code a.left answer t a.bytes.now c.front-given.result.now c.front-given.ensures c.take-taken.new.self c.take-taken.result k.within k.kind k.stands c.keep.new.held c.if-taken-given.false c.keep.ensures))
 
 pub returns-in-Err-clause-short : goal.returns-in-Err-clause-short
 returns-in-Err-clause-short c = λ e. absurd (c.in-Err.ensures.decided e)
