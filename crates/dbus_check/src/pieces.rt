@@ -80,6 +80,10 @@ impl Pieces {
         ensures progress { self.new.progress ≡ self.old.progress }
         ensures items { self.new.kept.items ≡ drop n self.old.kept.items }
     {
+        // Most are kept whole.
+        if n == 0 {
+            return;
+        }
         let mut rest = ArrayVec::new();
         match rest.try_extend_from_slice(rest_after(self.kept.as_slice(), n)) {
             Ok(()) => self.kept = rest,
