@@ -140,6 +140,7 @@ bench-c: library
 	head -c 169 samples/session.dbus | out/calls 100000
 	$(CC) -std=c99 -D_GNU_SOURCE -O2 -Iinclude -o out/pieces bench/pieces.c $(ARCHIVE)
 	bench/pieces.sh out/pieces
+	$(CC) -std=c99 -D_GNU_SOURCE -O2 -Iinclude -o out/rules bench/rules.c $(ARCHIVE)
 
 install: install-program install-c
 

@@ -1,6 +1,7 @@
 #!/usr/bin/env python3
-"""growth.py PROGRAM: the seconds that `filter` of PROGRAM takes at N, 2N, 4N and 8N of what each row counts, and how many times
-more at 8N than at N. The least of three runs, less what the same stream takes under one rule that matches nothing.
+"""growth.py PROGRAM [RULES]: the seconds that `filter` of PROGRAM takes at N, 2N, 4N and 8N of what each row counts, and how many times
+more at 8N than at N. The least of three runs, less what the same stream takes under one rule that matches nothing. With RULES, bench/rules.c
+as `make bench-c` builds it, also the microseconds that it takes to find ten of N to 8N rules of each key, for one message.
 
 learned, owned: N rules, each of the well-known sender of its own, whose names have owners: as the stream tells, or as is given by
 `--owner`; the owners are N connections. Over 4,000 signals of the last of them. alone: the same if one connection owns all names, over
@@ -10,6 +11,7 @@ keys: 100 rules of N keys `argN`, of which the last does not hold. reach: 100 ru
 """
 
 import os
+import subprocess
 import sys
 import tempfile
 
@@ -68,6 +70,30 @@ def reach(count):
     return ("filter", *[f"arg{count - 1}='b'"] * 100), sent(2_000, "s" * 64, ("a",) * 64, ":1.7")
 
 
+NAME = "org.example.Name"
+SETS = (12_500, 25_000, 50_000, 100_000)
+MESSAGE = signal(1, "sss", ("org.example.Name.A", "text", "/org/example/a/b"), [*FIELDS[:-1], (6, ("s", ":1.9")), FIELDS[-1]])
+# what ten rules ask for, and what the others do, with a number in place of %ld
+SETS_BY_KEY = {
+    "type": ("type='signal'", "type='method_call'"),
+    "sender": ("sender=':1.7'", "sender=':1.%ld'"),
+    "sender, owned": (f"sender='{NAME}'", "sender='org.example.N%ld'"),
+    "interface": ("interface='org.freedesktop.DBus.Properties'", "interface='org.example.N%ld'"),
+    "member": ("member='PropertiesChanged'", "member='N%ld'"),
+    "path": ("path='/org/freedesktop/NetworkManager/Devices/2'", "path='/org/freedesktop/NetworkManager/Devices/%ld'"),
+    "path_namespace": ("path_namespace='/org/freedesktop'", "path_namespace='/org/freedesktop/N%ld'"),
+    "destination": ("destination=':1.9'", "destination=':1.%ld'"),
+    "arg0": ("arg0='org.example.Name.A'", "arg0='org.example.Name.N%ld'"),
+    "arg1": ("arg1='text'", "arg1='text%ld'"),
+    "arg0, arg1": ("arg0='org.example.Name.A',arg1='text'", "arg0='org.example.Name.A',arg1='text%ld'"),
+    "arg2path": ("arg2path='/org/example/a/b'", "arg2path='/org/example/a/%ld'"),
+    "arg2path, '/'": ("arg2path='/org/example/'", "arg2path='/org/example/%ld/'"),
+    "arg0namespace": (f"arg0namespace='{NAME}'", "arg0namespace='org.example.Name.N%ld'"),
+    "all of one": (
+        "sender='org.example.Name',interface='org.freedesktop.DBus.Properties',path='/org/freedesktop/NetworkManager/Devices/2',arg0='org.example.Name.A'",
+        "sender='org.example.Name',interface='org.freedesktop.DBus.Properties',path='/org/freedesktop/NetworkManager/Devices/%ld',arg0='org.example.Name.A'",
+    ),
+}
 ROWS = {learned: OWNERS, owned: OWNERS, alone: OWNERS, keys: KEYS, reach: KEYS}
 
 
@@ -82,8 +108,23 @@ def measured(program, row, count, path):
     return least((program, *words), path) - least((program, *NOTHING), path)
 
 
+def found_in(rules_program, count, texts):
+    """The nanoseconds that it takes to add a rule, and to find those that match."""
+    words = (rules_program, str(count), NAME, *texts)
+    return [float(word) for word in subprocess.run(words, input=MESSAGE, stdout=subprocess.PIPE, check=True).stdout.split()]
+
+
+def print_sets(rules_program):
+    for key, texts in SETS_BY_KEY.items():
+        times = [found_in(rules_program, count, texts) for count in SETS]
+        cells = "".join(f"{count:>8} {found / 1000:7.2f}" for count, (_, found) in zip(SETS, times))
+        print(f"{key:15}{cells}   added {times[-1][0] / 1000:.2f}", flush=True)
+
+
 def main():
     program = sys.argv[1]
+    for rules_program in sys.argv[2:]:
+        print_sets(rules_program)
     with tempfile.TemporaryDirectory() as folder:
         path = os.path.join(folder, "stream")
         for row, counts in ROWS.items():

@@ -77,7 +77,7 @@ static void on_shared(struct dbus_wire_rules *rules, struct dbus_wire_rules *oth
     uint64_t first = 0, second = 0;
     uint32_t answer;
     expect(dbus_wire_rules_add(rules, (const uint8_t *)"=", 1, &none, &told) == DBUS_WIRE_SHARED, "no text is added to shared rules");
-    expect(none.mask == 1 && none.hash == 2 && none.number == 3 && told.offset == 4 && told.reason == 5, "nothing is told of it");
+    expect(none.kind == 1 && none.hash == 2 && none.number == 3 && told.offset == 4 && told.reason == 5, "nothing is told of it");
     expect(add(other, "member='A'", &none) == DBUS_WIRE_SHARED, "no rule is added to shared rules");
     expect(dbus_wire_rules_remove(rules, id) == DBUS_WIRE_SHARED && dbus_wire_rules_remove(other, &none) == DBUS_WIRE_SHARED,
            "none is removed");

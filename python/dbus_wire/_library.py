@@ -85,7 +85,7 @@ class Rules(ctypes.Structure):
 
 
 class RuleId(ctypes.Structure):
-    _fields_ = [("mask", c_uint8), ("hash", c_uint64), ("number", c_uint64)]
+    _fields_ = [("kind", c_uint8), ("hash", c_uint64), ("number", c_uint64)]
 
 
 class RuleRefused(ctypes.Structure):

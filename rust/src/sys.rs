@@ -221,7 +221,7 @@ pub struct dbus_wire_rules {
 #[repr(C)]
 #[derive(Clone, Copy, Debug, Default, PartialEq, Eq, Hash)]
 pub struct dbus_wire_rule_id {
-    pub mask: u8,
+    pub kind: u8,
     pub hash: u64,
     pub number: u64,
 }

@@ -1,6 +1,7 @@
 pub mod Numbered
 pub mod Begins
-pub mod Bits
+pub mod Among
+pub mod Fronts
 pub mod Orders
 pub mod Kept
 pub mod Marked

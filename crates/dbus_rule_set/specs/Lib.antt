@@ -1,6 +1,7 @@
 pub mod TextNumbers
-pub mod Buckets
+pub mod Places
 pub mod Handles
 pub mod Held
+pub mod Searches
 pub mod Owners
 pub mod Groups

@@ -8,9 +8,9 @@
 #[repr(C)]
 #[derive(Clone, Copy, PartialEq, Eq, PartialOrd, Ord, Debug)]
 pub struct RuleHandle {
-    /// Which of the four indexed keys the rule has.
-    pub(crate) mask: u8,
-    /// A number of the values of these keys.
+    /// Under which kind of key the rule stands.
+    pub(crate) kind: u8,
+    /// The hash of the text under which it stands.
     pub(crate) hash: u64,
     /// The number of handles that the set gave before this one.
     pub(crate) number: u64,

@@ -9,14 +9,17 @@
 //! [`RuleSet::matching_by`].
 #![tactic(auto)]
 
-mod bucket;
 mod groups;
 mod handle;
-mod masks;
+mod kinds;
+mod met;
 mod numbers;
 mod owners;
+mod places;
 mod rule_set;
 mod search;
+mod slashes;
+mod standing;
 
 pub use handle::RuleHandle;
 pub use owners::Owners;

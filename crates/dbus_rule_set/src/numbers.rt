@@ -1,44 +1,37 @@
-//! Numbers of the texts by which rules are told apart.
+//! Hashes of the texts by which rules are told apart.
 #![tactic(auto)]
 
-ghost use Rattle.std.specs.Prelude.{◌≡◌};
-ghost use Rattle.std.specs.Option.{option_map};
-ghost use Rattle.dbus_rule_set.specs.TextNumbers.{number_of, text_number};
+ghost use Rattle.std.specs.Prelude.{◌≡◌, ◌%◌, ◌^◌};
+ghost use Rattle.dbus_rule_set.specs.TextNumbers.{and_byte, text_hash};
 
 /// The number of no bytes.
-const START: u64 = 14_695_981_039_346_656_037;
+pub(crate) const START: u64 = 14_695_981_039_346_656_037;
 
 /// What a number is multiplied by for each byte.
-pub(crate) const FACTOR: u64 = 1_099_511_628_211;
+const FACTOR: u64 = 1_099_511_628_211;
 
-/// A number of four texts: of those that a rule asks for, or that a message has.
-#[derive(Clone, Copy)]
-pub(crate) struct Numbers {
-    pub(crate) path: u64,
-    pub(crate) interface: u64,
-    pub(crate) member: u64,
-    pub(crate) arg0: u64,
+/// The number of a text with one more byte.
+pub(crate) fn and_byte(number: u64, byte: u8) -> u64
+    ensures { result ≡ and_byte number byte }
+{
+    (number ^ u64::from(byte)).wrapping_mul(FACTOR)
 }
 
-/// A number of the text: texts of two numbers are two.
+/// The hash of the text of this number.
+pub(crate) fn hash_of(number: u64) -> u32
+    ensures { result ≡ number % 2 ^ 32 }
+{
+    (number % 4_294_967_296) as u32
+}
+
+/// The hash of the text: texts of two hashes are two.
 #[tactic(auto, using(crate::proofs::Numbered::number_more, crate::proofs::Numbered::number_all))]
-fn text_number(text: &str) -> u64
-    ensures { result ≡ text_number text.now }
+pub(crate) fn text_hash(text: &[u8]) -> u32
+    ensures { result ≡ text_hash text.now }
 {
-    let bytes = text.as_bytes();
     let mut number = START;
-    for byte in bytes {
-        number = (number ^ u64::from(*byte)).wrapping_mul(FACTOR);
+    for byte in text {
+        number = and_byte(number, *byte);
     }
-    number
-}
-
-/// The number of the text, or 0 for none.
-pub(crate) fn number_of(text: Option<&str>) -> u64
-    ensures { result ≡ number_of (option_map (λ s. s.now) text.entry) }
-{
-    match text {
-        Some(text) => text_number(text),
-        None => 0,
-    }
+    hash_of(number)
 }

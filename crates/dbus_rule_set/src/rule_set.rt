@@ -11,14 +11,14 @@ ghost use Rattle.dbus_message_model.specs.Messages.{MessageTree};
 ghost use Rattle.dbus_view.specs.Views.{Views};
 ghost use Rattle.dbus_match.specs.Matchers.{SenderOwnsAlike};
 ghost use Rattle.dbus_match.specs.Matching.{ownerships};
-ghost use Rattle.dbus_rule_set.specs.Buckets.{IsKept, IsMarked};
 ghost use Rattle.dbus_rule_set.specs.Handles.{handle_cmp};
+ghost use Rattle.dbus_rule_set.specs.Places.{IsIndexed, IsKept};
 
-use crate::bucket::handle_of;
 use crate::handle::RuleHandle;
-use crate::masks::Masks;
+use crate::kinds::Kinds;
 use crate::owners::Owners;
 use crate::search::search;
+use crate::standing::handle_of;
 use dbus_match::{Owner, Rule};
 use dbus_view::MessageView;
 use std::alloc::{AllocError, AllocFailed, Allocator, Global};
@@ -27,9 +27,13 @@ use std::collections::BTreeMap;
 /// Match rules, each with a handle. Those that match a message are found without asking each of
 /// them. D-Bus Specification, "Match Rules".
 ///
-/// The index is by `path`, `interface`, `member` and `arg0`: of the rules that have the same of
-/// these keys, only those that ask for the message's own texts are looked at. Rules that have none
-/// of the four are looked at for each message.
+/// A rule stands under the value of one of its keys, and is looked at if this value may match the
+/// message: the message's own text, what stands in it before a `/` or `.`, or a name that its
+/// SENDER owns. Of the rule's keys it is the one with the fewest other rules under its value. These
+/// are looked at one by one for each message: rules with no key, or with `eavesdrop` alone.
+///
+/// Of the rules that stand under one key, each is looked at if the message has more than 64 such
+/// texts; and of those under `argNpath` also if argument N ends in `/`.
 ///
 /// This keeps a rule, and asks whether it is among those that match a message:
 ///
@@ -50,11 +54,11 @@ pub struct RuleSet<A: Allocator = Global> {
     rules: BTreeMap<RuleHandle, Rule<A>, A>,
     /// The number of handles that were given.
     next: u64,
-    /// The masks of the rules that were added.
-    masks: Masks,
+    /// The kinds of the rules that were added.
+    kinds: Kinds,
     ghost ordered: { IsOrdered handle_cmp rules } by { Prim.hlevel props },
     ghost kept: { AllByRecursion (IsKept next) rules.entries } by { Prim.hlevel props },
-    ghost marked: { AllByRecursion (IsMarked masks) rules.entries } by { Prim.hlevel props },
+    ghost indexed: { AllByRecursion (IsIndexed kinds) rules.entries } by { Prim.hlevel props },
 }
 
 impl<A: Allocator> RuleSet<A> {
@@ -68,7 +72,7 @@ impl<A: Allocator> RuleSet<A> {
         RuleSet {
             rules: BTreeMap::new(alloc),
             next: 0,
-            masks: Masks::new(),
+            kinds: Kinds::new(),
         }
     }
 
@@ -99,11 +103,11 @@ impl<A: Allocator> RuleSet<A> {
         if number == u64::MAX {
             return Err(AllocFailed { value: rule });
         }
-        let handle = handle_of(&rule, number);
+        let handle = handle_of(&self.rules, &rule, number);
         match self.rules.insert(handle, rule) {
             Ok(_) => {
                 self.next = number + 1;
-                self.masks.mark(handle.mask);
+                self.kinds.mark(handle.kind);
                 Ok(handle)
             }
             Err(refused) => {
@@ -195,7 +199,7 @@ impl<A: Allocator> RuleSet<A> {
         ensures unchanged { OnErr result (found.new.items ≡ found.old.items) }
     {
         let before = found.len();
-        match search(&self.rules, self.next, &self.masks, view, owners, found) {
+        match search(&self.rules, &self.kinds, view, owners, found) {
             Ok(()) => Ok(()),
             Err(refused) => {
                 found.truncate(before);

@@ -1,19 +1,21 @@
 //! The rules of a set that match a message, by the index.
 #![tactic(auto)]
 
-ghost use Rattle.std.specs.Prelude.{◌≡◌, length, take, OnOk};
+ghost use Rattle.std.specs.Prelude.{◌≡◌, ◌<◌, ◌∷◌, ◌++◌, [], ℕ, List, length, take, OnOk};
 ghost use Rattle.std.specs.List.{AllByRecursion};
 ghost use Rattle.std.specs.Vec.{vec_len};
 ghost use Rattle.dbus_value_model.specs.declared.order.Order.{Order};
 ghost use Rattle.dbus_message_model.specs.Messages.{MessageTree};
 ghost use Rattle.dbus_view.specs.Views.{Views};
 ghost use Rattle.dbus_match.specs.Matching.{ownerships};
-ghost use Rattle.dbus_rule_set.specs.Buckets.{IsKept, IsMarked};
+ghost use Rattle.dbus_rule_set.specs.Places.{IsAmong, IsIndexed, IsNext, Stands};
 ghost use Rattle.dbus_rule_set.specs.Held.{Collects, EntryMatches};
+ghost use Rattle.dbus_rule_set.specs.Searches.{Searches};
 
-use crate::bucket::{bucket_hash, view_numbers};
 use crate::handle::RuleHandle;
-use crate::masks::Masks;
+use crate::kinds::{KINDS, Kinds, key_of};
+use crate::met::met;
+use crate::places::rules_between;
 use dbus_match::{Matcher, Owner, Rule};
 use dbus_view::MessageView;
 use std::alloc::{AllocError, Allocator};
@@ -40,41 +42,99 @@ fn ask_each<A: Allocator>(
     Ok(())
 }
 
-/// Puts the handles of the rules that match at the end of `found`. So many handles were given, for
-/// these masks.
+/// The lesser of a hash and the next one so far, if the hash is not below `from`.
+fn nearer(from: u64, next: Option<u32>, hash: u32) -> Option<u32>
+    ensures { (hs : List ℕ) → IsNext from next hs → IsNext from result (hs ++ hash ∷ []) }
+{
+    if u64::from(hash) < from {
+        return next;
+    }
+    match next {
+        Some(next) => Some(next.min(hash)),
+        None => Some(hash),
+    }
+}
+
+/// The least of the hashes that is not below `from`.
+fn next_of(hashes: &[u32], from: u64) -> Option<u32>
+    ensures { IsNext from result hashes.now }
+{
+    let mut next = None;
+    for hash in hashes {
+        next = nearer(from, next, *hash);
+    }
+    next
+}
+
+/// Puts the handles of the rules of the kind that match at the end of `found`, if these have the
+/// hashes.
+#[tactic(auto, using(crate::proofs::Begins::begins_on))]
+fn ask_hashes<A: Allocator>(
+    rules: &BTreeMap<RuleHandle, Rule<A>, A>,
+    kind: u8,
+    hashes: &[u32],
+    matcher: &mut Matcher<'_, A>,
+    found: &mut Vec<RuleHandle, A>,
+) -> Result<(), AllocError>
+    ensures found { (order : Order) (m : MessageTree) → Views matcher.old.view order m →
+        AllByRecursion (λ e. EntryMatches m matcher.old.owners e → e.0.kind ≡ kind → IsAmong e.0.hash hashes.now) rules.now.entries →
+        OnOk result (Searches (EntryMatches m matcher.old.owners) rules.now.entries kind found.old.items found.new.items) }
+    ensures kept { take (length found.old.items) found.new.items ≡ found.old.items }
+    ensures same { matcher.new ≡ matcher.old }
+{
+    let mut from = 0;
+    while let Some(hash) = next_of(hashes, from) {
+        let first = u64::from(hash);
+        let there = rules_between(rules, kind, first, kind, first + 1);
+        ask_each(there, matcher, found)?;
+        from = first + 1;
+    }
+    Ok(())
+}
+
+/// Puts the handles of the rules of the kind that match the message at the end of `found`.
+fn ask_kind<A: Allocator>(
+    rules: &BTreeMap<RuleHandle, Rule<A>, A>,
+    kind: u8,
+    view: &MessageView,
+    owners: &[Owner<A>],
+    matcher: &mut Matcher<'_, A>,
+    found: &mut Vec<RuleHandle, A>,
+) -> Result<(), AllocError>
+    requires small { kind < 137 }
+    requires placed { AllByRecursion Stands rules.now.entries }
+    requires same { matcher.old ≡ record { view = view.now; owners = ownerships owners.now } }
+    ensures found { (order : Order) (m : MessageTree) → Views view.now order m →
+        OnOk result (Searches (EntryMatches m (ownerships owners.now)) rules.now.entries kind found.old.items found.new.items) }
+    ensures kept { take (length found.old.items) found.new.items ≡ found.old.items }
+    ensures same { matcher.new ≡ matcher.old }
+{
+    match met(key_of(kind), view, owners) {
+        Some(hashes) => ask_hashes(rules, kind, hashes.as_slice(), matcher, found),
+        None => ask_each(rules_between(rules, kind, 0, kind + 1, 0), matcher, found),
+    }
+}
+
+/// Puts the handles of the rules that match at the end of `found`. The rules are of these kinds.
 #[tactic(auto, using(crate::proofs::Begins::begins_on))]
 pub(crate) fn search<A: Allocator>(
     rules: &BTreeMap<RuleHandle, Rule<A>, A>,
-    given: u64,
-    masks: &Masks,
+    kinds: &Kinds,
     view: &MessageView,
     owners: &[Owner<A>],
     found: &mut Vec<RuleHandle, A>,
 ) -> Result<(), AllocError>
-    requires kept { AllByRecursion (IsKept given) rules.now.entries }
-    requires marked { AllByRecursion (IsMarked masks.now) rules.now.entries }
+    requires indexed { AllByRecursion (IsIndexed kinds.now) rules.now.entries }
     ensures found { (order : Order) (m : MessageTree) → Views view.now order m →
         OnOk result (Collects (EntryMatches m (ownerships owners.now)) rules.now.entries found.old.items found.new.items) }
     ensures kept { take (vec_len found.old) found.new.items ≡ found.old.items }
 {
-    let numbers = view_numbers(view);
     let mut matcher = Matcher::new(view, owners);
-    for mask in 0..16u8 {
-        if !masks.has(mask) {
+    for kind in 0..KINDS {
+        if !kinds.has(kind) {
             continue;
         }
-        let hash = bucket_hash(mask, &numbers);
-        let first = RuleHandle {
-            mask,
-            hash,
-            number: 0,
-        };
-        let end = RuleHandle {
-            mask,
-            hash,
-            number: given,
-        };
-        ask_each(rules.range(first..end), &mut matcher, found)?;
+        ask_kind(rules, kind, view, owners, &mut matcher, found)?;
     }
     Ok(())
 }

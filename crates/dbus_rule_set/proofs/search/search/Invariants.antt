@@ -7,11 +7,11 @@ use Rattle.dbus_rule_set.specs.Held.{Collects, EntryMatches}
 use Rattle.dbus_rule_set.proofs.Parted.{Below}
 use Rattle.dbus_rule_set.proofs.search.search.Given as goal
 
--- those under the masks so far are found
-abbrev pub invariant-loop-mask : goal.invariant-loop-mask
-invariant-loop-mask g l =
+-- those of the kinds so far are found
+abbrev pub invariant-loop-kind : goal.invariant-loop-kind
+invariant-loop-kind g l =
     record {
-      found : (order : Order) (m : MessageTree) → Views l.fn.view order m → Collects (Below (EntryMatches m (ownerships l.owners)) l.mask) l.rules.entries l.fn.found.items l.found.items;
+      found : (order : Order) (m : MessageTree) → Views l.fn.view order m → Collects (Below (EntryMatches m (ownerships l.owners)) l.kind 0) l.rules.entries l.fn.found.items l.found.items;
       kept : take (length l.fn.found.items) l.found.items ≡ l.fn.found.items;
       matcher : l.matcher ≡ record { view = l.fn.view; owners = ownerships l.owners };
     }

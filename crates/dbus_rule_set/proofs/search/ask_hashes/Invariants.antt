@@ -1,0 +1,22 @@
+use Rattle.std.proofs.Common.{◌≡◌, ◌-◌, ◌≤◌, List, take, length}
+use Rattle.dbus_value_model.specs.declared.order.Order.{Order}
+use Rattle.dbus_message_model.specs.Messages.{MessageTree}
+use Rattle.dbus_view.specs.Views.{Views}
+use Rattle.dbus_rule_set.specs.declared.handle.RuleHandle.{RuleHandle}
+use Rattle.dbus_rule_set.specs.Held.{Collects, EntryMatches}
+use Rattle.dbus_rule_set.proofs.Parted.{Below, HaveHashes}
+use Rattle.dbus_rule_set.proofs.search.ask_hashes.Given as goal
+
+-- those of hashes below the number are found
+abbrev pub invariant-loop-hash : goal.invariant-loop-hash
+invariant-loop-hash g l =
+    record {
+      found : (order : Order) (m : MessageTree) → Views l.fn.matcher.view order m → HaveHashes (EntryMatches m l.fn.matcher.owners) l.kind l.hashes l.rules.entries
+          → (first : List RuleHandle) → Collects (Below (EntryMatches m l.fn.matcher.owners) l.kind 0) l.rules.entries first l.fn.found.items → Collects (Below (EntryMatches m l.fn.matcher.owners) l.kind l.from) l.rules.entries first l.found.items;
+      kept : take (length l.fn.found.items) l.found.items ≡ l.fn.found.items;
+      same : l.matcher ≡ l.fn.matcher;
+      bound : l.from ≤ 4294967296;
+    }
+
+abbrev pub decreases-loop-hash : goal.decreases-loop-hash
+decreases-loop-hash g l = 4294967296 - l.from

@@ -1,0 +1,177 @@
+//! Under which hashes the rules of one kind stand that may match a message.
+#![tactic(auto)]
+
+ghost use Rattle.std.specs.Prelude.{◌≡◌, ◌≢◌, ◌⊎◌, ℕ, List, Some, None, IsTrue, OnSome, IfSome, MatchOption, option_map};
+ghost use Rattle.dbus_value_model.specs.declared.order.Order.{Order};
+ghost use Rattle.dbus_message_model.specs.Lookups.{body_value};
+ghost use Rattle.dbus_message_model.specs.Messages.{MessageTree};
+ghost use Rattle.dbus_view.specs.Views.{Views};
+ghost use Rattle.dbus_rule.specs.declared.key.Key.TheVariants.{Eavesdrop};
+ghost use Rattle.dbus_match.specs.Matching.{HoldsAt, IsOwned, PathsMeet, ownerships, string_of, string_or_path_of, type_name};
+ghost use Rattle.dbus_rule_set.specs.Places.{Covers, IsAmong, IsFront, place_hash, trimmed};
+ghost use Rattle.dbus_rule_set.specs.TextNumbers.{text_hash};
+
+use crate::numbers::{START, and_byte, hash_of, text_hash};
+use crate::slashes::ends_in_slash;
+use arrayvec::ArrayVec;
+use dbus_match::Owner;
+use dbus_message_model::message_type::{ERROR, METHOD_CALL, METHOD_RETURN, SIGNAL};
+use dbus_rule::Key;
+use dbus_view::{ArgView, MessageView};
+use std::alloc::Allocator;
+
+/// The most hashes that are looked up for one kind.
+const HASHES: usize = 64;
+
+/// Some hashes.
+pub(crate) type Hashes = ArrayVec<u32, HASHES>;
+
+/// Adds the hash, if it is wanted; `None` if there is no room.
+fn note(hashes: &mut Hashes, wanted: bool, hash: u32) -> Option<()>
+    ensures kept { (h : ℕ) → IsAmong h hashes.old.items → IsAmong h hashes.new.items }
+    ensures noted { OnSome result (IsTrue wanted → IsAmong hash hashes.new.items) }
+{
+    if !wanted {
+        return Some(());
+    }
+    if hashes.is_full() {
+        return None;
+    }
+    hashes.push(hash);
+    Some(())
+}
+
+/// The hash of the text, if it is there.
+fn only(text: Option<&str>) -> Hashes
+    ensures { Covers (option_map (λ s. s.now) text.entry) (λ v w. v ≡ w) (λ v. v) result.items }
+{
+    let mut hashes = ArrayVec::new();
+    if let Some(text) = text {
+        hashes.push(text_hash(text.as_bytes()));
+    }
+    hashes
+}
+
+/// The hashes of nothing, of what stands before each separator of the text, and of the text; `None`
+/// if they are too many.
+fn fronts(separator: u8, text: &[u8]) -> Option<Hashes>
+    ensures { IfSome result (λ hashes. (u : List ℕ) →
+        IsFront separator u text.now → IsAmong (text_hash u) hashes.items) }
+{
+    let mut hashes = ArrayVec::new();
+    let mut number = START;
+    note(&mut hashes, true, hash_of(number))?;
+    for byte in text {
+        note(&mut hashes, *byte == separator, hash_of(number))?;
+        number = and_byte(number, *byte);
+    }
+    note(&mut hashes, true, hash_of(number))?;
+    Some(hashes)
+}
+
+/// The same of a text that may be there.
+fn fronts_of(separator: u8, text: Option<&str>) -> Option<Hashes>
+    ensures { IfSome result (λ hashes.
+        Covers (option_map (λ s. s.now) text.entry) (λ v w. IsFront separator v w) (λ v. v) hashes.items) }
+{
+    match text {
+        Some(text) => fronts(separator, text.as_bytes()),
+        None => Some(ArrayVec::new()),
+    }
+}
+
+/// The hashes of the paths that a text meets; `None` if they are too many, as those of a text that
+/// ends in `/`.
+fn paths(text: Option<&str>) -> Option<Hashes>
+    ensures { IfSome result (λ hashes.
+        Covers (option_map (λ s. s.now) text.entry) (λ v w. PathsMeet v w) trimmed hashes.items) }
+{
+    let Some(text) = text else {
+        return Some(ArrayVec::new());
+    };
+    let bytes = text.as_bytes();
+    if ends_in_slash(bytes) {
+        return None;
+    }
+    fronts(b'/', bytes)
+}
+
+/// The hashes of the sender and of the names that it owns; `None` if they are too many.
+fn senders<A: Allocator>(text: Option<&str>, owners: &[Owner<A>]) -> Option<Hashes>
+    ensures { IfSome result (λ hashes.
+        Covers (option_map (λ s. s.now) text.entry) (λ v w.
+        (v ≡ w) ⊎ IsOwned (ownerships owners.now) v w) (λ v. v) hashes.items) }
+{
+    let mut hashes = only(text);
+    let Some(unique) = text else {
+        return Some(hashes);
+    };
+    for owner in owners {
+        if owner.unique.as_str() != unique {
+            continue;
+        }
+        note(&mut hashes, true, text_hash(owner.name.as_str().as_bytes()))?;
+    }
+    Some(hashes)
+}
+
+/// The name of the message type.
+fn type_name(kind: u8) -> Option<&'static str>
+    ensures { option_map (λ s. s.now) result ≡ type_name kind }
+{
+    match kind {
+        METHOD_CALL => Some("method_call"),
+        METHOD_RETURN => Some("method_return"),
+        ERROR => Some("error"),
+        SIGNAL => Some("signal"),
+        _ => None,
+    }
+}
+
+/// Value `n` of the body, if it is a STRING.
+fn string_arg<'a>(view: &MessageView<'a>, n: u8) -> Option<&'a str>
+    ensures { (order : Order) (m : MessageTree) → Views view.now order m →
+        MatchOption result (string_of (body_value n m.body) ≡ None) (λ s.
+        string_of (body_value n m.body) ≡ Some s.now) }
+{
+    match view.arg(usize::from(n)) {
+        Some(ArgView::Str(text)) => Some(text),
+        _ => None,
+    }
+}
+
+/// Value `n` of the body, if it is a STRING or an OBJECT_PATH.
+fn string_or_path_arg<'a>(view: &MessageView<'a>, n: u8) -> Option<&'a str>
+    ensures { (order : Order) (m : MessageTree) → Views view.now order m →
+        MatchOption result (string_or_path_of (body_value n m.body) ≡ None) (λ s.
+        string_or_path_of (body_value n m.body) ≡ Some s.now) }
+{
+    match view.arg(usize::from(n)) {
+        Some(ArgView::Str(text)) => Some(text),
+        Some(ArgView::Path(text)) => Some(text),
+        _ => None,
+    }
+}
+
+/// The hashes under which rules with the key stand that may match the message, with these owners of
+/// names; `None` if any of these rules may match.
+pub(crate) fn met<A: Allocator>(key: Key, view: &MessageView, owners: &[Owner<A>]) -> Option<Hashes>
+    ensures met { (order : Order) (m : MessageTree) → Views view.now order m →
+        IfSome result (λ hashes. (v : List ℕ) →
+        HoldsAt key v m (ownerships owners.now) → IsAmong (place_hash key v) hashes.items) }
+    ensures all { OnSome result (key ≢ Eavesdrop) }
+{
+    match key {
+        Key::MessageType => Some(only(type_name(view.kind()))),
+        Key::Sender => senders(view.sender(), owners),
+        Key::Interface => Some(only(view.interface())),
+        Key::Member => Some(only(view.member())),
+        Key::Path => Some(only(view.path())),
+        Key::PathNamespace => fronts_of(b'/', view.path()),
+        Key::Destination => Some(only(view.destination())),
+        Key::Arg(n) => Some(only(string_arg(view, n))),
+        Key::ArgPath(n) => paths(string_or_path_arg(view, n)),
+        Key::Arg0Namespace => fronts_of(b'.', string_arg(view, 0)),
+        Key::Eavesdrop => None,
+    }
+}
