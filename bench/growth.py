@@ -3,6 +3,7 @@
 more at 8N than at N. The least of three runs, less what the same stream takes under one rule that matches nothing. With RULES, bench/rules.c
 as `make bench-c` builds it, also the microseconds that it takes to find ten of N to 8N rules of each key, for one message.
 
+many: N rules, each of an interface of its own, that match nothing, over 4,000 signals.
 learned, owned: N rules, each of the well-known sender of its own, whose names have owners: as the stream tells, or as is given by
 `--owner`; the owners are N connections. Over 4,000 signals of the last of them. alone: the same if one connection owns all names, over
 1,000 of its signals.
@@ -38,6 +39,10 @@ def sent(count, types, values, sender):
 def changes(count):
     """The bus's signals that each name has an owner now."""
     return b"".join(signal(n + 1, "sss", (name(n), "", f":1.{n}"), CHANGED) for n in range(count))
+
+
+def many(count):
+    return ("filter", *[f"interface='{name(n)}'" for n in range(count)]), sent(4_000, "s", ("a",), ":1.7")
 
 
 def rules(count):
@@ -94,7 +99,7 @@ SETS_BY_KEY = {
         "sender='org.example.Name',interface='org.freedesktop.DBus.Properties',path='/org/freedesktop/NetworkManager/Devices/%ld',arg0='org.example.Name.A'",
     ),
 }
-ROWS = {learned: OWNERS, owned: OWNERS, alone: OWNERS, keys: KEYS, reach: KEYS}
+ROWS = {many: OWNERS, learned: OWNERS, owned: OWNERS, alone: OWNERS, keys: KEYS, reach: KEYS}
 
 
 def least(command_line, path):

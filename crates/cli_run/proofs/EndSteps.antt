@@ -1,5 +1,6 @@
 -- What the writers got of a run, by what became of a writer of an output.
-use Rattle.std.proofs.Common.{◌≡◌, ℕ, Bool, true, false, List, [], None, Option, refl, subst}
+use Rattle.std.proofs.Common.{◌≡◌, ℕ, Bool, true, false, List, [], None, Option, inl, inr, refl, sym, ap, ◌∙◌, subst, arith}
+use Rattle.std.proofs.KnownBytes.{Consumes-nil}
 use Rattle.std.proofs.Math.Path.{transport}
 use Rattle.dbus_device.specs.Write.{Wrote}
 use Rattle.cli_options.specs.declared.command.Command.{Command}
@@ -7,14 +8,17 @@ use Rattle.cli_options.specs.declared.settings.Settings.{Settings}
 use Rattle.cli_report.specs.Devices.{Taken, Writing, reading, taken, writing}
 use Rattle.cli_report.specs.Gathering.{Breaks, gathered_bytes}
 use Rattle.cli_report.proofs.GatherSteps.{passes_whole}
-use Rattle.cli_report.specs.declared.ending.Cause.TheVariants.{WriteFailed}
+use Rattle.cli_report.specs.Failing.{Told}
+use Rattle.cli_report.specs.declared.ending.Cause.TheVariants.{Memory, WriteFailed}
 use Rattle.cli_report.specs.declared.ending.ExitStatus.{ExitStatus}
+use Rattle.cli_report.specs.declared.ending.ExitStatus.TheVariants as status
 use Rattle.cli_run.specs.Output.{command_of, IsOutputOfAll, is_check, owners_known}
 use Rattle.cli_run.specs.Going.{GoesThrough, StopsWithin}
 use Rattle.cli_run.specs.Inputs.{Placed}
 use Rattle.cli_run.specs.OutputWriting.{LeavesFirst, LeavesWritten, WritesAll}
-use Rattle.cli_run.specs.Running.{Writes, WritesSome}
+use Rattle.cli_run.specs.Running.{RunsWith, Writes, WritesSome}
 use Rattle.cli_run.specs.Told.{GotFirst, GotSecond, first_of, second_of}
+use Rattle.cli_run.specs.VisitorLaws.{first_nothing, told_nothing, written_none, wrote_nothing}
 use Rattle.cli_run.specs.Windows.{written}
 use Rattle.cli_run.specs.declared.output_writer.OutputWriter.{OutputWriter}
 use Rattle.cli_run.specs.declared.visitor.RunStop.{RunStop}
@@ -29,9 +33,37 @@ pub stops_as : {t : Taken} {settings : Settings} {most : ℕ} {is_check : Bool} 
     → ((items : List Placed) (told : List ℕ) → P items told stop → Q items told stop) → StopsWithin t settings most is_check P stop → StopsWithin t settings most is_check Q stop
 stops_as f s = record { parts = s.parts; rest = s.rest; told = s.told; covers = s.covers; more = s.more; all = s.all; caused = s.caused; came = f _ _ s.came }
 
+-- nothing is read for want of memory
+pub unread : {R W E : Type 0} (left : R → Option (List ℕ)) (calls read_failures : R → ℕ) (r : R) (held : W → Option (List ℕ)) (failures : W → ℕ) (w : W) (second_held : E → Option (List ℕ)) (second_failures : E → ℕ) (e0 e1 : E)
+    (settings : Settings) (most : ℕ) (command : Command) (end : ExitStatus) → end ≡ status.Failed → Told second_held second_failures e0 e1 Memory
+    → RunsWith (reading left calls read_failures r r) (writing held failures w w) (writing second_held second_failures e0 e1) settings most command end
+unread left calls read_failures r held failures w second_held second_failures e0 e1 settings most command end failed told =
+    let none : [] ≡ first_of (is_check command) (written settings.window []) [] = sym (ap (λ l. first_of (is_check command) l []) (written_none settings.window) ∙ first_nothing (is_check command)) in
+    inr (record {
+      failed = failed;
+      stop = ByCause Memory;
+      before = e0;
+      within = record {
+        parts = [];
+        rest = [];
+        told = [];
+        covers = record { bytes = []; consumed = Consumes-nil (left r); called = (0, omega arith, omega arith); begin = refl; tells = refl };
+        more = [];
+        all = inl refl;
+        caused = refl;
+        came = record {
+          texts = [];
+          made = refl;
+          first = subst (λ (l : List ℕ). Wrote held failures w l w) none (wrote_nothing held failures w);
+          second = told_nothing second_held second_failures (is_check command) e0 e0 refl;
+        };
+      };
+      tells = told;
+    })
+
 -- the writers at the end are w2 and e2
 module _ {A W E : Type 0} (held : W → Option (List ℕ)) (failures : W → ℕ) (second_held : E → Option (List ℕ)) (second_failures : E → ℕ) (a b : OutputWriter A W E) (settings : Settings) (command : Command)
-    (own : command_of a.output ≡ command) (carried : a.carried ≡ record { window = settings.window; owners = None }) (none : gathered_bytes a.gathered ≡ []) {w2 : W} {e2 : E}
+    (own : command_of a.output ≡ command) (carried : a.carried ≡ record { window = settings.window; owners = None; room = None }) (none : gathered_bytes a.gathered ≡ []) {w2 : W} {e2 : E}
     (first : b.first.now ≡ w2) (second : b.second.now ≡ e2) where
   abbrev w : Writing W
   w = writing held failures a.first.now w2

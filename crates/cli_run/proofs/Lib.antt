@@ -1,3 +1,4 @@
+pub mod RuleSets
 pub mod WindowSteps
 pub mod PartLaws
 pub mod OutputSteps

@@ -1,3 +1,4 @@
+pub mod RuleLists
 pub mod Windows
 pub mod Inputs
 pub mod Told

@@ -30,7 +30,7 @@ command_of Nothing = Check
 command_of Text = Show
 command_of JsonLine = Json
 command_of (InOrder order) = Swap order
-command_of (Matching selection) = Filter selection.now
+command_of (Matching selector) = Filter selector.selection.now
 
 -- the command is `check`, which writes nothing of a message, and tells the first writer of a fault
 abbrev pub is_check : Command → Bool

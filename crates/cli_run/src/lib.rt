@@ -17,6 +17,7 @@ mod output;
 mod output_writer;
 mod place;
 mod running;
+mod selector;
 mod showing;
 mod swapping;
 mod tally;

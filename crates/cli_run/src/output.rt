@@ -11,18 +11,20 @@ ghost use Rattle.cli_run.specs.Output.{command_of, is_check};
 
 use crate::filtering::select;
 use crate::place::{Carried, Lent};
+use crate::selector::Selector;
 use crate::showing::{show, write_json_line};
 use crate::swapping::swap;
 use crate::window::lets_through;
-use cli_options::{Command, Selection};
+use cli_options::Command;
 use cli_report::{Cause, Gathered, put_out};
 use dbus_match::Owner;
+use dbus_rule_set::RuleHandle;
 use dbus_stream::Sink;
 use dbus_value_model::Order;
 use std::alloc::{AllocError, Allocator};
 
 /// What a command writes of each message.
-#[derive(Clone, Copy)]
+#[derive(Drop)]
 pub(crate) enum Output<'a> {
     /// Nothing.
     Nothing,
@@ -33,25 +35,27 @@ pub(crate) enum Output<'a> {
     /// Its bytes in this order.
     InOrder(Order),
     /// Its bytes as they are, if it is selected.
-    Matching(&'a Selection),
+    Matching(Selector<'a>),
 }
 
 /// What the command writes of each message.
-pub(crate) fn output_of(command: &Command) -> Output<'_>
-    ensures { command_of result ≡ command.now }
+///
+/// Returns `AllocError` only for `Filter`, if there is not enough memory for a set of its rules.
+pub(crate) fn output_of(command: &Command) -> Result<Output<'_>, AllocError>
+    ensures { IfOk result (λ output. command_of output ≡ command.now) }
 {
     match command {
-        Command::Check => Output::Nothing,
-        Command::Show => Output::Text,
-        Command::Json => Output::JsonLine,
-        Command::Swap(order) => Output::InOrder(*order),
-        Command::Filter(selection) => Output::Matching(selection),
+        Command::Check => Ok(Output::Nothing),
+        Command::Show => Ok(Output::Text),
+        Command::Json => Ok(Output::JsonLine),
+        Command::Swap(order) => Ok(Output::InOrder(*order)),
+        Command::Filter(selection) => Ok(Output::Matching(Selector::new(selection)?)),
     }
 }
 
 /// Whether the command is `check`, of which what is told goes to the first writer.
-pub(crate) fn is_check(output: Output) -> bool
-    ensures { result ≡ is_check (command_of output.entry) }
+pub(crate) fn is_check(output: &Output) -> bool
+    ensures { result ≡ is_check (command_of output.now) }
 {
     match output {
         Output::Nothing => true,
@@ -63,25 +67,30 @@ pub(crate) fn is_check(output: Output) -> bool
 }
 
 // Whether the command makes a text of the message. It learns from the message after that.
-fn picks(output: Output, lent: &Lent, owners: &mut Option<Vec<Owner>>) -> Result<bool, AllocError>
+fn picks(
+    output: &Output,
+    lent: &Lent,
+    owners: &mut Option<Vec<Owner>>,
+    room: &mut Option<Vec<RuleHandle>>,
+) -> Result<bool, AllocError>
     requires { IsValidatedWhole lent.now.limits lent.now.bytes.now lent.now.validated }
     ensures { (order : Order) (m : MessageTree) →
         IsWhole lent.now.limits lent.now.bytes.now order m (length lent.now.bytes.now) →
-        IfOk result (IsPicked (command_of output.entry) m owners.old owners.new) }
+        IfOk result (IsPicked (command_of output.now) m owners.old owners.new) }
 {
     match output {
         Output::Nothing => Ok(false),
         Output::Text => Ok(true),
         Output::JsonLine => Ok(true),
         Output::InOrder(_) => Ok(true),
-        Output::Matching(selection) => select(selection, lent, owners),
+        Output::Matching(selector) => select(selector, lent, owners, room),
     }
 }
 
 // Writes or gathers the text that the command makes of the message. A message is byteswapped in
 // `spare`, so that only a longer one than those before takes memory.
 fn write_one<A: Allocator + Copy, W: Sink>(
-    output: Output,
+    output: &Output,
     lent: &Lent,
     spare: &mut Vec<u8, A>,
     gathered: &mut Gathered,
@@ -90,7 +99,7 @@ fn write_one<A: Allocator + Copy, W: Sink>(
     requires { IsValidatedWhole lent.now.limits lent.now.bytes.now lent.now.validated }
     ensures { (order : Order) (m : MessageTree) →
         IsWhole lent.now.limits lent.now.bytes.now order m (length lent.now.bytes.now) →
-        WritesOne (writing W.held W.failures first.old first.new) (command_of output.entry) order m lent.now.place
+        WritesOne (writing W.held W.failures first.old first.new) (command_of output.now) order m lent.now.place
         (gathered_bytes gathered.old) (gathered_bytes gathered.new) result }
 {
     let bytes = lent.bytes;
@@ -101,7 +110,7 @@ fn write_one<A: Allocator + Copy, W: Sink>(
         Output::Nothing => Ok(()),
         Output::Text => show(bytes, validated, limits, place.number, gathered, first),
         Output::JsonLine => write_json_line(bytes, validated, limits, place, gathered, first),
-        Output::InOrder(wanted) => swap(wanted, bytes, validated, limits, spare, gathered, first),
+        Output::InOrder(wanted) => swap(*wanted, bytes, validated, limits, spare, gathered, first),
         Output::Matching(_) => put_out(bytes, gathered, first),
     }
 }
@@ -109,7 +118,7 @@ fn write_one<A: Allocator + Copy, W: Sink>(
 /// Writes or gathers what the window lets through of what the command makes of the message, and
 /// carries on what the next one needs.
 pub(crate) fn hand_one<A: Allocator + Copy, W: Sink>(
-    output: Output,
+    output: &Output,
     lent: &Lent,
     carried: &mut Carried,
     spare: &mut Vec<u8, A>,
@@ -119,10 +128,10 @@ pub(crate) fn hand_one<A: Allocator + Copy, W: Sink>(
     requires { IsValidatedWhole lent.now.limits lent.now.bytes.now lent.now.validated }
     ensures { (order : Order) (m : MessageTree) →
         IsWhole lent.now.limits lent.now.bytes.now order m (length lent.now.bytes.now) →
-        HandsOne (writing W.held W.failures first.old first.new) (command_of output.entry) carried.old carried.new order m
+        HandsOne (writing W.held W.failures first.old first.new) (command_of output.now) carried.old carried.new order m
         lent.now.place (gathered_bytes gathered.old) (gathered_bytes gathered.new) result }
 {
-    let Ok(picked) = picks(output, lent, &mut carried.owners) else {
+    let Ok(picked) = picks(output, lent, &mut carried.owners, &mut carried.room) else {
         return Err(Cause::Memory);
     };
     if !picked {

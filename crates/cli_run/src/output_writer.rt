@@ -66,7 +66,7 @@ impl<A: Allocator + Copy, W: Sink, E: Sink> MessageVisitor for OutputWriter<'_, 
 
     fn take(&mut self, lent: &Lent<'_>) -> Result<(), Cause> {
         let handed = hand_one(
-            self.output,
+            &self.output,
             lent,
             &mut self.carried,
             &mut self.spare,
@@ -80,7 +80,7 @@ impl<A: Allocator + Copy, W: Sink, E: Sink> MessageVisitor for OutputWriter<'_, 
     }
 
     fn tell(&mut self, text: &str) -> Result<(), Unwritten> {
-        if is_check(self.output) {
+        if is_check(&self.output) {
             write_text(self.first, text)
         } else {
             write_text(self.second, text)

@@ -1,24 +1,29 @@
 use Rattle.std.proofs.Common.{◌≡◌, Bool, rules, ap, inl, inr, refl, ◌∙◌, subst}
 use Rattle.cli_run.specs.Output.{is_check}
 use Rattle.cli_run.specs.Told.{TellsStop}
-use Rattle.cli_run.proofs.EndSteps.{gave_up, ran}
+use Rattle.cli_run.proofs.EndSteps.{gave_up, ran, unread}
 use Rattle.cli_run.proofs.running.run_with.Goals as goal
 
-pub returns-in-Ok : goal.returns-in-Ok
-returns-in-Ok g c =
-    let own = c.output_of-output.ensures in
-    let passes = rw c.in-Ok.is at c.pass_through-ended.ensures.passes in
+pub returns-in_default : goal.returns-in_default
+returns-in_default g c =
+    unread g.R.Source.left g.R.Source.calls g.R.Source.failures c.args.reader.now g.W.Sink.held g.W.Sink.failures c.args.first.now g.E.Sink.held g.E.Sink.failures c.args.second.now c.give_up.new.second
+    c.args.settings c.args.reads c.args.command c.give_up.result c.give_up.ensures.failed c.give_up.ensures.told
+
+pub returns-in-Ok-ended : goal.returns-in-Ok-ended
+returns-in-Ok-ended g c =
+    let own = c.in-Ok.ensures in
+    let passes = rw c.in-Ok-ended.is at c.pass_through-ended.ensures.passes in
     let same_first = passes.came.same_first in
     let same_second = passes.came.same_second in
     let first : c.pass_through-ended.new.visitor.first.now ≡ c.first-1.given.0 = search rules in
     let second : c.pass_through-ended.new.visitor.second.now ≡ c.second-1.given.0 = search rules in
     let source : c.pass_through-ended.result.1.now ≡ c.reader-1.given.0 = search rules in
     inl (ran g.W.Sink.held g.W.Sink.failures g.E.Sink.held g.E.Sink.failures _ c.pass_through-ended.new.visitor c.args.settings c.args.command own refl c.new-2.ensures first second g.R.Source.left g.R.Source.calls
-    g.R.Source.failures c.args.reads c.args.reader.now c.pass_through-ended.result.1.now c.is_check-is_check.result (c.is_check-is_check.ensures ∙ ap is_check own) source (rw c.in-Ok.is at c.pass_through-ended.ensures.settled) passes)
+    g.R.Source.failures c.args.reads c.args.reader.now c.pass_through-ended.result.1.now c.is_check-is_check.result (c.is_check-is_check.ensures ∙ ap is_check own) source (rw c.in-Ok-ended.is at c.pass_through-ended.ensures.settled) passes)
 
 pub returns : goal.returns
 returns g c =
-    let own = c.output_of-output.ensures in
+    let own = c.in-Ok.ensures in
     let passes = rw c.in-Err.is at c.pass_through-ended.ensures.passes in
     let same_first = passes.came.same_first in
     let same_second = passes.came.same_second in

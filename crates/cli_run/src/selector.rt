@@ -1,0 +1,73 @@
+//! A selection whose rules are in a set, which finds those that match a message.
+ghost use Rattle.std.specs.Prelude.{◌≡◌, ◌↔◌, IfOk, IsTrue};
+ghost use Rattle.std.specs.Map.{values_of};
+ghost use Rattle.dbus_value_model.specs.declared.order.Order.{Order};
+ghost use Rattle.dbus_message_model.specs.Messages.{MessageTree};
+ghost use Rattle.dbus_view.specs.Views.{Views};
+ghost use Rattle.dbus_match.specs.Matching.{ownerships};
+ghost use Rattle.dbus_rule_set.specs.Held.{held};
+ghost use Rattle.cli_options.specs.Selections.{SelectsBy};
+ghost use Rattle.cli_run.specs.RuleLists.{MatchAlike};
+
+use cli_options::Selection;
+use dbus_match::{Owner, Rule};
+use dbus_rule_set::{RuleHandle, RuleSet};
+use dbus_view::MessageView;
+use std::alloc::{AllocError, Global};
+
+/// A selection, and its rules once more, in a set.
+#[derive(Drop)]
+pub(crate) struct Selector<'a> {
+    /// Which messages are selected.
+    pub(crate) selection: &'a Selection,
+    rules: RuleSet,
+    ghost same_rules: { MatchAlike selection.now.rules.items (values_of (held rules)) },
+}
+
+impl<'a> Selector<'a> {
+    /// Of this selection.
+    ///
+    /// Returns `AllocError` if there is not enough memory.
+    pub(crate) fn new(selection: &'a Selection) -> Result<Selector<'a>, AllocError>
+        ensures { IfOk result (λ selector. selector.selection.now ≡ selection.now) }
+    {
+        let rules = set_of(*selection.rules.allocator(), &selection.rules)?;
+        Ok(Selector { selection, rules })
+    }
+
+    /// Whether the message that the view is of is selected if these are the owners of names. What
+    /// is found of the rules is kept in `room` for the next message.
+    ///
+    /// Returns `AllocError` only if more rules match than matched a message before, and there is
+    /// not enough memory for what is found of them.
+    pub(crate) fn selects(
+        &self,
+        view: &MessageView,
+        owners: &[Owner],
+        room: &mut Option<Vec<RuleHandle>>,
+    ) -> Result<bool, AllocError>
+        ensures { (order : Order) (m : MessageTree) → Views view.now order m →
+            IfOk result (λ selected. IsTrue selected ↔ SelectsBy self.now.selection.now (ownerships owners.now) m) }
+    {
+        let alloc = *self.selection.rules.allocator();
+        let mut found = room.take().unwrap_or(Vec::new(alloc));
+        found.clear();
+        self.rules.matching(view, owners, &mut found)?;
+        let selected = found.is_empty() == self.selection.is_inverted;
+        *room = Some(found);
+        Ok(selected)
+    }
+}
+
+// A set of these rules.
+fn set_of(alloc: Global, rules: &[Rule]) -> Result<RuleSet, AllocError>
+    ensures { IfOk result (λ set. MatchAlike rules.now (values_of (held set))) }
+{
+    let mut set = RuleSet::new(alloc);
+    for rule in rules {
+        let Ok(_handle) = set.add(rule.clone()?) else {
+            return Err(AllocError);
+        };
+    }
+    Ok(set)
+}
