@@ -1,34 +1,17 @@
 //! Texts with their escapes.
 #![tactic(auto)]
 
-ghost use Rattle.std.specs.Prelude.{◌≡◌, ◌<◌, true, ℕ, List};
+ghost use Rattle.std.specs.Prelude.{◌≡◌, true};
 ghost use Rattle.std.specs.List.{flat_map};
-ghost use Rattle.dbus_show.specs.ShownValues.{escape_by, is_escaped as is_escaped_byte, quoted, quoted_by};
+ghost use Rattle.dbus_show.specs.ShownValues.{escape_by, is_escaped, quoted, quoted_by};
 
 use crate::draft::Draft;
 use crate::hexadecimal::write_hex;
-
-/// Whether a byte is not shown as itself.
-fn is_escaped(byte: u8) -> bool
-    ensures { result ≡ is_escaped_byte byte }
-{
-    byte < 32 || byte == b'"' || byte == b'\\' || byte == 127
-}
-
-/// Whether each byte is shown as itself. All are looked at, so that many are at once.
-fn is_plain(bytes: &[u8]) -> bool
-    ensures { result ≡ true → (mark : List ℕ) → flat_map (escape_by mark) bytes.now ≡ bytes.now }
-{
-    let mut found = false;
-    for byte in bytes {
-        found |= is_escaped(*byte);
-    }
-    !found
-}
+use crate::runs::plain_length;
 
 /// Appends what stands for a byte that is not shown as itself.
 fn write_escape<D: Draft>(draft: &mut D, byte: u8, mark: &str)
-    requires { is_escaped_byte byte ≡ true }
+    requires { is_escaped byte ≡ true }
     ensures { D.gains draft.old (escape_by mark.now byte) draft.new }
 {
     match byte {
@@ -47,12 +30,12 @@ fn write_escaped<D: Draft>(draft: &mut D, text: &str, mark: &str)
 {
     let bytes = text.as_bytes();
     let mut start = 0;
-    for (i, byte) in bytes.iter().enumerate() {
-        if is_escaped(*byte) {
-            draft.push_str(&text[start..i]);
-            write_escape(draft, *byte, mark);
-            start = i + 1;
-        }
+    let mut end = plain_length(bytes);
+    while end < bytes.len() {
+        draft.push_str(&text[start..end]);
+        write_escape(draft, bytes[end], mark);
+        start = end + 1;
+        end = start + plain_length(&bytes[start..]);
     }
     draft.push_str(&text[start..]);
 }
@@ -63,11 +46,7 @@ pub fn write_quoted_by<D: Draft>(draft: &mut D, text: &str, mark: &str)
     ensures { D.gains draft.old (quoted_by mark.now text.now) draft.new }
 {
     draft.push_code(b'"');
-    if is_plain(text.as_bytes()) {
-        draft.push_str(text);
-    } else {
-        write_escaped(draft, text, mark);
-    }
+    write_escaped(draft, text, mark);
     draft.push_code(b'"');
 }
 

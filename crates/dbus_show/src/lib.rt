@@ -13,6 +13,7 @@ mod fields;
 mod hexadecimal;
 pub mod laws;
 mod numbers;
+mod runs;
 mod show;
 mod string_draft;
 
