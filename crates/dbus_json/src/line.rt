@@ -1,11 +1,15 @@
 //! Messages as lines of JSON, from their bytes. RFC 8259; D-Bus Specification, "Message Format".
 #![tactic(auto)]
 
-ghost use Rattle.std.specs.Prelude.{◌≡◌, ℕ, List};
-ghost use Rattle.dbus_message_model.specs.Messages.{MessageTree};
+ghost use Rattle.std.specs.Prelude.{◌≡◌, ℕ, List, [], codes, false, true};
+ghost use Rattle.std.specs.Bool.{beq};
+ghost use Rattle.std.specs.List.{list_all};
+ghost use Rattle.dbus_message_model.specs.Messages.{MessageTree, is_known};
 ghost use Rattle.dbus_header.specs.MessageOutcomes.{IsWhole};
 ghost use Rattle.dbus_validate.specs.Validating.{IsValidated};
-ghost use Rattle.dbus_json.specs.JsonMessages.{IsJsonLine, type_text};
+ghost use Rattle.dbus_validate.specs.Wholes.{WasValidated, IsWholeOf};
+ghost use Rattle.dbus_value_text.specs.Forms.{led};
+ghost use Rattle.dbus_json.specs.JsonMessages.{AreFields, IsJsonLine, fields_of, type_text};
 ghost use Rattle.dbus_json.specs.Writing.{start_text};
 
 use crate::fields::{KnownFields, OtherFields};
@@ -49,6 +53,21 @@ fn write_start<D: Draft>(draft: &mut D, validated: &Validated, number: u64, offs
     write_integer(draft, validated.serial);
 }
 
+/// Appends the fields that are not known, with commas between them, unless all are known.
+fn write_others<D: Draft>(draft: &mut D, whole: &Whole<'_>, all_known: bool)
+    requires validated { WasValidated whole.now }
+    requires known { (m : MessageTree) → IsWholeOf whole.now m →
+        all_known ≡ list_all (λ f. beq (is_known f.code) true) m.fields }
+    ensures written { (m : MessageTree) → IsWholeOf whole.now m →
+        (texts : List (List ℕ)) × AreFields (fields_of false m.fields) texts ×
+        D.gains draft.old (led [] (codes ",") texts) draft.new }
+{
+    if all_known {
+        return;
+    }
+    write_fields::<OtherFields, D>(draft, whole, "", ",");
+}
+
 /// Appends the message that the bytes begin with as a line of JSON, which ends in a line feed. It
 /// was validated in them under the limits.
 ///
@@ -83,9 +102,9 @@ pub fn write_json<D: Draft>(
         validated,
     };
     write_start(draft, validated, number, offset);
-    write_fields::<KnownFields, D>(draft, &whole, ",", ",");
+    let all_known = write_fields::<KnownFields, D>(draft, &whole, ",", ",");
     draft.push_str(",\"fields\":[");
-    write_fields::<OtherFields, D>(draft, &whole, "", ",");
+    write_others(draft, &whole, all_known);
     draft.push_str("],\"body\":[");
     write_body::<Json, D>(draft, &whole, "", ",");
     draft.push_str("]}\n");

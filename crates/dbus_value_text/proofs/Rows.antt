@@ -1,9 +1,10 @@
 -- Texts in a row, the first after a lead and each other after a separator: one text more.
-use Rattle.std.proofs.Common.{◌≡◌, ℕ, List, [], ◌∷◌, ◌++◌, Bool, true, false, cond, append_assoc, refl, sym, ap, subst, ◌∙◌}
-use Rattle.std.specs.List.{flat_map}
+use Rattle.std.proofs.Common.{◌≡◌, ℕ, List, [], ◌∷◌, ◌++◌, Bool, true, false, ◌&&◌, cond, append_assoc, refl, sym, ap, subst, ◌∙◌}
+use Rattle.std.specs.List.{flat_map, list_all}
 use Rattle.std.proofs.lemmas.List.{append-nil}
 use Rattle.std.proofs.lemmas.List.Concat.{flat_map-append}
 use Rattle.std.proofs.lemmas.List.Elements.{filter-append}
+use Rattle.std.proofs.lemmas.List.Folds.{list_all-append}
 use Rattle.dbus_value_model.specs.Values.{ValueTree, value_trees}
 use Rattle.dbus_message_model.specs.Messages.{FieldTree}
 use Rattle.dbus_show.proofs.Gaining.{then}
@@ -40,6 +41,22 @@ taken_push : (is_taken : ℕ → Bool) (fs : List FieldTree) (f : FieldTree) (an
 taken_push is_taken fs f answer is =
     filter-append (λ (f : FieldTree). is_taken f.code) fs (f ∷ []) ∙ ap (λ (a : Bool). taken_fields is_taken fs ++ cond a (f ∷ []) []) is
 
+and_true : (b : Bool) → (b && true) ≡ b
+and_true true = refl
+and_true false = refl
+
+and_false : (b : Bool) → (b && false) ≡ false
+and_false true = refl
+and_false false = refl
+
+-- whether all fields are taken
+abbrev pub are_taken : (is_taken : ℕ → Bool) → List FieldTree → Bool
+are_taken is_taken fs = list_all (λ (f : FieldTree). is_taken f.code) fs
+
+all_push : (is_taken : ℕ → Bool) (fs : List FieldTree) (f : FieldTree) (answer : Bool) → is_taken f.code ≡ answer → are_taken is_taken (fs ++ f ∷ []) ≡ (are_taken is_taken fs && answer)
+all_push is_taken fs f answer is =
+    list_all-append (λ (e : FieldTree). is_taken e.code) fs (f ∷ []) ∙ ap (λ (b : Bool). are_taken is_taken fs && b) (and_true (is_taken f.code) ∙ is)
+
 module _ {D : Type 0} (gains : D → List ℕ → D → Type 0) (lead separator : List ℕ) (before : D) where
   -- the draft has gained these texts, and this stands before the next one
   pub record Led (now : D) (next : List ℕ) (texts : List (List ℕ)) : Type 0 where
@@ -72,18 +89,18 @@ module _ {D : Type 0} (gains : D → List ℕ → D → Type 0) (lead separator 
   -- ---- fields
 
   module _ (is_taken : ℕ → Bool) (Is : ℕ → ValueTree → List ℕ → Type 0) where
-    abbrev pub FieldsLed : (now : D) → (next : List ℕ) → List FieldTree → Type 0
-    FieldsLed now next fs = (texts : List (List ℕ)) × AreFieldTexts Is (taken_fields is_taken fs) texts × Led now next texts
+    abbrev pub FieldsLed : (now : D) → (next : List ℕ) → (all : Bool) → List FieldTree → Type 0
+    FieldsLed now next all fs = (texts : List (List ℕ)) × AreFieldTexts Is (taken_fields is_taken fs) texts × Led now next texts × (all ≡ are_taken is_taken fs)
 
-    pub no_fields_led : gains before [] before → FieldsLed before lead []
-    no_fields_led nothing = ([], tt, none_led nothing)
+    pub no_fields_led : gains before [] before → FieldsLed before lead true []
+    no_fields_led nothing = ([], tt, none_led nothing, refl)
 
-    pub field_led : Joins gains → (now pushed after : D) (next : List ℕ) (fs : List FieldTree) (f : FieldTree) (text : List ℕ) → FieldsLed now next fs → is_taken f.code ≡ true
-        → gains now next pushed → Is f.code f.value text → gains pushed text after → FieldsLed after separator (fs ++ f ∷ [])
-    field_led joins now pushed after next fs f text h taken apart is gained =
+    pub field_led : Joins gains → (now pushed after : D) (next : List ℕ) (all : Bool) (fs : List FieldTree) (f : FieldTree) (text : List ℕ) → FieldsLed now next all fs → is_taken f.code ≡ true
+        → gains now next pushed → Is f.code f.value text → gains pushed text after → FieldsLed after separator all (fs ++ f ∷ [])
+    field_led joins now pushed after next all fs f text h taken apart is gained =
         let are = subst (λ (es : List FieldTree). AreFieldTexts Is es (h.0 ++ text ∷ [])) (sym (taken_push is_taken fs f true taken)) (are_push Is (taken_fields is_taken fs) f h.0 text h.1 is) in
-        (h.0 ++ text ∷ [], are, one_led joins now pushed after next h.0 text h.2 apart gained)
+        (h.0 ++ text ∷ [], are, one_led joins now pushed after next h.0 text h.2 apart gained, h.3 ∙ sym (all_push is_taken fs f true taken ∙ and_true (are_taken is_taken fs)))
 
-    pub field_passed : (now : D) (next : List ℕ) (fs : List FieldTree) (f : FieldTree) → FieldsLed now next fs → is_taken f.code ≡ false → FieldsLed now next (fs ++ f ∷ [])
-    field_passed now next fs f h passed =
-        (h.0, subst (λ (es : List FieldTree). AreFieldTexts Is es h.0) (sym (taken_push is_taken fs f false passed ∙ append-nil (taken_fields is_taken fs))) h.1, h.2)
+    pub field_passed : (now : D) (next : List ℕ) (all : Bool) (fs : List FieldTree) (f : FieldTree) → FieldsLed now next all fs → is_taken f.code ≡ false → FieldsLed now next false (fs ++ f ∷ [])
+    field_passed now next all fs f h passed =
+        (h.0, subst (λ (es : List FieldTree). AreFieldTexts Is es h.0) (sym (taken_push is_taken fs f false passed ∙ append-nil (taken_fields is_taken fs))) h.1, h.2, sym (all_push is_taken fs f false passed ∙ and_false (are_taken is_taken fs)))

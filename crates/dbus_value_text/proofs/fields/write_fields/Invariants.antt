@@ -9,7 +9,7 @@ use denote.Text.{Utf8}
 
 abbrev pub invariant-loop-place : goal.invariant-loop-place
 invariant-loop-place g l = record {
-  left : (fs : List FieldTree) (rest : List ℕ) → FieldsStand l.source l.whole.limits.depth fs rest → Walked l.source l.whole.limits.depth l.end fs rest (FieldsLed g.D.Draft.gains l.lead l.separator l.initial.draft g.F.FieldForm.is_taken g.F.FieldForm.is_text l.draft l.before) l.place;
+  left : (fs : List FieldTree) (rest : List ℕ) → FieldsStand l.source l.whole.limits.depth fs rest → Walked l.source l.whole.limits.depth l.end fs rest (FieldsLed g.D.Draft.gains l.lead l.separator l.initial.draft g.F.FieldForm.is_taken g.F.FieldForm.is_text l.draft l.before l.all) l.place;
   utf8 : shadow (Utf8 l.before);
 }
 
