@@ -1,7 +1,7 @@
 //! The form of values as text. D-Bus Specification, "Type System".
 #![tactic(auto)]
 
-ghost use Rattle.std.specs.Prelude.{◌≡◌, codes};
+ghost use Rattle.std.specs.Prelude.{◌≡◌, ◌<◌, ◌∷◌, [], codes};
 ghost use Rattle.dbus_show.specs.ShownValues.{value_text};
 ghost use Rattle.dbus_show_view.specs.Plain.{open_text, close_text};
 ghost use Rattle.dbus_show_view.specs.PlainLaws.{whole_text};
@@ -9,6 +9,18 @@ ghost use Rattle.dbus_show_view.specs.PlainLaws.{whole_text};
 use dbus_show::{Draft, write_hex, write_quoted};
 use dbus_value_text::{ValueForm, write_number_at, write_types};
 use dbus_walk::{Container, MessageBytes};
+use std::str;
+
+/// Appends the code of a type and a colon.
+#[inline]
+fn write_code<D: Draft>(draft: &mut D, code: u8)
+    requires { code < 128 }
+    ensures { D.gains draft.old (code ∷ 58 ∷ []) draft.new }
+{
+    let text = [code, b':'];
+    // Both are ASCII, so that they are text.
+    draft.push_str(unsafe { str::from_utf8_unchecked(&text) });
+}
 
 /// Values as text for a reader.
 pub(crate) struct Plain;
@@ -24,15 +36,13 @@ impl ValueForm for Plain {
 
     #[inline]
     fn number<D: Draft>(draft: &mut D, source: &MessageBytes<'_>, at: usize, code: u8) {
-        draft.push_code(code);
-        draft.push_code(b':');
+        write_code(draft, code);
         write_number_at(draft, source.bytes, at, source.order, code);
     }
 
     #[inline]
     fn text<D: Draft>(draft: &mut D, code: u8, text: &str) {
-        draft.push_code(code);
-        draft.push_code(b':');
+        write_code(draft, code);
         write_quoted(draft, text);
     }
 
