@@ -1,4 +1,5 @@
 mod NameSteps
+mod NamedCounts
 mod OneTable
 mod RowLaws
 mod RowTexts

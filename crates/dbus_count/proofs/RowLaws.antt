@@ -1,6 +1,6 @@
 -- The rows of a table are the entries of a map whose names begin with a word, in another order.
-use Rattle.std.proofs.Common.{◌≡◌, ◌<◌, ◌+◌, ℕ, List, [], ◌∷◌, Ordering, Bool, true, false, cond, nat_eq, length, Some, String, string_bytes, map, refl, sym, ap, ◌∙◌, subst, arith, slice_index_or}
-use Rattle.std.specs.BTreeMap.{BTreeMap, IsOrdered, get_by_text, is_at}
+use Rattle.std.proofs.Common.{◌≡◌, ◌<◌, ◌+◌, ℕ, List, [], ◌∷◌, Ordering, Bool, true, false, cond, nat_eq, length, Some, map, refl, sym, ap, ◌∙◌, subst, arith, slice_index_or}
+use Rattle.std.specs.BTreeMap.{BTreeMap, IsOrdered}
 use Rattle.std.specs.Borrow.{Bor}
 use Rattle.std.specs.Cmp.Lexicographic.{slice_cmp}
 use Rattle.std.specs.List.{All, AllByRecursion, Contains, IsDistinct, filter, starts_with}
@@ -11,50 +11,50 @@ use Rattle.std.specs.Map.{lookup, keys_of}
 use Rattle.std.specs.Map.Iter.{deref_pair}
 use Rattle.std.specs.Ordering.{eq_by_cmp, nat_cmp, ordering_then}
 use Rattle.std.specs.Str.{bytes_eq}
-use Rattle.std.specs.String.{string_cmp}
 use Rattle.std.specs.Cmp.Lexicographic.{bytes_decides, nat_list_eq_equiv}
-use Rattle.std.specs.declared.alloc.Global.{Global}
 use Rattle.std.proofs.lemmas.List.{get_or_default, get_or-map, length-map}
 use Rattle.std.proofs.lemmas.List.Elements.{All-filter, filter_passes}
 use Rattle.std.proofs.lemmas.List.Sorted.{All-permutation, Contains-permutation, IsPermutation-map, ranks_by}
 use Rattle.std.proofs.lemmas.Map.Entries.{lookup-filter-keys}
 use Rattle.std.proofs.lemmas.Map.Keys.{IsDistinct-from_sorted, IsDistinct-IsPermutation}
 use Rattle.std.proofs.lemmas.Map.Made.{IsDistinct-keys_filter}
-use Rattle.std.proofs.lemmas.Map.Text.{is_eq-slice_cmp, text_cmp}
 use Rattle.std.proofs.lemmas.Map.Views.{Contains-from_lookup, lookup-from_Contains}
+use Rattle.dbus_count.specs.Kept.{has}
+use Rattle.dbus_count.specs.NameOrder.{bytes_of, name_order, name_ties}
 use Rattle.dbus_count.specs.Tables.{Row, goes_before, row_of}
 use Rattle.dbus_count.specs.declared.count.Count.{Count}
+use Rattle.dbus_count.specs.declared.name.Name.{Name}
 
-abbrev pub row : String Global × Count → Row
-row e = (string_bytes e.0, e.1)
+abbrev pub row : Name × Count → Row
+row e = (bytes_of e.0, e.1)
 
 abbrev pub begins : List ℕ → Row → Bool
 begins word r = starts_with nat_eq r.0 word
 
 -- a look-up by bytes
-pub lookup_rows : (name : List ℕ) (es : List (String Global × Count)) → lookup (is_at (text_cmp name)) es ≡ lookup (bytes_eq name) (map row es)
+pub lookup_rows : (name : List ℕ) (es : List (Name × Count)) → lookup (has name) es ≡ lookup (bytes_eq name) (map row es)
 lookup_rows name [] = refl
-lookup_rows name (e ∷ es) = ap (λ b. cond b (Some e.1) (lookup (is_at (text_cmp name)) es)) (is_eq-slice_cmp name (string_bytes e.0)) ∙ ap (λ r. cond (bytes_eq name (string_bytes e.0)) (Some e.1) r) (lookup_rows name es)
+lookup_rows name (e ∷ es) = ap (λ r. cond (has name e.0) (Some e.1) r) (lookup_rows name es)
 
-apart_rows : (x : List ℕ) (s : String Global) → x ≡ string_bytes s → (es : List (String Global × Count)) → AllByRecursion (λ y. eq_by_cmp string_cmp s y ≡ false) (keys_of es) → AllByRecursion (λ y. bytes_eq x y ≡ false) (keys_of (map row es))
+apart_rows : (x : List ℕ) (s : Name) → x ≡ bytes_of s → (es : List (Name × Count)) → AllByRecursion (λ y. eq_by_cmp name_order s y ≡ false) (keys_of es) → AllByRecursion (λ y. bytes_eq x y ≡ false) (keys_of (map row es))
 apart_rows x s same [] all = tt
-apart_rows x s same (e ∷ es) all = (ap (λ w. bytes_eq w (string_bytes e.0)) same ∙ (sym (is_eq-slice_cmp (string_bytes s) (string_bytes e.0)) ∙ all.0), apart_rows x s same es all.1)
+apart_rows x s same (e ∷ es) all = (ap (λ w. bytes_eq w (bytes_of e.0)) same ∙ (name_ties s e.0 ∙ all.0), apart_rows x s same es all.1)
 
-distinct_rows : (es : List (String Global × Count)) → IsDistinct (eq_by_cmp string_cmp) (keys_of es) → IsDistinct bytes_eq (keys_of (map row es))
+distinct_rows : (es : List (Name × Count)) → IsDistinct (eq_by_cmp name_order) (keys_of es) → IsDistinct bytes_eq (keys_of (map row es))
 unfolding IsDistinct
 distinct_rows [] d = tt
-distinct_rows (e ∷ es) d = (apart_rows (string_bytes e.0) e.0 refl es d.0, distinct_rows es d.1)
+distinct_rows (e ∷ es) d = (apart_rows (bytes_of e.0) e.0 refl es d.0, distinct_rows es d.1)
 
-both : (b : Bool) (e : String Global × Count) (es : List (String Global × Count)) (rows : List Row) → map row es ≡ rows → map row (cond b (e ∷ es) es) ≡ cond b (row e ∷ rows) rows
+both : (b : Bool) (e : Name × Count) (es : List (Name × Count)) (rows : List Row) → map row es ≡ rows → map row (cond b (e ∷ es) es) ≡ cond b (row e ∷ rows) rows
 both true e es rows same = ap (λ l. row e ∷ l) same
 both false e es rows same = same
 
 -- the rows that begin with the word are those of the entries that do
-pub filter_rows : (word : List ℕ) (es : List (String Global × Count)) → map row (filter (λ e. begins word (row e)) es) ≡ filter (begins word) (map row es)
+pub filter_rows : (word : List ℕ) (es : List (Name × Count)) → map row (filter (λ e. begins word (row e)) es) ≡ filter (begins word) (map row es)
 filter_rows word [] = refl
 filter_rows word (e ∷ es) = both (begins word (row e)) e (filter (λ e. begins word (row e)) es) (filter (begins word) (map row es)) (filter_rows word es)
 
-pub deref_rows : (ps : List (Bor (String Global) × Bor Count)) → map row_of ps ≡ map row (map deref_pair ps)
+pub deref_rows : (ps : List (Bor Name × Bor Count)) → map row_of ps ≡ map row (map deref_pair ps)
 deref_rows [] = refl
 deref_rows (p ∷ ps) = ap (λ l. row_of p ∷ l) (deref_rows ps)
 
@@ -66,13 +66,13 @@ order a b = ordering_then (nat_cmp b.1.messages a.1.messages) (slice_cmp nat_cmp
 pub order_total : IsTotalOrder order
 order_total = then_total (on_total (λ (r : Row). r.1.messages) (back_total nat_cmp_total)) (on_total (λ (r : Row). r.0) nat_list_cmp_total)
 
-pub rows_rank : IsStrictWeakOrder (λ (p q : Bor (String Global) × Bor Count). goes_before (row_of p) (row_of q))
+pub rows_rank : IsStrictWeakOrder (λ (p q : Bor Name × Bor Count). goes_before (row_of p) (row_of q))
 rows_rank = ranks_by order_total row_of
 
 no_less : (k : ℕ) → k + 1 < 0 → ⊥
 no_less k l = omega (arith, l)
 
-pub rows_sorted : (ps : List (Bor (String Global) × Bor Count)) → IsSortedBy (λ p q. goes_before (row_of p) (row_of q)) ps → IsSortedBy goes_before (map row_of ps)
+pub rows_sorted : (ps : List (Bor Name × Bor Count)) → IsSortedBy (λ p q. goes_before (row_of p) (row_of q)) ps → IsSortedBy goes_before (map row_of ps)
 rows_sorted [] sorted = λ k d low l. absurd (no_less k l)
 rows_sorted (p ∷ ps) sorted = λ k d low l.
     let same : length (map row_of (p ∷ ps)) ≡ length (p ∷ ps) = length-map (p ∷ ps) row_of in
@@ -82,7 +82,7 @@ rows_sorted (p ∷ ps) sorted = λ k d low l.
 
 -- ---- the rows of a map
 
-module _ (m : BTreeMap (String Global) Count) (ordered : IsOrdered string_cmp m) (word : List ℕ) (rows : List Row) (moved : IsPermutation (filter (begins word) (map row m.entries)) rows) where
+module _ (m : BTreeMap Name Count) (ordered : IsOrdered name_order m) (word : List ℕ) (rows : List Row) (moved : IsPermutation (filter (begins word) (map row m.entries)) rows) where
   abbrev es : List Row
   es = map row m.entries
 
@@ -90,18 +90,18 @@ module _ (m : BTreeMap (String Global) Count) (ordered : IsOrdered string_cmp m)
   chosen = filter (begins word) es
 
   distinct : IsDistinct bytes_eq (keys_of es)
-  distinct = distinct_rows m.entries (IsDistinct-from_sorted string_cmp (keys_of m.entries) ordered)
+  distinct = distinct_rows m.entries (IsDistinct-from_sorted name_order (keys_of m.entries) ordered)
 
   finds : All (λ r. lookup (bytes_eq r.0) es ≡ Some r.1) es
   finds = λ k d l. lookup-from_Contains nat_list_eq_equiv (slice_index_or es k d).0 (slice_index_or es k d).1 es distinct (k, l, get_or_default es k (slice_index_or es k d) d l)
 
-  pub rows_counted : All (λ r. (starts_with nat_eq r.0 word ≡ true) × (get_by_text m r.0 ≡ Some r.1)) rows
+  pub rows_counted : All (λ r. (starts_with nat_eq r.0 word ≡ true) × (lookup (has r.0) m.entries ≡ Some r.1)) rows
   rows_counted = λ k d l. (
     All-permutation (λ r. begins word r ≡ true) chosen rows moved (filter_passes (begins word) es) k d l,
     lookup_rows (slice_index_or rows k d).0 m.entries ∙ All-permutation (λ r. lookup (bytes_eq r.0) es ≡ Some r.1) chosen rows moved (All-filter (begins word) (λ r. lookup (bytes_eq r.0) es ≡ Some r.1) es finds) k d l,
   )
 
-  pub rows_all : (name : List ℕ) (count : Count) → starts_with nat_eq name word ≡ true → get_by_text m name ≡ Some count → Contains rows (name, count)
+  pub rows_all : (name : List ℕ) (count : Count) → starts_with nat_eq name word ≡ true → lookup (has name) m.entries ≡ Some count → Contains rows (name, count)
   rows_all name count begun got =
       Contains-permutation chosen rows (name, count) moved
       (Contains-from_lookup (λ x y e. (bytes_decides x y).0 e) name count chosen

@@ -1,19 +1,19 @@
 -- The lines of rows.
-use Rattle.std.proofs.Common.{◌≡◌, ℕ, List, [], ◌∷◌, ◌++◌, codes, String, Bool, true, false, cond, Option, None, Some, MatchOption, map, length, drop, subst, sym, ap, ◌∙◌, refl, append-nil, append_assoc}
+use Rattle.std.proofs.Common.{◌≡◌, ℕ, List, [], ◌∷◌, ◌++◌, codes, Bool, true, false, cond, Option, None, Some, MatchOption, map, length, drop, subst, sym, ap, ◌∙◌, refl, append-nil, append_assoc}
 use Rattle.std.specs.Borrow.{Bor}
 use Rattle.std.specs.Option.{unwrap_or}
 use Rattle.std.specs.Str.{IsCharBoundary}
 use Rattle.std.specs.Str.Pattern.{FindsTextPrefix, StripsPrefix}
 use Rattle.std.proofs.lemmas.Str.Pattern.{starts_text}
-use Rattle.std.specs.declared.alloc.Global.{Global}
 use Rattle.dbus_count.specs.Counting.{Counting}
 use Rattle.dbus_count.specs.Tables.{AreRows, AreTables, Row, behind, row_of, row_text, rows_text}
 use Rattle.dbus_count.specs.declared.count.Count.{Count}
 use Rattle.dbus_count.specs.declared.form.Form.{Form}
+use Rattle.dbus_count.specs.declared.name.Name.{Name}
 use Rattle.dbus_json.specs.JsonValues.{member, object}
 
 -- a line more
-pub rows_push : (form : Form) (word : List ℕ) (ps : List (Bor (String Global) × Bor Count)) (p : Bor (String Global) × Bor Count)
+pub rows_push : (form : Form) (word : List ℕ) (ps : List (Bor Name × Bor Count)) (p : Bor Name × Bor Count)
     → rows_text form word (map row_of (ps ++ p ∷ [])) ≡ rows_text form word (map row_of ps) ++ row_text form word (row_of p)
 rows_push form word [] p = append-nil (row_text form word (row_of p))
 rows_push form word (q ∷ ps) p =

@@ -1,24 +1,25 @@
 -- The rows of a table: the names that begin with a word, the most frequent first; and their lines.
-use Rattle.std.specs.Prelude.{◌≡◌, ℕ, nat_eq, List, [], ◌∷◌, ◌++◌, Bool, true, Some, map, drop, length, codes, decimal, if◌then◌else◌, String, string_bytes}
+use Rattle.std.specs.Prelude.{◌≡◌, ℕ, nat_eq, List, [], ◌∷◌, ◌++◌, Bool, true, Some, map, drop, length, codes, decimal, if◌then◌else◌}
 use Rattle.std.specs.Borrow.{Bor}
 use Rattle.std.specs.Cmp.Lexicographic.{slice_cmp}
 use Rattle.std.specs.List.{All, Contains, IsDistinct, flat_map, starts_with}
 use Rattle.std.specs.List.Sorted.{IsSortedBy}
 use Rattle.std.specs.Ordering.{is_lt, nat_cmp, ordering_then}
 use Rattle.std.specs.Str.{bytes_eq}
-use Rattle.std.specs.declared.alloc.Global.{Global}
 use Rattle.dbus_count.specs.Counting.{Counting}
+use Rattle.dbus_count.specs.NameOrder.{bytes_of}
 use Rattle.dbus_count.specs.declared.count.Count.{Count}
 use Rattle.dbus_count.specs.declared.form.Form.{Form}
 use Rattle.dbus_count.specs.declared.form.Form.TheVariants.{Text, Json}
+use Rattle.dbus_count.specs.declared.name.Name.{Name}
 use Rattle.dbus_json.specs.JsonValues.{member, object, string}
 
 -- a name with its count
 abbrev pub Row : Type 0
 Row = List ℕ × Count
 
-abbrev pub row_of : Bor (String Global) × Bor Count → Row
-row_of p = (string_bytes p.0.now, p.1.now)
+abbrev pub row_of : Bor Name × Bor Count → Row
+row_of p = (bytes_of p.0.now, p.1.now)
 
 -- more messages have the first name; or as many, and its bytes come first
 abbrev pub goes_before : Row → Row → Bool

@@ -2,11 +2,12 @@
 #![tactic(auto, unfolding(crate::specs::Kept::counting_of))]
 
 ghost use Rattle.std.specs.BTreeMap.{IsOrdered};
-ghost use Rattle.std.specs.String.{string_cmp};
 ghost use Rattle.std.proofs.Props.{props};
+ghost use Rattle.dbus_count.specs.NameOrder.{name_order};
 
 use crate::count::Count;
-use dbus_show::{Draft, StringDraft, write_kind};
+use crate::name::Name;
+use dbus_show::{Draft, StringDraft, kind_name, write_kind};
 use dbus_view::MessageView;
 use std::alloc::{AllocError, Global};
 use std::collections::BTreeMap;
@@ -25,16 +26,17 @@ use std::collections::BTreeMap;
 #[derive(Drop)]
 pub struct Counts {
     pub(crate) alloc: Global,
-    pub(crate) names: BTreeMap<String, Count>,
+    pub(crate) names: BTreeMap<Name, Count>,
     // Room for a name that is looked up.
-    spare: String,
-    ghost ordered: { IsOrdered string_cmp names } by { Prim.hlevel props },
+    spare: Name,
+    ghost ordered: { IsOrdered name_order names } by { Prim.hlevel props },
 }
 
 impl Counts {
-    ghost use Rattle.std.specs.Prelude.{◌≡◌, List, ℕ, OnErr, OnOk, Some, codes, length, option_map, string_bytes};
+    ghost use Rattle.std.specs.Prelude.{◌≡◌, List, ℕ, OnErr, OnOk, Some, codes, length, option_map};
     ghost use Rattle.dbus_count.specs.Counting.{CountsFirst, nothing, with_name, with_names};
     ghost use Rattle.dbus_count.specs.Kept.{counting_of};
+    ghost use Rattle.dbus_count.specs.NameOrder.{bytes_of};
     ghost use Rattle.dbus_count.specs.Names.{member_of, named, names_of};
     ghost use Rattle.dbus_value_model.specs.declared.order.Order.{Order};
     ghost use Rattle.dbus_message_model.specs.Messages.{MessageTree};
@@ -48,7 +50,7 @@ impl Counts {
         Counts {
             alloc,
             names: BTreeMap::new(alloc),
-            spare: String::new(alloc),
+            spare: Name(String::new(alloc)),
         }
     }
 
@@ -80,7 +82,10 @@ impl Counts {
         ensures failed { OnErr result
             (CountsFirst (named (codes "type ") (Some (kind_text kind))) size (counting_of self.old) (counting_of self.new)) }
     {
-        let mut name = StringDraft::new(&mut self.spare);
+        if let Some(name) = kind_name(kind) {
+            return self.count_name("type ", Some(name), size);
+        }
+        let mut name = StringDraft::new(&mut self.spare.0);
         name.push_str("type ");
         write_kind(&mut name, kind);
         name.finish()?;
@@ -97,9 +102,9 @@ impl Counts {
         let Some(name) = name else {
             return Ok(());
         };
-        self.spare.clear();
-        self.spare.push_str(word)?;
-        self.spare.push_str(name)?;
+        self.spare.0.clear();
+        self.spare.0.push_str(word)?;
+        self.spare.0.push_str(name)?;
         self.count_spare(size)
     }
 
@@ -118,23 +123,23 @@ impl Counts {
         let Some(member) = member else {
             return Ok(());
         };
-        self.spare.clear();
-        self.spare.push_str("member ")?;
+        self.spare.0.clear();
+        self.spare.0.push_str("member ")?;
         if let Some(interface) = interface {
-            self.spare.push_str(interface)?;
-            self.spare.push_str(".")?;
+            self.spare.0.push_str(interface)?;
+            self.spare.0.push_str(".")?;
         }
-        self.spare.push_str(member)?;
+        self.spare.0.push_str(member)?;
         self.count_spare(size)
     }
 
     // Counts a message of this size by the name that is spared.
     fn count_spare(&mut self, size: u64) -> Result<(), AllocError>
         ensures counted { OnOk result ((name : List ℕ) →
-            counting_of self.new name ≡ with_name (string_bytes self.old.spare) size name (counting_of self.old name)) }
+            counting_of self.new name ≡ with_name (bytes_of self.old.spare) size name (counting_of self.old name)) }
         ensures failed { OnErr result ((name : List ℕ) → counting_of self.new name ≡ counting_of self.old name) }
     {
-        if let Some(count) = self.names.get_mut(self.spare.as_str()) {
+        if let Some(count) = self.names.get_mut(&self.spare) {
             *count = count.with_one(size);
             return Ok(());
         }
@@ -142,7 +147,7 @@ impl Counts {
             messages: 0,
             bytes: 0,
         };
-        let name = String::from_str(self.alloc, self.spare.as_str())?;
+        let name = Name(String::from_str(self.alloc, self.spare.0.as_str())?);
         self.names.insert(name, none.with_one(size))?;
         Ok(())
     }

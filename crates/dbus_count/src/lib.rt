@@ -8,6 +8,7 @@ mod count;
 mod counts;
 mod form;
 pub mod laws;
+mod name;
 mod table;
 
 pub use count::Count;

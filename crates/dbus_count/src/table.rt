@@ -4,32 +4,38 @@ ghost use Rattle.std.specs.List.{filter, starts_with};
 ghost use Rattle.std.specs.Map.Iter.{deref_pair};
 ghost use Rattle.dbus_count.specs.Tables.{AreRows, AreTables, Row, as_object, behind, in_words, row_of, row_text, rows_text, words};
 ghost use Rattle.dbus_count.specs.Kept.{counting_of};
+ghost use Rattle.dbus_count.specs.NameOrder.{bytes_of};
 
 use crate::count::Count;
 use crate::counts::Counts;
 use crate::form::Form;
+use crate::name::Name;
 use dbus_json::write_string;
 use dbus_show::{Draft, StringDraft, write_integer};
 use std::alloc::AllocError;
 
 // The entries of the names that begin with this word.
-fn chosen<'a>(counts: &'a Counts, word: &str) -> Result<Vec<(&'a String, &'a Count)>, AllocError>
+fn chosen<'a>(counts: &'a Counts, word: &str) -> Result<Vec<(&'a Name, &'a Count)>, AllocError>
     ensures { IfOk result (λ rows. map deref_pair rows.items ≡
-        filter (λ e. starts_with nat_eq (string_bytes e.0) word.now) counts.now.names.entries) }
+        filter (λ e. starts_with nat_eq (bytes_of e.0) word.now) counts.now.names.entries) }
 {
     counts
         .names
         .iter()
-        .filter(|row| row.0.as_bytes().starts_with(word.as_bytes()))
+        .filter(|row| row.0.0.as_bytes().starts_with(word.as_bytes()))
         .collect(counts.alloc)
 }
 
 // The rows of the names that begin with this word.
-fn rows_of<'a>(counts: &'a Counts, word: &str) -> Result<Vec<(&'a String, &'a Count)>, AllocError>
+fn rows_of<'a>(counts: &'a Counts, word: &str) -> Result<Vec<(&'a Name, &'a Count)>, AllocError>
     ensures { IfOk result (λ rows. AreRows (counting_of counts.now) word.now (map row_of rows.items)) }
 {
     let mut rows = chosen(counts, word)?;
-    rows.sort_by(|a, b| b.1.messages.cmp(&a.1.messages).then_with(|| a.0.cmp(b.0)))?;
+    rows.sort_by(|a, b| b
+        .1
+        .messages
+        .cmp(&a.1.messages)
+        .then_with(|| a.0.0.cmp(&b.0.0)))?;
     Ok(rows)
 }
 
@@ -68,17 +74,17 @@ fn write_object<D: Draft>(draft: &mut D, word: &str, name: &str, count: Count)
 }
 
 // Appends the line of a row.
-fn write_row<D: Draft>(draft: &mut D, form: Form, word: &str, row: (&String, &Count))
+fn write_row<D: Draft>(draft: &mut D, form: Form, word: &str, row: (&Name, &Count))
     ensures { D.gains draft.old (row_text form word.now (row_of row.entry)) draft.new }
 {
     match form {
-        Form::Text => write_words(draft, row.0.as_str(), *row.1),
-        Form::Json => write_object(draft, word, row.0.as_str(), *row.1),
+        Form::Text => write_words(draft, row.0.0.as_str(), *row.1),
+        Form::Json => write_object(draft, word, row.0.0.as_str(), *row.1),
     }
 }
 
 // Appends the line of each row.
-fn write_rows<D: Draft>(draft: &mut D, form: Form, word: &str, rows: &[(&String, &Count)])
+fn write_rows<D: Draft>(draft: &mut D, form: Form, word: &str, rows: &[(&Name, &Count)])
     ensures { D.gains draft.old (rows_text form word.now (map row_of rows.now)) draft.new }
 {
     for row in rows {
