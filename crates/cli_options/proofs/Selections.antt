@@ -1,17 +1,16 @@
 -- Selections: of each message it is decided whether it is selected, and they are equal exactly if
 -- they say the same.
-use Rattle.std.proofs.Common.{◌≡◌, ℕ, zero, suc, ◌+◌, ◌<◌, Bool, true, false, not, List, [], ◌∷◌, length, get_or, drop, map, inl, inr, refl, sym, subst, arith}
+use Rattle.std.proofs.Common.{◌≡◌, Bool, true, false, List, [], ◌∷◌, map, inl, inr, refl, sym}
 use mathlib.Core.Bool.{beq}
 use Rattle.std.specs.Bool.{Decides}
 use Rattle.std.specs.List.{AllZip}
 use Rattle.std.specs.declared.alloc.Global.{Global}
 use Rattle.std.specs.Cmp.Lexicographic.{pointwise}
 use Rattle.std.proofs.lemmas.Bool.{false≢true}
-use Rattle.std.proofs.lemmas.List.{drop_more}
 use Rattle.std.proofs.lemmas.Bool.Decides.{Decides-and}
 use Rattle.dbus_message_model.specs.Messages.{MessageTree}
 use Rattle.dbus_rule.specs.declared.rule.Rule.{Rule}
-use Rattle.dbus_match.specs.Matching.{Matches, Ownership, ownership}
+use Rattle.dbus_match.specs.Matching.{Ownership, ownership}
 use Rattle.dbus_rule.specs.RuleViews.{rule_pairs}
 use Rattle.dbus_match.proofs.Decided.{decided}
 use Rattle.dbus_rule.proofs.Choices.{Either, one_of}
@@ -22,21 +21,6 @@ use Rattle.cli_options.specs.contracts.selection.SelectionPartialEq.TheImpl as s
 use Rattle.cli_options.specs.declared.selection.Selection.{Selection}
 
 -- ---- which messages are selected
-
--- the rule at a place matches
-pub some_at : (m : MessageTree) (os : List Ownership) (rules : List (Rule Global)) (i : ℕ) (r : Rule Global) → i < length rules → r ≡ get_or rules i r
-    → Matches (rule_pairs r) m os → SomeMatches rules m os
-some_at m os [] i r l e h = absurd (omega (arith, l))
-some_at m os (q ∷ rules) zero r l e h = inl (subst (λ x. Matches (rule_pairs x) m os) e h)
-some_at m os (q ∷ rules) (suc i) r l e h = inr (some_at m os rules i r (omega (arith, l)) e h)
-
--- no rule before those left, and not that at the place: then one of those after it
-pub one_left : (m : MessageTree) (os : List Ownership) (rules : List (Rule Global)) (i : ℕ) (r : Rule Global) → i < length rules → r ≡ get_or rules i r
-    → (Matches (rule_pairs r) m os → ⊥) → SomeMatches (drop i rules) m os → SomeMatches (drop (i + 1) rules) m os
-one_left m os rules i r l e not_met some = elim (subst (λ z. SomeMatches z m os) (drop_more rules i r l) some) [
-  | inl met ↦ absurd (not_met (subst (λ x. Matches (rule_pairs x) m os) (sym e) met))
-  | inr later ↦ later
-]
 
 some_decided : (rules : List (Rule Global)) (m : MessageTree) (os : List Ownership) → Either (SomeMatches rules m os)
 some_decided [] m os = inr (λ h. h)
@@ -49,13 +33,6 @@ inverted_decided true (inr n) = inl n
 
 pub selected : (s : Selection) (os : List Ownership) (m : MessageTree) → Either (SelectsBy s os m)
 selected s os m = inverted_decided s.is_inverted (some_decided s.rules.items m os)
-
--- what is told of a message by whether a rule matches it
-pub inverted_as : (met inverted : Bool) (P : Type 0) → Decides met P → Decides (not (beq met inverted)) (OrInverted inverted P)
-inverted_as false false P d = (λ t. absurd (false≢true t), λ p. absurd (false≢true (d.1 p)))
-inverted_as false true P d = (λ t p. false≢true (d.1 p), λ n. refl)
-inverted_as true false P d = (λ t. d.0 refl, λ p. refl)
-inverted_as true true P d = (λ t. absurd (false≢true t), λ n. absurd (n (d.0 refl)))
 
 -- ---- what is the same
 

@@ -23,10 +23,6 @@ OrInverted true P = P → ⊥
 abbrev pub SelectsBy : Selection → List Ownership → MessageTree → Type 0
 SelectsBy selection os m = OrInverted selection.is_inverted (SomeMatches selection.rules.items m os)
 
--- with its own owners
-abbrev pub Selects : Selection → MessageTree → Type 0
-Selects selection m = SelectsBy selection (ownerships selection.owners.items) m
-
 -- it is by this rule alone, with no owners, and learns none
 pub record IsByRule (rule : Rule Global) (selection : Selection) : Type 0 where
   pub rules : map rule_pairs selection.rules.items ≡ rule_pairs rule ∷ []

@@ -1,12 +1,11 @@
 //! The owners of names that a stream itself tells.
-ghost use Rattle.std.specs.Prelude.{◌≡◌, ◌↔◌, None, Some, IfOk, IsTrue, OnErr, option_map};
+ghost use Rattle.std.specs.Prelude.{◌≡◌, None, Some, IfOk, OnErr, option_map};
 ghost use Rattle.dbus_value_model.specs.declared.order.Order.{Order};
 ghost use Rattle.dbus_message_model.specs.Lookups.{body_value};
 ghost use Rattle.dbus_message_model.specs.Messages.{MessageTree};
 ghost use Rattle.dbus_view.specs.Views.{Views};
 ghost use Rattle.dbus_match.specs.Matching.{ownerships, string_of};
 ghost use Rattle.cli_options.specs.Learning.{ask_sender, change_of, changed, is_change, is_text, known, known_after, others};
-ghost use Rattle.cli_options.specs.Selections.{SelectsBy};
 
 use crate::selection::Selection;
 use dbus_match::{Owner, Rule};
@@ -25,21 +24,9 @@ struct Change<'a> {
 }
 
 impl Selection {
-    /// Whether the message is selected where `learned` are the owners that the selection has known
-    /// since it learned some; `None` stands for its own owners. Nothing is allocated.
-    pub fn selects_knowing(&self, view: &MessageView, learned: &Option<Vec<Owner>>) -> bool
-        ensures { (order : Order) (m : MessageTree) → Views view.now order m →
-            IsTrue result ↔ SelectsBy self.now (known self.now learned.now) m }
-    {
-        match learned {
-            Some(owners) => self.selects_by(view, owners),
-            None => self.selects(view),
-        }
-    }
-
     /// Learns what the message tells of the owner of a name that a rule's `sender` is, if the
-    /// selection learns: a signal `NameOwnerChanged` of the bus. `learned` is what
-    /// [`Selection::selects_knowing`] asks of the messages after it; at first it is `None`. D-Bus
+    /// selection learns: a signal `NameOwnerChanged` of the bus. `learned` are the owners that it
+    /// has known since it learned some; at first it is `None`, which stands for its own. D-Bus
     /// Specification, "Message Bus Messages".
     ///
     /// `AllocError`: an allocation failed. Then `learned` is `None`.
