@@ -1,10 +1,9 @@
 -- However the bytes are cut, a server's end sends the same lines and comes to the same status.
 use Rattle.std.proofs.Common.{◌≡◌, ◌≢◌, inl, inr, ℕ, suc, ◌+◌, ◌-◌, ◌==◌, Bool, true, false, cond, List, [], ◌∷◌, ◌++◌, length, take, drop, refl, sym, ◌∙◌, ap, arith, append_assoc, length-append, take-append-drop}
 use Rattle.std.proofs.lemmas.List.{append-nil, take-append-le, drop_at}
-use Rattle.dbus_auth_lines.specs.Lines.{server_line, ended, client_meaning}
 use Rattle.dbus_auth_lines.specs.Cut.{Cut, Ends, Bad, More, cut}
-use Rattle.dbus_auth.specs.Machines.{ServerMachine, ServerAction, server_step}
-use Rattle.dbus_auth.specs.Ends.{ServerEndState, EndOutcome, server_sends, server_status, server_cuts, server_first, server_talks, server_takes_at, server_takes, server_closes}
+use Rattle.dbus_auth.specs.Machines.{ServerMachine}
+use Rattle.dbus_auth.specs.Ends.{ServerEndState, EndOutcome, closes, cuts, first, talks, takes_at, takes, server_turn, server_takes}
 use Rattle.dbus_auth.specs.AnyPeer.{ServerRun, line_sent, run_server, IsFinished, LooksAlike}
 use Rattle.dbus_auth.specs.World.{server_at_first}
 use Rattle.dbus_auth.specs.declared.end_step.Status.{Status}
@@ -25,14 +24,14 @@ tells send x = record { said = line_sent send ++ x.said; status = x.status }
 abbrev ends_as : Status → Seen
 ends_as st = record { said = []; status = st }
 
--- after the machine's step; rest is what comes of the bytes after the line
-abbrev after_turn : ServerAction → Seen → Seen
-after_turn (ServerAction.Sends line) rest = tells (ended (server_line line)) rest
-after_turn ServerAction.Begins rest = ends_as status.Begun
-after_turn ServerAction.Disconnects rest = ends_as status.Closed
+-- rest: what comes of the bytes that follow, of an end that goes on
+abbrev by_status : Status → Seen → Seen
+by_status status.Talking rest = rest
+by_status status.Begun rest = ends_as status.Begun
+by_status status.Closed rest = ends_as status.Closed
 
 abbrev answered : ServerMachine → List ℕ → (ServerMachine → Seen) → Seen
-answered s line rest = after_turn (server_step s (client_meaning line)).action (rest (record s { state = (server_step s (client_meaning line)).next }))
+answered s line rest = tells (server_turn s line).send (by_status (server_turn s line).status (rest (server_turn s line).next))
 
 abbrev picks : ServerMachine → List ℕ → Cut → (ServerMachine → List ℕ → Seen) → Seen
 picks s k More rest = rest s k
@@ -96,74 +95,60 @@ goes_nil s kept = refl
 
 abbrev seen_first : ServerEndState → List ℕ → Seen
 seen_first e [] = ends_as status.Talking
-seen_first e (b ∷ bs) = cond (b == 0) (goes e.server e.kept bs) (ends_as status.Closed)
+seen_first e (b ∷ bs) = cond (b == 0) (goes e.machine e.kept bs) (ends_as status.Closed)
 
 abbrev seen_talking : ServerEndState → List ℕ → Bool → Seen
-seen_talking e bytes true = goes e.server e.kept bytes
+seen_talking e bytes true = goes e.machine e.kept bytes
 seen_talking e bytes false = seen_first e bytes
 
-abbrev seen_at : ServerEndState → List ℕ → Status → Seen
-seen_at e bytes status.Talking = seen_talking e bytes e.zero_taken
-seen_at e bytes status.Begun = ends_as status.Begun
-seen_at e bytes status.Closed = ends_as status.Closed
-
 abbrev seen : ServerEndState → List ℕ → Seen
-seen e bytes = seen_at e bytes e.status
+seen e bytes = by_status e.status (seen_talking e bytes e.started)
 
 -- it is a right account of a piece of these bytes
 abbrev Accounts : Seen → EndOutcome ServerEndState → List ℕ → Type 0
 Accounts x outcome bytes = x ≡ tells outcome.send (seen outcome.after (drop outcome.taken bytes))
 
-step_seen : (action : ServerAction) (next : ServerMachine) (rest : List ℕ) →
-    after_turn action (goes next [] rest) ≡ tells (server_sends action) (seen (record { server = next; zero_taken = true; kept = []; status = server_status action }) rest)
-step_seen (ServerAction.Sends line) next rest = refl
-step_seen ServerAction.Begins next rest = refl
-step_seen ServerAction.Disconnects next rest = refl
-
 cuts_seen : (e : ServerEndState) (skipped : ℕ) (p r bytes : List ℕ) (c : Cut) → e.status ≡ status.Talking → ((t : ℕ) → drop (skipped + t) bytes ≡ drop t (p ++ r))
-    → Accounts (at_once e.server e.kept p r c) (server_cuts e skipped p c) bytes
+    → Accounts (at_once e.machine e.kept p r c) (cuts server_turn e skipped p c) bytes
 cuts_seen e skipped p r bytes More talking d =
     let rest : drop (skipped + length p) bytes ≡ r = d (length p) ∙ drop_at p r (length p) refl in
     rw (talking, rest) refl
 cuts_seen e skipped p r bytes (Bad f) talking d = refl
-cuts_seen e skipped p r bytes (Ends n) talking d =
-    let line = take (n - 2) (e.kept ++ p) in
-    let step = server_step e.server (client_meaning line) in
-    rw (d (n - length e.kept)) (step_seen step.action (record e.server { state = step.next }) (drop (n - length e.kept) (p ++ r)))
+cuts_seen e skipped p r bytes (Ends n) talking d = rw (d (n - length e.kept)) refl
 
-first_seen : (e : ServerEndState) (p r : List ℕ) → cut e.kept ≡ More → e.status ≡ status.Talking → e.zero_taken ≡ false → Accounts (seen_first e (p ++ r)) (server_first e p) (p ++ r)
+first_seen : (e : ServerEndState) (p r : List ℕ) → cut e.kept ≡ More → e.status ≡ status.Talking → e.started ≡ false → Accounts (seen_first e (p ++ r)) (first server_turn e p) (p ++ r)
 first_seen e [] r sound talking z = rw (talking, z) refl
 first_seen e (b ∷ p) r sound talking z = by_zero (b == 0)
   where
-    by_zero : (t : Bool) → Accounts (cond t (goes e.server e.kept (p ++ r)) (ends_as status.Closed)) (cond t (server_cuts e 1 p (cut (e.kept ++ p))) (server_closes e)) (b ∷ (p ++ r))
+    by_zero : (t : Bool) → Accounts (cond t (goes e.machine e.kept (p ++ r)) (ends_as status.Closed)) (cond t (cuts server_turn e 1 p (cut (e.kept ++ p))) (closes e)) (b ∷ (p ++ r))
     by_zero true =
-        piecewise p e.server e.kept r sound
+        piecewise p e.machine e.kept r sound
         ∙ cuts_seen e 1 p r (b ∷ (p ++ r)) (cut (e.kept ++ p)) talking (λ t. let e : 1 + t ≡ suc t = omega arith in ap (λ (n : ℕ). drop n (b ∷ (p ++ r))) e)
     by_zero false = refl
 
-talks_seen : (e : ServerEndState) (p r : List ℕ) (z : Bool) → cut e.kept ≡ More → e.status ≡ status.Talking → e.zero_taken ≡ z → Accounts (seen_talking e (p ++ r) z) (server_talks e p z) (p ++ r)
+talks_seen : (e : ServerEndState) (p r : List ℕ) (z : Bool) → cut e.kept ≡ More → e.status ≡ status.Talking → e.started ≡ z → Accounts (seen_talking e (p ++ r) z) (talks server_turn e p z) (p ++ r)
 talks_seen e p r true sound talking z =
-    piecewise p e.server e.kept r sound ∙ cuts_seen e 0 p r (p ++ r) (cut (e.kept ++ p)) talking (λ t. let e : 0 + t ≡ t = omega arith in ap (λ (n : ℕ). drop n (p ++ r)) e)
+    piecewise p e.machine e.kept r sound ∙ cuts_seen e 0 p r (p ++ r) (cut (e.kept ++ p)) talking (λ t. let e : 0 + t ≡ t = omega arith in ap (λ (n : ℕ). drop n (p ++ r)) e)
 talks_seen e p r false sound talking z = first_seen e p r sound talking z
 
-takes_seen_at : (e : ServerEndState) (p r : List ℕ) (st : Status) → cut e.kept ≡ More → e.status ≡ st → Accounts (seen_at e (p ++ r) st) (server_takes_at e p st) (p ++ r)
-takes_seen_at e p r status.Talking sound is = talks_seen e p r e.zero_taken sound is refl
+takes_seen_at : (e : ServerEndState) (p r : List ℕ) (st : Status) → cut e.kept ≡ More → e.status ≡ st → Accounts (by_status st (seen_talking e (p ++ r) e.started)) (takes_at server_turn e p st) (p ++ r)
+takes_seen_at e p r status.Talking sound is = talks_seen e p r e.started sound is refl
 takes_seen_at e p r status.Begun sound is = rw is refl
 takes_seen_at e p r status.Closed sound is = rw is refl
 
 takes_seen : (e : ServerEndState) (p r : List ℕ) → cut e.kept ≡ More → Accounts (seen e (p ++ r)) (server_takes e p) (p ++ r)
-unfolding server_takes
+unfolding takes
 takes_seen e p r sound = takes_seen_at e p r e.status sound refl
 
 -- ---- what is kept asks for more
 
-cuts_sound : (e : ServerEndState) (skipped : ℕ) (p : List ℕ) (c : Cut) → cut e.kept ≡ More → cut (e.kept ++ p) ≡ c → cut (server_cuts e skipped p c).after.kept ≡ More
+cuts_sound : (e : ServerEndState) (skipped : ℕ) (p : List ℕ) (c : Cut) → cut e.kept ≡ More → cut (e.kept ++ p) ≡ c → cut (cuts server_turn e skipped p c).after.kept ≡ More
 cuts_sound e skipped p More sound is = is
 cuts_sound e skipped p (Bad f) sound is = sound
 cuts_sound e skipped p (Ends n) sound is = cut_nil
 
 pub takes_sound : (e : ServerEndState) (p : List ℕ) → cut e.kept ≡ More → cut (server_takes e p).after.kept ≡ More
-takes_sound e p sound = takes_by (λ o. cut o.after.kept ≡ More) e sound sound (λ skipped q. cuts_sound e skipped q (cut (e.kept ++ q)) sound refl) p
+takes_sound e p sound = takes_by server_turn (λ o. cut o.after.kept ≡ More) e sound sound (λ skipped q. cuts_sound e skipped q (cut (e.kept ++ q)) sound refl) p
 
 -- ---- all pieces
 
@@ -182,22 +167,22 @@ run_seen (n ∷ ns) e bytes sound =
     ∙ ap (λ (x : List (List ℕ)). record { said = x; status = last.status }) (sym (append_assoc (line_sent outcome.send) rest.said last.said))
 
 none_left : (e : ServerEndState) (z : Bool) → seen_talking e [] z ≡ ends_as status.Talking
-none_left e true = goes_nil e.server e.kept
+none_left e true = goes_nil e.machine e.kept
 none_left e false = refl
 
-seen_nil : (e : ServerEndState) (st : Status) → seen_at e [] st ≡ ends_as st
-seen_nil e status.Talking = none_left e e.zero_taken
+seen_nil : (e : ServerEndState) (st : Status) → by_status st (seen_talking e [] e.started) ≡ ends_as st
+seen_nil e status.Talking = none_left e e.started
 seen_nil e status.Begun = refl
 seen_nil e status.Closed = refl
 
-seen_shut : (e : ServerEndState) (bytes : List ℕ) (st : Status) → st ≢ status.Talking → seen_at e bytes st ≡ ends_as st
-seen_shut e bytes status.Talking h = absurd (h refl)
-seen_shut e bytes status.Begun h = refl
-seen_shut e bytes status.Closed h = refl
+seen_shut : (rest : Seen) (st : Status) → st ≢ status.Talking → by_status st rest ≡ ends_as st
+seen_shut rest status.Talking h = absurd (h refl)
+seen_shut rest status.Begun h = refl
+seen_shut rest status.Closed h = refl
 
 finished : (h : ServerRun) → IsFinished h → seen h.after h.left ≡ ends_as h.after.status
 finished h (inl nil) = ap (seen h.after) nil ∙ seen_nil h.after h.after.status
-finished h (inr shut) = seen_shut h.after h.left h.after.status shut
+finished h (inr shut) = seen_shut (seen_talking h.after h.left h.after.started) h.after.status shut
 
 run_outcome : (e : ServerEndState) (bytes ns : List ℕ) → cut e.kept ≡ More → IsFinished (run_server e bytes ns) → seen e bytes ≡ record { said = (run_server e bytes ns).said; status = (run_server e bytes ns).after.status }
 run_outcome e bytes ns sound fin =

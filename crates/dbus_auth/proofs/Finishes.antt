@@ -4,13 +4,13 @@ use Rattle.std.proofs.Common.{◌≡◌, ◌≢◌, ◌⊎◌, inl, inr, ℕ, �
 use Rattle.std.proofs.lemmas.List.{append-nil}
 use Rattle.dbus_auth_lines.specs.Cut.{Cut, Ends, Bad, More, cut}
 use Rattle.dbus_auth.specs.Machines.{ServerMachine}
-use Rattle.dbus_auth.specs.Ends.{ServerEndState, EndOutcome, server_cuts, server_first, server_talks, server_takes_at, server_takes, server_closes}
+use Rattle.dbus_auth.specs.Ends.{ServerEndState, EndOutcome, closes, cuts, first, talks, takes_at, takes, server_turn, server_takes}
 use Rattle.dbus_auth.specs.AnyPeer.{run_server, IsFinished}
 use Rattle.dbus_auth.specs.World.{server_at_first}
 use Rattle.dbus_auth.specs.declared.end_step.Status.{Status}
 use Rattle.dbus_auth.specs.declared.end_step.Status.TheVariants as status
 use Rattle.dbus_auth_lines.proofs.Cuts.{StaysSettled, IsAbove, cut_follows}
-use Rattle.dbus_auth.proofs.Sides.{cut_nil}
+use Rattle.dbus_auth.proofs.Sides.{cut_nil, is_done}
 use Rattle.dbus_auth.proofs.AnyCut.{takes_sound}
 
 -- a byte for each call
@@ -28,15 +28,15 @@ closed_is_shut h = cc
 begun_is_shut : status.Begun ≢ status.Talking
 begun_is_shut h = cc
 
-cuts_moved : (e : ServerEndState) (b : ℕ) (c : Cut) → IsAbove c (length e.kept) → StaysSettled c c (length e.kept + 1) → Moved (server_cuts e 0 (b ∷ []) c)
+cuts_moved : (e : ServerEndState) (b : ℕ) (c : Cut) → IsAbove c (length e.kept) → StaysSettled c c (length e.kept + 1) → Moved (cuts server_turn e 0 (b ∷ []) c)
 cuts_moved e b More h k = inl (omega arith)
 cuts_moved e b (Bad f) h k = inr closed_is_shut
 cuts_moved e b (Ends n) h k = inl (omega (arith, h, k.1))
 
-first_moved : (e : ServerEndState) (b : ℕ) → cut e.kept ≡ More → Moved (server_first e (b ∷ []))
+first_moved : (e : ServerEndState) (b : ℕ) → cut e.kept ≡ More → Moved (first server_turn e (b ∷ []))
 first_moved e b sound = by_zero (b == 0)
   where
-    by_zero : (t : Bool) → Moved (cond t (server_cuts e 1 [] (cut (e.kept ++ []))) (server_closes e))
+    by_zero : (t : Bool) → Moved (cond t (cuts server_turn e 1 [] (cut (e.kept ++ []))) (closes e))
     by_zero true = rw (append-nil e.kept, sound) (inl (omega arith))
     by_zero false = inr closed_is_shut
 
@@ -46,32 +46,28 @@ settled_self e b =
     let h = cut_follows (e.kept ++ b ∷ []) [] in
     rw (append-nil (e.kept ++ b ∷ []), size) at h
 
-talks_moved : (e : ServerEndState) (b : ℕ) (z : Bool) → cut e.kept ≡ More → Moved (server_talks e (b ∷ []) z)
+talks_moved : (e : ServerEndState) (b : ℕ) (z : Bool) → cut e.kept ≡ More → Moved (talks server_turn e (b ∷ []) z)
 talks_moved e b true sound = cuts_moved e b (cut (e.kept ++ b ∷ [])) (rw sound at (cut_follows e.kept (b ∷ []))) (settled_self e b)
 talks_moved e b false sound = first_moved e b sound
 
-moved_at : (e : ServerEndState) (b : ℕ) (st : Status) → cut e.kept ≡ More → e.status ≡ st → Moved (server_takes_at e (b ∷ []) st)
-moved_at e b status.Talking sound is = talks_moved e b e.zero_taken sound
+moved_at : (e : ServerEndState) (b : ℕ) (st : Status) → cut e.kept ≡ More → e.status ≡ st → Moved (takes_at server_turn e (b ∷ []) st)
+moved_at e b status.Talking sound is = talks_moved e b e.started sound
 moved_at e b status.Begun sound is = inr (λ h. begun_is_shut (sym is ∙ h))
 moved_at e b status.Closed sound is = inr (λ h. closed_is_shut (sym is ∙ h))
 
 moved : (e : ServerEndState) (b : ℕ) → cut e.kept ≡ More → Moved (server_takes e (b ∷ []))
-unfolding server_takes
+unfolding takes
 moved e b sound = moved_at e b e.status sound refl
 
 -- an end that takes nothing more stays so
-shut_stays_at : (e : ServerEndState) (p : List ℕ) (st : Status) → e.status ≡ st → st ≢ status.Talking → (server_takes_at e p st).after.status ≢ status.Talking
-shut_stays_at e p status.Talking is h = absurd (h refl)
-shut_stays_at e p status.Begun is h = λ x. begun_is_shut (sym is ∙ x)
-shut_stays_at e p status.Closed is h = λ x. closed_is_shut (sym is ∙ x)
-
-shut_stays : (e : ServerEndState) (p : List ℕ) → e.status ≢ status.Talking → (server_takes e p).after.status ≢ status.Talking
-unfolding server_takes
-shut_stays e p h = shut_stays_at e p e.status refl h
+shut_is : (st : Status) → st ≢ status.Talking → (st ≡ status.Begun) ⊎ (st ≡ status.Closed)
+shut_is status.Talking h = absurd (h refl)
+shut_is status.Begun h = inl refl
+shut_is status.Closed h = inr refl
 
 shut_to_the_end : (ns : List ℕ) (e : ServerEndState) (bytes : List ℕ) → e.status ≢ status.Talking → (run_server e bytes ns).after.status ≢ status.Talking
 shut_to_the_end [] e bytes h = h
-shut_to_the_end (n ∷ ns) e bytes h = shut_to_the_end ns (server_takes e (take n bytes)).after (drop (server_takes e (take n bytes)).taken bytes) (shut_stays e (take n bytes) h)
+shut_to_the_end (n ∷ ns) e bytes h = shut_to_the_end ns (server_takes e (take n bytes)).after (drop (server_takes e (take n bytes)).taken bytes) (rw (is_done server_turn e (take n bytes) (shut_is e.status h)) h)
 
 finishes : (bytes : List ℕ) (e : ServerEndState) → cut e.kept ≡ More → IsFinished (run_server e bytes (singly bytes))
 finishes [] e sound = inl refl

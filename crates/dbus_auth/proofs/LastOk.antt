@@ -1,5 +1,5 @@
 -- A server that has begun sent OK as its last line other than ERROR, whoever its peer is.
-use Rattle.std.proofs.Common.{◌≡◌, ℕ, ◌+◌, ◌-◌, Bool, true, false, cond, List, [], ◌∷◌, ◌++◌, length, take, drop, refl, sym, ◌∙◌, ap, subst, append_assoc}
+use Rattle.std.proofs.Common.{◌≡◌, ℕ, ◌-◌, Bool, true, false, cond, List, [], ◌∷◌, ◌++◌, take, drop, refl, sym, ◌∙◌, ap, subst, append_assoc}
 use Rattle.std.proofs.lemmas.List.{append-nil}
 use Rattle.dbus_auth.specs.World.{server_at_first}
 use Rattle.std.specs.Prelude.{codes}
@@ -9,10 +9,10 @@ use Rattle.dbus_auth_lines.specs.ClientCommands as client
 use Rattle.dbus_auth_lines.specs.ServerCommands as server
 use Rattle.dbus_auth_lines.specs.Lines.{server_line, ended, client_meaning}
 use Rattle.dbus_auth_lines.specs.Cut.{Cut, Ends, Bad, More, cut}
-use Rattle.dbus_auth.specs.Machines.{ServerMachine, ServerStep, ServerAction, server_step, server_step_at, rejects, accepts, replies, complains, mechanisms}
-use Rattle.dbus_auth.specs.Ends.{ServerEndState, server_answers, server_cuts, server_takes}
+use Rattle.dbus_auth.specs.Machines.{Begins, Disconnects, ServerMachine, ServerStep, server_step, server_step_at, rejects, accepts, replies, complains, mechanisms}
+use Rattle.dbus_auth.specs.Ends.{ServerEndState, after_turn, cuts, server_turn, server_takes}
 use Rattle.dbus_auth.specs.AnyPeer.{line_sent, run_server, LastIsOk}
-use Rattle.dbus_auth.proofs.Outcomes.{takes_by}
+use Rattle.dbus_auth.proofs.Outcomes.{server_answers, takes_by}
 use Rattle.dbus_auth.specs.declared.end_step.Status.TheVariants as status
 use Rattle.dbus_auth.specs.declared.states.ServerState.{ServerState}
 use Rattle.dbus_auth.specs.declared.states.ServerState.TheVariants as at
@@ -30,8 +30,8 @@ data Kind (s : ServerMachine) (state : ServerState) (step : ServerStep) : Type 0
   gives_ok : step ≡ accepts s → Kind s state step
   gives_error : step ≡ complains state → Kind s state step
   goes_back : (line : _) (next : ServerState) → step ≡ replies line next → (IsPastOk next → ⊥) → Kind s state step
-  begins : step ≡ record { action = ServerAction.Begins; next = at.Begun } → IsPastOk state → Kind s state step
-  gives_up : (next : ServerState) → step ≡ record { action = ServerAction.Disconnects; next = next } → (IsPastOk next → IsPastOk state) → Kind s state step
+  begins : step ≡ record { action = Begins; next = at.Begun } → IsPastOk state → Kind s state step
+  gives_up : (next : ServerState) → step ≡ record { action = Disconnects; next = next } → (IsPastOk next → IsPastOk state) → Kind s state step
 
 is_reject : (s : ServerMachine) (state : ServerState) → Kind s state (rejects s)
 is_reject s state = goes_back (server.Rejected (mechanisms s)) at.WaitingForAuth refl (λ x. x)
@@ -61,9 +61,9 @@ kind_at s at.Begun line = gives_up at.Begun refl (λ x. x)
 kind_at s at.Closed line = gives_up at.Closed refl (λ x. x)
 
 record Good (guid : List ℕ) (e : ServerEndState) (said : List (List ℕ)) : Type 0 where
-  guid_is : e.server.guid ≡ guid
-  past_ok : IsPastOk e.server.state → LastIsOk guid said
-  begun : e.status ≡ status.Begun → e.server.state ≡ at.Begun
+  guid_is : e.machine.guid ≡ guid
+  past_ok : IsPastOk e.machine.state → LastIsOk guid said
+  begun : e.status ≡ status.Begun → e.machine.state ≡ at.Begun
 
 LastIsOk-same : (guid : List ℕ) (said send : List (List ℕ)) → send ≡ [] → LastIsOk guid said → LastIsOk guid (said ++ send)
 LastIsOk-same guid said send nil h = record { front = h.front; errors = h.errors; is = ap (λ (x : List (List ℕ)). said ++ x) nil ∙ append-nil said ∙ h.is; only_errors = h.only_errors }
@@ -86,36 +86,36 @@ no_begun h = absurd (let x : status.Talking ≡ status.Begun = h in cc)
 closed_no_begun : {A : Type 0} → status.Closed ≡ status.Begun → A
 closed_no_begun h = absurd (let x : status.Closed ≡ status.Begun = h in cc)
 
-answer_keeps : (guid : List ℕ) (e : ServerEndState) (said : List (List ℕ)) (taken : ℕ) (step : ServerStep) → Good guid e said → Kind e.server e.server.state step
-    → Good guid (server_answers e taken step).after (said ++ line_sent (server_answers e taken step).send)
-answer_keeps guid e said taken step g (gives_ok is) = rw is (record {
+answer_keeps : (guid : List ℕ) (e : ServerEndState) (said : List (List ℕ)) (step : ServerStep) → Good guid e said → Kind e.machine e.machine.state step
+    → Good guid (after_turn (server_answers e.machine step)) (said ++ line_sent (server_answers e.machine step).send)
+answer_keeps guid e said step g (gives_ok is) = rw is (record {
   guid_is = g.guid_is;
   past_ok = λ _. record { front = said; errors = []; is = ap (λ (x : List ℕ). said ++ ended (server_line (server.Accepted x)) ∷ []) g.guid_is; only_errors = tt };
   begun = no_begun;
 })
-answer_keeps guid e said taken step g (gives_error is) = rw is (record {
+answer_keeps guid e said step g (gives_error is) = rw is (record {
   guid_is = g.guid_is;
   past_ok = λ h. LastIsOk-error guid said (g.past_ok h);
   begun = no_begun;
 })
-answer_keeps guid e said taken step g (goes_back line next is not_past) = rw is (record {
+answer_keeps guid e said step g (goes_back line next is not_past) = rw is (record {
   guid_is = g.guid_is;
   past_ok = λ h. absurd (not_past h);
   begun = no_begun;
 })
-answer_keeps guid e said taken step g (begins is past) = rw is (record {
+answer_keeps guid e said step g (begins is past) = rw is (record {
   guid_is = g.guid_is;
   past_ok = λ _. LastIsOk-same guid said [] refl (g.past_ok past);
   begun = λ _. refl;
 })
-answer_keeps guid e said taken step g (gives_up next is back) = rw is (record {
+answer_keeps guid e said step g (gives_up next is back) = rw is (record {
   guid_is = g.guid_is;
   past_ok = λ h. LastIsOk-same guid said [] refl (g.past_ok (back h));
   begun = closed_no_begun;
 })
 
 -- the machine and Begun are as they were, and nothing is sent
-quiet_keeps : (guid : List ℕ) (e after : ServerEndState) (said : List (List ℕ)) → Good guid e said → after.server ≡ e.server → (after.status ≡ status.Begun → e.status ≡ status.Begun) → Good guid after (said ++ [])
+quiet_keeps : (guid : List ℕ) (e after : ServerEndState) (said : List (List ℕ)) → Good guid e said → after.machine ≡ e.machine → (after.status ≡ status.Begun → e.status ≡ status.Begun) → Good guid after (said ++ [])
 quiet_keeps guid e after said g is same = record {
   guid_is = ap (λ (x : ServerMachine). x.guid) is ∙ g.guid_is;
   past_ok = λ h. LastIsOk-same guid said [] refl (g.past_ok (subst (λ (x : ServerMachine). IsPastOk x.state) is h));
@@ -127,15 +127,16 @@ unfolding server_step
 step_kind s line = kind_at s s.state line
 
 cuts_keep : (guid : List ℕ) (e : ServerEndState) (said : List (List ℕ)) (skipped : ℕ) (bs : List ℕ) (c : Cut) → Good guid e said
-    → Good guid (server_cuts e skipped bs c).after (said ++ line_sent (server_cuts e skipped bs c).send)
+    → Good guid (cuts server_turn e skipped bs c).after (said ++ line_sent (cuts server_turn e skipped bs c).send)
 cuts_keep guid e said skipped bs (Ends size) g =
-    answer_keeps guid e said (skipped + (size - length e.kept)) (server_step e.server (client_meaning (take (size - 2) (e.kept ++ bs)))) g (step_kind e.server (client_meaning (take (size - 2) (e.kept ++ bs))))
+    let line = client_meaning (take (size - 2) (e.kept ++ bs)) in
+    answer_keeps guid e said (server_step e.machine line) g (step_kind e.machine line)
 cuts_keep guid e said skipped bs (Bad f) g = quiet_keeps guid e (record e { status = status.Closed }) said g refl closed_no_begun
-cuts_keep guid e said skipped bs More g = quiet_keeps guid e (record e { zero_taken = true; kept = e.kept ++ bs }) said g refl (λ h. h)
+cuts_keep guid e said skipped bs More g = quiet_keeps guid e (record e { started = true; kept = e.kept ++ bs }) said g refl (λ h. h)
 
 takes_keep : (guid : List ℕ) (e : ServerEndState) (said : List (List ℕ)) (p : List ℕ) → Good guid e said → Good guid (server_takes e p).after (said ++ line_sent (server_takes e p).send)
 takes_keep guid e said p g =
-    takes_by (λ o. Good guid o.after (said ++ line_sent o.send)) e (quiet_keeps guid e e said g refl (λ h. h))
+    takes_by server_turn (λ o. Good guid o.after (said ++ line_sent o.send)) e (quiet_keeps guid e e said g refl (λ h. h))
     (quiet_keeps guid e (record e { status = status.Closed }) said g refl closed_no_begun) (λ skipped q. cuts_keep guid e said skipped q (cut (e.kept ++ q)) g) p
 
 run_keeps : (guid : List ℕ) (ns : List ℕ) (e : ServerEndState) (bytes : List ℕ) (said : List (List ℕ)) → Good guid e said → Good guid (run_server e bytes ns).after (said ++ (run_server e bytes ns).said)

@@ -2,7 +2,7 @@
 use Rattle.std.proofs.Common.{◌≡◌, ap, arith}
 use Rattle.std.proofs.lemmas.Grind.{common_steps}
 use Rattle.std.specs.Bool.{Decides}
-use Rattle.dbus_auth.specs.Machines.{ServerAction}
+use Rattle.dbus_auth.specs.Machines.{ServerAction, Sends}
 use Rattle.dbus_auth.specs.ServerViews.{server_action}
 use Rattle.dbus_auth.specs.declared.server.ServerAct.{ServerAct}
 use Rattle.dbus_auth.specs.declared.server.ServerAct.TheVariants as act
@@ -15,14 +15,14 @@ use mir.Syntax.{Dict}
 use Rattle.std.specs.declared.alloc.Allocator as allocator
 
 abbrev line_of : ServerAction → ServerCommand
-line_of (ServerAction.Sends line) = line
+line_of (Sends line) = line
 line_of _ = server.Other
 
 module _ (A : RattleType) (laws : allocator.Ghosts A.Denot) (d e : Dict) where
   pub server_acts_equal : (a b : ServerAct A.Denot) → Decides ((act_eq.ghosts A laws d e).eq a b) (server_action a ≡ server_action b)
   server_acts_equal (act.Send x) (act.Send y) =
       let same = server_lines_equal A laws d e x y in
-      (λ t. ap ServerAction.Sends (same.0 t), λ h. same.1 (ap line_of h))
+      (λ t. ap Sends (same.0 t), λ h. same.1 (ap line_of h))
   server_acts_equal (act.Send x) act.Begin = grind (arith, common_steps)
   server_acts_equal (act.Send x) act.Disconnect = grind (arith, common_steps)
   server_acts_equal act.Begin b = grind (arith, common_steps)

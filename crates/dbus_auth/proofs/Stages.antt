@@ -1,5 +1,5 @@
 -- The stages of a handshake: where the two ends and the bytes between them stand.
-use Rattle.std.proofs.Common.{◌≡◌, ◌⊎◌, ℕ, ◌+◌, ◌*◌, ◌≤◌, ◌==◌, Bool, true, false, cond, List, [], ◌∷◌, ◌++◌, length, take, Some, None, refl, sym, subst, ◌∙◌, ap, arith, append_assoc}
+use Rattle.std.proofs.Common.{◌≡◌, ◌⊎◌, ℕ, ◌+◌, ◌*◌, ◌≤◌, ◌==◌, Bool, true, false, cond, List, [], ◌∷◌, ◌++◌, length, take, Some, None, refl, sym, ◌∙◌, ap, arith}
 use Rattle.std.specs.Prelude.{codes}
 use Rattle.std.specs.List.{AllByRecursion}
 use Rattle.std.proofs.lemmas.List.{append-nil}
@@ -12,15 +12,15 @@ use Rattle.dbus_auth_lines.specs.ServerCommands as server
 use Rattle.dbus_auth_lines.specs.Lines.{ended, client_line, server_line}
 use Rattle.dbus_auth_lines.specs.Cut.{IsPlain, IsLine}
 use Rattle.dbus_auth.specs.Machines.{ServerMachine, ClientMachine, ClientMechanism, auth_line, waits_in, mechanisms}
-use Rattle.dbus_auth.specs.Ends.{ServerEndState, ClientEndState, EndOutcome, server_takes, client_takes}
-use Rattle.dbus_auth.specs.World.{Wire, untaken, sending, World, Start, To_client, Server_writes, Client_writes, client_did, server_writes, client_writes, start_once, hand_client, happens, client_at_first, line_ends}
+use Rattle.dbus_auth.specs.Ends.{EndState, ServerEndState, ClientEndState, EndOutcome, Turn, after_turn, takes, server_takes, client_takes}
+use Rattle.dbus_auth.specs.World.{Wire, untaken, sending, taking, World, Start, To_client, Server_writes, Client_writes, client_did, server_writes, client_writes, start_once, hand_client, happens, line_ends}
 use Rattle.dbus_auth.specs.Mechanisms.{IsMechanism}
 use Rattle.dbus_auth.specs.declared.end_step.Status.TheVariants as status
 use Rattle.dbus_auth.specs.declared.states.ServerState.{ServerState}
 use Rattle.dbus_auth.specs.declared.states.ServerState.TheVariants as at
 use Rattle.dbus_auth.specs.declared.states.ClientState.{ClientState}
 use Rattle.dbus_auth.specs.declared.states.ClientState.TheVariants as now
-use Rattle.dbus_auth.proofs.Sides.{untaken-sending, IsWire, IsWire-sending, Carries, Carries-nil, Coming, later, first, ServerSide, ServerQuiet, ClientSide, ClientQuiet}
+use Rattle.dbus_auth.proofs.Sides.{Carries, Side, Quiet, Took, Quiet-sending, Quiet-nil, Side-nil, stays}
 
 -- ---- lines are counted by their ends
 
@@ -50,43 +50,41 @@ served w n = server_takes w.server (take n (untaken w.to_server))
 abbrev pub heard : World → ℕ → EndOutcome ClientEndState
 heard w n = client_takes w.client (take n (untaken w.to_client))
 
--- ---- nothing is sent
+-- ---- a line on its way
 
-pub sending_nil : (wire : Wire) (bytes : List ℕ) → IsWire wire → bytes ≡ [] → untaken (sending wire bytes) ≡ untaken wire
-sending_nil wire bytes h e = untaken-sending wire bytes h ∙ ap (λ (x : List ℕ). untaken wire ++ x) e ∙ append-nil (untaken wire)
+-- to an end that had started or not, while the other end waits for its answer
+pub record OnWay {M N : Type 0} (to : EndState M) (wire : Wire) (m : M) (z : Bool) (line : List ℕ) (from : EndState N) (back : Wire) (n : N) : Type 0 where
+  pub to_come : Side to wire m z (ended line ++ [])
+  pub waiting : Quiet from back n true
 
-pub ClientQuiet-nil : (e : ClientEndState) (wire : Wire) (c : ClientMachine) (bytes : List ℕ) → bytes ≡ [] → ClientQuiet e wire c → ClientQuiet e (sending wire bytes) c
-ClientQuiet-nil e wire c bytes nil s = record { end = s.end; carries = Carries-nil wire [] bytes nil s.carries }
+-- a machine answers by a line
+abbrev pub says : {M : Type 0} → M → List ℕ → Turn M
+says m line = record { next = m; send = ended line; status = status.Talking }
 
-pub ClientSide-nil : (e : ClientEndState) (wire : Wire) (c : ClientMachine) (more bytes : List ℕ) → bytes ≡ [] → ClientSide e wire c more → ClientSide e (sending wire bytes) c more
-ClientSide-nil e wire c more bytes nil s = record {
-  talking = s.talking;
-  is = s.is;
-  started = s.started;
-  wants = s.wants;
-  coming = ap (λ (x : List ℕ). e.kept ++ x) (sending_nil wire bytes s.on_wire nil) ∙ s.coming;
-  on_wire = IsWire-sending wire bytes s.on_wire;
+module _ {M N : Type 0} {to : EndState M} {wire : Wire} {m : M} {z : Bool} {line : List ℕ} {from : EndState N} {back : Wire} {n : N} where
+  -- more of the line is wanted
+  pub still : {after : EndState M} {past : Wire} {now : Bool} {send : List ℕ} → OnWay to wire m z line from back n → Side after past m now (ended line ++ []) → send ≡ [] → OnWay after past m now line from (sending back send) n
+  still a side nil = record { to_come = side; waiting = Quiet-nil nil a.waiting }
+
+  -- the other end is handed a piece
+  pub waits_still : (turn : N → List ℕ → Turn N) (k : ℕ) → OnWay to wire m z line from back n
+      → ((takes turn from (take k (untaken back))).send ≡ [])
+      × OnWay to (sending wire (takes turn from (take k (untaken back))).send) m z line (takes turn from (take k (untaken back))).after (taking back (takes turn from (take k (untaken back))).taken) n
+  waits_still turn k a =
+      let q = stays turn k a.waiting in
+      (q.send, record { to_come = Side-nil q.send a.to_come; waiting = q.quiet })
+
+  pub both_talk : OnWay to wire m z line from back n → (to.status ≡ status.Talking) × (from.status ≡ status.Talking) × (to.started ≡ z) × (from.started ≡ true)
+  both_talk a = (a.to_come.talking, ap (λ (x : EndState N). x.status) a.waiting.end, a.to_come.started, ap (λ (x : EndState N). x.started) a.waiting.end)
+
+-- the end took its line, and answers by another
+pub answers_by : {M N : Type 0} {outcome : EndOutcome (EndState M)} {wire : Wire} {t : Turn M} {from : EndState N} {back : Wire} {n : N}
+    → Quiet from back n true → Took outcome wire t [] → (reply : List ℕ) (next : M) → t ≡ says next reply
+    → OnWay from (sending back outcome.send) n true reply outcome.after (taking wire outcome.taken) next
+answers_by {M = M} q t reply next is = record {
+  to_come = Quiet-sending (ended reply ++ []) q (t.send ∙ ap (λ (x : Turn M). x.send) is ∙ sym (append-nil (ended reply)));
+  waiting = record { end = t.after ∙ ap after_turn is; carries = t.carries };
 }
-
-pub ServerQuiet-nil : (e : ServerEndState) (wire : Wire) (c : ServerMachine) (z : Bool) (bytes : List ℕ) → bytes ≡ [] → ServerQuiet e wire c z → ServerQuiet e (sending wire bytes) c z
-ServerQuiet-nil e wire c z bytes nil s = record { end = s.end; carries = Carries-nil wire [] bytes nil s.carries }
-
-pub Coming-more : (e : ServerEndState) (q bytes more : List ℕ) → Coming e q bytes → Coming e (q ++ more) (bytes ++ more)
-Coming-more e q bytes more (later z sum) = later z (sym (append_assoc e.kept q more) ∙ ap (λ (x : List ℕ). x ++ more) sum)
-Coming-more e q bytes more (first z k is) = first z k (ap (λ (x : List ℕ). x ++ more) is)
-
-pub ServerSide-more : (e : ServerEndState) (wire : Wire) (c : ServerMachine) (bytes more : List ℕ) → ServerSide e wire c bytes → ServerSide e (sending wire more) c (bytes ++ more)
-ServerSide-more e wire c bytes more s = record {
-  talking = s.talking;
-  is = s.is;
-  wants = s.wants;
-  coming = rw (untaken-sending wire more s.on_wire) (Coming-more e (untaken wire) bytes more s.coming);
-  on_wire = IsWire-sending wire more s.on_wire;
-}
-
-pub ServerSide-nil : (e : ServerEndState) (wire : Wire) (c : ServerMachine) (more bytes : List ℕ) → bytes ≡ [] → ServerSide e wire c more → ServerSide e (sending wire bytes) c more
-ServerSide-nil e wire c more bytes nil s =
-    subst (λ (b : List ℕ). ServerSide e (sending wire bytes) c b) (ap (λ (x : List ℕ). more ++ x) nil ∙ append-nil more) (ServerSide-more e wire c more bytes s)
 
 -- ---- the stages of a handshake
 
@@ -101,74 +99,70 @@ pub record Unsaid (client_wrote server_wrote : List ℕ) : Type 0 where
   pub client : client_wrote ≡ []
   pub server : server_wrote ≡ []
 
--- the client's line is on its way
-pub record Asking (w : World) (server : ServerMachine) (line : ClientCommand) (c : ClientMachine) : Type 0 where
-  pub to_come : ServerSide w.server w.to_server server (ended (client_line line) ++ [])
-  pub waiting : ClientQuiet w.client w.to_client c
-  pub unsaid : Unsaid w.client_wrote w.server_wrote
+abbrev pub ToServer : World → ServerMachine → Bool → ClientCommand → ClientMachine → Type 0
+ToServer w s z line c = OnWay w.server w.to_server s z (client_line line) w.client w.to_client c
 
--- the server's line is on its way
-pub record Answering (w : World) (server : ServerMachine) (line : ServerCommand) (c : ClientMachine) : Type 0 where
-  pub waiting : ServerQuiet w.server w.to_server server true
-  pub to_come : ClientSide w.client w.to_client c (ended (server_line line) ++ [])
-  pub unsaid : Unsaid w.client_wrote w.server_wrote
+abbrev pub ToClient : World → ClientMachine → ServerCommand → ServerMachine → Type 0
+ToClient w c line s = OnWay w.client w.to_client c true (server_line line) w.server w.to_server s
 
 abbrev pub IsAwaiting : ClientState → Type 0
 IsAwaiting state = (state ≡ now.WaitingForOk) ⊎ (state ≡ now.WaitingForData)
+
+-- a line is on its way. s: the server as it was made; all: the client's mechanisms
+pub data Exchange (s : ServerMachine) (all : List ClientMechanism) (w : World) : Type 0 where
+  asked : (z : Bool) (m : ClientMechanism) (left : List ClientMechanism) → IsMechanism m → AllByRecursion IsMechanism left
+      → line_ends w.client_said + 2 * length left + 1 ≤ 2 * length all
+      → ToServer w (at_state s at.WaitingForAuth) z (auth_line m) (talks_as (waits_in m) left) → Exchange s all w
+  gave_data : (left : List ClientMechanism) → AllByRecursion IsMechanism left
+      → line_ends w.client_said + 2 * length left ≤ 2 * length all
+      → ToServer w (at_state s at.WaitingForData) true (client.DataOf []) (talks_as now.WaitingForOk left) → Exchange s all w
+  rejected : (state : ClientState) (left : List ClientMechanism) → IsAwaiting state → AllByRecursion IsMechanism left
+      → line_ends w.client_said + 2 * length left ≤ 2 * length all
+      → ToClient w (talks_as state left) (server.Rejected (mechanisms s)) (at_state s at.WaitingForAuth) → Exchange s all w
+  accepted : (state : ClientState) (left : List ClientMechanism) → IsAwaiting state
+      → line_ends w.client_said ≤ 2 * length all
+      → ToClient w (talks_as state left) (server.Accepted s.guid) (at_state s at.WaitingForBegin) → Exchange s all w
+  wants_data : (left : List ClientMechanism) → AllByRecursion IsMechanism left
+      → line_ends w.client_said + 2 * length left + 1 ≤ 2 * length all
+      → ToClient w (talks_as now.WaitingForData left) (server.DataOf []) (at_state s at.WaitingForData) → Exchange s all w
 
 -- the client has begun
 pub record HasBegun (e : ClientEndState) (guid : List ℕ) : Type 0 where
   pub status : e.status ≡ status.Begun
   pub started : e.started ≡ true
-  pub guid_is : e.client.guid ≡ Some guid
+  pub guid_is : e.machine.guid ≡ Some guid
 
 pub record ClientBegan (e : ClientEndState) (wire : Wire) (server_wrote guid : List ℕ) : Type 0 where
   pub end : HasBegun e guid
   pub carries : Carries wire server_wrote
-  pub open carries use *
 
 pub record ServerBegan (e : ServerEndState) (wire : Wire) (client_wrote : List ℕ) : Type 0 where
   pub status : e.status ≡ status.Begun
-  pub state_is : e.server.state ≡ at.Begun
+  pub state_is : e.machine.state ≡ at.Begun
   pub carries : Carries wire client_wrote
-  pub open carries use *
+
+-- a server whose client has begun: BEGIN is on its way, or was taken
+pub data Follows (s : ServerMachine) (w : World) : Type 0 where
+  confirming : Side w.server w.to_server (at_state s at.WaitingForBegin) true (ended (codes "BEGIN") ++ w.client_wrote) → w.server_wrote ≡ [] → Follows s w
+  both : ServerBegan w.server w.to_server w.client_wrote → Follows s w
 
 pub record ClientClosed (e : ClientEndState) (wire : Wire) : Type 0 where
   pub status : e.status ≡ status.Closed
   pub started : e.started ≡ true
   pub carries : Carries wire []
 
-pub record Fresh (w : World) (s : ServerMachine) (all : List ClientMechanism) : Type 0 where
-  pub client_is : w.client ≡ client_at_first all
-  pub server_is : ServerQuiet w.server w.to_server (at_state s at.WaitingForAuth) false
-  pub carries : Carries w.to_client []
+pub record Fresh (s : ServerMachine) (all : List ClientMechanism) (w : World) : Type 0 where
+  pub server : Quiet w.server w.to_server (at_state s at.WaitingForAuth) false
+  pub client : Quiet w.client w.to_client (talks_as now.Fresh all) false
   pub said : w.client_said ≡ []
   pub unsaid : Unsaid w.client_wrote w.server_wrote
 
--- s: the server as it was made; all: the client's mechanisms
 pub data Stage (s : ServerMachine) (all : List ClientMechanism) (w : World) : Type 0 where
-  fresh : Fresh w s all → Stage s all w
-  asked : (m : ClientMechanism) (left : List ClientMechanism) → IsMechanism m → AllByRecursion IsMechanism left
-      → line_ends w.client_said + 2 * length left + 1 ≤ 2 * length all
-      → Asking w (at_state s at.WaitingForAuth) (auth_line m) (talks_as (waits_in m) left) → Stage s all w
-  gave_data : (left : List ClientMechanism) → AllByRecursion IsMechanism left
-      → line_ends w.client_said + 2 * length left ≤ 2 * length all
-      → Asking w (at_state s at.WaitingForData) (client.DataOf []) (talks_as now.WaitingForOk left) → Stage s all w
-  rejected : (state : ClientState) (left : List ClientMechanism) → IsAwaiting state → AllByRecursion IsMechanism left
-      → line_ends w.client_said + 2 * length left ≤ 2 * length all
-      → Answering w (at_state s at.WaitingForAuth) (server.Rejected (mechanisms s)) (talks_as state left) → Stage s all w
-  accepted : (state : ClientState) (left : List ClientMechanism) → IsAwaiting state
-      → line_ends w.client_said ≤ 2 * length all
-      → Answering w (at_state s at.WaitingForBegin) (server.Accepted s.guid) (talks_as state left) → Stage s all w
-  wants_data : (left : List ClientMechanism) → AllByRecursion IsMechanism left
-      → line_ends w.client_said + 2 * length left + 1 ≤ 2 * length all
-      → Answering w (at_state s at.WaitingForData) (server.DataOf []) (talks_as now.WaitingForData left) → Stage s all w
-  confirming : line_ends w.client_said ≤ 2 * length all + 1
-      → ServerSide w.server w.to_server (at_state s at.WaitingForBegin) (ended (codes "BEGIN") ++ w.client_wrote)
-      → ClientBegan w.client w.to_client w.server_wrote s.guid → w.server_wrote ≡ [] → Stage s all w
-  both : line_ends w.client_said ≤ 2 * length all + 1 → ServerBegan w.server w.to_server w.client_wrote → ClientBegan w.client w.to_client w.server_wrote s.guid → Stage s all w
+  fresh : Fresh s all w → Stage s all w
+  speaks : Exchange s all w → Unsaid w.client_wrote w.server_wrote → Stage s all w
+  began : line_ends w.client_said ≤ 2 * length all + 1 → ClientBegan w.client w.to_client w.server_wrote s.guid → Follows s w → Stage s all w
   over : (z : Bool) → line_ends w.client_said ≤ 2 * length all + 1
-      → ServerQuiet w.server w.to_server (at_state s at.WaitingForAuth) z → ClientClosed w.client w.to_client → Unsaid w.client_wrote w.server_wrote → Stage s all w
+      → Quiet w.server w.to_server (at_state s at.WaitingForAuth) z → ClientClosed w.client w.to_client → Unsaid w.client_wrote w.server_wrote → Stage s all w
 
 -- ---- events that change nothing
 

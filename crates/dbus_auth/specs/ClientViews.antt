@@ -1,6 +1,6 @@
 -- The client's state machine as contracts see it.
 use Rattle.std.specs.Prelude.{ℕ, Bool, true, nat_le, List, map, drop, length, Option, Some, None}
-use Rattle.dbus_auth.specs.Machines.{ClientMachine, ClientStep, ClientAction, ClientMechanism, External, Anonymous}
+use Rattle.dbus_auth.specs.Machines.{ClientMachine, ClientStep, ClientAction, Sends, Begins, Disconnects, ClientMechanism, External, Anonymous}
 use Rattle.dbus_auth_lines.specs.LineViews.{client_command}
 use Rattle.dbus_auth.specs.declared.states.ClientState.{ClientState}
 use Rattle.dbus_auth.specs.declared.states.ClientState.TheVariants as now
@@ -54,9 +54,9 @@ abbrev pub fresh_client : {A : Type 0} → List (Mechanism A) → ClientMachine
 fresh_client mechanisms = record { state = now.Fresh; left = map client_mechanism mechanisms; guid = None }
 
 abbrev pub client_action : {A : Type 0} → ClientAct A → ClientAction
-client_action (act.Send line) = ClientAction.Sends (client_command line)
-client_action act.Begin = ClientAction.Begins
-client_action act.Disconnect = ClientAction.Disconnects
+client_action (act.Send line) = Sends (client_command line)
+client_action act.Begin = Begins
+client_action act.Disconnect = Disconnects
 
 abbrev pub shown_client : {A : Type 0} → ClientAct A → Client A → ClientStep
 shown_client act c = record { action = client_action act; next = client_machine c }

@@ -5,8 +5,6 @@ pub mod World
 pub mod AnyPeer
 pub mod ServerViews
 pub mod ClientViews
-pub mod ServerAnswers
-pub mod ClientAnswers
 pub mod EndStepViews
 pub mod ServerEndViews
 pub mod ClientEndViews

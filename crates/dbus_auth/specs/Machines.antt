@@ -12,6 +12,19 @@ use Rattle.dbus_auth.specs.declared.states.ServerState.TheVariants as at
 use Rattle.dbus_auth.specs.declared.states.ClientState.{ClientState}
 use Rattle.dbus_auth.specs.declared.states.ClientState.TheVariants as now
 
+-- ---- a row
+
+-- what a machine does; L: the lines of its side
+pub data Action (L : Type 0) : Type 0 where
+  Sends : (line : L) → Action L
+  Begins : Action L
+  Disconnects : Action L
+
+-- and what its state is then
+pub record Step (L S : Type 0) : Type 0 where
+  pub action : Action L
+  pub next : S
+
 -- ---- the server
 
 pub record ServerMachine : Type 0 where
@@ -21,14 +34,11 @@ pub record ServerMachine : Type 0 where
   pub anonymous : Bool
   pub state : ServerState
 
-pub data ServerAction : Type 0 where
-  Sends : (line : ServerCommand) → ServerAction
-  Begins : ServerAction
-  Disconnects : ServerAction
+abbrev pub ServerAction : Type 0
+ServerAction = Action ServerCommand
 
-pub record ServerStep : Type 0 where
-  pub action : ServerAction
-  pub next : ServerState
+abbrev pub ServerStep : Type 0
+ServerStep = Step ServerCommand ServerState
 
 -- the decimal text of the user, without leading zeros
 abbrev pub is_user : Option ℕ → List ℕ → Bool
@@ -119,14 +129,11 @@ pub record ClientMachine : Type 0 where
   pub left : List ClientMechanism
   pub guid : Option (List ℕ)
 
-pub data ClientAction : Type 0 where
-  Sends : (line : ClientCommand) → ClientAction
-  Begins : ClientAction
-  Disconnects : ClientAction
+abbrev pub ClientAction : Type 0
+ClientAction = Action ClientCommand
 
-pub record ClientStep : Type 0 where
-  pub action : ClientAction
-  pub next : ClientMachine
+abbrev pub ClientStep : Type 0
+ClientStep = Step ClientCommand ClientMachine
 
 abbrev pub auth_line : ClientMechanism → ClientCommand
 auth_line (External None) = client.AuthBy (codes "EXTERNAL") []
@@ -140,17 +147,17 @@ waits_in (Anonymous trace) = now.WaitingForOk
 
 -- AUTH of the next mechanism, or the end
 abbrev pub next_of : List ClientMechanism → ClientStep
-next_of [] = record { action = ClientAction.Disconnects; next = record { state = now.Closed; left = []; guid = None } }
-next_of (m ∷ ms) = record { action = ClientAction.Sends (auth_line m); next = record { state = waits_in m; left = ms; guid = None } }
+next_of [] = record { action = Disconnects; next = record { state = now.Closed; left = []; guid = None } }
+next_of (m ∷ ms) = record { action = Sends (auth_line m); next = record { state = waits_in m; left = ms; guid = None } }
 
 abbrev pub asks : ClientCommand → ClientState → List ClientMechanism → ClientStep
-asks line state left = record { action = ClientAction.Sends line; next = record { state = state; left = left; guid = None } }
+asks line state left = record { action = Sends line; next = record { state = state; left = left; guid = None } }
 
 abbrev pub begins : List ℕ → List ClientMechanism → ClientStep
-begins guid left = record { action = ClientAction.Begins; next = record { state = now.Begun; left = left; guid = Some guid } }
+begins guid left = record { action = Begins; next = record { state = now.Begun; left = left; guid = Some guid } }
 
 abbrev pub closes : List ClientMechanism → ClientStep
-closes left = record { action = ClientAction.Disconnects; next = record { state = now.Closed; left = left; guid = None } }
+closes left = record { action = Disconnects; next = record { state = now.Closed; left = left; guid = None } }
 
 abbrev pub client_waiting_for_data : List ClientMechanism → ServerCommand → ClientStep
 client_waiting_for_data left (server.DataOf bytes) = asks (client.DataOf []) now.WaitingForOk left
@@ -174,9 +181,9 @@ abbrev pub client_step_at : ClientMachine → ClientState → ServerCommand → 
 client_step_at c now.WaitingForData line = client_waiting_for_data c.left line
 client_step_at c now.WaitingForOk line = client_waiting_for_ok c.left line
 client_step_at c now.WaitingForReject line = client_waiting_for_reject c.left line
-client_step_at c now.Fresh line = record { action = ClientAction.Disconnects; next = c }
-client_step_at c now.Begun line = record { action = ClientAction.Disconnects; next = c }
-client_step_at c now.Closed line = record { action = ClientAction.Disconnects; next = c }
+client_step_at c now.Fresh line = record { action = Disconnects; next = c }
+client_step_at c now.Begun line = record { action = Disconnects; next = c }
+client_step_at c now.Closed line = record { action = Disconnects; next = c }
 
 unfoldable pub client_step : ClientMachine → ServerCommand → ClientStep
 client_step c line = client_step_at c c.state line

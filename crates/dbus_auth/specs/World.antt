@@ -2,7 +2,7 @@
 -- handshake. D-Bus Specification, "Authentication Protocol".
 use Rattle.std.specs.Prelude.{ℕ, ◌+◌, ◌*◌, ◌≤◌, ◌≡◌, ◌⊎◌, ◌==◌, Bool, true, false, List, [], ◌∷◌, ◌++◌, length, take, drop, Some, None, count_by}
 use Rattle.dbus_auth.specs.Machines.{ServerMachine, ClientMechanism}
-use Rattle.dbus_auth.specs.Ends.{ServerEndState, ClientEndState, EndOutcome, server_takes, client_takes, client_starts}
+use Rattle.dbus_auth.specs.Ends.{ServerEndState, ClientEndState, EndOutcome, not_started, server_takes, client_takes, client_starts}
 use Rattle.dbus_auth.specs.declared.end_step.Status.{Status}
 use Rattle.dbus_auth.specs.declared.end_step.Status.TheVariants as status
 use Rattle.dbus_auth.specs.declared.states.ServerState.TheVariants as at
@@ -43,69 +43,35 @@ pub data Event : Type 0 where
   Client_writes : (bytes : List ℕ) → Event
 
 -- what becomes of the world by a call of an end
-abbrev pub starts : World → EndOutcome ClientEndState → World
-starts w outcome = record {
-  server = w.server;
-  client = outcome.after;
-  to_server = sending w.to_server outcome.send;
-  to_client = w.to_client;
-  client_said = w.client_said ++ outcome.send;
-  client_wrote = w.client_wrote;
-  server_wrote = w.server_wrote;
-}
-
 abbrev pub server_did : World → EndOutcome ServerEndState → World
-server_did w outcome = record {
+server_did w outcome = record w {
   server = outcome.after;
-  client = w.client;
   to_server = taking w.to_server outcome.taken;
   to_client = sending w.to_client outcome.send;
-  client_said = w.client_said;
-  client_wrote = w.client_wrote;
-  server_wrote = w.server_wrote;
 }
 
 abbrev pub client_did : World → EndOutcome ClientEndState → World
-client_did w outcome = record {
-  server = w.server;
+client_did w outcome = record w {
   client = outcome.after;
   to_server = sending w.to_server outcome.send;
   to_client = taking w.to_client outcome.taken;
   client_said = w.client_said ++ outcome.send;
-  client_wrote = w.client_wrote;
-  server_wrote = w.server_wrote;
 }
 
 abbrev pub server_writes : World → List ℕ → Status → World
-server_writes w bytes status.Begun = record {
-  server = w.server;
-  client = w.client;
-  to_server = w.to_server;
-  to_client = sending w.to_client bytes;
-  client_said = w.client_said;
-  client_wrote = w.client_wrote;
-  server_wrote = w.server_wrote ++ bytes;
-}
+server_writes w bytes status.Begun = record w { to_client = sending w.to_client bytes; server_wrote = w.server_wrote ++ bytes }
 server_writes w bytes status.Talking = w
 server_writes w bytes status.Closed = w
 
 abbrev pub client_writes : World → List ℕ → Status → World
-client_writes w bytes status.Begun = record {
-  server = w.server;
-  client = w.client;
-  to_server = sending w.to_server bytes;
-  to_client = w.to_client;
-  client_said = w.client_said;
-  client_wrote = w.client_wrote ++ bytes;
-  server_wrote = w.server_wrote;
-}
+client_writes w bytes status.Begun = record w { to_server = sending w.to_server bytes; client_wrote = w.client_wrote ++ bytes }
 client_writes w bytes status.Talking = w
 client_writes w bytes status.Closed = w
 
 -- the client starts once
 abbrev pub start_once : World → Bool → World
 start_once w true = w
-start_once w false = starts w (client_starts w.client)
+start_once w false = client_did w (client_starts w.client)
 
 -- nothing is handed to a client that has not started
 abbrev pub hand_client : World → ℕ → Bool → World
@@ -126,20 +92,10 @@ run (e ∷ es) w = run es (happens w e)
 
 -- a server in its first state
 abbrev pub server_at_first : ServerMachine → ServerEndState
-server_at_first s = record {
-  server = record s { state = at.WaitingForAuth };
-  zero_taken = false;
-  kept = [];
-  status = status.Talking;
-}
+server_at_first s = not_started (record s { state = at.WaitingForAuth })
 
 abbrev pub client_at_first : List ClientMechanism → ClientEndState
-client_at_first mechanisms = record {
-  client = record { state = now.Fresh; left = mechanisms; guid = None };
-  started = false;
-  kept = [];
-  status = status.Talking;
-}
+client_at_first mechanisms = not_started (record { state = now.Fresh; left = mechanisms; guid = None })
 
 abbrev pub silent : Wire
 silent = record { sent = []; took = 0 }
@@ -162,8 +118,8 @@ line_ends bytes = count_by (λ b. b == 10) bytes
 -- what holds of every handshake of this server and a client of these mechanisms
 pub record Handshake (s : ServerMachine) (mechanisms : List ClientMechanism) (w : World) : Type 0 where
   pub client_began : w.server.status ≡ status.Begun → w.client.status ≡ status.Begun
-  pub same_guid : w.client.status ≡ status.Begun → w.client.client.guid ≡ Some s.guid
-  pub server_stands : w.client.status ≡ status.Begun → (w.server.server.state ≡ at.WaitingForBegin) ⊎ (w.server.server.state ≡ at.Begun)
+  pub same_guid : w.client.status ≡ status.Begun → w.client.machine.guid ≡ Some s.guid
+  pub server_stands : w.client.status ≡ status.Begun → (w.server.machine.state ≡ at.WaitingForBegin) ⊎ (w.server.machine.state ≡ at.Begun)
   -- nothing after BEGIN was taken, and nothing else is left
   pub to_server : w.server.status ≡ status.Begun → untaken w.to_server ≡ w.client_wrote
   -- nothing after the line of OK was taken

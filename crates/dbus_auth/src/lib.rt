@@ -27,6 +27,7 @@
 mod client;
 mod client_end;
 mod copies;
+mod end;
 mod end_step;
 pub mod laws;
 mod server;

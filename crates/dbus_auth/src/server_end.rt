@@ -1,95 +1,65 @@
 //! The server's end of a connection: its state machine over bytes that come in pieces.
 
-ghost use Rattle.std.specs.Prelude.{◌≡◌, ◌++◌, ◌+◌, ◌≤◌, ℕ, [], ◌-◌, IfOk, OnErr, length, take};
-ghost use Rattle.dbus_auth_lines.specs.Cut.{cut, Ends, More};
-ghost use Rattle.dbus_auth_lines.specs.CutterViews.{IsWithin};
-ghost use Rattle.dbus_auth_lines.specs.Lines.{client_meaning};
-ghost use Rattle.dbus_auth.specs.Machines.{server_step};
-ghost use Rattle.dbus_auth.specs.ServerViews.{server_machine};
-ghost use Rattle.dbus_auth.specs.Ends.{server_cuts, server_takes};
-ghost use Rattle.dbus_auth.specs.ServerAnswers.{IsServerReply};
+ghost use Rattle.std.specs.Prelude.{◌≡◌, IfOk, OnErr};
+ghost use Rattle.dbus_auth.specs.Ends.{server_sends, server_takes, server_turn, status_after};
+ghost use Rattle.dbus_auth.specs.EndStepViews.{DidStep, IsReply};
+ghost use Rattle.dbus_auth.specs.Machines.{ServerMachine};
+ghost use Rattle.dbus_auth.specs.ServerViews.{server_action, server_machine};
 
+use crate::end::{End, Machine, Reply};
 use crate::end_step::{EndStep, Status};
 use crate::server::{Server, ServerAct};
-use crate::states::ServerState;
 use dbus_auth_lines::read_client;
-use dbus_auth_lines::scanning::{Found, find, line_of};
 use dbus_auth_lines::writing::server_bytes;
 use std::alloc::{AllocError, Allocator, Global};
+
+impl<A: Allocator + Copy> Machine<A> for Server {
+    ghost State = { ServerMachine };
+
+    ghost shown = { server_machine };
+
+    ghost turn = { server_turn };
+
+    fn answer(&mut self, alloc: A, line: &[u8]) -> Result<Reply<A>, AllocError> {
+        let said = read_client(alloc, line)?;
+        let (act, next) = self.step(alloc, &said)?;
+        let reply = reply_to(alloc, &act)?;
+        self.go_to(next);
+        Ok(reply)
+    }
+}
+
+/// What an act sends, and where the end stands then.
+fn reply_to<A: Allocator + Copy>(alloc: A, act: &ServerAct<A>) -> Result<Reply<A>, AllocError>
+    ensures { IfOk result (λ r.
+        IsReply r (server_sends (server_action act.now)) (status_after (server_action act.now))) }
+{
+    let (send, status) = match act {
+        ServerAct::Send(line) => (server_bytes(alloc, line)?, Status::Talking),
+        ServerAct::Begin => (Vec::new(alloc), Status::Begun),
+        ServerAct::Disconnect => (Vec::new(alloc), Status::Closed),
+    };
+    Ok(Reply { send, status })
+}
 
 /// The server's end of a connection. It keeps the bytes of an unfinished line, at most 16,383.
 #[derive(Drop)]
 pub struct ServerEnd<A: Allocator = Global> {
-    alloc: A,
-    server: Server,
-    zero_taken: bool,
-    kept: Vec<u8, A>,
-    status: Status,
-    ghost asks_for_more: { cut kept.items ≡ More },
-}
-
-/// What the state machine answers to a line.
-#[derive(Drop)]
-pub struct ServerReply<A: Allocator> {
-    send: Vec<u8, A>,
-    next: ServerState,
-    status: Status,
-}
-
-/// What a server does on the line that ends in this piece: the first `size` bytes of `kept` and the
-/// piece, with CR LF.
-fn reply_of<A: Allocator + Copy>(
-    alloc: A,
-    server: &Server,
-    kept: &[u8],
-    piece: &[u8],
-    size: usize,
-) -> Result<ServerReply<A>, AllocError>
-    requires { IsWithin (length kept.now) (length piece.now) (Ends size) }
-    ensures { IfOk result (λ r.
-        IsServerReply r
-        (server_step (server_machine server.now)
-        (client_meaning (take (size - 2) (kept.now ++ piece.now))))) }
-{
-    let line = line_of(alloc, kept, piece, size)?;
-    let said = read_client(alloc, &line)?;
-    let (act, next) = server.step(alloc, &said)?;
-    match act {
-        ServerAct::Send(line) => Ok(ServerReply {
-            send: server_bytes(alloc, &line)?,
-            next,
-            status: Status::Talking,
-        }),
-        ServerAct::Begin => Ok(ServerReply {
-            send: Vec::new(alloc),
-            next,
-            status: Status::Begun,
-        }),
-        ServerAct::Disconnect => Ok(ServerReply {
-            send: Vec::new(alloc),
-            next,
-            status: Status::Closed,
-        }),
-    }
+    end: End<Server, A>,
 }
 
 impl<A: Allocator + Copy> ServerEnd<A> {
-    ghost use Rattle.dbus_auth.specs.ServerEndViews.{server_end_state, DidStep};
+    ghost use Rattle.dbus_auth.specs.ServerEndViews.{server_end_state};
     ghost use Rattle.dbus_auth.specs.World.{server_at_first};
     ghost use Rattle.dbus_auth.specs.declared.states.ServerState.TheVariants as at;
 
     /// The end of a server in its first state. It allocates nothing yet.
-    #[tactic(auto, using(dbus_auth_lines::proofs::Scans::cut_empty))]
     pub fn new(alloc: A, server: Server) -> Self
         requires { (server_machine server).state ≡ at.WaitingForAuth }
         ensures { server_end_state result ≡ server_at_first (server_machine server) }
     {
         ServerEnd {
-            alloc,
-            server,
-            zero_taken: false,
-            kept: Vec::new(alloc),
-            status: Status::Talking,
+            end: End::new(alloc, server),
         }
     }
 
@@ -119,83 +89,12 @@ impl<A: Allocator + Copy> ServerEnd<A> {
     ///     }
     /// }
     /// ```
-    #[tactic(auto, unfolding(crate::specs::Ends::server_takes))]
     pub fn take(&mut self, piece: &[u8]) -> Result<EndStep<A>, AllocError>
         ensures step { IfOk result (λ s.
             DidStep s (server_end_state self.new)
             (server_takes (server_end_state self.old) piece.now)) }
         ensures err { OnErr result (server_end_state self.new ≡ server_end_state self.old) }
     {
-        match self.status {
-            Status::Begun | Status::Closed => return Ok(self.nothing()),
-            Status::Talking => {}
-        }
-        if self.zero_taken {
-            return self.cut_line(0, piece);
-        }
-        match piece {
-            [] => Ok(self.nothing()),
-            [0, rest @ ..] => self.cut_line(1, rest),
-            _ => {
-                self.status = Status::Closed;
-                Ok(self.nothing())
-            }
-        }
-    }
-
-    /// The step that takes and sends nothing.
-    fn nothing(&self) -> EndStep<A>
-        ensures taken { result.taken ≡ 0 }
-        ensures send { result.send.items ≡ [] }
-        ensures status { result.status ≡ self.now.status }
-    {
-        EndStep {
-            taken: 0,
-            send: Vec::new(self.alloc),
-            status: self.status,
-        }
-    }
-
-    /// Takes the bytes up to the end of the line, or the whole piece. `skipped` bytes came before
-    /// it.
-    #[tactic(auto, using(dbus_auth_lines::proofs::Scans::cut_empty))]
-    fn cut_line(&mut self, skipped: usize, piece: &[u8]) -> Result<EndStep<A>, AllocError>
-        requires { skipped ≤ 1 }
-        ensures step { IfOk result (λ s.
-            DidStep s (server_end_state self.new)
-            (server_cuts (server_end_state self.old) skipped piece.now
-            (cut (self.old.kept.items ++ piece.now)))) }
-        ensures err { OnErr result (server_end_state self.new ≡ server_end_state self.old) }
-    {
-        match find(&self.kept, piece) {
-            Found::More => {
-                self.kept.extend_from_slice(piece)?;
-                self.zero_taken = true;
-                Ok(EndStep {
-                    taken: skipped + piece.len(),
-                    send: Vec::new(self.alloc),
-                    status: self.status,
-                })
-            }
-            Found::Bad(_) => {
-                self.status = Status::Closed;
-                Ok(self.nothing())
-            }
-            Found::Ends(size) => {
-                // all that can fail comes before the first change
-                let reply = reply_of(self.alloc, &self.server, &self.kept, piece, size)?;
-                let taken = skipped + (size - self.kept.len());
-                let ServerReply { send, next, status } = reply;
-                self.kept.clear();
-                self.server.go_to(next);
-                self.zero_taken = true;
-                self.status = status;
-                Ok(EndStep {
-                    taken,
-                    send,
-                    status,
-                })
-            }
-        }
+        self.end.take(piece)
     }
 }

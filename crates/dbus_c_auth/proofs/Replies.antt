@@ -1,6 +1,6 @@
 -- What an end sends is short, and it stays an end of the same server or of a client of some
 -- mechanisms.
-use Rattle.std.proofs.Common.{◌≡◌, ℕ, ◌^◌, ◌<◌, ◌≤◌, ◌&&◌, ◌||◌, Bool, true, false, List, [], ◌∷◌, ◌++◌, length, Option, Some, None, if◌then◌else◌, ◌==◌, refl, sym, ap, ◌∙◌, subst, arith, lit≤, length-append}
+use Rattle.std.proofs.Common.{◌≡◌, ℕ, ◌^◌, ◌<◌, ◌≤◌, ◌&&◌, ◌||◌, Bool, true, false, List, [], ◌∷◌, ◌++◌, length, Option, Some, None, if◌then◌else◌, refl, sym, ap, ◌∙◌, subst, arith, lit≤, length-append}
 use Rattle.std.specs.Prelude.{codes, bytes_eq, decimal, take, ◌-◌, Result, Ok, Err, IfOk, OnErr}
 use Rattle.std.specs.List.{AllByRecursion}
 use Rattle.std.proofs.lemmas.Fmt.{length-decimal-le}
@@ -8,18 +8,18 @@ use Rattle.dbus_auth_lines.specs.ClientCommands.{ClientCommand}
 use Rattle.dbus_auth_lines.specs.ClientCommands as client
 use Rattle.dbus_auth_lines.specs.ServerCommands.{ServerCommand}
 use Rattle.dbus_auth_lines.specs.ServerCommands as server
-use Rattle.dbus_auth_lines.specs.Lines.{hex_word, server_line, client_line, ended, crlf, server_meaning}
+use Rattle.dbus_auth_lines.specs.Lines.{hex_word, server_line, client_line, ended, crlf, client_meaning, server_meaning}
 use Rattle.dbus_auth_lines.specs.Cut.{Cut, Ends, Bad, More, cut}
 use Rattle.dbus_auth_lines.proofs.PrintedWords.{length-hex_word}
 use Rattle.dbus_auth.specs.Machines.{ServerMachine, ServerStep, IsServer, server_step, server_step_at, by_mechanism, rejects, accepts, replies, is_user, is_empty, offers_external, external_words, ClientMachine, ClientMechanism, External, Anonymous, ClientStep, client_step, client_step_at, auth_line, next_of}
 use Rattle.dbus_auth.specs.Mechanisms.{IsMechanism}
-use Rattle.dbus_auth.specs.Ends.{ServerEndState, EndOutcome, server_takes, server_cuts, server_sends, server_first, server_talks, server_takes_at, ClientEndState, client_sends, client_greets, client_status, client_cuts, client_takes, client_takes_at, client_starts}
+use Rattle.dbus_auth.specs.Ends.{EndState, ServerEndState, ClientEndState, EndOutcome, Turn, cuts, takes, server_sends, server_turn, server_takes, client_sends, client_turn, client_greets, client_starts, status_after}
+use Rattle.dbus_auth.proofs.Outcomes.{takes_by}
 use Rattle.dbus_c_auth.specs.Taking.{client_goes_on, client_goes_on_at}
 use Rattle.dbus_auth.specs.declared.states.ServerState.{ServerState}
 use Rattle.dbus_auth.specs.declared.states.ServerState.TheVariants as at
 use Rattle.dbus_auth.specs.declared.states.ClientState.{ClientState}
 use Rattle.dbus_auth.specs.declared.states.ClientState.TheVariants as now
-use Rattle.dbus_auth.specs.declared.end_step.Status.{Status}
 use Rattle.dbus_auth.specs.declared.end_step.Status.TheVariants as status
 use Rattle.dbus_c_auth.specs.declared.step.TheConstants.{REPLY_ROOM}
 
@@ -82,41 +82,31 @@ module _ (s : ServerMachine) (is : length s.guid ≡ 16) where
   short_at at.Begun line = lit≤ tt
   short_at at.Closed line = lit≤ tt
 
--- a call of a server's end sends little, and leaves the server as it was made
-pub record ServerReply (outcome : EndOutcome ServerEndState) : Type 0 where
+-- ---- an end
+
+-- a call of an end sends little, and leaves a machine of this kind
+pub record Reply {M : Type 0} (P : M → Type 0) (outcome : EndOutcome (EndState M)) : Type 0 where
   pub fits : length outcome.send ≤ REPLY_ROOM
-  pub server : IsServer outcome.after.server
+  pub machine : P outcome.after.machine
 
-still : (s : ServerMachine) (state : ServerState) → IsServer s → IsServer (record s { state = state })
-still s state h = record { guid = h.guid; bytes = h.bytes; user = h.user }
+module _ {M : Type 0} (turn : M → List ℕ → Turn M) (P : M → Type 0) (short : (m : M) (line : List ℕ) → P m → (length (turn m line).send ≤ REPLY_ROOM) × P (turn m line).next)
+    (e : EndState M) (is : P e.machine) where
+  at_cut : (skipped : ℕ) (bs : List ℕ) (how : Cut) → Reply P (cuts turn e skipped bs how)
+  at_cut skipped bs (Ends size) = let s = short e.machine (take (size - 2) (e.kept ++ bs)) is in record { fits = s.0; machine = s.1 }
+  at_cut skipped bs (Bad fault) = record { fits = lit≤ tt; machine = is }
+  at_cut skipped bs More = record { fits = lit≤ tt; machine = is }
 
-module _ (e : ServerEndState) (is : IsServer e.server) where
-  at_cut : (skipped : ℕ) (bs : List ℕ) (how : Cut) → ServerReply (server_cuts e skipped bs how)
-  unfolding server_step
-  at_cut skipped bs (Ends size) = record { fits = short_at e.server is.guid e.server.state _; server = still e.server _ is }
-  at_cut skipped bs (Bad fault) = record { fits = lit≤ tt; server = is }
-  at_cut skipped bs More = record { fits = lit≤ tt; server = is }
+  end_reply : (piece : List ℕ) → Reply P (takes turn e piece)
+  end_reply piece =
+      takes_by turn (Reply P) e (record { fits = lit≤ tt; machine = is }) (record { fits = lit≤ tt; machine = is }) (λ skipped bs. at_cut skipped bs (cut (e.kept ++ bs))) piece
 
-  first : (b : Bool) (bs : List ℕ) → ServerReply (if b then server_cuts e 1 bs (cut (e.kept ++ bs)) else record { after = record e { status = status.Closed }; taken = 0; send = [] })
-  first true bs = at_cut 1 bs (cut (e.kept ++ bs))
-  first false bs = record { fits = lit≤ tt; server = is }
+-- it leaves the server as it was made
+server_short : (s : ServerMachine) (line : List ℕ) → IsServer s → (length (server_turn s line).send ≤ REPLY_ROOM) × IsServer (server_turn s line).next
+unfolding server_step
+server_short s line is = (short_at s is.guid s.state (client_meaning line), record { guid = is.guid; bytes = is.bytes; user = is.user })
 
-  at_first : (piece : List ℕ) → ServerReply (server_first e piece)
-  at_first [] = record { fits = lit≤ tt; server = is }
-  at_first (b ∷ bs) = first (b == 0) bs
-
-  talks : (piece : List ℕ) (zero_taken : Bool) → ServerReply (server_talks e piece zero_taken)
-  talks piece true = at_cut 0 piece (cut (e.kept ++ piece))
-  talks piece false = at_first piece
-
-  at_status : (piece : List ℕ) (stands : Status) → ServerReply (server_takes_at e piece stands)
-  at_status piece status.Talking = talks piece e.zero_taken
-  at_status piece status.Begun = record { fits = lit≤ tt; server = is }
-  at_status piece status.Closed = record { fits = lit≤ tt; server = is }
-
-  pub server_reply : (piece : List ℕ) → ServerReply (server_takes e piece)
-  unfolding server_takes
-  server_reply piece = at_status piece e.status
+pub server_reply : (e : ServerEndState) → IsServer e.machine → (piece : List ℕ) → Reply IsServer (server_takes e piece)
+server_reply = end_reply server_turn IsServer server_short
 
 -- ---- a client
 
@@ -159,54 +149,43 @@ module _ (c : ClientMachine) (h : AllByRecursion IsMechanism c.left) where
   tries_at now.Begun line = (lit≤ tt, h)
   tries_at now.Closed line = (lit≤ tt, h)
 
--- a call of a client's end sends little, and leaves mechanisms to try
-pub record ClientReply (outcome : EndOutcome ClientEndState) : Type 0 where
-  pub fits : length outcome.send ≤ REPLY_ROOM
-  pub left : AllByRecursion IsMechanism outcome.after.client.left
+-- mechanisms are left to try
+abbrev pub CanTry : ClientMachine → Type 0
+CanTry c = AllByRecursion IsMechanism c.left
 
-module _ (e : ClientEndState) (h : AllByRecursion IsMechanism e.client.left) where
-  client_at_cut : (bs : List ℕ) (how : Cut) → ClientReply (client_cuts e bs how)
-  unfolding client_step
-  client_at_cut bs (Ends size) =
-      let tries = tries_at e.client h e.client.state (server_meaning (take (size - 2) (e.kept ++ bs))) in
-      record { fits = omega (arith, tries.0); left = tries.1 }
-  client_at_cut bs (Bad fault) = record { fits = lit≤ tt; left = h }
-  client_at_cut bs More = record { fits = lit≤ tt; left = h }
-
-  client_at_status : (piece : List ℕ) (stands : Status) → ClientReply (client_takes_at e piece stands)
-  client_at_status piece status.Talking = client_at_cut piece (cut (e.kept ++ piece))
-  client_at_status piece status.Begun = record { fits = lit≤ tt; left = h }
-  client_at_status piece status.Closed = record { fits = lit≤ tt; left = h }
+client_short : (c : ClientMachine) (line : List ℕ) → CanTry c → (length (client_turn c line).send ≤ REPLY_ROOM) × CanTry (client_turn c line).next
+unfolding client_step
+client_short c line h = let tries = tries_at c h c.state (server_meaning line) in (omega (arith, tries.0), tries.1)
 
 greets : (left : List ClientMechanism) → AllByRecursion IsMechanism left → length (client_greets (next_of left).action) ≤ REPLY_ROOM
 greets [] h = lit≤ tt
 greets (m ∷ ms) h = omega (arith, auth_short m h.0)
 
-pub client_reply : (e : ClientEndState) → AllByRecursion IsMechanism e.client.left → (piece : List ℕ) (started : Bool) → ClientReply (client_goes_on_at e piece started)
-unfolding client_takes client_starts
-client_reply e h piece true = client_at_status e h piece e.status
-client_reply e h piece false = record { fits = greets e.client.left h; left = (tries_next e.client.left h).1 }
+pub client_reply : (e : ClientEndState) → CanTry e.machine → (piece : List ℕ) (started : Bool) → Reply CanTry (client_goes_on_at e piece started)
+unfolding client_starts
+client_reply e h piece true = end_reply client_turn CanTry client_short e h piece
+client_reply e h piece false = record { fits = greets e.machine.left h; machine = (tries_next e.machine.left h).1 }
 
-greeted_as : (left : List ClientMechanism) → (if is_empty (client_greets (next_of left).action) then status.Closed else status.Talking) ≡ client_status (next_of left).action
+greeted_as : (left : List ClientMechanism) → (if is_empty (client_greets (next_of left).action) then status.Closed else status.Talking) ≡ status_after (next_of left).action
 greeted_as [] = refl
 greeted_as (m ∷ ms) = refl
 
 -- an end takes nothing at its start; without a mechanism it sends nothing, and is closed
 pub starts_as : (e : ClientEndState) → (0 ≡ (client_starts e).taken) × ((if is_empty (client_starts e).send then status.Closed else status.Talking) ≡ (client_starts e).after.status)
 unfolding client_starts
-starts_as e = (refl, greeted_as e.client.left)
+starts_as e = (refl, greeted_as e.machine.left)
 
 -- an end that has not started starts
 pub first_call : (e e' : ClientEndState) (piece : List ℕ) → e ≡ e' → e.started ≡ false → client_starts e ≡ client_goes_on e' piece
 first_call e e' piece same is = sym (ap (client_goes_on_at e piece) is) ∙ ap (λ (x : ClientEndState). client_goes_on x piece) same
 
 -- what is left to try are mechanisms, whether a call did its step or changed nothing
-pub left_after : {S : Type 0} {E : Type 0} (r : Result S E) (P : S → Type 0) (old new : ClientEndState) (outcome : EndOutcome ClientEndState) → ClientReply outcome → AllByRecursion IsMechanism old.client.left
-    → ((s : S) → P s → new ≡ outcome.after) → IfOk r P → OnErr r (new ≡ old) → AllByRecursion IsMechanism new.client.left
-left_after (Ok s) P old new outcome reply h is did same = subst (λ (e : ClientEndState). AllByRecursion IsMechanism e.client.left) (sym (is s did)) reply.left
-left_after (Err x) P old new outcome reply h is did same = subst (λ (e : ClientEndState). AllByRecursion IsMechanism e.client.left) (sym same) h
+pub left_after : {S : Type 0} {E : Type 0} (r : Result S E) (P : S → Type 0) (old new : ClientEndState) (outcome : EndOutcome ClientEndState) → Reply CanTry outcome → CanTry old.machine
+    → ((s : S) → P s → new ≡ outcome.after) → IfOk r P → OnErr r (new ≡ old) → CanTry new.machine
+left_after (Ok s) P old new outcome reply h is did same = subst (λ (e : ClientEndState). CanTry e.machine) (sym (is s did)) reply.machine
+left_after (Err x) P old new outcome reply h is did same = subst (λ (e : ClientEndState). CanTry e.machine) (sym same) h
 
-pub short_after : {S : Type 0} {E : Type 0} (r : Result S E) (P : S → Type 0) (send : S → List ℕ) (outcome : EndOutcome ClientEndState) → ClientReply outcome
+pub short_after : {S : Type 0} {E : Type 0} (r : Result S E) (P : S → Type 0) (send : S → List ℕ) (outcome : EndOutcome ClientEndState) → Reply CanTry outcome
     → ((s : S) → P s → send s ≡ outcome.send) → IfOk r P → IfOk r (λ s. length (send s) ≤ REPLY_ROOM)
 short_after (Ok s) P send outcome reply is did = subst (λ (sent : List ℕ). length sent ≤ REPLY_ROOM) (sym (is s did)) reply.fits
 short_after (Err x) P send outcome reply is did = tt

@@ -48,7 +48,7 @@ stands_as (end.Client e) = e.status
 -- the server's GUID, of a client that has begun
 abbrev pub guid_in : Handshake → Option (List ℕ)
 guid_in (end.Server e) = None
-guid_in (end.Client e) = e.client.guid
+guid_in (end.Client e) = e.machine.guid
 
 -- an end takes a piece, and what it sends is written to the room; or nothing is changed
 abbrev pub TakesIn : Handshake → Handshake → List ℕ → List ℕ → List ℕ → Result Step TakeFault → Type 0

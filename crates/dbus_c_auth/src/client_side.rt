@@ -2,7 +2,7 @@
 #![tactic(auto)]
 
 ghost use Rattle.std.specs.Prelude.{◌≡◌, ◌<◌, ◌≤◌, ℕ, IfOk, IfErr, OnErr, length, option_map, if◌then◌else◌};
-ghost use Rattle.dbus_auth.specs.ClientEndViews.{DidClientStep};
+ghost use Rattle.dbus_auth.specs.EndStepViews.{DidStep};
 ghost use Rattle.dbus_auth.specs.Machines.{is_empty};
 ghost use Rattle.dbus_auth.specs.declared.end_step.Status.TheVariants as status;
 ghost use Rattle.dbus_c_auth.specs.declared.step.TheConstants.{REPLY_ROOM};
@@ -39,7 +39,7 @@ impl Model for ClientSide {
 
     ghost view = { λ c. client_end_state c.end };
 
-    ghost invariant = { λ c. AllByRecursion IsMechanism (client_end_state c.end).client.left ×
+    ghost invariant = { λ c. AllByRecursion IsMechanism (client_end_state c.end).machine.left ×
         (c.started ≡ (client_end_state c.end).started) };
 }
 
@@ -88,7 +88,7 @@ impl ClientSide {
 
     /// The server's GUID, once the client has begun.
     pub fn guid(&self) -> Option<Guid>
-        ensures { option_map (λ g. g.0) result ≡ self.now.client.guid }
+        ensures { option_map (λ g. g.0) result ≡ self.now.machine.guid }
     {
         self.end.guid()
     }
@@ -96,7 +96,7 @@ impl ClientSide {
     /// Starts the end, or hands it the piece.
     fn go_on(&mut self, piece: &[u8]) -> Result<EndStep, AllocError>
         ensures step { IfOk result (λ s.
-            DidClientStep s self.new (client_goes_on self.old piece.now)) }
+            DidStep s self.new (client_goes_on self.old piece.now)) }
         ensures short { IfOk result (λ s. length s.send.items ≤ REPLY_ROOM) }
         ensures err { OnErr result (self.new ≡ self.old) }
     {

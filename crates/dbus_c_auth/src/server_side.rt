@@ -32,7 +32,7 @@ impl Model for ServerSide {
 
     ghost view = { λ s. server_end_state s.end };
 
-    ghost invariant = { λ s. IsServer (server_end_state s.end).server };
+    ghost invariant = { λ s. IsServer (server_end_state s.end).machine };
 }
 
 impl ServerSide {

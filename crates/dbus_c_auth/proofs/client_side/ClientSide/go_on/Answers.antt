@@ -3,7 +3,8 @@ use Rattle.std.specs.List.{AllByRecursion}
 use Rattle.std.proofs.Common.{Global}
 use Rattle.dbus_auth.specs.Mechanisms.{IsMechanism}
 use Rattle.dbus_auth.specs.Machines.{is_empty}
-use Rattle.dbus_auth.specs.ClientEndViews.{client_end_state, DidClientStep}
+use Rattle.dbus_auth.specs.ClientEndViews.{client_end_state}
+use Rattle.dbus_auth.specs.EndStepViews.{DidStep}
 use Rattle.dbus_auth.specs.Ends.{ClientEndState, EndOutcome, client_takes}
 use Rattle.dbus_auth.specs.declared.end_step.EndStep.{EndStep}
 use Rattle.dbus_auth.specs.declared.end_step.Status.TheVariants as status
@@ -16,7 +17,7 @@ invariant_of-self c =
     let old = client_end_state c.self.inside.end in
     let new = client_end_state c.take.new.self in
     let outcome = client_takes old c.args.piece.now in (
-      left_after c.take.result (λ (s : EndStep Global). DidClientStep s new outcome) old new outcome (client_reply old c.self.invariant.0 c.args.piece.now true) c.self.invariant.0
+      left_after c.take.result (λ (s : EndStep Global). DidStep s new outcome) old new outcome (client_reply old c.self.invariant.0 c.args.piece.now true) c.self.invariant.0
           (λ s did. did.3) c.take.ensures.step c.take.ensures.err,
       c.if-self.true ∙ sym c.take.ensures.started,
     )
@@ -25,7 +26,7 @@ pub invariant_of-self-2 : goal.invariant_of-self-2
 invariant_of-self-2 c =
     let old = client_end_state c.self.inside.end in
     let reply = client_reply old c.self.invariant.0 c.args.piece.now false in
-    (subst (λ (e : ClientEndState). AllByRecursion IsMechanism e.client.left) (sym c.in_ok-send.ensures.after) reply.left, sym c.in_ok-send.ensures.started)
+    (subst (λ (e : ClientEndState). AllByRecursion IsMechanism e.machine.left) (sym c.in_ok-send.ensures.after) reply.machine, sym c.in_ok-send.ensures.started)
 
 pub returns-clause-step : goal.returns-clause-step
 returns-clause-step c =
@@ -47,5 +48,5 @@ pub returns-then-self-clause-short : goal.returns-then-self-clause-short
 returns-then-self-clause-short c =
     let old = client_end_state c.self.inside.end in
     let outcome = client_takes old c.args.piece.now in
-    short_after c.take.result (λ (s : EndStep Global). DidClientStep s (client_end_state c.take.new.self) outcome) (λ (s : EndStep Global). s.send.items) outcome
+    short_after c.take.result (λ (s : EndStep Global). DidStep s (client_end_state c.take.new.self) outcome) (λ (s : EndStep Global). s.send.items) outcome
     (client_reply old c.self.invariant.0 c.args.piece.now true) (λ s did. did.1) c.take.ensures.step

@@ -13,5 +13,5 @@ step_in-requires c =
 
 pub invariant_of-self-2 : goal.invariant_of-self-2
 invariant_of-self-2 c =
-    let stays = (server_reply (server_end_state c.self.inside.end) c.self.invariant c.args.piece.now).server in
-    subst (λ (e : ServerEndState). IsServer e.server) (sym c.in_ok-step.ensures.step.3) stays
+    let stays = (server_reply (server_end_state c.self.inside.end) c.self.invariant c.args.piece.now).machine in
+    subst (λ (e : ServerEndState). IsServer e.machine) (sym c.in_ok-step.ensures.step.3) stays
