@@ -3,9 +3,10 @@
 import re
 
 from growths import ask_made, with_growths
-from questions import Question, from_place, hexed, words_of
+from questions import FAULTS, Question, from_place, hexed, words_of
 from read_cases import read_bytes
 from seen import Message
+from streams import runs_of, stated_length
 
 # What comes after a case's bytes, and changes no answer.
 MORE = bytes.fromhex("00ff6c")
@@ -14,10 +15,14 @@ ORDERS = ("little", "big")
 # ---- Texts
 
 
-def said(verdict):
-    """A verdict as a check says it: it has no place of what is too long, and no form of names."""
-    word = verdict.split(" ")[0]
-    return "too long" if word == "too" else verdict if word == "bad" else "accepted"
+def said(kind, verdict):
+    """A verdict as the check of a kind says it: it has no place of what is too long, and no form of names."""
+    what = "signature" if kind in ("signature", "single") else "name"
+    if verdict.startswith("too long"):
+        return f"the {what} has more than 255 bytes"
+    if verdict.startswith("bad"):
+        return f"no {what if what == 'signature' else 'such name'}: it breaks at offset {verdict.split(' ')[1]}"
+    return "accepted"
 
 
 def ask_text(kind, text, verdict):
@@ -25,11 +30,11 @@ def ask_text(kind, text, verdict):
     about = f"{kind} {hexed(text)}"
     place = int(verdict.split(" ")[-1]) if verdict[-1].isdigit() else None
     scanned = f"ended {len(text)}" if place is None else f"taken {place}"
+    first = len(text) if place is None else place
+    checked = "no check" if kind == "text" else said(kind, verdict)
     yield Question(f"text_break as {kind}", f"text {about}", verdict)
-    yield Question(f"first_break as {kind}", f"text-first-break {about}", str(len(text) if place is None else place))
-    yield Question(f"TextScan::step as {kind}", f"text-by-bytes {about}", scanned)
+    yield Question(f"first_break, TextScan::step and the check of {kind}", f"text-calls {about}", f"{first} {scanned} {checked}")
     yield Question(f"TextScan::take as {kind}", f"text-in-two {about}", from_place(0, scanned))
-    yield Question(f"the check of {kind}", f"text-check {about}", "no check" if kind == "text" else said(verdict))
 
 
 def ask_name(case, _):
@@ -46,9 +51,9 @@ def ask_of_signature(case, _):
     text = read_bytes(text)
     yield from ask_text("signature", text, as_signature)
     yield from ask_text("single", text, as_single)
-    wanted = said(as_signature) if types == "-" else f"{types} {types} {hexed(text)}"
+    wanted = said("signature", as_signature) if types == "-" else f"{types} {types} {hexed(text)} types"
     yield Question("parse_signature", f"text-parse signature {hexed(text)}", wanted)
-    wanted = said(as_single) if alignment == "-" else f"{alignment} {alignment}"
+    wanted = said("single", as_single) if alignment == "-" else f"{alignment} {alignment} type"
     yield Question("parse_single", f"text-parse single {hexed(text)}", wanted)
 
 
@@ -88,9 +93,11 @@ class Asked:
         words = words_of(kind, hexed(self.types), hexed(data or self.data), f"order={self.order}", self.settings, *place, *more)
         return Question(f"{engine} in {self.order} endian", words, wanted)
 
-    def ends(self):
-        """What is wanted at each place of an engine that says only whether a value ends there at the latest."""
-        return from_place(self.at, "none", *((int(self.read["end"]), self.outcome) if self.read["end"] else ()))
+    def ends(self, count=1):
+        """What is wanted at each place of so many engines that say only where a value ends that ends there at the latest."""
+        end = self.read["end"]
+        said = lambda word: " ".join([word] * count)
+        return from_place(self.at, said("none"), *((int(end), said(end)) if end else ()))
 
     def fronts(self):
         """What is wanted of each front of the bytes."""
@@ -107,29 +114,31 @@ def ask_reading(asked):
     if asked.read["end"]:
         yield asked.question("get_within up to each end", "value-ends", asked.ends())
     if asked.outcome != "partial" and asked.end <= FURTHEST:
-        yield asked.question("validate_value", "value-validated", asked.ends(), followed, f"to={asked.end}")
-        yield asked.question("validate_values", "values-validated", asked.ends(), followed, f"to={asked.end}")
+        yield asked.question("validate_value, validate_values", "value-validated", asked.ends(2), followed, f"to={asked.end}")
 
 
 def ask_writing(asked, writing):
-    """What checks and writers make of the value, and its type and its text and those of a copy."""
-    checked = "same" if writing in ("ArrayTooLong", "TooLong") else writing
+    """What checks, writers and measures make of the value, and its text and that of a copy."""
+    if writing == "-":
+        yield asked.question("writing", "value-written", "none")
+        return
+    fault, is_size = FAULTS.get(writing), writing in ("ArrayTooLong", "TooLong")
     # How deep a value nests is a matter of checking it.
-    written = "same" if checked == writing else writing
-    words = ["past"] if asked.outcome.endswith(" FdIndex") else []
+    checked = "accepted" if fault is None or is_size else fault
+    put, size = (fault, fault) if is_size else (hexed(asked.data), str(len(asked.data)))
+    words = ["0" if asked.outcome.endswith(" FdIndex") else "none"]
     words += [checked] if asked.is_limited else [checked, checked]
-    words += [written, written, "same", "same"]
-    yield asked.question("writing", "value-written", "none" if writing == "-" else " ".join(words))
-    if writing != "-":
-        engine = f"showing in {asked.order} endian"
-        start = f"#1 l method_return serial=1 flags=00 reply_serial=1 signature={asked.types.decode()}\n  "
-        text = asked.read["text"] and hexed(f"{start}{asked.read['text']}\n".encode())
+    words += [put, hexed(asked.data), size, str(len(asked.data)), str(len(asked.data))]
+    yield asked.question("writing", "value-written", " ".join(words))
+    engine = f"showing in {asked.order} endian"
+    start = f"#1 l method_call serial=1 flags=00 path=/ member=M signature={asked.types.decode()}\n  "
+    text = asked.read["text"] and hexed(f"{start}{asked.read['text']}\n".encode())
 
-        def shown(answers):
-            both = f"{hexed(asked.types)} {text or answers[engine].split(' ')[-1]}"
-            return f"{both} {both}"
+    def shown(answers):
+        one = text or answers[engine].split(" ")[-1]
+        return f"{one} {one}"
 
-        yield asked.question("showing", "value-shown", shown)
+    yield asked.question("showing", "value-shown", shown)
 
 
 def ask_value(case, _):
@@ -143,11 +152,12 @@ def ask_value(case, _):
 # ---- Messages
 
 
-def stated_length(data):
-    """The length that a message's first 16 bytes state."""
-    order = "big" if data[:1] == b"B" else "little"
-    number = lambda at: int.from_bytes(data[at : at + 4], order)
-    return (16 + number(12) + 7) // 8 * 8 + number(4)
+def place_of(told, answer):
+    """From which place on decoding answers so, if it does, by what is told at places."""
+    for place, words in (run.split(" ", 1) for run in told.split(", ")):
+        if f"{words} ".startswith(f"{answer} "):
+            return int(place)
+    return None
 
 
 def ask_fronts(order, data, limits, answer, decides):
@@ -155,30 +165,27 @@ def ask_fronts(order, data, limits, answer, decides):
     decide that, the one that does so for decoding has to do so for all."""
     word, *numbers = answer.split(" ")
     given = data if word == "partial" else data + MORE
-    decoding = f"decode_within in {order} endian"
+    engine = f"decode_within, validate, stated_length, MessageView, Checker in {order} endian"
+    is_stated = len(given) >= 16 and not (word == "refused" and int(numbers[0]) < 16)
 
-    def least(answers):
-        if word == "whole" or decides:
-            return len(data)
-        found = re.fullmatch(rf"0 partial, (\d+) {re.escape(answer)}", answers[decoding])
-        return min(int(found[1]), len(data)) if found else len(data)
+    def told(place, least):
+        is_decided = word != "partial" and place >= least
+        front = answer if is_decided else "partial"
+        validated = answer if is_decided and word == "whole" else "none"
+        stated = f"states {stated_length(given)}" if is_stated and place >= 16 else "partial" if is_stated else front
+        viewed = answer if is_decided else "truncated"
+        if word == "whole" and place > len(data):
+            viewed = f"refused {len(data)} Trailing"
+        in_two = [] if is_decided else [answer]
+        return " ".join([front, validated, stated, viewed, front, front, *in_two])
 
-    def fronts(before, *after):
-        return lambda answers: from_place(0, before, *(() if word == "partial" else (least(answers), answer))) + "".join(after)
+    def wanted(answers):
+        least = len(data) if word == "whole" or decides else min(place_of(answers[engine], answer) or len(data), len(data))
+        places = sorted({0, 16, least, len(data) + 1} & {*range(len(given) + 1)})
+        return runs_of((place, told(place, least)) for place in places)
 
-    def question(engine, kind, wanted):
-        return Question(f"{engine} in {order} endian", words_of("fronts", kind, hexed(given), limits), wanted)
-
-    stated = from_place(0, "partial", *((16, f"states {stated_length(given)}") if len(given) >= 16 else ()))
     yield Question(f"decode in {order} endian", words_of("message", hexed(given), limits), answer)
-    yield question("decode_within", "decode", fronts("partial"))
-    yield question("validate", "validate", fronts("none") if word == "whole" else "0 none")
-    yield question("stated_length_within", "state", fronts("partial") if word == "refused" and int(numbers[0]) < 16 else stated)
-    trailing = (f", {len(data) + 1} refused {len(data)} Trailing",) if word == "whole" else ()
-    yield question("MessageView::of_within", "view", fronts("truncated", *trailing))
-    yield question("Checker", "check", fronts("partial"))
-    yield question("Checker in two pieces", "check-in-two", f"0 {answer}")
-    yield question("Checker byte by byte", "check-by-bytes", fronts("partial"))
+    yield Question(engine, words_of("fronts", hexed(given), limits), wanted)
 
 
 def ask_whole(order, columns, limits):
@@ -192,11 +199,10 @@ def ask_whole(order, columns, limits):
     for wanted in ORDERS:
         yield question(f"encode, {wanted},", "encode", columns[wanted].hex(), f"order={wanted}")
         yield question(f"Message::new_within, {wanted},", "build", columns[wanted].hex(), f"order={wanted}")
-    yield question("Message::within", "within", "yes")
     yield question("encode_into", "encode-into", f"{data.hex()} {data.hex()}", "-", f"order={order}")
     yield question("byteswap", "byteswap", other.hex(), more=MORE)
     message = Message(data)
-    yield question("the names that Message gives", "names", message.names())
+    yield question("the names that Message gives, and Message::within", "names", f"{message.names()} within")
     yield question("copy_values", "copy-all", str(message.count()))
     yield question("the header that MessageView gives", "header", message.header())
     yield question("the values that MessageView gives", "see", message.values())

@@ -6,13 +6,15 @@ what is answered with none.
 
 import re
 
-from questions import Question, hexed
+from questions import FAULTS, Question, hexed
 from read_cases import read_parts
 from streams import runs_of
 
 OUT_OF_MEMORY = "out of memory"
 # Words of questions on what is changed by calls: if memory runs out the same call is made again, and goes on as if nothing had been.
 AGAIN = {"value-written", "encode-into", "by=validated", "cut-lines", "machine", "end", "end-in-two", "handshake", "found"}
+# Words of questions whose answers have the texts of errors where a column has their names.
+SAYING_FAULTS = {"made", "spelled", "text-parse", "value-written"}
 # What a column of numbers of growths has: a number, the least or the greatest.
 COUNT = re.compile(r"(?P<least>\d*)(?P<range>\.\.)?(?P<most>\d*)")
 # Longer questions are not asked so: each takes a run for each growth.
@@ -90,9 +92,17 @@ def spelled(column, folder):
     return re.sub(r"<(.*?)>", lambda it: hexed(read_parts(it[1], folder)), column)
 
 
+def told(answer):
+    """An answer with the texts of errors for the words of a column: of values as FAULTS has them, and of the types of a signature."""
+    answer = re.sub("|".join(rf"\b{name}\b" for name in FAULTS), lambda it: FAULTS[it[0]], answer)
+    answer = re.sub(r"\bbad (\d+)", r"no signature: it breaks at offset \1", answer)
+    return answer.replace("too long", "the signature has more than 255 bytes")
+
+
 def ask_made(case, folder):
     """A question, how many growths it takes, and its answer."""
     _, words, counts, answer = case
+    answer = told(answer) if words.split(" ")[0] in SAYING_FAULTS else answer
     question = Question("asked", spelled(words, folder), spelled(answer, folder))
     yield question
     if counts:

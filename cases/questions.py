@@ -6,6 +6,15 @@ import collections
 # questions so far, its own among them, each by its engine; or None, if it is only noted.
 Question = collections.namedtuple("Question", "engine words wanted")
 
+# What errors say of values, by the words that columns have.
+FAULTS = {
+    "TooDeep": "more containers are open at once than the limit on depth",
+    "Mixed": "a part has no type that fits its place",
+    "Name": "a path or a signature is none, or a text has U+0000",
+    "ArrayTooLong": "an array is over the limit on arrays",
+    "TooLong": "the value ends past the limit on messages",
+}
+
 
 def hexed(data):
     """Bytes as a question or an answer spells them."""

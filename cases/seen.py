@@ -83,12 +83,12 @@ class Message:
         if type in "sog":
             return [type, hexed(self.text(ALIGNMENTS[type]))]
         if type == "v":
-            return ["<", *self.seen(self.text(1).decode()), ">"]
+            return ["<", *self.seen(self.text(1).decode()), ")"]
         if type == "ay":
             return ["ay", hexed(self.bytes(self.number(4)))]
         if type[0] == "a":
             return self.array(type[1:])
-        return [type[0], *self.seen(type[1:-1]), type[-1]]
+        return [type[0], *self.seen(type[1:-1]), ")"]
 
     def array(self, element):
         """The type, the order, the bytes of numbers, how many bytes there are, each element, and how many bytes are left."""
@@ -96,7 +96,7 @@ class Message:
         self.align(ALIGNMENTS[element[0]])
         end = self.at + length
         numbers = hexed(self.data[self.at : end]) if element in NUMBERS else "none"
-        words = ["a", hexed(element.encode()), self.order, numbers, "[", str(length)]
+        words = ["a", hexed(element.encode()), self.order.capitalize(), numbers, "[", str(length)]
         while self.at < end:
             words += self.value(element)
         return [*words, "]", "0"]
@@ -123,7 +123,7 @@ class Message:
 
     def header(self):
         """The numbers and the texts of the header, of each value of the body its place and its text, and of two that are not there nothing."""
-        order, kind, flags = ("big" if self.data[:1] == b"B" else "little"), self.data[1], self.data[2]
+        order, kind, flags = self.order.capitalize(), self.data[1], self.data[2]
         serial = int.from_bytes(self.data[8:12], self.order)
         words = [order, kind, flags, serial, self.number_of(REPLY_SERIAL)]
         words += map(self.text_of, (PATH, INTERFACE, MEMBER, ERROR_NAME, DESTINATION, SENDER))

@@ -13,10 +13,14 @@
 
 mod answering;
 mod memory;
+mod places;
 mod question;
 mod reply;
+mod words;
 
 pub use answering::{Answerer, reply_to};
 pub use memory::Memory;
+pub use places::{Engine, piece, say_places, split};
 pub use question::{Question, bytes_of};
 pub use reply::Reply;
+pub use words::named;

@@ -3,13 +3,9 @@
 use dbus_value_model::{FdRule, Limits, Order};
 use std::alloc::Allocator;
 
-/// The bytes that a word spells in hexadecimal, or as `-` if there are none. `None` if it spells no
-/// bytes, or memory ran out.
-pub fn bytes_of<A: Allocator>(alloc: A, word: &str) -> Option<Vec<u8, A>> {
-    if word == "-" {
-        return Some(Vec::new(alloc));
-    }
-    hex::decode(alloc, word.as_bytes()).ok()
+/// The bytes that a word spells in hexadecimal, or none if it is `-` or spells no bytes.
+pub fn bytes_of<A: Allocator + Copy>(alloc: A, word: &str) -> Vec<u8, A> {
+    hex::decode(alloc, word.as_bytes()).unwrap_or(Vec::new(alloc))
 }
 
 /// A question: a line of words with a space between any two. The last words may be settings, as
@@ -36,7 +32,7 @@ impl<'a> Question<'a> {
     }
 
     /// The bytes that the word of this number spells, as `bytes_of` says.
-    pub fn bytes<A: Allocator>(self, alloc: A, n: usize) -> Option<Vec<u8, A>> {
+    pub fn bytes<A: Allocator + Copy>(self, alloc: A, n: usize) -> Vec<u8, A> {
         bytes_of(alloc, self.word(n))
     }
 
@@ -57,6 +53,11 @@ impl<'a> Question<'a> {
         self.setting(name)?.parse::<u64>().ok()
     }
 
+    /// The same if it is a UINT32.
+    pub fn uint32(self, name: &str) -> Option<u32> {
+        u32::try_from(self.number(name)?).ok()
+    }
+
     /// The same as a number of bytes or of places, or another if there is none.
     pub fn count(self, name: &str, otherwise: usize) -> usize {
         match self.number(name) {
@@ -65,22 +66,14 @@ impl<'a> Question<'a> {
         }
     }
 
-    // The limit of this name, or the greatest that there is.
-    fn limit(self, name: &str, most: u32) -> u32 {
-        match self.number(name) {
-            Some(number) => u32::try_from(number).unwrap_or(most),
-            None => most,
-        }
-    }
-
     /// The limits that `message=`, `array=`, `depth=` and `fds=below-count` say. What is left out
     /// is as the specification has it.
     pub fn limits(self) -> Limits {
         let most = Limits::specification();
-        let depth = self.limit("depth", u32::from(most.depth));
+        let depth = self.uint32("depth").unwrap_or(u32::from(most.depth));
         let limits = Limits::new(
-            self.limit("message", most.message),
-            self.limit("array", most.array),
+            self.uint32("message").unwrap_or(most.message),
+            self.uint32("array").unwrap_or(most.array),
             u8::try_from(depth).unwrap_or(most.depth),
         );
         let rule = match self.setting("fds") {

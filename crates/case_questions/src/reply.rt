@@ -3,6 +3,11 @@
 use dbus_value_model::Fault;
 use itoa::Buffer;
 use std::alloc::Global;
+use std::convert::AsSlice;
+use std::fmt::{Debug, Display};
+
+// How the text of each error ends which says that memory ran out.
+const NO_MEMORY: &str = "allocation failed";
 
 /// A reply under way. Each call adds words to its line.
 #[derive(Drop)]
@@ -77,12 +82,76 @@ impl Reply {
         self.bytes(bytes);
     }
 
+    /// Adds a text in hexadecimal, or that there is none.
+    pub fn found_text(&mut self, text: Option<&str>) {
+        match text {
+            Some(text) => self.bytes(text.as_bytes()),
+            None => self.word("none"),
+        }
+    }
+
+    /// Adds the text of a number or of an error, or makes the reply that memory ran out if it says
+    /// so.
+    pub fn told<T: Display>(&mut self, told: &T) {
+        match told.to_string(self.alloc) {
+            Ok(text) if !text.as_str().ends_with(NO_MEMORY) => self.word(text.as_str()),
+            _ => self.failed = true,
+        }
+    }
+
+    /// Adds the name of a variant.
+    pub fn variant<T: Debug>(&mut self, variant: &T) {
+        let alloc = self.alloc;
+        match format!(in alloc; "{variant:?}") {
+            Ok(text) => self.word(text.as_str()),
+            Err(_) => self.failed = true,
+        }
+    }
+
+    /// Adds a number, or that there is none.
+    pub fn found<T: Display + Drop>(&mut self, found: Option<T>) {
+        match found {
+            Some(number) => self.told(&number),
+            None => self.word("none"),
+        }
+    }
+
+    /// Adds that a check accepts what it is asked of, or its error.
+    pub fn checked<E: Display + Drop>(&mut self, outcome: Result<(), E>) {
+        match outcome {
+            Ok(()) => self.word("accepted"),
+            Err(fault) => self.told(&fault),
+        }
+    }
+
+    /// Adds a number that a call returned, or its error.
+    pub fn returned<E: Display + Drop>(&mut self, outcome: Result<u64, E>) {
+        match outcome {
+            Ok(number) => self.number(number),
+            Err(fault) => self.told(&fault),
+        }
+    }
+
+    /// Adds the bytes or the text that a call made, or its error.
+    pub fn made<T: AsSlice<u8> + Drop, E: Display + Drop>(&mut self, outcome: Result<T, E>) {
+        match outcome {
+            Ok(made) => self.bytes(made.as_slice()),
+            Err(fault) => self.told(&fault),
+        }
+    }
+
     /// Adds that bytes are refused, where and why.
     pub fn refused(&mut self, fault: Fault) {
         self.counted("refused", fault.at);
-        match fault.reason.to_string(self.alloc) {
-            Ok(text) => self.word(text.as_str()),
-            Err(_) => self.failed = true,
+        self.told(&fault.reason);
+    }
+
+    /// Adds what bytes are after a word, or that more of them are wanted, or why they are refused.
+    pub fn judged(&mut self, word: &str, outcome: Result<Option<u64>, Fault>) {
+        match outcome {
+            Ok(Some(number)) => self.counted(word, number),
+            Ok(None) => self.word("partial"),
+            Err(fault) => self.refused(fault),
         }
     }
 

@@ -20,11 +20,6 @@ pub(crate) struct Asked<'a> {
     pub(crate) fds: Option<u32>,
 }
 
-// What a question says that each index of a descriptor is to be below.
-fn fds_of(question: Question<'_>) -> Option<u32> {
-    u32::try_from(question.number("fds")?).ok()
-}
-
 impl<'a> Asked<'a> {
     /// What a question asks for, of a type that has this signature, in so many bytes.
     pub(crate) fn new(question: Question<'_>, types: &'a [u8], length: usize) -> Asked<'a> {
@@ -39,7 +34,7 @@ impl<'a> Asked<'a> {
             end: question.count("end", length),
             open: u8::try_from(question.count("open", 0)).unwrap_or(u8::MAX),
             limits: question.limits().with_fds(rule),
-            fds: fds_of(question),
+            fds: question.uint32("fds"),
         }
     }
 

@@ -4,8 +4,7 @@ ghost use Rattle.std.specs.Prelude.{◌≤◌, length, IsTrue, IfOk};
 ghost use Rattle.message_engines.specs.Checkers.{IsUnderWay};
 
 use crate::asked::Asked;
-use crate::outcome::Outcome;
-use crate::places::{piece, rest};
+use case_questions::{Reply, piece, split};
 use dbus_types::check_signature;
 use dbus_value_checker::ValueChecker;
 use dbus_value_model::Fault;
@@ -44,51 +43,58 @@ fn hand(values: &mut ValueChecker, bytes: &[u8]) -> Result<usize, Fault>
     values.run(bytes)
 }
 
-// What the checker says that took all it could.
-fn outcome_of(values: &ValueChecker) -> Outcome {
+// Adds what the checker says that took all it could.
+fn say_end(reply: &mut Reply, values: &ValueChecker) {
     if values.is_live() {
-        Outcome::Partial
+        reply.word("partial");
     } else {
-        Outcome::Done(values.offset())
+        reply.counted("done", values.offset() as u64);
     }
 }
 
-/// What a checker says of bytes in two pieces that meet at `place`.
-pub(crate) fn check_in_two(
+/// Adds what a checker says of bytes in two pieces that meet at `place`.
+pub(crate) fn say_in_two(
+    reply: &mut Reply,
     values: &mut ValueChecker,
     asked: Asked<'_>,
     bytes: &[u8],
     place: usize,
-) -> Outcome {
+) {
     if !begin(values, asked) {
-        return Outcome::NotAsked;
+        return reply.word("nothing to ask");
     }
     let taken = match hand(values, piece(bytes, asked.at, place)) {
         Ok(taken) => taken,
-        Err(fault) => return Outcome::Refused(fault),
+        Err(fault) => return reply.refused(fault),
     };
-    match hand(values, rest(bytes, asked.at.saturating_add(taken))) {
-        Ok(_) => outcome_of(values),
-        Err(fault) => Outcome::Refused(fault),
+    let (_, rest) = split(bytes, asked.at.saturating_add(taken));
+    match hand(values, rest) {
+        Ok(_) => say_end(reply, values),
+        Err(fault) => reply.refused(fault),
     }
 }
 
-/// With which byte, handed over one by one, a checker says something else than that more are
+/// Adds with which byte, handed over one by one, a checker says something else than that more are
 /// wanted, and what.
-pub(crate) fn check_by_bytes(asked: Asked<'_>, bytes: &[u8]) -> (usize, Outcome) {
+pub(crate) fn say_by_bytes(reply: &mut Reply, asked: Asked<'_>, bytes: &[u8]) {
     let mut values = ValueChecker::new();
     if !begin(&mut values, asked) {
-        return (0, Outcome::NotAsked);
+        return reply.word("nothing to ask");
     }
     let mut taken = asked.at;
     for end in asked.at..bytes.len().saturating_add(1) {
         match hand(&mut values, piece(bytes, taken, end)) {
             Ok(more) => taken = taken.saturating_add(more),
-            Err(fault) => return (end, Outcome::Refused(fault)),
+            Err(fault) => {
+                reply.number(end as u64);
+                return reply.refused(fault);
+            }
         }
         if !values.is_live() {
-            return (end, outcome_of(&values));
+            reply.number(end as u64);
+            return say_end(reply, &values);
         }
     }
-    (bytes.len(), Outcome::Partial)
+    reply.number(bytes.len() as u64);
+    reply.word("partial");
 }

@@ -1,12 +1,54 @@
 //! Messages made in a line.
 
-use crate::made::{made, text};
-use crate::parts::{self, say_fault, say_message};
+use crate::made::{made, text_of};
+use crate::parts::say_message;
 use crate::whole::message_of;
-use case_questions::{Memory, Question, Reply};
+use case_questions::{Memory, Question, Reply, named};
 use dbus_message::{Compose, Message, MessageBuilder};
 use dbus_value::{Limits, Value};
 use std::alloc::Allocator;
+
+// What a message is made as.
+#[derive(Clone, Copy)]
+enum Begun {
+    Call,
+    Signal,
+    Reply,
+    Error,
+}
+
+const BEGINNINGS: &[(&str, Begun)] = &[
+    ("call", Begun::Call),
+    ("signal", Begun::Signal),
+    ("reply", Begun::Reply),
+    ("error", Begun::Error),
+];
+
+// What is set of a message.
+#[derive(Clone, Copy)]
+enum Setting {
+    Interface,
+    Destination,
+    Sender,
+    UnixFds,
+    Flags,
+    Serial,
+    Text,
+    Value,
+    Body,
+}
+
+const SETTINGS: &[(&str, Setting)] = &[
+    ("interface", Setting::Interface),
+    ("destination", Setting::Destination),
+    ("sender", Setting::Sender),
+    ("unix_fds", Setting::UnixFds),
+    ("flags", Setting::Flags),
+    ("serial", Setting::Serial),
+    ("text", Setting::Text),
+    ("value", Setting::Value),
+    ("body", Setting::Body),
+];
 
 // The builder of a reply to the message of the question's bytes, or of an error.
 fn begin_reply<A: Allocator + Copy>(
@@ -14,7 +56,7 @@ fn begin_reply<A: Allocator + Copy>(
     question: Question<'_>,
     is_error: bool,
 ) -> Option<MessageBuilder<A>> {
-    let bytes = question.bytes(memory.spare, 2)?;
+    let bytes = question.bytes(memory.spare, 2);
     let (_, call) = message_of(memory.spare, &bytes, Limits::specification())?;
     if is_error {
         Some(Message::error_to(memory.heap, &call, "a.E"))
@@ -29,12 +71,11 @@ fn begin<A: Allocator + Copy>(
     question: Question<'_>,
 ) -> Option<MessageBuilder<A>> {
     let path = question.word(2);
-    match question.word(1) {
-        "call" => Some(Message::call(memory.heap, path, "M")),
-        "signal" => Some(Message::signal(memory.heap, path, "a.b", "M")),
-        "reply" => begin_reply(memory, question, false),
-        "error" => begin_reply(memory, question, true),
-        _ => None,
+    match named(BEGINNINGS, question.word(1))? {
+        Begun::Call => Some(Message::call(memory.heap, path, "M")),
+        Begun::Signal => Some(Message::signal(memory.heap, path, "a.b", "M")),
+        Begun::Reply => begin_reply(memory, question, false),
+        Begun::Error => begin_reply(memory, question, true),
     }
 }
 
@@ -59,22 +100,21 @@ fn set<A: Allocator + Copy>(
     said: &str,
     question: Question<'_>,
 ) -> Option<MessageBuilder<A>> {
-    Some(match name {
-        "interface" => builder.interface(said),
-        "destination" => builder.destination(said),
-        "sender" => builder.sender(said),
-        "unix_fds" => builder.unix_fds(said.parse().unwrap_or(0)),
-        "flags" => builder.flags(said.parse().unwrap_or(0)),
-        "serial" => builder.serial(said.parse().unwrap_or(0)),
-        "text" => builder.text(text(alloc, said)?.as_str()),
-        "value" => builder.value(made(alloc, said, question)?),
-        "body" => builder.body(body_of(alloc, said, question)?),
-        _ => return None,
+    Some(match named(SETTINGS, name)? {
+        Setting::Interface => builder.interface(said),
+        Setting::Destination => builder.destination(said),
+        Setting::Sender => builder.sender(said),
+        Setting::UnixFds => builder.unix_fds(said.parse().unwrap_or(0)),
+        Setting::Flags => builder.flags(said.parse().unwrap_or(0)),
+        Setting::Serial => builder.serial(said.parse().unwrap_or(0)),
+        Setting::Text => builder.text(text_of(alloc, said).as_str()),
+        Setting::Value => builder.value(made(alloc, said, question)?),
+        Setting::Body => builder.body(body_of(alloc, said, question)?),
     })
 }
 
-// The bytes of the message that is begun and set so, or why there is none.
-fn say_composed<A: Allocator + Copy>(
+/// Adds the bytes of the message that is begun and set so, or why there is none.
+pub(crate) fn say_composed<A: Allocator + Copy>(
     reply: &mut Reply,
     memory: Memory<A>,
     question: Question<'_>,
@@ -88,20 +128,7 @@ fn say_composed<A: Allocator + Copy>(
     }
     match builder.build() {
         Ok(message) => say_message(reply, memory.spare, &message),
-        Err(fault) => say_fault(reply, fault),
+        Err(fault) => reply.told(&fault),
     }
     Some(())
-}
-
-/// Answers what is made of parts. False says that the question is another.
-pub(crate) fn answer<A: Allocator + Copy>(
-    reply: &mut Reply,
-    memory: Memory<A>,
-    question: Question<'_>,
-) -> bool {
-    match question.word(0) {
-        "new" => parts::say(reply, memory, question).is_some(),
-        "compose" => say_composed(reply, memory, question).is_some(),
-        _ => false,
-    }
 }

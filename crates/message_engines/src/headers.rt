@@ -3,7 +3,6 @@
 
 use case_questions::Reply;
 use dbus_message::{Message, MessageView};
-use dbus_value::Order;
 use dbus_view::ArgView;
 use std::alloc::Allocator;
 use std::str;
@@ -11,44 +10,22 @@ use std::str;
 // More values than a body has.
 const MOST_VALUES: usize = 256;
 
-/// The word of an order.
-pub(crate) fn order_word(order: Order) -> &'static str {
-    match order {
-        Order::Little => "little",
-        Order::Big => "big",
-    }
-}
-
 /// Adds the code of a type.
 pub(crate) fn say_code(reply: &mut Reply, code: u8) {
     reply.word(str::from_utf8(&[code]).unwrap_or("?"));
 }
 
-fn say_text(reply: &mut Reply, text: Option<&str>) {
-    match text {
-        Some(text) => reply.bytes(text.as_bytes()),
-        None => reply.word("none"),
-    }
-}
-
-fn say_number(reply: &mut Reply, number: Option<u32>) {
-    match number {
-        Some(number) => reply.number(u64::from(number)),
-        None => reply.word("none"),
-    }
-}
-
 /// Adds the known fields of a message by their names: the texts, then the numbers.
 pub(crate) fn say_names<A: Allocator>(reply: &mut Reply, message: &Message<A>) {
-    say_text(reply, message.path());
-    say_text(reply, message.interface());
-    say_text(reply, message.member());
-    say_text(reply, message.error_name());
-    say_text(reply, message.destination());
-    say_text(reply, message.sender());
-    say_text(reply, message.signature());
-    say_number(reply, message.reply_serial());
-    say_number(reply, message.unix_fds());
+    reply.found_text(message.path());
+    reply.found_text(message.interface());
+    reply.found_text(message.member());
+    reply.found_text(message.error_name());
+    reply.found_text(message.destination());
+    reply.found_text(message.sender());
+    reply.found_text(message.signature());
+    reply.found(message.reply_serial());
+    reply.found(message.unix_fds());
 }
 
 // A value: where it is, and what is seen of it.
@@ -70,23 +47,22 @@ fn say_value(reply: &mut Reply, view: &MessageView, n: usize) {
 /// Adds what a view gives of the header, of each value of the body, and of values that are not
 /// there.
 pub(crate) fn say_header(reply: &mut Reply, view: &MessageView) {
-    reply.word(order_word(view.order()));
+    reply.variant(&view.order());
     reply.number(u64::from(view.kind()));
     reply.number(u64::from(view.flags()));
     reply.number(u64::from(view.serial()));
-    say_number(reply, view.reply_serial());
-    say_text(reply, view.path());
-    say_text(reply, view.interface());
-    say_text(reply, view.member());
-    say_text(reply, view.error_name());
-    say_text(reply, view.destination());
-    say_text(reply, view.sender());
+    reply.found(view.reply_serial());
+    reply.found_text(view.path());
+    reply.found_text(view.interface());
+    reply.found_text(view.member());
+    reply.found_text(view.error_name());
+    reply.found_text(view.destination());
+    reply.found_text(view.sender());
     for n in 0..MOST_VALUES {
+        say_value(reply, view, n);
         if view.arg(n).is_none() {
-            say_value(reply, view, n);
             break;
         }
-        say_value(reply, view, n);
     }
     say_value(reply, view, usize::MAX);
 }

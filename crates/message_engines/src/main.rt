@@ -11,45 +11,20 @@ mod checking;
 mod composing;
 mod fronts;
 mod headers;
-mod lookups;
 mod made;
-mod outcome;
 mod parts;
-mod places;
+mod questions;
 mod reading;
 mod seeing;
 mod showing;
-mod signatures;
-mod spelling;
 mod texts;
-mod validating;
 mod values;
 mod whole;
 mod writing;
 
-use case_questions::{Answerer, Memory, Question, Reply, reply_to};
-use std::alloc::Allocator;
+use case_questions::reply_to;
+use questions::Engines;
 use std::io;
-
-// What answers.
-#[derive(Clone, Copy)]
-struct Engines;
-
-impl Answerer for Engines {
-    fn answer<A: Allocator + Copy>(
-        self,
-        reply: &mut Reply,
-        memory: Memory<A>,
-        question: Question<'_>,
-    ) -> bool {
-        texts::answer(reply, memory, question)
-            || values::answer(reply, memory, question)
-            || fronts::answer(reply, memory, question)
-            || whole::answer(reply, memory, question)
-            || made::answer(reply, memory, question)
-            || composing::answer(reply, memory, question)
-    }
-}
 
 fn main(rt: HostRuntime) -> io::Result<()> {
     let alloc = rt.alloc();

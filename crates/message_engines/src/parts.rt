@@ -1,9 +1,8 @@
 //! Messages of parts that the words of a question make.
 
 use crate::made::made;
-use crate::whole::say_encoded;
 use case_questions::{Memory, Question, Reply};
-use dbus_message::{Build, BuildFault, HeaderField, Message, Parts, Within};
+use dbus_message::{Build, HeaderField, Message, Parts, Within, encode};
 use dbus_value::{Limits, Order};
 use std::alloc::Allocator;
 
@@ -39,24 +38,13 @@ pub(crate) fn say_message<A: Allocator + Copy>(reply: &mut Reply, alloc: A, mess
     if message.size() > MOST_TOLD {
         reply.counted("of", message.size() as u64);
     } else {
-        say_encoded(reply, alloc, message, Order::Little);
-        say_encoded(reply, alloc, message, Order::Big);
-    }
-}
-
-/// Adds why no message is made.
-pub(crate) fn say_fault(reply: &mut Reply, fault: BuildFault) {
-    if fault == BuildFault::Memory {
-        return reply.fail();
-    }
-    match fault.to_string(reply.alloc()) {
-        Ok(text) => reply.word(text.as_str()),
-        Err(_) => reply.fail(),
+        reply.made(encode(alloc, message, Order::Little));
+        reply.made(encode(alloc, message, Order::Big));
     }
 }
 
 // The message of parts under limits, or why there is none and how many fields and values come back.
-fn say_new<A: Allocator + Copy>(
+fn say_made<A: Allocator + Copy>(
     reply: &mut Reply,
     memory: Memory<A>,
     parts: Parts<A>,
@@ -72,7 +60,7 @@ fn say_new<A: Allocator + Copy>(
         Err((back, fault)) => {
             reply.counted("refused", back.fields.len() as u64);
             reply.number(back.body.len() as u64);
-            say_fault(reply, fault);
+            reply.told(&fault);
         }
     }
 }
@@ -87,13 +75,13 @@ fn say_within<A: Allocator + Copy>(reply: &mut Reply, alloc: A, parts: Parts<A>,
 }
 
 /// Adds what is made of parts and, under limits, whether a message of theirs keeps these.
-pub(crate) fn say<A: Allocator + Copy>(
+pub(crate) fn say_new<A: Allocator + Copy>(
     reply: &mut Reply,
     memory: Memory<A>,
     question: Question<'_>,
 ) -> Option<()> {
     let limits = question.limits();
-    say_new(reply, memory, parts_of(memory.spare, question)?, limits);
+    say_made(reply, memory, parts_of(memory.spare, question)?, limits);
     if limits != Limits::specification() {
         let parts = parts_of(memory.spare, question)?;
         say_within(reply, memory.spare, parts, limits);

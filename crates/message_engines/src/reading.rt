@@ -1,86 +1,62 @@
 //! Values read from a message's bytes.
 
 use crate::asked::Asked;
-use crate::outcome::Outcome;
-use case_questions::Memory;
-use dbus_types::{SigFault, parse_single};
+use case_questions::{Memory, Reply};
+use dbus_types::parse_single;
 use dbus_unmarshal::{get, get_within};
 use dbus_value_model::{Got, Limits, Refusal, Value};
 use std::alloc::Allocator;
 
-// What is read of a message's first bytes, or why no value is; by the call without limits if
-// `is_plain`.
-fn read_value<A: Allocator + Copy>(
+// What is read of a message's first bytes, by the call without limits if they are those of the
+// specification and any index will do. Nothing if nothing can be asked so.
+fn got<A: Allocator + Copy>(
     memory: Memory<A>,
     asked: Asked<'_>,
     bytes: &[u8],
-    is_plain: bool,
-) -> Result<(Value<A>, usize), Outcome> {
-    let wanted = match parse_single(memory.spare, asked.types) {
-        Ok(wanted) => wanted,
-        Err(SigFault::Memory) => return Err(Outcome::Memory),
-        Err(_) => return Err(Outcome::NotAsked),
-    };
+) -> Option<Result<Got<A>, Refusal>> {
     let Asked {
+        types,
         order,
         at,
         end,
         open,
         limits,
         fds,
-        ..
     } = asked;
+    let wanted = parse_single(memory.spare, types).ok()?;
     if at > end || at > bytes.len() || open > limits.depth {
-        return Err(Outcome::NotAsked);
+        return None;
     }
-    let got = if is_plain && open <= 64 {
-        get(memory.heap, bytes, at, end, order, &wanted, open)
-    } else {
-        get_within(
-            memory.heap,
-            bytes,
-            at,
-            end,
-            order,
-            &wanted,
-            open,
-            limits,
-            fds,
-        )
-    };
-    match got {
-        Ok(Got::Done(value, next)) => Ok((value, next)),
-        Ok(Got::Partial) => Err(Outcome::Partial),
-        Err(Refusal::Format(fault)) => Err(Outcome::Refused(fault)),
-        Err(Refusal::Memory) => Err(Outcome::Memory),
+    if limits == Limits::specification() && fds.is_none() && open <= 64 {
+        return Some(get(memory.heap, bytes, at, end, order, &wanted, open));
     }
+    Some(get_within(
+        memory.heap,
+        bytes,
+        at,
+        end,
+        order,
+        &wanted,
+        open,
+        limits,
+        fds,
+    ))
 }
 
-fn outcome_of<A: Allocator>(read: Result<(Value<A>, usize), Outcome>) -> Outcome {
-    match read {
-        Ok((_, next)) => Outcome::Done(next),
-        Err(outcome) => outcome,
-    }
-}
-
-/// What reading answers of a message's first bytes.
-pub(crate) fn read<A: Allocator + Copy>(
+/// Adds what reading answers of a message's first bytes.
+pub(crate) fn say_read<A: Allocator + Copy>(
+    reply: &mut Reply,
     memory: Memory<A>,
     asked: Asked<'_>,
     bytes: &[u8],
-) -> Outcome {
-    outcome_of(read_value(memory, asked, bytes, false))
-}
-
-/// The same, by the call without limits if they are those of the specification and any index will
-/// do.
-pub(crate) fn read_plainly<A: Allocator + Copy>(
-    memory: Memory<A>,
-    asked: Asked<'_>,
-    bytes: &[u8],
-) -> Outcome {
-    let is_plain = asked.limits == Limits::specification() && asked.fds.is_none();
-    outcome_of(read_value(memory, asked, bytes, is_plain))
+) {
+    match got(memory, asked, bytes) {
+        Some(Ok(Got::Done(_, next))) => reply.counted("done", next as u64),
+        Some(Ok(Got::Partial)) => reply.word("partial"),
+        Some(Err(Refusal::Format(fault))) => reply.refused(fault),
+        Some(Err(Refusal::Memory)) => reply.fail(),
+        None => reply.word("nothing to ask"),
+    }
 }
 
 /// The value of a message's bytes, if no container is open and under the limits of the
@@ -90,8 +66,20 @@ pub(crate) fn value_of<A: Allocator + Copy>(
     asked: Asked<'_>,
     bytes: &[u8],
 ) -> Option<Value<A>> {
-    match read_value(Memory::of(alloc), asked.alone(), bytes, true) {
-        Ok((value, _)) => Some(value),
-        Err(_) => None,
+    match got(Memory::of(alloc), asked.alone(), bytes) {
+        Some(Ok(Got::Done(value, _))) => Some(value),
+        _ => None,
+    }
+}
+
+/// Where a value of a message's first bytes ends, if there is one.
+pub(crate) fn end_of<A: Allocator + Copy>(
+    memory: Memory<A>,
+    asked: Asked<'_>,
+    bytes: &[u8],
+) -> Option<usize> {
+    match got(memory, asked, bytes) {
+        Some(Ok(Got::Done(_, next))) => Some(next),
+        _ => None,
     }
 }

@@ -1,41 +1,31 @@
 //! The header fields and the values of a message, seen one by one, down through every container.
 
-use crate::headers::{order_word, say_code};
+use crate::headers::say_code;
 use case_questions::Reply;
 use dbus_message::{Elements, MessageView, ValueView, Values};
 
 // More containers than are open in a message.
 const DEPTH: u8 = 100;
 
-// The code of a number's type, and the number, a signed one as its two's complement.
-fn number_of(seen: &ValueView) -> Option<(&'static str, u64)> {
-    match seen {
-        ValueView::Byte(n) => Some(("y", u64::from(*n))),
-        ValueView::Bool(is_so) => Some(("b", u64::from(*is_so))),
-        ValueView::I16(n) => Some(("n", u64::from(n.cast_unsigned()))),
-        ValueView::U16(n) => Some(("q", u64::from(*n))),
-        ValueView::I32(n) => Some(("i", u64::from(n.cast_unsigned()))),
-        ValueView::U32(n) => Some(("u", u64::from(*n))),
-        ValueView::I64(n) => Some(("x", n.cast_unsigned())),
-        ValueView::U64(n) => Some(("t", *n)),
-        ValueView::Double(bits) => Some(("d", *bits)),
-        ValueView::Fd(index) => Some(("h", u64::from(*index))),
-        _ => None,
-    }
-}
-
-// A value that is no container but an array of bytes: the code of its type, and its number, its
-// text or its bytes.
+// A value that is no container but an array of bytes: the code of its type, and its number, a
+// signed one as its two's complement, its text or its bytes.
 fn say_plain(reply: &mut Reply, seen: &ValueView) {
     match seen {
+        ValueView::Byte(n) => reply.counted("y", u64::from(*n)),
+        ValueView::Bool(is_so) => reply.counted("b", u64::from(*is_so)),
+        ValueView::I16(n) => reply.counted("n", u64::from(n.cast_unsigned())),
+        ValueView::U16(n) => reply.counted("q", u64::from(*n)),
+        ValueView::I32(n) => reply.counted("i", u64::from(n.cast_unsigned())),
+        ValueView::U32(n) => reply.counted("u", u64::from(*n)),
+        ValueView::I64(n) => reply.counted("x", n.cast_unsigned()),
+        ValueView::U64(n) => reply.counted("t", *n),
+        ValueView::Double(bits) => reply.counted("d", *bits),
+        ValueView::Fd(index) => reply.counted("h", u64::from(*index)),
         ValueView::Str(text) => reply.spelled("s", text.as_bytes()),
         ValueView::Path(text) => reply.spelled("o", text.as_bytes()),
         ValueView::Sig(text) => reply.spelled("g", text.as_bytes()),
         ValueView::Bytes(bytes) => reply.spelled("ay", bytes),
-        number => match number_of(number) {
-            Some((code, number)) => reply.counted(code, number),
-            None => reply.word("a container"),
-        },
+        _ => reply.word("a container"),
     }
 }
 
@@ -46,25 +36,16 @@ fn say_value(reply: &mut Reply, seen: ValueView, depth: u8) {
         reply.word("too deep");
         return;
     }
-    match seen {
-        ValueView::Array(elements) => say_elements(reply, elements, depth - 1),
-        ValueView::Struct(fields) => {
-            reply.word("(");
-            say_values(reply, fields, depth - 1);
-            reply.word(")");
-        }
-        ValueView::Entry(both) => {
-            reply.word("{");
-            say_values(reply, both, depth - 1);
-            reply.word("}");
-        }
-        ValueView::Variant(held) => {
-            reply.word("<");
-            say_values(reply, held, depth - 1);
-            reply.word(">");
-        }
-        plain => say_plain(reply, &plain),
-    }
+    let (bracket, inside) = match seen {
+        ValueView::Array(elements) => return say_elements(reply, elements, depth - 1),
+        ValueView::Struct(fields) => ("(", fields),
+        ValueView::Entry(both) => ("{", both),
+        ValueView::Variant(held) => ("<", held),
+        plain => return say_plain(reply, &plain),
+    };
+    reply.word(bracket);
+    say_values(reply, inside, depth - 1);
+    reply.word(")");
 }
 
 // Values, the first code of each before it, and the offset where the last one ends.
@@ -90,7 +71,7 @@ fn say_values(reply: &mut Reply, mut left: Values, depth: u8) {
 #[cycle(say)]
 fn say_elements(reply: &mut Reply, mut left: Elements, depth: u8) {
     reply.spelled("a", left.types());
-    reply.word(order_word(left.order()));
+    reply.variant(&left.order());
     match left.number_bytes() {
         Some(bytes) => reply.bytes(bytes),
         None => reply.word("none"),

@@ -2,54 +2,21 @@
 
 use crate::whole::message_of;
 use case_questions::{Memory, Question, Reply};
-use dbus_message::{Build, HeaderField, Message, Parts, field_code, message_type};
+use dbus_message::{Compose, Message};
 use dbus_show_view::{show_message, show_validated};
 use dbus_validate::validate;
 use dbus_value::{Limits, Order, Value};
 use std::alloc::{AllocError, Allocator};
 
-// A text, or that memory ran out.
-fn say_text<A: Allocator>(reply: &mut Reply, text: Result<String<A>, AllocError>) {
-    match text {
-        Ok(text) => reply.bytes(text.as_bytes()),
-        Err(AllocError) => reply.fail(),
-    }
-}
-
-// The text of the bytes' message, which is built.
-fn say_built<A: Allocator + Copy>(
-    reply: &mut Reply,
-    memory: Memory<A>,
-    bytes: &[u8],
-    limits: Limits,
-    number: u64,
-) {
-    match message_of(memory.spare, bytes, limits) {
-        Some((order, message)) => {
-            say_text(reply, show_message(memory.heap, order, &message, number));
-        }
-        None => reply.word("no message"),
-    }
-}
-
-// A string that holds another text. If memory runs out it is asked for again.
-fn other_text<A: Allocator + Copy>(alloc: A) -> Result<String<A>, AllocError> {
-    match String::from_str(alloc, "another text") {
-        Ok(text) => Ok(text),
-        Err(AllocError) => String::from_str(alloc, "another text"),
-    }
-}
-
-// The text of bytes, which are validated, in a string that holds another one. If memory runs out
-// the string is empty, and is asked for the text again. At last it is asked once more, which takes
-// no memory.
+// The text of bytes, which are validated. If memory runs out the string is empty, and is asked for
+// the text again. At last it is asked once more, which takes no memory and leaves no text twice.
 fn validated_text<A: Allocator + Copy>(
     alloc: A,
     bytes: &[u8],
     limits: Limits,
     number: u64,
 ) -> Result<String<A>, AllocError> {
-    let mut text = other_text(alloc)?;
+    let mut text = String::new(alloc);
     let Some(validated) = validate(bytes, limits) else {
         return Ok(text);
     };
@@ -60,7 +27,8 @@ fn validated_text<A: Allocator + Copy>(
     Ok(text)
 }
 
-/// Adds the text of the message that the bytes begin with.
+/// Adds the text of the message that the bytes begin with: with `by=message` of the message that
+/// they are decoded to.
 pub(crate) fn say_shown<A: Allocator + Copy>(
     reply: &mut Reply,
     memory: Memory<A>,
@@ -68,47 +36,21 @@ pub(crate) fn say_shown<A: Allocator + Copy>(
     question: Question<'_>,
 ) {
     let (limits, number) = (question.limits(), question.number("number").unwrap_or(1));
-    match question.setting("by") {
-        Some("message") => say_built(reply, memory, bytes, limits, number),
-        _ => say_text(reply, validated_text(memory.heap, bytes, limits, number)),
+    if question.setting("by") != Some("message") {
+        return reply.made(validated_text(memory.heap, bytes, limits, number));
+    }
+    match message_of(memory.spare, bytes, limits) {
+        Some((order, message)) => {
+            reply.made(show_message(memory.heap, order, &message, number));
+        }
+        None => reply.word("no message"),
     }
 }
 
-// A reply with a value as its body, which has this signature.
-fn reply_of<A: Allocator + Copy>(
-    alloc: A,
-    value: Value<A>,
-    signature: String<A>,
-) -> Result<Parts<A>, AllocError> {
-    let mut fields = Vec::new(alloc);
-    fields.push(HeaderField {
-        code: field_code::REPLY_SERIAL,
-        value: Value::U32(1),
-    })?;
-    fields.push(HeaderField {
-        code: field_code::SIGNATURE,
-        value: Value::Sig(signature),
-    })?;
-    let mut body = Vec::new(alloc);
-    body.push(value)?;
-    Ok(Parts {
-        kind: message_type::METHOD_RETURN,
-        flags: 0,
-        serial: 1,
-        fields,
-        body,
-    })
-}
-
-/// The text of a reply with a value as its body, which has this signature, or the empty text if
-/// there is none.
-pub(crate) fn reply_text<A: Allocator + Copy>(
-    alloc: A,
-    value: Value<A>,
-    signature: String<A>,
-) -> Result<String<A>, AllocError> {
-    match Message::new(alloc, reply_of(alloc, value, signature)?) {
-        Ok(message) => show_message(alloc, Order::Little, &message, 1),
-        Err(_) => Ok(String::new(alloc)),
+/// Adds the text of a call with a value as its body.
+pub(crate) fn say_body<A: Allocator + Copy>(reply: &mut Reply, alloc: A, value: Value<A>) {
+    match Message::call(alloc, "/", "M").value(value).build() {
+        Ok(message) => reply.made(show_message(alloc, Order::Little, &message, 1)),
+        Err(fault) => reply.told(&fault),
     }
 }

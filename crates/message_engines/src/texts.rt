@@ -1,29 +1,38 @@
-//! Texts of every kind: names, paths and signatures.
+//! Texts of every kind: names, paths and signatures, and the types that these spell.
 
-use crate::outcome::Outcome;
-use crate::places::{Engine, piece, rest, say_places};
-use crate::signatures::{say_parsed, say_signature};
-use case_questions::{Memory, Question, Reply};
+ghost use Rattle.std.specs.Prelude.{◌<◌, length};
+
+use case_questions::{Engine, Memory, Question, Reply, named, say_places, split};
 use dbus_types::{
-    NameFault, TextKind, TextScan, check_bus_name, check_error_name, check_interface, check_member,
-    check_path, check_signature, check_single, first_break, is_unique, text_break,
+    SigType, TextKind, TextScan, alignment, boundary, check_bus_name, check_error_name,
+    check_interface, check_member, check_path, check_signature, check_single, first_break,
+    is_unique, parse_signature, parse_single, signature_text, text_break, type_end, type_ok,
 };
 use std::alloc::Allocator;
 
-// The kind of text that has this name.
-fn kind_of(word: &str) -> Option<TextKind> {
-    match word {
-        "text" => Some(TextKind::Text),
-        "path" => Some(TextKind::Path),
-        "interface" => Some(TextKind::Interface),
-        "error_name" => Some(TextKind::ErrorName),
-        "member" => Some(TextKind::Member),
-        "bus_name" => Some(TextKind::BusName),
-        "signature" => Some(TextKind::Signature),
-        "single" => Some(TextKind::Single),
-        _ => None,
-    }
+/// What is asked of a text.
+#[derive(Clone, Copy)]
+pub(crate) enum OfText {
+    /// What it is as one of a kind.
+    Verdict,
+    /// Where it breaks, what a scan takes of it byte by byte, and what the check of the kind says.
+    Calls,
+    /// What a scan takes of it in two pieces.
+    InTwo,
+    /// What types it spells.
+    Parse,
 }
+
+const KINDS: &[(&str, TextKind)] = &[
+    ("text", TextKind::Text),
+    ("path", TextKind::Path),
+    ("interface", TextKind::Interface),
+    ("error_name", TextKind::ErrorName),
+    ("member", TextKind::Member),
+    ("bus_name", TextKind::BusName),
+    ("signature", TextKind::Signature),
+    ("single", TextKind::Single),
+];
 
 // What a text is as one of a kind, as a column has it.
 fn say_verdict(reply: &mut Reply, kind: TextKind, text: &[u8]) {
@@ -36,26 +45,35 @@ fn say_verdict(reply: &mut Reply, kind: TextKind, text: &[u8]) {
     }
 }
 
-fn say_name(reply: &mut Reply, outcome: Result<(), NameFault>) {
-    match outcome {
-        Ok(()) => reply.word("accepted"),
-        Err(NameFault::Bad { at }) => reply.counted("bad", at as u64),
-        Err(NameFault::TooLong) => reply.word("too long"),
-    }
-}
-
 // What the check of a kind says.
 fn say_check(reply: &mut Reply, kind: TextKind, text: &[u8]) {
     match kind {
-        TextKind::Path => say_name(reply, check_path(text)),
-        TextKind::Interface => say_name(reply, check_interface(text)),
-        TextKind::ErrorName => say_name(reply, check_error_name(text)),
-        TextKind::Member => say_name(reply, check_member(text)),
-        TextKind::BusName => say_name(reply, check_bus_name(text)),
-        TextKind::Signature => say_signature(reply, check_signature(text)),
-        TextKind::Single => say_signature(reply, check_single(text)),
+        TextKind::Path => reply.checked(check_path(text)),
+        TextKind::Interface => reply.checked(check_interface(text)),
+        TextKind::ErrorName => reply.checked(check_error_name(text)),
+        TextKind::Member => reply.checked(check_member(text)),
+        TextKind::BusName => reply.checked(check_bus_name(text)),
+        TextKind::Signature => reply.checked(check_signature(text)),
+        TextKind::Single => reply.checked(check_single(text)),
         TextKind::Text => reply.word("no check"),
     }
+}
+
+// What a scan comes to that took so many bytes of a text.
+fn say_scanned(reply: &mut Reply, scan: TextScan, taken: usize, text: &[u8]) {
+    let is_ended = taken == text.len() && scan.end();
+    reply.counted(if is_ended { "ended" } else { "taken" }, taken as u64);
+}
+
+// What a scan takes of a text byte by byte.
+fn say_by_bytes(reply: &mut Reply, kind: TextKind, text: &[u8]) {
+    let mut scan = TextScan::new(kind);
+    for (taken, byte) in text.iter().enumerate() {
+        if !scan.step(*byte) {
+            return reply.counted("taken", taken as u64);
+        }
+    }
+    say_scanned(reply, scan, text.len(), text);
 }
 
 // A scan of a text in two pieces.
@@ -65,59 +83,90 @@ struct InTwo<'a> {
     text: &'a [u8],
 }
 
-// What a scan comes to that took so many bytes of a text.
-fn scanned(scan: TextScan, taken: usize, text: &[u8]) -> Outcome {
-    if taken == text.len() && scan.end() {
-        Outcome::Ended(taken)
-    } else {
-        Outcome::Taken(taken)
-    }
-}
-
 impl Engine for InTwo<'_> {
-    fn outcome(&mut self, place: usize) -> Outcome {
-        let first = piece(self.text, 0, place);
+    fn say(&mut self, reply: &mut Reply, place: usize) {
+        let (first, rest) = split(self.text, place);
         let mut scan = TextScan::new(self.kind);
         let mut taken = scan.take(first);
         if taken == first.len() {
-            taken = taken.saturating_add(scan.take(rest(self.text, place)));
+            taken = taken.saturating_add(scan.take(rest));
         }
-        scanned(scan, taken, self.text)
+        say_scanned(reply, scan, taken, self.text);
     }
 }
 
-// What a scan does of a text that it takes byte by byte.
-fn by_bytes(kind: TextKind, text: &[u8]) -> Outcome {
-    let mut scan = TextScan::new(kind);
-    for (taken, byte) in text.iter().enumerate() {
-        if !scan.step(*byte) {
-            return Outcome::Taken(taken);
+// Where the types end that a signature spells, one after the other: how many there are.
+fn count_ends(text: &[u8]) -> u64 {
+    let mut pos = 0;
+    let mut count = 0u64;
+    for _ in 0..text.len() {
+        if pos >= text.len() {
+            break;
         }
+        pos = type_end(text, pos);
+        count = count.saturating_add(1);
     }
-    scanned(scan, text.len(), text)
+    count
+}
+
+/// Adds what types spell, and whether each is a type.
+pub(crate) fn say_types<A: Allocator + Copy>(reply: &mut Reply, alloc: A, types: &[SigType<A>]) {
+    reply.made(signature_text(alloc, types));
+    let are_types = types.iter().all(|ty| type_ok(ty));
+    reply.word(if are_types { "types" } else { "no types" });
+}
+
+// What a text is that is parsed as one type: its alignment, the one that its code alone says, and
+// whether it is a type.
+fn say_single<A: Allocator + Copy>(reply: &mut Reply, alloc: A, text: &[u8]) {
+    match parse_single(alloc, text) {
+        Ok(ty) => {
+            reply.number(u64::from(alignment(&ty)));
+            if let Some(code) = text.first() {
+                reply.number(u64::from(boundary(*code)));
+            }
+            reply.word(if type_ok(&ty) { "type" } else { "no type" });
+        }
+        Err(fault) => reply.told(&fault),
+    }
+}
+
+// The types that a text is parsed as: how many they are, twice, and what they spell.
+fn say_signature<A: Allocator + Copy>(reply: &mut Reply, alloc: A, text: &[u8]) {
+    match parse_signature(alloc, text) {
+        Ok(types) => {
+            reply.number(types.len() as u64);
+            reply.number(count_ends(text));
+            say_types(reply, alloc, &types);
+        }
+        Err(fault) => reply.told(&fault),
+    }
 }
 
 /// Answers a question on a text. False says that it is none.
-pub(crate) fn answer<A: Allocator + Copy>(
+pub(crate) fn say<A: Allocator + Copy>(
     reply: &mut Reply,
     memory: Memory<A>,
     question: Question<'_>,
+    asked: OfText,
 ) -> bool {
-    let Some(kind) = kind_of(question.word(1)) else {
+    let Some(kind) = named(KINDS, question.word(1)) else {
         return false;
     };
-    let Some(text) = question.bytes(reply.alloc(), 2) else {
-        return false;
-    };
-    let mut in_two = InTwo { kind, text: &text };
-    match question.word(0) {
-        "text" => say_verdict(reply, kind, &text),
-        "text-first-break" => reply.number(first_break(kind, &text) as u64),
-        "text-check" => say_check(reply, kind, &text),
-        "text-parse" => say_parsed(reply, memory.heap, kind, &text),
-        "text-by-bytes" => by_bytes(kind, &text).say(reply),
-        "text-in-two" => say_places(reply, &mut in_two, 0, text.len()),
-        _ => return false,
+    let text = question.bytes(reply.alloc(), 2);
+    match asked {
+        OfText::Verdict => say_verdict(reply, kind, &text),
+        OfText::Calls => {
+            reply.number(first_break(kind, &text) as u64);
+            say_by_bytes(reply, kind, &text);
+            say_check(reply, kind, &text);
+        }
+        OfText::InTwo => {
+            let mut engine = InTwo { kind, text: &text };
+            say_places(reply, question, &mut engine, 0, text.len());
+        }
+        OfText::Parse if kind == TextKind::Single => say_single(reply, memory.heap, &text),
+        OfText::Parse => say_signature(reply, memory.heap, &text),
     }
     true
 }

@@ -4,28 +4,13 @@ ghost use Rattle.dbus_value_model.specs.ShortSignatures.{HasShortSignatures};
 ghost use Rattle.dbus_value_model.specs.ValueViews.{value_tree};
 
 use crate::asked::Asked;
-use crate::places::piece;
-use case_questions::Reply;
+use case_questions::{Reply, split};
 use dbus_marshal::{measure, put, put_within, size_after, size_after_within};
 use dbus_value_model::{Limits, Value, ValueFault, check_value, check_value_within};
 use std::alloc::{AllocError, Allocator};
 
 // More bytes than are written before a value.
 const MOST_BEFORE: usize = 1_000_000;
-
-/// Adds what a check or a writer returns, of which a writer wrote the right bytes, or others.
-pub(crate) fn say_outcome(reply: &mut Reply, outcome: Result<bool, ValueFault>) {
-    match outcome {
-        Ok(true) => reply.word("same"),
-        Ok(false) => reply.word("other"),
-        Err(ValueFault::Memory) => reply.fail(),
-        Err(ValueFault::TooDeep) => reply.word("TooDeep"),
-        Err(ValueFault::Mixed) => reply.word("Mixed"),
-        Err(ValueFault::Name) => reply.word("Name"),
-        Err(ValueFault::ArrayTooLong) => reply.word("ArrayTooLong"),
-        Err(ValueFault::TooLong) => reply.word("TooLong"),
-    }
-}
 
 /// A vector that holds these bytes. If memory runs out it is asked for again.
 pub(crate) fn held<A: Allocator + Copy>(alloc: A, bytes: &[u8]) -> Result<Vec<u8, A>, AllocError> {
@@ -54,54 +39,40 @@ fn put_once<A: Allocator>(
     }
 }
 
-// Whether a value is written as the message's bytes from `asked.at` on. A writer that refuses
-// leaves what there was, and is asked again if memory ran out.
-fn is_put<A: Allocator + Copy>(
+// The bytes before a value, and then its own. A writer that refuses leaves what there was, and is
+// asked again if memory ran out; else the bytes are those that it left.
+fn put_behind<A: Allocator + Copy>(
     alloc: A,
+    before: &[u8],
     value: &Value<A>,
     asked: Asked<'_>,
-    bytes: &[u8],
     is_limited: bool,
-) -> Result<bool, ValueFault>
+) -> Result<Vec<u8, A>, ValueFault>
     requires { HasShortSignatures (value_tree value.now) }
 {
-    let before = piece(bytes, 0, asked.at);
     let mut out = held(alloc, before)?;
     let mut put = put_once(&mut out, value, asked, is_limited);
     if put == Err(ValueFault::Memory) && out.as_slice() == before {
         put = put_once(&mut out, value, asked, is_limited);
     }
     match put {
-        Ok(()) => Ok(out.as_slice() == bytes),
         Err(fault) if out.as_slice() == before => Err(fault),
-        Err(_) => Ok(false),
+        _ => Ok(out),
     }
 }
 
-// Whether a value ends where the message's bytes end.
-fn is_sized<A: Allocator>(
-    value: &Value<A>,
-    asked: Asked<'_>,
-    bytes: &[u8],
-) -> Result<bool, ValueFault>
+// Where a value ends: under limits, under those of the specification, and by a measure, which knows
+// no limit on messages.
+fn say_sizes<A: Allocator>(reply: &mut Reply, value: &Value<A>, asked: Asked<'_>)
     requires { HasShortSignatures (value_tree value.now) }
 {
-    if asked.at > asked.limits.message as usize {
-        return Ok(false);
+    if asked.at > asked.limits.message as usize || asked.at >= MOST_BEFORE {
+        return reply.word("nothing to ask");
     }
-    let end = size_after_within(value, asked.at as u64, asked.limits)?;
-    Ok(end == bytes.len() as u64)
-}
-
-// The same by a measure, which knows no limit on messages, and by a size under the limits of the
-// specification.
-fn is_measured<A: Allocator>(value: &Value<A>, asked: Asked<'_>, bytes: &[u8]) -> bool
-    requires { HasShortSignatures (value_tree value.now) }
-{
-    let (at, end) = (asked.at as u64, bytes.len() as u64);
-    asked.at < MOST_BEFORE
-        && measure(value, at, Limits::specification()) == Some(end)
-        && size_after(value, at) == Ok(end)
+    let at = asked.at as u64;
+    reply.returned(size_after_within(value, at, asked.limits));
+    reply.returned(size_after(value, at));
+    reply.found(measure(value, at, Limits::specification()));
 }
 
 // What writers do with a value that is checked already.
@@ -114,10 +85,10 @@ fn say_written<A: Allocator + Copy>(
 )
     requires { HasShortSignatures (value_tree value.now) }
 {
-    say_outcome(reply, is_put(alloc, value, asked, bytes, true));
-    say_outcome(reply, is_sized(value, asked, bytes));
-    say_outcome(reply, is_put(alloc, value, asked, bytes, false));
-    say_outcome(reply, Ok(is_measured(value, asked, bytes)));
+    let (before, _) = split(bytes, asked.at);
+    reply.made(put_behind(alloc, before, value, asked, true));
+    reply.made(put_behind(alloc, before, value, asked, false));
+    say_sizes(reply, value, asked);
 }
 
 /// Adds what checks say of a value, the second one under the limits of the specification.
@@ -131,10 +102,9 @@ pub(crate) fn say_checks<A: Allocator + Copy>(
     if open > limits.depth || open > 64 {
         return reply.word("nothing to ask");
     }
-    let checked = check_value_within(alloc, value, open, limits);
-    say_outcome(reply, checked.map(|_| true));
+    reply.checked(check_value_within(alloc, value, open, limits));
     if limits == Limits::specification() {
-        say_outcome(reply, check_value(alloc, value, open).map(|_| true));
+        reply.checked(check_value(alloc, value, open));
     }
 }
 

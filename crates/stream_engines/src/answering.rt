@@ -9,13 +9,12 @@ use crate::lines::{say_client_line, say_server_line, say_written};
 use crate::machines::say_machine;
 use crate::messages::{say_encoded, say_match, say_sent, say_shown};
 use crate::passing::say_passed;
-use crate::places::say_places;
 use crate::reading::say_read;
 use crate::rule_sets::say_found;
 use crate::rules::say_rule;
 use crate::running::say_run;
 use crate::stream::Stream;
-use case_questions::{Answerer, Memory, Question, Reply};
+use case_questions::{Answerer, Memory, Question, Reply, say_places};
 use std::alloc::Allocator;
 
 /// The engines of this program.
@@ -56,7 +55,7 @@ fn say_of_message<A: Allocator + Copy>(
     memory: Memory<A>,
     question: Question,
 ) -> Option<()> {
-    let bytes = question.bytes(reply.alloc(), 1)?;
+    let bytes = question.bytes(reply.alloc(), 1);
     match question.word(0) {
         "show" => say_shown(reply, memory, &bytes, question),
         "encode" => say_encoded(reply, memory, &bytes, question),
@@ -71,7 +70,7 @@ fn say_stream<A: Allocator + Copy>(
     memory: Memory<A>,
     question: Question,
 ) -> Option<()> {
-    let bytes = question.bytes(reply.alloc(), 1)?;
+    let bytes = question.bytes(reply.alloc(), 1);
     let stream = Stream {
         alloc: reply.alloc(),
         memory,
@@ -79,9 +78,9 @@ fn say_stream<A: Allocator + Copy>(
         limits: question.limits(),
     };
     match question.word(0) {
-        "decode" => say_places(reply, question, &mut Decoding(stream)),
-        "cut" => say_places(reply, question, &mut InMany::new(&stream)),
-        "cut-in-two" => say_places(reply, question, &mut InTwo(stream)),
+        "decode" => say_places(reply, question, &mut Decoding(stream), 0, 0),
+        "cut" => say_places(reply, question, &mut InMany::new(&stream), 0, 0),
+        "cut-in-two" => say_places(reply, question, &mut InTwo(stream), 0, 0),
         _ => say_read(reply, &stream, question),
     }
     Some(())
@@ -93,12 +92,12 @@ fn say_of_rule<A: Allocator + Copy>(
     memory: Memory<A>,
     question: Question,
 ) -> Option<()> {
-    let text = String::from_utf8(question.bytes(reply.alloc(), 1)?).ok()?;
+    let text = String::from_utf8(question.bytes(reply.alloc(), 1)).ok()?;
     if question.word(0) == "rule" {
         say_rule(reply, memory, text.as_str());
         return Some(());
     }
-    let bytes = question.bytes(reply.alloc(), 2)?;
+    let bytes = question.bytes(reply.alloc(), 2);
     say_match(reply, memory, text.as_str(), &bytes, question)
 }
 
@@ -109,7 +108,7 @@ fn say_of_handshake<A: Allocator + Copy>(
     memory: Memory<A>,
     question: Question,
 ) -> Option<()> {
-    let bytes = question.bytes(reply.alloc(), 2)?;
+    let bytes = question.bytes(reply.alloc(), 2);
     match (question.word(0), question.word(1)) {
         ("line", "client") => say_client_line(reply, memory, &bytes),
         ("line", "server") => say_server_line(reply, memory, &bytes),
@@ -119,7 +118,7 @@ fn say_of_handshake<A: Allocator + Copy>(
                 memory,
                 bytes: &bytes,
             };
-            say_places(reply, question, &mut engine);
+            say_places(reply, question, &mut engine, 0, 0);
         }
         ("pass", _) => return say_passed(reply, memory, &bytes, question),
         ("end", _) => return say_led(reply, memory, &bytes, question),
@@ -129,7 +128,7 @@ fn say_of_handshake<A: Allocator + Copy>(
                 question,
                 bytes: &bytes,
             };
-            say_places(reply, question, &mut engine);
+            say_places(reply, question, &mut engine, 0, 0);
         }
         ("handshake", _) => return say_handshake(reply, memory, &bytes, question),
         _ => return None,

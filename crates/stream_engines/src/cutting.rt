@@ -1,9 +1,8 @@
 //! Cutters of messages, which are handed a stream in pieces.
 
-use crate::places::Engine;
-use crate::stream::{Stream, split};
+use crate::stream::Stream;
 use crate::trail::{OUT_OF_MEMORY, Rest, Trail};
-use case_questions::Reply;
+use case_questions::{Engine, Reply, split};
 use dbus_stream::{Cutter, StreamFault};
 use dbus_value::{Fault, Reason};
 use std::alloc::Allocator;

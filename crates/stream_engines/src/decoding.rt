@@ -1,9 +1,8 @@
 //! Decoding, of one message after the other.
 
-use crate::places::Engine;
-use crate::stream::{Stream, split};
+use crate::stream::Stream;
 use crate::trail::{OUT_OF_MEMORY, Rest, Trail};
-use case_questions::Reply;
+use case_questions::{Engine, Reply, split};
 use dbus_message::{Answer, decode_within};
 use dbus_value::Refusal;
 use std::alloc::Allocator;

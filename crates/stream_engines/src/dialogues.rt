@@ -1,9 +1,7 @@
 //! An end of a connection that is handed bytes in pieces.
 
 use crate::ends::Led;
-use crate::places::Engine;
-use crate::stream::split;
-use case_questions::{Memory, Question, Reply};
+use case_questions::{Engine, Memory, Question, Reply, split};
 use std::alloc::Allocator;
 
 /// Adds what an end does that is handed these bytes, in the way that `way=` says.

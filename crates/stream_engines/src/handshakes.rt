@@ -1,8 +1,7 @@
 //! Both ends of a connection, and the bytes that are under way between them.
 
 use crate::ends::Led;
-use crate::stream::split;
-use case_questions::{Memory, Question, Reply};
+use case_questions::{Memory, Question, Reply, split};
 use dbus_auth::Status;
 use std::alloc::{AllocError, Allocator, Global};
 

@@ -1,9 +1,7 @@
 //! Cutters of lines, which are handed bytes in pieces.
 
-use crate::places::Engine;
-use crate::stream::split;
 use crate::trail::OUT_OF_MEMORY;
-use case_questions::{Memory, Reply};
+use case_questions::{Engine, Memory, Reply, split};
 use dbus_auth_lines::{LineCutter, LineFault};
 use std::alloc::{Allocator, Global};
 

@@ -56,13 +56,13 @@ fn client_line<A: Allocator + Copy>(alloc: A, question: Question) -> Option<Clie
     match question.word(2) {
         "auth" if question.word(3).is_empty() => Some(ClientLine::Auth),
         "auth" => Some(ClientLine::AuthBy {
-            mech: bytes_of(alloc, question.word(3))?,
-            response: bytes_of(alloc, question.word(5))?,
+            mech: bytes_of(alloc, question.word(3)),
+            response: bytes_of(alloc, question.word(5)),
         }),
         "cancel" => Some(ClientLine::Cancel),
         "begin" => Some(ClientLine::Begin),
-        "data" => Some(ClientLine::DataOf(bytes_of(alloc, question.word(3))?)),
-        "error" => Some(ClientLine::Error(bytes_of(alloc, question.word(3))?)),
+        "data" => Some(ClientLine::DataOf(bytes_of(alloc, question.word(3)))),
+        "error" => Some(ClientLine::Error(bytes_of(alloc, question.word(3)))),
         "negotiate" => Some(ClientLine::Negotiate),
         "other" => Some(ClientLine::Other),
         _ => None,
@@ -74,8 +74,8 @@ fn server_line<A: Allocator + Copy>(alloc: A, question: Question) -> Option<Serv
     match question.word(2) {
         "rejected" => Some(ServerLine::Rejected(mechanisms_of(alloc, question)?)),
         "ok" => Some(ServerLine::Accepted(guid_of(question.word(3))?)),
-        "data" => Some(ServerLine::DataOf(bytes_of(alloc, question.word(3))?)),
-        "error" => Some(ServerLine::Error(bytes_of(alloc, question.word(3))?)),
+        "data" => Some(ServerLine::DataOf(bytes_of(alloc, question.word(3)))),
+        "error" => Some(ServerLine::Error(bytes_of(alloc, question.word(3)))),
         "agree" => Some(ServerLine::Agree),
         "other" => Some(ServerLine::Other),
         _ => None,
@@ -89,7 +89,7 @@ fn mechanisms_of<A: Allocator + Copy>(alloc: A, question: Question) -> Option<Ve
         if question.word(n).is_empty() {
             break;
         }
-        mechanisms.push(bytes_of(alloc, question.word(n))?).ok()?;
+        mechanisms.push(bytes_of(alloc, question.word(n))).ok()?;
     }
     Some(mechanisms)
 }

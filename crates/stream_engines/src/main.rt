@@ -22,7 +22,6 @@ mod machines;
 mod messages;
 mod outcome;
 mod passing;
-mod places;
 mod reading;
 mod rule_sets;
 mod rules;

@@ -27,7 +27,7 @@ fn add_all<A: Allocator + Copy>(
         if question.word(n).is_empty() {
             break;
         }
-        let text = String::from_utf8(question.bytes(alloc, n)?).ok()?;
+        let text = String::from_utf8(question.bytes(alloc, n)).ok()?;
         let rule = parse_rule(alloc, text.as_str()).ok()?;
         handles.push(add(rules, rule)?).ok()?;
     }
@@ -52,7 +52,7 @@ pub(crate) fn say_found<A: Allocator + Copy>(
     memory: Memory<A>,
     question: Question<'_>,
 ) -> Option<()> {
-    let bytes = question.bytes(reply.alloc(), 1)?;
+    let bytes = question.bytes(reply.alloc(), 1);
     let view = MessageView::of(&bytes).ok()?;
     let mut rules = RuleSet::new(memory.heap);
     let handles = add_all(&mut rules, memory.spare, question)?;

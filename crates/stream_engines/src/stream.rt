@@ -13,8 +13,3 @@ pub(crate) struct Stream<'a, A: Allocator> {
     pub(crate) bytes: &'a [u8],
     pub(crate) limits: Limits,
 }
-
-/// The bytes up to a place, and those after it.
-pub(crate) fn split(bytes: &[u8], place: usize) -> (&[u8], &[u8]) {
-    bytes.split_at(place.min(bytes.len()))
-}

@@ -1,5 +1,5 @@
 use Rattle.message_engines.specs.Checkers.{IsUnderWay}
-use Rattle.message_engines.proofs.checking.check_by_bytes.Given as goal
+use Rattle.message_engines.proofs.checking.say_by_bytes.Given as goal
 
 abbrev pub invariant-loop-end : goal.invariant-loop-end
 invariant-loop-end l = IsUnderWay l.values
