@@ -6,7 +6,7 @@ use Rattle.std.specs.Option.{MatchOption}
 use Rattle.std.proofs.lemmas.Bool.{false≢true}
 use Rattle.std.proofs.lemmas.Str.Pattern.{IsSplitOnceResult, split_after}
 use Rattle.clap.specs.Words.{Text}
-use Rattle.dbus_texts.specs.Names.{IsElement, IsJoined, IsBusName, each_after, is_dashed, is_dashed_start}
+use Rattle.dbus_texts.specs.Kinds.{IsElement, IsJoined, IsBusName, each_after, is_dashed, is_dashed_start}
 use Rattle.dbus_match.specs.Matching.{Ownership}
 use Rattle.cli_options.specs.Owners.{IsOwnerWord, IsUnique, IsWellKnown}
 

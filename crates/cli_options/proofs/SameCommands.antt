@@ -5,7 +5,7 @@ use Rattle.std.specs.Bool.{Decides}
 use Rattle.cli_options.specs.declared.command.Command.{Command}
 use Rattle.cli_options.specs.declared.command.Command.TheVariants.{Show, Json, Check, Swap, Filter}
 use Rattle.cli_options.specs.contracts.command.CommandPartialEq.TheImpl as command_eq
-use Rattle.cli_options.specs.SameCommands.{AreSameCommand}
+use Rattle.cli_options.specs.Selections.{AreSameCommand}
 use Rattle.cli_options.proofs.Selections.{selections_equal}
 
 pub commands_equal : (a b : Command) → Decides (command_eq.ghosts.eq a b) (AreSameCommand a b)

@@ -2,9 +2,5 @@ pub mod CommandLine
 pub mod Limiting
 pub mod Owners
 pub mod Selections
-pub mod Learning
-pub mod Unowned
 pub mod Named
-pub mod Windows
 pub mod Told
-pub mod SameCommands

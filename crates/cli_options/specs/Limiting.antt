@@ -1,5 +1,5 @@
 -- The limits and the window that the options of a command name.
-use Rattle.std.specs.Prelude.{◌≡◌, ◌≤◌, ◌<◌, ◌^◌, ℕ, List, Option, Some, None, Result, Ok, Err, codes}
+use Rattle.std.specs.Prelude.{◌≡◌, ◌≤◌, ◌<◌, ◌^◌, ℕ, List, Option, Some, None, Result, Ok, Err, codes, zero, suc, Bool, true, false, ◌||◌}
 use Rattle.std.specs.Str.Parse.{IsNumeral, digits_value, without_leading_plus}
 use Rattle.clap.specs.Words.{Row, Text, first_of, one_of}
 use Rattle.dbus_value_model.specs.Specification.{specification}
@@ -9,6 +9,7 @@ use Rattle.dbus_value_model.specs.declared.limits.Limits.{Limits}
 use Rattle.cli_options.specs.declared.usage_fault.UsageFault.{UsageFault}
 use Rattle.cli_options.specs.declared.usage_fault.UsageFault.TheVariants.{Memory, Help, Version, Usage, Rule}
 use Rattle.cli_options.specs.declared.window.Window.{Window}
+use Rattle.cli_options.specs.declared.settings.Settings.{Settings}
 
 -- the number that the digits of an option's text write; of an option that is not there, the default
 abbrev pub IsNumberOf : Option Text → ℕ → ℕ → Type 0
@@ -84,3 +85,15 @@ module _ {A : Type 0} (Is : A → Type 0) where
   TellsNamed (Err (Version text)) = ⊥
   TellsNamed (Err (Usage text)) = (x : A) → Is x → ⊥
   TellsNamed (Err (Rule refused)) = ⊥
+
+-- Settings that ask for more than limits and a handshake.
+
+-- a window that leaves messages out
+abbrev leaves_out : (skip : ℕ) → (limit : Option ℕ) → Bool
+leaves_out zero None = false
+leaves_out zero (Some limit) = true
+leaves_out (suc skip) limit = true
+
+-- they explain, keep going, or have such a window
+abbrev pub ask_more : Settings → Bool
+ask_more settings = settings.explains || settings.keeps_going || leaves_out settings.window.skip settings.window.limit

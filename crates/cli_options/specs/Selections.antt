@@ -7,6 +7,8 @@ use Rattle.dbus_rule.specs.declared.rule.Rule.{Rule}
 use Rattle.dbus_match.specs.Matching.{Matches, Ownership, ownerships}
 use Rattle.dbus_rule.specs.RuleViews.{rule_pairs}
 use Rattle.cli_options.specs.declared.selection.Selection.{Selection}
+use Rattle.cli_options.specs.declared.command.Command.{Command}
+use Rattle.cli_options.specs.declared.command.Command.TheVariants.{Show, Json, Check, Swap, Filter}
 
 -- some rule of the list matches the message with these owners
 abbrev pub SomeMatches : List (Rule Global) → MessageTree → List Ownership → Type 0
@@ -37,3 +39,15 @@ pub record AreSameSelection (a b : Selection) : Type 0 where
   pub inverted : a.is_inverted ≡ b.is_inverted
   pub owners : ownerships a.owners.items ≡ ownerships b.owners.items
   pub learns : a.learns ≡ b.learns
+
+-- When two commands are the same: their names are, and so is what belongs to them.
+
+-- both are `Show`, both `Json` or both `Check`; or they are `Swap` to one order, or `Filter` by the
+-- same selection
+abbrev pub AreSameCommand : Command → Command → Type 0
+AreSameCommand Show Show = Unit {0}
+AreSameCommand Json Json = Unit {0}
+AreSameCommand Check Check = Unit {0}
+AreSameCommand (Swap a) (Swap b) = a ≡ b
+AreSameCommand (Filter r) (Filter s) = AreSameSelection r s
+AreSameCommand a b = ⊥

@@ -1,8 +1,7 @@
 //! Copies of commands and selections.
 #![tactic(auto)]
 
-ghost use Rattle.cli_options.specs.SameCommands.{AreSameCommand};
-ghost use Rattle.cli_options.specs.Selections.{AreSameSelection};
+ghost use Rattle.cli_options.specs.Selections.{AreSameCommand, AreSameSelection};
 
 use crate::command::Command;
 use crate::selection::Selection;

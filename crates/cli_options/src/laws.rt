@@ -2,7 +2,7 @@
 #![tactic(auto)]
 
 ghost use Rattle.std.specs.Prelude.{◌↔◌, IsTrue};
-ghost use Rattle.cli_options.specs.SameCommands.{AreSameCommand};
+ghost use Rattle.cli_options.specs.Selections.{AreSameCommand};
 
 use crate::command::Command;
 

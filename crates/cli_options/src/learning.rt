@@ -1,11 +1,11 @@
 //! The owners of names that a stream itself tells.
 ghost use Rattle.std.specs.Prelude.{◌≡◌, None, Some, IfOk, OnErr, option_map};
 ghost use Rattle.dbus_value_model.specs.declared.order.Order.{Order};
-ghost use Rattle.dbus_message_model.specs.Lookups.{body_value};
+ghost use Rattle.dbus_message_model.specs.KnownFields.{body_value};
 ghost use Rattle.dbus_message_model.specs.Messages.{MessageTree};
 ghost use Rattle.dbus_view.specs.Views.{Views};
 ghost use Rattle.dbus_match.specs.Matching.{ownerships, string_of};
-ghost use Rattle.cli_options.specs.Learning.{ask_sender, change_of, changed, is_change, is_text, known, known_after, others};
+ghost use Rattle.cli_options.specs.Owners.{ask_sender, change_of, changed, is_change, is_text, known, known_after, others};
 
 use crate::selection::Selection;
 use dbus_match::{Owner, Rule};

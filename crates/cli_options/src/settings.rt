@@ -1,6 +1,6 @@
 //! What words set beside the command.
 ghost use Rattle.std.specs.Prelude.{◌≡◌};
-ghost use Rattle.cli_options.specs.Windows.{ask_more};
+ghost use Rattle.cli_options.specs.Limiting.{ask_more};
 
 use crate::window::Window;
 use dbus_handshake_input::Side;

@@ -2,7 +2,7 @@
 #![tactic(auto)]
 
 ghost use Rattle.std.specs.Prelude.{◌≡◌, option_map};
-ghost use Rattle.cli_options.specs.Unowned.{is_unique, is_unowned, lacks_owner, needs_owner, selection_lacks_owner, some_needs_owner, some_owns};
+ghost use Rattle.cli_options.specs.Owners.{is_unique, is_unowned, lacks_owner, needs_owner, selection_lacks_owner, some_needs_owner, some_owns};
 
 use crate::command::Command;
 use crate::learning::BUS;

@@ -1,7 +1,7 @@
 -- The steps in which bytes are gathered and written.
 use Rattle.std.proofs.Common.{◌≡◌, ℕ, List, [], ◌++◌, Option, Result, Ok, Err, take, drop, sym, ap, ◌∙◌, subst, append_assoc, append-nil, take-append-drop}
 use Rattle.std.specs.Io.KnownBytes.{Appends}
-use Rattle.dbus_device.specs.Write.{Wrote, Stopped}
+use Rattle.dbus_device.specs.Device.{Wrote, Stopped}
 use Rattle.cli_report.specs.Gathering.{Passes, Breaks, GathersOrNot}
 use Rattle.cli_report.specs.PageLaws.{passes_both, breaks_after}
 use Rattle.cli_report.specs.declared.ending.Cause.{Cause}

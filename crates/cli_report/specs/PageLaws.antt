@@ -4,8 +4,7 @@ use Rattle.std.proofs.Common.{◌≡◌, ℕ, List, [], ◌++◌, Bool, true, fa
 use Rattle.std.proofs.KnownBytes.{Appends-nil, Appends-trans}
 use Rattle.std.proofs.lemmas.Bool.{false≢true}
 use Rattle.dbus_device.specs.Device.{one_more}
-use Rattle.cli_report.specs.Gathering.{Passes, Breaks, gathered_bytes}
-use Rattle.cli_report.specs.Pages.{Goes}
+use Rattle.cli_report.specs.Gathering.{Passes, Breaks, gathered_bytes, Goes}
 use Rattle.cli_report.specs.declared.page.Page.{Page}
 
 module _ {W : Type 0} (held : W → Option (List ℕ)) (failures : W → ℕ) where

@@ -1,11 +1,28 @@
 -- What is told of a message that is refused. kept are the bytes that were kept from its first one
 -- on.
-use Rattle.std.specs.Prelude.{◌≡◌, ℕ, ◌+◌, List, ◌++◌, Bool, true, false, codes, decimal}
+use Rattle.std.specs.Prelude.{ℕ, List, ◌++◌, codes, decimal, ◌≡◌, ◌+◌, Bool, true, false, ◌⊎◌, Option}
+use Rattle.dbus_value_model.specs.declared.fault.Reason.{Reason}
 use Rattle.dbus_value_model.specs.FaultTexts.{reason_text}
 use Rattle.dbus_explain.specs.Explained.{IsExplained}
 use Rattle.dbus_explain.specs.declared.message.Refused.{Refused}
-use Rattle.cli_report.specs.Lines.{refused_line}
+use Rattle.dbus_device.specs.Device.{Wrote, Stopped}
+use Rattle.cli_report.specs.declared.ending.Cause.{Cause}
+use Rattle.cli_report.specs.declared.ending.Cause.TheVariants.{Memory, ReadFailed, WriteFailed, TooManyReads}
 use Rattle.cli_report.specs.declared.telling.RefusedMessage.{RefusedMessage}
+use Rattle.cli_report.specs.declared.ending.ExitStatus.{ExitStatus}
+use Rattle.cli_report.specs.declared.ending.ExitStatus.TheVariants as status
+
+-- The lines of a fault, and of a cause.
+
+-- the offset of a fault and its reason
+abbrev pub refused_line : ℕ → Reason → List ℕ
+refused_line place why = codes "refused at " ++ (decimal place ++ (codes ": " ++ (reason_text why ++ codes "\n")))
+
+abbrev pub cause_line : Cause → List ℕ
+cause_line Memory = codes "out of memory\n"
+cause_line ReadFailed = codes "read failed\n"
+cause_line WriteFailed = codes "write failed\n"
+cause_line TooManyReads = codes "too many reads\n"
 
 -- the fault's place in the input and its reason; and if the run goes on after it, the message's
 -- number there, and where the message begins
@@ -27,3 +44,15 @@ pub record Explains (refusal : RefusedMessage) (kept text : List ℕ) : Type 0 w
 abbrev pub IsToldBy : (goes_on explains : Bool) → RefusedMessage → (kept text : List ℕ) → Type 0
 IsToldBy goes_on false refusal kept text = text ≡ line_of goes_on refusal
 IsToldBy goes_on true refusal kept text = (explained : List ℕ) × Explains refusal kept explained × (text ≡ line_of goes_on refusal ++ explained)
+
+-- How a run ends, and what is told of one that fails.
+
+abbrev pub exit_code : ExitStatus → ℕ
+exit_code status.Done = 0
+exit_code status.Refused = 1
+exit_code status.Usage = 2
+exit_code status.Failed = 3
+
+-- the second writer was told the cause, or a write failed after the first bytes of that
+abbrev pub Told : {E : Type 0} → (E → Option (List ℕ)) → (E → ℕ) → E → E → Cause → Type 0
+Told held failures old new cause = Wrote held failures old (cause_line cause) new ⊎ ((n : ℕ) × Stopped held failures old (cause_line cause) n new)

@@ -15,7 +15,7 @@ pub enum ExitStatus {
 
 impl ExitStatus {
     ghost use Rattle.std.specs.Prelude.{◌≡◌};
-    ghost use Rattle.cli_report.specs.Failing.{exit_code};
+    ghost use Rattle.cli_report.specs.Telling.{exit_code};
 
     /// The program's exit code.
     pub fn code(self) -> u8

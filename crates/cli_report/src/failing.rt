@@ -1,6 +1,6 @@
 //! What a failed run reports.
 ghost use Rattle.std.specs.Prelude.{◌≡◌};
-ghost use Rattle.cli_report.specs.Failing.{Told};
+ghost use Rattle.cli_report.specs.Telling.{Told};
 
 use crate::ending::{Cause, ExitStatus};
 use crate::lines::cause_line;

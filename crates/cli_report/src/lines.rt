@@ -1,6 +1,6 @@
 //! The lines of a fault, and of a cause.
 ghost use Rattle.std.specs.Prelude.{◌≡◌, ◌+◌, IfOk, string_bytes};
-ghost use Rattle.cli_report.specs.Lines.{refused_line, cause_line};
+ghost use Rattle.cli_report.specs.Telling.{refused_line, cause_line};
 
 use crate::ending::Cause;
 use dbus_value_model::Fault;

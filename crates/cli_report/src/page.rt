@@ -1,7 +1,7 @@
 //! A text that is gathered and written as it comes.
 #![tactic(auto)]
 
-ghost use Rattle.cli_report.specs.Pages.{Goes};
+ghost use Rattle.cli_report.specs.Gathering.{Goes};
 ghost use Rattle.cli_report.specs.PageLaws as laws;
 
 use crate::gathered::Gathered;

@@ -1,19 +1,17 @@
 -- How `check` ends if it counts the messages, and writes one line.
 use Rattle.std.proofs.Common.{◌≡◌, ℕ, true, List, [], ◌∷◌, ◌++◌, Ok, Err, take, drop, refl, sym, ap, subst, take-append-drop, inl, inr}
-use Rattle.dbus_device.specs.Write.{Wrote, Stopped}
+use Rattle.dbus_device.specs.Device.{Wrote, Stopped}
 use Rattle.cli_options.specs.declared.command.Command.TheVariants.{Check}
 use Rattle.cli_options.specs.declared.settings.Settings.{Settings}
-use Rattle.cli_run.specs.ByName.{IsUnwritten}
+use Rattle.cli_run.specs.ByName.{IsUnwritten, Tallies}
 use Rattle.cli_run.specs.Told.{WritesLine, GotFirst, GotSecond, TellsStop}
-use Rattle.cli_run.specs.Counting.{Tallies}
-use Rattle.cli_run.specs.Going.{IsMore, IsStopOf, StopsWithin}
+use Rattle.cli_run.specs.Going.{IsMore, IsStopOf, StopsWithin, closing_line}
 use Rattle.cli_run.specs.Inputs.{Placed, placed}
 use Rattle.cli_run.specs.Output.{IsOutputOfAll, check_line, fault_line, status_of}
-use Rattle.cli_run.specs.Parts.{closing_line}
 use Rattle.cli_run.specs.Running.{RunsWith, Writes, WritesSome}
 use Rattle.cli_run.specs.VisitorLaws.{told_nothing, wrote_nothing}
 use Rattle.cli_report.specs.Devices.{Reading, Writing, taken, writing}
-use Rattle.cli_report.specs.Failing.{Told}
+use Rattle.cli_report.specs.Telling.{Told}
 use Rattle.cli_report.specs.declared.ending.ExitStatus.{ExitStatus}
 use Rattle.cli_report.specs.declared.ending.ExitStatus.TheVariants as status
 use Rattle.cli_report.specs.declared.ending.Cause.{Cause}

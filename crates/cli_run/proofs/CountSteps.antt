@@ -7,23 +7,20 @@ use Rattle.std.proofs.lemmas.Bool.{or_parts}
 use Rattle.dbus_value_model.specs.declared.fault.Fault.{Fault}
 use Rattle.dbus_value_model.specs.declared.limits.Limits.{Limits}
 use Rattle.dbus_device.specs.Device.{RisesBy}
-use Rattle.dbus_stream.specs.CheckReading.{CheckAnswers, CheckReader, limits_of}
+use Rattle.dbus_stream.specs.CheckReading.{CheckAnswers, CheckReader, limits_of, lengths}
 use Rattle.dbus_stream.specs.Cut.{CutMessage}
 use Rattle.dbus_stream.specs.CutEnds.{sizes}
-use Rattle.dbus_stream.specs.Lengths.{lengths}
 use Rattle.dbus_stream.specs.Reading.{IsNewReader, most_reads_of, source_of}
 use Rattle.dbus_stream.specs.declared.read_fault.ReadFault.{ReadFault}
 use Rattle.dbus_stream.specs.declared.read_fault.ReadFault.TheVariants as read
 use Rattle.dbus_stream.proofs.NextSteps.{both_ways}
-use Rattle.cli_options.specs.Windows.{ask_more}
+use Rattle.cli_options.specs.Limiting.{ask_more}
 use Rattle.cli_options.specs.declared.settings.Settings.{Settings}
-use Rattle.cli_run.specs.ByName.{IsUnwritten}
-use Rattle.cli_run.specs.Counting.{Tallies}
-use Rattle.cli_run.specs.Going.{Covers, IsMore, IsStopOf}
+use Rattle.cli_run.specs.ByName.{IsUnwritten, Tallies}
+use Rattle.cli_run.specs.Going.{Covers, IsMore, IsStopOf, IsToldLast}
 use Rattle.cli_run.specs.Onward.{HasRead, HandsOn, HandsSomeOn}
 use Rattle.cli_run.specs.Inputs.{Placed, sizes_of, wholes}
 use Rattle.cli_run.specs.Output.{fault_line}
-use Rattle.cli_run.specs.Parts.{IsToldLast}
 use Rattle.cli_run.specs.Visiting.{AddsUp}
 use Rattle.cli_report.specs.Devices.{Taken, reading, taken}
 use Rattle.cli_report.specs.Telling.{IsToldBy, line_of}

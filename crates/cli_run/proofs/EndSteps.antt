@@ -2,24 +2,23 @@
 use Rattle.std.proofs.Common.{◌≡◌, ℕ, Bool, true, false, List, [], None, Option, inl, inr, refl, sym, ap, ◌∙◌, subst, arith}
 use Rattle.std.proofs.KnownBytes.{Consumes-nil}
 use Rattle.std.proofs.Math.Path.{transport}
-use Rattle.dbus_device.specs.Write.{Wrote}
+use Rattle.dbus_device.specs.Device.{Wrote}
 use Rattle.cli_options.specs.declared.command.Command.{Command}
 use Rattle.cli_options.specs.declared.settings.Settings.{Settings}
 use Rattle.cli_report.specs.Devices.{Taken, Writing, reading, taken, writing}
 use Rattle.cli_report.specs.Gathering.{Breaks, gathered_bytes}
 use Rattle.cli_report.proofs.GatherSteps.{passes_whole}
-use Rattle.cli_report.specs.Failing.{Told}
+use Rattle.cli_report.specs.Telling.{Told}
 use Rattle.cli_report.specs.declared.ending.Cause.TheVariants.{Memory, WriteFailed}
 use Rattle.cli_report.specs.declared.ending.ExitStatus.{ExitStatus}
 use Rattle.cli_report.specs.declared.ending.ExitStatus.TheVariants as status
-use Rattle.cli_run.specs.Output.{command_of, IsOutputOfAll, is_check, owners_known}
+use Rattle.cli_run.specs.Output.{command_of, IsOutputOfAll, is_check, owners_known, written}
 use Rattle.cli_run.specs.Going.{GoesThrough, StopsWithin}
 use Rattle.cli_run.specs.Inputs.{Placed}
 use Rattle.cli_run.specs.OutputWriting.{LeavesFirst, LeavesWritten, WritesAll}
 use Rattle.cli_run.specs.Running.{RunsWith, Writes, WritesSome}
 use Rattle.cli_run.specs.Told.{GotFirst, GotSecond, first_of, second_of}
 use Rattle.cli_run.specs.VisitorLaws.{first_nothing, told_nothing, written_none, wrote_nothing}
-use Rattle.cli_run.specs.Windows.{written}
 use Rattle.cli_run.specs.declared.output_writer.OutputWriter.{OutputWriter}
 use Rattle.cli_run.specs.declared.visitor.RunStop.{RunStop}
 use Rattle.cli_run.specs.declared.visitor.RunStop.TheVariants.{Cause as ByCause, Untold}

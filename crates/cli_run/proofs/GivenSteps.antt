@@ -4,8 +4,7 @@ use Rattle.dbus_validate.specs.declared.validating.Validated.{Validated}
 use Rattle.dbus_stream.specs.Next.{DeviceCounts}
 use Rattle.dbus_stream.specs.declared.read_fault.ReadFault.{ReadFault}
 use Rattle.dbus_stream.specs.declared.read_fault.ReadFault.TheVariants as read
-use Rattle.dbus_stream.specs.RawNext.{Advances, KeptAnswers, Lends, ReadsNothing}
-use Rattle.dbus_stream.specs.RawReading.{kept, source_of, stopped_of}
+use Rattle.dbus_stream.specs.RawReading.{Advances, KeptAnswers, Lends, ReadsNothing, kept, source_of, stopped_of}
 use Rattle.dbus_stream.specs.declared.raw_reader.RawReader.{RawReader}
 use Rattle.dbus_stream.proofs.RawSteps.{starts, unread}
 use Rattle.cli_report.specs.declared.ending.Cause.TheVariants.{WriteFailed}

@@ -21,10 +21,9 @@ use Rattle.dbus_stream.specs.RawReading.{done_of, is_ended, kept, limits_of, mos
 use Rattle.dbus_stream.specs.declared.raw_reader.RawReader.{RawReader}
 use Rattle.dbus_stream.specs.declared.read_fault.ReadFault.{ReadFault}
 use Rattle.dbus_stream.specs.declared.read_fault.ReadFault.TheVariants as read
-use Rattle.cli_run.specs.Going.{Closes, IsAllOf, PassesAll, cause_of}
+use Rattle.cli_run.specs.Going.{Closes, IsAllOf, PassesAll, cause_of, AreTold, HasLastLine, IsTold, closing_line, passed_count, passed_sizes}
 use Rattle.cli_run.specs.Inputs.{BeginWithParts, IsCutOff, IsLast, IsTellable, PassedOver, Placed, placed, sizes_of}
 use Rattle.cli_run.specs.Onward.{HasRead, stop_of}
-use Rattle.cli_run.specs.Parts.{AreTold, HasLastLine, IsTold, closing_line, passed_count, passed_sizes}
 use Rattle.cli_run.specs.Visiting.{AddsUp, Tells}
 use Rattle.cli_report.specs.declared.ending.Cause.{Cause}
 use Rattle.cli_report.specs.declared.ending.Cause.TheVariants.{Memory, ReadFailed, TooManyReads}

@@ -18,10 +18,9 @@ use Rattle.dbus_stream.specs.RawReading.{IsNewReader, done_of, is_ended, kept, l
 use Rattle.dbus_stream.specs.declared.raw_reader.RawReader.{RawReader}
 use Rattle.cli_options.specs.declared.settings.Settings.{Settings}
 use Rattle.cli_report.specs.Devices.{reading, taken, Taken}
-use Rattle.cli_run.specs.Going.{Covers, IsMore, IsStopOf, IsThrough, StopsWithin}
+use Rattle.cli_run.specs.Going.{Covers, IsMore, IsStopOf, IsThrough, StopsWithin, AreTold, passed_count, passed_sizes, tally_of}
 use Rattle.cli_run.specs.Inputs.{BeginWithParts, Part, Placed, Whole, placed, sizes_of, wholes}
 use Rattle.cli_run.specs.Onward.{HasRead, HandsRawOn, HandsSomeOn, IsTrueEnd, stop_of}
-use Rattle.cli_run.specs.Parts.{AreTold, passed_count, passed_sizes, tally_of}
 use Rattle.cli_run.specs.Visiting.{AddsUp}
 use Rattle.cli_report.specs.declared.ending.Cause.{Cause}
 use Rattle.cli_report.specs.declared.ending.Cause.TheVariants.{Memory, ReadFailed, WriteFailed, TooManyReads}

@@ -12,9 +12,8 @@ use Rattle.dbus_stream.specs.Cut.{CutMessage, CutOutcome, Unfinished, Refused, I
 use Rattle.dbus_stream.specs.CutEnds.{fault_at_end, sizes}
 use Rattle.dbus_stream.specs.Gathering.{gathering}
 use Rattle.dbus_stream.specs.Next.{DeviceCounts, IsCutShort, Reads}
-use Rattle.dbus_stream.specs.RawNext.{Advances, Lends}
+use Rattle.dbus_stream.specs.RawReading.{Advances, Lends, kept, lent_of}
 use Rattle.dbus_stream.specs.RawReading as raw
-use Rattle.dbus_stream.specs.RawReading.{kept, lent_of}
 use Rattle.dbus_stream.specs.declared.raw_reader.RawReader.{RawReader}
 use Rattle.dbus_stream.specs.Reading.{limits_of, source_of, done_of, reads_of, most_reads_of, is_ended, stopped_of}
 use Rattle.dbus_stream.specs.Taking.{Taking}
@@ -24,7 +23,7 @@ use Rattle.dbus_stream.specs.declared.read_fault.ReadFault.{ReadFault}
 use Rattle.dbus_stream.specs.declared.read_fault.ReadFault.TheVariants as read
 use Rattle.cli_report.specs.declared.ending.Cause.{Cause}
 use Rattle.cli_report.specs.declared.ending.Cause.TheVariants.{Memory, ReadFailed, WriteFailed, TooManyReads}
-use Rattle.cli_run.specs.Counting.{ended_by, stopped_by}
+use Rattle.cli_run.specs.ByName.{ended_by, stopped_by}
 use Rattle.cli_run.specs.Handing.{GivesNext, Stays}
 use Rattle.cli_run.specs.Onward.{AreAll, HasRead, HandsAllOn, HandsSomeOn, HandsOn, RawHandsOn, StopsFor}
 use Rattle.cli_run.specs.Inputs.{Placed, placed, wholes}

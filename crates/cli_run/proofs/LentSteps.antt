@@ -8,8 +8,7 @@ use Rattle.dbus_header.specs.MessageOutcomes.{IsWhole}
 use Rattle.dbus_header.proofs.OutcomeLaws.{one_whole, whole_bytes, whole_inside, whole_valid, valid_whole}
 use Rattle.dbus_validate.specs.declared.validating.Validated.{Validated}
 use Rattle.dbus_validate.specs.Validating.{IsValidatedWhole}
-use Rattle.dbus_stream.specs.RawNext.{Lends}
-use Rattle.dbus_stream.specs.RawReading.{limits_of, lent_of}
+use Rattle.dbus_stream.specs.RawReading.{Lends, limits_of, lent_of}
 use Rattle.dbus_stream.specs.declared.raw_reader.RawReader.{RawReader}
 use Rattle.dbus_view.specs.Views.{ViewState, Views, IsViewOf}
 

@@ -1,10 +1,9 @@
 -- How a run ends that counts messages by their names.
 use Rattle.std.proofs.Common.{◌≡◌, ℕ, false, List, None, Option, ap, ◌∙◌, subst}
 use Rattle.cli_options.specs.declared.settings.Settings.{Settings}
-use Rattle.dbus_count.specs.Counting.{Counting}
-use Rattle.dbus_count.specs.Kept.{counting_of}
+use Rattle.dbus_count.specs.Counting.{Counting, counting_of}
 use Rattle.dbus_count.specs.declared.form.Form.{Form}
-use Rattle.dbus_device.specs.Write.{Wrote}
+use Rattle.dbus_device.specs.Device.{Wrote}
 use Rattle.cli_report.specs.Devices.{Writing, reading, taken, writing}
 use Rattle.cli_report.specs.declared.ending.ExitStatus.{ExitStatus}
 use Rattle.cli_run.specs.ByName.{CountsMessages, CountsThrough, EndsCount, after_messages, counting}

@@ -4,7 +4,7 @@ use Rattle.std.proofs.Common.{◌≡◌, ℕ, Bool, true, false, List, [], Optio
 use Rattle.std.proofs.Math.Path.{transport}
 use Rattle.dbus_value_model.specs.declared.order.Order.{Order}
 use Rattle.dbus_message_model.specs.Messages.{MessageTree}
-use Rattle.dbus_device.specs.Write.{Wrote}
+use Rattle.dbus_device.specs.Device.{Wrote}
 use Rattle.dbus_match.specs.Matching.{Ownership}
 use Rattle.cli_options.specs.declared.command.Command.{Command}
 use Rattle.cli_options.specs.declared.command.Command.TheVariants.{Check}
@@ -16,13 +16,12 @@ use Rattle.cli_report.proofs.GatherSteps.{breaks_before, breaks_nothing, breaks_
 use Rattle.cli_report.specs.declared.ending.Cause.{Cause}
 use Rattle.cli_report.specs.declared.ending.Cause.TheVariants.{Memory, WriteFailed}
 use Rattle.cli_report.specs.declared.gathering.Unwritten.{Unwritten}
-use Rattle.cli_run.specs.Output.{command_of, IsOutputOf, is_check, owners_known}
+use Rattle.cli_run.specs.Output.{command_of, IsOutputOf, is_check, owners_known, written}
 use Rattle.cli_run.specs.Handing.{HandsOne}
 use Rattle.cli_run.specs.VisitorLaws.{lets_out, nothing_first, told_nothing, after_none, written_none}
 use Rattle.cli_run.specs.OutputWriting.{FailsBy, LeavesFirst, LeavesWritten, WritesAll}
 use Rattle.cli_run.specs.Told.{GotSecond, WroteOrNot, first_of, second_of}
 use Rattle.cli_run.specs.Visiting.{LetsGo, TakesOne, TellsOne}
-use Rattle.cli_run.specs.Windows.{written}
 use Rattle.cli_run.specs.declared.output_writer.OutputWriter.{OutputWriter}
 use Rattle.cli_run.specs.declared.place.Carried.{Carried}
 use Rattle.cli_run.specs.declared.place.MessagePlace.{MessagePlace}

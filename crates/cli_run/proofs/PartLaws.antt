@@ -12,7 +12,7 @@ use Rattle.dbus_stream.specs.CutEnds.{sizes}
 use Rattle.cli_options.specs.declared.settings.Settings.{Settings}
 use Rattle.cli_run.specs.Inputs.{Part, Whole, PassedOver, Placed, placed, placed_at, size_of, sizes_of, wholes, IsLast, IsPart, BeginWithParts}
 use Rattle.cli_run.specs.Output.{check_line, fault_line}
-use Rattle.cli_run.specs.Parts.{AreTold, closing_line, passed_count, passed_sizes}
+use Rattle.cli_run.specs.Going.{AreTold, closing_line, passed_count, passed_sizes}
 use Rattle.cli_run.specs.declared.place.MessagePlace.{MessagePlace}
 use Rattle.cli_run.specs.declared.tally.Tally.{Tally}
 

@@ -9,26 +9,23 @@ use Rattle.std.specs.Io.KnownBytes.{Appends, IsAtEnd}
 use Rattle.dbus_value_model.specs.declared.fault.Fault.{Fault}
 use Rattle.dbus_value_model.specs.declared.limits.Limits.{Limits}
 use Rattle.dbus_header.specs.MessageOutcomes.{IsPartial}
-use Rattle.dbus_device.specs.Write.{Wrote, Stopped}
+use Rattle.dbus_device.specs.Device.{Wrote, Stopped}
 use Rattle.dbus_stream.specs.Cut.{CutMessage, BeginWith, CutOutcome, Refused, IsOutcome, IsCut}
 use Rattle.dbus_stream.specs.CutEnds.{fault_at_end, sizes}
 use Rattle.dbus_stream.proofs.CutLaws.{BeginWith-first, IsCut-one}
-use Rattle.cli_options.specs.Windows.{ask_more}
+use Rattle.cli_options.specs.Limiting.{ask_more}
 use Rattle.cli_options.specs.declared.command.Command.{Command}
 use Rattle.cli_options.specs.declared.command.Command.TheVariants.{Check}
 use Rattle.cli_options.specs.declared.settings.Settings.{Settings}
 use Rattle.cli_run.specs.Running.{Answers, CountsWrite, Fails, TellsLine, WritesBefore, WritesMessages, Runs, RunsWith, Writes, WritesSome}
 use Rattle.cli_report.specs.Devices.{Reading, Writing, taken, writing}
-use Rattle.cli_run.specs.Going.{GoesThrough, IsAllOf, IsThrough, StopsWithin}
+use Rattle.cli_run.specs.Going.{GoesThrough, IsAllOf, IsThrough, StopsWithin, AreTold, IsToldLast, closing_line, passed_count, status_at, tally_of}
 use Rattle.cli_report.specs.Gathering.{Breaks, IsPrefixTo}
-use Rattle.cli_report.specs.Lines.{cause_line}
+use Rattle.cli_report.specs.Telling.{cause_line, Told}
 use Rattle.cli_run.specs.Inputs.{BeginWithParts, IsLast, IsTellable, Part, PassedOver, Placed, Whole, placed, sizes_of, wholes}
-use Rattle.cli_run.specs.Output.{IsFirstOutput, IsFront, IsOutputOfAll, check_line, fault_line, is_check, last_line, owners_known, second_output}
-use Rattle.cli_run.specs.Parts.{AreTold, IsToldLast, closing_line, passed_count, status_at, tally_of}
-use Rattle.cli_report.specs.Failing.{Told}
+use Rattle.cli_run.specs.Output.{IsFirstOutput, IsFront, IsOutputOfAll, check_line, fault_line, is_check, last_line, owners_known, second_output, written}
 use Rattle.cli_run.specs.Told.{GotFirst, GotSecond, TellsStop, first_of, second_of}
 use Rattle.cli_run.specs.VisitorLaws.{first_nothing, second_nothing, wrote_both, wrote_stopped}
-use Rattle.cli_run.specs.Windows.{written}
 use Rattle.cli_report.specs.declared.ending.ExitStatus.{ExitStatus}
 use Rattle.cli_report.specs.declared.ending.ExitStatus.TheVariants as status
 use Rattle.cli_report.specs.declared.ending.Cause.{Cause}

@@ -8,12 +8,10 @@ use Rattle.dbus_value_model.specs.declared.order.Order.{Order}
 use Rattle.dbus_message_model.specs.Messages.{MessageTree}
 use Rattle.dbus_rule.specs.declared.rule.Rule.{Rule}
 use Rattle.dbus_match.specs.Matching.{Matches, Ownership}
-use Rattle.dbus_rule.specs.Senders.{sender_of}
+use Rattle.dbus_rule.specs.Rules.{sender_of, Pair}
 use Rattle.dbus_rule.specs.RuleViews.{rule_pairs}
-use Rattle.dbus_rule.specs.Rules.{Pair}
-use Rattle.cli_options.specs.Learning.{ask_sender, change_of, is_text, known_after, wanted}
-use Rattle.cli_options.specs.SameCommands.{AreSameCommand}
-use Rattle.cli_options.specs.Selections.{AreSameSelection, OrInverted, SelectsBy, SomeMatches}
+use Rattle.cli_options.specs.Owners.{ask_sender, change_of, is_text, known_after, wanted}
+use Rattle.cli_options.specs.Selections.{AreSameCommand, AreSameSelection, OrInverted, SelectsBy, SomeMatches}
 use Rattle.cli_options.specs.declared.command.Command.{Command}
 use Rattle.cli_options.specs.declared.command.Command.TheVariants.{Show, Json, Check, Swap, Filter}
 use Rattle.cli_options.specs.declared.selection.Selection.{Selection}
@@ -23,7 +21,7 @@ use Rattle.cli_report.specs.declared.telling.RefusedMessage.{RefusedMessage}
 use Rattle.cli_report.specs.declared.ending.ExitStatus.TheVariants as status
 use Rattle.cli_run.specs.Inputs.{Part, PassedOver, Placed, Whole, placed, placed_at}
 use Rattle.cli_run.specs.Output.{IsExact, IsOutputOf, IsOutputOfAll, IsTextOf, Picks, is_check, owners_after, owners_known}
-use Rattle.cli_run.specs.Parts.{AreTold, IsTold, IsToldLast, passed_count, status_at, tally_of}
+use Rattle.cli_run.specs.Going.{AreTold, IsTold, IsToldLast, passed_count, status_at, tally_of}
 use Rattle.cli_run.proofs.Outputs.{output_all_one}
 use Rattle.cli_run.proofs.SameParts.{ArePassed, AreSame, bare}
 

@@ -2,15 +2,14 @@
 use Rattle.std.proofs.Common.{◌≡◌, ℕ, ◌+◌, Bool, false, List, [], ◌∷◌, ◌++◌, length, drop, take, None, Some, Option, Ok, refl, sym, ap, ◌∙◌, subst, inl, inr, take-append-drop, ◌≢◌}
 use Rattle.std.proofs.Math.Path.{transport}
 use Rattle.std.specs.Io.KnownBytes.{Consumes, IsAtEnd}
-use Rattle.dbus_device.specs.Write.{Wrote}
+use Rattle.dbus_device.specs.Device.{Wrote}
 use Rattle.dbus_value_model.specs.ByteNumbers.{IsBytes}
 use Rattle.dbus_value_model.proofs.Numbers.{IsBytes-rest}
 use Rattle.dbus_value_model.specs.declared.fault.Fault.{Fault}
 use Rattle.dbus_value_model.specs.declared.limits.Limits.{Limits}
 use Rattle.dbus_count.specs.Counting.{Counting}
-use Rattle.dbus_count.specs.Tables.{words}
+use Rattle.dbus_count.specs.Tables.{words, OneTable}
 use Rattle.dbus_count.specs.declared.form.Form.{Form}
-use Rattle.dbus_count.specs.Laws.{OneTable}
 use Rattle.dbus_stream.specs.Cut.{IsOutcome, BeginWith, CutMessage, CutOutcome, Refused, IsCut}
 use Rattle.dbus_stream.specs.CutEnds.{fault_at_end, sizes}
 use Rattle.dbus_stream.proofs.CutLaws.{IsCut-one, BeginWith-more}
@@ -18,15 +17,13 @@ use Rattle.cli_options.specs.declared.settings.Settings.{Settings}
 use Rattle.cli_report.specs.Devices.{Taken, Writing, taken, writing}
 use Rattle.cli_report.specs.declared.ending.ExitStatus.{ExitStatus}
 use Rattle.cli_report.specs.declared.ending.ExitStatus.TheVariants as status
-use Rattle.cli_run.specs.Alike.{ExplainsNone, OneCount, OneRun, OneWithin}
+use Rattle.cli_run.specs.Laws.{ExplainsNone, OneCount, OneRun, OneWithin}
 use Rattle.cli_run.specs.ByName.{EndsCount, WritesTables, counting}
-use Rattle.cli_run.specs.Going.{GoesThrough, IsThrough}
+use Rattle.cli_run.specs.Going.{GoesThrough, IsThrough, IsToldLast, closing_line, passed_count, status_at, tally_of}
 use Rattle.cli_run.specs.Inputs.{BeginWithParts, Part, Placed, placed, size_of, sizes_of, wholes}
-use Rattle.cli_run.specs.Output.{is_check, IsOutputOfAll, check_line, fault_line, last_line, owners_known, second_output, status_of}
-use Rattle.cli_run.specs.Parts.{IsToldLast, closing_line, passed_count, status_at, tally_of}
+use Rattle.cli_run.specs.Output.{is_check, IsOutputOfAll, check_line, fault_line, last_line, owners_known, second_output, status_of, written}
 use Rattle.cli_run.specs.Running.{Writes, TellsLine}
 use Rattle.cli_run.specs.Told.{first_of, second_of}
-use Rattle.cli_run.specs.Windows.{written}
 use Rattle.cli_run.specs.declared.tally.Tally.{Tally}
 use Rattle.cli_run.proofs.PartLaws.{is_last, parts_more, parts_of}
 use Rattle.cli_run.proofs.SameOutputs.{acts_as, are_passed, bare_placed, bare_tally, none_last, none_refused, none_told, same_last, same_outputs, same_told}

@@ -4,7 +4,7 @@ use Rattle.std.proofs.Math.Seq.{drop-nil}
 use Rattle.std.specs.List.{concat}
 use Rattle.cli_options.specs.declared.window.Window.{Window}
 use Rattle.cli_run.specs.VisitorLaws.{at_most_none}
-use Rattle.cli_run.specs.Windows.{at_most, written}
+use Rattle.cli_run.specs.Output.{at_most, written}
 
 -- a window that leaves nothing out
 pub written_all : (texts : List (List ℕ)) → written (record { skip = 0; limit = None }) texts ≡ concat texts

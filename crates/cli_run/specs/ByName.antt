@@ -1,26 +1,30 @@
 -- What `count` writes: the tables of the names of the messages of an input, and what is told of
 -- those that are refused.
-use Rattle.std.specs.Prelude.{◌≡◌, ◌⊎◌, ℕ, false, List, [], ◌∷◌, Option, None, Result, Ok, Err}
-use Rattle.dbus_device.specs.Write.{Wrote, Stopped}
-use Rattle.dbus_count.specs.Counting.{Counting, with_names}
-use Rattle.dbus_count.specs.Kept.{counting_of}
-use Rattle.dbus_count.specs.Names.{names_of}
+use Rattle.std.specs.Prelude.{◌≡◌, ◌⊎◌, ℕ, false, List, [], ◌∷◌, Option, None, Result, Ok, Err, true, Some}
+use Rattle.dbus_device.specs.Device.{Wrote, Stopped}
+use Rattle.dbus_count.specs.Counting.{Counting, with_names, counting_of, names_of}
 use Rattle.dbus_count.specs.Tables.{AreTables, words}
 use Rattle.dbus_count.specs.declared.count.Count.{Count}
 use Rattle.dbus_count.specs.declared.form.Form.{Form}
 use Rattle.cli_options.specs.declared.settings.Settings.{Settings}
-use Rattle.cli_report.specs.Devices.{Reading, Writing, taken, writing}
-use Rattle.cli_report.specs.Failing.{Told}
+use Rattle.cli_report.specs.Devices.{Reading, Writing, taken, writing, Taken}
+use Rattle.cli_report.specs.Telling.{Told}
 use Rattle.cli_report.specs.declared.ending.Cause.{Cause}
-use Rattle.cli_report.specs.declared.ending.Cause.TheVariants.{Memory, WriteFailed}
+use Rattle.cli_report.specs.declared.ending.Cause.TheVariants.{Memory, WriteFailed, ReadFailed, TooManyReads}
 use Rattle.cli_report.specs.declared.ending.ExitStatus.{ExitStatus}
 use Rattle.cli_report.specs.declared.ending.ExitStatus.TheVariants as status
-use Rattle.cli_run.specs.Going.{GivesUp, GoesThrough}
+use Rattle.dbus_stream.specs.declared.read_fault.ReadFault.{ReadFault}
+use Rattle.dbus_stream.specs.declared.read_fault.ReadFault.TheVariants as read
+use Rattle.cli_run.specs.Going.{GivesUp, GoesThrough, IsThrough, StopsWithin}
 use Rattle.cli_run.specs.Inputs.{Placed}
 use Rattle.cli_run.specs.Told.{GotSecond}
 use Rattle.cli_run.specs.declared.by_name.Counter.{Counter}
 use Rattle.cli_run.specs.declared.visitor.RunStop.{RunStop}
 use Rattle.cli_run.specs.declared.visitor.RunStop.TheVariants.{Cause as ByCause}
+use Rattle.cli_run.specs.Output.{fault_line}
+use Rattle.cli_run.specs.declared.counted.Counted.{Counted}
+use Rattle.cli_run.specs.declared.counted.NoMessage.{NoMessage}
+use Rattle.cli_run.specs.declared.counted.NoMessage.TheVariants.{Reader, Writer}
 
 -- the count of a name after more messages
 abbrev pub after_messages : List Placed → (name : List ℕ) → Option Count → Option Count
@@ -72,3 +76,25 @@ pub record CountsThrough {R W E : Type 0} (r : Reading R) (w : Writing W) (e : W
 abbrev pub CountsByName : {R W E : Type 0} → Reading R → Writing W → Writing E → Settings → Form → (most : ℕ) → ExitStatus → Type 0
 CountsByName r w e settings form most end = CountsThrough r w e settings form most end
     ⊎ (GivesUp (taken r) settings most false e (λ before items told stop. IsUnwritten stop × GotSecond e.held e.failures false stop told e.old before) end × (w.new ≡ w.old))
+
+-- What the messages of an input are counted as.
+
+-- what a fault of the reader after these messages comes to
+abbrev pub ended_by : ℕ → ℕ → ReadFault → Result Counted Cause
+ended_by count size (read.Format fault) = Ok (record { count = count; size = size; fault = Some fault })
+ended_by count size read.Memory = Err Memory
+ended_by count size read.Device = Err ReadFailed
+ended_by count size read.TooManyReads = Err TooManyReads
+
+-- what it comes to that there is no next message after these
+abbrev pub stopped_by : ℕ → ℕ → NoMessage → Result Counted Cause
+stopped_by count size (Reader fault) = ended_by count size fault
+stopped_by count size Writer = Err WriteFailed
+
+-- by settings that ask for no more all messages were counted, up to the end of the input or a
+-- fault, and the line of the fault is due; or reading was given up. most is how many reads may be
+-- made
+abbrev pub Tallies : Taken → Settings → (most : ℕ) → Result Counted Cause → Type 0
+Tallies t settings most (Ok counted) =
+    IsThrough t settings most true (record { count = counted.count; size = counted.size; passed = 0; passed_size = 0 }) counted.fault [] (fault_line counted.size counted.fault)
+Tallies t settings most (Err cause) = StopsWithin t settings most true (λ items told stop. IsUnwritten stop × (told ≡ [])) (ByCause cause)

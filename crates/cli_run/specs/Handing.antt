@@ -6,15 +6,13 @@ use Rattle.dbus_value_model.specs.declared.order.Order.{Order}
 use Rattle.dbus_message_model.specs.Messages.{MessageTree}
 use Rattle.dbus_validate.specs.declared.validating.Validated.{Validated}
 use Rattle.dbus_stream.specs.Next.{DeviceCounts}
-use Rattle.dbus_stream.specs.RawNext.{Reads, Advances, ReadsNothing}
-use Rattle.dbus_stream.specs.RawReading.{done_of, kept, source_of, stopped_of}
+use Rattle.dbus_stream.specs.RawReading.{Reads, Advances, ReadsNothing, done_of, kept, source_of, stopped_of}
 use Rattle.dbus_stream.specs.declared.raw_reader.RawReader.{RawReader}
 use Rattle.dbus_json.specs.JsonMessages.{IsJsonLine}
 use Rattle.dbus_match.specs.declared.owner.Owner.{Owner}
 use Rattle.cli_options.specs.declared.command.Command.{Command}
 use Rattle.cli_report.specs.Devices.{Writing}
-use Rattle.cli_run.specs.Windows.{after, written}
-use Rattle.cli_run.specs.Output.{IsOutputOf, IsTextOf, Picks, owners_after, owners_known}
+use Rattle.cli_run.specs.Output.{after, written, IsOutputOf, IsTextOf, Picks, owners_after, owners_known}
 use Rattle.cli_report.specs.Gathering.{GathersOrNot}
 use Rattle.cli_report.specs.declared.ending.Cause.{Cause}
 use Rattle.cli_report.specs.declared.ending.Cause.TheVariants.{WriteFailed}

@@ -1,17 +1,25 @@
 -- The laws over what a command writes: of all messages and the fault after them there is an output,
 -- and of each command but `json` exactly one. And what a command does by its settings is what it
 -- does under limits alone, if they ask for no more.
-use Rattle.std.specs.Prelude.{◌≡◌, ℕ, false, List, Option}
+use Rattle.std.specs.Prelude.{◌≡◌, ℕ, false, List, Option, ◌≢◌, ◌⊎◌, Some}
 use Rattle.dbus_value_model.specs.declared.fault.Fault.{Fault}
 use Rattle.dbus_stream.specs.Cut.{CutMessage}
-use Rattle.cli_options.specs.Windows.{ask_more}
+use Rattle.cli_options.specs.Limiting.{ask_more}
 use Rattle.cli_options.specs.declared.command.Command.{Command}
 use Rattle.cli_options.specs.declared.settings.Settings.{Settings}
-use Rattle.cli_report.specs.Devices.{reading, writing}
+use Rattle.cli_report.specs.Devices.{reading, writing, Reading, Writing}
 use Rattle.cli_report.specs.declared.ending.ExitStatus.{ExitStatus}
-use Rattle.cli_run.specs.Running.{Runs, RunsWith}
-use Rattle.cli_run.specs.Output.{IsExact, IsFirstOutput, IsFront}
 use Rattle.cli_report.specs.Gathering.{IsPrefixTo}
+use Rattle.dbus_device.specs.Device.{Wrote}
+use Rattle.dbus_value_model.specs.ByteNumbers.{IsBytes}
+use Rattle.dbus_value_model.specs.declared.limits.Limits.{Limits}
+use Rattle.dbus_count.specs.declared.form.Form.{Form}
+use Rattle.cli_options.specs.Selections.{AreSameCommand}
+use Rattle.cli_report.specs.declared.ending.ExitStatus.TheVariants as status
+use Rattle.cli_run.specs.Running.{Runs, RunsWith, Writes}
+use Rattle.cli_run.specs.Output.{IsExact, IsFirstOutput, IsFront}
+use Rattle.cli_run.specs.ByName.{CountsByName}
+use Rattle.cli_run.specs.Inputs.{Placed}
 
 -- of each list of messages, and a fault after them or none, the command has an output
 abbrev pub SomeOutput : Type 0
@@ -34,3 +42,57 @@ PlainRuns {R} {W} {E} left calls failures held write_failures second_held second
     (settings : Settings) (most : ℕ) (command : Command) (r0 r1 : R) (w0 w1 : W) (e0 e1 : E) (end : ExitStatus) → ask_more settings ≡ false
     → RunsWith (reading left calls failures r0 r1) (writing held write_failures w0 w1) (writing second_held second_failures e0 e1) settings most command end
     → Runs (reading left calls failures r0 r1) (writing held write_failures w0 w1) (writing second_held second_failures e0 e1) settings.limits most command end
+
+-- One law for all commands and settings: two runs that read the same input end alike.
+
+-- both sources have the same bytes left at first
+abbrev pub ReadAlike : {R S : Type 0} → Reading R → Reading S → Type 0
+ReadAlike r s = (input : List ℕ) × IsBytes input × (r.left r.old ≡ Some input) × (s.left s.old ≡ Some input)
+
+-- both writers got the same bytes
+abbrev pub GotAlike : {W V : Type 0} → Writing W → Writing V → Type 0
+GotAlike w v = (text : List ℕ) × Wrote w.held w.failures w.old text w.new × Wrote v.held v.failures v.old text v.new
+
+-- nothing is explained: it is not asked for, or nothing was refused. What is shown of a refused
+-- message's bytes are those that happened to be read
+abbrev pub ExplainsNone : Settings → ExitStatus → Type 0
+ExplainsNone settings end = (settings.explains ≡ false) ⊎ (end ≡ status.Done)
+
+-- two runs end with one status, and both writers of the one got what those of the other did
+pub record EndAlike {W V E F : Type 0} (w : Writing W) (v : Writing V) (e : Writing E) (f : Writing F) (end other : ExitStatus) : Type 0 where
+  pub status_is : other ≡ end
+  pub first : GotAlike w v
+  pub second : GotAlike e f
+
+-- the same, but that the first writers got texts of the same messages, which `json` may write by
+-- other digits
+pub record MadeAlike {W V E F : Type 0} (w : Writing W) (v : Writing V) (e : Writing E) (f : Writing F) (settings : Settings) (command copy : Command) (end other : ExitStatus) : Type 0 where
+  pub status_is : other ≡ end
+  pub items : List Placed
+  pub told : List ℕ
+  pub one : Writes w e settings command items told
+  pub same : Writes v f settings copy items told
+
+-- two runs by the same settings read the same input, and did not fail
+pub record AreOfOneInput {R S : Type 0} (r : Reading R) (s : Reading S) (settings : Settings) (end other : ExitStatus) : Type 0 where
+  pub input : ReadAlike r s
+  pub explains : ExplainsNone settings end
+  pub done : end ≢ status.Failed
+  pub other_done : other ≢ status.Failed
+
+-- two runs of a command
+abbrev pub OneRun : (R S W V E F : Type 0) → Type 0
+OneRun R S W V E F = (r : Reading R) (s : Reading S) (w : Writing W) (v : Writing V) (e : Writing E) (f : Writing F) (settings : Settings) (most more : ℕ) (command copy : Command) (end other : ExitStatus)
+    → AreSameCommand command copy → AreOfOneInput r s settings end other → RunsWith r w e settings most command end → RunsWith s v f settings more copy other
+    → MadeAlike w v e f settings command copy end other × (IsExact command → EndAlike w v e f end other)
+
+-- two runs of a command under the same limits alone
+abbrev pub OneWithin : (R S W V E F : Type 0) → Type 0
+OneWithin R S W V E F = (r : Reading R) (s : Reading S) (w : Writing W) (v : Writing V) (e : Writing E) (f : Writing F) (limits : Limits) (most more : ℕ) (command copy : Command) (end other : ExitStatus)
+    → AreSameCommand command copy → IsExact command → ReadAlike r s → end ≢ status.Failed → other ≢ status.Failed → Runs r w e limits most command end → Runs s v f limits more copy other
+    → EndAlike w v e f end other
+
+-- two runs that count messages by their names
+abbrev pub OneCount : (R S W V E F : Type 0) → Type 0
+OneCount R S W V E F = (r : Reading R) (s : Reading S) (w : Writing W) (v : Writing V) (e : Writing E) (f : Writing F) (settings : Settings) (form : Form) (most more : ℕ) (end other : ExitStatus)
+    → AreOfOneInput r s settings end other → CountsByName r w e settings form most end → CountsByName s v f settings form more other → EndAlike w v e f end other

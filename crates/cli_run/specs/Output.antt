@@ -1,5 +1,5 @@
 -- What a command writes of the messages of its input and the fault after them.
-use Rattle.std.specs.Prelude.{◌≡◌, ℕ, ◌+◌, ◌⊎◌, Bool, true, false, List, [], ◌∷◌, ◌++◌, length, Option, None, Some, Vec, codes, decimal}
+use Rattle.std.specs.Prelude.{◌≡◌, ℕ, ◌+◌, ◌⊎◌, Bool, true, false, List, [], ◌∷◌, ◌++◌, length, Option, None, Some, Vec, codes, decimal, ◌-◌, take, drop, option_map}
 use Rattle.std.specs.List.{concat}
 use Rattle.std.specs.declared.alloc.Global.{Global}
 use Rattle.dbus_value_model.specs.declared.fault.Fault.{Fault}
@@ -11,18 +11,19 @@ use Rattle.dbus_show.specs.ShownMessages.{message_text}
 use Rattle.dbus_json.specs.JsonMessages.{IsJsonLine}
 use Rattle.dbus_match.specs.declared.owner.Owner.{Owner}
 use Rattle.dbus_match.specs.Matching.{Ownership}
-use Rattle.cli_options.specs.Learning.{known, known_after}
+use Rattle.cli_options.specs.Owners.{known, known_after}
 use Rattle.cli_options.specs.Selections.{SelectsBy}
 use Rattle.cli_options.specs.declared.command.Command.{Command}
 use Rattle.cli_options.specs.declared.command.Command.TheVariants.{Show, Json, Check, Swap, Filter}
 use Rattle.cli_report.specs.Gathering.{IsPrefixTo}
+use Rattle.cli_report.specs.Telling.{refused_line}
+use Rattle.cli_report.specs.declared.ending.ExitStatus.{ExitStatus}
+use Rattle.cli_report.specs.declared.ending.ExitStatus.TheVariants as status
+use Rattle.cli_options.specs.declared.window.Window.{Window}
 use Rattle.cli_run.specs.Inputs.{Placed, placed, wholes}
 use Rattle.cli_run.specs.Told.{first_of, second_of}
 use Rattle.cli_run.specs.declared.output.Output.{Output}
 use Rattle.cli_run.specs.declared.output.Output.TheVariants.{InOrder, JsonLine, Matching, Nothing, Text}
-use Rattle.cli_report.specs.Lines.{refused_line}
-use Rattle.cli_report.specs.declared.ending.ExitStatus.{ExitStatus}
-use Rattle.cli_report.specs.declared.ending.ExitStatus.TheVariants as status
 
 -- which command writes what of each message
 abbrev pub command_of : Output → Command
@@ -123,3 +124,24 @@ second_output command size fault = second_of (is_check command) (fault_line size
 abbrev pub status_of : Option Fault → ExitStatus
 status_of None = status.Done
 status_of (Some fault) = status.Refused
+
+-- What a window lets through of the texts that a command makes: the first are skipped, and at most
+-- so many after these are written.
+
+-- so many of a list at most, or all
+abbrev pub at_most : {A : Type 0} → Option ℕ → List A → List A
+at_most None list = list
+at_most (Some limit) list = take limit list
+
+-- the texts that are written, one after the other
+unfoldable pub written : Window → List (List ℕ) → List ℕ
+written window texts = concat (at_most window.limit (drop window.skip texts))
+
+-- the window for the texts after so many
+abbrev pub after : Window → ℕ → Window
+after window n = record { skip = window.skip - n; limit = option_map (λ limit. limit - (n - window.skip)) window.limit }
+
+-- a text, or nothing
+abbrev pub text_if : Bool → List ℕ → List ℕ
+text_if true text = text
+text_if false text = []

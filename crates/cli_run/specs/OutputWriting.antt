@@ -1,13 +1,12 @@
 -- What becomes of a writer of an output by messages, and by what it tells.
 use Rattle.std.specs.Prelude.{◌≡◌, ℕ, Bool, true, false, List, [], length, Option, Err}
-use Rattle.dbus_device.specs.Write.{Wrote}
+use Rattle.dbus_device.specs.Device.{Wrote}
 use Rattle.cli_report.specs.Gathering.{Breaks, GathersOrNot, Leaves, Passes, gathered_bytes}
 use Rattle.cli_report.specs.declared.ending.Cause.{Cause}
 use Rattle.cli_report.specs.declared.ending.Cause.TheVariants.{Memory, WriteFailed}
-use Rattle.cli_run.specs.Output.{command_of, IsOutputOfAll, is_check, owners_known, owners_after_all}
+use Rattle.cli_run.specs.Output.{command_of, IsOutputOfAll, is_check, owners_known, owners_after_all, after, written}
 use Rattle.cli_run.specs.Inputs.{Placed}
 use Rattle.cli_run.specs.Told.{GotSecond, first_of, second_of}
-use Rattle.cli_run.specs.Windows.{after, written}
 use Rattle.cli_run.specs.declared.output_writer.OutputWriter.{OutputWriter}
 use Rattle.cli_run.specs.declared.visitor.RunStop.{RunStop}
 use Rattle.cli_run.specs.declared.visitor.RunStop.TheVariants.{Cause as ByCause, Untold}

@@ -1,15 +1,14 @@
 -- What a command does with what it reads, what it writes of it, and why it gives up. limits are
 -- those that each message keeps, and most is how many reads may be made.
 use Rattle.std.specs.Prelude.{◌⊎◌, ℕ, List, None, ◌≡◌, Option}
-use Rattle.dbus_device.specs.Write.{Wrote, Stopped}
+use Rattle.dbus_device.specs.Device.{Wrote, Stopped, one_more}
 use Rattle.dbus_value_model.specs.declared.limits.Limits.{Limits}
 use Rattle.cli_options.specs.declared.command.Command.{Command}
 use Rattle.cli_options.specs.declared.settings.Settings.{Settings}
 use Rattle.cli_run.specs.Going.{GivesUp, GoesThrough, IsStopOf}
 use Rattle.cli_run.specs.Inputs.{Placed, placed, wholes}
-use Rattle.cli_run.specs.Output.{IsOutputOfAll, is_check, owners_known, IsFirstOutput, IsFront, second_output, status_of}
+use Rattle.cli_run.specs.Output.{IsOutputOfAll, is_check, owners_known, IsFirstOutput, IsFront, second_output, status_of, written}
 use Rattle.cli_run.specs.Told.{GotFirst, GotSecond, first_of, second_of}
-use Rattle.cli_run.specs.Windows.{written}
 use Rattle.cli_report.specs.Devices.{Reading, Writing, taken, writing, RisesAtMost}
 use Rattle.cli_report.specs.declared.ending.ExitStatus.{ExitStatus}
 use Rattle.cli_run.specs.declared.visitor.RunStop.{RunStop}
@@ -17,10 +16,9 @@ use Rattle.std.specs.Io.KnownBytes.{Appends, Consumes, IsAtEnd}
 use Rattle.std.specs.List.{concat}
 use Rattle.dbus_value_model.specs.declared.fault.Fault.{Fault}
 use Rattle.dbus_header.specs.MessageOutcomes.{IsPartial}
-use Rattle.dbus_device.specs.Device.{one_more}
 use Rattle.dbus_stream.specs.Cut.{CutMessage, BeginWith, IsCut, CutOutcome, Refused}
 use Rattle.dbus_stream.specs.CutEnds.{fault_at_end, sizes}
-use Rattle.cli_report.specs.Failing.{Told}
+use Rattle.cli_report.specs.Telling.{Told}
 use Rattle.cli_report.specs.declared.ending.ExitStatus.TheVariants as status
 use Rattle.cli_report.specs.declared.ending.Cause.{Cause}
 use Rattle.cli_report.specs.declared.ending.Cause.TheVariants.{ReadFailed, WriteFailed, TooManyReads}

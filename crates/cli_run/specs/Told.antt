@@ -1,8 +1,8 @@
 -- Who is told of what is refused, and of why a run is given up. Of `check`, which makes nothing,
 -- the first writer is told what is refused; of other commands the second.
 use Rattle.std.specs.Prelude.{◌≡◌, ℕ, Bool, true, false, List, [], Option, Result, Ok, Err}
-use Rattle.dbus_device.specs.Write.{Wrote, Stopped}
-use Rattle.cli_report.specs.Failing.{Told}
+use Rattle.dbus_device.specs.Device.{Wrote, Stopped}
+use Rattle.cli_report.specs.Telling.{Told}
 use Rattle.cli_report.specs.Gathering.{Breaks}
 use Rattle.cli_report.specs.declared.ending.Cause.{Cause}
 use Rattle.cli_report.specs.declared.ending.Cause.TheVariants.{Memory, WriteFailed}

@@ -5,18 +5,15 @@ use Rattle.std.specs.Io.KnownBytes.{Appends}
 use Rattle.std.proofs.KnownBytes.{Appends-nil, Appends-trans}
 use Rattle.std.proofs.Math.Path.{transport}
 use Rattle.std.proofs.Math.Seq.{drop-nil, take-append-add, take-nil}
-use Rattle.dbus_device.specs.Device.{one_more}
-use Rattle.dbus_device.specs.Write.{Wrote, Stopped}
+use Rattle.dbus_device.specs.Device.{one_more, Wrote, Stopped}
 use Rattle.cli_run.specs.Told.{GotSecond, second_of, first_of}
 use Rattle.cli_run.specs.declared.visitor.RunStop.{RunStop}
 use Rattle.cli_run.specs.declared.visitor.RunStop.TheVariants.{Cause as ByCause, Untold}
 use Rattle.std.specs.List.{concat}
 use Rattle.std.proofs.lemmas.List.Folds.{concat-append}
 use Rattle.cli_options.specs.declared.window.Window.{Window}
-use Rattle.cli_run.specs.Windows.{after, at_most, written}
-use Rattle.dbus_count.specs.Counting.{with_names}
-use Rattle.dbus_count.specs.Kept.{counting_of}
-use Rattle.dbus_count.specs.Names.{names_of}
+use Rattle.cli_run.specs.Output.{after, at_most, written, command_of, IsOutputOfAll, is_check, owners_after, owners_after_all, owners_known}
+use Rattle.dbus_count.specs.Counting.{with_names, counting_of, names_of}
 use Rattle.dbus_count.specs.declared.count.Count.{Count}
 use Rattle.cli_run.specs.ByName.{CountsMessages, LeavesCounted, after_messages}
 use Rattle.cli_run.specs.Inputs.{Placed}
@@ -27,7 +24,6 @@ use Rattle.cli_report.specs.Gathering.{Leaves, Passes, gathered_bytes}
 use Rattle.cli_report.specs.PageLaws.{breaks_after, passes_both, passes_none}
 use Rattle.cli_report.specs.declared.ending.Cause.{Cause}
 use Rattle.cli_report.specs.declared.ending.Cause.TheVariants.{WriteFailed}
-use Rattle.cli_run.specs.Output.{command_of, IsOutputOfAll, is_check, owners_after, owners_after_all, owners_known}
 use Rattle.cli_run.specs.OutputWriting.{LeavesFirst, LeavesWritten, WritesAll}
 use Rattle.cli_run.specs.declared.output_writer.OutputWriter.{OutputWriter}
 use Rattle.cli_run.specs.declared.place.Carried.{Carried}

@@ -1,6 +1,6 @@
 //! The messages of a source, counted by their names.
 ghost use Rattle.std.specs.Prelude.{◌≡◌, ◌^◌};
-ghost use Rattle.dbus_count.specs.Kept.{counting_of};
+ghost use Rattle.dbus_count.specs.Counting.{counting_of};
 ghost use Rattle.cli_run.specs.ByName.{CountsByName, CountsMessages, LeavesCounted, WritesTables};
 ghost use Rattle.cli_run.specs.VisitorLaws.{counter_adds_up};
 ghost use Rattle.cli_report.specs.Devices.{reading, writing};

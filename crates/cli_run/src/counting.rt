@@ -1,11 +1,10 @@
 //! The messages of a source are counted, and none is built.
 ghost use Rattle.std.specs.Prelude.{◌≡◌, ◌≤◌, ◌^◌, false};
-ghost use Rattle.dbus_stream.specs.CheckReading.{limits_of};
-ghost use Rattle.dbus_stream.specs.Lengths.{lengths};
+ghost use Rattle.dbus_stream.specs.CheckReading.{limits_of, lengths};
 ghost use Rattle.dbus_stream.specs.Reading.{IsNewReader, most_reads_of, source_of};
-ghost use Rattle.cli_options.specs.Windows.{ask_more};
+ghost use Rattle.cli_options.specs.Limiting.{ask_more};
 ghost use Rattle.cli_options.specs.declared.settings.Settings.{Settings};
-ghost use Rattle.cli_run.specs.Counting.{Tallies};
+ghost use Rattle.cli_run.specs.ByName.{Tallies};
 ghost use Rattle.cli_report.specs.Devices.{reading, taken};
 
 use crate::counted::Counted;

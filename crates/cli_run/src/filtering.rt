@@ -5,7 +5,7 @@ ghost use Rattle.dbus_message_model.specs.Messages.{MessageTree};
 ghost use Rattle.dbus_header.specs.MessageOutcomes.{IsWhole};
 ghost use Rattle.dbus_validate.specs.Validating.{IsValidatedWhole};
 ghost use Rattle.dbus_match.specs.Matching.{ownerships};
-ghost use Rattle.cli_options.specs.Learning.{known};
+ghost use Rattle.cli_options.specs.Owners.{known};
 ghost use Rattle.cli_options.specs.declared.command.Command.TheVariants.{Filter};
 ghost use Rattle.cli_run.specs.Handing.{IsPicked};
 

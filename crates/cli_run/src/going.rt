@@ -3,8 +3,7 @@
 ghost use Rattle.std.specs.Prelude.{◌≡◌, ◌≤◌, ◌^◌, IfOk};
 ghost use Rattle.dbus_stream.specs.RawReading.{IsNewReader, kept, most_reads_of, source_of};
 ghost use Rattle.cli_report.specs.Devices.{reading, taken};
-ghost use Rattle.cli_run.specs.Going.{Closes, PassesAll, cause_of};
-ghost use Rattle.cli_run.specs.Parts.{IsTold};
+ghost use Rattle.cli_run.specs.Going.{Closes, PassesAll, cause_of, IsTold};
 ghost use Rattle.cli_run.specs.Told.{TellsStop};
 ghost use Rattle.cli_run.specs.Visiting.{Tells};
 

@@ -1,7 +1,7 @@
 //! The messages of a reader are handed to a visitor.
 ghost use Rattle.std.specs.Prelude.{◌≡◌, ◌≤◌, ◌^◌, ℕ, None, IfOk};
 ghost use Rattle.dbus_stream.specs.RawReading.{source_of, done_of, limits_of, stopped_of};
-ghost use Rattle.cli_run.specs.Counting.{ended_by, stopped_by};
+ghost use Rattle.cli_run.specs.ByName.{ended_by, stopped_by};
 ghost use Rattle.cli_run.specs.Handing.{GivesNext};
 ghost use Rattle.cli_run.specs.Onward.{RawHandsOn};
 

@@ -2,8 +2,7 @@
 //! and it does nothing when it runs.
 #![tactic(auto)]
 
-ghost use Rattle.cli_run.specs.Alike.{OneCount, OneRun, OneWithin};
-ghost use Rattle.cli_run.specs.Laws.{OneFront, OneOutput, PlainRuns, SomeOutput};
+ghost use Rattle.cli_run.specs.Laws.{OneCount, OneRun, OneWithin, OneFront, OneOutput, PlainRuns, SomeOutput};
 
 use dbus_count::laws::one_table;
 use dbus_stream::{Sink, Source};

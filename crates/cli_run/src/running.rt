@@ -1,7 +1,7 @@
 //! A command, over any reader and two writers, by its settings.
 ghost use Rattle.std.specs.Prelude.{◌≡◌, ◌≤◌, ◌^◌, false};
 ghost use Rattle.dbus_value_model.specs.Specification.{specification};
-ghost use Rattle.cli_options.specs.Windows.{ask_more};
+ghost use Rattle.cli_options.specs.Limiting.{ask_more};
 ghost use Rattle.cli_report.specs.Devices.{reading, writing};
 ghost use Rattle.cli_run.specs.Running.{Runs, RunsWith};
 

@@ -1,6 +1,6 @@
 //! What was handed on and passed over of an input, and the last line that tells it.
 ghost use Rattle.std.specs.Prelude.{◌≡◌, ◌≤◌, ◌<◌, ◌+◌, ◌-◌, ◌^◌, IfErr, IfOk, string_bytes, true};
-ghost use Rattle.cli_run.specs.Parts.{HasLastLine, closing_line, status_at};
+ghost use Rattle.cli_run.specs.Going.{HasLastLine, closing_line, status_at};
 
 use crate::closing::{counts_line, ok_line};
 use crate::counted::Counted;

@@ -1,6 +1,6 @@
 //! A window over the messages that a command selects, as they come.
 ghost use Rattle.std.specs.Prelude.{◌≡◌, ℕ, List, [], ◌∷◌};
-ghost use Rattle.cli_run.specs.Windows.{after, text_if, written};
+ghost use Rattle.cli_run.specs.Output.{after, text_if, written};
 
 use cli_options::Window;
 

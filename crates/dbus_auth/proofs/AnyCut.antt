@@ -4,8 +4,7 @@ use Rattle.std.proofs.lemmas.List.{append-nil, take-append-le, drop_at}
 use Rattle.dbus_auth_lines.specs.Cut.{Cut, Ends, Bad, More, cut}
 use Rattle.dbus_auth.specs.Machines.{ServerMachine}
 use Rattle.dbus_auth.specs.Ends.{ServerEndState, EndOutcome, closes, cuts, first, talks, takes_at, takes, server_turn, server_takes}
-use Rattle.dbus_auth.specs.AnyPeer.{ServerRun, line_sent, run_server, IsFinished, LooksAlike}
-use Rattle.dbus_auth.specs.World.{server_at_first}
+use Rattle.dbus_auth.specs.World.{ServerRun, line_sent, run_server, IsFinished, LooksAlike, server_at_first}
 use Rattle.dbus_auth.specs.declared.end_step.Status.{Status}
 use Rattle.dbus_auth.specs.declared.end_step.Status.TheVariants as status
 use Rattle.dbus_auth_lines.proofs.Cuts.{StaysSettled, IsAbove, cut_follows}

@@ -3,10 +3,9 @@
 use Rattle.std.proofs.Common.{◌≡◌, ◌⊎◌, inl, inr, ℕ, ◌+◌, ◌*◌, ◌≤◌, Bool, true, false, List, [], ◌∷◌, ◌++◌, length, take, refl, sym, ◌∙◌, ap, arith, append_assoc}
 use Rattle.std.specs.List.{AllByRecursion}
 use Rattle.std.proofs.lemmas.List.{append-nil}
-use Rattle.dbus_auth.specs.Machines.{ServerMachine, ClientMechanism, IsServer}
+use Rattle.dbus_auth.specs.Machines.{ServerMachine, ClientMechanism, IsServer, IsMechanism}
 use Rattle.dbus_auth.specs.Ends.{ServerEndState, ClientEndState, client_turn, client_takes, client_starts}
 use Rattle.dbus_auth.specs.World.{untaken, silent, World, Event, Start, To_server, To_client, Server_writes, Client_writes, server_writes, client_writes, start_once, hand_client, happens, run, at_first, line_ends, Handshake}
-use Rattle.dbus_auth.specs.Mechanisms.{IsMechanism}
 use Rattle.dbus_auth.specs.declared.end_step.Status.{Status}
 use Rattle.dbus_auth.specs.declared.end_step.Status.TheVariants as status
 use Rattle.dbus_auth.specs.declared.states.ServerState.TheVariants as at

@@ -1,7 +1,7 @@
 -- A server that has begun sent OK as its last line other than ERROR, whoever its peer is.
 use Rattle.std.proofs.Common.{◌≡◌, ℕ, ◌-◌, Bool, true, false, cond, List, [], ◌∷◌, ◌++◌, take, drop, refl, sym, ◌∙◌, ap, subst, append_assoc}
 use Rattle.std.proofs.lemmas.List.{append-nil}
-use Rattle.dbus_auth.specs.World.{server_at_first}
+use Rattle.dbus_auth.specs.World.{server_at_first, line_sent, run_server, LastIsOk}
 use Rattle.std.specs.Prelude.{codes}
 use Rattle.std.specs.List.{AllByRecursion}
 use Rattle.dbus_auth_lines.specs.ClientCommands.{ClientCommand}
@@ -11,7 +11,6 @@ use Rattle.dbus_auth_lines.specs.Lines.{server_line, ended, client_meaning}
 use Rattle.dbus_auth_lines.specs.Cut.{Cut, Ends, Bad, More, cut}
 use Rattle.dbus_auth.specs.Machines.{Begins, Disconnects, ServerMachine, ServerStep, server_step, server_step_at, rejects, accepts, replies, complains, mechanisms}
 use Rattle.dbus_auth.specs.Ends.{ServerEndState, after_turn, cuts, server_turn, server_takes}
-use Rattle.dbus_auth.specs.AnyPeer.{line_sent, run_server, LastIsOk}
 use Rattle.dbus_auth.proofs.Outcomes.{server_answers, takes_by}
 use Rattle.dbus_auth.specs.declared.end_step.Status.TheVariants as status
 use Rattle.dbus_auth.specs.declared.states.ServerState.{ServerState}

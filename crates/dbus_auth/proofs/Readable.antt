@@ -11,12 +11,10 @@ use Rattle.dbus_auth_lines.specs.ClientCommands as client
 use Rattle.dbus_auth_lines.specs.ServerCommands as server
 use Rattle.dbus_auth_lines.specs.Lines.{client_line, server_line, client_meaning, server_meaning, hex_word}
 use Rattle.dbus_auth_lines.specs.Cut.{IsLine}
-use Rattle.dbus_auth.specs.Machines.{ServerMachine, ClientMechanism, External, Anonymous, IsServer, auth_line, waits_in, server_step, mechanisms, external_words, rejects, accepts, replies, is_user, is_empty, offers_external, ServerStep}
-use Rattle.dbus_auth.specs.Mechanisms.{IsMechanism}
+use Rattle.dbus_auth.specs.Machines.{ServerMachine, ClientMechanism, External, Anonymous, IsServer, auth_line, waits_in, server_step, mechanisms, external_words, rejects, accepts, replies, is_user, is_empty, offers_external, ServerStep, IsMechanism}
 use Rattle.dbus_auth.specs.declared.states.ServerState.TheVariants as at
 use Rattle.dbus_auth.specs.declared.states.ClientState.TheVariants as now
-use Rattle.dbus_auth_lines.specs.RoundTrip.{HasClientBytes}
-use Rattle.dbus_auth_lines.specs.WrittenLines.{is_word, is_client_spelled}
+use Rattle.dbus_auth_lines.specs.WrittenLines.{HasClientBytes, is_word, is_client_spelled}
 use Rattle.dbus_auth_lines.proofs.PrintedWords.{length-hex_word}
 use Rattle.dbus_auth_lines.proofs.RoundTrips.{client_is_line, server_is_line, client_reads, server_reads}
 

@@ -6,10 +6,9 @@ use Rattle.std.proofs.lemmas.List.{append-nil}
 use Rattle.dbus_auth_lines.specs.ClientCommands as client
 use Rattle.dbus_auth_lines.specs.ServerCommands as server
 use Rattle.dbus_auth_lines.specs.Lines.{ended, client_line, server_line}
-use Rattle.dbus_auth.specs.Machines.{Begins, ServerMachine, ClientMachine, ClientMechanism, External, Anonymous, ClientStep, server_step, client_step, IsServer, auth_line, waits_in, mechanisms, asks, begins, next_of}
+use Rattle.dbus_auth.specs.Machines.{Begins, ServerMachine, ClientMachine, ClientMechanism, External, Anonymous, ClientStep, server_step, client_step, IsServer, auth_line, waits_in, mechanisms, asks, begins, next_of, IsMechanism}
 use Rattle.dbus_auth.specs.Ends.{ServerEndState, ClientEndState, EndOutcome, Turn, nothing, after_turn, does, server_turn, client_turn, client_sends, client_starts}
 use Rattle.dbus_auth.specs.World.{untaken, sending, taking, World, Start, To_server, To_client, Server_writes, Client_writes, server_did, client_did, server_writes, client_writes, start_once, hand_client, happens, client_at_first, line_ends}
-use Rattle.dbus_auth.specs.Mechanisms.{IsMechanism}
 use Rattle.dbus_auth.specs.declared.end_step.Status.TheVariants as status
 use Rattle.dbus_auth.specs.declared.states.ServerState.TheVariants as at
 use Rattle.dbus_auth.specs.declared.states.ClientState.{ClientState}

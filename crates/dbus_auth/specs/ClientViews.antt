@@ -1,7 +1,7 @@
 -- The client's state machine as contracts see it.
 use Rattle.std.specs.Prelude.{ℕ, Bool, true, nat_le, List, map, drop, length, Option, Some, None}
 use Rattle.dbus_auth.specs.Machines.{ClientMachine, ClientStep, ClientAction, Sends, Begins, Disconnects, ClientMechanism, External, Anonymous}
-use Rattle.dbus_auth_lines.specs.LineViews.{client_command}
+use Rattle.dbus_auth_lines.specs.Lines.{client_command}
 use Rattle.dbus_auth.specs.declared.states.ClientState.{ClientState}
 use Rattle.dbus_auth.specs.declared.states.ClientState.TheVariants as now
 use Rattle.dbus_auth.specs.declared.client.Client.{Client}

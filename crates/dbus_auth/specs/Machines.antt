@@ -1,7 +1,7 @@
 -- The two state machines as tables: for each state and each command the one row, with what is sent
 -- and the next state. D-Bus Specification, "Authentication Protocol", "Authentication state
 -- diagrams".
-use Rattle.std.specs.Prelude.{ℕ, ◌&&◌, ◌||◌, Bool, true, false, List, [], ◌∷◌, ◌++◌, Option, Some, None, codes, bytes_eq, decimal, if◌then◌else◌, ◌<◌, ◌^◌, length, IfSome, ◌≡◌}
+use Rattle.std.specs.Prelude.{ℕ, ◌&&◌, ◌||◌, Bool, true, false, List, [], ◌∷◌, ◌++◌, Option, Some, None, codes, bytes_eq, decimal, if◌then◌else◌, ◌<◌, ◌^◌, length, IfSome, ◌≡◌, ◌≤◌}
 use Rattle.hex.specs.Hex.{IsBytes}
 use Rattle.dbus_auth_lines.specs.ClientCommands.{ClientCommand}
 use Rattle.dbus_auth_lines.specs.ClientCommands as client
@@ -194,3 +194,12 @@ pub record IsServer (s : ServerMachine) : Type 0 where
   pub guid : length s.guid ≡ 16
   pub bytes : IsBytes s.guid
   pub user : IfSome s.user (λ n. n < 2 ^ 32)
+
+-- The mechanisms that a client may have. D-Bus Specification, "Authentication Protocol",
+-- "Authentication mechanisms".
+
+-- a user that fits its 32 bits, and a short trace of bytes
+abbrev pub IsMechanism : ClientMechanism → Type 0
+IsMechanism (External None) = Unit {0}
+IsMechanism (External (Some n)) = n < 2 ^ 32
+IsMechanism (Anonymous trace) = (length trace ≤ 255) × IsBytes trace

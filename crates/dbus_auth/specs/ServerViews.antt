@@ -1,6 +1,6 @@
 -- The server's state machine as contracts see it.
 use Rattle.dbus_auth.specs.Machines.{ServerMachine, ServerStep, ServerAction, Sends, Begins, Disconnects}
-use Rattle.dbus_auth_lines.specs.LineViews.{server_command}
+use Rattle.dbus_auth_lines.specs.Lines.{server_command}
 use Rattle.dbus_auth.specs.declared.states.ServerState.{ServerState}
 use Rattle.dbus_auth.specs.declared.states.ServerState.TheVariants as at
 use Rattle.dbus_auth.specs.declared.server.Server.{Server}

@@ -4,9 +4,8 @@
 ghost use Rattle.std.specs.Prelude.{◌≡◌, true, false, IfOk, IfErr, OnErr, map, is_ok, option_map, length, drop, nat_le, None};
 ghost use Rattle.std.specs.List.{list_all, AllByRecursion};
 ghost use Rattle.hex.specs.Hex.{IsBytes};
-ghost use Rattle.dbus_auth.specs.Mechanisms.{IsMechanism};
-ghost use Rattle.dbus_auth.specs.Machines.{client_step, next_of, auth_line, client_waiting_for_data, client_waiting_for_ok, client_waiting_for_reject};
-ghost use Rattle.dbus_auth_lines.specs.LineViews.{client_command, server_command};
+ghost use Rattle.dbus_auth.specs.Machines.{IsMechanism, client_step, next_of, auth_line, client_waiting_for_data, client_waiting_for_ok, client_waiting_for_reject};
+ghost use Rattle.dbus_auth_lines.specs.Lines.{client_command, server_command};
 ghost use Rattle.dbus_auth.specs.ClientViews.{client_mechanism, is_short, client_machine, fresh_client, client_action, left_of, shown_turn, shown_client, stage_after, guid_of, state_of, IsListening};
 ghost use Rattle.dbus_auth.specs.declared.states.ClientState.TheVariants as now;
 

@@ -67,7 +67,7 @@ pub struct ClientEnd<A: Allocator = Global> {
 }
 
 impl<A: Allocator + Copy> ClientEnd<A> {
-    ghost use Rattle.dbus_auth.specs.ClientEndViews.{client_end_state};
+    ghost use Rattle.dbus_auth.specs.EndViews.{client_end_state};
     ghost use Rattle.dbus_auth.specs.World.{client_at_first};
     ghost use Rattle.dbus_auth.specs.declared.states.ClientState.TheVariants as now;
 

@@ -6,10 +6,8 @@
 
 ghost use Rattle.std.specs.Prelude.{List, ℕ, ◌≡◌, ◌↔◌, IsTrue};
 ghost use Rattle.std.specs.List.{AllByRecursion};
-ghost use Rattle.dbus_auth.specs.Machines.{ServerMachine, ClientMechanism, IsServer};
-ghost use Rattle.dbus_auth.specs.Mechanisms.{IsMechanism};
-ghost use Rattle.dbus_auth.specs.World.{Event, run, at_first, server_at_first, Handshake};
-ghost use Rattle.dbus_auth.specs.AnyPeer.{run_server, IsFinished, LooksAlike, LastIsOk};
+ghost use Rattle.dbus_auth.specs.Machines.{ServerMachine, ClientMechanism, IsServer, IsMechanism};
+ghost use Rattle.dbus_auth.specs.World.{Event, run, at_first, server_at_first, Handshake, run_server, IsFinished, LooksAlike, LastIsOk};
 ghost use Rattle.dbus_auth.specs.ClientViews.{client_action, client_mechanism};
 ghost use Rattle.dbus_auth.specs.EndStepViews.{end_answer};
 ghost use Rattle.dbus_auth.specs.ServerViews.{server_action};

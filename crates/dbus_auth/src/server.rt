@@ -4,7 +4,7 @@
 ghost use Rattle.std.specs.Prelude.{◌≡◌, ◌++◌, ◌∷◌, [], ℕ, List, IfOk, OnOk, OnErr, map, codes, bytes_eq, ◌&&◌, if◌then◌else◌};
 ghost use Rattle.dbus_auth.specs.declared.states.ServerState.TheVariants as at;
 ghost use Rattle.dbus_auth.specs.Machines.{ServerMachine, IsServer, server_step, is_user, rejects, accepts, complains, is_empty, offers_external, server_step_at, waiting_for_auth, waiting_for_data, waiting_for_begin, by_mechanism};
-ghost use Rattle.dbus_auth_lines.specs.LineViews.{client_command, server_command};
+ghost use Rattle.dbus_auth_lines.specs.Lines.{client_command, server_command};
 ghost use Rattle.dbus_auth.specs.ServerViews.{server_machine, server_action, shown_step, IsWaiting};
 
 use crate::states::ServerState;

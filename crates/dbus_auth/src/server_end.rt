@@ -49,7 +49,7 @@ pub struct ServerEnd<A: Allocator = Global> {
 }
 
 impl<A: Allocator + Copy> ServerEnd<A> {
-    ghost use Rattle.dbus_auth.specs.ServerEndViews.{server_end_state};
+    ghost use Rattle.dbus_auth.specs.EndViews.{server_end_state};
     ghost use Rattle.dbus_auth.specs.World.{server_at_first};
     ghost use Rattle.dbus_auth.specs.declared.states.ServerState.TheVariants as at;
 

@@ -4,9 +4,8 @@ use Rattle.std.proofs.lemmas.Bool.{cases_lt}
 use Rattle.std.proofs.lemmas.List.{append-nil, take_at, drop_at, take-append-le, drop-drop}
 use Rattle.std.specs.List.{AllByRecursion}
 use Rattle.dbus_auth_lines.specs.Lines.{ended}
-use Rattle.dbus_auth_lines.specs.Cut.{Cut, Ends, Bad, More, scan_from, cut, IsPlain, IsLine}
+use Rattle.dbus_auth_lines.specs.Cut.{Cut, Ends, Bad, More, scan_from, cut, IsPlain, IsLine, Beginning, WholeLine, Faulty, Unfinished, IsUnfinished, within_line, cr_last, BeginsAs, cut_of}
 use Rattle.dbus_auth_lines.specs.CutterViews.{cr_after, IsWithin}
-use Rattle.dbus_auth_lines.specs.FirstLine.{Beginning, WholeLine, Faulty, Unfinished, IsUnfinished, within_line, cr_last, BeginsAs, cut_of}
 use Rattle.dbus_auth_lines.proofs.Scans.{not_cr_test, cut_over, cut_over_cr, cut_line}
 use Rattle.dbus_auth_lines.proofs.FirstLines.{some_beginning, cut_finds, stays_settled}
 

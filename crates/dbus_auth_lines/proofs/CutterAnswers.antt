@@ -3,8 +3,7 @@
 use Rattle.std.proofs.Common.{◌≡◌, ℕ, ◌+◌, ◌-◌, List, [], ◌∷◌, ◌++◌, length, take, refl, sym, ◌∙◌, ap, subst, arith, append_assoc}
 use Rattle.std.specs.Prelude.{Option, Vec, Result, Ok, Err}
 use Rattle.std.proofs.lemmas.List.{take_at}
-use Rattle.dbus_auth_lines.specs.Cut.{Fault, Cut, Ends, Bad, More, cut}
-use Rattle.dbus_auth_lines.specs.FirstLine.{Beginning, WholeLine, Faulty, Unfinished, BeginsAs, cut_of}
+use Rattle.dbus_auth_lines.specs.Cut.{Fault, Cut, Ends, Bad, More, cut, Beginning, WholeLine, Faulty, Unfinished, BeginsAs, cut_of}
 use Rattle.dbus_auth_lines.specs.CutterViews.{CutterState, IsLineOf, Takes, TakesCut}
 use Rattle.dbus_auth_lines.specs.declared.cutter.LineFault.{LineFault}
 use Rattle.dbus_auth_lines.proofs.FirstLines.{cut_finds}

@@ -5,8 +5,7 @@ use Rattle.std.proofs.lemmas.Bool.Decides.{nat_tests}
 use Rattle.std.proofs.lemmas.List.{append-nil, take_at}
 use Rattle.std.specs.List.{AllByRecursion}
 use Rattle.dbus_auth_lines.specs.Lines.{ended}
-use Rattle.dbus_auth_lines.specs.Cut.{TooLong, BadByte, Ends, Bad, More, passes_limit, is_bad, scan_from, cut, IsPlain, IsLine}
-use Rattle.dbus_auth_lines.specs.FirstLine.{Beginning, WholeLine, Faulty, Unfinished, IsUnfinished, within_line, cr_last, IsStray, IsTooLong, long_line, long_past_cr, IsBadByte, stray, no_lf, BeginsAs, cut_of}
+use Rattle.dbus_auth_lines.specs.Cut.{TooLong, BadByte, Ends, Bad, More, passes_limit, is_bad, scan_from, cut, IsPlain, IsLine, Beginning, WholeLine, Faulty, Unfinished, IsUnfinished, within_line, cr_last, IsStray, IsTooLong, long_line, long_past_cr, IsBadByte, stray, no_lf, BeginsAs, cut_of}
 use Rattle.dbus_auth_lines.proofs.Scans.{scan_step, scan_none, stays_within, cut_over, cut_over_cr, cut_line}
 
 -- ---- the scan finds how bytes begin

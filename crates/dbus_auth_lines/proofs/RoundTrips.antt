@@ -13,8 +13,7 @@ use Rattle.dbus_auth_lines.specs.ServerCommands as server
 use Rattle.dbus_auth_lines.specs.Lines.{client_line, server_line, client_meaning, server_meaning, spaced, hex_word, text_word, ended}
 use Rattle.dbus_auth_lines.specs.LineForms.{IsWord, HasWords, HasForm, HasHex, HasText, IsClientLine, IsServerLine}
 use Rattle.dbus_auth_lines.specs.Cut.{IsPlain, IsLine}
-use Rattle.dbus_auth_lines.specs.WrittenLines.{is_printed, is_plain, is_word, is_client_spelled, is_server_spelled, within_limit, client_text_of, server_text_of}
-use Rattle.dbus_auth_lines.specs.RoundTrip.{HasClientBytes, HasServerBytes, ReadsBack}
+use Rattle.dbus_auth_lines.specs.WrittenLines.{is_printed, is_plain, is_word, is_client_spelled, is_server_spelled, within_limit, client_text_of, server_text_of, HasClientBytes, HasServerBytes, ReadsBack}
 use Rattle.dbus_auth_lines.proofs.Cuts.{length-ended}
 use Rattle.dbus_auth_lines.proofs.PrintedWords.{plain_text, plain_word, plain-append, word_by_test, hex_is_word, hex_word_plain}
 use Rattle.dbus_auth_lines.proofs.Meanings.{client_row_means, server_row_means}

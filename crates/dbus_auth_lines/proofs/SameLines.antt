@@ -4,7 +4,7 @@ use Rattle.std.proofs.lemmas.Grind.{common_steps}
 use Rattle.std.specs.Bool.{Decides}
 use Rattle.dbus_auth_lines.specs.ServerCommands.{ServerCommand}
 use Rattle.dbus_auth_lines.specs.ServerCommands as server
-use Rattle.dbus_auth_lines.specs.LineViews.{server_command}
+use Rattle.dbus_auth_lines.specs.Lines.{server_command}
 use Rattle.dbus_auth_lines.specs.declared.lines.ServerLine.{ServerLine}
 use Rattle.dbus_auth_lines.specs.declared.lines.ServerLine.TheVariants as s
 use Rattle.dbus_auth_lines.specs.contracts.lines.ServerLinePartialEq.TheImpl as server_eq

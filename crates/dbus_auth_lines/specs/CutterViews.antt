@@ -1,7 +1,6 @@
 -- What a scan of the code found, and how a call of the line cutter answers.
 use Rattle.std.specs.Prelude.{ℕ, ◌+◌, ◌≤◌, ◌≡◌, ◌==◌, ◌-◌, ◌++◌, Bool, List, [], ◌∷◌, length, take, Option, Some, None, Vec, Result, Err, MatchResult}
-use Rattle.dbus_auth_lines.specs.Cut.{Fault, TooLong, BadByte, Cut, Ends, Bad, More}
-use Rattle.dbus_auth_lines.specs.FirstLine.{Beginning, WholeLine, Faulty, Unfinished}
+use Rattle.dbus_auth_lines.specs.Cut.{Fault, TooLong, BadByte, Cut, Ends, Bad, More, Beginning, WholeLine, Faulty, Unfinished}
 use Rattle.dbus_auth_lines.specs.declared.scanning.BadLine.{BadLine}
 use Rattle.dbus_auth_lines.specs.declared.scanning.BadLine.TheVariants as bad
 use Rattle.dbus_auth_lines.specs.declared.cutter.LineFault.{LineFault}

@@ -3,10 +3,7 @@ pub mod ServerCommands
 pub mod Lines
 pub mod LineForms
 pub mod Cut
-pub mod FirstLine
-pub mod LineViews
 pub mod WordPlaces
 pub mod WrittenLines
-pub mod RoundTrip
 pub mod CutterViews
 pub mod CutterStates

@@ -1,6 +1,6 @@
 -- Lines without their CR LF: what a line means, and how a command is written. D-Bus Specification,
 -- "Authentication Protocol", "Protocol Overview" and the section of each command.
-use Rattle.std.specs.Prelude.{ℕ, ◌==◌, Bool, true, List, [], ◌∷◌, ◌++◌, length, drop, codes, bytes_eq, Result, Ok, Err, if◌then◌else◌, flat_map}
+use Rattle.std.specs.Prelude.{ℕ, ◌==◌, Bool, true, List, [], ◌∷◌, ◌++◌, length, drop, codes, bytes_eq, Result, Ok, Err, if◌then◌else◌, flat_map, map}
 use Rattle.hex.specs.Hex.{decode_of, encode_lower}
 use Rattle.hex.specs.declared.error.FromHexError.{FromHexError}
 use Rattle.dbus_auth_lines.specs.ClientCommands.{ClientCommand}
@@ -11,6 +11,10 @@ use Rattle.dbus_auth_lines.specs.declared.places.ClientName.{ClientName}
 use Rattle.dbus_auth_lines.specs.declared.places.ClientName.TheVariants as of_client
 use Rattle.dbus_auth_lines.specs.declared.places.ServerName.{ServerName}
 use Rattle.dbus_auth_lines.specs.declared.places.ServerName.TheVariants as of_server
+use Rattle.dbus_auth_lines.specs.declared.lines.ClientLine.{ClientLine}
+use Rattle.dbus_auth_lines.specs.declared.lines.ClientLine.TheVariants as c
+use Rattle.dbus_auth_lines.specs.declared.lines.ServerLine.{ServerLine}
+use Rattle.dbus_auth_lines.specs.declared.lines.ServerLine.TheVariants as s
 
 -- the bytes up to the first space
 unfoldable pub command_name : List ℕ → List ℕ
@@ -154,3 +158,23 @@ crlf = 13 ∷ 10 ∷ []
 
 abbrev pub ended : List ℕ → List ℕ
 ended line = line ++ crlf
+
+-- What a line of the code says, without where its bytes lie in memory.
+
+abbrev pub client_command : {A : Type 0} → ClientLine A → ClientCommand
+client_command c.Auth = client.Auth
+client_command (c.AuthBy mech response) = client.AuthBy mech.items response.items
+client_command c.Cancel = client.Cancel
+client_command c.Begin = client.Begin
+client_command (c.DataOf bytes) = client.DataOf bytes.items
+client_command (c.Error text) = client.Error text.items
+client_command c.Negotiate = client.Negotiate
+client_command c.Other = client.Other
+
+abbrev pub server_command : {A : Type 0} → ServerLine A → ServerCommand
+server_command (s.Rejected mechanisms) = server.Rejected (map (λ m. m.items) mechanisms.items)
+server_command (s.Accepted guid) = server.Accepted guid.0
+server_command (s.DataOf bytes) = server.DataOf bytes.items
+server_command (s.Error text) = server.Error text.items
+server_command s.Agree = server.Agree
+server_command s.Other = server.Other

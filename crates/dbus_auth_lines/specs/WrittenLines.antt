@@ -2,6 +2,7 @@
 -- Protocol", "Protocol Overview".
 use Rattle.std.specs.Prelude.{ℕ, ◌≡◌, ◌==◌, ◌&&◌, not, nat_le, nat_lt, Bool, true, false, List, length, Option, Some, None, Result, Ok, Err, if◌then◌else◌}
 use Rattle.std.specs.List.{list_all}
+use Rattle.hex.specs.Hex.{IsBytes}
 use Rattle.dbus_auth_lines.specs.ClientCommands.{ClientCommand}
 use Rattle.dbus_auth_lines.specs.ClientCommands as client
 use Rattle.dbus_auth_lines.specs.ServerCommands.{ServerCommand}
@@ -9,6 +10,7 @@ use Rattle.dbus_auth_lines.specs.ServerCommands as server
 use Rattle.dbus_auth_lines.specs.Lines.{client_line, server_line, ended}
 use Rattle.dbus_auth_lines.specs.declared.writing.TextFault.{TextFault}
 use Rattle.dbus_auth_lines.specs.declared.writing.TextFault.TheVariants as fault
+use Rattle.dbus_auth_lines.specs.Cut.{IsLine}
 
 -- a byte of a mechanism
 abbrev pub is_printed : ℕ → Bool
@@ -54,3 +56,30 @@ abbrev pub Writes : {X : Type 0} → (X → List ℕ) → Result X TextFault →
 Writes view (Ok text) t = t ≡ Some (view text)
 Writes view (Err fault.Memory) t = Unit {0}
 Writes view (Err fault.Unspellable) t = t ≡ None
+
+-- A written line is one line, which is read back as what was written.
+
+-- what is written in hexadecimal are bytes, as in each `ClientLine` and `ServerLine`
+abbrev pub HasClientBytes : ClientCommand → Type 0
+HasClientBytes client.Auth = Unit {0}
+HasClientBytes (client.AuthBy mech response) = IsBytes response
+HasClientBytes client.Cancel = Unit {0}
+HasClientBytes client.Begin = Unit {0}
+HasClientBytes (client.DataOf bytes) = IsBytes bytes
+HasClientBytes (client.Error text) = Unit {0}
+HasClientBytes client.Negotiate = Unit {0}
+HasClientBytes client.Other = Unit {0}
+
+abbrev pub HasServerBytes : ServerCommand → Type 0
+HasServerBytes (server.Rejected mechanisms) = Unit {0}
+HasServerBytes (server.Accepted guid) = (length guid ≡ 16) × IsBytes guid
+HasServerBytes (server.DataOf bytes) = IsBytes bytes
+HasServerBytes (server.Error text) = Unit {0}
+HasServerBytes server.Agree = Unit {0}
+HasServerBytes server.Other = Unit {0}
+
+pub record ReadsBack {C : Type 0} (meaning : List ℕ → C) (command : C) (text : List ℕ) : Type 0 where
+  pub line : List ℕ
+  pub is_line : IsLine line
+  pub is : text ≡ ended line
+  pub reads : meaning line ≡ command

@@ -2,7 +2,7 @@
 #![tactic(auto)]
 
 ghost use Rattle.std.specs.Prelude.{◌≡◌};
-ghost use Rattle.dbus_auth_lines.specs.LineViews.{client_command, server_command};
+ghost use Rattle.dbus_auth_lines.specs.Lines.{client_command, server_command};
 
 use crate::lines::{ClientLine, ServerLine};
 use std::alloc::{AllocError, Allocator};

@@ -2,9 +2,8 @@
 
 ghost use Rattle.std.specs.Prelude.{◌≡◌, ◌++◌, ◌+◌, ◌-◌, ◌≤◌, ℕ, [], length, take, MatchResult, IfSome};
 ghost use Rattle.dbus_auth_lines.specs.declared.cutter.LineFault.TheVariants.{Memory};
-ghost use Rattle.dbus_auth_lines.specs.Cut.{cut, Ends, More};
+ghost use Rattle.dbus_auth_lines.specs.Cut.{cut, Ends, More, Beginning, BeginsAs};
 ghost use Rattle.dbus_auth_lines.specs.CutterViews.{fault_of, line_fault, IsWithin, Takes, TakesCut};
-ghost use Rattle.dbus_auth_lines.specs.FirstLine.{Beginning, BeginsAs};
 
 use crate::scanning::{BadLine, Found, find, line_of};
 use std::alloc::{AllocError, Allocator, Global};

@@ -4,15 +4,12 @@
 //! D-Bus Specification, section "Authentication Protocol".
 
 ghost use Rattle.std.specs.Prelude.{List, ℕ, ◌≡◌, ◌≢◌, ◌++◌, ◌↔◌, IsTrue, Some};
-ghost use Rattle.dbus_auth_lines.specs.Cut.{cut};
-ghost use Rattle.dbus_auth_lines.specs.FirstLine.{Beginning, Unfinished, BeginsAs, cut_of};
+ghost use Rattle.dbus_auth_lines.specs.Cut.{cut, Beginning, Unfinished, BeginsAs, cut_of};
 ghost use Rattle.dbus_auth_lines.specs.ClientCommands.{ClientCommand};
 ghost use Rattle.dbus_auth_lines.specs.ServerCommands.{ServerCommand};
-ghost use Rattle.dbus_auth_lines.specs.Lines.{client_meaning, server_meaning};
-ghost use Rattle.dbus_auth_lines.specs.LineViews.{client_command, server_command};
+ghost use Rattle.dbus_auth_lines.specs.Lines.{client_meaning, server_meaning, client_command, server_command};
 ghost use Rattle.dbus_auth_lines.specs.LineForms.{MeansToServer, MeansToClient};
-ghost use Rattle.dbus_auth_lines.specs.WrittenLines.{client_text_of, server_text_of};
-ghost use Rattle.dbus_auth_lines.specs.RoundTrip.{HasClientBytes, HasServerBytes, ReadsBack};
+ghost use Rattle.dbus_auth_lines.specs.WrittenLines.{client_text_of, server_text_of, HasClientBytes, HasServerBytes, ReadsBack};
 
 use crate::lines::{ClientLine, ServerLine};
 use std::alloc::Allocator;

@@ -3,10 +3,9 @@
 
 ghost use Rattle.std.specs.Prelude.{◌≡◌, ◌+◌, ◌++◌, Some, None, IfOk, option_map, map, length};
 ghost use Rattle.hex.specs.Hex.{decode_of};
-ghost use Rattle.dbus_auth_lines.specs.Lines.{command_name, words, by_hex, client_meaning, server_meaning};
+ghost use Rattle.dbus_auth_lines.specs.Lines.{command_name, words, by_hex, client_meaning, server_meaning, client_command, server_command};
 ghost use Rattle.dbus_auth_lines.specs.LineForms.{MeansToServer, MeansToClient};
 ghost use Rattle.dbus_auth_lines.specs.ServerCommands as server;
-ghost use Rattle.dbus_auth_lines.specs.LineViews.{client_command, server_command};
 ghost use Rattle.dbus_auth_lines.specs.WordPlaces.{AreClientPlaces, AreServerPlaces, IsWithin, client_found, server_found, text_at};
 
 use crate::lines::{ClientLine, Guid, ServerLine};

@@ -2,9 +2,8 @@
 //! unfinished line, and for who has all bytes.
 
 ghost use Rattle.std.specs.Prelude.{◌≡◌, ◌++◌, ◌-◌, ◌≤◌, ℕ, length, take, false, IfOk, MatchOption, MatchResult};
-ghost use Rattle.dbus_auth_lines.specs.Cut.{passes_limit, is_bad, scan_from, cut, Ends, More};
+ghost use Rattle.dbus_auth_lines.specs.Cut.{passes_limit, is_bad, scan_from, cut, Ends, More, Beginning, BeginsAs, Faulty, Unfinished, WholeLine};
 ghost use Rattle.dbus_auth_lines.specs.CutterViews.{fault_of, found, cr_after, IsWithin};
-ghost use Rattle.dbus_auth_lines.specs.FirstLine.{Beginning, BeginsAs, Faulty, Unfinished, WholeLine};
 
 use std::alloc::{AllocError, Allocator};
 

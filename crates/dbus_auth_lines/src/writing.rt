@@ -3,9 +3,8 @@
 
 ghost use Rattle.std.specs.Prelude.{◌≡◌, ◌++◌, ℕ, IfOk, map, codes};
 ghost use Rattle.std.specs.List.{list_all, flat_map};
-ghost use Rattle.dbus_auth_lines.specs.Lines.{hex_word, text_word, ended, spaced, client_line, server_line};
+ghost use Rattle.dbus_auth_lines.specs.Lines.{hex_word, text_word, ended, spaced, client_line, server_line, client_command, server_command};
 ghost use Rattle.dbus_auth_lines.specs.WrittenLines.{Writes, is_word, is_printed, is_plain, is_client_spelled, is_server_spelled, within_limit, client_text_of, server_text_of};
-ghost use Rattle.dbus_auth_lines.specs.LineViews.{client_command, server_command};
 
 use crate::lines::{ClientLine, ServerLine};
 use std::alloc::{AllocError, Allocator};

@@ -1,6 +1,6 @@
 //! Values, read and written.
 ghost use Rattle.std.specs.Prelude.{IfSome};
-ghost use Rattle.dbus_value_model.specs.ShortSignatures.{HasShortSignatures};
+ghost use Rattle.dbus_value_model.specs.Sizes.{HasShortSignatures};
 ghost use Rattle.dbus_value_model.specs.ValueViews.{value_tree};
 
 use crate::timing::Rounds;

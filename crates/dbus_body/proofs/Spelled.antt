@@ -4,7 +4,7 @@ use Rattle.dbus_texts.specs.Types.{TypeTree, SIGNATURE, sig}
 use Rattle.dbus_types.specs.Alignments.{alignment_of}
 use Rattle.dbus_value_model.specs.declared.order.Order.{Order}
 use Rattle.dbus_value_model.specs.declared.order.Order.TheVariants.{Little, Big}
-use Rattle.dbus_value_model.specs.Appending.{with_padding, with_value, with_values}
+use Rattle.dbus_value_model.specs.SizeLimits.{with_padding, with_value, with_values}
 use Rattle.dbus_value_model.specs.Bytes.{num, low_first}
 use Rattle.dbus_value_model.specs.Values.{ValueTree, ValueTrees, ArrayValue, TextValue, VariantValue, type_of}
 use Rattle.dbus_marshal.proofs.Patching.{array_patched}

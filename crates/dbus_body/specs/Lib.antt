@@ -1,4 +1,2 @@
 pub mod Arrays
-pub mod Faults
-pub mod Room
 pub mod BodyLaws

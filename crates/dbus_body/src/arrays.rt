@@ -2,8 +2,7 @@
 #![tactic(auto, using(dbus_marshal::proofs::Written::lengths, dbus_value_model::proofs::Gaps::gap_below))]
 
 ghost use Rattle.std.specs.Prelude.{◌≡◌, ◌<◌, length, vec_capacity, OnOk, OnErr, IfOk, IfErr};
-ghost use Rattle.dbus_body.specs.Arrays.{IsOpen, closed, opened, place_of};
-ghost use Rattle.dbus_body.specs.Faults.{IsArrayRefused, IsLengthWritten};
+ghost use Rattle.dbus_body.specs.Arrays.{IsOpen, closed, opened, place_of, IsArrayRefused, IsLengthWritten};
 
 use crate::put_fault::PutFault;
 use crate::putting::put_padding;

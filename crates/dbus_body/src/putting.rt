@@ -3,11 +3,11 @@
 
 ghost use Rattle.std.specs.Prelude.{◌≡◌, ◌+◌, ◌<◌, ◌≤◌, ◌^◌, ◌++◌, length, vec_capacity, OnOk, OnErr, IfErr};
 ghost use Rattle.dbus_texts.specs.Types.{STRING, SIGNATURE};
-ghost use Rattle.dbus_value_model.specs.Appending.{with_padding, with_value};
+ghost use Rattle.dbus_value_model.specs.SizeLimits.{with_padding, with_value};
 ghost use Rattle.dbus_value_model.specs.Bytes.{num};
 ghost use Rattle.dbus_value_model.specs.Values.{TextValue};
 ghost use Rattle.dbus_value_model.specs.declared.order.Order.{Order};
-ghost use Rattle.dbus_body.specs.Faults.{IsTextRefused};
+ghost use Rattle.dbus_body.specs.Arrays.{IsTextRefused};
 
 use crate::put_fault::PutFault;
 use dbus_marshal::writing::write_unpadded;
@@ -15,7 +15,7 @@ use dbus_value_model::{Order, gap};
 use std::alloc::{AllocError, Allocator};
 
 /// Appends zeros up to the next multiple of `alignment`.
-#[tactic(auto, using(dbus_value_model::proofs::Gaps::gap_below), unfolding(dbus_value_model::specs::Appending::with_padding))]
+#[tactic(auto, using(dbus_value_model::proofs::Gaps::gap_below), unfolding(dbus_value_model::specs::SizeLimits::with_padding))]
 pub(crate) fn put_padding<A: Allocator>(
     out: &mut Vec<u8, A>,
     alignment: u8,
@@ -38,7 +38,7 @@ pub(crate) fn put_padding<A: Allocator>(
 /// capacity was too small; then the bytes are as they were. D-Bus Specification, "Marshaling (Wire
 /// Format)".
 #[inline]
-#[tactic(auto, using(dbus_marshal::proofs::Written::lengths, dbus_value_model::proofs::Gaps::gap_below), unfolding(dbus_value_model::specs::Appending::with_padding))]
+#[tactic(auto, using(dbus_marshal::proofs::Written::lengths, dbus_value_model::proofs::Gaps::gap_below), unfolding(dbus_value_model::specs::SizeLimits::with_padding))]
 pub fn put_number<A: Allocator>(
     out: &mut Vec<u8, A>,
     order: Order,
@@ -118,7 +118,7 @@ pub fn put_signature<A: Allocator>(out: &mut Vec<u8, A>, text: &[u8]) -> Result<
 ///
 /// The error is that an allocation failed, only if the capacity was too small; then the bytes are
 /// as they were. D-Bus Specification, "Marshaling (Wire Format)".
-#[tactic(auto, using(dbus_value_model::proofs::Gaps::gap_below), unfolding(dbus_value_model::specs::Appending::with_padding))]
+#[tactic(auto, using(dbus_value_model::proofs::Gaps::gap_below), unfolding(dbus_value_model::specs::SizeLimits::with_padding))]
 pub fn begin_struct<A: Allocator>(out: &mut Vec<u8, A>) -> Result<(), AllocError>
     ensures written { OnOk result (out.new.items ≡ with_padding 8 out.old.items) }
     ensures unchanged { OnErr result (out.new.items ≡ out.old.items) }

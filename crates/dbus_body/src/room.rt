@@ -9,12 +9,11 @@
 
 ghost use Rattle.std.specs.Prelude.{◌≡◌, ◌+◌, ◌<◌, ◌≤◌, ◌^◌, ◌++◌, List, ℕ, length, take, Some, None, MatchOption, IsTrue, IsFalse};
 ghost use Rattle.dbus_texts.specs.Types.{STRING, SIGNATURE};
-ghost use Rattle.dbus_value_model.specs.Appending.{with_padding, with_value};
+ghost use Rattle.dbus_value_model.specs.SizeLimits.{with_padding, with_value};
 ghost use Rattle.dbus_value_model.specs.Bytes.{num};
 ghost use Rattle.dbus_value_model.specs.Values.{TextValue};
 ghost use Rattle.dbus_value_model.specs.declared.order.Order.{Order};
-ghost use Rattle.dbus_body.specs.Arrays.{opened, place_of};
-ghost use Rattle.dbus_body.specs.Room.{Puts};
+ghost use Rattle.dbus_body.specs.Arrays.{opened, place_of, Puts};
 
 use crate::arrays::OpenArray;
 use dbus_marshal::writing::{write_number, write_padding, write_signature, write_text};

@@ -15,10 +15,9 @@ use Rattle.dbus_value_model.specs.ValueViews.{value_tree, value_trees_of}
 use Rattle.dbus_value_model.specs.WantedTexts.{IsWanted, kind_of}
 use Rattle.dbus_value_model.specs.declared.value.Value.{Value}
 use Rattle.dbus_value_model.proofs.Formed.{parts_of, all_parts_of}
-use Rattle.dbus_build.specs.BuildFaults.{IsFirstWithout, IsNonzero, HasOwnType, HasOwnKind, IsOfType, IsOf, type_wanted, text_wanted, twice, IsFirstUnsoundField, IsFirstUnsound, SerialsPass, TypesPass, NamesPass, SignaturePasses, NoFault}
+use Rattle.dbus_build.specs.BuildFaults.{IsFirstWithout, IsNonzero, HasOwnType, HasOwnKind, IsOfType, IsOf, type_wanted, text_wanted, twice, IsFirstUnsoundField, IsFirstUnsound, SerialsPass, TypesPass, NamesPass, SignaturePasses, NoFault, KeptParts}
 use Rattle.dbus_message_model.specs.KeptLimits.{IsShallow}
 use Rattle.dbus_message_model.specs.Messages.{FieldTree, Want, Anything, OfType, Name, Serial, want, Suits, AreFields, field_struct, field_array, has_code, is_known, text_in, body_signature, IsValidMessage}
-use Rattle.dbus_build.specs.PartLaws.{KeptParts}
 use Rattle.dbus_build.proofs.ValidatedFields.{one_more}
 use Rattle.dbus_message_model.specs.PackedParts.{field_values, PartsKeepBytes}
 use Rattle.dbus_message_model.specs.PartsViews.{field_tree, field_trees, parts_tree}

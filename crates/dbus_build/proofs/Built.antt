@@ -11,22 +11,21 @@ use Rattle.dbus_value_model.specs.FdIndexes.{AreAllBelow}
 use Rattle.dbus_value_model.specs.FirstPast.{IsFirstPast}
 use Rattle.dbus_value_model.proofs.Indexes.{any_all_below, all_below}
 use Rattle.dbus_value_model.specs.Forming.{AreUniform, AreNamed}
-use Rattle.dbus_value_model.specs.Measures.{AreMeasured}
-use Rattle.dbus_value_model.specs.ShortSignatures.{HaveShortSignatures}
+use Rattle.dbus_value_model.specs.SizeLimits.{AreMeasured}
+use Rattle.dbus_value_model.specs.Sizes.{HaveShortSignatures}
 use Rattle.dbus_value_model.specs.Spelling.{spelling, spellings, IsWithinLimits, AreWithinLimits}
 use Rattle.dbus_value_model.specs.Values.{value_trees, ValueTrees, NoValues, MoreValues}
 use Rattle.dbus_value_model.specs.ValueViews.{value_trees_of}
 use Rattle.dbus_value_model.specs.declared.value.Value.{Value}
 use Rattle.dbus_value_model.proofs.Formed.{formed_of, all_formed_of}
 use Rattle.dbus_value_model.proofs.Numbers.{length-num}
-use Rattle.dbus_build.specs.BuildFaults.{IsFirstWithout, IsNonzero, HasOwnType, HasOwnKind, IsFirstUnsoundField, IsFirstUnsound, SignaturePasses, ArraysPass, SizePasses, NoFault, IsFirstFault}
+use Rattle.dbus_build.specs.BuildFaults.{IsFirstWithout, IsNonzero, HasOwnType, HasOwnKind, IsFirstUnsoundField, IsFirstUnsound, SignaturePasses, ArraysPass, SizePasses, NoFault, IsFirstFault, HoldTheirNumbers, AreFieldEnds}
 use Rattle.dbus_message_model.specs.KeptLimits.{KeepsArrays, IsLong}
 use Rattle.dbus_build.specs.declared.build_fault.BuildFault.{BuildFault}
 use Rattle.dbus_build.specs.declared.build_fault.BuildFault.TheVariants as faults
 use Rattle.dbus_message_model.specs.declared.header_field.HeaderField.{HeaderField}
 use Rattle.dbus_message_model.specs.declared.parts.Parts.{Parts}
 use Rattle.dbus_message_model.specs.Messages.{FieldTree, MessageTree, field_struct, field_array, fields_end, body_start, message_bytes, IsValidMessage}
-use Rattle.dbus_build.specs.MessageSizes.{HoldTheirNumbers, AreFieldEnds}
 use Rattle.dbus_message_model.specs.PartsViews.{parts_tree}
 use Rattle.dbus_message_model.proofs.BothOrders.{valid_from}
 use Rattle.dbus_build.proofs.FaultyBody.{none_unsound}

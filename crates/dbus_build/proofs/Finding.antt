@@ -5,10 +5,9 @@ use Rattle.std.specs.Result.{is_ok}
 use Rattle.std.proofs.lemmas.Bool.{false≢true}
 use Rattle.std.proofs.lemmas.List.{drop_all}
 use Rattle.dbus_value_model.specs.Forming.{NestsWithin, NestWithin}
-use Rattle.dbus_value_model.specs.Ranges.{HoldsNumbers, HoldNumbers}
+use Rattle.dbus_value_model.specs.Verdicts.{HoldsNumbers, HoldNumbers, IsVerdict}
 use Rattle.dbus_value_model.specs.Values.{value_trees}
 use Rattle.dbus_value_model.specs.ValueViews.{value_tree, value_trees_of}
-use Rattle.dbus_value_model.specs.Verdicts.{IsVerdict}
 use Rattle.dbus_value_model.specs.declared.value.Value.{Value}
 use Rattle.dbus_value_model.specs.declared.verdict.Verdict.{Verdict}
 use Rattle.dbus_value_model.specs.declared.verdict.Verdict.TheVariants.{TooDeep, Mixed, Misnamed, Sound}

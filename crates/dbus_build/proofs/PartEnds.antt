@@ -7,11 +7,11 @@ use Rattle.dbus_value_model.specs.declared.limits.Limits.{Limits}
 use Rattle.dbus_value_model.specs.declared.limits.TheConstants.{MESSAGE_LIMIT}
 use Rattle.dbus_value_model.specs.Specification.{specification}
 use Rattle.dbus_value_model.specs.declared.order.Order.TheVariants.{Little}
-use Rattle.dbus_value_model.specs.Measures.{capped, IsCapped, IsMeasured, AreMeasured}
+use Rattle.dbus_value_model.specs.SizeLimits.{capped, IsCapped, IsMeasured, AreMeasured}
 use Rattle.dbus_value_model.specs.Spelling.{spellings, AreWithinLimits}
 use Rattle.dbus_value_model.specs.Values.{ValueTrees, value_trees}
 use Rattle.dbus_message_model.specs.Messages.{FieldTree, field_struct}
-use Rattle.dbus_build.specs.MessageSizes.{AreFieldEnds}
+use Rattle.dbus_build.specs.BuildFaults.{AreFieldEnds}
 use Rattle.dbus_message_model.specs.PartsViews.{field_tree}
 use Rattle.dbus_message_model.specs.declared.header_field.HeaderField.{HeaderField}
 use Rattle.dbus_message_model.proofs.FieldLists.{no_fields_from}

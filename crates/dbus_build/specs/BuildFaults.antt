@@ -1,19 +1,21 @@
 -- Why parts make no message: the cases, and which of them is the first that holds. D-Bus
 -- Specification, "Message Format", "Header Fields" and "Invalid Protocol and Spec Extensions".
-use Rattle.std.specs.Prelude.{◌≡◌, ◌⊎◌, ℕ, ◌+◌, ◌<◌, List, [], ◌∷◌, ◌++◌, true, false, ◌&&◌, if◌then◌else◌, Option, Some, None, Result, Ok, Err}
+use Rattle.std.specs.Prelude.{◌≡◌, ℕ, ◌+◌, ◌^◌, ◌<◌, ◌≤◌, List, [], ◌∷◌, length, map, Option, Some, None, ◌⊎◌, ◌++◌, true, false, ◌&&◌, if◌then◌else◌, Result, Ok, Err, ◌↔◌}
+use Rattle.dbus_value_model.specs.declared.limits.Limits.{Limits}
+use Rattle.dbus_value_model.specs.declared.order.Order.TheVariants.{Little}
+use Rattle.dbus_value_model.specs.Verdicts.{HoldsNumbers, HoldNumbers}
+use Rattle.dbus_value_model.specs.Spelling.{spellings, AreWithinLimits}
+use Rattle.dbus_value_model.specs.Values.{value_trees, ValueTree, NumberValue, type_of, types_of}
+use Rattle.dbus_message_model.specs.Messages.{FieldTree, MessageTree, field_struct, Want, Anything, OfType, Name, Serial, want, is_known, has_code, lacks, required, text_in, body_signature, body_fds, KeepsIndexes, IsValidMessage}
 use Rattle.dbus_texts.specs.Types.{UINT32, STRING, TypeTree, NumberType, TextType, sigs}
 use Rattle.dbus_value_model.specs.declared.fault.Reason.TheVariants as reasons
-use Rattle.dbus_value_model.specs.declared.limits.Limits.{Limits}
 use Rattle.dbus_value_model.specs.Checks.{IsTyped}
 use Rattle.dbus_value_model.specs.FirstPast.{IsFirstPast}
 use Rattle.dbus_value_model.specs.Forming.{IsNamed}
-use Rattle.dbus_value_model.specs.Ranges.{HoldsNumbers}
-use Rattle.dbus_value_model.specs.Values.{ValueTree, NumberValue, type_of, types_of}
 use Rattle.dbus_value_model.specs.ValueViews.{value_tree}
 use Rattle.dbus_value_model.specs.declared.value.Value.{Value}
 use Rattle.dbus_value_model.specs.WantedTexts.{WantedText, IsWanted, kind_of}
-use Rattle.dbus_message_model.specs.Messages.{FieldTree, MessageTree, Want, Anything, OfType, Name, Serial, want, is_known, has_code, lacks, required, text_in, body_signature, body_fds, KeepsIndexes, IsValidMessage}
-use Rattle.dbus_message_model.specs.KeptLimits.{IsShallow, KeepsArrays, IsLong}
+use Rattle.dbus_message_model.specs.KeptLimits.{IsShallow, KeepsArrays, IsLong, KeepsLimits}
 use Rattle.dbus_message_model.specs.PackedParts.{PartsKeepBytes}
 use Rattle.dbus_message_model.specs.PartsViews.{field_tree, parts_tree}
 use Rattle.dbus_message_model.specs.MessageViews.{message_tree}
@@ -22,9 +24,37 @@ use Rattle.dbus_message_model.specs.declared.parts.Parts.{Parts}
 use Rattle.dbus_message_model.specs.declared.message.Message.{Message}
 use Rattle.dbus_value_model.specs.declared.verdict.Verdict.{Verdict}
 use Rattle.dbus_value_model.specs.declared.verdict.Verdict.TheVariants.{TooDeep, Mixed, Misnamed, Sound}
-use Rattle.dbus_build.specs.MessageSizes.{HoldFieldNumbers}
+use Rattle.dbus_value_model.specs.Specification.{specification}
 use Rattle.dbus_build.specs.declared.build_fault.BuildFault.{BuildFault}
 use Rattle.dbus_build.specs.declared.build_fault.BuildFault.TheVariants as faults
+
+-- Where the fields of a header end, and the numbers that parts hold.
+-- D-Bus Specification, "Marshaling (Wire Format)" and "Message Format".
+
+-- The end n, where what stands before it keeps the limits on arrays and it is not past the end of
+-- the longest field array; else nothing. Both orders spell fields in as many bytes.
+abbrev pub IsEnd : Limits → Type 0 → ℕ → Option ℕ → Type 0
+IsEnd limits kept n None = kept → 16 + limits.array < n
+IsEnd limits kept n (Some e) = kept × (e ≡ n) × (n ≤ 16 + limits.array)
+
+-- the fields begin at 16
+abbrev pub AreFieldEnds : Limits → List FieldTree → Option ℕ → Type 0
+AreFieldEnds limits fs end =
+    let structs = value_trees (map field_struct fs) in
+    IsEnd limits (AreWithinLimits limits.array Little 16 structs) (16 + length (spellings Little 16 structs)) end
+
+-- a code is one byte, and a field's value holds numbers of their types
+abbrev pub HoldFieldNumbers : List FieldTree → Type 0
+HoldFieldNumbers [] = Unit {0}
+HoldFieldNumbers (f ∷ fs) = ((f.code < 256) × HoldsNumbers f.value) × HoldFieldNumbers fs
+
+-- every number is in the range of its type, as no parts break
+pub record HoldTheirNumbers (m : MessageTree) : Type 0 where
+  pub kind : m.kind < 256
+  pub flags : m.flags < 256
+  pub serial : m.serial < 256 ^ 4
+  pub fields : HoldFieldNumbers m.fields
+  pub body : HoldNumbers m.body
 
 -- ---- fields
 
@@ -201,3 +231,11 @@ IsAccepted limits p (Err refused) = NoFault limits p → refused.1 ≡ faults.Me
 abbrev pub IsTaken : {A : Type 0} → Limits → Parts A → Result (Message A) (Parts A × BuildFault) → Type 0
 IsTaken limits p (Ok message) = Unit {0}
 IsTaken limits p (Err refused) = IsValidMessage limits (parts_tree p) → PartsKeepBytes p → refused.1 ≡ faults.Memory
+
+-- The law of parts and limits: of which parts no case of fault holds.
+-- D-Bus Specification, "Message Format".
+
+-- Of the parts of a message, each array of bytes in which is `Bytes`, no case of fault holds
+-- exactly where they keep the limits.
+abbrev pub KeptParts : Type 0 → Type 0
+KeptParts A = (limits : Limits) (p : Parts A) → IsValidMessage specification (parts_tree p) → PartsKeepBytes p → NoFault limits p ↔ KeepsLimits limits (parts_tree p)

@@ -1,3 +1,1 @@
 pub mod BuildFaults
-pub mod MessageSizes
-pub mod PartLaws

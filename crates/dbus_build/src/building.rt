@@ -5,8 +5,7 @@ ghost use Rattle.std.specs.Prelude.{◌≡◌, length, MatchResult};
 ghost use Rattle.dbus_value_model.specs.declared.order.Order.TheVariants.{Little};
 ghost use Rattle.dbus_value_model.specs.Specification.{specification};
 ghost use Rattle.dbus_value_model.specs.declared.limits.Limits.{Limits};
-ghost use Rattle.dbus_build.specs.BuildFaults.{IsAccepted, IsBuilt, IsTaken, IsFirstFault, NoFault, NoneIsMissing, SignaturePasses, SizePasses};
-ghost use Rattle.dbus_build.specs.MessageSizes.{HoldTheirNumbers};
+ghost use Rattle.dbus_build.specs.BuildFaults.{IsAccepted, IsBuilt, IsTaken, IsFirstFault, NoFault, NoneIsMissing, SignaturePasses, SizePasses, HoldTheirNumbers};
 ghost use Rattle.dbus_message_model.specs.Messages.{message_bytes, IsValidMessage};
 ghost use Rattle.dbus_message_model.specs.PartsViews.{parts_tree};
 

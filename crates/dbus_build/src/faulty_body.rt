@@ -4,7 +4,7 @@
 ghost use Rattle.std.specs.Prelude.{◌≡◌, ◌↔◌, ◌<◌, None, IsTrue, length};
 ghost use Rattle.dbus_texts.specs.Types.{sigs};
 ghost use Rattle.dbus_value_model.specs.Forming.{NestWithin};
-ghost use Rattle.dbus_value_model.specs.Ranges.{HoldNumbers};
+ghost use Rattle.dbus_value_model.specs.Verdicts.{HoldNumbers};
 ghost use Rattle.dbus_value_model.specs.Values.{types_of};
 ghost use Rattle.dbus_value_model.specs.ValueViews.{value_trees_of};
 ghost use Rattle.dbus_build.specs.BuildFaults.{IsFound, IsFirstUnsound};

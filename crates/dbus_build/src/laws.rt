@@ -1,7 +1,7 @@
 //! Laws of parts. Each function's contract is a law; it does nothing when it runs.
 #![tactic(auto)]
 
-ghost use Rattle.dbus_build.specs.PartLaws.{KeptParts};
+ghost use Rattle.dbus_build.specs.BuildFaults.{KeptParts};
 
 use std::alloc::Allocator;
 

@@ -2,10 +2,10 @@
 #![tactic(auto)]
 
 ghost use Rattle.std.specs.Prelude.{map};
-ghost use Rattle.dbus_value_model.specs.ShortSignatures.{HaveShortSignatures};
+ghost use Rattle.dbus_value_model.specs.Sizes.{HaveShortSignatures};
 ghost use Rattle.dbus_value_model.specs.Values.{value_trees};
 ghost use Rattle.dbus_message_model.specs.Messages.{field_struct};
-ghost use Rattle.dbus_build.specs.MessageSizes.{AreFieldEnds};
+ghost use Rattle.dbus_build.specs.BuildFaults.{AreFieldEnds};
 ghost use Rattle.dbus_message_model.specs.PartsViews.{field_trees};
 
 use dbus_marshal::measure_header_field;

@@ -2,7 +2,7 @@
 #![tactic(auto)]
 
 ghost use Rattle.std.specs.Prelude.{◌↔◌, map, IsTrue};
-ghost use Rattle.dbus_value_model.specs.ShortSignatures.{HaveShortSignatures};
+ghost use Rattle.dbus_value_model.specs.Sizes.{HaveShortSignatures};
 ghost use Rattle.dbus_value_model.specs.Values.{value_trees};
 ghost use Rattle.dbus_message_model.specs.KeptLimits.{IsShallow, KeepsArrays, KeepsLimits};
 ghost use Rattle.dbus_message_model.specs.Messages.{field_struct, KeepsIndexes};

@@ -8,9 +8,8 @@ use Rattle.dbus_value_model.specs.declared.limits.Limits.{Limits}
 use Rattle.dbus_value_model.specs.declared.order.Order.{Order}
 use Rattle.dbus_message_model.specs.Messages.{FieldTree, IsMessage}
 use Rattle.dbus_validate.specs.declared.validating.Validated.{Validated}
-use Rattle.dbus_c_build.specs.Placed.{HasParts}
+use Rattle.dbus_c_build.specs.Placed.{HasParts, AreKept, IsKept}
 use Rattle.dbus_c_build.specs.Building.{IsBuilt, IsRefusal, MakeNone}
-use Rattle.dbus_c_build.specs.Kept.{AreKept, IsKept}
 use Rattle.dbus_c_build.specs.declared.given.Given.{Given}
 use Rattle.dbus_c_build.specs.declared.placed.ByteRange.{ByteRange}
 use Rattle.dbus_c_build.specs.declared.placed.PlacedParts.{PlacedParts}

@@ -3,7 +3,7 @@ use Rattle.std.proofs.Common.{◌≡◌, Bool, ap, refl, subst, sym}
 use Rattle.std.specs.Prelude.{ℕ, Option, Some, None, Result, Ok, Err, MatchResult, is_some}
 use Rattle.std.specs.declared.alloc.AllocError.{AllocError}
 use Rattle.dbus_c_auth.specs.declared.handshake.Handshake.{Handshake}
-use Rattle.dbus_c_handle.specs.Handshakes.{kept_as}
+use Rattle.dbus_c_handle.specs.Checkers.{kept_as}
 use Rattle.dbus_c_handle.specs.declared.kept.Kept.{Kept}
 use Rattle.dbus_c.specs.Handshakes.{IsEndMade, made, refused, no_memory, made_told}
 

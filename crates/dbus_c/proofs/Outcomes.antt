@@ -7,7 +7,7 @@ use Rattle.dbus_header.specs.MessageOutcomes.{IsWhole}
 use Rattle.dbus_header.proofs.OutcomeLaws.{one_outcome}
 use Rattle.dbus_header.specs.NoMessage.{BeginsWithNone}
 use Rattle.dbus_c.specs.Checking.{Tells, whole, partial, refused}
-use Rattle.dbus_c.specs.FlatParts.{IsTold}
+use Rattle.dbus_c.specs.Parting.{IsTold}
 use Rattle.dbus_c.specs.Outcomes.{TellsApart}
 use Rattle.dbus_c.specs.declared.checking.Checked.{Checked}
 

@@ -9,8 +9,7 @@ use Rattle.dbus_texts.specs.Types.{UINT32}
 use Rattle.dbus_value_model.specs.declared.limits.Limits.{Limits}
 use Rattle.dbus_value_model.specs.declared.order.Order.{Order}
 use Rattle.dbus_value_model.specs.Values.{ValueTree, NumberValue, TextValue}
-use Rattle.dbus_message_model.specs.KnownFields.{WantsText, IsTextOf}
-use Rattle.dbus_message_model.specs.Lookups.{field_value}
+use Rattle.dbus_message_model.specs.KnownFields.{WantsText, IsTextOf, field_value}
 use Rattle.dbus_message_model.specs.Messages.{FieldTree, MessageTree, IsMessage, AreFields, fd_count, has_code, is_known, message_bytes, number_in, text_in, want}
 use Rattle.dbus_message_model.proofs.KnownValues.{has_text, suits_of}
 use Rattle.dbus_header.proofs.OutcomeLaws.{one_whole, whole_bytes, whole_inside, whole_valid}
@@ -22,7 +21,7 @@ use Rattle.dbus_c_build.specs.Placed as placed
 use Rattle.dbus_c_build.specs.declared.placed.ByteRange.{ByteRange}
 use Rattle.dbus_c_build.specs.declared.placed.PlacedParts.{PlacedParts}
 use Rattle.dbus_c_build.proofs.OnlyMessage.{parts_spelled}
-use Rattle.dbus_c_build.specs.Spelled.{spelled}
+use Rattle.dbus_c_build.specs.Building.{spelled}
 use Rattle.dbus_c_build.proofs.Refusing.{by_code}
 use Rattle.dbus_c.specs.Building.{Builds, ComesBack, FieldsOf, Rebuilds, StandFor, built, no_memory, no_message, no_room, place_given, rebuilt, refused}
 use Rattle.dbus_c.specs.Parting.{HasParts, IsPlaceOf, number_of}

@@ -10,8 +10,8 @@ use Rattle.dbus_header.proofs.OutcomeLaws.{one_fault, one_outcome, one_whole}
 use Rattle.dbus_header.specs.NoMessage.{BeginsWithNone}
 use Rattle.dbus_swap.specs.Byteswapping.{other}
 use Rattle.dbus_c.specs.Checking.{Tells, whole, partial, refused, whole_told, fault_told}
-use Rattle.dbus_c.specs.Swapping as swaps
-use Rattle.dbus_c.specs.Swapping.{Swaps, IsSwapExact}
+use Rattle.dbus_c.specs.Outcomes as swaps
+use Rattle.dbus_c.specs.Outcomes.{Swaps, IsSwapExact}
 use Rattle.dbus_c.specs.declared.checking.Checked.{Checked}
 
 -- the code's test of two orders says whether they are one, and of two that are not each is the

@@ -7,9 +7,8 @@ use Rattle.dbus_value_model.specs.declared.limits.Limits.{Limits}
 use Rattle.dbus_value_model.specs.declared.order.Order.{Order}
 use Rattle.dbus_message_model.specs.Messages.{FieldTree, MessageTree, IsMessage, message_bytes, order_byte}
 use Rattle.dbus_header.specs.MessageOutcomes.{IsWhole}
-use Rattle.dbus_c_build.specs.Placed.{HasParts}
+use Rattle.dbus_c_build.specs.Placed.{HasParts, IsKept}
 use Rattle.dbus_c_build.specs.Building.{IsRefusal}
-use Rattle.dbus_c_build.specs.Kept.{IsKept}
 use Rattle.dbus_c_build.specs.declared.given.Given.{Given}
 use Rattle.dbus_c_build.specs.declared.placed.ByteRange.{ByteRange}
 use Rattle.dbus_c_build.specs.declared.placed.PlacedParts.{PlacedParts}
@@ -17,7 +16,7 @@ use Rattle.dbus_c_build.specs.declared.placed_fault.PlacedFault.{PlacedFault}
 use Rattle.dbus_c_build.specs.declared.placed_fault.PlacedFault.TheVariants as refusals
 use Rattle.dbus_c.specs.Checking.{Tells, whole_told, nothing_told, fault_told}
 use Rattle.dbus_c.specs.Outcomes.{BeginsWithMessage}
-use Rattle.dbus_c.specs.ReasonNumbers.{reason_number}
+use Rattle.dbus_c.specs.Reasons.{reason_number}
 use Rattle.dbus_c.specs.declared.answers.TheConstants.{WHOLE, REFUSED, NO_MEMORY, NO_ROOM}
 use Rattle.dbus_c.specs.declared.checking.Checked.{Checked}
 use Rattle.dbus_c.specs.declared.parts.WireParts.{WireParts}

@@ -1,15 +1,20 @@
 -- The parts of the message that bytes begin with, in numbers.
 -- D-Bus Specification, "Message Format" and "Header Fields".
-use Rattle.std.specs.Prelude.{◌≡◌, ℕ, ◌+◌, ◌≤◌, List, length, take, drop, Option, Some, None}
+use Rattle.std.specs.Prelude.{◌≡◌, ℕ, ◌+◌, ◌≤◌, List, length, take, drop, Option, Some, None, ◌⊎◌}
 use Rattle.dbus_value_model.specs.declared.limits.Limits.{Limits}
 use Rattle.dbus_value_model.specs.declared.order.Order.{Order}
-use Rattle.dbus_value_model.specs.Values.{ValueTree}
-use Rattle.dbus_message_model.specs.Lookups.{field_value}
-use Rattle.dbus_message_model.specs.Messages.{FieldTree, MessageTree, order_byte, body_start, body_bytes, text_in, number_in}
+use Rattle.dbus_value_model.specs.Values.{ValueTree, ValueTrees, NoValues, MoreValues}
+use Rattle.dbus_message_model.specs.KnownFields.{field_value}
+use Rattle.dbus_message_model.specs.Messages.{FieldTree, MessageTree, order_byte, body_start, body_bytes, text_in, number_in, field_array}
 use Rattle.dbus_header.specs.MessageOutcomes.{IsWhole}
 use Rattle.dbus_validate.specs.Seen.{field_text_start}
+use Rattle.dbus_flatten.specs.Flattening.{AreFlat}
+use Rattle.dbus_flatten.specs.declared.flat_item.FlatItem.{FlatItem}
 use Rattle.dbus_c.specs.declared.parts.WireParts.{WireParts}
 use Rattle.dbus_c.specs.declared.parts.TextPlace.{TextPlace}
+use Rattle.dbus_c.specs.declared.answers.TheConstants.{WHOLE, NO_ROOM}
+use Rattle.dbus_c.specs.declared.flattening.Part.{Part}
+use Rattle.dbus_c.specs.declared.flattening.Part.TheVariants.{Body, Fields}
 
 -- where the text of a field's value stands among a message's bytes; of no value all is 0
 abbrev pub IsPlaceOf : Option ValueTree → List ℕ → TextPlace → Type 0
@@ -54,3 +59,29 @@ pub record HasParts (limits : Limits) (b : List ℕ) (p : WireParts) : Type 0 wh
   pub body : p.body ≡ body_start order message.fields
   pub body_length : p.length ≡ p.body + length (body_bytes order message)
   pub body_bytes : drop p.body (take p.length b) ≡ body_bytes order message
+
+-- A part of the message that bytes begin with as a row of items: its header fields, or its body.
+-- D-Bus Specification, "Message Format" and "Header Fields".
+
+-- the values of a part: the one array of the type a(yv) of the header fields, or the body's
+abbrev pub values_of : Part → MessageTree → ValueTrees
+values_of Fields m = MoreValues (field_array m.fields) NoValues
+values_of Body m = m.body
+
+-- the offset at which they begin
+abbrev pub start_of : Part → Order → MessageTree → ℕ
+start_of Fields order m = 12
+start_of Body order m = body_start order m.fields
+
+-- the bytes begin with a message within the limits, the values of whose part make so many items, of
+-- which those from a place on are written over those before
+pub record IsPartFlat (part : Part) (limits : Limits) (b : List ℕ) (first : ℕ) (before items : List FlatItem) (count : ℕ) : Type 0 where
+  pub order : Order
+  pub message : MessageTree
+  pub length : ℕ
+  pub whole : IsWhole limits b order message length
+  pub flat : AreFlat order (start_of part order message) (values_of part message) first before items count
+
+-- the answer says that there is a message, for whose items there was room or not
+abbrev pub IsTold : ℕ → Type 0
+IsTold answer = (answer ≡ WHOLE) ⊎ (answer ≡ NO_ROOM)

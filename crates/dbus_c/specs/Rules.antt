@@ -1,19 +1,20 @@
 -- What is told by numbers of match rules: of a rule's text, of a message that they may match, and a
 -- rule's canonical text. D-Bus Specification, "Match Rules".
-use Rattle.std.specs.Prelude.{◌≡◌, ◌⊎◌, ℕ, ◌+◌, ◌<◌, ◌≤◌, List, [], ◌∷◌, ◌++◌, length, drop, Option, Some, None, IsUtf8}
+use Rattle.std.specs.Prelude.{◌≡◌, ℕ, List, [], codes, nat_eq, if◌then◌else◌, ◌⊎◌, ◌+◌, ◌<◌, ◌≤◌, ◌∷◌, ◌++◌, length, drop, Option, Some, None, IsUtf8}
 use Rattle.std.specs.Str.Lossy.{utf8_valid_len}
 use Rattle.std.specs.declared.alloc.Global.{Global}
+use Rattle.dbus_rule.specs.Faults.{rule_reason_text, IsFault}
+use Rattle.dbus_rule.specs.declared.fault.RuleReason.{RuleReason}
+use Rattle.dbus_rule.specs.declared.fault.RuleReason.TheVariants as reason
 use Rattle.dbus_texts.specs.Kinds.{IsKind}
 use Rattle.dbus_texts.specs.declared.text_kind.TextKind.TheVariants.{BusName}
 use Rattle.dbus_value_model.specs.declared.limits.Limits.{Limits}
 use Rattle.dbus_value_model.specs.declared.order.Order.{Order}
 use Rattle.dbus_message_model.specs.Messages.{MessageTree}
 use Rattle.dbus_header.specs.MessageOutcomes.{IsWhole}
-use Rattle.dbus_rule.specs.Faults.{IsFault}
 use Rattle.dbus_match.specs.Matching.{Ownership}
 use Rattle.dbus_rule.specs.Rules.{canonical}
 use Rattle.dbus_rule.specs.RuleViews.{rule_pairs}
-use Rattle.dbus_rule.specs.declared.fault.RuleReason.{RuleReason}
 use Rattle.dbus_rule.specs.declared.rule.Rule.{Rule}
 use Rattle.dbus_rule_set.specs.Held.{Collects, EntryMatches}
 use Rattle.dbus_rule_set.specs.declared.handle.RuleHandle.{RuleHandle}
@@ -21,10 +22,33 @@ use Rattle.dbus_c_handle.specs.Rules.{Adds, KeepsAll, SetsOwner, SharesNone, Sha
 use Rattle.dbus_c_handle.specs.declared.kept.Kept.{Kept}
 use Rattle.dbus_c_handle.specs.declared.share_fault.ShareFault.TheVariants.{Memory, TooMany}
 use Rattle.dbus_c.specs.Outcomes.{BeginsWithMessage, TellsApart}
-use Rattle.dbus_c.specs.RuleReasons.{rule_reason_number}
 use Rattle.dbus_c.specs.declared.answers.TheConstants.{WHOLE, REFUSED, NO_MEMORY, NO_ROOM, NO_RULE, SHARED}
 use Rattle.dbus_c.specs.declared.rule_reasons.TheConstants.{NOT_UTF8}
 use Rattle.dbus_c.specs.declared.rules.RuleRefused.{RuleRefused}
+
+-- The numbers and the names of the reasons why a text spells no match rule: those that the reading
+-- of a rule has, and that the text is not UTF-8. D-Bus Specification, "Match Rules"; the reasons
+-- are this project's own.
+
+abbrev pub rule_reason_number : RuleReason → ℕ
+rule_reason_number reason.Nul = 1
+rule_reason_number reason.NoEquals = 2
+rule_reason_number reason.KeyName = 3
+rule_reason_number reason.KeyTwice = 4
+rule_reason_number reason.PathAndNamespace = 5
+rule_reason_number reason.OpenQuote = 6
+rule_reason_number reason.BadValue = 7
+
+-- the name of the reason of this number, or nothing if there is none
+abbrev pub rule_name_at : ℕ → List ℕ
+rule_name_at n =
+    if nat_eq n 1 then codes "Nul" else if nat_eq n 2 then codes "NoEquals" else if nat_eq n 3 then codes "KeyName"
+    else if nat_eq n 4 then codes "KeyTwice" else if nat_eq n 5 then codes "PathAndNamespace" else if nat_eq n 6 then codes "OpenQuote"
+    else if nat_eq n 7 then codes "BadValue" else if nat_eq n 8 then codes "NotUtf8" else []
+
+-- the text of a reason is the name at its number
+abbrev pub RuleNamesAreTexts : Type 0
+RuleNamesAreTexts = (r : RuleReason) → rule_reason_text r ≡ rule_name_at (rule_reason_number r)
 
 abbrev pub rule_fault_told : ℕ → ℕ → RuleRefused
 rule_fault_told at reason = record { offset = at; reason = reason; reserved = 0 }

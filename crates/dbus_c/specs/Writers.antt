@@ -1,11 +1,9 @@
 -- A body that is spelled value by value into the caller's bytes.
 -- D-Bus Specification, "Marshaling (Wire Format)".
 use Rattle.std.specs.Prelude.{◌≡◌, ℕ, ◌≤◌, List, ◌++◌, length, take, drop, Bool, ◌||◌, nat_eq, Option, Some, None}
-use Rattle.dbus_body.specs.Arrays.{closed}
-use Rattle.dbus_body.specs.Faults.{IsLengthWritten}
-use Rattle.dbus_body.specs.Room.{Puts}
+use Rattle.dbus_body.specs.Arrays.{closed, IsLengthWritten, Puts}
 use Rattle.dbus_body.specs.declared.arrays.OpenArray.{OpenArray}
-use Rattle.dbus_c.specs.Swapping.{order_named}
+use Rattle.dbus_c.specs.Outcomes.{order_named}
 use Rattle.dbus_c.specs.declared.answers.TheConstants.{WHOLE, REFUSED, NO_ROOM}
 use Rattle.dbus_c.specs.declared.writers.WireArray.{WireArray}
 use Rattle.dbus_c.specs.declared.writers.Writer.{Writer}

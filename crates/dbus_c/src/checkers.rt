@@ -2,7 +2,7 @@
 #![tactic(auto)]
 
 ghost use Rattle.std.specs.Prelude.{◌≡◌, None};
-ghost use Rattle.dbus_c.specs.Checkers.{IsMade, TellsRestart, TellsPiece, answer_of, taken_told};
+ghost use Rattle.dbus_c.specs.Checking.{IsMade, TellsRestart, TellsPiece, answer_of, taken_told};
 ghost use Rattle.dbus_c.specs.GivenLimits.{limits_of};
 
 use crate::answers::{NO_CHECKER, NO_MEMORY, PARTIAL, REFUSED, WHOLE};

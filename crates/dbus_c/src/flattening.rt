@@ -2,13 +2,13 @@
 #![tactic(auto)]
 
 ghost use Rattle.std.specs.Prelude.{◌≡◌, ◌↔◌, ◌≤◌, ◌+◌, ℕ, List, length};
-ghost use Rattle.dbus_c.specs.FlatParts.{IsPartFlat, IsTold, start_of, values_of};
+ghost use Rattle.dbus_c.specs.Parting.{IsPartFlat, IsTold, start_of, values_of};
 ghost use Rattle.dbus_c.specs.GivenLimits.{limits_of};
 ghost use Rattle.dbus_c.specs.Outcomes.{BeginsWithMessage, TellsApart};
 ghost use Rattle.dbus_c.specs.declared.flattening.Part.TheVariants.{Body, Fields};
 ghost use Rattle.dbus_message_model.specs.Messages.{MessageTree};
-ghost use Rattle.dbus_types.specs.TypeLengths.{AreLengths};
-ghost use Rattle.dbus_validate.specs.Wholes.{IsOwn, IsWholeOf, WasValidated};
+ghost use Rattle.dbus_types.specs.SignatureCodes.{AreLengths};
+ghost use Rattle.dbus_validate.specs.Validating.{IsOwn, IsWholeOf, WasValidated};
 ghost use Rattle.dbus_walk.specs.Standing.{AllStandAt};
 ghost use Rattle.dbus_walk.specs.declared.spot.MessageBytes.{MessageBytes};
 

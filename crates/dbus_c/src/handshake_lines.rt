@@ -3,8 +3,8 @@
 
 ghost use Rattle.std.specs.Prelude.{◌≡◌};
 ghost use Rattle.dbus_auth_lines.specs.CutterViews.{fault_of};
-ghost use Rattle.dbus_auth_lines.specs.FirstLine.{Beginning, BeginsAs};
-ghost use Rattle.dbus_c.specs.HandshakeLines.{HasClientLine, HasServerLine, TellsLine, client_told, fault_told, line_told, nothing_told, place_told, server_told};
+ghost use Rattle.dbus_auth_lines.specs.Cut.{Beginning, BeginsAs};
+ghost use Rattle.dbus_c.specs.Handshakes.{HasClientLine, HasServerLine, TellsLine, client_told, fault_told, line_told, nothing_told, place_told, server_told};
 
 use crate::answers::{PARTIAL, REFUSED, WHOLE};
 use crate::line_command::{

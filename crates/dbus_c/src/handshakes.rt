@@ -4,7 +4,7 @@
 ghost use Rattle.std.specs.Prelude.{◌≡◌, None};
 ghost use Rattle.dbus_c.specs.Handshakes.{IsEndMade, TellsGuidText, TellsStep, fault_number, made_told, number_of, step_told};
 ghost use Rattle.dbus_c_auth.specs.Handshakes.{client_made, server_made};
-ghost use Rattle.dbus_c_handle.specs.Handshakes.{handshake_of};
+ghost use Rattle.dbus_c_handle.specs.Checkers.{handshake_of};
 
 use crate::answers::{NO_HANDSHAKE, NO_MEMORY, NO_ROOM, NO_VALUE, PARTIAL, REFUSED, WHOLE};
 use dbus_auth::Status;

@@ -2,7 +2,7 @@
 #![tactic(auto)]
 
 ghost use Rattle.std.specs.Prelude.{◌≡◌, ◌<◌, ◌≤◌, ◌+◌, ◌∷◌, ◌++◌, drop, length};
-ghost use Rattle.dbus_c.specs.ReasonNames.{NamesAreTexts, name_at};
+ghost use Rattle.dbus_c.specs.Reasons.{NamesAreTexts, name_at};
 
 /// Writes the name of the reason of this number, and a 0 after it, at the start of `out`, if that
 /// has room for both; else `out` stays as it is. Returns the name's length, 0 if there is no such

@@ -7,7 +7,7 @@ ghost use Rattle.dbus_c.specs.Outcomes.{BeginsWithMessage, TellsApart};
 ghost use Rattle.dbus_c.specs.Parting.{HasFields, HasParts, IsOwnPlace, IsPlaceOf, number_of};
 ghost use Rattle.dbus_validate.specs.Seen.{AreNoted, ArePlaced};
 ghost use Rattle.dbus_value_model.specs.declared.order.Order.{Order};
-ghost use Rattle.dbus_message_model.specs.Lookups.{field_value};
+ghost use Rattle.dbus_message_model.specs.KnownFields.{field_value};
 ghost use Rattle.dbus_message_model.specs.Messages.{FieldTree, is_known, order_byte};
 
 use crate::answers::WHOLE;

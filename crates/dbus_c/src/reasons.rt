@@ -2,7 +2,7 @@
 #![tactic(auto)]
 
 ghost use Rattle.std.specs.Prelude.{◌≡◌};
-ghost use Rattle.dbus_c.specs.ReasonNumbers.{OneNumber, field_named, reason_number};
+ghost use Rattle.dbus_c.specs.Reasons.{OneNumber, field_named, reason_number};
 
 use dbus_value_model::Reason;
 

@@ -2,7 +2,7 @@
 #![tactic(auto)]
 
 ghost use Rattle.std.specs.Prelude.{◌≡◌, ◌<◌, ◌≤◌, ◌+◌, ◌∷◌, ◌++◌, drop, length};
-ghost use Rattle.dbus_c.specs.RuleReasons.{RuleNamesAreTexts, rule_name_at, rule_reason_number};
+ghost use Rattle.dbus_c.specs.Rules.{RuleNamesAreTexts, rule_name_at, rule_reason_number};
 
 use crate::names::put_text;
 use dbus_match::RuleReason;

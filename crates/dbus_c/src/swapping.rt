@@ -3,7 +3,7 @@
 
 ghost use Rattle.std.specs.Prelude.{◌≡◌, ◌≤◌, ◌++◌, drop, length};
 ghost use Rattle.dbus_c.specs.GivenLimits.{limits_of};
-ghost use Rattle.dbus_c.specs.Swapping.{IsSwapExact, Swaps, order_named};
+ghost use Rattle.dbus_c.specs.Outcomes.{IsSwapExact, Swaps, order_named};
 ghost use Rattle.dbus_header.specs.MessageOutcomes.{IsWhole};
 ghost use Rattle.dbus_validate.specs.Validating.{IsValidated};
 ghost use Rattle.dbus_message_model.specs.Messages.{MessageTree, message_bytes};

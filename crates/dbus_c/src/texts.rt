@@ -3,8 +3,7 @@
 
 ghost use Rattle.std.specs.Prelude.{◌≡◌, None, IfSome, IsTrue, IsFalse};
 ghost use Rattle.dbus_texts.specs.Kinds.{IsWithinLimit};
-ghost use Rattle.dbus_c.specs.TextKinds.{kind_numbered};
-ghost use Rattle.dbus_c.specs.TextChecking.{TellsText};
+ghost use Rattle.dbus_c.specs.TextChecking.{kind_numbered, TellsText};
 
 use crate::answers::{NO_KIND, REFUSED, WHOLE};
 use dbus_header::NAME_LIMIT;

@@ -3,7 +3,7 @@
 
 ghost use Rattle.std.specs.Prelude.{◌≤◌};
 ghost use Rattle.dbus_c.specs.GivenLimits.{limits_of};
-ghost use Rattle.dbus_c.specs.Wanting.{Wants};
+ghost use Rattle.dbus_c.specs.Checking.{Wants};
 
 use crate::given_limits::{WireLimits, given_limits};
 use dbus_header::stated_length_within;

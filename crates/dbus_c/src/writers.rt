@@ -3,12 +3,12 @@
 
 ghost use Rattle.std.specs.Prelude.{◌≡◌, ◌≢◌, ◌<◌, ◌≤◌, ◌^◌, ◌++◌, List, ℕ, length, IsTrue, IsFalse, MatchOption};
 ghost use Rattle.dbus_texts.specs.Types.{STRING, SIGNATURE};
-ghost use Rattle.dbus_value_model.specs.Appending.{with_padding, with_value};
+ghost use Rattle.dbus_value_model.specs.SizeLimits.{with_padding, with_value};
 ghost use Rattle.dbus_value_model.specs.Bytes.{num};
 ghost use Rattle.dbus_value_model.specs.Values.{TextValue};
 ghost use Rattle.dbus_value_model.specs.declared.order.Order.{Order};
 ghost use Rattle.dbus_body.specs.Arrays.{opened, place_of};
-ghost use Rattle.dbus_c.specs.Swapping.{order_named};
+ghost use Rattle.dbus_c.specs.Outcomes.{order_named};
 ghost use Rattle.dbus_c.specs.Writers.{Appends, Closes, Declines, IsTold, is_width, spelled, words_of};
 
 use crate::answers::{NO_KIND, NO_ROOM, REFUSED, WHOLE};

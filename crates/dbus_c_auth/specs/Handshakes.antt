@@ -1,18 +1,60 @@
 -- What an end of a handshake does, a server's or a client's.
 -- D-Bus Specification, "Authentication Protocol".
-use Rattle.std.specs.Prelude.{◌≡◌, ℕ, List, Option, Some, None, Result, Ok, Err, nat_le, length, if◌then◌else◌, option_map}
-use Rattle.dbus_auth.specs.Ends.{ServerEndState, ClientEndState, EndOutcome, server_takes}
+use Rattle.std.specs.Prelude.{ℕ, List, Option, Some, None, Result, Ok, Err, ◌≡◌, ◌<◌, ◌≤◌, Bool, true, false, ◌++◌, drop, length, nat_le, if◌then◌else◌, option_map}
+use Rattle.hex.specs.Hex.{decode_sized}
+use Rattle.hex.specs.declared.error.FromHexError.{FromHexError}
+use Rattle.dbus_auth.specs.Ends.{ClientEndState, EndOutcome, client_starts, client_takes, ServerEndState, server_takes}
 use Rattle.dbus_auth.specs.declared.end_step.Status.{Status}
 use Rattle.dbus_auth.specs.World.{server_at_first, client_at_first}
 use Rattle.dbus_auth.specs.declared.states.ServerState.TheVariants as at
-use Rattle.dbus_c_auth.specs.GuidTexts.{guid_spelled}
-use Rattle.dbus_c_auth.specs.Mechanisms.{user_reported, is_anonymous, asked_for}
-use Rattle.dbus_c_auth.specs.Taking.{Did, IsFault, client_goes_on}
-use Rattle.dbus_c_auth.specs.declared.mechanisms.Mechanisms.{Mechanisms}
 use Rattle.dbus_c_auth.specs.declared.step.Step.{Step}
 use Rattle.dbus_c_auth.specs.declared.step.TakeFault.{TakeFault}
+use Rattle.dbus_c_auth.specs.declared.step.TakeFault.TheVariants as fault
+use Rattle.dbus_c_auth.specs.declared.step.TheConstants.{REPLY_ROOM}
+use Rattle.dbus_c_auth.specs.Mechanisms.{user_reported, is_anonymous, asked_for}
+use Rattle.dbus_c_auth.specs.declared.mechanisms.Mechanisms.{Mechanisms}
 use Rattle.dbus_c_auth.specs.declared.handshake.Handshake.{Handshake}
 use Rattle.dbus_c_auth.specs.declared.handshake.Handshake.TheVariants as end
+
+-- The text of a server's GUID: 32 hexadecimal digits.
+-- D-Bus Specification, "UUIDs".
+
+abbrev pub ok_of : Result (List ℕ) FromHexError → Option (List ℕ)
+ok_of (Ok bytes) = Some bytes
+ok_of (Err e) = None
+
+-- the 16 bytes that the text spells, if it is 32 digits, in either case
+abbrev pub guid_spelled : List ℕ → Option (List ℕ)
+guid_spelled text = ok_of (decode_sized text 16)
+
+-- What a call of an end does with its piece and its room.
+-- D-Bus Specification, "Authentication Protocol".
+
+-- how many bytes were taken, how many are sent, and where the end stands
+abbrev pub IsStep : Step → ℕ → List ℕ → Status → Type 0
+IsStep s taken send status = (s.count ≡ taken) × (s.written ≡ length send) × (s.status ≡ status)
+
+-- an end did this with its piece, and what it sends stands at the start of the room, whose other
+-- bytes stay
+pub record Did {E : Type 0} (s : Step) (new : E) (old_room new_room : List ℕ) (outcome : EndOutcome E) (status_of : E → Status) : Type 0 where
+  pub room : REPLY_ROOM ≤ length old_room
+  pub step : IsStep s outcome.taken outcome.send (status_of outcome.after)
+  pub after : new ≡ outcome.after
+  pub written : new_room ≡ outcome.send ++ drop (length outcome.send) old_room
+
+-- why nothing was done with so much room: there is too little exactly if it is less than the room
+-- for any reply
+abbrev pub IsFault : TakeFault → ℕ → Type 0
+IsFault fault.Room room = room < REPLY_ROOM
+IsFault fault.Memory room = REPLY_ROOM ≤ room
+
+-- a client's end starts by its first call, which takes nothing; then it takes what it is handed
+abbrev pub client_goes_on_at : ClientEndState → List ℕ → Bool → EndOutcome ClientEndState
+client_goes_on_at e piece false = client_starts e
+client_goes_on_at e piece true = client_takes e piece
+
+abbrev pub client_goes_on : ClientEndState → List ℕ → EndOutcome ClientEndState
+client_goes_on e piece = client_goes_on_at e piece e.started
 
 -- the end of a server of this GUID that was handed nothing, and offers these mechanisms
 abbrev pub server_of : List ℕ → Mechanisms → ServerEndState

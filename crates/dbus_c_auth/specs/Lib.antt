@@ -1,5 +1,2 @@
-pub mod Taking
-pub mod Mechanisms
-pub mod Codes
-pub mod GuidTexts
 pub mod Handshakes
+pub mod Mechanisms

@@ -1,7 +1,10 @@
 -- Which mechanisms are asked for and offered, by numbers.
 -- D-Bus Specification, "Authentication Protocol", "Authentication mechanisms".
-use Rattle.std.specs.Prelude.{ℕ, Bool, ◌==◌, List, [], ◌∷◌, ◌++◌, Option, Some, None, if◌then◌else◌}
+use Rattle.std.specs.Prelude.{ℕ, Bool, ◌==◌, List, [], ◌∷◌, ◌++◌, Option, Some, None, if◌then◌else◌, ◌≡◌, ◌⊎◌}
+use Rattle.std.specs.Coded.{Coded, code_by, coded_option, coded_list, coded_ℕ, coded⊎}
 use Rattle.dbus_auth.specs.Machines.{ClientMechanism, External, Anonymous}
+use mathlib.Core.Path.{refl}
+use mathlib.Core.Logic.{inl, inr}
 use Rattle.dbus_c_auth.specs.declared.mechanisms.Mechanisms.{Mechanisms}
 use Rattle.dbus_c_auth.specs.declared.mechanisms.TheConstants.{AS_USER, AS_REPORTED}
 
@@ -21,3 +24,20 @@ external_of m =
 
 abbrev pub asked_for : Mechanisms → List ℕ → List ClientMechanism
 asked_for m trace = external_of m ++ (if is_anonymous m then Anonymous trace ∷ [] else [])
+
+-- How a client's mechanism is kept in a handle's ghost field.
+
+abbrev parts : ClientMechanism → Option ℕ ⊎ List ℕ
+parts (External user) = inl user
+parts (Anonymous trace) = inr trace
+
+abbrev whole : Option ℕ ⊎ List ℕ → ClientMechanism
+whole (inl user) = External user
+whole (inr trace) = Anonymous trace
+
+pub whole_again : (m : ClientMechanism) → whole (parts m) ≡ m
+whole_again (External user) = refl
+whole_again (Anonymous trace) = refl
+
+abbrev pub coded_mechanism : Coded ClientMechanism
+coded_mechanism = code_by (Option ℕ ⊎ List ℕ) (coded⊎ (coded_option coded_ℕ) (coded_list coded_ℕ)) parts whole whole_again

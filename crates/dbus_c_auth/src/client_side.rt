@@ -6,8 +6,7 @@ ghost use Rattle.dbus_auth.specs.EndStepViews.{DidStep};
 ghost use Rattle.dbus_auth.specs.Machines.{is_empty};
 ghost use Rattle.dbus_auth.specs.declared.end_step.Status.TheVariants as status;
 ghost use Rattle.dbus_c_auth.specs.declared.step.TheConstants.{REPLY_ROOM};
-ghost use Rattle.dbus_c_auth.specs.Handshakes.{client_of};
-ghost use Rattle.dbus_c_auth.specs.Taking.{Did, IsFault, client_goes_on};
+ghost use Rattle.dbus_c_auth.specs.Handshakes.{client_of, Did, IsFault, client_goes_on};
 
 use crate::mechanisms::Mechanisms;
 use crate::step::{REPLY_ROOM, Step, TakeFault, step_in};
@@ -26,12 +25,12 @@ impl Model for ClientSide {
     ghost use Rattle.std.specs.Coded.{codes};
     ghost use Rattle.std.specs.List.{AllByRecursion};
     ghost use Rattle.std.specs.Prelude.{◌≡◌};
-    ghost use Rattle.dbus_auth.specs.ClientEndViews.{client_end_state};
+    ghost use Rattle.dbus_auth.specs.EndViews.{client_end_state};
     ghost use Rattle.dbus_auth.specs.Ends.{ClientEndState};
-    ghost use Rattle.dbus_auth.specs.Mechanisms.{IsMechanism};
+    ghost use Rattle.dbus_auth.specs.Machines.{IsMechanism};
     ghost use Rattle.dbus_auth.specs.contracts.states.ClientState as state;
     ghost use Rattle.dbus_auth.specs.contracts.end_step.Status as status;
-    ghost use Rattle.dbus_c_auth.specs.Codes.{coded_mechanism};
+    ghost use Rattle.dbus_c_auth.specs.Mechanisms.{coded_mechanism};
 
     ghost Value = { ClientEndState };
 

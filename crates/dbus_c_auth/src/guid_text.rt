@@ -4,7 +4,7 @@
 ghost use Rattle.dbus_c_auth.specs.declared.guid_text.TheConstants.{GUID_ROOM};
 ghost use Rattle.std.specs.Prelude.{◌≡◌, ◌<◌, ◌≤◌, ◌++◌, ℕ, drop, length, option_map, true, false};
 ghost use Rattle.hex.specs.Hex.{encode_lower};
-ghost use Rattle.dbus_c_auth.specs.GuidTexts.{guid_spelled};
+ghost use Rattle.dbus_c_auth.specs.Handshakes.{guid_spelled};
 
 use dbus_auth::Guid;
 use hex::{decode_to_slice, encode_to_slice};

@@ -3,8 +3,7 @@
 
 ghost use Rattle.std.specs.Prelude.{◌≡◌, ◌<◌, ◌≤◌, ℕ, IfOk, IfErr, OnErr, length};
 ghost use Rattle.dbus_auth.specs.Ends.{server_takes};
-ghost use Rattle.dbus_c_auth.specs.Handshakes.{server_of};
-ghost use Rattle.dbus_c_auth.specs.Taking.{Did, IsFault};
+ghost use Rattle.dbus_c_auth.specs.Handshakes.{server_of, Did, IsFault};
 
 use crate::mechanisms::Mechanisms;
 use crate::step::{REPLY_ROOM, Step, TakeFault, step_in};
@@ -22,7 +21,7 @@ impl Model for ServerSide {
     ghost use Rattle.std.specs.Coded.{codes};
     ghost use Rattle.dbus_auth.specs.Ends.{ServerEndState};
     ghost use Rattle.dbus_auth.specs.Machines.{IsServer};
-    ghost use Rattle.dbus_auth.specs.ServerEndViews.{server_end_state};
+    ghost use Rattle.dbus_auth.specs.EndViews.{server_end_state};
     ghost use Rattle.dbus_auth.specs.contracts.states.ServerState as state;
     ghost use Rattle.dbus_auth.specs.contracts.end_step.Status as status;
 

@@ -2,7 +2,7 @@
 #![tactic(auto)]
 
 ghost use Rattle.std.specs.Prelude.{◌≡◌, ◌≤◌, ◌++◌, ℕ, drop, length};
-ghost use Rattle.dbus_c_auth.specs.Taking.{IsStep};
+ghost use Rattle.dbus_c_auth.specs.Handshakes.{IsStep};
 
 use dbus_auth::{EndStep, Status};
 use std::alloc::AllocError;

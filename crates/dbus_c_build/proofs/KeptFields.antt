@@ -12,8 +12,7 @@ use Rattle.dbus_validate.proofs.WholeParts.{after_fields, fields_there}
 use Rattle.dbus_texts.specs.Types.{array_code}
 use Rattle.dbus_walk.specs.Fields.{field_types}
 use Rattle.dbus_walk.specs.Standing.{Stands}
-use Rattle.dbus_c_build.specs.Kept.{IsKept, AreKept}
-use Rattle.dbus_c_build.specs.Placed.{known_codes}
+use Rattle.dbus_c_build.specs.Placed.{IsKept, AreKept, known_codes}
 use Rattle.dbus_c_build.specs.declared.given.Given.{Given}
 use Rattle.dbus_c_build.proofs.Anywhere.{AreSpelled, message_spelled}
 

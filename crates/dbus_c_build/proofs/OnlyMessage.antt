@@ -4,17 +4,15 @@ use Rattle.std.proofs.lemmas.List.{length-replicate, append-nil}
 use Rattle.dbus_value_model.specs.declared.limits.Limits.{Limits}
 use Rattle.dbus_value_model.specs.declared.order.Order.{Order}
 use Rattle.dbus_value_model.specs.declared.order.Order.TheVariants.{Little, Big}
-use Rattle.dbus_value_model.specs.Appending.{with_values}
+use Rattle.dbus_value_model.specs.SizeLimits.{with_values}
 use Rattle.dbus_value_model.specs.Bounds.{bounds_of}
 use Rattle.dbus_value_model.specs.Bytes.{num, pad, gap_to}
 use Rattle.dbus_value_model.specs.Spelling.{spelling, spellings}
 use Rattle.dbus_value_model.specs.Values.{ValueTrees}
 use Rattle.dbus_message_model.specs.Messages.{FieldTree, MessageTree, IsMessage, order_byte, field_array, fields_end, body_bytes, message_bytes}
 use Rattle.dbus_message_model.proofs.MessageLengths.{message_length}
-use Rattle.dbus_c_build.specs.BuildLaws.{OneBuilt}
+use Rattle.dbus_c_build.specs.Building.{OneBuilt, with_header, spelled, HaveBytes}
 use Rattle.dbus_c_build.specs.Placed.{HasParts, text_at, fields_after}
-use Rattle.dbus_c_build.specs.Spelled.{with_header, spelled}
-use Rattle.dbus_c_build.specs.Building.{HaveBytes}
 use Rattle.dbus_c_build.specs.declared.placed.PlacedParts.{PlacedParts}
 use Rattle.dbus_c_build.proofs.Anywhere.{AreSpelled, message_spelled, structs}
 use Rattle.dbus_c_build.proofs.Cancelling.{fronts, heads, numbers}

@@ -8,7 +8,7 @@ use Rattle.dbus_texts.specs.Types.{TextCode, sig}
 use Rattle.dbus_types.specs.Alignments.{length_width}
 use Rattle.dbus_value_model.specs.declared.limits.Limits.{Limits}
 use Rattle.dbus_value_model.specs.declared.order.Order.{Order}
-use Rattle.dbus_value_model.specs.Appending.{with_padding, with_value, with_values}
+use Rattle.dbus_value_model.specs.SizeLimits.{with_padding, with_value, with_values}
 use Rattle.dbus_value_model.specs.Bounds.{bounds_of}
 use Rattle.dbus_value_model.specs.Bytes.{pad, num}
 use Rattle.dbus_value_model.specs.Spelling.{ended_text, spelling, spellings}
@@ -22,8 +22,7 @@ use Rattle.dbus_validate.specs.Validating.{IsValidated}
 use Rattle.dbus_header.specs.NoMessage.{BeginsWithNone}
 use Rattle.dbus_validate.specs.declared.validating.Validated.{Validated}
 use Rattle.dbus_c_build.specs.Placed.{HasParts, IsInside, place_of, text_at, text_code, field_of, field_given, stays, in_place, added, known_codes, fields_after}
-use Rattle.dbus_c_build.specs.Spelled.{spelled}
-use Rattle.dbus_c_build.specs.Building.{HaveBytes, HaveNoBytes, IsBuilt, IsShort, IsRefusal, MakeNone, most_of, fields_length}
+use Rattle.dbus_c_build.specs.Building.{spelled, HaveBytes, HaveNoBytes, IsBuilt, IsShort, IsRefusal, MakeNone, most_of, fields_length}
 use Rattle.dbus_c_build.specs.declared.placed.ByteRange.{ByteRange}
 use Rattle.dbus_c_build.specs.declared.placed.PlacedParts.{PlacedParts}
 use Rattle.dbus_c_build.specs.declared.placed_fault.PlacedFault.{PlacedFault}

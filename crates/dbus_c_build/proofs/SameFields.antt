@@ -6,7 +6,7 @@ use Rattle.dbus_types.specs.Alignments.{length_width}
 use Rattle.dbus_header.proofs.Fields.{sig_injective}
 use Rattle.dbus_value_model.specs.declared.limits.Bounds.{Bounds}
 use Rattle.dbus_value_model.specs.declared.order.Order.{Order}
-use Rattle.dbus_value_model.specs.Appending.{with_padding, with_value, with_values}
+use Rattle.dbus_value_model.specs.SizeLimits.{with_padding, with_value, with_values}
 use Rattle.dbus_value_model.specs.Bytes.{num}
 use Rattle.dbus_value_model.specs.Spelling.{spelling, spellings}
 use Rattle.dbus_value_model.specs.Values.{ValueTree, ValueTrees, NumberValue, TextValue, VariantValue, ArrayValue, StructValue, EntryValue, type_of, IsNumber, IsWellFormed}

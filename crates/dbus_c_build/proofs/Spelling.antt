@@ -6,7 +6,7 @@ use Rattle.std.specs.Result.{is_ok}
 use Rattle.std.proofs.lemmas.List.{length-append, take_at, drop_at, flat_map_more}
 use Rattle.dbus_texts.specs.Types.{STRING, OBJECT_PATH, SIGNATURE, TextType, sig}
 use Rattle.dbus_value_model.specs.declared.order.Order.{Order}
-use Rattle.dbus_value_model.specs.Appending.{with_padding, with_value, with_values}
+use Rattle.dbus_value_model.specs.SizeLimits.{with_padding, with_value, with_values}
 use Rattle.dbus_value_model.specs.Bytes.{num, pad}
 use Rattle.dbus_value_model.specs.Spelling.{spelling, spellings}
 use Rattle.dbus_value_model.specs.Values.{ValueTrees, NoValues, TextValue, value_trees, type_of}
@@ -16,8 +16,7 @@ use Rattle.dbus_marshal.proofs.Written.{padding_is, written_none, written_more, 
 use Rattle.dbus_message_model.specs.Messages.{FieldTree, field_struct, field_array, fields_end, has_code, order_byte}
 use Rattle.dbus_encode.proofs.FieldWriting.{before_value, field_written}
 use Rattle.dbus_c_build.specs.Placed.{text_at, text_code, number_field, number_value, field_given, stays, in_place, added, fields_after}
-use Rattle.dbus_c_build.specs.Building.{fields_length}
-use Rattle.dbus_c_build.specs.Spelled.{with_fields, fixed_items, spelled}
+use Rattle.dbus_c_build.specs.Building.{fields_length, with_fields, fixed_items, spelled}
 use Rattle.dbus_c_build.specs.declared.placed.PlacedParts.{PlacedParts}
 use Rattle.dbus_c_build.proofs.OnlyMessage.{array_is}
 

@@ -1,18 +1,40 @@
 -- What is built of parts and of the fields that are kept, and why nothing is.
 -- D-Bus Specification, "Message Format" and "Message Protocol".
-use Rattle.std.specs.Prelude.{◌≡◌, ◌⊎◌, ℕ, ◌<◌, ◌≤◌, ◌^◌, List, length, map, Option, Some, None, nat_eq, if◌then◌else◌}
+use Rattle.std.specs.Prelude.{ℕ, List, ◌∷◌, ◌++◌, length, map, ◌≡◌, ◌⊎◌, ◌<◌, ◌≤◌, ◌^◌, Option, Some, None, nat_eq, if◌then◌else◌}
+use Rattle.dbus_value_model.specs.declared.order.Order.{Order}
+use Rattle.dbus_value_model.specs.SizeLimits.{with_values}
+use Rattle.dbus_value_model.specs.Bytes.{num, pad}
+use Rattle.dbus_value_model.specs.Spelling.{spelling, spellings}
+use Rattle.dbus_value_model.specs.Values.{value_trees}
+use Rattle.dbus_message_model.specs.Messages.{FieldTree, order_byte, field_array, field_struct, fields_end, MessageTree, IsMessage, message_bytes}
 use Rattle.dbus_value_model.specs.declared.limits.Limits.{Limits}
 use Rattle.dbus_value_model.specs.declared.limits.TheConstants.{MESSAGE_LIMIT, ARRAY_LIMIT}
-use Rattle.dbus_value_model.specs.Spelling.{spellings}
-use Rattle.dbus_value_model.specs.Values.{value_trees}
-use Rattle.dbus_message_model.specs.Messages.{FieldTree, MessageTree, IsMessage, message_bytes, field_struct}
 use Rattle.dbus_header.specs.NoMessage.{IsFaultAtEnd}
-use Rattle.dbus_c_build.specs.Placed.{HasParts, IsInside, place_of, fields_after}
-use Rattle.dbus_c_build.specs.Spelled.{spelled}
-use Rattle.dbus_c_build.specs.declared.placed.ByteRange.{ByteRange}
+use Rattle.dbus_c_build.specs.Placed.{text_at, fields_after, HasParts, IsInside, place_of}
 use Rattle.dbus_c_build.specs.declared.placed.PlacedParts.{PlacedParts}
+use Rattle.dbus_c_build.specs.declared.placed.ByteRange.{ByteRange}
 use Rattle.dbus_c_build.specs.declared.placed_fault.PlacedFault.{PlacedFault}
 use Rattle.dbus_c_build.specs.declared.placed_fault.PlacedFault.TheVariants as refusals
+
+-- The bytes that a header with these parts and a body of these bytes are, whether or not they are a
+-- message. D-Bus Specification, "Message Format".
+
+-- bytes that begin at a message's first one, with fields after them
+abbrev pub with_fields : Order → List FieldTree → (front : List ℕ) → List ℕ
+with_fields order fs front = with_values order (value_trees (map field_struct fs)) front
+
+-- the items up to the fields' length, for which 0 stands
+abbrev pub fixed_items : Order → (kind flags serial body_length : ℕ) → List ℕ
+fixed_items order kind flags serial body_length = order_byte order ∷ (kind ∷ (flags ∷ (1 ∷ (num order 4 body_length ++ (num order 4 serial ++ num order 4 0)))))
+
+abbrev pub with_header : Order → (kind flags serial : ℕ) → List FieldTree → (body : List ℕ) → List ℕ
+with_header order kind flags serial fs body =
+    order_byte order ∷ (num order 1 kind ++ (num order 1 flags ++ (num order 1 1
+    ++ (num order 4 (length body) ++ (num order 4 serial ++ (spelling order 12 (field_array fs)
+    ++ (pad 8 (fields_end order fs) ++ body)))))))
+
+abbrev pub spelled : List ℕ → (kept : List FieldTree) → PlacedParts → List ℕ
+spelled b kept p = with_header p.order p.kind p.flags p.serial (fields_after b p kept) (text_at b p.body)
 
 -- the bytes are a message within the limits that has exactly these parts
 pub record IsBuilt (limits : Limits) (b : List ℕ) (kept : List FieldTree) (p : PlacedParts) (built : List ℕ) : Type 0 where
@@ -69,3 +91,11 @@ abbrev pub IsRefusal : Limits → List ℕ → (kept : List FieldTree) → Place
 IsRefusal limits b kept p refusals.Memory = Unit {0}
 IsRefusal limits b kept p (refusals.Format f) = MakeNone limits b kept p × HaveBytes b kept p × IsFaultAtEnd limits (spelled b kept p) f
 IsRefusal limits b kept p why = MakeNone limits b kept p × HaveNoBytes b kept p why
+
+-- The law of what is built and what it is built of.
+-- D-Bus Specification, "Message Format".
+
+-- What is built of parts that a message has is that message, byte for byte: parts are taken of one
+-- and built, and it comes back.
+abbrev pub OneBuilt : Type 0
+OneBuilt = (limits : Limits) (b : List ℕ) (kept : List FieldTree) (p : PlacedParts) (m : MessageTree) (built : List ℕ) → HasParts b kept p m → IsBuilt limits b kept p built → built ≡ message_bytes p.order m

@@ -1,5 +1,2 @@
 pub mod Placed
-pub mod Kept
-pub mod Spelled
 pub mod Building
-pub mod BuildLaws

@@ -1,12 +1,17 @@
 -- The parts of a message that is to be built, whose texts and body are places among bytes, and
 -- which messages have them. D-Bus Specification, "Message Format" and "Header Fields".
-use Rattle.std.specs.Prelude.{◌≡◌, ℕ, ◌+◌, ◌≤◌, List, [], ◌∷◌, ◌++◌, length, take, drop, Bool, true, ◌&&◌, nat_eq, if◌then◌else◌, Option, Some, None}
+use Rattle.std.specs.Prelude.{◌≡◌, ℕ, ◌+◌, ◌≤◌, List, [], ◌∷◌, ◌++◌, length, take, drop, Bool, true, ◌&&◌, nat_eq, if◌then◌else◌, Option, Some, None, MatchOption}
 use Rattle.std.specs.List.{flat_map}
 use Rattle.dbus_texts.specs.Types.{TextCode, STRING, OBJECT_PATH, SIGNATURE, UINT32}
 use Rattle.dbus_value_model.specs.Values.{NumberValue, TextValue}
 use Rattle.dbus_message_model.specs.Messages.{FieldTree, MessageTree, body_bytes, fd_count, has_code, is_known}
+use Rattle.dbus_value_model.specs.declared.limits.Limits.{Limits}
+use Rattle.dbus_value_model.specs.declared.order.Order.{Order}
+use Rattle.dbus_validate.specs.Validating.{IsValidated}
+use Rattle.dbus_validate.specs.declared.validating.Validated.{Validated}
 use Rattle.dbus_c_build.specs.declared.placed.ByteRange.{ByteRange}
 use Rattle.dbus_c_build.specs.declared.placed.PlacedParts.{PlacedParts}
+use Rattle.dbus_c_build.specs.declared.given.Given.{Given}
 
 -- the place of the text of a field by its code, and of the body under 0
 abbrev pub place_of : ℕ → PlacedParts → Option ByteRange
@@ -82,3 +87,16 @@ pub record HasParts (b : List ℕ) (kept : List FieldTree) (p : PlacedParts) (m 
   pub numbers : (m.kind ≡ p.kind) × (m.flags ≡ p.flags) × (m.serial ≡ p.serial)
   pub fields : m.fields ≡ fields_after b p kept
   pub body : body_bytes p.order m ≡ text_at b p.body
+
+-- The header fields that a message keeps of another one.
+-- D-Bus Specification, "Header Fields".
+
+-- a message that the bytes begin with was validated; it is in this order, and these are its fields
+pub record IsKept (limits : Limits) (b : List ℕ) (order : Order) (j : Validated) (fs : List FieldTree) : Type 0 where
+  pub first : IsValidated limits b j
+  pub order_is : j.order ≡ order
+  pub fields : fs ≡ first.message.fields
+
+-- these are the fields that are kept, or none
+abbrev pub AreKept : Given → Order → List FieldTree → Type 0
+AreKept g order fs = MatchOption g.kept (fs ≡ []) (λ j. IsKept g.limits g.bytes.now order j fs)

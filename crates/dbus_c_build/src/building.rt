@@ -4,9 +4,8 @@
 ghost use Rattle.std.specs.Prelude.{◌≡◌, ◌≤◌, List, [], ◌++◌, length, take, drop, OnOk, IfOk, IfErr};
 ghost use Rattle.dbus_value_model.specs.Bytes.{num};
 ghost use Rattle.dbus_message_model.specs.Messages.{FieldTree};
-ghost use Rattle.dbus_c_build.specs.Building.{HaveBytes, HaveNoBytes, IsBuilt, IsRefusal};
-ghost use Rattle.dbus_c_build.specs.Kept.{AreKept};
-ghost use Rattle.dbus_c_build.specs.Spelled.{fixed_items, spelled};
+ghost use Rattle.dbus_c_build.specs.Building.{HaveBytes, HaveNoBytes, IsBuilt, IsRefusal, fixed_items, spelled};
+ghost use Rattle.dbus_c_build.specs.Placed.{AreKept};
 
 use crate::given::Given;
 use crate::kept::append_fields;

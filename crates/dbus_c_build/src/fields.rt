@@ -3,12 +3,11 @@
 
 ghost use Rattle.std.specs.Prelude.{◌≡◌, ◌∷◌, [], ◌++◌, OnOk, IfErr};
 ghost use Rattle.dbus_texts.specs.Types.{TextType, sig};
-ghost use Rattle.dbus_value_model.specs.Appending.{with_padding, with_value};
+ghost use Rattle.dbus_value_model.specs.SizeLimits.{with_padding, with_value};
 ghost use Rattle.dbus_value_model.specs.Values.{TextValue};
 ghost use Rattle.dbus_message_model.specs.Messages.{field_struct};
 ghost use Rattle.dbus_c_build.specs.Placed.{text_code, number_field, field_given};
-ghost use Rattle.dbus_c_build.specs.Spelled.{with_fields};
-ghost use Rattle.dbus_c_build.specs.Building.{AreGood};
+ghost use Rattle.dbus_c_build.specs.Building.{with_fields, AreGood};
 ghost use Rattle.dbus_c_build.specs.declared.placed_fault.PlacedFault.TheVariants.{Memory};
 
 use crate::placed::PlacedParts;

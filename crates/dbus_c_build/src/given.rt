@@ -21,7 +21,7 @@ pub struct Given<'a> {
 }
 
 impl<'a> Given<'a> {
-    ghost use Rattle.dbus_c_build.specs.Kept.{AreKept};
+    ghost use Rattle.dbus_c_build.specs.Placed.{AreKept};
 
     /// Whether a field of a known code is kept.
     pub(crate) fn has(&self, code: u8) -> bool

@@ -4,14 +4,12 @@
 
 ghost use Rattle.std.specs.Prelude.{◌≡◌, ℕ, List, OnOk, IfErr};
 ghost use Rattle.std.specs.List.{flat_map};
-ghost use Rattle.dbus_value_model.specs.Appending.{with_value};
+ghost use Rattle.dbus_value_model.specs.SizeLimits.{with_value};
 ghost use Rattle.dbus_message_model.specs.Messages.{FieldTree, field_struct};
 ghost use Rattle.dbus_validate.specs.Seen.{AreNoted};
 ghost use Rattle.dbus_walk.specs.Fields.{FieldStands, field_end};
-ghost use Rattle.dbus_c_build.specs.Building.{AreGood};
-ghost use Rattle.dbus_c_build.specs.Kept.{AreKept};
-ghost use Rattle.dbus_c_build.specs.Placed.{added, fields_after, in_place, known_codes, stays};
-ghost use Rattle.dbus_c_build.specs.Spelled.{with_fields};
+ghost use Rattle.dbus_c_build.specs.Building.{AreGood, with_fields};
+ghost use Rattle.dbus_c_build.specs.Placed.{AreKept, added, fields_after, in_place, known_codes, stays};
 ghost use Rattle.dbus_c_build.specs.declared.placed_fault.PlacedFault.TheVariants.{Memory};
 
 use crate::fields::append_given;

@@ -1,9 +1,8 @@
 -- A rule that comes to what was kept comes to the rules that were kept.
 use Rattle.std.proofs.Common.{◌≡◌, ℕ, ◌+◌, List, Option, Result, Ok, Err, MatchResult, ap, subst, sym, ◌∙◌}
 use Rattle.std.specs.declared.alloc.Global.{Global}
-use Rattle.dbus_rule.specs.RuleReadings.{IsRuleFault}
+use Rattle.dbus_rule.specs.RuleViews.{IsRuleFault, rule_pairs}
 use Rattle.dbus_rule.specs.Rules.{SpellsRule}
-use Rattle.dbus_rule.specs.RuleViews.{rule_pairs}
 use Rattle.dbus_rule.specs.declared.fault.RuleFault.{RuleFault}
 use Rattle.dbus_rule.specs.declared.fault.RuleFault.TheVariants.{Memory}
 use Rattle.dbus_rule.specs.declared.rule.Rule.{Rule}

@@ -1,4 +1,3 @@
 pub mod Handles
 pub mod Checkers
 pub mod Rules
-pub mod Handshakes

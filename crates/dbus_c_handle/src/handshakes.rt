@@ -10,7 +10,7 @@ use std::alloc::{AllocError, Global};
 impl WireHandle {
     ghost use Rattle.std.specs.Prelude.{◌≡◌, None, MatchResult, is_some};
     ghost use Rattle.dbus_c_auth.specs.Handshakes.{client_made, server_made};
-    ghost use Rattle.dbus_c_handle.specs.Handshakes.{Goes, TellsGuid, handshake_of, kept_as};
+    ghost use Rattle.dbus_c_handle.specs.Checkers.{Goes, TellsGuid, handshake_of, kept_as};
 
     /// Keeps the end of a new server, of the GUID that the text spells, which offers these
     /// mechanisms. Whether the text spells one; if not, the handle keeps nothing. An error if

@@ -17,7 +17,7 @@ impl WireHandle {
     ghost use Rattle.std.specs.Prelude.{◌≡◌, [], IfOk, MatchResult, false, is_some};
     ghost use Rattle.dbus_value_model.specs.declared.order.Order.{Order};
     ghost use Rattle.dbus_message_model.specs.Messages.{MessageTree};
-    ghost use Rattle.dbus_rule.specs.RuleReadings.{IsRuleFault};
+    ghost use Rattle.dbus_rule.specs.RuleViews.{IsRuleFault};
     ghost use Rattle.dbus_rule_set.specs.Held.{Collects, EntryMatches, rule_at, without};
     ghost use Rattle.dbus_view.specs.Views.{Views};
     ghost use Rattle.dbus_c_handle.specs.Rules.{Adds, IsWritten, KeepsAll, SetsOwner, given_of, is_shared, owners_of, rules_of};

@@ -7,11 +7,10 @@ use Rattle.dbus_value_model.specs.declared.fault.Fault.{Fault}
 use Rattle.dbus_value_model.specs.declared.limits.Limits.{Limits}
 use Rattle.dbus_value_model.proofs.Numbers.{IsBytes-append, IsBytes-front}
 use Rattle.dbus_check.specs.declared.check.Check.{Check}
-use Rattle.dbus_check.specs.Checks.{IsExact, taken, CheckerState, StandsAfter, Stands, Takes}
+use Rattle.dbus_check.specs.Checks.{IsExact, taken, CheckerState, StandsAfter, Stands, Takes, Holds, Fed, IsLive}
 use Rattle.dbus_check.specs.declared.check.Check.TheVariants as check
 use Rattle.dbus_check.specs.declared.pieces.Pieces.{Pieces}
 use Rattle.dbus_check.specs.Heading.{message_on}
-use Rattle.dbus_check.specs.Pieces.{Holds, Fed, IsLive}
 use Rattle.dbus_check.specs.Progress.{To, after_bytes}
 use Rattle.dbus_check.proofs.Outcomes.{done_is, refused_is, partial_is}
 use Rattle.dbus_check.proofs.PieceSteps.{whole_answers}

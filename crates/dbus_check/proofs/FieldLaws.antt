@@ -14,15 +14,12 @@ use Rattle.dbus_value_model.specs.ValueItems.{number_row}
 use Rattle.dbus_value_model.specs.Reading.{Reader, after, padding, value, Outcome, Done, pure}
 use Rattle.dbus_message_model.specs.Messages.{Want, Name, Serial, want, OfType, number_in, text_in}
 use Rattle.dbus_header.specs.MessageItems.{kind_wanted, not_zero_row}
-use Rattle.dbus_header.specs.MessageReading.{value_wanted}
-use Rattle.dbus_header.specs.HeaderReading.{wanted_signature, wanted_value}
-use Rattle.dbus_value_laws.proofs.ReadSteps.{after_after}
+use Rattle.dbus_header.specs.HeaderReading.{value_wanted, wanted_signature, wanted_value}
+use Rattle.dbus_value_laws.proofs.ReadSteps.{after_after, no_padding}
 use Rattle.dbus_value_checker.specs.Suspended.{On, short_text, onward, done}
-use Rattle.dbus_check.specs.Heading.{Kept, kept_of, field_on}
-use Rattle.dbus_check.specs.Fields.{field_code, name_text, padded_number, uint32_row, uint32_wanted, seen_as, nothing_of}
+use Rattle.dbus_check.specs.Heading.{Kept, kept_of, field_on, field_code, name_text, padded_number, uint32_row, uint32_wanted, seen_as, nothing_of}
 use Rattle.dbus_value_model.specs.declared.stop.Stop.{Stop}
 use Rattle.dbus_value_laws.proofs.KindLaws.{spelled_sig}
-use Rattle.dbus_value_laws.proofs.ReadSteps.{no_padding}
 use Rattle.dbus_value_checker.specs.Fronts.{Halts, Fronts}
 use Rattle.dbus_value_checker.proofs.Chains.{halts_same, fronts_same, first_err, then_err, then_ok}
 

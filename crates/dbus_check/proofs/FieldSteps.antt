@@ -12,12 +12,11 @@ use Rattle.dbus_value_model.specs.Reading.{Reader, Faulty, after, pure, padding,
 use Rattle.dbus_value_model.specs.WantedTexts.{WantedText}
 use Rattle.dbus_message_model.specs.Messages.{is_known}
 use Rattle.dbus_header.specs.MessageItems.{name_row}
-use Rattle.dbus_header.specs.MessageReading.{opening}
+use Rattle.dbus_header.specs.HeaderReading.{opening}
 use Rattle.dbus_value_laws.proofs.ReadSteps.{same_after}
 use Rattle.dbus_value_checker.specs.Fronts.{Halts, Fronts}
-use Rattle.dbus_check.specs.Heading.{has, seen_row}
+use Rattle.dbus_check.specs.Heading.{has, seen_row, field_code, name_text, padded_number, uint32_row}
 use Rattle.dbus_value_checker.specs.Suspended.{onward, done, ended_text, counted_text}
-use Rattle.dbus_check.specs.Fields.{field_code, name_text, padded_number, uint32_row}
 use Rattle.dbus_value_checker.proofs.Chains.{halts_same, fronts_same, first_err, then_err, then_ok, front_as, forgotten}
 
 -- ---- rows

@@ -10,8 +10,7 @@ use Rattle.dbus_value_model.specs.Items.{fault}
 use Rattle.dbus_value_model.specs.Reading.{Outcome, Done, Faulty, Partial, after, padding, number, validated, number_of, validate, bounded, up_to}
 use Rattle.dbus_message_model.specs.Messages.{FieldTree, want, has_code, is_known, lacks, required, body_signature, text_in, number_in, fd_count, body_fds}
 use Rattle.dbus_header.specs.MessageItems.{code_row}
-use Rattle.dbus_header.specs.MessageReading.{opening}
-use Rattle.dbus_header.specs.HeaderReading.{fixed_header, wanted_value, field_read, fields_read, body_read, message_read}
+use Rattle.dbus_header.specs.HeaderReading.{opening, fixed_header, wanted_value, field_read, fields_read, body_read, message_read}
 use Rattle.dbus_header.specs.declared.fixed_header.FixedHeader.{FixedHeader}
 use Rattle.dbus_message_model.proofs.FieldCodes.{has_reversed}
 use Rattle.dbus_value_laws.proofs.ReadSteps.{after_after, same_after}

@@ -11,9 +11,8 @@ use Rattle.dbus_value_model.specs.declared.stop.Stop.{Stop}
 use Rattle.dbus_value_model.specs.declared.stop.Stop.TheVariants as stops
 use Rattle.dbus_value_model.specs.Values.{ValueTree}
 use Rattle.dbus_value_model.specs.Reading.{Reader, Outcome, after, value}
-use Rattle.dbus_header.specs.HeaderReading.{wanted_value}
+use Rattle.dbus_header.specs.HeaderReading.{wanted_value, value_wanted}
 use Rattle.dbus_header.specs.MessageItems.{kind_wanted}
-use Rattle.dbus_header.specs.MessageReading.{value_wanted}
 use Rattle.dbus_message_model.specs.Messages.{Want, Anything, OfType, want}
 use Rattle.dbus_value_laws.proofs.ReadSteps.{same_after}
 use Rattle.dbus_value_checker.specs.Fronts.{Fronts}

@@ -11,8 +11,7 @@ use Rattle.dbus_header.specs.HeaderReading.{wanted_value}
 use Rattle.dbus_message_model.specs.Messages.{want, is_known}
 use Rattle.dbus_value_checker.specs.Fronts.{Fronts}
 use Rattle.dbus_value_checker.specs.Suspended.{On}
-use Rattle.dbus_check.specs.Fields.{field_code}
-use Rattle.dbus_check.specs.Heading.{Kept, kept_of, has, field_on, fields_on}
+use Rattle.dbus_check.specs.Heading.{field_code, Kept, kept_of, has, field_on, fields_on}
 use Rattle.dbus_check.specs.Progress.{To, WantsFields, Coded}
 use Rattle.dbus_check.specs.declared.progress.Progress.{Progress}
 use Rattle.dbus_check.proofs.FieldLaws.{field_begins}

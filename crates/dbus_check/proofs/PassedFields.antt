@@ -10,11 +10,9 @@ use Rattle.dbus_message_model.specs.Messages.{Want, OfType, want, is_known, text
 use Rattle.dbus_value_laws.proofs.ReadSteps.{after_after, same_after}
 use Rattle.dbus_value_checker.specs.Fronts.{Fronts}
 use Rattle.dbus_value_checker.specs.Suspended.{On}
-use Rattle.dbus_check.specs.Fields.{seen_as}
-use Rattle.dbus_check.specs.Seen.{Sees}
+use Rattle.dbus_check.specs.Heading.{seen_as, Kept, kept_of, has, fields_on}
+use Rattle.dbus_check.specs.Progress.{Sees, To, Passes, Keeps, WantsValue}
 use Rattle.dbus_header.specs.HeaderReading.{wanted_value}
-use Rattle.dbus_check.specs.Heading.{Kept, kept_of, has, fields_on}
-use Rattle.dbus_check.specs.Progress.{To, Passes, Keeps, WantsValue}
 use Rattle.dbus_check.specs.declared.progress.Progress.{Progress}
 
 -- ---- a value is passed

@@ -5,8 +5,8 @@ use Rattle.std.proofs.lemmas.List.{append-nil, take_all, take-append-le, take-ta
 use Rattle.dbus_value_model.specs.declared.fault.Fault.{Fault}
 use Rattle.dbus_value_model.specs.Reading.{Done, Faulty, Partial}
 use Rattle.dbus_value_checker.proofs.Chains.{take-both, split-at}
-use Rattle.dbus_check.specs.Pieces.{Holds, Joined, Fed}
-use Rattle.dbus_check.specs.Pieces as pieces
+use Rattle.dbus_check.specs.Checks.{Holds, Joined, Fed}
+use Rattle.dbus_check.specs.Checks as pieces
 use Rattle.dbus_check.specs.Progress.{To, Denotes, denotes, Runs, IsLive, after_bytes}
 use Rattle.dbus_check.specs.declared.pieces.Pieces.{Pieces}
 use Rattle.dbus_check.specs.declared.progress.Progress.{Progress}

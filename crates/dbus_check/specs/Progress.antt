@@ -1,6 +1,6 @@
 -- What the fields of `Progress` stand for: what they answer to the bytes still to come.
 -- D-Bus Specification, "Message Format".
-use Rattle.std.specs.Prelude.{◌≡◌, ℕ, ◌+◌, ◌-◌, ◌<◌, ◌≤◌, List, [], ◌∷◌, length, take, ◌++◌, ◌&&◌, false, Result, Ok, Err}
+use Rattle.std.specs.Prelude.{◌≡◌, ℕ, ◌<◌, List, false, slice_index_or, ◌+◌, ◌-◌, ◌≤◌, [], ◌∷◌, length, take, ◌++◌, ◌&&◌, Result, Ok, Err}
 use Rattle.dbus_texts.specs.Kinds.{IsKind}
 use Rattle.dbus_texts.specs.Types.{TypeTree, TypeTrees, AreShaped}
 use Rattle.dbus_texts.specs.declared.text_kind.TextKind.TheVariants as kinds
@@ -17,11 +17,18 @@ use Rattle.dbus_value_checker.specs.Denotations as values
 use Rattle.dbus_value_checker.specs.declared.values.ValueChecker.{ValueChecker}
 use Rattle.dbus_header.specs.HeaderReading.{wanted_value}
 use Rattle.dbus_message_model.specs.Messages.{is_known, want}
-use Rattle.dbus_check.specs.Heading.{Kept, kept_of, has, body_on, fields_on, message_on}
-use Rattle.dbus_check.specs.Seen.{Sees}
+use Rattle.dbus_check.specs.declared.seen.Seen.{Seen}
+use Rattle.dbus_check.specs.Heading.{has, Kept, kept_of, body_on, fields_on, message_on}
 use Rattle.dbus_check.specs.declared.progress.Progress.{Progress}
 use Rattle.dbus_check.specs.declared.progress.Stage.{Stage}
 use Rattle.dbus_check.specs.declared.progress.Stage.TheVariants as stage
+
+-- What the known fields that were seen stand for.
+-- D-Bus Specification, "Header Fields".
+
+-- these codes were seen, and perhaps others that are not known
+abbrev pub Sees : Seen → List ℕ → Type 0
+Sees seen codes = (c : ℕ) → c < 10 → slice_index_or seen.known c false ≡ has c codes
 
 -- what is answered to the bytes still to come
 abbrev pub To : Type 0

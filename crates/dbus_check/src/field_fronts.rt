@@ -17,9 +17,8 @@ ghost use Rattle.dbus_value_model.specs.WantedTexts.{Of, Only};
 ghost use Rattle.dbus_message_model.specs.Messages.{is_known};
 ghost use Rattle.dbus_value_checker.specs.Fronts.{Fronts};
 ghost use Rattle.dbus_value_checker.specs.Suspended.{onward, done, short_text};
-ghost use Rattle.dbus_check.specs.Fields.{field_code, name_text, padded_number, uint32_row};
-ghost use Rattle.dbus_check.specs.Heading.{has};
-ghost use Rattle.dbus_check.specs.Seen.{Sees};
+ghost use Rattle.dbus_check.specs.Heading.{field_code, name_text, padded_number, uint32_row, has};
+ghost use Rattle.dbus_check.specs.Progress.{Sees};
 
 use crate::seen::Seen;
 use dbus_header::NAME_LIMIT;

@@ -16,7 +16,7 @@ ghost use Rattle.dbus_value_model.specs.declared.stop.Stop.TheVariants.{Partial}
 ghost use Rattle.dbus_header.specs.HeaderReading.{wanted_value};
 ghost use Rattle.dbus_message_model.specs.Messages.{Name, OfType, number_in, text_in};
 ghost use Rattle.dbus_value_checker.specs.Fronts.{Fronts};
-ghost use Rattle.dbus_check.specs.Fields.{uint32_wanted, seen_as, nothing_of};
+ghost use Rattle.dbus_check.specs.Heading.{uint32_wanted, seen_as, nothing_of};
 
 use crate::field_fronts::{name_front, only_front, uint32_front};
 use dbus_types::TextKind;

@@ -19,7 +19,7 @@ pub(crate) struct Pieces {
 
 impl Pieces {
     ghost use Rattle.dbus_check.specs.Heading.{message_on};
-    ghost use Rattle.dbus_check.specs.Pieces.{Holds, Fed, Joined, IsLive};
+    ghost use Rattle.dbus_check.specs.Checks.{Holds, Fed, Joined, IsLive};
     ghost use Rattle.dbus_check.specs.Progress.{To};
 
     /// A message of which nothing was handed.

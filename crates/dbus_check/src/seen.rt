@@ -3,7 +3,7 @@
 
 ghost use Rattle.std.specs.Prelude.{◌≡◌, ◌∷◌, ◌&&◌, [], ℕ, List, true};
 ghost use Rattle.dbus_message_model.specs.Messages.{is_known, required};
-ghost use Rattle.dbus_message_model.specs.MissingFields.{IsMissing};
+ghost use Rattle.dbus_message_model.specs.KnownFields.{IsMissing};
 ghost use Rattle.dbus_check.specs.Heading.{has, missing};
 
 use dbus_message_model::field_table::is_known;
@@ -17,7 +17,7 @@ pub struct Seen {
 }
 
 impl Seen {
-    ghost use Rattle.dbus_check.specs.Seen.{Sees};
+    ghost use Rattle.dbus_check.specs.Progress.{Sees};
 
     /// None.
     pub fn none() -> Seen

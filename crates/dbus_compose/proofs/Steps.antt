@@ -5,14 +5,13 @@ use Rattle.dbus_value_model.specs.Specification.{specification}
 use Rattle.dbus_value_model.specs.Values.{ValueTree, NumberValue, TextValue, types_of}
 use Rattle.dbus_value_model.specs.ValueViews.{value_trees_of}
 use Rattle.dbus_value_model.specs.declared.value.Value.{Value}
-use Rattle.dbus_message_model.specs.Lookups.{field_value}
+use Rattle.dbus_message_model.specs.KnownFields.{field_value}
 use Rattle.dbus_message_model.specs.Messages.{FieldTree, MessageTree}
 use Rattle.dbus_message_model.specs.PartsViews.{parts_tree}
 use Rattle.dbus_message_model.specs.declared.parts.Parts.{Parts}
 use Rattle.dbus_build.specs.BuildFaults.{IsFirstFault}
 use Rattle.dbus_build.specs.declared.build_fault.BuildFault.{BuildFault}
-use Rattle.dbus_compose.specs.Composing.{IsComposed}
-use Rattle.dbus_compose.specs.Drafts.{Draft, Becomes, IsDraft, begun, draft_in, draft_of, draft_tree, field_of, put, reply_fields, signed}
+use Rattle.dbus_compose.specs.Drafts.{IsComposed, Draft, Becomes, IsDraft, begun, draft_in, draft_of, draft_tree, field_of, put, reply_fields, signed}
 
 module _ {A : Type 0} where
   -- ---- calls

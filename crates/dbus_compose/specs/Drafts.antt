@@ -1,14 +1,21 @@
 -- What a message is to be made of, and what a builder's calls change of it.
 -- D-Bus Specification, "Message Format" and "Header Fields".
-use Rattle.std.specs.Prelude.{◌≡◌, ℕ, List, [], ◌∷◌, ◌++◌, nat_eq, nat_lt, if◌then◌else◌, Option, Some, None, Result, Ok, Err, option_map, option_to_list}
+use Rattle.std.specs.Prelude.{◌≡◌, ℕ, List, [], ◌∷◌, ◌++◌, nat_eq, nat_lt, if◌then◌else◌, Option, Some, None, Result, Ok, Err, option_map, option_to_list, ◌⊎◌}
 use Rattle.dbus_texts.specs.Types.{UINT32, STRING, OBJECT_PATH, SIGNATURE, sigs}
 use Rattle.dbus_value_model.specs.Values.{ValueTree, NumberValue, TextValue, types_of}
 use Rattle.dbus_value_model.specs.ValueViews.{value_tree, value_trees_of}
 use Rattle.dbus_value_model.specs.declared.value.Value.{Value}
-use Rattle.dbus_message_model.specs.Lookups.{field_value}
+use Rattle.dbus_message_model.specs.KnownFields.{field_value}
 use Rattle.dbus_message_model.specs.Messages.{FieldTree, MessageTree}
-use Rattle.dbus_message_model.specs.PartsViews.{field_trees}
+use Rattle.dbus_message_model.specs.PartsViews.{field_trees, parts_tree}
 use Rattle.dbus_message_model.specs.declared.parts.Parts.{Parts}
+use Rattle.dbus_value_model.specs.Specification.{specification}
+use Rattle.dbus_message_model.specs.MessageViews.{message_tree}
+use Rattle.dbus_message_model.specs.declared.message.Message.{Message}
+use Rattle.dbus_build.specs.BuildFaults.{IsFirstFault}
+use Rattle.dbus_build.specs.declared.build_fault.BuildFault.{BuildFault}
+use Rattle.dbus_build.specs.declared.build_fault.BuildFault.TheVariants.{Memory}
+use Rattle.dbus_compose.specs.declared.builder.MessageBuilder.{MessageBuilder}
 
 -- The parts of a message, but for its SIGNATURE field. The body's values are themselves, since a
 -- tree does not show where an array of bytes is `Bytes`.
@@ -94,3 +101,21 @@ signed (v ∷ vs) fs = put (field_of 8 (TextValue SIGNATURE (sigs (types_of (val
 
 abbrev pub draft_tree : {A : Type 0} → Draft A → MessageTree
 draft_tree d = record { kind = d.kind; flags = d.flags; serial = d.serial; fields = signed d.body d.fields; body = value_trees_of d.body }
+
+-- What a builder stands for, and which message it makes.
+-- D-Bus Specification, "Message Format".
+
+-- what the calls so far made, or nothing if an allocation failed
+abbrev pub drafted : {A : Type 0} → MessageBuilder A → Option (Draft A)
+drafted b = draft_in b.parts
+
+-- of parts that are the draft's, the fault is the first that holds
+abbrev pub IsFaultOf : {A : Type 0} → Draft A → BuildFault → Type 0
+IsFaultOf {A} d f = (p : Parts A) × (parts_tree p ≡ draft_tree d) × (p.body.items ≡ d.body) × IsFirstFault specification p f
+
+-- the draft's message, or the first fault of the draft's parts, or out of memory
+abbrev pub IsComposed : {A : Type 0} → Option (Draft A) → Result (Message A) BuildFault → Type 0
+IsComposed None (Ok m) = ⊥
+IsComposed None (Err f) = f ≡ Memory
+IsComposed (Some d) (Ok m) = message_tree m ≡ draft_tree d
+IsComposed (Some d) (Err f) = (f ≡ Memory) ⊎ IsFaultOf d f

@@ -42,8 +42,7 @@ impl<A: Allocator + Copy> MessageBuilder<A> {
     ghost use Rattle.dbus_value_model.specs.Values.{NumberValue, TextValue};
     ghost use Rattle.dbus_value_model.specs.ValueViews.{value_tree};
     ghost use Rattle.dbus_message_model.specs.MessageViews.{message_tree};
-    ghost use Rattle.dbus_compose.specs.Drafts.{AppendsText, Becomes, IsDraft, begun, field_of, name_field, path_field, reply_fields, with_body, with_field, with_flags, with_serial, with_value};
-    ghost use Rattle.dbus_compose.specs.Composing.{drafted, IsComposed};
+    ghost use Rattle.dbus_compose.specs.Drafts.{AppendsText, Becomes, IsDraft, begun, field_of, name_field, path_field, reply_fields, with_body, with_field, with_flags, with_serial, with_value, drafted, IsComposed};
 
     /// A builder of a message of the type, with these flags and no fields.
     pub(crate) fn begin(alloc: A, kind: u8, flags: u8) -> Self

@@ -3,8 +3,7 @@
 
 ghost use Rattle.std.specs.Prelude.{[], ◌∷◌};
 ghost use Rattle.dbus_message_model.specs.MessageViews.{message_tree};
-ghost use Rattle.dbus_compose.specs.Drafts.{IsDraft, begun, name_field, path_field, reply_fields};
-ghost use Rattle.dbus_compose.specs.Composing.{drafted};
+ghost use Rattle.dbus_compose.specs.Drafts.{IsDraft, begun, name_field, path_field, reply_fields, drafted};
 
 use crate::builder::MessageBuilder;
 use dbus_message_model::Message;

@@ -5,8 +5,7 @@ use Rattle.dbus_texts.specs.Types.{TextCode}
 use Rattle.dbus_value_model.specs.Values.{ValueTree, TextValue}
 use Rattle.dbus_message_model.specs.Messages.{MessageTree}
 use Rattle.dbus_message_model.specs.declared.field_code.TheConstants as field
-use Rattle.dbus_count.specs.Counting.{Counting, CountsFirst, with_name, with_names}
-use Rattle.dbus_count.specs.Names.{member_of, named, names_of, text_at, text_of}
+use Rattle.dbus_count.specs.Counting.{Counting, CountsFirst, with_name, with_names, member_of, named, names_of, text_at, text_of}
 use Rattle.dbus_show.specs.ShownMessages.{kind_text}
 use Rattle.dbus_count.specs.declared.count.Count.{Count}
 

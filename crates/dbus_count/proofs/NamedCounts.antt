@@ -6,8 +6,7 @@ use Rattle.std.specs.Map.{AreApart, IsKeyTest, KeepsOthers, lookup}
 use Rattle.std.specs.Option.{unwrap_or}
 use Rattle.std.specs.Ordering.{eq_by_cmp}
 use Rattle.std.specs.Str.{bytes_eq}
-use Rattle.dbus_count.specs.Counting.{with_name, with_one}
-use Rattle.dbus_count.specs.Kept.{has}
+use Rattle.dbus_count.specs.Counting.{with_name, with_one, has}
 use Rattle.dbus_count.specs.NameOrder.{bytes_of, name_order, name_ties}
 use Rattle.dbus_count.specs.declared.count.Count.{Count}
 use Rattle.dbus_count.specs.declared.name.Name.{Name}

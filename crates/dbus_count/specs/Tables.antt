@@ -6,13 +6,13 @@ use Rattle.std.specs.List.{All, Contains, IsDistinct, flat_map, starts_with}
 use Rattle.std.specs.List.Sorted.{IsSortedBy}
 use Rattle.std.specs.Ordering.{is_lt, nat_cmp, ordering_then}
 use Rattle.std.specs.Str.{bytes_eq}
+use Rattle.dbus_json.specs.JsonValues.{member, object, string}
 use Rattle.dbus_count.specs.Counting.{Counting}
 use Rattle.dbus_count.specs.NameOrder.{bytes_of}
 use Rattle.dbus_count.specs.declared.count.Count.{Count}
 use Rattle.dbus_count.specs.declared.form.Form.{Form}
 use Rattle.dbus_count.specs.declared.form.Form.TheVariants.{Text, Json}
 use Rattle.dbus_count.specs.declared.name.Name.{Name}
-use Rattle.dbus_json.specs.JsonValues.{member, object, string}
 
 -- a name with its count
 abbrev pub Row : Type 0
@@ -67,3 +67,9 @@ module _ (form : Form) (c : Counting) where
 -- the words of the tables, of which none begins with another
 abbrev pub words : List (List ℕ)
 words = codes "type" ∷ codes "sender" ∷ codes "destination" ∷ codes "interface" ∷ codes "member" ∷ codes "error" ∷ []
+
+-- What holds of tables.
+
+-- the form, the counts and the words determine the text
+abbrev pub OneTable : Type 0
+OneTable = (form : Form) (c : Counting) (words : List (List ℕ)) (text other : List ℕ) → AreTables form c words text → AreTables form c words other → text ≡ other

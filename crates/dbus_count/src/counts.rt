@@ -1,5 +1,5 @@
 //! Counts by names.
-#![tactic(auto, unfolding(crate::specs::Kept::counting_of))]
+#![tactic(auto, unfolding(crate::specs::Counting::counting_of))]
 
 ghost use Rattle.std.specs.BTreeMap.{IsOrdered};
 ghost use Rattle.std.proofs.Props.{props};
@@ -34,10 +34,8 @@ pub struct Counts {
 
 impl Counts {
     ghost use Rattle.std.specs.Prelude.{◌≡◌, List, ℕ, OnErr, OnOk, Some, codes, length, option_map};
-    ghost use Rattle.dbus_count.specs.Counting.{CountsFirst, nothing, with_name, with_names};
-    ghost use Rattle.dbus_count.specs.Kept.{counting_of};
+    ghost use Rattle.dbus_count.specs.Counting.{CountsFirst, nothing, with_name, with_names, counting_of, member_of, named, names_of};
     ghost use Rattle.dbus_count.specs.NameOrder.{bytes_of};
-    ghost use Rattle.dbus_count.specs.Names.{member_of, named, names_of};
     ghost use Rattle.dbus_value_model.specs.declared.order.Order.{Order};
     ghost use Rattle.dbus_message_model.specs.Messages.{MessageTree};
     ghost use Rattle.dbus_show.specs.ShownMessages.{kind_text};

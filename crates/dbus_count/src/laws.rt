@@ -2,7 +2,7 @@
 //! nothing when it runs.
 #![tactic(auto)]
 
-ghost use Rattle.dbus_count.specs.Laws.{OneTable};
+ghost use Rattle.dbus_count.specs.Tables.{OneTable};
 
 /// Counts have one text of their tables.
 pub fn one_table()

@@ -3,7 +3,7 @@ ghost use Rattle.std.specs.Prelude.{◌≡◌, IfOk, List, OnOk, ℕ, map, nat_e
 ghost use Rattle.std.specs.List.{filter, starts_with};
 ghost use Rattle.std.specs.Map.Iter.{deref_pair};
 ghost use Rattle.dbus_count.specs.Tables.{AreRows, AreTables, Row, as_object, behind, in_words, row_of, row_text, rows_text, words};
-ghost use Rattle.dbus_count.specs.Kept.{counting_of};
+ghost use Rattle.dbus_count.specs.Counting.{counting_of};
 ghost use Rattle.dbus_count.specs.NameOrder.{bytes_of};
 
 use crate::count::Count;

@@ -1,3 +1,2 @@
 pub mod Beginnings
 pub mod Decodes
-pub mod PackedAnswers

@@ -11,8 +11,7 @@ ghost use Rattle.dbus_message_model.specs.PackedMessages.{MessageKeepsBytes};
 ghost use Rattle.dbus_header.specs.MessageOutcomes.{IsWhole};
 ghost use Rattle.dbus_validate.specs.Validating.{IsValidated};
 ghost use Rattle.dbus_decode.specs.Decodes.{Decodes};
-ghost use Rattle.dbus_decode.specs.PackedAnswers.{AnswerKeepsBytes};
-ghost use Rattle.dbus_decode.specs.Beginnings.{BeginsWithOne};
+ghost use Rattle.dbus_decode.specs.Beginnings.{AnswerKeepsBytes, BeginsWithOne};
 
 use crate::answer::Answer;
 use crate::building::build_message;

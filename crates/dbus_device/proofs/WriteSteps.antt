@@ -2,8 +2,7 @@
 use Rattle.std.proofs.Common.{◌≡◌, ◌≢◌, ℕ, zero, suc, ◌-◌, List, ◌++◌, Ok, Option, length, take, drop, refl, sym, ap, ◌∙◌, append_assoc, take-append-drop}
 use Rattle.std.specs.Io.KnownBytes.{Appends}
 use Rattle.std.proofs.KnownBytes.{Appends-trans}
-use Rattle.dbus_device.specs.Device.{WriteCounts}
-use Rattle.dbus_device.specs.Write.{Wrote}
+use Rattle.dbus_device.specs.Device.{WriteCounts, Wrote}
 
 -- the prefix of the bytes was written, and the rest is left
 pub record WritesUpTo {W : Type 0} (held : W → Option (List ℕ)) (failures : W → ℕ) (old : W) (bytes rest : List ℕ) (now : W) : Type 0 where

@@ -15,7 +15,7 @@ pub struct FromRead<R> {
 }
 
 impl<R: Read> FromRead<R> {
-    ghost use Rattle.dbus_device.specs.From.{reader_of, read_failures, read_calls};
+    ghost use Rattle.dbus_device.specs.Device.{reader_of, read_failures, read_calls};
 
     /// The source that gives what the reader gives. No call of it was made or failed yet.
     pub fn new(reader: R) -> Self

@@ -14,7 +14,7 @@ pub struct FromWrite<W> {
 }
 
 impl<W: Write> FromWrite<W> {
-    ghost use Rattle.dbus_device.specs.From.{writer_of, write_failures};
+    ghost use Rattle.dbus_device.specs.Device.{writer_of, write_failures};
 
     /// The sink that hands on to the writer. No call of it failed yet.
     pub fn new(writer: W) -> Self

@@ -1,6 +1,6 @@
 //! Bytes to a sink.
 ghost use Rattle.std.specs.Prelude.{◌≡◌};
-ghost use Rattle.dbus_device.specs.Write.{WritesAll};
+ghost use Rattle.dbus_device.specs.Device.{WritesAll};
 
 use crate::sink::Sink;
 

@@ -2,7 +2,7 @@
 use Rattle.std.proofs.Common.{◌≡◌, ℕ, ◌+◌, ◌-◌, ◌<◌, ◌≤◌, List, ◌∷◌, ◌++◌, length, take, drop, map, refl, sym, ap, ◌∙◌, arith, append_assoc}
 use Rattle.std.proofs.lemmas.List.{length-append, length-take-le, take_at, drop_at}
 use Rattle.dbus_value_model.specs.declared.order.Order.{Order}
-use Rattle.dbus_value_model.specs.Appending.{with_padding, with_values}
+use Rattle.dbus_value_model.specs.SizeLimits.{with_padding, with_values}
 use Rattle.dbus_value_model.specs.Values.{ValueTrees, value_trees}
 use Rattle.dbus_value_model.specs.Bytes.{num, pad, gap_to}
 use Rattle.dbus_value_model.specs.Spelling.{spelling, spellings}

@@ -3,10 +3,9 @@ use Rattle.std.proofs.Common.{◌≡◌, ℕ, ◌+◌, ◌-◌, ◌<◌, ◌≤�
 use Rattle.std.proofs.lemmas.List.{length-append, drop_more, drop_all}
 use Rattle.dbus_texts.specs.Types.{BYTE, sig}
 use Rattle.dbus_value_model.specs.declared.order.Order.{Order}
-use Rattle.dbus_value_model.specs.Appending.{with_padding, with_value, with_values}
+use Rattle.dbus_value_model.specs.SizeLimits.{with_padding, with_value, with_values, coded}
 use Rattle.dbus_value_model.specs.Values.{ValueTree, ValueTrees, NoValues, MoreValues, NumberValue, VariantValue, type_of, value_trees}
 use Rattle.dbus_value_model.specs.Bytes.{num}
-use Rattle.dbus_value_model.specs.Measures.{coded}
 use Rattle.dbus_value_model.specs.Spelling.{spelling}
 use Rattle.dbus_value_model.proofs.Numbers.{length-num}
 use Rattle.dbus_value_model.proofs.OneByte.{num_1}

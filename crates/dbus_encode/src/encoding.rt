@@ -2,8 +2,8 @@
 #![tactic(auto, using(dbus_marshal::proofs::Written::lengths))]
 
 ghost use Rattle.std.specs.Prelude.{◌≡◌, ◌<◌, ◌≤◌, ◌^◌, length, take, vec_capacity, map, IfOk, OnOk, OnErr};
-ghost use Rattle.dbus_value_model.specs.Appending.{with_value, with_values};
-ghost use Rattle.dbus_value_model.specs.ShortSignatures.{HasShortSignatures, HaveShortSignatures};
+ghost use Rattle.dbus_value_model.specs.SizeLimits.{with_value, with_values};
+ghost use Rattle.dbus_value_model.specs.Sizes.{HasShortSignatures, HaveShortSignatures};
 ghost use Rattle.dbus_value_model.specs.declared.limits.TheConstants.{MESSAGE_LIMIT};
 ghost use Rattle.dbus_value_model.specs.Values.{value_trees};
 ghost use Rattle.dbus_encode.specs.FixedBytes.{fixed_bytes};

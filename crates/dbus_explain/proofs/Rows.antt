@@ -6,8 +6,7 @@ use Rattle.std.proofs.lemmas.List.{take_min, take_more, take_rest}
 use Rattle.std.proofs.lemmas.List.Concat.{flat_map-append}
 use Rattle.hex.specs.Hex.{encode_lower}
 use Rattle.dbus_show.proofs.Gaining.{then}
-use Rattle.dbus_explain.specs.Windows.{byte_text, marked, window}
-use Rattle.dbus_explain.specs.ExplainedRules.{blank_of, mark_line}
+use Rattle.dbus_explain.specs.Explained.{byte_text, marked, window, blank_of, mark_line}
 
 -- the text of one more is after those before
 one_last : (text : ℕ → List ℕ) (bs : List ℕ) (b : ℕ) → flat_map text (bs ++ b ∷ []) ≡ flat_map text bs ++ text b

@@ -8,8 +8,7 @@ use Rattle.dbus_types.specs.Alignments.{alignment_of}
 use Rattle.dbus_types.specs.SignatureCodes.{IsTypeEnd}
 use Rattle.dbus_value_model.specs.Bytes.{gap_to}
 use Rattle.dbus_value_laws.proofs.ValueSteps.{shaped_inside}
-use Rattle.dbus_explain.specs.Leads.{Leads}
-use Rattle.dbus_explain.specs.Places.{AreBodyTypes, Enters, IsAmong, IsIn, IsSignatureField, IsTyped, Pass, Passes, field_type, first_element}
+use Rattle.dbus_explain.specs.Places.{Leads, AreBodyTypes, Enters, IsAmong, IsIn, IsSignatureField, IsTyped, Pass, Passes, field_type, first_element}
 use Rattle.dbus_explain.specs.declared.path.Step.{Step}
 use Rattle.dbus_explain.specs.declared.path.Step.TheVariants.{Key, Value}
 use Rattle.dbus_explain.specs.declared.search.ValuePlace.{ValuePlace}

@@ -4,15 +4,11 @@ use Rattle.std.specs.List.{All, flat_map}
 use Rattle.std.proofs.lemmas.List.Elements.{All-nil, All-cons}
 use Rattle.hex.specs.Hex.{encode_lower}
 use Rattle.dbus_value_model.specs.declared.fault.Reason.{Reason}
-use Rattle.dbus_show.specs.Laws.{line_feeds}
-use Rattle.dbus_show.specs.ShownMessages.{field_name}
+use Rattle.dbus_show.specs.ShownMessages.{line_feeds, field_name}
 use Rattle.dbus_show.specs.ShownValues.{quoted}
 use Rattle.dbus_show.proofs.LineFeeds.{IsOneLine, line_literal, line_append, line_either, line_flat, line_decimal, line_hex, line_quoted}
-use Rattle.dbus_explain.specs.Explained.{bytes_line, place_line, rule_line}
-use Rattle.dbus_explain.specs.ExplainedRules.{blank_of, mark_line, quoted_line}
-use Rattle.dbus_explain.specs.Lines.{AreLines}
+use Rattle.dbus_explain.specs.Explained.{bytes_line, place_line, rule_line, blank_of, mark_line, quoted_line, AreLines, byte_text, marked, window}
 use Rattle.dbus_explain.specs.Names.{IsFieldName, in_field, behind_fields, IsValueName, in_value, behind_values, IsNameOf, first, missing, field, padding, value, code_name, first_part, path_text, step_text}
-use Rattle.dbus_explain.specs.Windows.{byte_text, marked, window}
 use Rattle.dbus_explain.specs.declared.message.Refused.{Refused}
 use Rattle.dbus_explain.specs.declared.path.Step.{Step}
 use Rattle.dbus_explain.specs.declared.path.Step.TheVariants.{Number, Key, Value, Variant}

@@ -1,13 +1,12 @@
 -- In which value of a message a place is, by the values before it.
 -- D-Bus Specification, "Marshaling (Wire Format)", "Header Fields".
-use Rattle.std.specs.Prelude.{◌≡◌, ℕ, zero, suc, ◌+◌, ◌<◌, ◌≤◌, List, [], ◌∷◌, length, nat_eq, if◌then◌else◌, slice_index, take, drop}
-use Rattle.dbus_texts.specs.Types.{TypeTree, TypeTrees, BYTE, NumberType, VariantType, ArrayType, StructType, EntryType, NoTypes, MoreTypes, sig, sigs}
+use Rattle.std.specs.Prelude.{◌≡◌, ℕ, zero, suc, ◌+◌, ◌<◌, ◌≤◌, List, [], ◌∷◌, length, nat_eq, if◌then◌else◌, slice_index, take, drop, true}
+use Rattle.dbus_texts.specs.Types.{TypeTree, TypeTrees, BYTE, NumberType, VariantType, ArrayType, StructType, EntryType, NoTypes, MoreTypes, sig, sigs, IsShaped}
 use Rattle.dbus_texts.specs.declared.text_kind.TextKind.{TextKind}
 use Rattle.dbus_texts.specs.declared.text_kind.TextKind.TheVariants.{Signature, Single}
 use Rattle.dbus_types.specs.Alignments.{alignment_of}
 use Rattle.dbus_value_model.specs.Bytes.{gap_to}
-use Rattle.dbus_value_model.specs.Reading.{number_of}
-use Rattle.dbus_value_model.specs.Reading.{Done, number}
+use Rattle.dbus_value_model.specs.Reading.{number_of, Done, number}
 use Rattle.dbus_value_model.specs.ValueItems.{text_row}
 use Rattle.dbus_value_model.specs.Specification.{specification}
 use Rattle.dbus_value_model.specs.Bounds.{bounds_of}
@@ -17,6 +16,7 @@ use Rattle.dbus_value_model.specs.declared.order.Order.TheVariants.{Little, Big}
 use Rattle.dbus_value_validator.specs.Endings.{EndedText, IsNotSpelled, IsSpelledTo}
 use Rattle.dbus_explain.specs.declared.path.Step.{Step}
 use Rattle.dbus_explain.specs.declared.path.Step.TheVariants.{Number, Key, Value, Variant}
+use Rattle.dbus_explain.specs.declared.search.ValuePlace.{ValuePlace}
 
 -- the order of the bytes, of which the first is l or B, 66
 abbrev pub order_of : List ℕ → Order
@@ -106,3 +106,9 @@ module _ (bytes : List ℕ) (at : ℕ) where
     pub p : ℕ
     pub before : Pass field_type n 16 p
     pub signature : IsSignatureField p (sigs ts)
+
+-- Where a search goes in a value.
+
+-- from a value of the type at p to the value in it that the place is in
+abbrev pub Leads : (bytes : List ℕ) (at : ℕ) → TypeTree → (p : ℕ) → Step → ValuePlace → Type 0
+Leads bytes at t p step spot = (u : TypeTree) × (sig u ≡ spot.types.now) × IsShaped true u × Enters bytes at t p step u spot.place

@@ -3,7 +3,7 @@
 
 ghost use Rattle.std.specs.Prelude.{◌≡◌, ◌≤◌, ℕ, List, length};
 ghost use Rattle.std.specs.List.{flat_map};
-ghost use Rattle.dbus_explain.specs.ExplainedRules.{IsExplainedRule, blank_of, mark_line};
+ghost use Rattle.dbus_explain.specs.Explained.{IsExplainedRule, blank_of, mark_line};
 
 use crate::values::allowed_at;
 use dbus_rule::RuleReason;

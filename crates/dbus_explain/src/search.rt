@@ -7,8 +7,7 @@ ghost use Rattle.dbus_texts.specs.Types.{TypeTree, TypeTrees, VariantType, Array
 ghost use Rattle.dbus_types.specs.Alignments.{alignment_of};
 ghost use Rattle.dbus_types.specs.SignatureCodes.{first_code};
 ghost use Rattle.dbus_value_model.specs.Bytes.{gap_to};
-ghost use Rattle.dbus_explain.specs.Places.{IsAmong, IsIn, IsTyped, Pass, Passes, order_of};
-ghost use Rattle.dbus_explain.specs.Leads.{Leads};
+ghost use Rattle.dbus_explain.specs.Places.{IsAmong, IsIn, IsTyped, Pass, Passes, order_of, Leads};
 
 use crate::path::Step;
 use dbus_types::{TextKind, boundary, type_end};

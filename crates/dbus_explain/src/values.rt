@@ -2,7 +2,7 @@
 #![tactic(auto)]
 
 ghost use Rattle.std.specs.Prelude.{◌≡◌, ◌≤◌, length};
-ghost use Rattle.dbus_show.specs.Laws.{line_feeds};
+ghost use Rattle.dbus_show.specs.ShownMessages.{line_feeds};
 
 use dbus_rule::RuleReason;
 

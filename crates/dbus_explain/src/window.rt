@@ -3,7 +3,7 @@
 
 ghost use Rattle.std.specs.Prelude.{◌≤◌, length};
 ghost use Rattle.std.specs.List.{flat_map};
-ghost use Rattle.dbus_explain.specs.Windows.{byte_text, marked, window};
+ghost use Rattle.dbus_explain.specs.Explained.{byte_text, marked, window};
 
 use dbus_show::{Draft, write_hex};
 

@@ -14,16 +14,14 @@ use Rattle.dbus_value_model.specs.Spelling.{spellings, contents_start}
 use Rattle.dbus_value_model.specs.Values.{ValueTree, VariantValue, type_of, types_of, value_trees}
 use Rattle.dbus_value_model.proofs.Gaps.{no_gap}
 use Rattle.dbus_walk.specs.declared.container.Container.TheVariants as kind
-use Rattle.dbus_walk.specs.Containers.{IsOf, parts}
+use Rattle.dbus_walk.specs.Containers.{IsOf, parts, number_width}
 use Rattle.dbus_walk.specs.Standing.{Stands}
-use Rattle.dbus_walk.specs.Widths.{number_width}
 use Rattle.dbus_walk.proofs.Containers.{ArrayStands}
 use Rattle.dbus_walk.proofs.Parts.{NumberStands, TextStands}
 use Rattle.dbus_walk.proofs.ReadThere.{number_read}
 use Rattle.dbus_flatten.specs.declared.flat_item.FlatItem.{FlatItem}
 use Rattle.dbus_flatten.specs.declared.flattener.Flattener.{Flattener}
-use Rattle.dbus_flatten.specs.Flattening.{item, flat, flats, in_word, over, AreFlat}
-use Rattle.dbus_flatten.specs.Flattener.{Appends, IsListed, IsStroke, puts}
+use Rattle.dbus_flatten.specs.Flattening.{item, flat, flats, in_word, over, AreFlat, Appends, IsListed, IsStroke, puts}
 use Rattle.dbus_flatten.specs.FlattenerLaws.{flat_stroke, word_is, word_full, word_same}
 
 abbrev pub made : (n o l c e : ℕ) → FlatItem

@@ -11,8 +11,7 @@ use Rattle.dbus_walk.specs.declared.container.Container.{Container}
 use Rattle.dbus_walk.specs.Containers.{IsOf, inside, parts}
 use Rattle.dbus_flatten.specs.declared.flat_item.FlatItem.{FlatItem}
 use Rattle.dbus_flatten.specs.declared.flattener.Flattener.{Flattener}
-use Rattle.dbus_flatten.specs.Flattening.{item, with_item, flat, flats, in_word}
-use Rattle.dbus_flatten.specs.Flattener.{Appends, Gains, Counts, Closes, Opens, IsListed, IsStroke, numbered, put, puts}
+use Rattle.dbus_flatten.specs.Flattening.{item, with_item, flat, flats, in_word, Appends, Gains, Counts, Closes, Opens, IsListed, IsStroke, numbered, put, puts}
 
 -- ---- words
 

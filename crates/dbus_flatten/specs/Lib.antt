@@ -1,3 +1,2 @@
 pub mod Flattening
-pub mod Flattener
 pub mod FlattenerLaws

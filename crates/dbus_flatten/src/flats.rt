@@ -2,7 +2,7 @@
 #![tactic(auto)]
 
 ghost use Rattle.std.specs.Prelude.{◌≡◌, ℕ, ◌≤◌, List, length, take};
-ghost use Rattle.dbus_types.specs.TypeLengths.{AreLengths};
+ghost use Rattle.dbus_types.specs.SignatureCodes.{AreLengths};
 ghost use Rattle.dbus_value_model.specs.Values.{ValueTrees};
 ghost use Rattle.dbus_walk.specs.Standing.{AllStandAt, AllStandThere};
 ghost use Rattle.dbus_flatten.specs.Flattening.{AreFlat};

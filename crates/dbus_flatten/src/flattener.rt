@@ -2,7 +2,7 @@
 #![tactic(auto)]
 
 ghost use Rattle.std.specs.Prelude.{◌≡◌, ◌∷◌, []};
-ghost use Rattle.dbus_flatten.specs.Flattener.{Appends, Counts};
+ghost use Rattle.dbus_flatten.specs.Flattening.{Appends, Counts};
 
 use crate::flat_item::FlatItem;
 

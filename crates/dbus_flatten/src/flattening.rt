@@ -10,8 +10,7 @@ ghost use Rattle.dbus_value_model.specs.declared.order.Order.{Order};
 ghost use Rattle.dbus_value_model.specs.Values.{ValueTree, type_of, types_of, value_trees};
 ghost use Rattle.dbus_walk.specs.Containers.{IsOf, parts};
 ghost use Rattle.dbus_walk.specs.declared.container.Container.TheVariants.{Array};
-ghost use Rattle.dbus_flatten.specs.Flattening.{item, flat, flats};
-ghost use Rattle.dbus_flatten.specs.Flattener.{Closes, Gains, Opens};
+ghost use Rattle.dbus_flatten.specs.Flattening.{item, flat, flats, Closes, Gains, Opens};
 ghost use Rattle.dbus_flatten.specs.FlattenerLaws.{none_flat, more_flat, whole_flat};
 
 use crate::flat_item::FlatItem;

@@ -8,8 +8,7 @@ use Rattle.dbus_auth_lines.specs.Cut.{IsLine}
 use Rattle.dbus_auth_lines.specs.Lines.{ended}
 use Rattle.dbus_handshake_input.specs.Ahead.{source_of, kept_of, Took}
 use Rattle.dbus_handshake_input.specs.Handshakes.{greeting, sent, GoesOn, IsCommand, IsBegin, IsOk, HasOk, IsNoLine, BeginsNoMessage, begun, accepted, BreaksAfter, first_byte, no_line, too_many}
-use Rattle.dbus_handshake_input.specs.Heard.{HeardLine, HearsSome, Reads, heard, heard_from, heard_line}
-use Rattle.dbus_handshake_input.specs.Lines.{ReadsLine, Says}
+use Rattle.dbus_handshake_input.specs.Heard.{HeardLine, HearsSome, Reads, heard, heard_from, heard_line, ReadsLine, Says}
 use Rattle.dbus_handshake_input.specs.Passing.{Greets, Passes, SeesMessages, placed}
 use Rattle.dbus_handshake_input.specs.declared.fault.HandshakeFault.{HandshakeFault}
 use Rattle.dbus_handshake_input.specs.declared.fault.HandshakeFault.TheVariants.{Memory, Device, Refused}

@@ -8,9 +8,8 @@ use Rattle.dbus_auth_lines.specs.ClientCommands.{ClientCommand}
 use Rattle.dbus_auth_lines.specs.ClientCommands as client
 use Rattle.dbus_auth_lines.specs.ServerCommands.{ServerCommand}
 use Rattle.dbus_auth_lines.specs.ServerCommands as server
-use Rattle.dbus_auth_lines.specs.Cut.{IsLine, TooLong, BadByte}
+use Rattle.dbus_auth_lines.specs.Cut.{IsLine, TooLong, BadByte, Beginning, WholeLine, Faulty, Unfinished, BeginsAs, IsUnfinished, within_line, IsBadByte}
 use Rattle.dbus_auth_lines.specs.CutterViews.{CutterState, Takes}
-use Rattle.dbus_auth_lines.specs.FirstLine.{Beginning, WholeLine, Faulty, Unfinished, BeginsAs, IsUnfinished, within_line, IsBadByte}
 use Rattle.dbus_auth_lines.specs.LineForms.{IsClientLine, IsServerLine, MeansToServer, MeansToClient}
 use Rattle.dbus_auth_lines.specs.Lines.{ended}
 use Rattle.dbus_auth_lines.specs.declared.cutter.LineFault.{LineFault}
@@ -18,8 +17,7 @@ use Rattle.dbus_auth_lines.specs.declared.cutter.LineFault.TheVariants as line_f
 use Rattle.dbus_auth_lines.proofs.FirstLines.{some_beginning}
 use Rattle.dbus_auth_lines.proofs.Meanings.{client_row_means, server_row_means}
 use Rattle.dbus_handshake_input.specs.Ahead.{source_of, kept_of, Rests, Took}
-use Rattle.dbus_handshake_input.specs.Heard.{HeardLine, HearsLine, heard_line}
-use Rattle.dbus_handshake_input.specs.Lines.{ReadsLine, Says, client_says, is_nothing, server_says, refusal_of}
+use Rattle.dbus_handshake_input.specs.Heard.{HeardLine, HearsLine, heard_line, ReadsLine, Says, client_says, is_nothing, server_says, refusal_of}
 use Rattle.dbus_handshake_input.specs.declared.lines.Said.{Said}
 use Rattle.dbus_handshake_input.specs.declared.lines.Said.TheVariants as says
 use Rattle.dbus_handshake_input.specs.declared.fault.HandshakeFault.TheVariants.{Refused}

@@ -6,8 +6,7 @@ use Rattle.std.proofs.lemmas.List.{append_cancel_left}
 use Rattle.dbus_auth_lines.specs.ClientCommands as client
 use Rattle.dbus_auth_lines.specs.ServerCommands.{ServerCommand}
 use Rattle.dbus_auth_lines.specs.ServerCommands as server
-use Rattle.dbus_auth_lines.specs.Cut.{IsLine, TooLong, BadByte}
-use Rattle.dbus_auth_lines.specs.FirstLine.{Beginning, WholeLine, Faulty, Unfinished, BeginsAs, IsUnfinished}
+use Rattle.dbus_auth_lines.specs.Cut.{IsLine, TooLong, BadByte, Beginning, WholeLine, Faulty, Unfinished, BeginsAs, IsUnfinished}
 use Rattle.dbus_auth_lines.specs.LineForms.{IsServerLine}
 use Rattle.dbus_auth_lines.specs.Lines.{ended}
 use Rattle.dbus_auth_lines.proofs.FirstLines.{one_beginning, stays_settled}

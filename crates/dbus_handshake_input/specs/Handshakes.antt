@@ -1,13 +1,12 @@
 -- The handshake of one side of a connection, up to its messages, and why bytes begin with none.
 -- AtEnd says that no byte follows. D-Bus Specification, "Authentication Protocol".
-use Rattle.std.specs.Prelude.{ℕ, ◌≡◌, ◌≢◌, ◌<◌, ◌≤◌, ◌+◌, ◌⊎◌, List, [], ◌∷◌, ◌++◌, length}
+use Rattle.std.specs.Prelude.{ℕ, ◌≡◌, ◌≢◌, ◌<◌, ◌≤◌, ◌+◌, ◌⊎◌, List, [], ◌∷◌, ◌++◌, length, codes}
 use Rattle.std.specs.List.{AllByRecursion, flat_map}
 use Rattle.dbus_auth_lines.specs.ClientCommands.{ClientCommand}
 use Rattle.dbus_auth_lines.specs.ClientCommands as client
 use Rattle.dbus_auth_lines.specs.ServerCommands.{ServerCommand}
 use Rattle.dbus_auth_lines.specs.ServerCommands as server
-use Rattle.dbus_auth_lines.specs.Cut.{IsLine}
-use Rattle.dbus_auth_lines.specs.FirstLine.{IsUnfinished, IsTooLong, IsBadByte}
+use Rattle.dbus_auth_lines.specs.Cut.{IsLine, IsUnfinished, IsTooLong, IsBadByte}
 use Rattle.dbus_auth_lines.specs.LineForms.{IsClientLine, IsServerLine}
 use Rattle.dbus_auth_lines.specs.Lines.{ended}
 use Rattle.dbus_handshake_input.specs.declared.side.Side.{Side}
@@ -94,3 +93,13 @@ pub data BreaksAfter (side : Side) (lines : List (List ℕ)) (bytes : List ℕ) 
 -- the bytes begin with no handshake of the side, for this reason, at this place
 abbrev pub IsNoHandshake : Side → (bytes : List ℕ) → (AtEnd : Type 0) → (at : ℕ) → HandshakeReason → Type 0
 IsNoHandshake side bytes AtEnd at why = (lines : List (List ℕ)) × BreaksAfter side lines bytes AtEnd at why
+
+-- The texts of the reasons why bytes begin with no handshake.
+
+abbrev pub handshake_reason_text : HandshakeReason → List ℕ
+handshake_reason_text reason.FirstByte = codes "FirstByte"
+handshake_reason_text reason.LineTooLong = codes "LineTooLong"
+handshake_reason_text reason.LineByte = codes "LineByte"
+handshake_reason_text reason.NoCommand = codes "NoCommand"
+handshake_reason_text reason.Truncated = codes "Truncated"
+handshake_reason_text reason.TooManyLines = codes "TooManyLines"

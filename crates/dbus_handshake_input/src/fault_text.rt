@@ -7,7 +7,7 @@ use std::fmt;
 /// The name of the reason, as `NoCommand`.
 impl fmt::Display for HandshakeReason {
     ghost use Rattle.std.specs.Prelude.{Some};
-    ghost use Rattle.dbus_handshake_input.specs.FaultTexts.{handshake_reason_text};
+    ghost use Rattle.dbus_handshake_input.specs.Handshakes.{handshake_reason_text};
 
     ghost output = { λ reason. Some (handshake_reason_text reason) };
 

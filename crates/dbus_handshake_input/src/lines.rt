@@ -1,9 +1,8 @@
 //! One line of a side.
 ghost use Rattle.std.specs.Prelude.{◌≡◌};
 ghost use Rattle.dbus_handshake_input.specs.Ahead.{source_of};
-ghost use Rattle.dbus_handshake_input.specs.Heard.{HearsLine};
-ghost use Rattle.dbus_handshake_input.specs.Lines.{ReadsLine, client_says, is_nothing, refusal_of, server_says};
-ghost use Rattle.dbus_auth_lines.specs.LineViews.{client_command, server_command};
+ghost use Rattle.dbus_handshake_input.specs.Heard.{HearsLine, ReadsLine, client_says, is_nothing, refusal_of, server_says};
+ghost use Rattle.dbus_auth_lines.specs.Lines.{client_command, server_command};
 ghost use Rattle.dbus_handshake_input.specs.Passing.{Counts};
 
 use crate::fault::{HandshakeFault, HandshakeReason};

@@ -2,8 +2,7 @@
 #![tactic(auto)]
 
 ghost use Rattle.std.specs.Prelude.{◌≡◌, ◌∷◌, ◌++◌, List, []};
-ghost use Rattle.dbus_auth_lines.specs.LineViews.{client_command, server_command};
-ghost use Rattle.dbus_auth_lines.specs.Lines.{client_meaning, server_meaning};
+ghost use Rattle.dbus_auth_lines.specs.Lines.{client_command, server_command, client_meaning, server_meaning};
 ghost use Rattle.dbus_handshake_input.specs.Heard.{HeardLine, heard_line};
 ghost use Rattle.dbus_handshake_input.specs.declared.side.Side.TheVariants.{Client, Server};
 

@@ -15,13 +15,13 @@ use Rattle.dbus_value_model.specs.Bytes.{num, gap_to, pad}
 use Rattle.dbus_value_model.specs.Spelling.{ended_text, spelling, Spelled}
 use Rattle.dbus_value_model.specs.Values.{ValueTree, NumberValue, TextValue, type_of, IsWellFormed}
 use Rattle.dbus_value_model.specs.declared.fault.Reason.{Reason}
-use Rattle.dbus_value_model.specs.Measures.{coded}
+use Rattle.dbus_value_model.specs.SizeLimits.{coded}
 use Rattle.dbus_value_model.specs.Items as items
 use Rattle.dbus_value_model.specs.ValueItems.{text_row, value}
 use Rattle.dbus_value_model.specs.Reading as reading
 use Rattle.dbus_message_model.specs.Messages.{FieldTree, Want, Anything, OfType, Name, Serial, want, Suits, field_type, field_struct, is_known, has_code}
 use Rattle.dbus_header.specs.MessageItems.{name_row, not_zero_row, code_row, kind_wanted, opening, value_wanted, signature_wanted, signed_value, field_items, field}
-use Rattle.dbus_header.specs.MessageReading as reads
+use Rattle.dbus_header.specs.HeaderReading as reads
 use Rattle.dbus_message_model.proofs.Wants.{WantOk, want_ok}
 use Rattle.dbus_value_model.proofs.Numbers.{length-num}
 use Rattle.dbus_value_laws.proofs.KindLaws.{spelled_sig, only_is, only_same, text_single}

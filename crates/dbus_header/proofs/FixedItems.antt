@@ -13,9 +13,9 @@ use Rattle.dbus_value_model.specs.Items.{fault}
 use Rattle.dbus_value_model.specs.Bytes.{gap_to}
 use Rattle.dbus_value_model.specs.Reading.{Outcome, Done, Faulty, Partial}
 use Rattle.dbus_value_model.specs.declared.stop.Stop.{Stop}
-use Rattle.dbus_value_model.specs.Gives.{Stops, Gives}
+use Rattle.dbus_value_model.specs.ValueReaders.{Stops, Gives}
 use Rattle.dbus_header.specs.MessageItems.{not_zero_row, version_row, fields_row}
-use Rattle.dbus_header.specs.MessageReading.{byte_order}
+use Rattle.dbus_header.specs.HeaderReading.{byte_order}
 
 -- the exit of a `?`: what stopped the part stops the whole
 pub exits : {X A : Type 0} (view : X → A × ℕ) (bytes : List ℕ) (result : Result X Stop) (e : Stop) (read : Outcome A) → IsErrAnd result (λ y. y ≡ e) → Stops e read → Gives view bytes result read

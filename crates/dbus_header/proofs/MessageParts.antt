@@ -23,7 +23,7 @@ use Rattle.dbus_value_model.specs.Reading as reading
 use Rattle.dbus_message_model.specs.Messages.{FieldTree, MessageTree, Suits, field_struct, want, order_byte, lacks, required, text_in, body_signature, body_fds}
 use Rattle.dbus_header.specs.MessageItems.{not_zero_row, version_row, fields_row, opening, field, byte_order, types_of_text, body_items, fixed_items, message_items}
 use Rattle.dbus_header.specs.HeaderReading.{fixed_header, field_read, fields_read, body_read, message_read}
-use Rattle.dbus_header.specs.MessageReading as reads
+use Rattle.dbus_header.specs.HeaderReading as reads
 use Rattle.dbus_value_laws.proofs.KindLaws.{signature_text, spelled_sigs}
 use Rattle.dbus_value_laws.proofs.Agreement.{Agrees, Says, Agrees-then, Agrees-before}
 use Rattle.dbus_value_laws.proofs.OwnItems.{chosen, Agrees-pure, Agrees-padding, Agrees-number, Agrees-validate, Agrees-bounded, Agrees-ends}

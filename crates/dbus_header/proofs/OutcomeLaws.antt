@@ -7,9 +7,8 @@ use Rattle.dbus_value_model.specs.declared.order.Order.TheVariants.{Little, Big}
 use Rattle.dbus_value_model.specs.declared.fault.Fault.{Fault}
 use Rattle.dbus_value_model.specs.Reading.{Outcome, Done, Faulty, Partial}
 use Rattle.dbus_message_model.specs.Messages.{MessageTree, message_bytes, IsMessage, IsValidMessage}
-use Rattle.dbus_header.specs.HeaderReading.{fixed_header, message_read}
+use Rattle.dbus_header.specs.HeaderReading.{fixed_header, message_read, byte_order}
 use Rattle.dbus_header.specs.MessageItems.{message_items}
-use Rattle.dbus_header.specs.MessageReading.{byte_order}
 use Rattle.dbus_header.specs.MessageOutcomes.{IsWhole, IsRefused, IsPartial}
 use Rattle.dbus_header.specs.OutcomeLaws.{OneMessage, OneLength, SomeOutcome, OneOutcome, OneWhole, OneFault, WholeForGood, RefusedForGood, WiderWhole, ReadsMessages, ReadsMessageFaults}
 use Rattle.dbus_message_model.proofs.BothOrders.{valid_from, any_message_length}

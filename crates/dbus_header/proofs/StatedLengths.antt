@@ -13,13 +13,10 @@ use Rattle.dbus_value_model.specs.declared.order.Order.TheVariants.{Little, Big}
 use Rattle.dbus_value_model.specs.Reading.{Reader, Outcome, Done, Faulty, Partial, after, validated, pure, number, number_of, ◌>>=◌}
 use Rattle.dbus_value_laws.proofs.Agreement.{read_passes}
 use Rattle.dbus_value_laws.proofs.ValueOutcomes.{agreed_value}
-use Rattle.dbus_header.specs.MessageItems.{not_zero_row, version_row, fields_row}
-use Rattle.dbus_header.specs.MessageItems.{fixed_items}
-use Rattle.dbus_header.specs.MessageReading.{byte_order, opening}
+use Rattle.dbus_header.specs.MessageItems.{not_zero_row, version_row, fields_row, fixed_items}
+use Rattle.dbus_header.specs.HeaderReading.{byte_order, opening, fixed_header, message_read}
 use Rattle.dbus_header.specs.MessageOutcomes.{IsWhole, IsRefused, IsPartial}
-use Rattle.dbus_header.specs.HeaderReading.{fixed_header, message_read}
-use Rattle.dbus_header.specs.StatedLengths.{length_by, StatesLength}
-use Rattle.dbus_header.specs.StatedLaws.{StatedHolds, WholeStates, OneStated, SomeStated}
+use Rattle.dbus_header.specs.StatedLengths.{length_by, StatesLength, StatedHolds, WholeStates, OneStated, SomeStated}
 use Rattle.dbus_header.specs.declared.fixed_header.FixedHeader.{FixedHeader}
 use Rattle.dbus_header.proofs.Decoded.{refused_read, partial_read}
 use Rattle.dbus_header.proofs.MessageParts.{Agrees-fixed}

@@ -8,7 +8,7 @@ use Rattle.dbus_value_model.specs.Bounds.{bounds_of, bounds_with}
 use Rattle.dbus_value_model.specs.declared.order.Order.{Order}
 use Rattle.dbus_value_model.specs.Bytes.{num, gap_to, pad}
 use Rattle.dbus_value_model.specs.Spelling.{spelling, IsWithinLimits, AreWithinLimits}
-use Rattle.dbus_value_model.specs.SpelledAll.{SpelledAll}
+use Rattle.dbus_value_model.specs.Outcomes.{SpelledAll}
 use Rattle.dbus_value_model.specs.Values.{AllOf, value_trees, ValueTrees, types_of, IsWellFormed}
 use Rattle.dbus_value_model.specs.Items.{Sequence}
 use Rattle.dbus_value_model.specs.ValueItems.{value}

@@ -14,8 +14,7 @@ use Rattle.dbus_value_model.specs.Bytes.{gap_to}
 use Rattle.dbus_value_model.specs.Items.{fault}
 use Rattle.dbus_value_model.specs.Reading.{Outcome, Done, Faulty, Partial, padding, number, number_of, text, ends, value}
 use Rattle.dbus_message_model.specs.Messages.{MessageTree}
-use Rattle.dbus_header.specs.HeaderReading.{fixed_header, wanted_signature, wanted_value, field_read, fields_read, body_read, message_read}
-use Rattle.dbus_header.specs.MessageReading.{byte_order}
+use Rattle.dbus_header.specs.HeaderReading.{fixed_header, wanted_signature, wanted_value, field_read, fields_read, body_read, message_read, byte_order}
 
 data Answer : Type 0 where
   Whole : Order → ℕ → Answer

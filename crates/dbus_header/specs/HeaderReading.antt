@@ -1,22 +1,55 @@
 -- Reading a message in the parts in which the code validates and checks it: the same answers as the
 -- relations of MessageItems give, computed, plain and slow. It is the bridge from the relations to
 -- the code. D-Bus Specification, "Message Format", "Header Fields".
-use Rattle.std.specs.Prelude.{ℕ, ◌-◌, List, Option}
-use Rattle.dbus_texts.specs.Types.{TypeTree, TypeTrees}
+use Rattle.std.specs.Prelude.{ℕ, ◌+◌, ◌-◌, [], ◌∷◌, if◌then◌else◌, nat_eq, List, Option}
+use Rattle.dbus_texts.specs.Types.{UINT32, STRING, TypeTree, TypeTrees}
+use Rattle.dbus_value_model.specs.declared.limits.Bounds.{Bounds}
+use Rattle.dbus_value_model.specs.declared.order.Order.{Order}
+use Rattle.dbus_value_model.specs.declared.order.Order.TheVariants.{Little, Big}
+use Rattle.dbus_value_model.specs.Values.{ValueTree, ValueTrees, NumberValue, TextValue}
+use Rattle.dbus_value_model.specs.Items.{fault, no_row}
+use Rattle.dbus_value_model.specs.Reading.{Reader, Outcome, Done, Faulty, Partial, ◌>>=◌, ◌>>◌, pure, ends, padding, number, text, nul, opened, value, fields, validate, bounded, signature, contents}
+use Rattle.dbus_message_model.specs.Messages.{Want, Anything, OfType, Name, Serial, FieldTree, MessageTree, want, lacks, required, body_signature, body_fds}
+use Rattle.dbus_value_model.specs.declared.fault.Reason.TheVariants as reasons
 use Rattle.dbus_texts.specs.ComputedKinds.{types_spelled}
 use Rattle.dbus_value_model.specs.Bounds.{bounds_of, bounds_with}
 use Rattle.dbus_value_model.specs.declared.limits.Limits.{Limits}
-use Rattle.dbus_value_model.specs.declared.order.Order.{Order}
-use Rattle.dbus_value_model.specs.declared.fault.Reason.TheVariants as reasons
-use Rattle.dbus_value_model.specs.Values.{ValueTree, ValueTrees}
-use Rattle.dbus_value_model.specs.Items.{no_row}
 use Rattle.dbus_value_model.specs.ValueItems.{text_row}
 use Rattle.dbus_value_model.specs.WantedTexts.{WantedText}
-use Rattle.dbus_value_model.specs.Reading.{Reader, ◌>>=◌, ◌>>◌, pure, validate, bounded, padding, number, signature, nul, contents}
-use Rattle.dbus_message_model.specs.Messages.{FieldTree, MessageTree, Want, want, lacks, required, body_signature, body_fds}
-use Rattle.dbus_header.specs.MessageItems.{not_zero_row, version_row, fields_row, code_row, kind_wanted}
-use Rattle.dbus_header.specs.MessageReading.{byte_order, opening, value_wanted, body_items}
+use Rattle.dbus_header.specs.MessageItems.{not_zero_row, name_row, version_row, fields_row, code_row, kind_wanted}
 use Rattle.dbus_header.specs.declared.fixed_header.FixedHeader.{FixedHeader}
+
+-- Reading the parts of a message that MessageItems gives names, from left to right.
+
+abbrev pub opening : ℕ → Reader ℕ
+opening depth_left = opened depth_left (pure (depth_left - 1))
+
+abbrev pub value_wanted : Bounds → Order → ℕ → ℕ → Want → TypeTree → Reader ValueTree
+value_wanted bounds order depth_left end Anything t = value bounds order depth_left end t
+value_wanted bounds order depth_left end (OfType u) t = value bounds order depth_left end t
+value_wanted bounds order depth_left end (Name k) t = do
+  padding 4 end
+  n ← number order 4 end (name_row end)
+  name ← text k n
+  nul
+  pure (TextValue STRING name)
+value_wanted bounds order depth_left end Serial t = do
+  padding 4 end
+  n ← number order 4 end (not_zero_row reasons.ZeroSerial)
+  pure (NumberValue UINT32 n)
+
+abbrev pub order_of : ℕ → Outcome Order → Outcome Order → Outcome Order → Outcome Order
+order_of b little big other = if nat_eq b 108 then little else if nat_eq b 66 then big else other
+
+unfoldable pub byte_order : Reader Order
+byte_order o [] = Partial
+byte_order o (b ∷ s) = order_of b (Done Little (o + 1) s) (Done Big (o + 1) s) (Faulty (fault o reasons.ByteOrder))
+
+abbrev pub body_items : Bounds → Order → ℕ → TypeTrees → ℕ → Reader ValueTrees
+body_items bounds order depth_left ts end = do
+  xs ← fields (value bounds order depth_left end) ts
+  ends end
+  pure xs
 
 -- the items that have fixed places
 unfoldable pub fixed_header : Limits → Reader FixedHeader

@@ -1,8 +1,6 @@
 pub mod MessageItems
-pub mod MessageReading
+pub mod HeaderReading
 pub mod MessageOutcomes
 pub mod NoMessage
 pub mod OutcomeLaws
-pub mod HeaderReading
 pub mod StatedLengths
-pub mod StatedLaws

@@ -8,7 +8,7 @@ use Rattle.dbus_value_model.specs.ByteNumbers.{IsBytes}
 use Rattle.dbus_value_model.specs.Reading.{Done, Faulty}
 use Rattle.dbus_value_model.specs.declared.limits.Limits.{Limits}
 use Rattle.dbus_message_model.specs.Messages.{MessageTree, message_bytes, IsMessage, IsValidMessage}
-use Rattle.dbus_message_model.specs.LimitLaws.{AreWider}
+use Rattle.dbus_message_model.specs.KeptLimits.{AreWider}
 use Rattle.dbus_header.specs.HeaderReading.{message_read}
 use Rattle.dbus_header.specs.MessageOutcomes.{IsWhole, IsRefused, IsPartial}
 

@@ -4,13 +4,12 @@
 ghost use Rattle.std.specs.Prelude.{◌≡◌, ◌+◌, ◌≤◌, ◌<◌, length, drop, IfOk};
 ghost use Rattle.dbus_value_model.specs.declared.fault.Reason.TheVariants as reasons;
 ghost use Rattle.dbus_value_model.specs.declared.order.Order.{Order};
-ghost use Rattle.dbus_value_model.specs.Gives.{Gives};
+ghost use Rattle.dbus_value_model.specs.ValueReaders.{Gives};
 ghost use Rattle.dbus_value_model.specs.Reading.{number};
 ghost use Rattle.dbus_value_model.specs.Bytes.{gap_to};
 ghost use Rattle.dbus_value_model.specs.Items.{no_row};
-ghost use Rattle.dbus_header.specs.HeaderReading.{fixed_header};
+ghost use Rattle.dbus_header.specs.HeaderReading.{fixed_header, byte_order};
 ghost use Rattle.dbus_header.specs.MessageItems.{not_zero_row, version_row, fields_row};
-ghost use Rattle.dbus_header.specs.MessageReading.{byte_order};
 
 use crate::opening::check_open;
 use dbus_message_model::order_named;

@@ -2,8 +2,8 @@
 #![tactic(auto)]
 
 ghost use Rattle.std.specs.Prelude.{◌-◌, ◌<◌, ◌≤◌, List, ℕ, drop, IfOk};
-ghost use Rattle.dbus_value_model.specs.Gives.{Gives};
-ghost use Rattle.dbus_header.specs.MessageReading.{opening};
+ghost use Rattle.dbus_value_model.specs.ValueReaders.{Gives};
+ghost use Rattle.dbus_header.specs.HeaderReading.{opening};
 
 use dbus_value_model::{Limits, Reason, Stop, refuse};
 

@@ -5,10 +5,9 @@ use Rattle.std.proofs.lemmas.List.Concat.{flat_map-append}
 use Rattle.dbus_value_model.specs.declared.order.Order.{Order}
 use Rattle.dbus_message_model.specs.Messages.{MessageTree, order_byte, message_bytes}
 use Rattle.dbus_validate.specs.declared.validating.Validated.{Validated}
-use Rattle.dbus_json.specs.JsonMessages.{type_text, first_members}
+use Rattle.dbus_json.specs.JsonMessages.{type_text, first_members, start_text}
 use Rattle.dbus_json.specs.JsonValues.{plain, listed, array, member, object}
 use Rattle.dbus_value_text.specs.Forms.{led}
-use Rattle.dbus_json.specs.Writing.{start_text}
 
 abbrev more : List (List ℕ) → List ℕ
 more texts = flat_map (λ (y : List ℕ). codes "," ++ y) texts

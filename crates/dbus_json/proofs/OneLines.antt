@@ -14,14 +14,12 @@ use Rattle.dbus_value_model.specs.declared.order.Order.TheVariants.{Big}
 use Rattle.dbus_value_model.specs.Bytes.{num}
 use Rattle.dbus_value_model.specs.Values.{ValueTree, ValueTrees, NumberValue, TextValue, VariantValue, ArrayValue, StructValue, EntryValue, NoValues, MoreValues, type_of}
 use Rattle.dbus_message_model.specs.Messages.{FieldTree, order_byte, message_bytes, is_known}
-use Rattle.dbus_show.specs.Laws.{line_feeds}
+use Rattle.dbus_show.specs.ShownMessages.{line_feeds, field_name, kind_text}
 use Rattle.dbus_show.specs.ShownValues.{bytes_in}
-use Rattle.dbus_show.specs.ShownMessages.{field_name, kind_text}
 use Rattle.dbus_show.proofs.LineFeeds.{IsOneLine, AreLines, line_literal, line_append, line_cons, line_either, line_decimal, line_hex, line_number, line_quoted, line_sig, between}
 use Rattle.dbus_show.proofs.FieldTexts.{name_line, kind_line, order_line}
 use Rattle.dbus_json.specs.JsonValues.{plain, string, listed, array, member, object, IsDouble, IsNumber, IsJson, AreJson}
-use Rattle.dbus_json.specs.JsonMessages.{type_text, IsField, AreFields, fields_of, first_members}
-use Rattle.dbus_json.specs.Laws.{IsOneLineEach}
+use Rattle.dbus_json.specs.JsonMessages.{type_text, IsField, AreFields, fields_of, first_members, IsOneLineEach}
 
 -- ---- the parts of JSON
 

@@ -10,8 +10,7 @@ use Rattle.dbus_value_model.specs.Values.{ValueTree, ValueTrees, NumberValue, Te
 use Rattle.dbus_message_model.specs.Messages.{FieldTree}
 use Rattle.dbus_show.specs.ShownValues.{bytes_in}
 use Rattle.dbus_json.specs.JsonValues.{plain, string, array, member, object, IsDouble, IsNumber, IsJson, AreJson}
-use Rattle.dbus_json.specs.JsonMessages.{IsField, AreFields, fields_of}
-use Rattle.dbus_json.specs.Laws.{IsSomeLineEach}
+use Rattle.dbus_json.specs.JsonMessages.{IsField, AreFields, fields_of, IsSomeLineEach}
 use Rattle.dbus_json.proofs.FloatTexts.{some_text}
 
 some_double : (bits : ℕ) (answer : Bool) → float_is_finite (from_bits binary64 bits) ≡ answer → (text : List ℕ) × IsDouble bits text

@@ -6,9 +6,10 @@ use Rattle.dbus_texts.specs.Types.{sig}
 use Rattle.dbus_value_model.specs.declared.order.Order.{Order}
 use Rattle.dbus_value_model.specs.Values.{ValueTree, type_of}
 use Rattle.dbus_message_model.specs.Messages.{FieldTree, MessageTree, order_byte, message_bytes, is_known}
-use Rattle.dbus_show.specs.ShownMessages.{kind_text, field_name}
-use Rattle.dbus_value_text.specs.Fields.{AreFieldTexts, taken_fields}
-use Rattle.dbus_json.specs.JsonValues.{plain, array, member, object, IsJson, AreJson}
+use Rattle.dbus_show.specs.ShownMessages.{kind_text, field_name, line_feeds}
+use Rattle.dbus_value_text.specs.Forms.{AreFieldTexts, taken_fields}
+use Rattle.dbus_validate.specs.declared.validating.Validated.{Validated}
+use Rattle.dbus_json.specs.JsonValues.{plain, array, member, object, IsJson, AreJson, listed}
 
 -- a message type's name, or its number if it has none
 abbrev pub type_text : ℕ → List ℕ
@@ -55,3 +56,19 @@ pub record IsJsonLine (order : Order) (m : MessageTree) (number offset : ℕ) (t
       (first_members order (length (message_bytes order m)) m.kind m.flags m.serial number offset
       ++ (known ++ (member (codes "fields") (array others) ∷ member (codes "body") (array values) ∷ [])))
       ++ codes "\n"
+
+-- How a line begins.
+
+-- what stands before the header fields
+abbrev pub start_text : Validated → ℕ → ℕ → List ℕ
+start_text j number offset = codes "{" ++ listed (first_members j.order j.length j.kind j.flags j.serial number offset)
+
+-- Each message has a line of JSON, and its one line feed ends it.
+
+-- Whatever a message holds, its JSON is one line.
+abbrev pub IsOneLineEach : Type 0
+IsOneLineEach = (order : Order) (m : MessageTree) (number offset : ℕ) (text : List ℕ) → IsJsonLine order m number offset text → (line : List ℕ) × (text ≡ line ++ codes "\n") × (line_feeds line ≡ 0)
+
+-- Each message has a line of JSON, whatever its number and its offset.
+abbrev pub IsSomeLineEach : Type 0
+IsSomeLineEach = (order : Order) (m : MessageTree) (number offset : ℕ) → (text : List ℕ) × IsJsonLine order m number offset text

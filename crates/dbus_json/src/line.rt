@@ -6,11 +6,9 @@ ghost use Rattle.std.specs.Bool.{beq};
 ghost use Rattle.std.specs.List.{list_all};
 ghost use Rattle.dbus_message_model.specs.Messages.{MessageTree, is_known};
 ghost use Rattle.dbus_header.specs.MessageOutcomes.{IsWhole};
-ghost use Rattle.dbus_validate.specs.Validating.{IsValidated};
-ghost use Rattle.dbus_validate.specs.Wholes.{WasValidated, IsWholeOf};
+ghost use Rattle.dbus_validate.specs.Validating.{IsValidated, WasValidated, IsWholeOf};
 ghost use Rattle.dbus_value_text.specs.Forms.{led};
-ghost use Rattle.dbus_json.specs.JsonMessages.{AreFields, IsJsonLine, fields_of, type_text};
-ghost use Rattle.dbus_json.specs.Writing.{start_text};
+ghost use Rattle.dbus_json.specs.JsonMessages.{AreFields, IsJsonLine, fields_of, type_text, start_text};
 
 use crate::fields::{KnownFields, OtherFields};
 use crate::json::Json;

@@ -2,7 +2,7 @@
 use Rattle.std.proofs.Common.{◌≡◌, ℕ, ◌+◌, ◌%◌, ◌<◌, ◌≤◌, refl, sym, ap, ◌∙◌, arith}
 use Rattle.std.proofs.Math.Decide.{dec_lt}
 use Rattle.std.proofs.lemmas.Bool.{le-ltb, lt-ltb}
-use Rattle.dbus_value_model.specs.Measures.{IsCapped, capped, CappedTells}
+use Rattle.dbus_value_model.specs.SizeLimits.{IsCapped, capped, CappedTells}
 
 pub capped-near : (o : ℕ) → o < 134217736 → capped o ≡ o
 unfolding capped

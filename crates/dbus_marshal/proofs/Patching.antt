@@ -7,7 +7,7 @@ use Rattle.dbus_value_model.specs.declared.order.Order.{Order}
 use Rattle.dbus_value_model.specs.Values.{ValueTrees, ArrayValue}
 use Rattle.dbus_value_model.specs.Bytes.{gap_to, pad, num}
 use Rattle.dbus_value_model.specs.Spelling.{contents_start, spelling, spellings}
-use Rattle.dbus_value_model.specs.Appending.{with_padding, with_value, with_values}
+use Rattle.dbus_value_model.specs.SizeLimits.{with_padding, with_value, with_values}
 use Rattle.dbus_value_model.proofs.Numbers.{length-num}
 use Rattle.dbus_marshal.proofs.Written.{length_padding, length_values}
 

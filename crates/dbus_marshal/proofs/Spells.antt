@@ -8,7 +8,7 @@ use Rattle.dbus_value_model.specs.declared.order.Order.{Order}
 use Rattle.dbus_value_model.specs.Values.{ValueTree, NumberValue, TextValue, ArrayValue, type_of}
 use Rattle.dbus_value_model.specs.Bytes.{pad, gap_to, num}
 use Rattle.dbus_value_model.specs.Spelling.{spelling, spellings}
-use Rattle.dbus_value_model.specs.Appending.{with_padding, with_value, with_values}
+use Rattle.dbus_value_model.specs.SizeLimits.{with_padding, with_value, with_values}
 use Rattle.dbus_value_model.specs.ValueViews.{value_tree, value_trees_of, byte_values}
 use Rattle.dbus_value_model.specs.declared.value.Value.{Value, Path}
 use Rattle.dbus_value_model.proofs.ValueRows.{tree-Path}

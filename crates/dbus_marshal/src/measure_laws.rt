@@ -2,7 +2,7 @@
 //! and it does nothing when it runs. D-Bus Specification, "Marshaling (Wire Format)".
 #![tactic(auto)]
 
-ghost use Rattle.dbus_value_model.specs.Measures.{CappedTells, OffsetsRepeat};
+ghost use Rattle.dbus_value_model.specs.SizeLimits.{CappedTells, OffsetsRepeat};
 
 /// An offset is within the message's limit exactly if its capped one is, and both are one offset
 /// there.

@@ -3,8 +3,8 @@
 
 ghost use Rattle.std.specs.Prelude.{◌≡◌, ℕ, ◌+◌, ◌-◌, ◌%◌, ◌<◌, ◌≤◌, IfSome, MatchOption};
 ghost use Rattle.dbus_value_model.specs.Bytes.{gap_to};
-ghost use Rattle.dbus_value_model.specs.Measures.{capped, coded, IsCapped, IsMeasured, AreMeasured};
-ghost use Rattle.dbus_value_model.specs.ShortSignatures.{HasShortSignatures, HaveShortSignatures};
+ghost use Rattle.dbus_value_model.specs.SizeLimits.{capped, coded, IsCapped, IsMeasured, AreMeasured};
+ghost use Rattle.dbus_value_model.specs.Sizes.{HasShortSignatures, HaveShortSignatures};
 ghost use Rattle.dbus_value_model.specs.Values.{VariantValue};
 ghost use Rattle.dbus_value_model.specs.ValueViews.{value_tree, value_trees_of};
 
@@ -31,7 +31,7 @@ pub fn measure_header_field<A: Allocator>(value: &Value<A>, at: u64, limits: Lim
 }
 
 /// The offset that stands for `at`.
-#[tactic(auto, unfolding(dbus_value_model::specs::Measures::capped))]
+#[tactic(auto, unfolding(dbus_value_model::specs::SizeLimits::capped))]
 fn cap(at: u64) -> u64
     ensures exact { result ≡ capped at }
     ensures within { IsCapped result }

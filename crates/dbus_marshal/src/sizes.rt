@@ -4,8 +4,7 @@
 ghost use Rattle.std.specs.Prelude.{◌≡◌, ◌≤◌, ◌<◌, ◌^◌, IfOk, IfSome, None};
 ghost use Rattle.dbus_value_model.specs.declared.limits.TheConstants.{MESSAGE_LIMIT};
 ghost use Rattle.dbus_value_model.specs.Specification.{specification};
-ghost use Rattle.dbus_value_model.specs.ShortSignatures.{HasShortSignatures, HaveShortSignatures};
-ghost use Rattle.dbus_value_model.specs.Sizes.{item, padding, narrowed, sized, sizes, ◌⊳◌};
+ghost use Rattle.dbus_value_model.specs.Sizes.{HasShortSignatures, HaveShortSignatures, item, padding, narrowed, sized, sizes, ◌⊳◌};
 ghost use Rattle.dbus_value_model.specs.ValueViews.{value_tree, value_trees_of, byte_values};
 
 use crate::signatures::signature_length;

@@ -7,7 +7,7 @@
 
 ghost use Rattle.std.specs.Prelude.{◌≡◌, ◌+◌, ◌-◌, ◌<◌, ◌≤◌, ◌∷◌, [], ◌++◌, length, replicate, take, drop};
 ghost use Rattle.dbus_texts.specs.Types.{STRING, SIGNATURE};
-ghost use Rattle.dbus_value_model.specs.Appending.{with_padding, with_value};
+ghost use Rattle.dbus_value_model.specs.SizeLimits.{with_padding, with_value};
 ghost use Rattle.dbus_value_model.specs.Bytes.{num};
 ghost use Rattle.dbus_value_model.specs.Values.{TextValue};
 
@@ -64,7 +64,7 @@ fn write_zeros(out: &mut [u8], at: usize, end: usize)
 
 /// Writes zeros up to the next multiple of `alignment`.
 #[inline]
-#[tactic(auto, using(crate::proofs::Written::lengths), unfolding(dbus_value_model::specs::Appending::with_padding))]
+#[tactic(auto, using(crate::proofs::Written::lengths), unfolding(dbus_value_model::specs::SizeLimits::with_padding))]
 pub fn write_padding(out: &mut [u8], at: usize, alignment: u8) -> usize
     requires positive { 0 < alignment }
     requires start { at ≤ length out.old }

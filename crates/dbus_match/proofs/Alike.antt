@@ -4,14 +4,13 @@ use Rattle.std.specs.Prelude.{◌⊎◌, ◌↔◌}
 use Rattle.dbus_texts.specs.Types.{STRING}
 use Rattle.dbus_value_model.specs.Values.{TextValue}
 use Rattle.dbus_value_model.specs.declared.order.Order.{Order}
-use Rattle.dbus_message_model.specs.Lookups.{field_value}
+use Rattle.dbus_message_model.specs.KnownFields.{field_value}
 use Rattle.dbus_message_model.specs.Messages.{MessageTree}
 use Rattle.dbus_message_model.specs.declared.field_code.TheConstants as field
 use Rattle.dbus_view.specs.Views.{Views, ViewState}
 use Rattle.dbus_rule.specs.declared.key.Key.{Key}
 use Rattle.dbus_rule.specs.declared.key.Key.TheVariants.{MessageType, Sender, Interface, Member, Path, PathNamespace, Destination, Arg, ArgPath, Arg0Namespace, Eavesdrop}
-use Rattle.dbus_match.specs.Matching.{HoldsAt, IsOwned, IsThere, Matches, Ownership, text_of}
-use Rattle.dbus_match.specs.Matchers.{OwnsAlike, SenderOwnsAlike}
+use Rattle.dbus_match.specs.Matching.{HoldsAt, IsOwned, IsThere, Matches, Ownership, text_of, OwnsAlike, SenderOwnsAlike}
 use Rattle.dbus_rule.specs.Rules.{Pair}
 
 -- a narrower list

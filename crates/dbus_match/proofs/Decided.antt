@@ -2,7 +2,7 @@
 use Rattle.std.proofs.Common.{◌≡◌, ℕ, ◌⊎◌, inl, inr, List, [], ◌∷◌, ◌++◌, Option, None, Some, refl}
 use Rattle.std.proofs.lemmas.Bool.{cases_eq}
 use Rattle.dbus_message_model.specs.Messages.{MessageTree}
-use Rattle.dbus_message_model.specs.Lookups.{field_value, body_value}
+use Rattle.dbus_message_model.specs.KnownFields.{field_value, body_value}
 use Rattle.dbus_rule.specs.declared.key.Key.{Key}
 use Rattle.dbus_rule.specs.declared.key.Key.TheVariants.{MessageType, Sender, Interface, Member, Path, PathNamespace, Destination, Arg, ArgPath, Arg0Namespace, Eavesdrop}
 use Rattle.dbus_rule.specs.Rules.{Pair}

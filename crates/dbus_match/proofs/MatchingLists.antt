@@ -4,8 +4,7 @@ use Rattle.std.specs.List.{AllByRecursion}
 use Rattle.std.proofs.lemmas.List.{drop_more}
 use Rattle.dbus_rule.specs.declared.condition.Condition.{Condition}
 use Rattle.dbus_match.specs.declared.owner.Owner.{Owner}
-use Rattle.dbus_rule.specs.Rules.{Pair}
-use Rattle.dbus_rule.specs.Conditions.{condition_pair, condition_pairs}
+use Rattle.dbus_rule.specs.Rules.{Pair, condition_pair, condition_pairs}
 use Rattle.dbus_match.specs.Matching.{IsOwned, ownerships}
 
 pub owned_at : {A : Type 0} (os : List (Owner A)) (i : ℕ) (o : Owner A) (v w : List ℕ) → i < length os → o ≡ get_or os i o → (string_bytes o.name ≡ v) × (string_bytes o.unique ≡ w) → IsOwned (ownerships os) v w

@@ -1,7 +1,7 @@
 -- The first values of a body, noted one after another, and one of them found by its number.
 use Rattle.std.proofs.Common.{◌≡◌, ℕ, zero, suc, ◌<◌, List, [], ◌∷◌, ◌++◌, length, get_or, Some, sym, subst, arith, append_assoc, append-nil}
 use Rattle.dbus_value_model.specs.Values.{ValueTree, ValueTrees, NoValues, MoreValues}
-use Rattle.dbus_message_model.specs.Lookups.{body_value}
+use Rattle.dbus_message_model.specs.KnownFields.{body_value}
 use Rattle.dbus_values.specs.States.{ValuesState, AreLeft}
 use Rattle.dbus_match.specs.Arguments.{AreArguments, IsArgument}
 use Rattle.dbus_match.specs.declared.argument.Argument.{Argument}

@@ -1,8 +1,7 @@
 -- Owners of one unique name in a part of a list.
 use Rattle.std.proofs.Common.{◌≡◌, ⊎_elim, inl, inr, ℕ, List, [], ◌∷◌, ◌++◌, string_bytes, subst}
 use Rattle.dbus_match.specs.declared.owner.Owner.{Owner}
-use Rattle.dbus_match.specs.Matching.{IsOwned, Ownership, ownerships}
-use Rattle.dbus_match.specs.Matchers.{OwnsAlike}
+use Rattle.dbus_match.specs.Matching.{IsOwned, Ownership, ownerships, OwnsAlike}
 
 module _ {A : Type 0} (o : Owner A) (unique : List ℕ) (other : string_bytes o.unique ≡ unique → ⊥) where
   more_owned : (os : List (Owner A)) (name : List ℕ) → IsOwned (ownerships os) name unique → IsOwned (ownerships (os ++ o ∷ [])) name unique

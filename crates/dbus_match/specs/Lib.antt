@@ -1,4 +1,2 @@
 pub mod Matching
 pub mod Arguments
-pub mod Matchers
-pub mod Laws

@@ -4,7 +4,7 @@
 ghost use Rattle.std.specs.Prelude.{Some, IfSome};
 ghost use Rattle.dbus_value_model.specs.Values.{ValueTree, ValueTrees};
 ghost use Rattle.dbus_value_model.specs.declared.order.Order.{Order};
-ghost use Rattle.dbus_message_model.specs.Lookups.{body_value};
+ghost use Rattle.dbus_message_model.specs.KnownFields.{body_value};
 ghost use Rattle.dbus_message_model.specs.Messages.{MessageTree};
 ghost use Rattle.dbus_values.specs.Seen.{IsSeen};
 ghost use Rattle.dbus_view.specs.Views.{Views};

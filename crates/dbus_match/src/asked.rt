@@ -2,8 +2,7 @@
 #![tactic(auto)]
 
 ghost use Rattle.std.specs.Prelude.{◌≡◌, ◌⊎◌, ◌↔◌, Some, IsTrue, MatchOption, string_bytes};
-ghost use Rattle.dbus_match.specs.Matching.{IsInNamespace, IsOwned, IsWithin, PathsMeet, ownerships, type_name};
-ghost use Rattle.dbus_match.specs.Matchers.{OwnsAlike};
+ghost use Rattle.dbus_match.specs.Matching.{IsInNamespace, IsOwned, IsWithin, PathsMeet, ownerships, type_name, OwnsAlike};
 
 use crate::compare::paths_meet;
 use crate::owner::Owner;

@@ -2,7 +2,7 @@
 //! anything, beyond comparing: their contracts are the laws.
 #![tactic(auto)]
 
-ghost use Rattle.dbus_match.specs.Laws.{Decided};
+ghost use Rattle.dbus_match.specs.Matching.{Decided};
 
 pub use dbus_rule::laws::{
     canonical_spells, equal_rules, not_both, one_fault, one_rule, some_reading,

@@ -40,8 +40,7 @@ pub struct Matcher<'a, A: Allocator = Global> {
 }
 
 impl<'a, A: Allocator> Model for Matcher<'a, A> {
-    ghost use Rattle.dbus_match.specs.Matching.{ownerships};
-    ghost use Rattle.dbus_match.specs.Matchers.{MatcherState, SenderOwnsAlike};
+    ghost use Rattle.dbus_match.specs.Matching.{ownerships, MatcherState, SenderOwnsAlike};
 
     ghost Value = { MatcherState };
 

@@ -3,7 +3,7 @@
 
 ghost use Rattle.std.specs.Prelude.{◌≡◌, ℕ, Some, None, MatchOption};
 ghost use Rattle.dbus_value_model.specs.ValueViews.{value_tree};
-ghost use Rattle.dbus_message_model.specs.Lookups.{body_value, field_value};
+ghost use Rattle.dbus_message_model.specs.KnownFields.{body_value, field_value};
 ghost use Rattle.dbus_message_model.specs.MessageViews.{message_tree};
 ghost use Rattle.dbus_match.specs.Matching.{string_of, string_or_path_of, text_of};
 

@@ -3,8 +3,8 @@
 #![tactic(auto)]
 
 ghost use Rattle.dbus_header.specs.OutcomeLaws.{OneMessage, OneLength, SomeOutcome, OneOutcome, OneWhole, OneFault, WholeForGood, RefusedForGood, WiderWhole, ReadsMessages, ReadsMessageFaults};
-ghost use Rattle.dbus_message_model.specs.LimitLaws.{WiderLimits, ValidWithin};
-ghost use Rattle.dbus_header.specs.StatedLaws.{StatedHolds, WholeStates, OneStated, SomeStated};
+ghost use Rattle.dbus_message_model.specs.KeptLimits.{WiderLimits, ValidWithin};
+ghost use Rattle.dbus_header.specs.StatedLengths.{StatedHolds, WholeStates, OneStated, SomeStated};
 
 /// No message's bytes begin another message's, and bytes spell at most one message in at most one
 /// order.

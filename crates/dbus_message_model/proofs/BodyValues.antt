@@ -5,7 +5,7 @@ use Rattle.dbus_value_model.specs.PackedBytes.{keeps_bytes, keep_bytes}
 use Rattle.dbus_value_model.specs.ValueViews.{value_tree, value_trees_of}
 use Rattle.dbus_value_model.specs.declared.value.Value.{Value}
 use Rattle.dbus_value_model.proofs.Items.{item_of}
-use Rattle.dbus_message_model.specs.Lookups.{body_value}
+use Rattle.dbus_message_model.specs.KnownFields.{body_value}
 
 module _ {A : Type 0} where
   there : (xs : List (Value A)) (n : ℕ) (d : Value A) → n < length xs → body_value n (value_trees_of xs) ≡ Some (value_tree (get_or xs n d))

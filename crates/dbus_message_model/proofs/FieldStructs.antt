@@ -1,6 +1,6 @@
 -- The fields of a header as structs, one after the other.
 use Rattle.std.proofs.Common.{◌≡◌, ℕ, ◌+◌, ◌<◌, List, length, get_or, drop, map, ap, subst}
-use Rattle.dbus_value_model.specs.ShortSignatures.{HasShortSignatures, HaveShortSignatures}
+use Rattle.dbus_value_model.specs.Sizes.{HasShortSignatures, HaveShortSignatures}
 use Rattle.dbus_value_model.specs.Values.{ValueTrees, MoreValues, value_trees}
 use Rattle.dbus_message_model.specs.Messages.{FieldTree, field_struct}
 use Rattle.dbus_message_model.specs.PartsViews.{field_tree, field_trees}

@@ -9,8 +9,7 @@ use Rattle.dbus_value_model.specs.ValueViews.{value_tree}
 use Rattle.dbus_value_model.specs.declared.order.Order.TheVariants.{Little}
 use Rattle.dbus_value_model.specs.declared.value.Value.{Value, the_lemmas}
 use Rattle.dbus_value_model.specs.declared.value.Value.TheVariants as case
-use Rattle.dbus_message_model.specs.KnownFields.{WantsText, IsTextOf, WantsNumber}
-use Rattle.dbus_message_model.specs.Lookups.{field_value}
+use Rattle.dbus_message_model.specs.KnownFields.{WantsText, IsTextOf, WantsNumber, field_value}
 use Rattle.dbus_message_model.specs.Messages.{FieldTree, MessageTree, Want, Anything, OfType, Name, Serial, want, is_particular, Suits, AreFields, text_in, number_in, IsValidMessage}
 use Rattle.dbus_message_model.proofs.TextValues.{text_of}
 

@@ -5,7 +5,7 @@ use Rattle.dbus_texts.specs.declared.text_kind.TextKind.{TextKind}
 use Rattle.dbus_texts.specs.declared.text_kind.TextKind.TheVariants as kinds
 use Rattle.dbus_texts.proofs.KindFacts as facts
 use Rattle.dbus_value_model.specs.WantedTexts.{WantedText, Of, Only, IsWanted}
-use Rattle.dbus_value_model.specs.NameTexts.{IsName}
+use Rattle.dbus_value_model.specs.ComputedTexts.{IsName}
 
 as_text : (k : TextKind) (t : List ℕ) → computed.IsName k → IsWanted (Of k) t → IsWanted (Of kinds.Text) t
 as_text k t n h = facts.kind_is kinds.Text t (facts.name_is_text k t n (facts.is_kind_of k t h))

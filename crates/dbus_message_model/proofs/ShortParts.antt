@@ -2,7 +2,7 @@
 use Rattle.std.proofs.Common.{ℕ, suc, List, map}
 use Rattle.std.specs.Coded.{×_prop, Unit-prop, le_prop}
 use Rattle.dbus_texts.specs.Types.{STRING, OBJECT_PATH, SIGNATURE}
-use Rattle.dbus_value_model.specs.ShortSignatures.{HasShortSignatures, HaveShortSignatures}
+use Rattle.dbus_value_model.specs.Sizes.{HasShortSignatures, HaveShortSignatures}
 use Rattle.dbus_value_model.specs.Values.{ValueTree, ValueTrees, NoValues, MoreValues, NumberValue, TextValue, VariantValue, ArrayValue, StructValue, EntryValue, value_trees, IsWellFormed, AreWellFormed}
 use Rattle.dbus_value_model.proofs.ShortLaws.{all_short}
 use Rattle.dbus_message_model.specs.Messages.{FieldTree, field_struct, field_array}

@@ -2,7 +2,7 @@
 use Rattle.std.proofs.Common.{ℕ, ◌<◌, List, length, Bool, true, false, cond, eqb, arith}
 use Rattle.dbus_texts.specs.Types.{IsBasic, IsSingleType}
 use Rattle.dbus_value_model.specs.WantedTexts.{IsWanted}
-use Rattle.dbus_value_model.specs.NameTexts.{IsName}
+use Rattle.dbus_value_model.specs.ComputedTexts.{IsName}
 use Rattle.dbus_message_model.specs.Messages.{Want, Anything, OfType, Name, Serial, want}
 
 abbrev pub WantOk : Want → Type 0

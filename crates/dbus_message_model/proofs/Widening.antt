@@ -5,14 +5,13 @@ use Rattle.dbus_value_model.specs.declared.order.Order.{Order}
 use Rattle.dbus_value_model.specs.declared.order.Order.TheVariants.{Little}
 use Rattle.dbus_value_model.specs.declared.limits.Limits.{Limits}
 use Rattle.dbus_value_model.specs.Specification.{specification}
-use Rattle.dbus_message_model.specs.KeptLimits.{KeepsLimits}
+use Rattle.dbus_message_model.specs.KeptLimits.{KeepsLimits, AreWider, WiderLimits, ValidWithin}
 use Rattle.dbus_value_model.specs.FdIndexes.{index_limit, AreAllBelow}
 use Rattle.dbus_value_model.specs.declared.fd_rule.FdRule.{FdRule}
 use Rattle.dbus_value_model.specs.declared.fd_rule.FdRule.TheVariants.{Any}
 use Rattle.dbus_value_model.proofs.Formed.{formed_of, all_formed_of, parts_of, all_parts_of}
 use Rattle.dbus_value_model.proofs.Indexes.{any_all_below}
 use Rattle.dbus_message_model.specs.Messages.{MessageTree, IsMessage, field_array, body_start, fd_count, KeepsIndexes, IsValidMessage}
-use Rattle.dbus_message_model.specs.LimitLaws.{AreWider, WiderLimits, ValidWithin}
 use Rattle.dbus_message_model.proofs.BothOrders.{message_under, any_within, any_within_all, any_body_start, any_message_length}
 use Rattle.dbus_value_model.specs.Bytes.{gap_to}
 use Rattle.dbus_value_model.specs.Forming.{NestsWithin, NestWithin}

@@ -1,12 +1,8 @@
 pub mod Messages
 pub mod PartsViews
 pub mod MessageViews
-pub mod Lookups
-pub mod WantViews
+pub mod KnownFields
 pub mod SingleTypes
-pub mod MissingFields
 pub mod KeptLimits
 pub mod PackedParts
 pub mod PackedMessages
-pub mod LimitLaws
-pub mod KnownFields

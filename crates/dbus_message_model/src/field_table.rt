@@ -3,7 +3,7 @@
 
 ghost use Rattle.std.specs.Prelude.{◌≡◌};
 ghost use Rattle.dbus_message_model.specs.Messages.{want, is_known};
-ghost use Rattle.dbus_message_model.specs.WantViews.{want_of};
+ghost use Rattle.dbus_message_model.specs.KnownFields.{want_of};
 
 use crate::field_code::{
     DESTINATION, ERROR_NAME, INTERFACE, MEMBER, PATH, REPLY_SERIAL, SENDER, SIGNATURE, UNIX_FDS,

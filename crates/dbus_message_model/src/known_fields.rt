@@ -3,7 +3,7 @@
 
 ghost use Rattle.std.specs.Prelude.{◌≡◌, ◌&&◌};
 ghost use Rattle.dbus_value_model.specs.ValueViews.{value_tree};
-ghost use Rattle.dbus_message_model.specs.MissingFields.{IsMissing};
+ghost use Rattle.dbus_message_model.specs.KnownFields.{IsMissing};
 ghost use Rattle.dbus_message_model.specs.Messages.{has_code, is_known, lacks, required, text_in, body_signature, number_in, fd_count};
 ghost use Rattle.dbus_message_model.specs.PartsViews.{field_trees};
 

@@ -4,7 +4,7 @@
 ghost use Rattle.std.specs.Prelude.{◌≡◌, Some, None, IsTrue, IfSome, MatchOption};
 ghost use Rattle.dbus_value_model.specs.PackedBytes.{keeps_bytes};
 ghost use Rattle.dbus_value_model.specs.ValueViews.{value_tree};
-ghost use Rattle.dbus_message_model.specs.Lookups.{field_value, body_value};
+ghost use Rattle.dbus_message_model.specs.KnownFields.{field_value, body_value};
 ghost use Rattle.dbus_message_model.specs.MessageViews.{message_tree};
 
 use crate::message::Message;

@@ -5,7 +5,7 @@ ghost use Rattle.std.specs.Prelude.{◌≡◌, Some, None, MatchOption};
 ghost use Rattle.dbus_texts.specs.Types.{UINT32, STRING, OBJECT_PATH, SIGNATURE};
 ghost use Rattle.dbus_value_model.specs.Values.{NumberValue, TextValue};
 ghost use Rattle.dbus_message_model.specs.Messages.{want};
-ghost use Rattle.dbus_message_model.specs.Lookups.{field_value};
+ghost use Rattle.dbus_message_model.specs.KnownFields.{field_value};
 ghost use Rattle.dbus_message_model.specs.MessageViews.{message_tree};
 
 use crate::field_code;

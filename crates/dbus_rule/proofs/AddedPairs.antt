@@ -5,9 +5,8 @@ use Rattle.std.specs.List.{AllByRecursion}
 use Rattle.dbus_rule.specs.declared.key.Key.{Key}
 use Rattle.dbus_rule.specs.declared.key.Key.TheVariants.{Path, PathNamespace}
 use Rattle.dbus_rule.specs.Keys.{IsValueOf, rank}
-use Rattle.dbus_rule.specs.Rules.{Pair, IsIn, HasKey, IsPair, IsAscending, AreApart}
+use Rattle.dbus_rule.specs.Rules.{Pair, IsIn, HasKey, IsPair, IsAscending, AreApart, insert_pair}
 use Rattle.dbus_rule.specs.Faults.{Excluded, IsNew, AreGood}
-use Rattle.dbus_rule.specs.Conditions.{insert_pair}
 use Rattle.dbus_rule.proofs.Inserts.{insert_ascends, insert_has}
 use Rattle.dbus_rule.proofs.Members.{in_all, has_key, new_members}
 use Rattle.dbus_rule.proofs.Parts.{all_front, all_back, all_join}

@@ -2,9 +2,7 @@
 use Rattle.std.proofs.Common.{◌≡◌, ℕ, zero, suc, ◌+◌, ◌<◌, ◌≤◌, List, [], ◌∷◌, length, drop, get_or, None, Some, if◌then◌else◌, inl, inr, refl, sym, ap, ◌∙◌, string_bytes, arith}
 use Rattle.dbus_rule.specs.declared.key.Key.{Key}
 use Rattle.dbus_rule.specs.declared.condition.Condition.{Condition}
-use Rattle.dbus_rule.specs.Rules.{HasKey, IsIn}
-use Rattle.dbus_rule.specs.Conditions.{condition_pairs}
-use Rattle.dbus_rule.specs.Senders.{is_sender, sender_of}
+use Rattle.dbus_rule.specs.Rules.{HasKey, IsIn, condition_pairs, is_sender, sender_of}
 
 pub has_at : {A : Type 0} (cs : List (Condition A)) (i : ℕ) (c : Condition A) (k : Key) → i < length cs → c ≡ get_or cs i c → c.key ≡ k → HasKey k (condition_pairs cs)
 has_at [] i c k l e f = absurd (omega (arith, l))

@@ -2,8 +2,7 @@
 use Rattle.std.proofs.Common.{◌≡◌, List, [], ◌∷◌, refl, sym, subst}
 use Rattle.std.specs.List.{AllZip}
 use Rattle.dbus_rule.specs.declared.condition.Condition.{Condition}
-use Rattle.dbus_rule.specs.Rules.{IsRule}
-use Rattle.dbus_rule.specs.Conditions.{condition_pair, condition_pairs}
+use Rattle.dbus_rule.specs.Rules.{IsRule, condition_pair, condition_pairs}
 
 -- copies of conditions are the same pairs
 pub conditions_copied : {A : Type 0} (cs ds : List (Condition A))

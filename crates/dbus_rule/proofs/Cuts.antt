@@ -3,10 +3,8 @@ use Rattle.std.proofs.Common.{◌≡◌, ◌≢◌, ℕ, ◌+◌, Bool, true, fa
 use Rattle.std.specs.List.{AllByRecursion}
 use Rattle.std.proofs.lemmas.Bool.{cond_both, and_parts, eqb-true, eqb-false, false≢true}
 use Rattle.dbus_rule.specs.declared.value_cut.Mode.TheVariants.{Outside, Escape, Inside}
-use Rattle.dbus_rule.specs.Values.{Piece, quoted, escaped, plain, piece_text, piece_value, pieces_text, pieces_value, NoQuoteFirst, IsPiece}
-use Rattle.dbus_rule.specs.Readings.{IsReading}
+use Rattle.dbus_rule.specs.Values.{Piece, quoted, escaped, plain, piece_text, piece_value, pieces_text, pieces_value, NoQuoteFirst, IsPiece, IsReading, Reading, closed, open_at, quote_first, scan}
 use Rattle.dbus_rule.proofs.Parts.{all_join}
-use Rattle.dbus_rule.specs.Scans.{Reading, closed, open_at, quote_first, scan}
 
 -- a piece, and the reading of what stands after it
 piece_reading : (p : Piece) (n : ℕ) (v w c : List ℕ) (x : Reading) → IsPiece p c → w ≡ piece_text p ++ c → IsReading (n + length (piece_text p)) (v ++ piece_value p) c x → IsReading n v w x

@@ -6,8 +6,7 @@ use Rattle.std.proofs.lemmas.Slice.Eq.{slice_eq-Decides}
 use Rattle.std.specs.Cmp.Lexicographic.{pointwise}
 use Rattle.dbus_rule.specs.declared.key.Key.{Key}
 use Rattle.dbus_rule.specs.declared.key.Key.TheVariants.{MessageType, Sender, Interface, Member, Path, PathNamespace, Destination, Arg, ArgPath, Arg0Namespace, Eavesdrop}
-use Rattle.dbus_rule.specs.Keys.{key_text, IsKey}
-use Rattle.dbus_rule.specs.KeyReadings.{IsArgumentKey, IsNamed}
+use Rattle.dbus_rule.specs.Keys.{key_text, IsKey, IsArgumentKey, IsNamed}
 
 pub differs : (w z t : List ℕ) (r : Bool) → r ≡ pointwise eqb w z → z ≡ t → r ≡ false → w ≡ t → ⊥
 differs w z t r e f n g = let d = slice_eq-Decides Decides-eqb w z r e in false≢true (sym n ∙ d.1 (g ∙ sym f))

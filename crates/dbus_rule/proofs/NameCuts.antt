@@ -2,8 +2,7 @@
 use Rattle.std.proofs.Common.{◌≡◌, ℕ, zero, suc, List, [], ◌∷◌, ◌++◌, refl, sym, ap, ◌∙◌, subst, append_assoc, replicate, arith, ◌+◌, length}
 use Rattle.std.specs.List.{AllByRecursion}
 use Rattle.dbus_rule.specs.Keys.{key_text, IsKey}
-use Rattle.dbus_rule.specs.Values.{pieces_text}
-use Rattle.dbus_rule.specs.Readings.{Ends}
+use Rattle.dbus_rule.specs.Values.{pieces_text, Ends}
 use Rattle.dbus_rule.specs.Rules.{Item, item_text}
 use Rattle.dbus_rule.specs.Faults.{NoSpaceFirst, IsNameByte, IsNoEquals, HasName}
 use Rattle.dbus_rule.proofs.KeyTexts.{key_names, key_first}

@@ -1,16 +1,14 @@
 -- What the cut of a name says of the text.
-use Rattle.std.proofs.Common.{◌≡◌, ℕ, zero, suc, ◌+◌, ◌-◌, ◌<◌, ◌≤◌, List, [], ◌∷◌, ◌++◌, length, drop, take, replicate, refl, sym, ap, ◌∙◌, subst, append_assoc, arith, length-append, length-drop, Some, None}
+use Rattle.std.proofs.Common.{◌≡◌, ℕ, zero, suc, ◌+◌, ◌-◌, ◌<◌, ◌≤◌, List, [], ◌∷◌, ◌++◌, length, drop, take, replicate, refl, sym, ap, ◌∙◌, subst, append_assoc, arith, length-append, length-drop, Some, None, eqb}
 use Rattle.std.proofs.Math.Seq.{take-append_seam, drop-append_seam}
 use Rattle.std.proofs.lemmas.List.{take-append-drop, length-take-le}
 use Rattle.std.proofs.lemmas.Bool.{cond_both, eqb-true, eqb-false}
-use Rattle.std.proofs.Common.{eqb}
 use Rattle.std.specs.List.{AllByRecursion}
 use Rattle.dbus_rule.specs.declared.key.Key.{Key}
 use Rattle.dbus_rule.specs.declared.fault.RuleReason.{RuleReason}
 use Rattle.dbus_rule.specs.declared.fault.RuleReason.TheVariants.{KeyName, KeyTwice, PathAndNamespace}
-use Rattle.dbus_rule.specs.Keys.{key_text, IsKey}
-use Rattle.dbus_rule.specs.KeyReadings.{IsNamed}
-use Rattle.dbus_rule.specs.Readings.{Ends}
+use Rattle.dbus_rule.specs.Keys.{key_text, IsKey, IsNamed}
+use Rattle.dbus_rule.specs.Values.{Ends}
 use Rattle.dbus_rule.specs.Rules.{Pair}
 use Rattle.dbus_rule.specs.Faults.{NoSpaceFirst, IsNameByte, IsNoEquals, HasName, IsNamedFault, IsPairFault}
 use Rattle.dbus_rule.specs.PairReadings.{NameCut, equals_at, none_at, name_cut, IsClash, IsKeyAt}

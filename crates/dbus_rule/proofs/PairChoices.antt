@@ -14,13 +14,10 @@ use Rattle.dbus_rule.specs.declared.fault.RuleReason.{RuleReason}
 use Rattle.dbus_rule.specs.declared.fault.RuleReason.TheVariants.{NoEquals, KeyName, KeyTwice, PathAndNamespace, OpenQuote, BadValue}
 use Rattle.dbus_rule.specs.declared.value_cut.Mode.TheVariants.{Outside}
 use Rattle.dbus_rule.specs.Faults.{Excluded, NoSpaceFirst}
-use Rattle.dbus_rule.specs.KeyReadings.{IsNamed}
-use Rattle.dbus_rule.specs.Keys.{key_text, IsKey, IsValueOf}
+use Rattle.dbus_rule.specs.Keys.{IsNamed, key_text, IsKey, IsValueOf}
 use Rattle.dbus_rule.specs.PairReadings.{NameCut, equals_at, none_at, name_cut, IsClash, IsFaultAt, IsKeyAt, IsPairAt}
-use Rattle.dbus_rule.specs.Readings.{IsClosed}
+use Rattle.dbus_rule.specs.Values.{IsClosed, Reading, closed, open_at, scan, pieces_text}
 use Rattle.dbus_rule.specs.Rules.{Pair, HasKey, IsPair}
-use Rattle.dbus_rule.specs.Scans.{Reading, closed, open_at, scan}
-use Rattle.dbus_rule.specs.Values.{pieces_text}
 use Rattle.dbus_rule.proofs.Choices.{Either, one_of, same}
 use Rattle.dbus_rule.proofs.KeyNames.{key_named}
 use Rattle.dbus_rule.proofs.KeyTexts.{named, key_or, key_same}

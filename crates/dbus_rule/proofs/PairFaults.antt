@@ -4,8 +4,7 @@ use Rattle.dbus_rule.specs.declared.key.Key.{Key}
 use Rattle.dbus_rule.specs.declared.fault.RuleReason.{RuleReason}
 use Rattle.dbus_rule.specs.declared.fault.RuleReason.TheVariants.{Nul, NoEquals, KeyName, KeyTwice, PathAndNamespace, OpenQuote, BadValue}
 use Rattle.dbus_rule.specs.Keys.{key_text, IsKey, IsValueOf}
-use Rattle.dbus_rule.specs.Values.{pieces_text, pieces_value, ArePieces}
-use Rattle.dbus_rule.specs.Readings.{Ends, IsOpen}
+use Rattle.dbus_rule.specs.Values.{pieces_text, pieces_value, ArePieces, Ends, IsOpen}
 use Rattle.dbus_rule.specs.Rules.{Pair, Item, item_text}
 use Rattle.dbus_rule.specs.Faults.{IsNew, IsBad, IsFaultOfKey, IsKeyed, IsFaultOfName, IsNamedFault, IsPairFault}
 use Rattle.dbus_rule.proofs.Pieces.{pieces_same, open_same, open_not_closed}

@@ -8,8 +8,7 @@ use Rattle.dbus_rule.specs.declared.fault.RuleFault.{RuleFault}
 use Rattle.dbus_rule.specs.declared.fault.RuleFault.TheVariants.{Memory, Bad}
 use Rattle.dbus_rule.specs.declared.fault.RuleReason.TheVariants.{OpenQuote, BadValue}
 use Rattle.dbus_rule.specs.Keys.{key_text, IsValueOf}
-use Rattle.dbus_rule.specs.Values.{pieces_text}
-use Rattle.dbus_rule.specs.Readings.{IsOpen, IsClosed}
+use Rattle.dbus_rule.specs.Values.{pieces_text, IsOpen, IsClosed}
 use Rattle.dbus_rule.specs.Rules.{Pair}
 use Rattle.dbus_rule.specs.Faults.{HasName}
 use Rattle.dbus_rule.specs.PairReadings.{IsOpenFault, IsFaultAt, IsKeyAt}

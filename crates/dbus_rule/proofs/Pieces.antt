@@ -3,9 +3,7 @@ use Rattle.std.proofs.lemmas.Bool.{eqb-true, ne_eqb}
 use Rattle.std.proofs.Common.{◌≡◌, ◌≢◌, ℕ, ◌+◌, Bool, true, false, ◌&&◌, eqb, List, [], ◌∷◌, ◌++◌, refl, sym, ap, ◌∙◌, append_assoc, append-nil, length, arith, length-append}
 use Rattle.std.specs.List.{AllByRecursion}
 use Rattle.dbus_rule.specs.declared.value_cut.Mode.TheVariants.{Outside, Inside}
-use Rattle.dbus_rule.specs.Values.{Piece, quoted, escaped, plain, piece_text, piece_value, pieces_text, pieces_value, NoQuoteFirst, IsPiece, ArePieces}
-use Rattle.dbus_rule.specs.Scans.{Reading, closed, open_at, quote_first, scan}
-use Rattle.dbus_rule.specs.Readings.{Ends}
+use Rattle.dbus_rule.specs.Values.{Piece, quoted, escaped, plain, piece_text, piece_value, pieces_text, pieces_value, NoQuoteFirst, IsPiece, ArePieces, Reading, closed, open_at, quote_first, scan, Ends}
 use Rattle.dbus_rule.proofs.ScanSteps.{at_comma, at_quote, at_escape, at_plain, no_quote_after, after_escape, in_quote_end, in_quote}
 
 same_state : (m n : ℕ) (u v r : List ℕ) → m ≡ n → u ≡ v → scan Outside m u r ≡ scan Outside n v r

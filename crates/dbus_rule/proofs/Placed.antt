@@ -5,8 +5,7 @@ use Rattle.std.specs.List.{prefix_len, insert}
 use Rattle.std.proofs.lemmas.Bool.{cond-true, cond-false, ltb-true, ltb-false}
 use Rattle.dbus_rule.specs.declared.condition.Condition.{Condition}
 use Rattle.dbus_rule.specs.Keys.{rank}
-use Rattle.dbus_rule.specs.Rules.{Pair, IsAbove, IsAscending, IsIn}
-use Rattle.dbus_rule.specs.Conditions.{condition_pair, condition_pairs, insert_pair}
+use Rattle.dbus_rule.specs.Rules.{Pair, IsAbove, IsAscending, IsIn, condition_pair, condition_pairs, insert_pair}
 use Rattle.dbus_rule.proofs.Inserts.{AreBelow}
 
 -- conditions: the insertion at the first that is not below

@@ -11,13 +11,11 @@ use Rattle.dbus_rule.specs.declared.fault.RuleReason.TheVariants.{Nul}
 use Rattle.dbus_rule.specs.declared.fault.RuleFault.{RuleFault}
 use Rattle.dbus_rule.specs.declared.fault.RuleFault.TheVariants.{Memory, Bad}
 use Rattle.dbus_rule.specs.Keys.{key_text, IsKey}
-use Rattle.dbus_rule.specs.Values.{Piece, quoted, escaped, plain, piece_text, piece_value, pieces_text, pieces_value, NoQuoteFirst, IsPiece, ArePieces}
-use Rattle.dbus_rule.specs.Readings.{Ends}
-use Rattle.dbus_rule.specs.Rules.{Pair, IsIn, IsPair, IsRule, IsAscending, Item, item_text, pair_of, pairs_of, each_with_comma, AreItems, spaces_alone, one_more, SpellsRule}
+use Rattle.dbus_rule.specs.Values.{Piece, quoted, escaped, plain, piece_text, piece_value, pieces_text, pieces_value, NoQuoteFirst, IsPiece, ArePieces, Ends}
+use Rattle.dbus_rule.specs.Rules.{Pair, IsIn, IsPair, IsRule, IsAscending, Item, item_text, pair_of, pairs_of, each_with_comma, AreItems, spaces_alone, one_more, SpellsRule, insert_pair}
 use Rattle.dbus_rule.specs.Faults.{AreGood, NoSpaceFirst, IsPairFault, HasPairFault, IsFault}
-use Rattle.dbus_rule.specs.Conditions.{insert_pair}
 use Rattle.dbus_rule.specs.PairReadings.{IsPairAt, IsFaultAt}
-use Rattle.dbus_rule.specs.RuleReadings.{IsRuleFault}
+use Rattle.dbus_rule.specs.RuleViews.{IsRuleFault}
 use Rattle.dbus_rule.proofs.AddedPairs.{AreAdded, added}
 use Rattle.dbus_rule.proofs.FaultMoves.{length_spaces, pair_fault_members, pair_fault_shift}
 use Rattle.dbus_rule.proofs.Members.{keys_along}

@@ -2,8 +2,7 @@
 use Rattle.std.proofs.Common.{◌≡◌, ℕ, ◌+◌, ◌<◌, List, [], ◌∷◌, ◌++◌, ◌⊎◌, ⊎_elim, length, get_or, take, refl, sym, ap, ◌∙◌, subst, append_assoc, arith}
 use Rattle.std.proofs.lemmas.List.{length-take-le, take_more}
 use Rattle.dbus_rule.specs.declared.condition.Condition.{Condition}
-use Rattle.dbus_rule.specs.Rules.{Pair, canonical, pair_text}
-use Rattle.dbus_rule.specs.Conditions.{condition_pair, condition_pairs}
+use Rattle.dbus_rule.specs.Rules.{Pair, canonical, pair_text, condition_pair, condition_pairs}
 
 canonical_snoc : (ps : List Pair) (p : Pair) → 0 < length ps → canonical (ps ++ p ∷ []) ≡ canonical ps ++ 44 ∷ pair_text p
 canonical_snoc [] p l = absurd (omega (arith, l))

@@ -9,8 +9,7 @@ use Rattle.dbus_rule.specs.declared.key.Key.{Key}
 use Rattle.dbus_rule.specs.declared.key.Key.TheVariants.{MessageType}
 use Rattle.dbus_rule.specs.declared.rule.Rule.{Rule}
 use Rattle.dbus_rule.specs.contracts.key.KeyPartialEq.TheImpl as key_eq
-use Rattle.dbus_rule.specs.Rules.{Pair}
-use Rattle.dbus_rule.specs.Conditions.{condition_pair, condition_pairs}
+use Rattle.dbus_rule.specs.Rules.{Pair, condition_pair, condition_pairs}
 use Rattle.dbus_rule.specs.RuleViews.{AreSameRule}
 
 keys_equal : (a b : Key) → Decides (key_eq.ghosts.eq a b) (a ≡ b)

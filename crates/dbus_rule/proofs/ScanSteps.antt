@@ -1,9 +1,8 @@
 -- One byte of a reading.
-use Rattle.std.proofs.Common.{◌≡◌, ◌≢◌, ℕ, ◌+◌, true, false, ◌&&◌, eqb, List, [], ◌∷◌, ◌++◌, sym, ap, ◌∙◌}
+use Rattle.std.proofs.Common.{◌≡◌, ◌≢◌, ℕ, ◌+◌, true, false, ◌&&◌, eqb, List, [], ◌∷◌, ◌++◌, sym, ap, ◌∙◌, eq-eqb}
 use Rattle.std.proofs.lemmas.Bool.{cond-true, cond-false, ne_eqb, and_right}
-use Rattle.std.proofs.Common.{eq-eqb}
 use Rattle.dbus_rule.specs.declared.value_cut.Mode.TheVariants.{Outside, Escape, Inside}
-use Rattle.dbus_rule.specs.Scans.{closed, quote_first, scan}
+use Rattle.dbus_rule.specs.Values.{closed, quote_first, scan}
 
 pub at_comma : (n : ℕ) (v w : List ℕ) (b : ℕ) (c : List ℕ) → w ≡ b ∷ c → b ≡ 44 → scan Outside n v w ≡ closed v n w
 at_comma n v w b c e h = ap (λ x. scan Outside n v x) e ∙ cond-true _ _ _ (eq-eqb b 44 h) ∙ ap (λ x. closed v n x) (sym e)

@@ -7,11 +7,10 @@ use Rattle.std.proofs.lemmas.List.{length-replicate}
 use Rattle.dbus_rule.specs.declared.fault.RuleFault.TheVariants.{Bad}
 use Rattle.dbus_rule.specs.declared.fault.RuleReason.{RuleReason}
 use Rattle.dbus_rule.specs.declared.fault.RuleReason.TheVariants.{Nul}
-use Rattle.dbus_rule.specs.Conditions.{insert_pair}
+use Rattle.dbus_rule.specs.Rules.{insert_pair, Pair, SpellsRule}
 use Rattle.dbus_rule.specs.Faults.{IsFault}
 use Rattle.dbus_rule.specs.Laws.{SomeReading}
 use Rattle.dbus_rule.specs.PairReadings.{IsPairAt}
-use Rattle.dbus_rule.specs.Rules.{Pair, SpellsRule}
 use Rattle.dbus_rule.proofs.Nuls.{nul_at, no_nul_in}
 use Rattle.dbus_rule.proofs.PairChoices.{Choice, pair_or_fault}
 use Rattle.dbus_rule.proofs.PairReadings.{value_ends}

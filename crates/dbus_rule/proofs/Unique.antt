@@ -2,9 +2,8 @@
 use Rattle.std.proofs.Common.{◌≡◌, ℕ, List, [], ◌∷◌, ◌++◌, refl, sym, ap, ◌∙◌, subst, append_assoc, append-nil, replicate, arith}
 use Rattle.dbus_rule.specs.declared.key.Key.{Key}
 use Rattle.dbus_rule.specs.Keys.{key_text, IsKey}
-use Rattle.dbus_rule.specs.Values.{Piece, quoted, escaped, plain, pieces_text, pieces_value, NoQuoteFirst, IsPiece, ArePieces}
+use Rattle.dbus_rule.specs.Values.{Piece, quoted, escaped, plain, pieces_text, pieces_value, NoQuoteFirst, IsPiece, ArePieces, Ends}
 use Rattle.dbus_rule.specs.Rules.{Pair, Item, item_text, pair_of, pairs_of, each_with_comma, AreItems, Last, spaces_alone, one_more, last_text, last_pairs, IsLast, GivesPairs, SpellsRule, IsIn}
-use Rattle.dbus_rule.specs.Readings.{Ends}
 use Rattle.dbus_rule.proofs.Pieces.{pieces_same}
 use Rattle.dbus_rule.specs.Faults.{HasName}
 use Rattle.dbus_rule.proofs.KeyTexts.{key_same}

@@ -3,9 +3,7 @@ use Rattle.std.proofs.Common.{◌≡◌, ℕ, List, [], drop, sym, ap, ◌∙◌
 use Rattle.dbus_rule.specs.declared.value_cut.Mode.TheVariants.{Outside}
 use Rattle.dbus_rule.specs.declared.value_cut.Cut.{Cut}
 use Rattle.dbus_rule.specs.declared.value_cut.Cut.TheVariants.{Closed, Open}
-use Rattle.dbus_rule.specs.Scans.{closed, open_at, scan}
-use Rattle.dbus_rule.specs.Cuts.{cut_of}
-use Rattle.dbus_rule.specs.Readings.{IsClosed, IsOpen, IsReading}
+use Rattle.dbus_rule.specs.Values.{closed, open_at, scan, cut_of, IsClosed, IsOpen, IsReading}
 use Rattle.dbus_rule.proofs.Cuts.{scan_outside}
 
 pub reads_closed : {A : Type 0} (w t : List ℕ) (from : ℕ) (x : Cut A) (b : Vec ℕ A) (m : ℕ) → t ≡ w → cut_of t x ≡ scan Outside from [] (drop from t) → x ≡ Closed b m → scan Outside from [] (drop from w) ≡ closed b.items m (drop m w)

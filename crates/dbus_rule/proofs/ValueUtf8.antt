@@ -6,7 +6,7 @@ use Rattle.std.proofs.lemmas.Bool.{cond_both, and_parts, ltb-true, ltb-false}
 use Rattle.std.proofs.lemmas.Str.{IsUtf8-append, IsUtf8-nil, encode_ascii, inside_one, length-encode, len_utf8_bounds}
 use lib.Utf8.{encode, encodes, scalar, scalars}
 use Rattle.dbus_rule.specs.declared.value_cut.Mode.TheVariants.{Outside, Escape, Inside}
-use Rattle.dbus_rule.specs.Scans.{Reading, closed, quote_first, scan}
+use Rattle.dbus_rule.specs.Values.{Reading, closed, quote_first, scan}
 use Rattle.dbus_rule.proofs.ScanSteps.{at_plain, no_escape, after_escape, in_quote}
 use Rattle.dbus_rule.proofs.Pieces.{reading_value}
 

@@ -1,15 +1,15 @@
 -- Why a text spells no rule, and where: the first pair from the left that cannot stand. D-Bus
 -- Specification, "Match Rules"; the order of the faults and their places are this project's own.
-use Rattle.std.specs.Prelude.{◌≡◌, ◌≢◌, ℕ, ◌+◌, List, [], ◌∷◌, ◌++◌, length, replicate}
+use Rattle.std.specs.Prelude.{◌≡◌, ◌≢◌, ℕ, ◌+◌, List, [], ◌∷◌, ◌++◌, length, replicate, codes}
 use Rattle.std.specs.List.{AllByRecursion}
 use Rattle.dbus_rule.specs.declared.key.Key.{Key}
 use Rattle.dbus_rule.specs.declared.key.Key.TheVariants.{Path, PathNamespace}
 use Rattle.dbus_rule.specs.declared.fault.RuleReason.{RuleReason}
 use Rattle.dbus_rule.specs.declared.fault.RuleReason.TheVariants.{Nul, NoEquals, KeyName, KeyTwice, PathAndNamespace, OpenQuote, BadValue}
 use Rattle.dbus_rule.specs.Keys.{key_text, IsKey, IsValueOf}
-use Rattle.dbus_rule.specs.Values.{Piece, pieces_text, pieces_value, ArePieces}
-use Rattle.dbus_rule.specs.Readings.{Ends, IsOpen}
+use Rattle.dbus_rule.specs.Values.{Piece, pieces_text, pieces_value, ArePieces, Ends, IsOpen}
 use Rattle.dbus_rule.specs.Rules.{Pair, HasKey, Item, pairs_of, each_with_comma, AreItems, AreApart}
+use Rattle.dbus_rule.specs.declared.fault.RuleReason.TheVariants as reason
 
 -- the first U+0000
 pub record IsNul (w : List ℕ) (at : ℕ) : Type 0 where
@@ -114,3 +114,14 @@ pub record HasPairFault (w : List ℕ) (reason : RuleReason) (at : ℕ) : Type 0
 abbrev pub IsFault : List ℕ → RuleReason → ℕ → Type 0
 IsFault w Nul at = IsNul w at
 IsFault w reason at = HasPairFault w reason at
+
+-- The texts of the reasons why a text spells no rule.
+
+abbrev pub rule_reason_text : RuleReason → List ℕ
+rule_reason_text reason.Nul = codes "Nul"
+rule_reason_text reason.NoEquals = codes "NoEquals"
+rule_reason_text reason.KeyName = codes "KeyName"
+rule_reason_text reason.KeyTwice = codes "KeyTwice"
+rule_reason_text reason.PathAndNamespace = codes "PathAndNamespace"
+rule_reason_text reason.OpenQuote = codes "OpenQuote"
+rule_reason_text reason.BadValue = codes "BadValue"

@@ -2,11 +2,11 @@
 -- Specification, "Match Rules". By this project's own choice `destination` takes any bus name
 -- (there: a unique name), and `arg0namespace` any text (there: like a bus name, with or without a
 -- period).
-use Rattle.std.specs.Prelude.{◌≡◌, ℕ, ◌+◌, ◌<◌, ◌/◌, ◌%◌, ◌⊎◌, List, [], ◌∷◌, ◌++◌, ltb, if◌then◌else◌, codes}
-use Rattle.dbus_rule.specs.declared.key.Key.{Key}
-use Rattle.dbus_rule.specs.declared.key.Key.TheVariants.{MessageType, Sender, Interface, Member, Path, PathNamespace, Destination, Arg, ArgPath, Arg0Namespace, Eavesdrop}
+use Rattle.std.specs.Prelude.{◌≡◌, ℕ, ◌+◌, ◌<◌, ◌/◌, ◌%◌, ◌⊎◌, List, [], ◌∷◌, ◌++◌, ltb, if◌then◌else◌, codes, Option, Some, None}
 use Rattle.dbus_texts.specs.declared.text_kind.TextKind.TheVariants as kinds
 use Rattle.dbus_texts.specs.Kinds.{IsKind}
+use Rattle.dbus_rule.specs.declared.key.Key.{Key}
+use Rattle.dbus_rule.specs.declared.key.Key.TheVariants.{MessageType, Sender, Interface, Member, Path, PathNamespace, Destination, Arg, ArgPath, Arg0Namespace, Eavesdrop}
 
 -- the decimal digits of a number below 100, with no leading zero
 abbrev pub digits : ℕ → List ℕ
@@ -73,3 +73,21 @@ IsValueOf (Arg n) v = Unit {0}
 IsValueOf (ArgPath n) v = Unit {0}
 IsValueOf Arg0Namespace v = Unit {0}
 IsValueOf Eavesdrop v = IsBoolName v
+
+-- What the reading of a key's name answers.
+-- D-Bus Specification, "Match Rules".
+
+-- the key that a name is, or that it is none
+abbrev pub IsNamed : List ℕ → Option Key → Type 0
+IsNamed w None = (k : Key) → IsKey k → w ≡ key_text k → ⊥
+IsNamed w (Some k) = IsKey k × (w ≡ key_text k)
+
+-- the number of an argument, in digits without a leading zero
+abbrev pub IsNumber : List ℕ → Option ℕ → Type 0
+IsNumber w None = (n : ℕ) → n < 64 → w ≡ digits n → ⊥
+IsNumber w (Some n) = (n < 64) × (w ≡ digits n)
+
+-- the key of an argument that a name is, or that it is none
+abbrev pub IsArgumentKey : List ℕ → Option Key → Type 0
+IsArgumentKey w None = (n : ℕ) → n < 64 → (w ≡ key_text (Arg n) → ⊥) × (w ≡ key_text (ArgPath n) → ⊥)
+IsArgumentKey w (Some k) = IsKey k × (w ≡ key_text k)

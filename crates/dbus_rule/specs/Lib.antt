@@ -1,15 +1,7 @@
 pub mod Keys
 pub mod Values
-pub mod Scans
 pub mod Rules
-pub mod Senders
-pub mod Readings
-pub mod Cuts
 pub mod Faults
 pub mod Laws
-pub mod KeyReadings
-pub mod Conditions
 pub mod PairReadings
-pub mod RuleReadings
 pub mod RuleViews
-pub mod FaultTexts

@@ -7,7 +7,7 @@ use Rattle.dbus_rule.specs.declared.fault.RuleFault.TheVariants.{Memory, Bad}
 use Rattle.dbus_rule.specs.declared.fault.RuleReason.{RuleReason}
 use Rattle.dbus_rule.specs.declared.fault.RuleReason.TheVariants.{KeyTwice, PathAndNamespace, OpenQuote}
 use Rattle.dbus_rule.specs.Keys.{key_text, IsKey, IsValueOf}
-use Rattle.dbus_rule.specs.Readings.{IsOpen, IsClosed}
+use Rattle.dbus_rule.specs.Values.{IsOpen, IsClosed}
 use Rattle.dbus_rule.specs.Rules.{Pair, HasKey}
 use Rattle.dbus_rule.specs.Faults.{Excluded, IsNew, IsPairFault}
 

@@ -1,13 +1,20 @@
 -- A rule as its list of key and value pairs in canonical order, and what the reading of a text
 -- answers. D-Bus Specification, "Match Rules".
-use Rattle.std.specs.Prelude.{◌≡◌, ◌⊎◌, ℕ, List, Result, Ok, Err}
-use Rattle.dbus_rule.specs.declared.rule.Rule.{Rule}
+use Rattle.std.specs.Prelude.{ℕ, List, ◌≡◌, ◌⊎◌, Result, Ok, Err}
 use Rattle.dbus_rule.specs.declared.fault.RuleFault.{RuleFault}
 use Rattle.dbus_rule.specs.declared.fault.RuleFault.TheVariants.{Memory, Bad}
+use Rattle.dbus_rule.specs.Faults.{IsFault}
+use Rattle.dbus_rule.specs.declared.rule.Rule.{Rule}
 use Rattle.dbus_rule.specs.declared.fault.RuleReason.{RuleReason}
-use Rattle.dbus_rule.specs.Rules.{Pair, SpellsRule}
-use Rattle.dbus_rule.specs.Conditions.{condition_pairs}
-use Rattle.dbus_rule.specs.RuleReadings.{IsRuleFault}
+use Rattle.dbus_rule.specs.Rules.{Pair, SpellsRule, condition_pairs}
+
+-- What the reading of a rule's text answers.
+-- D-Bus Specification, "Match Rules".
+
+-- the fault of a text; want of memory says nothing of it
+abbrev pub IsRuleFault : List ℕ → RuleFault → Type 0
+IsRuleFault w Memory = Unit {0}
+IsRuleFault w (Bad at reason) = IsFault w reason at
 
 abbrev pub rule_pairs : {A : Type 0} → Rule A → List Pair
 rule_pairs r = condition_pairs r.conditions.items

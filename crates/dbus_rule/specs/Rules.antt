@@ -2,12 +2,13 @@
 -- 44 the comma, 61 is `=`. D-Bus Specification, "Match Rules". By this project's own choice each
 -- key stands at most once, and spaces stand outside values only before a key and after the last
 -- comma.
-use Rattle.std.specs.Prelude.{◌≡◌, ◌≢◌, ℕ, ◌<◌, ◌⊎◌, ◌↔◌, List, [], ◌∷◌, ◌++◌, replicate, ◌==◌, if◌then◌else◌}
+use Rattle.std.specs.Prelude.{◌≡◌, ◌≢◌, ℕ, ◌<◌, ◌⊎◌, ◌↔◌, List, [], ◌∷◌, ◌++◌, replicate, ◌==◌, if◌then◌else◌, Bool, true, false, Option, Some, None, map, ltb, string_bytes}
 use Rattle.std.specs.List.{AllByRecursion}
 use Rattle.dbus_rule.specs.declared.key.Key.{Key}
-use Rattle.dbus_rule.specs.declared.key.Key.TheVariants.{Path, PathNamespace}
+use Rattle.dbus_rule.specs.declared.key.Key.TheVariants.{Path, PathNamespace, Sender}
 use Rattle.dbus_rule.specs.Keys.{key_text, IsKey, rank, IsValueOf}
 use Rattle.dbus_rule.specs.Values.{Piece, pieces_text, pieces_value, ArePieces}
+use Rattle.dbus_rule.specs.declared.condition.Condition.{Condition}
 
 -- a key and its value
 pub record Pair : Type 0 where
@@ -123,3 +124,28 @@ abbrev pub canonical : List Pair → List ℕ
 canonical [] = []
 canonical (p ∷ []) = pair_text p
 canonical (p ∷ q ∷ ps) = pair_text p ++ 44 ∷ canonical (q ∷ ps)
+
+-- The sender that a rule asks for. D-Bus Specification, "Match Rules".
+
+abbrev pub is_sender : Key → Bool
+is_sender Sender = true
+is_sender k = false
+
+-- the sender that a rule asks for, if it asks for one
+abbrev pub sender_of : List Pair → Option (List ℕ)
+sender_of [] = None
+sender_of (p ∷ ps) = if is_sender p.key then Some p.value else sender_of ps
+
+-- The conditions that a rule keeps, as pairs of a key and a value, and a pair put in its place
+-- among others. D-Bus Specification, "Match Rules"; the canonical order is this project's own.
+
+abbrev pub condition_pair : {A : Type 0} → Condition A → Pair
+condition_pair c = record { key = c.key; value = string_bytes c.value }
+
+abbrev pub condition_pairs : {A : Type 0} → List (Condition A) → List Pair
+condition_pairs cs = map condition_pair cs
+
+-- the list with a pair put in its place in canonical order
+abbrev pub insert_pair : Pair → List Pair → List Pair
+insert_pair p [] = p ∷ []
+insert_pair p (q ∷ qs) = if ltb (rank q.key) (rank p.key) then q ∷ insert_pair p qs else p ∷ q ∷ qs

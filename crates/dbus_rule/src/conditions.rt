@@ -4,9 +4,8 @@
 ghost use Rattle.std.specs.Prelude.{◌≡◌, ◌≢◌, ◌≤◌, ◌==◌, ℕ, ltb, length, IfOk, IfErr, OnOk};
 ghost use Rattle.std.specs.List.{AllByRecursion, prefix_len};
 ghost use Rattle.dbus_rule.specs.Keys.{rank};
-ghost use Rattle.dbus_rule.specs.Rules.{SpellsRule};
-ghost use Rattle.dbus_rule.specs.Conditions.{condition_pair, condition_pairs, insert_pair};
-ghost use Rattle.dbus_rule.specs.RuleReadings.{IsRuleFault};
+ghost use Rattle.dbus_rule.specs.Rules.{SpellsRule, condition_pair, condition_pairs, insert_pair};
+ghost use Rattle.dbus_rule.specs.RuleViews.{IsRuleFault};
 
 use crate::condition::Condition;
 use crate::fault::RuleFault;

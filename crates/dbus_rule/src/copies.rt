@@ -2,7 +2,7 @@
 #![tactic(auto)]
 
 ghost use Rattle.std.specs.Prelude.{◌≡◌};
-ghost use Rattle.dbus_rule.specs.Conditions.{condition_pair};
+ghost use Rattle.dbus_rule.specs.Rules.{condition_pair};
 ghost use Rattle.dbus_rule.specs.RuleViews.{AreSameRule};
 
 use crate::condition::Condition;

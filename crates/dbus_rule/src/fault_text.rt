@@ -7,7 +7,7 @@ use std::fmt;
 /// The name of the reason, as `KeyTwice`.
 impl fmt::Display for RuleReason {
     ghost use Rattle.std.specs.Prelude.{Some};
-    ghost use Rattle.dbus_rule.specs.FaultTexts.{rule_reason_text};
+    ghost use Rattle.dbus_rule.specs.Faults.{rule_reason_text};
 
     ghost output = { λ reason. Some (rule_reason_text reason) };
 

@@ -3,8 +3,7 @@
 
 ghost use Rattle.std.specs.Prelude.{◌≡◌, ◌++◌, OnOk, string_bytes};
 ghost use Rattle.dbus_rule.specs.declared.key.Key.TheVariants.{Arg};
-ghost use Rattle.dbus_rule.specs.Keys.{digits, key_text};
-ghost use Rattle.dbus_rule.specs.KeyReadings.{IsArgumentKey, IsNamed, IsNumber};
+ghost use Rattle.dbus_rule.specs.Keys.{digits, key_text, IsArgumentKey, IsNamed, IsNumber};
 
 use crate::key::Key;
 use std::alloc::{AllocError, Allocator};

@@ -3,10 +3,9 @@
 
 ghost use Rattle.std.specs.Prelude.{◌≡◌, ◌↔◌, ℕ, ◌≤◌, ◌<◌, List, [], drop, length, IfOk, IfErr, IsTrue, string_bytes};
 ghost use Rattle.std.specs.Str.{IsUtf8};
-ghost use Rattle.dbus_rule.specs.Readings.{IsClosed};
-ghost use Rattle.dbus_rule.specs.Rules.{HasKey};
+ghost use Rattle.dbus_rule.specs.Values.{IsClosed};
+ghost use Rattle.dbus_rule.specs.Rules.{HasKey, condition_pair, condition_pairs};
 ghost use Rattle.dbus_rule.specs.Faults.{NoSpaceFirst};
-ghost use Rattle.dbus_rule.specs.Conditions.{condition_pair, condition_pairs};
 ghost use Rattle.dbus_rule.specs.PairReadings.{name_cut, name_cut_of, IsClash, IsOpenFault, IsFaultAt, IsKeyAt, IsPairAt};
 
 use crate::condition::Condition;

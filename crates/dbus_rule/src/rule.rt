@@ -1,8 +1,7 @@
 //! Match rules.
 #![tactic(auto)]
 
-ghost use Rattle.dbus_rule.specs.Rules.{IsRule};
-ghost use Rattle.dbus_rule.specs.Conditions.{condition_pairs};
+ghost use Rattle.dbus_rule.specs.Rules.{IsRule, condition_pairs};
 
 use crate::condition::Condition;
 use std::alloc::{Allocator, Global};

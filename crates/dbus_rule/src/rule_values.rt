@@ -2,9 +2,7 @@
 #![tactic(auto)]
 
 ghost use Rattle.std.specs.Prelude.{◌≡◌, MatchOption, option_map};
-ghost use Rattle.dbus_rule.specs.Conditions.{condition_pairs};
-ghost use Rattle.dbus_rule.specs.Senders.{is_sender, sender_of};
-ghost use Rattle.dbus_rule.specs.Rules.{HasKey, IsIn};
+ghost use Rattle.dbus_rule.specs.Rules.{condition_pairs, is_sender, sender_of, HasKey, IsIn};
 
 use crate::condition::Condition;
 use crate::key::Key;
@@ -46,7 +44,7 @@ fn is_sender(key: Key) -> bool
 
 impl<A: Allocator> Rule<A> {
     ghost use Rattle.std.specs.Prelude.{◌≡◌, option_map};
-    ghost use Rattle.dbus_rule.specs.Senders.{sender_of};
+    ghost use Rattle.dbus_rule.specs.Rules.{sender_of};
     ghost use Rattle.dbus_rule.specs.RuleViews.{rule_pairs};
     ghost use Rattle.dbus_rule.specs.declared.key.Key.TheVariants.{Path, Interface, Member, Arg};
 

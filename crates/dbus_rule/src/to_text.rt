@@ -2,8 +2,7 @@
 #![tactic(auto)]
 
 ghost use Rattle.std.specs.Prelude.{◌≡◌, ◌++◌, IfOk, OnOk, string_bytes};
-ghost use Rattle.dbus_rule.specs.Rules.{SpellsRule, canonical, pair_text, quote_escaped};
-ghost use Rattle.dbus_rule.specs.Conditions.{condition_pair, condition_pairs};
+ghost use Rattle.dbus_rule.specs.Rules.{SpellsRule, canonical, pair_text, quote_escaped, condition_pair, condition_pairs};
 ghost use Rattle.dbus_rule.specs.RuleViews.{rule_pairs};
 
 use crate::condition::Condition;

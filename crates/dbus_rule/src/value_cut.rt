@@ -3,8 +3,7 @@
 
 ghost use Rattle.std.specs.Prelude.{◌≡◌, ℕ, ◌≤◌, List, [], drop, length, vec_items, IfOk};
 ghost use Rattle.dbus_rule.specs.declared.value_cut.Mode.TheVariants.{Outside};
-ghost use Rattle.dbus_rule.specs.Scans.{scan, quote_first};
-ghost use Rattle.dbus_rule.specs.Cuts.{cut_of};
+ghost use Rattle.dbus_rule.specs.Values.{scan, quote_first, cut_of};
 
 use std::alloc::{AllocError, Allocator};
 

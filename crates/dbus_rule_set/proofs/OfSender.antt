@@ -2,12 +2,11 @@
 use Rattle.std.proofs.Common.{◌≡◌, List, [], ◌∷◌, Some, Result, Ok, Err}
 use Rattle.std.specs.Prelude.{ℕ, OnOk}
 use Rattle.std.specs.List.{AllByRecursion}
-use Rattle.dbus_message_model.specs.Lookups.{field_value}
+use Rattle.dbus_message_model.specs.KnownFields.{field_value}
 use Rattle.dbus_message_model.specs.Messages.{MessageTree}
 use Rattle.dbus_message_model.specs.declared.field_code.TheConstants as field
 use Rattle.dbus_rule.specs.declared.rule.Rule.{Rule}
-use Rattle.dbus_match.specs.Matchers.{OwnsAlike}
-use Rattle.dbus_match.specs.Matching.{Ownership, text_of}
+use Rattle.dbus_match.specs.Matching.{OwnsAlike, Ownership, text_of}
 use Rattle.dbus_rule.specs.RuleViews.{rule_pairs}
 use Rattle.dbus_match.proofs.Alike.{matches_alike}
 use Rattle.dbus_rule_set.specs.Held.{Collects, EntryMatches}

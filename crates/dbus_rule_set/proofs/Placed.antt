@@ -10,9 +10,8 @@ use Rattle.dbus_rule.specs.declared.condition.Condition.{Condition}
 use Rattle.dbus_rule.specs.declared.key.Key.{Key}
 use Rattle.dbus_rule.specs.declared.key.Key.TheVariants.{Arg, ArgPath}
 use Rattle.dbus_rule.specs.declared.rule.Rule.{Rule}
-use Rattle.dbus_rule.specs.Conditions.{condition_pair, condition_pairs}
+use Rattle.dbus_rule.specs.Rules.{condition_pair, condition_pairs, Pair}
 use Rattle.dbus_rule.specs.Keys.{IsKey, rank}
-use Rattle.dbus_rule.specs.Rules.{Pair}
 use Rattle.dbus_rule.specs.RuleViews.{rule_pairs}
 use Rattle.dbus_rule.proofs.Ranks.{rank_same}
 use Rattle.dbus_match.specs.Matching.{HoldsAt, Matches, Ownership, text_of}

@@ -3,7 +3,7 @@
 
 ghost use Rattle.std.specs.Prelude.{◌≡◌, ◌≢◌, ◌⊎◌, ℕ, List, Some, None, IsTrue, OnSome, IfSome, MatchOption, option_map};
 ghost use Rattle.dbus_value_model.specs.declared.order.Order.{Order};
-ghost use Rattle.dbus_message_model.specs.Lookups.{body_value};
+ghost use Rattle.dbus_message_model.specs.KnownFields.{body_value};
 ghost use Rattle.dbus_message_model.specs.Messages.{MessageTree};
 ghost use Rattle.dbus_view.specs.Views.{Views};
 ghost use Rattle.dbus_rule.specs.declared.key.Key.TheVariants.{Eavesdrop};

@@ -55,8 +55,7 @@ impl Model for Owners {
 
 impl Owners {
     ghost use Rattle.std.specs.Prelude.{◌≡◌, [], None, Some, OnErr, OnOk};
-    ghost use Rattle.dbus_match.specs.Matching.{ownerships};
-    ghost use Rattle.dbus_match.specs.Matchers.{OwnsAlike};
+    ghost use Rattle.dbus_match.specs.Matching.{ownerships, OwnsAlike};
     ghost use Rattle.dbus_rule_set.specs.Owners.{AreOf, GivesOwner, HaveEachNameOnce, HaveOneOwner};
 
     /// No name has an owner. It allocates nothing.

@@ -9,8 +9,7 @@ ghost use Rattle.std.proofs.Props.{props};
 ghost use Rattle.dbus_value_model.specs.declared.order.Order.{Order};
 ghost use Rattle.dbus_message_model.specs.Messages.{MessageTree};
 ghost use Rattle.dbus_view.specs.Views.{Views};
-ghost use Rattle.dbus_match.specs.Matchers.{SenderOwnsAlike};
-ghost use Rattle.dbus_match.specs.Matching.{ownerships};
+ghost use Rattle.dbus_match.specs.Matching.{SenderOwnsAlike, ownerships};
 ghost use Rattle.dbus_rule_set.specs.Handles.{handle_cmp};
 ghost use Rattle.dbus_rule_set.specs.Places.{IsIndexed, IsKept};
 

@@ -6,18 +6,15 @@ use Rattle.hex.specs.Hex.{encode_lower}
 use Rattle.dbus_texts.specs.Types.{UINT32, TextCode, STRING, OBJECT_PATH, SIGNATURE, NumberType, TextType}
 use Rattle.dbus_texts.specs.declared.text_kind.TextKind.{TextKind}
 use Rattle.dbus_texts.specs.declared.text_kind.TextKind.TheVariants as kinds
-use Rattle.dbus_texts.specs.Kinds.{IsKind}
-use Rattle.dbus_texts.specs.Names.{is_word, is_word_start, is_dashed, is_dashed_start, IsElement, each_after, IsPath, IsJoined, IsInterface}
-use Rattle.dbus_texts.specs.Signatures.{IsSignature}
+use Rattle.dbus_texts.specs.Kinds.{IsKind, is_word, is_word_start, is_dashed, is_dashed_start, IsElement, each_after, IsPath, IsJoined, IsInterface, IsSignature}
 use Rattle.dbus_value_model.specs.WantedTexts.{Of, IsWanted, kind_of}
 use Rattle.dbus_value_model.specs.declared.order.Order.{Order}
 use Rattle.dbus_value_model.specs.declared.order.Order.TheVariants.{Little, Big}
 use Rattle.dbus_value_model.specs.Values.{ValueTree, NumberValue, TextValue, value_trees, IsWellFormed, AreWellFormed}
 use Rattle.dbus_message_model.specs.Messages.{FieldTree, MessageTree, order_byte, is_known, field_struct, Want, OfType, Name, Serial, want, is_particular, Suits, AreFields}
 use Rattle.dbus_message_model.proofs.Widening.{widest_valid}
-use Rattle.dbus_show.specs.Laws.{line_feeds, OneForEachLine}
+use Rattle.dbus_show.specs.ShownMessages.{line_feeds, OneForEachLine, kind_text, field_name, bare, field_value, field_text, start_text, header_line, body_line}
 use Rattle.dbus_show.specs.ShownValues.{value_text, value_texts}
-use Rattle.dbus_show.specs.ShownMessages.{kind_text, field_name, bare, field_value, field_text, start_text, header_line, body_line}
 use Rattle.dbus_show.proofs.LineFeeds.{IsOneLine, AreLines, feeds_append, line_literal, line_append, line_cons, line_either, line_decimal, line_hex, line_sigs, line_value, lines_of}
 
 -- ---- names

@@ -11,7 +11,7 @@ use Rattle.dbus_texts.specs.PlainTypes.{is_byte}
 use Rattle.dbus_value_model.specs.declared.order.Order.TheVariants.{Big}
 use Rattle.dbus_value_model.specs.Values.{ValueTree, ValueTrees, NumberValue, TextValue, VariantValue, ArrayValue, StructValue, EntryValue, NoValues, MoreValues}
 use Rattle.dbus_value_model.specs.Bytes.{num}
-use Rattle.dbus_show.specs.Laws.{line_feeds}
+use Rattle.dbus_show.specs.ShownMessages.{line_feeds}
 use Rattle.dbus_show.specs.ShownValues.{number_text, escape_by, quoted_by, joined, bytes_in, value_text, value_texts}
 
 -- ---- lists

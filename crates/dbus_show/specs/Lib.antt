@@ -2,4 +2,3 @@ pub mod ShownValues
 pub mod ShownMessages
 pub mod Gains
 pub mod Gaining
-pub mod Laws

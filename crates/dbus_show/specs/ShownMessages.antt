@@ -1,13 +1,14 @@
 -- The text of a message: a line for its header, and after two spaces a line for each value of its
 -- body. The names are those of the D-Bus Specification, "Message Format" and "Header Fields", in
 -- lower case.
-use Rattle.std.specs.Prelude.{ℕ, List, [], ◌∷◌, ◌++◌, codes, decimal, nat_eq, if◌then◌else◌}
-use Rattle.std.specs.List.{concat, flat_map}
+use Rattle.std.specs.Prelude.{ℕ, List, [], ◌∷◌, ◌++◌, codes, decimal, nat_eq, if◌then◌else◌, ◌≡◌, ◌==◌, ◌+◌, length}
+use Rattle.std.specs.List.{concat, flat_map, count_by}
 use Rattle.hex.specs.Hex.{encode_lower}
 use Rattle.dbus_texts.specs.Types.{UINT32}
 use Rattle.dbus_value_model.specs.declared.order.Order.{Order}
 use Rattle.dbus_value_model.specs.Values.{ValueTree, NumberValue, TextValue}
-use Rattle.dbus_message_model.specs.Messages.{FieldTree, MessageTree, order_byte, is_known}
+use Rattle.dbus_message_model.specs.Messages.{FieldTree, MessageTree, order_byte, is_known, IsValidMessage}
+use Rattle.dbus_value_model.specs.declared.limits.Limits.{Limits}
 use Rattle.dbus_show.specs.ShownValues.{value_text, value_texts}
 
 -- a message type's name, or `kind` and its number where it has none
@@ -53,3 +54,18 @@ body_line text = concat (codes "  " ∷ text ∷ codes "\n" ∷ [])
 
 abbrev pub message_text : Order → MessageTree → ℕ → List ℕ
 message_text order m number = header_line order m number ++ flat_map body_line (value_texts m.body)
+
+-- Which line feeds the text of a message has: those that end its lines, and none within a value.
+
+-- how many bytes of a text are line feeds
+abbrev pub line_feeds : List ℕ → ℕ
+line_feeds text = count_by (λ b. b == 10) text
+
+-- Whatever a value holds, its text is one line.
+abbrev pub NoneInValues : Type 0
+NoneInValues = (v : ValueTree) → line_feeds (value_text v) ≡ 0
+
+-- A message's text has a line for its header and one for each value of its body, so that no value
+-- can pass for a line.
+abbrev pub OneForEachLine : Type 0
+OneForEachLine = (limits : Limits) (order : Order) (m : MessageTree) (number : ℕ) → IsValidMessage limits m → line_feeds (message_text order m number) ≡ 1 + length (value_texts m.body)

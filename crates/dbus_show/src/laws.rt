@@ -1,7 +1,7 @@
 //! Laws of the texts of messages. Each function's contract is a law; it does nothing when it runs.
 #![tactic(auto)]
 
-ghost use Rattle.dbus_show.specs.Laws.{NoneInValues, OneForEachLine};
+ghost use Rattle.dbus_show.specs.ShownMessages.{NoneInValues, OneForEachLine};
 
 /// The text of a value has no line feed.
 pub fn one_line_for_a_value()

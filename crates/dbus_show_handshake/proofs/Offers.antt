@@ -4,7 +4,7 @@ use Rattle.std.specs.Prelude.{Vec}
 use Rattle.std.specs.Str.{IsAscii}
 use Rattle.std.proofs.lemmas.Str.Ascii.{IsAscii-nil}
 use Rattle.std.specs.List.{flat_map}
-use Rattle.dbus_show_handshake.specs.Sentences.{has_other, offer, response_words, shown}
+use Rattle.dbus_show_handshake.specs.ShownHandshakes.{has_other, offer, response_words, shown}
 
 neither : (a b : Bool) → (a || b) ≡ false → (a ≡ false) × (b ≡ false)
 neither false false e = (refl, refl)

@@ -1,3 +1,2 @@
-pub mod Sentences
 pub mod ShownHandshakes
 pub mod ShownLaws

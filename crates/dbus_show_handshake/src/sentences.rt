@@ -3,8 +3,8 @@
 
 ghost use Rattle.std.specs.Prelude.{◌++◌, map};
 ghost use Rattle.std.specs.List.{flat_map};
-ghost use Rattle.dbus_auth_lines.specs.LineViews.{client_command, server_command};
-ghost use Rattle.dbus_show_handshake.specs.Sentences.{client_sentence, offer, response_words, server_sentence, shown};
+ghost use Rattle.dbus_auth_lines.specs.Lines.{client_command, server_command};
+ghost use Rattle.dbus_show_handshake.specs.ShownHandshakes.{client_sentence, offer, response_words, server_sentence, shown};
 
 use crate::shown::write_shown;
 use dbus_auth_lines::{ClientLine, ServerLine};

@@ -3,7 +3,7 @@
 
 ghost use Rattle.std.specs.Prelude.{◌≡◌, true};
 ghost use Rattle.std.specs.Str.{IsUtf8};
-ghost use Rattle.dbus_show_handshake.specs.Sentences.{has_other, shown};
+ghost use Rattle.dbus_show_handshake.specs.ShownHandshakes.{has_other, shown};
 
 use dbus_show::{Draft, write_hex, write_quoted};
 use std::str;

@@ -6,7 +6,7 @@ use Rattle.dbus_types.specs.SignatureCodes.{first_code}
 use Rattle.dbus_types.proofs.TypeCodes.{code_is}
 use Rattle.dbus_value_model.specs.Reading.{number_of}
 use Rattle.dbus_value_model.specs.Values.{ValueTree, NumberValue, type_of, IsWellFormed}
-use Rattle.dbus_walk.specs.Layouts.{IsNumberAt, IsTextAt, IsLaidOut}
+use Rattle.dbus_walk.specs.Containers.{IsNumberAt, IsTextAt, IsLaidOut}
 use Rattle.dbus_walk.specs.Standing.{StandsAt}
 use Rattle.dbus_walk.specs.declared.spot.Layout.{Layout}
 use Rattle.dbus_walk.specs.declared.spot.Layout.TheVariants as kind

@@ -4,8 +4,7 @@ use Rattle.std.specs.List.{flat_map}
 use Rattle.dbus_value_model.specs.declared.order.Order.{Order}
 use Rattle.dbus_message_model.specs.Messages.{FieldTree, MessageTree}
 use Rattle.dbus_show.specs.ShownMessages.{body_line, field_text, message_text, start_text}
-use Rattle.dbus_value_text.specs.Fields.{AreFieldTexts, taken_fields}
-use Rattle.dbus_value_text.specs.Forms.{AreTexts, led}
+use Rattle.dbus_value_text.specs.Forms.{AreFieldTexts, taken_fields, AreTexts, led}
 use Rattle.dbus_show.specs.ShownValues.{value_text, value_texts}
 use Rattle.dbus_show_view.specs.Plain.{named}
 use Rattle.dbus_show_view.specs.PlainLaws.{texts_are}

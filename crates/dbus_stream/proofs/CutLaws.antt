@@ -7,7 +7,7 @@ use Rattle.dbus_value_model.specs.declared.limits.Limits.{Limits}
 use Rattle.dbus_header.specs.MessageOutcomes.{IsWhole, IsRefused, IsPartial}
 use Rattle.dbus_header.proofs.OutcomeLaws.{whole_for_good, one_whole, whole_inside, not_both, one_outcome, one_fault, nothing_partial, some_outcome}
 use Rattle.dbus_stream.specs.Cut.{CutMessage, BeginWith, CutOutcome, Ended, Unfinished, Refused, IsOutcome, IsCut}
-use Rattle.dbus_stream.specs.StreamLaws.{HasCut}
+use Rattle.dbus_stream.specs.CutEnds.{HasCut}
 
 -- one more message
 pub BeginWith-last : (limits : Limits) (bytes : List ℕ) (items : List CutMessage) (mid : List ℕ) (item : CutMessage) → BeginWith limits bytes items mid

@@ -15,8 +15,7 @@ use Rattle.dbus_check.specs.declared.check.Check.TheVariants as checks
 use Rattle.dbus_check.specs.Checks.{Takes, taken}
 use Rattle.dbus_stream.specs.declared.stream_fault.StreamFault.TheVariants.{Memory, Format}
 use Rattle.dbus_stream.specs.Gathering.{IsOneMessage}
-use Rattle.dbus_stream.specs.CutterState.{CutterState}
-use Rattle.dbus_stream.specs.Cutting.{TakeAnswer, TakeAnswers}
+use Rattle.dbus_stream.specs.Cutting.{CutterState, TakeAnswer, TakeAnswers}
 
 module _ (limits : Limits) (held piece : List ℕ) (n : ℕ) (order : Order) (m : MessageTree) where
   -- a message ends within the piece

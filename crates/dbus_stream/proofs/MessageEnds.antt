@@ -22,10 +22,9 @@ use Rattle.dbus_message_model.proofs.Wants.{WantOk, want_ok}
 use Rattle.dbus_value_laws.proofs.Agreement.{read_passes}
 use Rattle.dbus_value_laws.proofs.KindLaws.{only_is, signature_text, text_single}
 use Rattle.dbus_value_laws.proofs.OwnItems.{IsOfSingles, chosen}
-use Rattle.dbus_header.specs.HeaderReading.{field_read, fields_read, fixed_header, body_read, message_read, wanted_signature, wanted_value}
+use Rattle.dbus_header.specs.HeaderReading.{field_read, fields_read, fixed_header, body_read, message_read, wanted_signature, wanted_value, byte_order, opening, value_wanted}
 use Rattle.dbus_header.specs.MessageItems.{code_row, field, fields_row, fixed_items, kind_wanted, name_row, not_zero_row, version_row}
 use Rattle.dbus_header.specs.MessageOutcomes.{IsRefused, IsPartial}
-use Rattle.dbus_header.specs.MessageReading.{byte_order, opening, value_wanted}
 use Rattle.dbus_header.specs.StatedLengths.{StatesLength, length_by}
 use Rattle.dbus_header.specs.declared.fixed_header.FixedHeader.{FixedHeader}
 use Rattle.dbus_header.proofs.Fields.{open_to}
@@ -33,7 +32,7 @@ use Rattle.dbus_header.proofs.MessageParts.{Agrees-fields, Agrees-fixed, Agrees-
 use Rattle.dbus_header.proofs.Decoded.{refused_read, whole_read}
 use Rattle.dbus_value_model.specs.Items as items
 use Rattle.dbus_stream.specs.Lasting.{is_truncated}
-use Rattle.dbus_stream.specs.StreamLaws.{NoneTruncated, StatedSuffice}
+use Rattle.dbus_stream.specs.CutEnds.{NoneTruncated, StatedSuffice}
 use Rattle.dbus_stream.proofs.ValueEnds.{Fits, Moves, IsOwn, after_fits, contents_fit, ends_fit, fields_fit, fits_as, moved_fits, nul_fits, number_fits, own_else, own_if, own_text, padding_fits, padding_to, signature_fits, text_fits, text_within, value_fits}
 
 -- ---- rows

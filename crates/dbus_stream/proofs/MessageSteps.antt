@@ -4,8 +4,7 @@ use Rattle.dbus_value_model.specs.declared.order.Order.{Order}
 use Rattle.dbus_value_model.specs.declared.fault.Fault.{Fault}
 use Rattle.dbus_message_model.specs.declared.message.Message.{Message}
 use Rattle.dbus_message_model.specs.MessageViews.{message_tree}
-use Rattle.dbus_stream.specs.CutterState.{CutterState}
-use Rattle.dbus_stream.specs.Cutting.{TakeAnswers, Takes as CutterTakes}
+use Rattle.dbus_stream.specs.Cutting.{CutterState, TakeAnswers, Takes as CutterTakes}
 use Rattle.dbus_stream.specs.CutterTaking.{cutting}
 use Rattle.dbus_stream.specs.MessageReaders.{kept, stopped_of}
 use Rattle.dbus_stream.specs.Next.{NextAnswers, KeptAnswers}

@@ -8,8 +8,7 @@ use Rattle.dbus_validate.specs.declared.validating.Validated.{Validated}
 use Rattle.dbus_validate.specs.Validating.{IsValidatedWhole}
 use Rattle.dbus_stream.specs.Gathering.{GathererState, gathering, under_way, Rests}
 use Rattle.dbus_stream.specs.Next as next
-use Rattle.dbus_stream.specs.RawNext.{Advances, CopyAnswers, KeptAnswers, Reads, ReadsNothing, KeepsAll, Lends, GivesLent}
-use Rattle.dbus_stream.specs.RawReading.{limits_of, kept, lent_of, done_of, stopped_of, whole_or}
+use Rattle.dbus_stream.specs.RawReading.{Advances, CopyAnswers, KeptAnswers, Reads, ReadsNothing, KeepsAll, Lends, GivesLent, limits_of, kept, lent_of, done_of, stopped_of, whole_or}
 use Rattle.dbus_stream.specs.Reading as reading
 use Rattle.dbus_stream.specs.declared.buffer.Buffer.{Ghosts}
 use Rattle.dbus_stream.specs.declared.raw_reader.RawReader.{RawReader}

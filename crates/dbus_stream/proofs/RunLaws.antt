@@ -13,8 +13,7 @@ use Rattle.dbus_header.specs.MessageOutcomes.{IsWhole, IsRefused, IsPartial}
 use Rattle.dbus_header.proofs.OutcomeLaws.{whole_for_good, refused_for_good, whole_inside, nothing_partial}
 use Rattle.dbus_stream.specs.declared.stream_fault.StreamFault.TheVariants.{Memory, Format}
 use Rattle.dbus_stream.specs.Cut.{CutMessage, BeginWith, IsOutcome}
-use Rattle.dbus_stream.specs.CutterState.{CutterState, fresh}
-use Rattle.dbus_stream.specs.Cutting.{TakeAnswer, TakeAnswers, Takes}
+use Rattle.dbus_stream.specs.Cutting.{CutterState, fresh, TakeAnswer, TakeAnswers, Takes}
 use Rattle.dbus_stream.specs.Runs.{taken, again, Feeds, given_by, outcome_of, IsSettled, CutsInto}
 use Rattle.dbus_stream.proofs.CutLaws.{BeginWith-first}
 

@@ -1,14 +1,29 @@
 -- A reader that gives the lengths of messages, by the definitions of any reader.
-use Rattle.std.specs.Prelude.{ℕ, List, Option, Result}
+use Rattle.std.specs.Prelude.{◌≡◌, ℕ, List, Option, Result}
+use Rattle.dbus_check.specs.Checks.{Stands}
 use Rattle.dbus_value_model.specs.declared.limits.Limits.{Limits}
+use Rattle.dbus_stream.specs.declared.lengths.Lengths.{Lengths}
+use Rattle.dbus_stream.specs.Taking.{Taking}
 use Rattle.dbus_stream.specs.contracts.buffer.LargeBuffer.TheImpl.{ghosts}
 use Rattle.dbus_stream.specs.declared.buffer.Large.{Large}
-use Rattle.dbus_stream.specs.declared.lengths.Lengths.{Lengths}
 use Rattle.dbus_stream.specs.declared.read_fault.ReadFault.{ReadFault}
 use Rattle.dbus_stream.specs.declared.reader.Reader.{Reader}
-use Rattle.dbus_stream.specs.Lengths.{lengths}
 use Rattle.dbus_stream.specs.Next as next
 use Rattle.dbus_stream.specs.Reading as reading
+
+-- What is known of a taker that gives the lengths of messages, and of the reader over it.
+
+-- its checker was handed the bytes; of those that are at fault it says nothing
+abbrev pub lengths : Taking Lengths ℕ
+lengths = record {
+  limits = λ t. t.limits;
+  holds = λ t w. Stands t.checker w;
+  keeps = λ t w. Unit {0};
+  grows = ⊥;
+  gives = λ t w size given. given ≡ size;
+  lent = λ t. 0;
+  rests = λ t. Unit {0};
+}
 
 abbrev pub CheckReader : Type 0 → Type 0
 CheckReader R = Reader R Lengths Large ghosts

@@ -4,7 +4,7 @@ use Rattle.dbus_value_model.specs.declared.order.Order.{Order}
 use Rattle.dbus_message_model.specs.declared.message.Message.{Message}
 use Rattle.dbus_message_model.specs.MessageViews.{message_tree}
 use Rattle.dbus_header.specs.MessageOutcomes.{IsWhole}
-use Rattle.dbus_stream.specs.CutterState.{CutterState}
+use Rattle.dbus_stream.specs.Cutting.{CutterState}
 use Rattle.dbus_stream.specs.Taking.{Taking}
 
 -- it stays with a fault, so it stands at what it holds only where it met none

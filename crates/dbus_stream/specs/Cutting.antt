@@ -1,14 +1,28 @@
 -- Trusted by the headline.
 -- What a cutter makes of a piece.
-use Rattle.std.specs.Prelude.{◌≡◌, ℕ, ◌+◌, List, ◌++◌, length, Option, None, Some, Result, Ok, Err}
-use Rattle.dbus_value_model.specs.declared.order.Order.{Order}
+use Rattle.std.specs.Prelude.{ℕ, List, [], Option, None, ◌≡◌, ◌+◌, ◌++◌, length, Some, Result, Ok, Err}
 use Rattle.dbus_value_model.specs.declared.fault.Fault.{Fault}
+use Rattle.dbus_value_model.specs.declared.limits.Limits.{Limits}
+use Rattle.dbus_value_model.specs.declared.order.Order.{Order}
 use Rattle.dbus_message_model.specs.declared.message.Message.{Message}
 use Rattle.dbus_message_model.specs.MessageViews.{message_tree}
 use Rattle.dbus_header.specs.MessageOutcomes.{IsWhole, IsRefused, IsPartial}
-use Rattle.dbus_stream.specs.CutterState.{CutterState, fresh}
 use Rattle.dbus_stream.specs.declared.stream_fault.StreamFault.{StreamFault}
 use Rattle.dbus_stream.specs.declared.stream_fault.StreamFault.TheVariants.{Memory, Format}
+
+-- What a cutter keeps to and holds.
+
+pub record CutterState : Type 0 where
+  -- the limits that its messages keep
+  pub limits : Limits
+  -- the bytes of the message under way
+  pub held : List ℕ
+  -- the fault that it stays with
+  pub fault : Option Fault
+
+-- a cutter under these limits that was handed nothing yet
+abbrev pub fresh : Limits → CutterState
+fresh limits = record { limits = limits; held = []; fault = None }
 
 -- how many bytes of the piece were taken, and a message
 abbrev pub TakeAnswer : Type 0 → Type 0

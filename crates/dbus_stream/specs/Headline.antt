@@ -17,8 +17,7 @@ use Rattle.dbus_message_model.specs.MessageViews.{message_tree}
 use Rattle.dbus_header.specs.MessageOutcomes.{IsRefused}
 use Rattle.dbus_decode.specs.Decodes.{Decodes}
 use Rattle.dbus_stream.specs.Cut.{CutMessage, BeginWith}
-use Rattle.dbus_stream.specs.CutterState.{CutterState, fresh}
-use Rattle.dbus_stream.specs.Cutting.{TakeAnswer}
+use Rattle.dbus_stream.specs.Cutting.{CutterState, fresh, TakeAnswer}
 use Rattle.dbus_stream.specs.Runs.{Feeds, given_by, IsSettled, CutsInto}
 
 -- the first n bytes are those that the marshalling relation spells the message as, which is valid

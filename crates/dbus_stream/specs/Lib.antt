@@ -7,14 +7,10 @@ pub mod Rooms
 pub mod Reading
 pub mod Next
 pub mod Steps
-pub mod Lengths
 pub mod CheckReading
 pub mod Gathering
 pub mod RawReading
-pub mod RawNext
 pub mod Passing
-pub mod StreamLaws
-pub mod CutterState
 pub mod Cutting
 pub mod CutterTaking
 pub mod MessageReaders

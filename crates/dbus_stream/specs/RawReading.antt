@@ -1,9 +1,16 @@
 -- What a reader of raw messages keeps to, keeps, lends and counts.
-use Rattle.std.specs.Prelude.{◌≡◌, ℕ, ◌-◌, List, [], ◌++◌, Bool, true, false, slice_range, Option, None}
+use Rattle.std.specs.Prelude.{◌≡◌, ℕ, ◌-◌, List, [], ◌++◌, Bool, true, false, slice_range, Option, None, ◌⊎◌, ◌+◌, length, take, drop, Some, Vec, Result, Ok, Err}
 use Rattle.dbus_value_model.specs.declared.limits.Limits.{Limits}
-use Rattle.dbus_stream.specs.Gathering.{under_way}
+use Rattle.dbus_value_model.specs.declared.order.Order.{Order}
+use Rattle.dbus_message_model.specs.Messages.{MessageTree}
+use Rattle.dbus_header.specs.MessageOutcomes.{IsWhole, IsRefused, IsPartial}
+use Rattle.dbus_validate.specs.declared.validating.Validated.{Validated}
+use Rattle.dbus_validate.specs.Validating.{IsValidatedWhole}
+use Rattle.dbus_stream.specs.Gathering.{under_way, gathering}
 use Rattle.dbus_stream.specs.declared.raw_reader.RawReader.{RawReader}
 use Rattle.dbus_stream.specs.declared.read_fault.ReadFault.{ReadFault}
+use Rattle.dbus_stream.specs.Next as next
+use Rattle.dbus_stream.specs.declared.read_fault.ReadFault.TheVariants.{Memory, Format, Device, TooManyReads}
 
 -- a whole message that was gathered, or else these bytes
 abbrev pub whole_or : Bool → List ℕ → List ℕ → List ℕ
@@ -63,3 +70,96 @@ module _ {R A : Type 0} where
     pub reads : reads_of r ≡ 0
     pub ended : is_ended r ≡ false
     pub stopped : stopped_of r ≡ None
+
+-- What a reader of raw messages answers by its limits, where it was not stopped before. w is what
+-- was kept and then what was read. D-Bus Specification, "Message Protocol".
+
+module _ {R A : Type 0} where
+  -- what a call read, and that it counted it
+  abbrev pub Reads : (R → Option (List ℕ)) → (R → ℕ) → RawReader R A → RawReader R A → Type 0
+  Reads left calls old new = next.Reads gathering left calls (kept old) old.reader new.reader
+
+  -- nothing was read
+  abbrev pub ReadsNothing : RawReader R A → RawReader R A → Type 0
+  ReadsNothing old new = next.ReadsNothing gathering old.reader new.reader
+
+  -- all of w is kept, and nothing is given
+  pub record KeepsAll (w : List ℕ) (old new : RawReader R A) : Type 0 where
+    pub kept : kept new ≡ w
+    pub done : done_of new ≡ done_of old
+    pub lent : lent_of new ≡ []
+
+  -- the message that w begins with is given, which has so many bytes, and what follows it is kept
+  pub record Gives (w : List ℕ) (size : ℕ) (old new : RawReader R A) : Type 0 where
+    pub order : Order
+    pub message : MessageTree
+    pub whole : IsWhole (limits_of old) w order message size
+    pub kept : kept new ≡ drop size w
+    pub done : done_of new ≡ done_of old + size
+    pub unstopped : stopped_of new ≡ None
+
+  -- it is lent, and validated
+  pub record Lends (w : List ℕ) (validated : Validated) (old new : RawReader R A) : Type 0 where
+    pub size : ℕ
+    pub gives : Gives w size old new
+    pub lent : lent_of new ≡ take size w
+    pub validated_is : IsValidatedWhole (limits_of old) (lent_of new) validated
+
+  -- these are its bytes, and none are lent
+  pub record Copies (w bytes : List ℕ) (old new : RawReader R A) : Type 0 where
+    pub size : ℕ
+    pub gives : Gives w size old new
+    pub bytes_are : bytes ≡ take size w
+    pub lent : lent_of new ≡ []
+
+  -- what it comes to that there is no message to give
+  abbrev pub Ends : List ℕ → RawReader R A → RawReader R A → Type 0
+  Ends w old new = (w ≡ []) × (is_ended new ≡ true) × KeepsAll w old new × (stopped_of new ≡ None)
+
+  abbrev pub Fails : List ℕ → RawReader R A → RawReader R A → ReadFault → Type 0
+  Fails w old new Memory = KeepsAll w old new × (stopped_of new ≡ None)
+  Fails w old new (Format fault) = KeepsAll w old new × (stopped_of new ≡ Some (Format fault))
+      × (IsRefused (limits_of old) w fault ⊎ (next.IsCutShort (limits_of old) w fault × (is_ended new ≡ true)))
+  Fails w old new Device = KeepsAll w old new × (stopped_of new ≡ None) × IsPartial (limits_of old) w
+  Fails w old new TooManyReads = KeepsAll w old new × (stopped_of new ≡ Some TooManyReads) × IsPartial (limits_of old) w
+      × (reads_of new ≡ most_reads_of new) × (is_ended new ≡ false)
+
+  -- of a call that lends a message
+  abbrev pub Advances : List ℕ → RawReader R A → RawReader R A → Result (Option Validated) ReadFault → Type 0
+  Advances w old new (Ok (Some validated)) = Lends w validated old new
+  Advances w old new (Ok None) = Ends w old new
+  Advances w old new (Err fault) = Fails w old new fault
+
+  -- of a call that gives a copy
+  abbrev pub CopyAnswers : List ℕ → RawReader R A → RawReader R A → Result (Option (Vec ℕ A)) ReadFault → Type 0
+  CopyAnswers w old new (Ok (Some bytes)) = Copies w bytes.items old new
+  CopyAnswers w old new (Ok None) = Ends w old new
+  CopyAnswers w old new (Err fault) = Fails w old new fault
+
+  -- what it answers out of what is kept alone
+  abbrev pub KeptAnswers : RawReader R A → RawReader R A → Result (Option Validated) ReadFault → Type 0
+  KeptAnswers old new (Ok (Some validated)) = Lends (kept old) validated old new
+  KeptAnswers old new (Ok None) = KeepsAll (kept old) old new × (stopped_of new ≡ None) × IsPartial (limits_of old) (kept old)
+  KeptAnswers old new (Err Memory) = KeepsAll (kept old) old new × (stopped_of new ≡ None)
+  KeptAnswers old new (Err (Format fault)) = KeepsAll (kept old) old new × (stopped_of new ≡ Some (Format fault)) × IsRefused (limits_of old) (kept old) fault
+  KeptAnswers old new _ = ⊥
+
+  -- the message that is lent was copied, and is lent no more
+  pub record HasCopied (bytes : List ℕ) (old new : RawReader R A) : Type 0 where
+    pub bytes_are : bytes ≡ lent_of old
+    pub kept : kept new ≡ kept old
+    pub done : done_of new ≡ done_of old
+    pub stopped : stopped_of new ≡ stopped_of old
+    pub lent : lent_of new ≡ []
+
+  -- it was not, and is kept again
+  pub record KeepsAgain (old new : RawReader R A) : Type 0 where
+    pub kept : kept new ≡ lent_of old ++ kept old
+    pub done : done_of old ≡ done_of new + length (lent_of old)
+    pub stopped : stopped_of new ≡ stopped_of old
+    pub lent : lent_of new ≡ []
+
+  abbrev pub GivesLent : RawReader R A → RawReader R A → Result (Option (Vec ℕ A)) ReadFault → Type 0
+  GivesLent old new (Ok (Some bytes)) = HasCopied bytes.items old new
+  GivesLent old new (Err Memory) = KeepsAgain old new
+  GivesLent old new _ = ⊥

@@ -5,8 +5,7 @@ use Rattle.dbus_value_model.specs.declared.fault.Fault.{Fault}
 use Rattle.dbus_value_model.specs.declared.limits.Limits.{Limits}
 use Rattle.dbus_message_model.specs.MessageViews.{message_tree}
 use Rattle.dbus_stream.specs.Cut.{CutMessage, BeginWith, CutOutcome, Ended, Unfinished, Refused, IsCut}
-use Rattle.dbus_stream.specs.CutterState.{CutterState}
-use Rattle.dbus_stream.specs.Cutting.{TakeAnswer, Takes}
+use Rattle.dbus_stream.specs.Cutting.{CutterState, TakeAnswer, Takes}
 
 -- a refused call takes nothing
 abbrev pub taken : {A : Type 0} → TakeAnswer A → ℕ

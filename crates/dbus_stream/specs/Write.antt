@@ -1,6 +1,6 @@
 -- What a write of a message did.
 use Rattle.std.specs.Prelude.{◌≡◌, ℕ, List, Option, Result, Ok, Err}
-use Rattle.dbus_device.specs.Write.{Wrote, Stopped}
+use Rattle.dbus_device.specs.Device.{Wrote, Stopped}
 use Rattle.dbus_stream.specs.declared.write_fault.WriteFault.{WriteFault}
 use Rattle.dbus_stream.specs.declared.write_fault.WriteFault.TheVariants.{Memory, Device}
 

@@ -1,7 +1,7 @@
 //! The lengths of messages from a source.
 ghost use Rattle.std.specs.Prelude.{◌≤◌, ◌^◌};
 ghost use Rattle.dbus_value_model.specs.Specification.{specification};
-ghost use Rattle.dbus_stream.specs.Lengths.{lengths};
+ghost use Rattle.dbus_stream.specs.CheckReading.{lengths};
 ghost use Rattle.dbus_stream.specs.Reading.{IsNewReader};
 
 use crate::buffer::Large;

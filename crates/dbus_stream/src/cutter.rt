@@ -3,8 +3,7 @@ ghost use Rattle.std.specs.Prelude.{◌≡◌, ◌<◌, ◌≤◌, [], length, N
 ghost use Rattle.dbus_value_model.specs.Specification.{specification};
 ghost use Rattle.dbus_value_model.specs.declared.fault.Fault.{Fault};
 ghost use Rattle.dbus_stream.specs.CutEnds.{truncated};
-ghost use Rattle.dbus_stream.specs.CutterState.{fresh};
-ghost use Rattle.dbus_stream.specs.Cutting.{Takes, TakeAnswers};
+ghost use Rattle.dbus_stream.specs.Cutting.{fresh, Takes, TakeAnswers};
 ghost use Rattle.dbus_stream.specs.CutterTaking.{cutting};
 
 use crate::gatherer::Gatherer;
@@ -29,7 +28,7 @@ pub struct Cutter<A: Allocator = Global> {
 }
 
 impl<A: Allocator> Model for Cutter<A> {
-    ghost use Rattle.dbus_stream.specs.CutterState.{CutterState};
+    ghost use Rattle.dbus_stream.specs.Cutting.{CutterState};
     ghost use Rattle.dbus_stream.specs.Gathering.{IsUnderWay};
 
     ghost Value = { CutterState };

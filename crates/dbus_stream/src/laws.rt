@@ -1,6 +1,6 @@
 //! Laws of streams. Each function's contract is one, and it does nothing at run time.
 ghost use Rattle.dbus_value_model.specs.declared.limits.Limits.{Limits};
-ghost use Rattle.dbus_stream.specs.StreamLaws.{CutOfPrefix, EachCut, NoneTruncated, OneCut, StatedSuffice};
+ghost use Rattle.dbus_stream.specs.CutEnds.{CutOfPrefix, EachCut, NoneTruncated, OneCut, StatedSuffice};
 ghost use Rattle.dbus_stream.specs.Headline.{Headline};
 
 use std::alloc::Allocator;

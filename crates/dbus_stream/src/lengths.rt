@@ -21,7 +21,7 @@ pub struct Lengths {
 
 impl Lengths {
     ghost use Rattle.std.specs.Prelude.{[]};
-    ghost use Rattle.dbus_stream.specs.Lengths.{lengths};
+    ghost use Rattle.dbus_stream.specs.CheckReading.{lengths};
 
     /// It holds nothing, and takes messages that keep these limits.
     pub(crate) fn within(limits: Limits) -> Self
@@ -36,7 +36,7 @@ impl Lengths {
 }
 
 impl Taker for Lengths {
-    ghost use Rattle.dbus_stream.specs.Lengths.{lengths};
+    ghost use Rattle.dbus_stream.specs.CheckReading.{lengths};
 
     type Given = u64;
 

@@ -47,8 +47,7 @@ impl<R: Source, A: Allocator + Copy> RawReader<R, A> {
     ghost use Rattle.dbus_value_model.specs.Specification.{specification};
     ghost use Rattle.dbus_stream.specs.declared.read_fault.ReadFault.{ReadFault};
     ghost use Rattle.dbus_stream.specs.Next.{DeviceCounts};
-    ghost use Rattle.dbus_stream.specs.RawReading.{limits_of, kept, lent_of, source_of, done_of, reads_of, most_reads_of, stopped_of, IsNewReader};
-    ghost use Rattle.dbus_stream.specs.RawNext.{Advances, CopyAnswers, KeptAnswers, Reads, ReadsNothing, GivesLent};
+    ghost use Rattle.dbus_stream.specs.RawReading.{limits_of, kept, lent_of, source_of, done_of, reads_of, most_reads_of, stopped_of, IsNewReader, Advances, CopyAnswers, KeptAnswers, Reads, ReadsNothing, GivesLent};
 
     /// A reader as [`RawReader::within`] makes it, of at most 2^32 reads and under the limits of
     /// the specification.

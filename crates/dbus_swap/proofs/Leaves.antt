@@ -13,9 +13,8 @@ use Rattle.dbus_message_model.proofs.BothOrders.{any_lengths}
 use Rattle.dbus_value_validator.proofs.NumberArrays.{comes_aligned}
 use Rattle.dbus_walk.specs.declared.container.Container.{Container}
 use Rattle.dbus_walk.specs.declared.container.Container.TheVariants as kind
-use Rattle.dbus_walk.specs.Containers.{IsOf, front}
+use Rattle.dbus_walk.specs.Containers.{IsOf, front, number_width}
 use Rattle.dbus_walk.specs.Standing.{Stands}
-use Rattle.dbus_walk.specs.Widths.{number_width}
 use Rattle.dbus_walk.proofs.Containers.{ArrayStands, array_stands, elements_there}
 use Rattle.dbus_walk.proofs.Parts.{number_is, number_stands, long_stands, short_stands}
 use Rattle.dbus_swap.specs.Byteswapping.{other, Replaces}

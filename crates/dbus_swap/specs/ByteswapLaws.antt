@@ -13,8 +13,7 @@ use Rattle.dbus_walk.proofs.Fronts.{spelled_apart, front_ends, same_inside}
 use Rattle.dbus_walk.proofs.Put.{put_rest, put_more}
 use Rattle.dbus_walk.proofs.Walks.{spellings_more}
 use Rattle.dbus_swap.specs.declared.byteswapper.Byteswapper.{Byteswapper}
-use Rattle.dbus_swap.specs.Byteswapping.{other, Replaces}
-use Rattle.dbus_swap.specs.Byteswaps.{Byteswaps, Stays}
+use Rattle.dbus_swap.specs.Byteswapping.{other, Replaces, Byteswaps, Stays}
 
 -- bytes that are the same are in place
 pub nothing_put : (at : ℕ) (own put before now : List ℕ) → own ≡ put → now ≡ before → Replaces at own put before now

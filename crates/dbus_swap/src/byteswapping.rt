@@ -5,8 +5,7 @@ ghost use Rattle.std.specs.Prelude.{◌≡◌, length, nat_lt};
 ghost use Rattle.dbus_value_model.specs.Spelling.{spelling, spellings};
 ghost use Rattle.dbus_value_model.specs.Values.{value_trees};
 ghost use Rattle.dbus_walk.specs.Containers.{front};
-ghost use Rattle.dbus_swap.specs.Byteswapping.{other};
-ghost use Rattle.dbus_swap.specs.Byteswaps.{Byteswaps, Stays};
+ghost use Rattle.dbus_swap.specs.Byteswapping.{other, Byteswaps, Stays};
 ghost use Rattle.dbus_swap.specs.ByteswapLaws.{none_byteswapped, more_byteswapped, whole_byteswapped};
 
 use crate::byteswapper::Byteswapper;

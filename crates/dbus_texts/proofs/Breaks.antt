@@ -3,7 +3,7 @@ use Rattle.std.proofs.Common.{◌≡◌, ℕ, ◌+◌, ◌<◌, ◌≤◌, Bool,
 use Rattle.std.proofs.lemmas.List.{take_more, take_all, take-take}
 use Rattle.dbus_texts.proofs.Quotients.{quotient_prefix, quotient_dead, quotient_push, quotient_ended, quotient_ends}
 use Rattle.dbus_texts.proofs.Runs.{break_along}
-use Rattle.dbus_texts.specs.Prefixes.{IsPrefixIn, IsBreakIn}
+use Rattle.dbus_texts.specs.Kinds.{IsPrefixIn, IsBreakIn}
 use Rattle.dbus_texts.specs.Quotients.{IsBreakFrom, IsQuotient, Steps}
 
 pub prefix_closed : (L : List ℕ → Type 0) (w v : List ℕ) → IsPrefixIn L (w ++ v) → IsPrefixIn L w

@@ -2,7 +2,7 @@
 use Rattle.std.proofs.Common.{◌≡◌, ℕ, Bool, true, false, ◌||◌, eqb, List, [], ◌∷◌, ◌++◌, length, get_or, append-nil, arith, ◌⊎◌, ⊎_elim, inl, inr, refl, sym, ap, ap₂, ◌∙◌}
 use Rattle.std.proofs.lemmas.Bool.{eqb-true}
 use Rattle.dbus_texts.specs.Types.{TypeTree, NumberCode, BYTE, BOOLEAN, INT16, UINT16, INT32, UINT32, INT64, UINT64, DOUBLE, UNIX_FD, TextCode, STRING, OBJECT_PATH, SIGNATURE, NumberType, TextType, VariantType, ArrayType, StructType, EntryType, NoTypes, MoreTypes, number_code, text_code, sig, IsBasic, IsComplete}
-use Rattle.dbus_texts.specs.Signatures.{IsSignature, IsSingle}
+use Rattle.dbus_texts.specs.Kinds.{IsSignature, IsSingle}
 use Rattle.dbus_texts.specs.SignatureScans.{is_basic_code, is_type_code}
 
 pub number_is_basic : (n : NumberCode) → is_basic_code (number_code n) ≡ true

@@ -2,8 +2,7 @@
 use Rattle.std.proofs.Common.{◌≡◌, ℕ, zero, suc, ◌+◌, ◌-◌, ◌<◌, ◌≤◌, Some, List, [], ◌∷◌, ◌++◌, subst, arith, length, take}
 use Rattle.std.specs.Prelude.{slice_get}
 use Rattle.dbus_texts.specs.declared.signature.Frame.{Frame}
-use Rattle.dbus_texts.specs.Frames.{AreBounded}
-use Rattle.dbus_texts.specs.SignatureScans.{innermost}
+use Rattle.dbus_texts.specs.SignatureScans.{AreBounded, innermost}
 
 pub AreBounded-push : (k : ℕ) (fs : List Frame) (f : Frame) → AreBounded k fs → k + length fs < f.arrays + f.structs → f.arrays ≤ 32 → f.structs ≤ 32 → AreBounded k (fs ++ f ∷ [])
 AreBounded-push k [] f h l a s = ((omega arith, (a, s)), tt)

@@ -9,16 +9,12 @@ use Rattle.dbus_texts.specs.declared.names.Tail.TheVariants.{Alone, Needed, Free
 use Rattle.dbus_texts.specs.declared.names.Place.TheVariants.{PathStart, BusStart, First}
 use Rattle.dbus_texts.specs.declared.names.NameScan.{NameScan}
 use Rattle.dbus_texts.specs.declared.utf8.Utf8Place.TheVariants as utf8
-use Rattle.dbus_texts.specs.Prefixes.{IsBreakIn}
+use Rattle.dbus_texts.specs.Kinds.{IsBreakIn, IsPath, IsInterface, IsMember, IsBusName, IsText, IsSignature, IsSingle, IsOfKind, IsKind, IsBreak}
 use Rattle.dbus_texts.specs.Quotients.{IsStep, IsQuotient}
-use Rattle.dbus_texts.specs.Names.{IsPath, IsInterface, IsMember, IsBusName}
 use Rattle.dbus_texts.specs.NameScans.{name_rest, name_next, name_end, name_state}
-use Rattle.dbus_texts.specs.Utf8.{IsText}
 use Rattle.dbus_texts.specs.Utf8Scans.{text_rest, text_next, text_end}
-use Rattle.dbus_texts.specs.Signatures.{IsSignature, IsSingle}
 use Rattle.dbus_texts.specs.SignatureScans.{SigState, sig_rest, sig_next, sig_end}
 use Rattle.dbus_texts.specs.SigViews.{sig_start}
-use Rattle.dbus_texts.specs.Kinds.{IsOfKind, IsKind, IsBreak}
 use Rattle.dbus_texts.specs.Types.{TypeTree, TypeTrees, sig, sigs, IsSingleType}
 use Rattle.dbus_texts.specs.PlainTypes.{AreSignatureTypes}
 use Rattle.dbus_texts.specs.ComputedKinds.{taken, accepts, is_of_kind, is_kind, break_at, IsName, type_spelled, types_spelled}

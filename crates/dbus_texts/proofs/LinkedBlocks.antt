@@ -8,8 +8,7 @@ use lib.Lanes.{zip2, mask_l, top, Each1, chunk}
 use Rattle.dbus_texts.proofs.ByteLanes.{less, below, same_as, differs, below_holds, marked_from, top_mark}
 use Rattle.dbus_texts.specs.declared.names.Letters.{Letters}
 use Rattle.dbus_texts.specs.declared.names.Letters.TheVariants.{Word}
-use Rattle.dbus_texts.specs.NameScans.{begins, goes_on}
-use Rattle.dbus_texts.specs.Neighbours.{may_follow, extra, first_digits, AreLinked}
+use Rattle.dbus_texts.specs.NameScans.{begins, goes_on, may_follow, extra, first_digits, AreLinked}
 
 abbrev alpha_mark : ℕ → ℕ → ℕ
 alpha_mark e b = bit_or (bit_or (below (less (bit_or b 32) 97) 26) (same_as b 95)) (same_as b e)

@@ -10,7 +10,7 @@ use Rattle.dbus_texts.specs.declared.names.Place.{Place}
 use Rattle.dbus_texts.specs.declared.names.Place.TheVariants.{PathStart, Root, BusStart, First, More}
 use Rattle.dbus_texts.specs.declared.names.NameScan.{NameScan}
 use Rattle.dbus_texts.specs.Quotients.{IsStep, Moves}
-use Rattle.dbus_texts.specs.Names.{is_word, is_dashed, is_dashed_start, IsElement, each_after, IsPath, IsJoined, IsBusName, IsMember, IsInterface}
+use Rattle.dbus_texts.specs.Kinds.{is_word, is_dashed, is_dashed_start, IsElement, each_after, IsPath, IsJoined, IsBusName, IsMember, IsInterface}
 use Rattle.dbus_texts.specs.NameScans.{begins, goes_on, separator, MayFollow, Elements, GoesOn, name_rest, name_rest_at, name_state, past_separator, name_next_at, name_next, may_end, name_end_at}
 
 -- a letter may begin each element, and no separator stands in one

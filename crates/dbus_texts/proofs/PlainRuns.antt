@@ -4,7 +4,7 @@ use Rattle.std.specs.List.{AllByRecursion}
 use Rattle.std.specs.Int.{IsInRange}
 use Rattle.dbus_texts.specs.declared.utf8.Utf8Place.TheVariants.{Free}
 use Rattle.dbus_texts.specs.Quotients.{Moves, IsQuotient}
-use Rattle.dbus_texts.specs.Utf8.{IsText}
+use Rattle.dbus_texts.specs.Kinds.{IsText}
 use Rattle.dbus_texts.specs.Utf8Scans.{text_rest, text_next}
 use Rattle.dbus_texts.proofs.Quotients.{quotient_start, quotient_push}
 use Rattle.dbus_texts.proofs.ScanSteps.{step_some}

@@ -1,6 +1,6 @@
 -- What may follow a text, one byte further.
 use Rattle.std.proofs.Common.{ℕ, List, [], ◌∷◌, ◌++◌, sym, subst, append_assoc, append-nil}
-use Rattle.dbus_texts.specs.Prefixes.{IsPrefixIn}
+use Rattle.dbus_texts.specs.Kinds.{IsPrefixIn}
 use Rattle.dbus_texts.specs.Quotients.{IsQuotient, Moves}
 
 pub quotient_start : (L : List ℕ → Type 0) → (c : List ℕ) × L c → IsQuotient L [] L

@@ -2,7 +2,7 @@
 use Rattle.std.proofs.Common.{◌≡◌, ℕ, zero, suc, ◌<◌, ◌≤◌, Bool, true, false, Option, Some, None, List, [], ◌∷◌, ◌++◌, ⊎_elim, length, take, refl, ap, arith}
 use Rattle.std.specs.List.{AllByRecursion}
 use Rattle.std.proofs.lemmas.Bool.{false≢true, cases_lt}
-use Rattle.dbus_texts.specs.Prefixes.{IsPrefixIn, IsBreakIn}
+use Rattle.dbus_texts.specs.Kinds.{IsPrefixIn, IsBreakIn}
 use Rattle.dbus_texts.specs.Quotients.{IsStepFrom, IsStep, Moves}
 use Rattle.dbus_texts.specs.ComputedKinds.{taken, accepts}
 

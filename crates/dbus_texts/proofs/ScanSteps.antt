@@ -11,8 +11,7 @@ use Rattle.dbus_texts.proofs.NameSteps.{name_ended_at, name_ends_at, member_elem
 use Rattle.dbus_texts.proofs.SignatureSteps.{sig_moves, sig_ended_at, sig_ends_at, single_start, signature_some, single_some}
 use Rattle.dbus_texts.specs.Quotients.{IsStepFrom, Moves, IsQuotient, Steps}
 use Rattle.dbus_texts.specs.NameScans.{name_rest, name_end, name_state, Elements}
-use Rattle.dbus_texts.specs.Names.{IsPath, IsMember, IsInterface, IsBusName}
-use Rattle.dbus_texts.specs.Signatures.{IsSignature, IsSingle}
+use Rattle.dbus_texts.specs.Kinds.{IsPath, IsMember, IsInterface, IsBusName, IsSignature, IsSingle}
 use Rattle.dbus_texts.specs.SignatureScans.{SigState, sig_rest, sig_next, sig_end}
 use Rattle.dbus_texts.specs.SigViews.{sig_view, sig_start, Follows}
 use Rattle.dbus_texts.specs.Scans.{state_rest}

@@ -12,7 +12,7 @@ use Rattle.dbus_texts.proofs.TypeTexts.{sig_positive}
 use Rattle.dbus_texts.proofs.Codes.{number_is_basic, text_is_basic, number_is_code, text_is_code, basic_type, code_type}
 use Rattle.dbus_texts.specs.Types.{TypeTree, NumberType, TextType, VariantType, BYTE, number_code, text_code, TypeTrees, ArrayType, StructType, EntryType, NoTypes, MoreTypes, sig, sigs, IsComplete, AreComplete}
 use Rattle.dbus_texts.specs.SignatureScans.{is_basic_code, is_type_code, OneThen, MoreThen, CloseThen, KeyThen, frame_rest_at, frame_rest, frames_rest, AtTop, SigState, after, sig_rest, sig_state, frame, begin, innermost, others, in_frame_at, past, sig_next_at, sig_next, no_frames, sig_end_at}
-use Rattle.dbus_texts.specs.Signatures.{IsSignature, IsSingle}
+use Rattle.dbus_texts.specs.Kinds.{IsSignature, IsSingle}
 
 -- how a struct's text joins with what follows
 pub struct_spelled : (x y r : List ℕ) → ((x ++ y) ++ 41 ∷ []) ++ r ≡ x ++ (y ++ 41 ∷ r)

@@ -4,7 +4,7 @@ use Rattle.std.specs.List.{AllByRecursion, list_any}
 use Rattle.std.proofs.Math.Utf8.{encode, scalar, scalars}
 use Rattle.std.proofs.lemmas.Bool.{and_from, and_parts, or_parts, or_cases, eqb-true, eqb-false, false≢true}
 use Rattle.std.proofs.lemmas.Str.{encode_ascii}
-use Rattle.dbus_texts.specs.Utf8.{IsTextChar, IsText}
+use Rattle.dbus_texts.specs.Kinds.{IsTextChar, IsText}
 
 all_scalars : (cs : List ℕ) → AllByRecursion IsTextChar cs → scalars cs ≡ true
 all_scalars [] h = refl

@@ -9,7 +9,7 @@ use Rattle.std.proofs.lemmas.Bool.Decides.{nat_tests}
 use Rattle.dbus_texts.specs.declared.utf8.Utf8Place.{Utf8Place}
 use Rattle.dbus_texts.specs.declared.utf8.Utf8Place.TheVariants.{Free, Last, LastTwo, LastThree, AfterE0, AfterEd, AfterF0, AfterF4}
 use Rattle.dbus_texts.specs.Quotients.{IsStep}
-use Rattle.dbus_texts.specs.Utf8.{IsTextChar, IsText}
+use Rattle.dbus_texts.specs.Kinds.{IsTextChar, IsText}
 use Rattle.dbus_texts.specs.Utf8Scans.{ByteThen, text_rest, lead, text_next, text_end}
 
 -- the four forms of a character

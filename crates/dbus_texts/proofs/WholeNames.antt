@@ -8,9 +8,8 @@ use Rattle.std.proofs.lemmas.List.{drop_more}
 use Rattle.dbus_texts.specs.declared.names.Letters.{Letters}
 use Rattle.dbus_texts.specs.declared.names.Letters.TheVariants.{Word, Name, Unique, WellKnown}
 use Rattle.dbus_texts.specs.declared.names.Tail.TheVariants.{Needed, Free}
-use Rattle.dbus_texts.specs.Names.{is_word, IsPath, IsBusName, IsMember}
-use Rattle.dbus_texts.specs.NameScans.{begins, goes_on, separator, Elements, GoesOn}
-use Rattle.dbus_texts.specs.Neighbours.{may_follow, AreLinked}
+use Rattle.dbus_texts.specs.Kinds.{is_word, IsPath, IsBusName, IsMember}
+use Rattle.dbus_texts.specs.NameScans.{begins, goes_on, separator, Elements, GoesOn, may_follow, AreLinked}
 use Rattle.dbus_texts.proofs.NameSteps.{apart, elements_move, elements_joined, goes_on_more, goes_on_separator, goes_on_end, path_from}
 
 -- the separator begins no element

@@ -4,8 +4,7 @@ use Rattle.std.specs.Prelude.{◌≡◌, ◌≢◌, ◌↔◌, ℕ, List, IsTrue
 use Rattle.std.specs.List.{AllByRecursion}
 use Rattle.dbus_texts.specs.declared.text_kind.TextKind.{TextKind}
 use Rattle.dbus_texts.specs.declared.text_kind.TextKind.TheVariants.{Text}
-use Rattle.dbus_texts.specs.Utf8.{IsText}
-use Rattle.dbus_texts.specs.Kinds.{IsKind, IsBreak}
+use Rattle.dbus_texts.specs.Kinds.{IsText, IsKind, IsBreak}
 use Rattle.dbus_texts.specs.ComputedKinds.{is_kind, break_at, IsName}
 
 -- a text is of a kind exactly where the slow function says so

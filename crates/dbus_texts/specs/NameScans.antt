@@ -1,8 +1,8 @@
 -- What may follow at each place within a name, and the steps from place to place.
 -- D-Bus Specification, "Valid Object Paths" and "Valid Names".
-use Rattle.std.specs.Prelude.{◌≡◌, ℕ, Bool, true, false, ◌⊎◌, Option, Some, None, List, [], ◌∷◌, ◌++◌, IsTrue, ◌==◌, if◌then◌else◌}
+use Rattle.std.specs.Prelude.{◌≡◌, ℕ, Bool, true, false, ◌⊎◌, Option, Some, None, List, [], ◌∷◌, ◌++◌, IsTrue, ◌==◌, if◌then◌else◌, ◌+◌, ◌<◌, not, ◌&&◌, ◌||◌, length, get_or}
 use Rattle.std.specs.List.{AllByRecursion}
-use Rattle.dbus_texts.specs.Characters.{slash, dot, colon}
+use Rattle.dbus_texts.specs.Characters.{slash, dot, colon, hyphen, underscore}
 use Rattle.dbus_texts.specs.declared.names.Letters.{Letters}
 use Rattle.dbus_texts.specs.declared.names.Letters.TheVariants.{Word, Name, Unique, WellKnown}
 use Rattle.dbus_texts.specs.declared.names.Tail.{Tail}
@@ -10,7 +10,7 @@ use Rattle.dbus_texts.specs.declared.names.Tail.TheVariants.{Alone, Needed, Free
 use Rattle.dbus_texts.specs.declared.names.Place.{Place}
 use Rattle.dbus_texts.specs.declared.names.Place.TheVariants.{PathStart, Root, BusStart, First, More}
 use Rattle.dbus_texts.specs.declared.names.NameScan.{NameScan}
-use Rattle.dbus_texts.specs.Names.{is_word, is_word_start, is_dashed, is_dashed_start, IsElement, each_after, IsPath, IsBusName}
+use Rattle.dbus_texts.specs.Kinds.{is_word, is_word_start, is_dashed, is_dashed_start, IsElement, each_after, IsPath, IsBusName}
 
 -- What may follow, by the place in a name.
 abbrev pub begins : Letters → ℕ → Bool
@@ -101,3 +101,28 @@ name_end_at More l t = may_end t
 
 abbrev pub name_end : NameScan → Bool
 name_end s = name_end_at s.place s.letters s.tail
+
+-- Which bytes may stand side by side in a name.
+-- D-Bus Specification, "Valid Object Paths" and "Valid Names".
+
+-- whether b may stand after a, if s stands between elements
+abbrev pub may_follow : ℕ → Letters → ℕ → ℕ → Bool
+may_follow s l a b = (goes_on l b || b == s) && (not (a == s) || begins l b)
+
+-- each byte may stand after the one before it, if s stands between elements
+abbrev pub AreLinked : ℕ → Letters → List ℕ → Type 0
+AreLinked s l w = (i : ℕ) → i + 1 < length w → IsTrue (may_follow s l (get_or w i 0) (get_or w (i + 1) 0))
+
+-- `-` if an element may have it, else `_`, which each may have
+abbrev pub extra : Letters → ℕ
+extra Word = underscore
+extra Name = underscore
+extra Unique = hyphen
+extra WellKnown = hyphen
+
+-- how many digits may begin an element
+abbrev pub first_digits : Letters → ℕ
+first_digits Word = 10
+first_digits Name = 0
+first_digits Unique = 10
+first_digits WellKnown = 0

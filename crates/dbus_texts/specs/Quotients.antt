@@ -2,7 +2,7 @@
 -- not of the set breaks. The sets are those of the D-Bus Specification, "Basic types", "Valid
 -- Object Paths", "Valid Names" and "Valid Signatures".
 use Rattle.std.specs.Prelude.{◌≡◌, ℕ, Bool, true, false, Option, Some, None, List, ◌∷◌, ◌++◌}
-use Rattle.dbus_texts.specs.Prefixes.{IsBreakIn}
+use Rattle.dbus_texts.specs.Kinds.{IsBreakIn}
 
 -- w is of the set; or it is not, and breaks there
 abbrev pub IsBreakFrom : (List ℕ → Type 0) → List ℕ → Option ℕ → Type 0

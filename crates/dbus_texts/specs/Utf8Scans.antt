@@ -4,7 +4,7 @@ use Rattle.std.specs.Prelude.{ℕ, Bool, true, false, Option, Some, None, List, 
 use Rattle.std.specs.Int.{is_in_range, IsInRange}
 use Rattle.dbus_texts.specs.declared.utf8.Utf8Place.{Utf8Place}
 use Rattle.dbus_texts.specs.declared.utf8.Utf8Place.TheVariants.{Free, Last, LastTwo, LastThree, AfterE0, AfterEd, AfterF0, AfterF4}
-use Rattle.dbus_texts.specs.Utf8.{IsText}
+use Rattle.dbus_texts.specs.Kinds.{IsText}
 
 -- a byte from low to high, and then what R says
 abbrev pub ByteThen : ℕ → ℕ → (List ℕ → Type 0) → List ℕ → Type 0

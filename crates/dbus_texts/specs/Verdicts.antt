@@ -1,13 +1,14 @@
 -- What the checks of texts answer.
 -- D-Bus Specification, "Valid Object Paths", "Valid Names" and "Valid Signatures".
-use Rattle.std.specs.Prelude.{ℕ, ◌<◌, ◌≤◌, List, length, Result, Ok, Err, Option, Some, None}
+use Rattle.std.specs.Prelude.{ℕ, ◌<◌, ◌≤◌, List, length, Result, Ok, Err, Option, Some, None, Bool, true, false}
 use Rattle.dbus_texts.specs.declared.text_kind.TextKind.{TextKind}
 use Rattle.dbus_texts.specs.declared.check.NameFault.{NameFault}
 use Rattle.dbus_texts.specs.declared.check.NameFault.TheVariants as names
 use Rattle.dbus_texts.specs.declared.check.SigFault.{SigFault}
 use Rattle.dbus_texts.specs.declared.check.SigFault.TheVariants as signatures
-use Rattle.dbus_texts.specs.Kinds.{IsOfKind, IsKind, IsBreak}
+use Rattle.dbus_texts.specs.Kinds.{IsOfKind, IsKind, IsBreak, IsPrefixIn}
 use Rattle.dbus_texts.specs.Quotients.{IsBreakFrom}
+use Rattle.dbus_texts.specs.declared.text_kind.TextKind.TheVariants.{Text, Path}
 
 -- the text is of the kind, its length aside; or it is not, and breaks there
 abbrev pub IsBreakOf : TextKind → List ℕ → Option ℕ → Type 0
@@ -37,3 +38,16 @@ IsSigVerdict kind w (Ok x) = IsKind kind w
 IsSigVerdict kind w (Err signatures.Memory) = ⊥
 IsSigVerdict kind w (Err signatures.TooLong) = 255 < length w
 IsSigVerdict kind w (Err (signatures.Bad at)) = (length w ≤ 255) × (IsOfKind kind w → ⊥) × IsBreak kind w at
+
+-- The kinds of text that have a limit on length, and prefixes of texts of a kind.
+-- D-Bus Specification, "Valid Names" and "Valid Signatures".
+
+-- whether the kind has a limit on length
+abbrev pub is_limited : TextKind → Bool
+is_limited Text = false
+is_limited Path = false
+is_limited _ = true
+
+-- some text of the kind begins with w, limits on length lifted
+abbrev pub IsPrefixOf : TextKind → List ℕ → Type 0
+IsPrefixOf kind w = IsPrefixIn (IsOfKind kind) w

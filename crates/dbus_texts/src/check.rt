@@ -4,8 +4,7 @@
 ghost use Rattle.std.specs.Prelude.{◌≡◌, ◌↔◌, ℕ, List, ◌∷◌, IsTrue};
 ghost use Rattle.dbus_texts.specs.declared.text_kind.TextKind.TheVariants.{Path, Interface, Member, ErrorName, BusName, Signature, Single};
 ghost use Rattle.dbus_texts.specs.declared.check.SigFault.TheVariants.{Memory};
-ghost use Rattle.dbus_texts.specs.Kinds.{IsBreak, IsOfKind};
-ghost use Rattle.dbus_texts.specs.Signatures.{IsSingle};
+ghost use Rattle.dbus_texts.specs.Kinds.{IsBreak, IsOfKind, IsSingle};
 ghost use Rattle.dbus_texts.specs.Verdicts.{IsBreakOf, IsTextBreak, IsVerdict, IsPathVerdict, IsSigVerdict};
 
 use crate::scan::ScanState;

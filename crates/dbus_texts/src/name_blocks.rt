@@ -5,7 +5,7 @@
 #![tactic(auto)]
 
 ghost use Rattle.std.specs.Prelude.{◌≡◌, ℕ, ◌<◌, ◌≤◌, length, drop, get_or, IsTrue};
-ghost use Rattle.dbus_texts.specs.Neighbours.{may_follow, extra, first_digits, AreLinked};
+ghost use Rattle.dbus_texts.specs.NameScans.{may_follow, extra, first_digits, AreLinked};
 
 use crate::names::Letters;
 use std::simd::prelude::*;

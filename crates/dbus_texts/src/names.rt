@@ -2,7 +2,7 @@
 #![tactic(auto)]
 
 ghost use Rattle.std.specs.Prelude.{◌≡◌};
-ghost use Rattle.dbus_texts.specs.Names.{is_word, is_dashed_start};
+ghost use Rattle.dbus_texts.specs.Kinds.{is_word, is_dashed_start};
 ghost use Rattle.dbus_texts.specs.NameScans.{begins, goes_on, separator, name_next, name_rest};
 
 use crate::byte_scan::ByteScan;

@@ -106,7 +106,7 @@ pub struct TextScan {
 impl TextScan {
     ghost use Rattle.dbus_texts.specs.Scans.{Stands, kind_of};
     ghost use Rattle.dbus_texts.specs.Kinds.{IsOfKind, IsKind};
-    ghost use Rattle.dbus_texts.specs.LimitedKinds.{IsPrefixOf};
+    ghost use Rattle.dbus_texts.specs.Verdicts.{IsPrefixOf};
 
     /// A scan that has read nothing.
     pub fn new(kind: TextKind) -> Self

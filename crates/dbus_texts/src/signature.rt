@@ -2,7 +2,7 @@
 #![tactic(auto)]
 
 ghost use Rattle.std.specs.Prelude.{◌≡◌, ◌+◌, ◌<◌, ◌≤◌, ◌++◌, ◌∷◌, [], length, IsTrue};
-ghost use Rattle.dbus_texts.specs.Frames.{AreBounded, AreBounded-prop, spare};
+ghost use Rattle.dbus_texts.specs.SignatureScans.{AreBounded, AreBounded-prop, spare};
 
 use crate::byte_scan::ByteScan;
 use crate::type_codes::{is_basic_code, is_type_code};

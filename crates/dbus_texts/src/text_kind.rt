@@ -30,7 +30,7 @@ pub enum TextKind {
 }
 
 impl TextKind {
-    ghost use Rattle.dbus_texts.specs.LimitedKinds.{is_limited};
+    ghost use Rattle.dbus_texts.specs.Verdicts.{is_limited};
 
     /// Whether a text of the kind may have at most 255 bytes.
     pub const fn is_limited(self) -> bool

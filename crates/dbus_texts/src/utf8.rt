@@ -2,7 +2,7 @@
 #![tactic(auto)]
 
 ghost use Rattle.std.specs.Prelude.{◌≡◌, ◌↔◌, Option, IsTrue};
-ghost use Rattle.dbus_texts.specs.Utf8.{IsText};
+ghost use Rattle.dbus_texts.specs.Kinds.{IsText};
 ghost use Rattle.dbus_texts.specs.Utf8Scans.{lead, text_next, text_rest};
 
 use crate::ascii::plain_prefix;

@@ -4,8 +4,7 @@
 
 ghost use Rattle.std.specs.Prelude.{◌≤◌, length, drop, IsTrue};
 ghost use Rattle.dbus_texts.specs.declared.names.Tail.TheVariants.{Needed};
-ghost use Rattle.dbus_texts.specs.Kinds.{IsKind};
-ghost use Rattle.dbus_texts.specs.Names.{IsPath, IsMember, IsBusName};
+ghost use Rattle.dbus_texts.specs.Kinds.{IsKind, IsPath, IsMember, IsBusName};
 ghost use Rattle.dbus_texts.specs.NameScans.{Elements};
 
 use crate::name_blocks::is_linked;

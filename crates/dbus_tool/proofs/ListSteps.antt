@@ -10,10 +10,9 @@ use Rattle.dbus_handshake_input.specs.declared.size.HandshakeSize.{HandshakeSize
 use Rattle.dbus_show_handshake.specs.ShownHandshakes.{line_text, size_line}
 use Rattle.dbus_show_handshake.specs.declared.lines.ShownLines.{ShownLines}
 use Rattle.cli_report.specs.Devices.{writing}
-use Rattle.cli_report.specs.Gathering.{Gathers, Passes, Breaks}
-use Rattle.dbus_tool.specs.Listing.{GathersLines, IsListed, PutsLines, WritesLines, last_line}
+use Rattle.cli_report.specs.Gathering.{Gathers, Passes, Breaks, Goes}
+use Rattle.dbus_tool.specs.Handshaking.{GathersLines, IsListed, PutsLines, WritesLines, last_line}
 use Rattle.cli_report.specs.PageLaws.{breaks_after, joins, passes_both}
-use Rattle.cli_report.specs.Pages.{Goes}
 use Rattle.cli_report.specs.declared.gathering.Unwritten.{Unwritten}
 use Rattle.cli_report.specs.declared.page.Page.{Page}
 

@@ -8,7 +8,7 @@ use Rattle.std.proofs.lemmas.Bool.{false≢true}
 use Rattle.std.proofs.Math.Bridge.{le_prop}
 use mathlib.Core.HLevel.{is_prop→PathP}
 use Rattle.clap.specs.Words.{Row, Text, subcommand_of}
-use Rattle.dbus_texts.specs.Names.{IsElement, IsJoined, IsBusName, each_after, is_dashed, is_dashed_start}
+use Rattle.dbus_texts.specs.Kinds.{IsElement, IsJoined, IsBusName, each_after, is_dashed, is_dashed_start}
 use Rattle.dbus_value_model.specs.declared.fd_rule.FdRule.{FdRule}
 use Rattle.dbus_value_model.specs.declared.fd_rule.FdRule.TheVariants.{Any, BelowCount}
 use Rattle.dbus_value_model.specs.declared.limits.Limits.{Limits}
@@ -25,8 +25,7 @@ use Rattle.cli_options.specs.CommandLine.{wire_app}
 use Rattle.cli_options.specs.Limiting.{HasLimits, HasWindow, IsGivenNumber, IsNumberOf, IsRuleOf, fds_word}
 use Rattle.cli_options.specs.Named.{AreRulesOf, HasSettings, IsNamedBy, IsSelectionGiven, Names, NamesCommand, order_word, side_word, words_of}
 use Rattle.cli_options.specs.Owners.{AreOwnersOf, IsOwnerWord}
-use Rattle.cli_options.specs.SameCommands.{AreSameCommand}
-use Rattle.cli_options.specs.Selections.{AreSameSelection}
+use Rattle.cli_options.specs.Selections.{AreSameCommand, AreSameSelection}
 use Rattle.cli_options.specs.declared.asked.Asked.{Asked}
 use Rattle.cli_options.specs.declared.asked.Asked.TheVariants.{Messages, Count, Handshake}
 use Rattle.cli_options.specs.declared.command.Command.{Command}

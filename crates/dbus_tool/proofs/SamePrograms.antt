@@ -6,9 +6,9 @@ use Rattle.clap.specs.Words.{Row, Text, subcommand_of}
 use Rattle.clap.specs.Faults.{fault_of}
 use Rattle.clap.specs.Kinds.{IsAmong}
 use Rattle.clap.specs.declared.error.kind.ErrorKind.TheVariants.{DisplayHelp, DisplayVersion}
-use Rattle.dbus_device.specs.Write.{Wrote}
+use Rattle.dbus_device.specs.Device.{Wrote}
 use Rattle.dbus_value_model.proofs.Numbers.{IsBytes-rest}
-use Rattle.dbus_count.specs.Laws.{OneTable}
+use Rattle.dbus_count.specs.Tables.{OneTable}
 use Rattle.dbus_handshake_input.specs.Alike.{FollowsAlike, IsOfInput}
 use Rattle.dbus_handshake_input.specs.declared.fault.HandshakeFault.{HandshakeFault}
 use Rattle.dbus_handshake_input.specs.declared.fault.HandshakeFault.TheVariants.{Memory as OutOfMemory, Device, Refused}
@@ -22,9 +22,9 @@ use Rattle.dbus_rule.specs.Rules.{SpellsRule}
 use Rattle.dbus_rule.specs.RuleViews.{rule_pairs}
 use Rattle.cli_options.specs.CommandLine.{wire_app}
 use Rattle.cli_options.specs.Named.{AreRulesOf, HasRuleFault, IsNamedBy, Names}
-use Rattle.cli_options.specs.SameCommands.{AreSameCommand}
+use Rattle.cli_options.specs.Selections.{AreSameCommand}
 use Rattle.cli_options.specs.Told.{TellsFault}
-use Rattle.cli_options.specs.Unowned.{lacks_owner}
+use Rattle.cli_options.specs.Owners.{lacks_owner}
 use Rattle.cli_options.specs.declared.asked.Asked.{Asked}
 use Rattle.cli_options.specs.declared.asked.Asked.TheVariants.{Messages, Count, Handshake}
 use Rattle.cli_options.specs.declared.form.CountForm.{CountForm}
@@ -40,14 +40,13 @@ use Rattle.cli_report.specs.declared.ending.ExitStatus.{ExitStatus}
 use Rattle.cli_report.specs.declared.ending.ExitStatus.TheVariants as status
 use Rattle.cli_report.specs.Gathering.{Passes}
 use Rattle.cli_report.specs.declared.gathering.Unwritten.{Unwritten}
-use Rattle.cli_run.specs.Alike.{EndAlike, GotAlike, ReadAlike}
+use Rattle.cli_run.specs.Laws.{EndAlike, GotAlike, ReadAlike}
 use Rattle.cli_run.specs.Output.{IsExact}
 use Rattle.cli_run.proofs.SameOutputs.{acts_as}
 use Rattle.cli_run.specs.VisitorLaws.{wrote_nothing}
 use Rattle.cli_run.proofs.SameRuns.{one_count, one_run}
 use Rattle.dbus_tool.specs.Alike.{IsOneWay, NameOneWay, OneProgram}
-use Rattle.dbus_tool.specs.Handshaking.{TakesHandshake, TellsHandshake, ahead, handshake_line}
-use Rattle.dbus_tool.specs.Listing.{EndsList, IsListed, Lengthens, Lists, WritesLines, last_line}
+use Rattle.dbus_tool.specs.Handshaking.{TakesHandshake, TellsHandshake, ahead, handshake_line, EndsList, IsListed, Lengthens, Lists, WritesLines, last_line}
 use Rattle.dbus_tool.specs.Words.{Does, DoesBy, DoesTask, Notes, RunsNoted, table_form}
 use Rattle.dbus_tool.specs.declared.words.Task.{Task}
 use Rattle.dbus_tool.specs.declared.words.Task.TheVariants.{Run, CountAll}

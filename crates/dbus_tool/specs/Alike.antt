@@ -10,7 +10,7 @@ use Rattle.cli_options.specs.declared.asked.Asked.TheVariants.{Messages, Count, 
 use Rattle.cli_report.specs.Devices.{Writing}
 use Rattle.cli_report.specs.declared.ending.ExitStatus.{ExitStatus}
 use Rattle.cli_report.specs.declared.ending.ExitStatus.TheVariants as status
-use Rattle.cli_run.specs.Alike.{EndAlike, ReadAlike}
+use Rattle.cli_run.specs.Laws.{EndAlike, ReadAlike}
 use Rattle.cli_run.specs.Output.{IsExact}
 use Rattle.dbus_tool.specs.Handshaking.{ahead}
 use Rattle.dbus_tool.specs.Words.{RunsWords}

@@ -1,5 +1,3 @@
-pub mod Listing
-pub mod RuleLines
 pub mod Handshaking
 pub mod Words
 pub mod Alike

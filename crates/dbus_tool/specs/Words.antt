@@ -1,18 +1,19 @@
 -- What the program does for the words of its command line.
-use Rattle.std.specs.Prelude.{◌≡◌, ◌⊎◌, ℕ, ◌^◌, Bool, true, false, ◌&&◌, codes, List, Option, Result, Ok, Err, IfOk, string_bytes}
+use Rattle.std.specs.Prelude.{◌≡◌, ℕ, List, ◌++◌, Bool, true, false, codes, decimal, string_bytes, ◌⊎◌, ◌^◌, ◌&&◌, Option, Result, Ok, Err, IfOk}
+use Rattle.dbus_rule.specs.declared.fault.RuleReason.{RuleReason}
+use Rattle.dbus_rule.specs.Faults.{rule_reason_text}
+use Rattle.cli_options.specs.declared.usage_fault.RefusedRule.{RefusedRule}
+use Rattle.dbus_explain.specs.Explained.{IsExplainedRule}
 use Rattle.clap.specs.Words.{Text}
-use Rattle.dbus_device.specs.Write.{Wrote, Stopped, WritesAll}
+use Rattle.dbus_device.specs.Device.{Wrote, Stopped, WritesAll}
 use Rattle.dbus_device.specs.declared.writing.WrittenOnly.{WrittenOnly}
 use Rattle.cli_options.specs.Named.{IsNamedBy}
 use Rattle.cli_options.specs.Told.{TellsFault}
-use Rattle.cli_options.specs.Unowned.{lacks_owner}
+use Rattle.cli_options.specs.Owners.{lacks_owner}
 use Rattle.cli_run.specs.ByName.{CountsByName}
 use Rattle.cli_report.specs.Devices.{Reading, Writing, writing}
-use Rattle.dbus_tool.specs.Handshaking.{Shows, StopsBy, TakesHandshake, TellsHandshake, ahead}
-use Rattle.dbus_tool.specs.Listing.{Lists}
-use Rattle.dbus_tool.specs.RuleLines.{IsRuleTold}
 use Rattle.cli_run.specs.Running.{RunsWith}
-use Rattle.cli_report.specs.Failing.{Told}
+use Rattle.cli_report.specs.Telling.{Told}
 use Rattle.dbus_handshake_input.specs.declared.fault.HandshakeFault.{HandshakeFault}
 use Rattle.dbus_handshake_input.specs.declared.read_ahead.ReadAhead.{ReadAhead}
 use Rattle.cli_options.specs.declared.asked.Asked.{Asked}
@@ -23,14 +24,28 @@ use Rattle.cli_options.specs.declared.form.CountForm.TheVariants as asked
 use Rattle.dbus_count.specs.declared.form.Form as tables
 use Rattle.dbus_count.specs.declared.form.Form.TheVariants as written
 use Rattle.cli_options.specs.declared.settings.Settings.{Settings}
-use Rattle.cli_options.specs.declared.usage_fault.RefusedRule.{RefusedRule}
 use Rattle.cli_options.specs.declared.usage_fault.UsageFault.{UsageFault}
 use Rattle.cli_options.specs.declared.usage_fault.UsageFault.TheVariants.{Memory, Help, Version, Usage, Rule}
 use Rattle.cli_report.specs.declared.ending.ExitStatus.{ExitStatus}
 use Rattle.cli_report.specs.declared.ending.ExitStatus.TheVariants as status
 use Rattle.cli_report.specs.declared.ending.Cause.TheVariants as cause
+use Rattle.dbus_tool.specs.Handshaking.{Shows, StopsBy, TakesHandshake, TellsHandshake, ahead, Lists}
 use Rattle.dbus_tool.specs.declared.words.Task.{Task}
 use Rattle.dbus_tool.specs.declared.words.Task.TheVariants.{Run, CountAll}
+
+-- What is written of a rule that is refused.
+
+-- the offset of a rule's fault and its reason
+abbrev pub rule_line : ℕ → RuleReason → List ℕ
+rule_line at why = codes "rule refused at " ++ (decimal at ++ (codes ": " ++ (rule_reason_text why ++ codes "\n")))
+
+-- that line, and then what explains it, if that is wanted
+abbrev pub IsRuleToldBy : (explains : Bool) → (rule : List ℕ) → (at : ℕ) → RuleReason → List ℕ → Type 0
+IsRuleToldBy false rule at why text = text ≡ rule_line at why
+IsRuleToldBy true rule at why text = (explained : List ℕ) × IsExplainedRule rule at explained × (text ≡ rule_line at why ++ explained)
+
+abbrev pub IsRuleTold : RefusedRule → List ℕ → Type 0
+IsRuleTold refused text = IsRuleToldBy refused.explains (string_bytes refused.text) refused.at refused.reason text
 
 -- the rule's fault was told, or a write failed; or memory was wanted
 abbrev pub RefusesRule : {E : Type 0} → (E → Option (List ℕ)) → (E → ℕ) → RefusedRule → E → E → ExitStatus → Type 0

@@ -4,7 +4,7 @@ ghost use Rattle.dbus_handshake_input.specs.Ahead.{source_of};
 ghost use Rattle.dbus_handshake_input.specs.Passing.{Counts};
 ghost use Rattle.cli_report.specs.Devices.{writing};
 ghost use Rattle.cli_report.specs.Gathering.{gathered_bytes};
-ghost use Rattle.dbus_tool.specs.Listing.{GathersLines, PutsLines, WritesLines};
+ghost use Rattle.dbus_tool.specs.Handshaking.{GathersLines, PutsLines, WritesLines};
 
 use cli_report::{Gathered, Page, Unwritten, write_out};
 use dbus_handshake_input::{HandshakeFault, HandshakeSize, ReadAhead, Side, read_handshake};

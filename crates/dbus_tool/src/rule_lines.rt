@@ -1,7 +1,7 @@
 //! What is written of a rule that is refused.
 ghost use Rattle.std.specs.Prelude.{◌≡◌, IfOk, OnOk, List, string_bytes};
-ghost use Rattle.dbus_explain.specs.ExplainedRules.{IsExplainedRule};
-ghost use Rattle.dbus_tool.specs.RuleLines.{IsRuleTold, IsRuleToldBy, rule_line};
+ghost use Rattle.dbus_explain.specs.Explained.{IsExplainedRule};
+ghost use Rattle.dbus_tool.specs.Words.{IsRuleTold, IsRuleToldBy, rule_line};
 
 use cli_options::RefusedRule;
 use dbus_explain::explain_rule;

@@ -1,9 +1,8 @@
 //! The program over the words of its command line.
 ghost use Rattle.std.specs.Prelude.{◌≡◌, ◌&&◌, map, string_bytes};
-ghost use Rattle.cli_options.specs.Unowned.{lacks_owner};
+ghost use Rattle.cli_options.specs.Owners.{lacks_owner};
 ghost use Rattle.cli_report.specs.Devices.{writing};
-ghost use Rattle.dbus_tool.specs.Handshaking.{Shows, TakesHandshake, TellsHandshake};
-ghost use Rattle.dbus_tool.specs.Listing.{Lists};
+ghost use Rattle.dbus_tool.specs.Handshaking.{Shows, TakesHandshake, TellsHandshake, Lists};
 ghost use Rattle.dbus_tool.specs.Words.{DoesTask, Notes, RefusesRule, RunsWords, ShowsText, table_form};
 
 use crate::lines::handshake_line;

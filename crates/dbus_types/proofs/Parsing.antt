@@ -5,9 +5,9 @@ use Rattle.std.proofs.lemmas.List.{take_all}
 use Rattle.dbus_types.specs.declared.sig_type.SigType as ty
 use Rattle.dbus_types.specs.declared.sig_type.SigType.{SigType}
 use Rattle.dbus_texts.specs.Types.{TypeTree, TypeTrees, StructType, EntryType, NoTypes, MoreTypes, sig, sigs, IsComplete, IsSingleType}
-use Rattle.dbus_texts.specs.Signatures.{IsSingle}
+use Rattle.dbus_texts.specs.Kinds.{IsSingle}
 use Rattle.dbus_types.specs.SigTypes.{type_tree, type_trees_of}
-use Rattle.dbus_types.specs.TypeReads.{StartsType, StartsFields, ReadsType, ReadsFields, IsTypeText, IsTextOfTypes}
+use Rattle.dbus_types.specs.Parses.{StartsType, StartsFields, ReadsType, ReadsFields, IsTypeText, IsTextOfTypes}
 use Rattle.dbus_texts.proofs.TypeTexts.{sig_positive}
 use Rattle.dbus_types.proofs.TypeViews.{type_tree-Struct, type_tree-Entry}
 use Rattle.dbus_types.proofs.Prefixes.{text_same, StartsPair}

@@ -1,7 +1,7 @@
 -- A prefix of a part's text is a prefix of the whole's.
 use Rattle.std.proofs.Common.{◌≡◌, ℕ, ◌+◌, ◌<◌, List, [], ◌∷◌, ◌++◌, Result, Ok, Err, OnErr, get_or, take, drop, length, refl, sym, ap, ◌∙◌, append_assoc}
 use Rattle.std.proofs.lemmas.List.{append-nil, take-append-drop, drop_more}
-use Rattle.dbus_types.specs.AppendedPrefixes.{AppendsPrefix}
+use Rattle.dbus_types.specs.Parses.{AppendsPrefix}
 use Rattle.dbus_types.specs.declared.sig_type.SigType.{SigType}
 use Rattle.dbus_texts.specs.Types.{sig, sigs}
 use Rattle.dbus_types.specs.SigTypes.{type_tree, type_trees_of}

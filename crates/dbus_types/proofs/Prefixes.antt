@@ -2,7 +2,7 @@
 use Rattle.std.proofs.Common.{◌≡◌, ℕ, ◌+◌, true, Some, List, [], ◌∷◌, ◌++◌, length, sym, ap, ◌∙◌, arith, append_assoc}
 use Rattle.dbus_texts.specs.Types.{TypeTree, NumberType, TextType, VariantType, ArrayType, StructType, EntryType, number_code, text_code, sig, sigs}
 use Rattle.dbus_texts.specs.SignatureScans.{is_type_code}
-use Rattle.dbus_types.specs.TypeReads.{StartsType, StartsFields}
+use Rattle.dbus_types.specs.Parses.{StartsType, StartsFields}
 use Rattle.dbus_texts.specs.ComputedKinds.{parse, opening, AnArray, AStruct, AnEntry}
 use Rattle.dbus_texts.proofs.Codes.{number_is_code, text_is_code}
 use Rattle.dbus_texts.proofs.TypeTexts.{parse_sig}

@@ -1,7 +1,7 @@
 -- What is left after the text of a type, level by level and along a list.
 use Rattle.std.proofs.Common.{◌≡◌, ℕ, ◌+◌, ◌-◌, ◌<◌, ◌≤◌, Bool, false, true, IsTrue, Option, Some, None, [], ◌∷◌, ◌++◌, arith, length, length-append}
 use Rattle.dbus_texts.specs.Types.{TypeTree, TypeTrees, NumberType, TextType, VariantType, ArrayType, StructType, EntryType, NoTypes, MoreTypes, AreSome, IsBasic, sig, sigs}
-use Rattle.dbus_types.specs.Rooms.{LeavesOfType, LeavesOfTypes}
+use Rattle.dbus_types.specs.Parses.{LeavesOfType, LeavesOfTypes}
 
 pub struct_leaves : (ts : TypeTrees) (inside : Bool) (a s n : ℕ) (r : Option ℕ) → s < 32 → 2 ≤ n → AreSome ts → LeavesOfTypes ts a (s + 1) (n - 2) r → LeavesOfType (StructType ts) inside a s n r
 struct_leaves ts inside a s n (Some r) l m w h = ((l, w, h.0), omega (arith, h.1, length-append (sigs ts) (41 ∷ [])))

@@ -4,7 +4,7 @@ use Rattle.std.proofs.lemmas.List.{take_more}
 use Rattle.dbus_types.specs.declared.sig_type.SigType.{SigType}
 use Rattle.dbus_texts.specs.Types.{TypeTrees, sig, sigs, AreComplete}
 use Rattle.dbus_texts.specs.PlainTypes.{AreSignatureTypes}
-use Rattle.dbus_texts.specs.Signatures.{IsSignature}
+use Rattle.dbus_texts.specs.Kinds.{IsSignature}
 use Rattle.dbus_types.specs.SigTypes.{type_tree, type_trees_of}
 use Rattle.dbus_texts.proofs.TypeTexts.{sigs_same}
 use Rattle.dbus_types.proofs.Parsing.{texts_push}

@@ -4,8 +4,7 @@ use Rattle.std.proofs.lemmas.List.{length-append, length-drop, length-take, drop
 use Rattle.dbus_texts.specs.Types.{TypeTree, NumberType, TextType, VariantType, ArrayType, StructType, EntryType, TypeTrees, NoTypes, MoreTypes, sig, sigs}
 use Rattle.dbus_texts.specs.ComputedKinds.{Nothing, opening}
 use Rattle.dbus_texts.proofs.TypeTexts.{sig_positive}
-use Rattle.dbus_types.specs.SignatureCodes.{first_code, IsTypeEnd}
-use Rattle.dbus_types.specs.TypeLengths.{AreLengths, AreNoted}
+use Rattle.dbus_types.specs.SignatureCodes.{first_code, IsTypeEnd, AreLengths, AreNoted}
 use Rattle.dbus_types.proofs.TypeCodes.{begins, code_is, opens, opening_is, array_is, struct_is, entry_is}
 
 -- no type begins with a closing bracket

@@ -1,9 +1,5 @@
 pub mod Alignments
 pub mod SigTypes
 pub mod SignatureCodes
-pub mod TypeLengths
-pub mod TypeReads
 pub mod Parses
-pub mod Rooms
 pub mod Laws
-pub mod AppendedPrefixes

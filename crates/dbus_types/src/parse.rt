@@ -4,8 +4,7 @@
 ghost use Rattle.std.specs.Prelude.{◌≡◌, IfOk};
 ghost use Rattle.dbus_types.specs.SigTypes.{type_tree, type_trees_of};
 ghost use Rattle.dbus_texts.specs.Types.{sig, sigs};
-ghost use Rattle.dbus_types.specs.TypeReads.{StartsType, StartsFields, ReadsType, ReadsFields, IsTypeText, IsTextOfTypes};
-ghost use Rattle.dbus_types.specs.Parses.{IsParse, IsSingleParse};
+ghost use Rattle.dbus_types.specs.Parses.{StartsType, StartsFields, ReadsType, ReadsFields, IsTypeText, IsTextOfTypes, IsParse, IsSingleParse};
 
 use crate::sig_type::SigType;
 use crate::type_codes::plain_type;

@@ -6,7 +6,7 @@ ghost use Rattle.dbus_types.specs.SigTypes.{type_tree, type_trees_of};
 ghost use Rattle.dbus_texts.specs.PlainTypes.{is_byte};
 ghost use Rattle.dbus_texts.specs.Types.{IsBasic, IsSingleType};
 ghost use Rattle.dbus_types.specs.Alignments.{alignment_of};
-ghost use Rattle.dbus_types.specs.Rooms.{LeavesOfType, LeavesOfTypes};
+ghost use Rattle.dbus_types.specs.Parses.{LeavesOfType, LeavesOfTypes};
 
 use crate::sig_type::SigType;
 use std::alloc::Allocator;

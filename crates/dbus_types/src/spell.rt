@@ -4,8 +4,7 @@
 ghost use Rattle.std.specs.Prelude.{◌≡◌, ◌<◌, ◌++◌, ◌∷◌, [], OnOk, OnErr, string_bytes};
 ghost use Rattle.dbus_texts.specs.Types.{sig, sigs};
 ghost use Rattle.dbus_types.specs.SigTypes.{type_tree, type_trees_of};
-ghost use Rattle.dbus_types.specs.Parses.{IsSignatureText};
-ghost use Rattle.dbus_types.specs.AppendedPrefixes.{AppendsPrefix};
+ghost use Rattle.dbus_types.specs.Parses.{IsSignatureText, AppendsPrefix};
 
 use crate::sig_type::SigType;
 use crate::type_codes::type_code;

@@ -4,7 +4,7 @@
 
 ghost use Rattle.std.specs.Prelude.{◌≡◌, ◌+◌, ◌<◌, ◌≤◌, ◌⊎◌, ℕ, List, ◌++◌, length, drop, slice_index};
 ghost use Rattle.dbus_texts.specs.Types.{TypeTree, sig};
-ghost use Rattle.dbus_types.specs.TypeLengths.{AreLengths, AreNoted};
+ghost use Rattle.dbus_types.specs.SignatureCodes.{AreLengths, AreNoted};
 
 /// Notes for each place of a signature the length of the complete type that begins there, so that
 /// none is looked for again.

@@ -19,7 +19,7 @@ use Rattle.dbus_value_model.specs.declared.value.Value.{Value, Bytes, Array}
 use Rattle.dbus_value_model.proofs.Fitting.{keeps-Array}
 use Rattle.dbus_value_model.proofs.ValueRows.{tree-Bytes, tree-Array}
 use Rattle.dbus_walk.specs.Standing.{Stands, ElementsStand}
-use Rattle.dbus_walk.specs.Widths.{number_width}
+use Rattle.dbus_walk.specs.Containers.{number_width}
 use Rattle.dbus_walk.specs.declared.spot.Run.{Run}
 use Rattle.dbus_walk.proofs.Containers.{ArrayStands, element_types, array_stands, array_begins, array_counts, elements_there}
 use Rattle.dbus_walk.proofs.Parts.{NumberStands, TextStands, number_is}

@@ -11,7 +11,7 @@ use Rattle.dbus_value_model.specs.Values.{ValueTree, NoValues, MoreValues}
 use Rattle.dbus_value_model.specs.Spelling.{spelling, Spelled}
 use Rattle.dbus_value_model.specs.Reading.{Outcome, Done, Faulty, Partial, after, value}
 use Rattle.dbus_value_model.specs.ValueItems as items
-use Rattle.dbus_value_model.specs.Gets.{IsValuePartial}
+use Rattle.dbus_value_model.specs.RoundTrip.{IsValuePartial}
 use Rattle.dbus_value_laws.proofs.Agreement.{after_done, after_faulty}
 use Rattle.dbus_value_laws.proofs.ValueOutcomes.{reads_spelled, reads_faults}
 use Rattle.dbus_value_laws.proofs.ValueSteps.{single_shaped}
@@ -21,7 +21,7 @@ use Rattle.dbus_value_checker.specs.Moves.{Runs, IsLive, offset_of, values_on}
 use Rattle.dbus_value_checker.specs.declared.values.ValueChecker.{ValueChecker}
 use Rattle.dbus_value_checker.proofs.Calls.{over_last}
 use Rattle.dbus_walk.specs.Standing.{Stands}
-use Rattle.dbus_unmarshal.specs.Validating.{IsSpelledThere, Validates}
+use Rattle.dbus_unmarshal.specs.Builds.{IsSpelledThere, Validates}
 
 -- what is answered where it is
 abbrev pub asked : Bounds → Order → (depth_left end : ℕ) → TypeTree → (at : ℕ) → Answer

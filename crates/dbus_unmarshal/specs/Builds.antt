@@ -1,6 +1,6 @@
 -- Which trees values stand for that are built, and what is gathered of a container's parts.
 -- D-Bus Specification, "Type System".
-use Rattle.std.specs.Prelude.{◌≡◌, ℕ, List, [], ◌∷◌, ◌++◌, map, false, IsTrue}
+use Rattle.std.specs.Prelude.{◌≡◌, ℕ, List, [], ◌∷◌, ◌++◌, map, false, IsTrue, drop, Bool, true, Result, Ok, Err}
 use Rattle.dbus_texts.specs.Types.{TypeTree, TypeTrees}
 use Rattle.dbus_texts.specs.PlainTypes.{is_byte}
 use Rattle.dbus_types.specs.SigTypes.{type_tree, type_trees_of}
@@ -9,6 +9,12 @@ use Rattle.dbus_value_model.specs.ValueViews.{value_tree}
 use Rattle.dbus_value_model.specs.Values.{ValueTree, VariantValue, ArrayValue, StructValue, EntryValue, AllOf, AreWellFormed, type_of, types_of, value_trees}
 use Rattle.dbus_value_model.specs.declared.value.Value.{Value}
 use Rattle.dbus_walk.specs.Containers.{parts}
+use Rattle.dbus_value_model.specs.declared.limits.Bounds.{Bounds}
+use Rattle.dbus_value_model.specs.declared.order.Order.{Order}
+use Rattle.dbus_value_model.specs.declared.fault.Fault.{Fault}
+use Rattle.dbus_value_model.specs.Spelling.{Spelled}
+use Rattle.dbus_value_model.specs.ValueItems.{value}
+use Rattle.dbus_value_model.specs.RoundTrip.{IsValuePartial}
 use Rattle.dbus_unmarshal.specs.declared.gathered.Gathered.{Gathered}
 use Rattle.dbus_unmarshal.specs.declared.gathered.Gathered.TheVariants as gathered
 
@@ -95,3 +101,16 @@ Builds held v r = (xs : List ValueTree) → Holds held v xs → parts v ≡ valu
 abbrev pub Closes : {A : Type 0} → Gathered A → Gathered A → ValueTree → Gathered A → Type 0
 Closes m held v later =
     (u : ValueTree) (done us xs : List ValueTree) → IsNext m u done v us → Holds held v xs → parts v ≡ value_trees xs → Holds later u (done ++ v ∷ [])
+
+-- What is said of the bytes where a value is wanted.
+-- D-Bus Specification, "Marshaling (Wire Format)".
+
+-- a value of the type is spelled there whole
+abbrev pub IsSpelledThere : Bounds → Order → (depth_left end : ℕ) → TypeTree → (at : ℕ) → List ℕ → Type 0
+IsSpelledThere bounds order depth_left end t at bytes = (v : ValueTree) × (q : ℕ) × Spelled bounds order depth_left end t at (drop at bytes) v q (drop q bytes)
+
+-- whether one is, or the first fault of the bytes
+abbrev pub Validates : Bounds → Order → (depth_left end : ℕ) → TypeTree → (at : ℕ) → List ℕ → Result Bool Fault → Type 0
+Validates bounds order depth_left end t at bytes (Ok true) = IsSpelledThere bounds order depth_left end t at bytes
+Validates bounds order depth_left end t at bytes (Ok false) = IsValuePartial bounds order depth_left end t at (drop at bytes)
+Validates bounds order depth_left end t at bytes (Err f) = (value bounds order depth_left end t).Refused at (drop at bytes) f

@@ -1,3 +1,2 @@
 pub mod Builds
 pub mod BuildLaws
-pub mod Validating

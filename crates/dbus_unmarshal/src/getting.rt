@@ -5,12 +5,12 @@ ghost use Rattle.std.specs.Prelude.{◌≡◌, ◌-◌, ◌≤◌, length, IfOk,
 ghost use Rattle.dbus_texts.specs.Types.{TypeTree, IsSingleType, sig};
 ghost use Rattle.dbus_types.specs.SigTypes.{type_tree};
 ghost use Rattle.dbus_value_model.specs.PackedBytes.{KeepsBytes};
-ghost use Rattle.dbus_value_model.specs.Gets.{Gets};
+ghost use Rattle.dbus_value_model.specs.RoundTrip.{Gets};
 ghost use Rattle.dbus_value_model.specs.Specification.{specification};
 ghost use Rattle.dbus_value_model.specs.Bounds.{bounds_of, bounds_with};
 ghost use Rattle.dbus_value_model.specs.declared.limits.TheConstants.{DEPTH_LIMIT};
 ghost use Rattle.dbus_value_model.specs.declared.fault.Refusal.TheVariants.{Memory};
-ghost use Rattle.dbus_unmarshal.specs.Validating.{IsSpelledThere, Validates};
+ghost use Rattle.dbus_unmarshal.specs.Builds.{IsSpelledThere, Validates};
 
 use crate::type_text::put_type;
 use crate::values::build_value;

@@ -11,7 +11,7 @@ ghost use Rattle.dbus_value_model.specs.Reading.{number_of};
 ghost use Rattle.dbus_value_model.specs.ValueViews.{value_tree};
 ghost use Rattle.dbus_value_model.specs.Values.{ValueTree, ValueTrees, NumberValue, IsNumber, value_trees};
 ghost use Rattle.dbus_walk.specs.Standing.{ElementsStandAt, ElementsStandThere};
-ghost use Rattle.dbus_walk.specs.Widths.{number_width};
+ghost use Rattle.dbus_walk.specs.Containers.{number_width};
 ghost use Rattle.dbus_unmarshal.specs.Builds.{AreBuilt};
 
 use crate::placing::push_part;

@@ -5,7 +5,7 @@
 ghost use Rattle.std.specs.Prelude.{◌≡◌, ℕ, ◌+◌, ◌≤◌, List, length, IsTrue, IfOk};
 ghost use Rattle.dbus_texts.specs.Types.{sig};
 ghost use Rattle.dbus_types.specs.SigTypes.{type_tree};
-ghost use Rattle.dbus_types.specs.TypeLengths.{AreLengths};
+ghost use Rattle.dbus_types.specs.SignatureCodes.{AreLengths};
 ghost use Rattle.dbus_value_model.specs.PackedBytes.{keeps_bytes, keep_bytes};
 ghost use Rattle.dbus_value_model.specs.Spelling.{spelling};
 ghost use Rattle.dbus_value_model.specs.ValueViews.{value_tree, value_trees_of};

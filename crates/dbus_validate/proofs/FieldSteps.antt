@@ -9,14 +9,12 @@ use Rattle.dbus_value_model.specs.Items.{fault, no_row}
 use Rattle.dbus_value_model.specs.Reading.{Done, padding, number}
 use Rattle.dbus_value_laws.proofs.ReadSteps.{number_done, number_overrun, one_byte}
 use Rattle.dbus_message_model.specs.Messages.{FieldTree, want, is_known, has_code}
-use Rattle.dbus_header.specs.HeaderReading.{wanted_value, field_read}
+use Rattle.dbus_header.specs.HeaderReading.{wanted_value, field_read, opening}
 use Rattle.dbus_header.specs.MessageItems.{code_row}
-use Rattle.dbus_header.specs.MessageReading.{opening}
 use Rattle.dbus_value_validator.specs.Endings.{IsNotRead}
 use Rattle.dbus_value_validator.proofs.ReadParts.{not_faulty, not_first, not_then, number_read, row_against}
 use Rattle.dbus_validate.specs.declared.field_values.Held.{Held}
-use Rattle.dbus_validate.specs.Held.{IsHeld, IsHeldField}
-use Rattle.dbus_validate.specs.Seen.{known_start, text_start}
+use Rattle.dbus_validate.specs.Seen.{IsHeld, IsHeldField, known_start, text_start}
 
 closed : (depth_left o : ℕ) (s : List ℕ) → depth_left ≡ 0 → IsNotRead (opening depth_left o s)
 closed depth_left o s none = rw none (not_faulty _ (fault o reasons.TooDeep) refl)

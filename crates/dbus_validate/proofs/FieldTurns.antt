@@ -20,8 +20,7 @@ use Rattle.dbus_value_validator.specs.Endings.{IsNotRead}
 use Rattle.dbus_value_validator.proofs.ReadParts.{not_partial, not_same, not_first}
 use Rattle.dbus_validate.specs.declared.field_values.Held.{Held}
 use Rattle.dbus_validate.specs.declared.seen.FieldPlaces.{FieldPlaces}
-use Rattle.dbus_validate.specs.Held.{IsNoted, IsHeldField}
-use Rattle.dbus_validate.specs.Seen.{AreNoted, ArePlaced, field_start, known_start, text_start}
+use Rattle.dbus_validate.specs.Seen.{IsNoted, IsHeldField, AreNoted, ArePlaced, field_start, known_start, text_start}
 
 -- ---- where the fields begin
 

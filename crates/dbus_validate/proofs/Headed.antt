@@ -20,9 +20,8 @@ use Rattle.dbus_header.proofs.StatedLengths.{header_states}
 use Rattle.dbus_value_validator.specs.Endings.{EndsAt, IsNotRead}
 use Rattle.dbus_validate.specs.declared.validating.Head.{Head}
 use Rattle.dbus_validate.specs.declared.seen.FieldPlaces.{FieldPlaces}
-use Rattle.dbus_validate.specs.Headed.{IsHeaded, validated_of}
+use Rattle.dbus_validate.specs.Validating.{IsHeaded, validated_of, IsValidated}
 use Rattle.dbus_validate.specs.Seen.{AreNoted}
-use Rattle.dbus_validate.specs.Validating.{IsValidated}
 use Rattle.dbus_header.specs.NoMessage.{BeginsWithNone}
 use Rattle.dbus_validate.proofs.Firsts.{has_stated}
 use Rattle.dbus_validate.proofs.WholeRefusals.{no_body}

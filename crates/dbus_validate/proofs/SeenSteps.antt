@@ -9,12 +9,11 @@ use Rattle.dbus_value_model.specs.declared.fault.Reason.TheVariants as reasons
 use Rattle.dbus_value_model.specs.declared.order.Order.{Order}
 use Rattle.dbus_value_model.specs.Values.{ValueTree}
 use Rattle.dbus_message_model.specs.Messages.{FieldTree, Want, Anything, OfType, Name, Serial, want, is_particular, is_known, has_code, lacks, required, text_in, number_in, body_signature, fd_count}
-use Rattle.dbus_message_model.specs.Lookups.{field_value}
+use Rattle.dbus_message_model.specs.KnownFields.{field_value}
 use Rattle.dbus_validate.specs.declared.field_values.Held.{Held}
 use Rattle.dbus_validate.specs.declared.seen.FieldPlace.{FieldPlace}
 use Rattle.dbus_validate.specs.declared.seen.FieldPlaces.{FieldPlaces}
-use Rattle.dbus_validate.specs.Held.{IsNoted}
-use Rattle.dbus_validate.specs.Seen.{StandsAt, IsNotedOf, AreNoted, ArePlaced, fields_before, field_start, known_start, text_start, field_text_start}
+use Rattle.dbus_validate.specs.Seen.{IsNoted, StandsAt, IsNotedOf, AreNoted, ArePlaced, fields_before, field_start, known_start, text_start, field_text_start}
 
 -- ---- codes among fields
 

@@ -9,15 +9,14 @@ use Rattle.dbus_value_model.specs.declared.stop.Stop.{Stop}
 use Rattle.dbus_value_model.specs.declared.stop.Stop.TheVariants as stops
 use Rattle.dbus_value_model.specs.ByteNumbers.{IsBytes}
 use Rattle.dbus_value_model.specs.Bytes.{gap_to}
-use Rattle.dbus_value_model.specs.Gives.{Stops}
+use Rattle.dbus_value_model.specs.ValueReaders.{Stops}
 use Rattle.dbus_value_model.specs.Items.{fault}
 use Rattle.dbus_value_model.specs.Reading.{Outcome, Done, padding, validate}
 use Rattle.dbus_value_laws.proofs.ReadSteps.{padding_is}
 use Rattle.dbus_message_model.specs.Messages.{FieldTree, lacks, required, body_signature, body_fds}
 use Rattle.dbus_header.specs.declared.fixed_header.FixedHeader.{FixedHeader}
 use Rattle.dbus_header.specs.HeaderReading.{fixed_header, fields_read, body_read, message_read}
-use Rattle.dbus_header.proofs.OutcomeLaws.{whole_reads}
-use Rattle.dbus_header.proofs.OutcomeLaws.{whole_for_good}
+use Rattle.dbus_header.proofs.OutcomeLaws.{whole_reads, whole_for_good}
 use Rattle.dbus_header.proofs.StatedLengths.{header_states, stated_holds}
 use Rattle.dbus_value_validator.specs.Endings.{IsNotRead}
 use Rattle.dbus_value_validator.proofs.ReadParts.{not_same, not_first, not_faulty, not_partial}

@@ -16,7 +16,7 @@ ghost use Rattle.dbus_message_model.specs.Messages.{Anything, OfType, Name, Seri
 ghost use Rattle.dbus_header.specs.HeaderReading.{wanted_signature};
 ghost use Rattle.dbus_header.specs.declared.field_limits.TheConstants.{FIELD_DEPTH};
 ghost use Rattle.dbus_value_validator.specs.Endings.{IsNotRead};
-ghost use Rattle.dbus_validate.specs.Held.{Holds};
+ghost use Rattle.dbus_validate.specs.Seen.{Holds};
 
 use dbus_header::{FIELD_DEPTH, NAME_LIMIT};
 use dbus_message_model::field_table::{Wanted, want};

@@ -7,8 +7,7 @@ ghost use Rattle.dbus_header.specs.HeaderReading.{fields_read};
 ghost use Rattle.dbus_header.specs.declared.field_limits.TheConstants.{FIELD_DEPTH};
 ghost use Rattle.dbus_message_model.specs.Messages.{FieldTree};
 ghost use Rattle.dbus_value_validator.specs.Endings.{IsNotRead};
-ghost use Rattle.dbus_validate.specs.Held.{HoldsField};
-ghost use Rattle.dbus_validate.specs.Seen.{AreNoted, ArePlaced};
+ghost use Rattle.dbus_validate.specs.Seen.{HoldsField, AreNoted, ArePlaced};
 
 use crate::field_values::{Held, validate_field_value};
 use crate::seen::FieldPlaces;

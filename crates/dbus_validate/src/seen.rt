@@ -6,7 +6,7 @@ ghost use Rattle.std.specs.Prelude.{◌≡◌, ◌+◌, ◌≤◌, ◌<◌, ◌^
 ghost use Rattle.dbus_value_model.specs.declared.order.Order.{Order};
 ghost use Rattle.dbus_value_model.specs.Values.{ValueTree};
 ghost use Rattle.dbus_message_model.specs.Messages.{FieldTree, want, is_known, has_code, lacks, required, body_signature, fd_count};
-ghost use Rattle.dbus_validate.specs.Held.{IsNoted};
+ghost use Rattle.dbus_validate.specs.Seen.{IsNoted};
 
 use crate::field_values::Held;
 use dbus_message_model::field_table::is_known;

@@ -10,9 +10,8 @@ ghost use Rattle.dbus_message_model.specs.Messages.{FieldTree, MessageTree, body
 ghost use Rattle.dbus_header.specs.HeaderReading.{body_read};
 ghost use Rattle.dbus_header.specs.MessageOutcomes.{IsWhole};
 ghost use Rattle.dbus_value_validator.specs.Endings.{EndsAt, IsNotRead};
-ghost use Rattle.dbus_validate.specs.Validating.{IsValidated, IsValidatedWhole};
+ghost use Rattle.dbus_validate.specs.Validating.{IsValidated, IsValidatedWhole, IsHeaded, validated_of};
 ghost use Rattle.dbus_header.specs.NoMessage.{BeginsWithNone};
-ghost use Rattle.dbus_validate.specs.Headed.{IsHeaded, validated_of};
 ghost use Rattle.dbus_validate.specs.Seen.{AreNoted};
 
 use crate::fields::validate_fields;

@@ -3,13 +3,13 @@
 #![tactic(auto)]
 
 ghost use Rattle.std.specs.Prelude.{◌≡◌, ℕ, List, []};
-ghost use Rattle.dbus_types.specs.TypeLengths.{AreLengths};
+ghost use Rattle.dbus_types.specs.SignatureCodes.{AreLengths};
 ghost use Rattle.dbus_value_model.specs.Values.{MoreValues, NoValues};
 ghost use Rattle.dbus_message_model.specs.Messages.{MessageTree, body_start, field_array};
 ghost use Rattle.dbus_walk.specs.Fields.{FieldsStand};
 ghost use Rattle.dbus_walk.specs.Standing.{AllStandAt};
 ghost use Rattle.dbus_walk.specs.declared.spot.MessageBytes.{MessageBytes};
-ghost use Rattle.dbus_validate.specs.Wholes.{WasValidated, IsOwn, IsWholeOf};
+ghost use Rattle.dbus_validate.specs.Validating.{WasValidated, IsOwn, IsWholeOf};
 
 use crate::validating::Validated;
 use dbus_value_model::Limits;

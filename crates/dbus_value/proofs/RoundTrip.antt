@@ -9,8 +9,7 @@ use Rattle.dbus_value_model.specs.declared.fault.Refusal.{Refusal}
 use Rattle.dbus_value_model.specs.declared.fault.Refusal.TheVariants.{Memory, Format}
 use Rattle.dbus_value_model.specs.declared.got.Got.{Got}
 use Rattle.dbus_value_model.specs.declared.got.Got.TheVariants.{Done, Partial}
-use Rattle.dbus_value_model.specs.Gets.{Gets}
-use Rattle.dbus_value_model.specs.RoundTrip.{PassesCheck, GivesBack, WrittenIsRead}
+use Rattle.dbus_value_model.specs.RoundTrip.{Gets, PassesCheck, GivesBack, WrittenIsRead}
 use Rattle.dbus_value_model.specs.Sizes.{sized}
 use Rattle.dbus_value_model.specs.Bounds.{bounds_with}
 use Rattle.dbus_value_model.specs.Spelling.{spelling, Spelled}

@@ -1,5 +1,5 @@
 -- Calls one after another.
-use Rattle.std.proofs.Common.{◌≡◌, ℕ, ◌+◌, ◌≤◌, List, ◌++◌, length, take, drop, Ok, Err, sym, ap, subst, ◌∙◌, arith}
+use Rattle.std.proofs.Common.{◌≡◌, ℕ, ◌+◌, ◌≤◌, List, ◌++◌, length, take, drop, Ok, Err, sym, ap, subst, ◌∙◌, arith, suc, ◌<◌}
 use Rattle.std.proofs.Math.Path.{fun_ext}
 use Rattle.std.proofs.lemmas.List.{length-drop, take-append-drop}
 use Rattle.dbus_value_model.specs.Reading.{Outcome}
@@ -9,7 +9,6 @@ use Rattle.dbus_value_checker.specs.declared.values.ValueChecker.{ValueChecker}
 use Rattle.dbus_value_checker.specs.declared.values.Doing.{Doing}
 use Rattle.dbus_value_checker.specs.declared.values.Doing.TheVariants as doing
 use Rattle.dbus_value_checker.specs.Suspended.{On}
-use Rattle.std.proofs.Common.{suc, ◌<◌}
 use Rattle.dbus_texts.specs.Types.{sig}
 use Rattle.dbus_value_checker.proofs.Slices.{slice_room}
 use Rattle.dbus_value_checker.proofs.FrameLaws.{inner_of}

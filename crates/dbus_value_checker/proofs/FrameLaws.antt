@@ -2,10 +2,9 @@
 use Rattle.std.proofs.Common.{ℕ, ◌<◌, ◌≤◌, List, [], ◌∷◌, arith, ◌≡◌, suc, ◌+◌, ◌*◌, length, reverse, sym, ap, subst, ◌∙◌}
 use Rattle.dbus_value_checker.specs.declared.values.Frame.{Frame}
 use Rattle.dbus_value_checker.specs.Suspended.{Work, Parts, Elements}
-use Rattle.dbus_value_checker.specs.Frames.{IsFrame, AreFrames, extra, Framed}
+use Rattle.dbus_value_checker.specs.Denotations.{IsFrame, AreFrames, extra, Framed, HasFrames}
 use Rattle.std.proofs.lemmas.List.{reverse-append, length-reverse}
 use Rattle.dbus_value_checker.specs.declared.values.ValueChecker.{ValueChecker}
-use Rattle.dbus_value_checker.specs.Denotations.{HasFrames}
 use Rattle.dbus_value_checker.specs.Moves.{Pushed}
 
 -- turns that reach further are enough too

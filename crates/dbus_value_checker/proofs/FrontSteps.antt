@@ -1,5 +1,5 @@
 -- Items at the front of some bytes.
-use Rattle.std.proofs.Common.{◌≡◌, ℕ, zero, suc, ◌+◌, ◌<◌, ◌≤◌, List, [], ◌∷◌, ◌++◌, length, get_or, take, drop, replicate, Option, Some, None, refl, sym, ap, subst, ◌∙◌, arith, append_assoc, inl, inr}
+use Rattle.std.proofs.Common.{◌≡◌, ℕ, zero, suc, ◌+◌, ◌<◌, ◌≤◌, List, [], ◌∷◌, ◌++◌, length, get_or, take, drop, replicate, Option, Some, None, refl, sym, ap, subst, ◌∙◌, arith, append_assoc, inl, inr, Ok, Err}
 use Rattle.std.specs.Prelude.{◌⊎◌}
 use Rattle.std.proofs.lemmas.Bool.{lt-ltb, le-ltb}
 use Rattle.std.proofs.lemmas.List.{take_more, take_all, drop_more, take-append-drop, length-take}
@@ -10,15 +10,13 @@ use Rattle.dbus_value_model.specs.declared.fault.Reason.{Reason}
 use Rattle.dbus_value_model.specs.declared.fault.Reason.TheVariants as reasons
 use Rattle.dbus_value_model.specs.declared.fault.Fault.{Fault}
 use Rattle.dbus_value_model.specs.Bytes.{gap_to}
-use Rattle.dbus_value_model.specs.Items.{fault}
-use Rattle.dbus_value_model.specs.Reading.{Reader, Outcome, Done, Faulty, Partial, after, zeros, padding, number, number_of, validated}
-use Rattle.std.proofs.Common.{Ok, Err}
+use Rattle.dbus_value_model.specs.Items.{fault, text_reason}
+use Rattle.dbus_value_model.specs.Reading.{Reader, Outcome, Done, Faulty, Partial, after, zeros, padding, number, number_of, validated, text}
 use Rattle.dbus_value_checker.proofs.Chains.{split-at, first_err, then_err, then_ok, front_as, forgotten}
-use Rattle.dbus_texts.specs.Types.{NumberCode, BYTE, BOOLEAN, INT16, UINT16, INT32, UINT32, INT64, UINT64, DOUBLE, UNIX_FD, TextCode, STRING, OBJECT_PATH, SIGNATURE, number_code, text_code}
+use Rattle.dbus_texts.specs.Types.{NumberCode, BYTE, BOOLEAN, INT16, UINT16, INT32, UINT32, INT64, UINT64, DOUBLE, UNIX_FD, TextCode, STRING, OBJECT_PATH, SIGNATURE, number_code, text_code, TypeTree, NumberType}
 use Rattle.dbus_types.specs.Alignments.{width, length_width, alignment_of}
 use Rattle.dbus_value_model.specs.ValueItems.{number_row, text_row, array_row}
 use Rattle.dbus_value_model.specs.ValueReaders.{array_frame}
-use Rattle.dbus_texts.specs.Types.{TypeTree, NumberType}
 use Rattle.dbus_types.proofs.TypeCodes.{boolean_is, descriptor_is}
 use Rattle.dbus_value_model.specs.declared.stop.Stop.{Stop}
 use Rattle.dbus_value_model.specs.declared.stop.Stop.TheVariants as stops
@@ -26,8 +24,6 @@ use Rattle.dbus_value_checker.specs.declared.values.ValueChecker.{ValueChecker}
 use Rattle.dbus_value_checker.specs.Moves.{Moves}
 use Rattle.dbus_value_checker.specs.Fronts.{Halts, Fronts, Lack}
 use Rattle.dbus_value_checker.specs.Suspended.{On, onward, done}
-use Rattle.dbus_value_model.specs.Items.{text_reason}
-use Rattle.dbus_value_model.specs.Reading.{text}
 use Rattle.dbus_value_model.specs.WantedTexts.{WantedText, IsWanted, IsBreakOf}
 use Rattle.dbus_value_model.specs.ComputedTexts.{break_at}
 use Rattle.dbus_value_laws.proofs.OwnItems.{zeros_pass}

@@ -7,17 +7,15 @@ use Rattle.dbus_value_model.specs.Reading.{value}
 use Rattle.dbus_value_checker.specs.declared.values.ValueChecker.{ValueChecker}
 use Rattle.dbus_value_checker.specs.declared.values.Frame.{Frame}
 use Rattle.dbus_value_checker.specs.declared.values.Doing.TheVariants as rust
-use Rattle.dbus_types.specs.SignatureCodes.{IsTypeEnd}
+use Rattle.dbus_types.specs.SignatureCodes.{IsTypeEnd, AreLengths}
 use Rattle.dbus_value_checker.specs.Suspended.{onward, Work, Parts, Elements, On}
-use Rattle.dbus_value_checker.specs.Frames.{slice, AreFrames, AreNoted}
-use Rattle.dbus_value_checker.specs.Denotations.{Answer, rest_of, HasFrames, HasNotes, Goes, Wants}
+use Rattle.dbus_value_checker.specs.Denotations.{slice, AreFrames, AreNoted, Answer, rest_of, HasFrames, HasNotes, Goes, Wants}
 use Rattle.dbus_value_checker.proofs.Suspension.{parts_more, elements_more, elements_none}
 use Rattle.dbus_value_checker.specs.Moves.{Pushed, values_on}
 use Rattle.dbus_value_checker.proofs.FrameLaws.{frame_within, within, frames_reach}
 use Rattle.dbus_value_checker.proofs.Notes.{part_noted, same_notes, after_noted}
 use Rattle.dbus_value_checker.proofs.TypeCodes.{sigs_some}
 use Rattle.dbus_value_checker.proofs.Slices.{slice_room, slice_whole, slice_after, slice_first}
-use Rattle.dbus_types.specs.TypeLengths.{AreLengths}
 
 -- a state whose only frame is that of these types
 pub begun_goes : (x : ValueChecker) (types : List ℕ) (depth_left : ℕ) (ts : TypeTrees) (last : On)

@@ -2,12 +2,11 @@
 use Rattle.std.proofs.Common.{◌≡◌, ℕ, ◌+◌, ◌-◌, ◌<◌, ◌≤◌, List, [], ◌∷◌, ◌++◌, length, reverse, take, drop, get_or, refl, sym, ap, subst, ◌∙◌, arith, append_assoc}
 use Rattle.std.proofs.lemmas.List.{reverse-append, length-append, take-take, take_all, drop-drop, drop-take, drop_at, take-append-drop, get_or-take, get_or-drop}
 use Rattle.dbus_texts.specs.Types.{sig}
-use Rattle.dbus_types.specs.TypeLengths.{AreLengths}
+use Rattle.dbus_types.specs.SignatureCodes.{AreLengths}
 use Rattle.dbus_value_checker.specs.declared.values.ValueChecker.{ValueChecker}
 use Rattle.dbus_value_checker.specs.declared.values.Frame.{Frame}
 use Rattle.dbus_value_checker.specs.Suspended.{Work}
-use Rattle.dbus_value_checker.specs.Frames.{slice, AreFrames, AreNoted, IsNoted}
-use Rattle.dbus_value_checker.specs.Denotations.{HasNotes}
+use Rattle.dbus_value_checker.specs.Denotations.{slice, AreFrames, AreNoted, IsNoted, HasNotes}
 use Rattle.dbus_value_checker.specs.Moves.{Pushed}
 
 module _ (text lengths : List ℕ) where

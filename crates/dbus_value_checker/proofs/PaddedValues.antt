@@ -1,5 +1,5 @@
 -- A value whose padding is there.
-use Rattle.std.proofs.Common.{◌≡◌, ℕ, suc, ◌+◌, ◌-◌, ◌*◌, ◌<◌, ◌≤◌, List, [], ◌∷◌, ◌++◌, length, reverse, take, get_or, true, false, Ok, Err, refl, sym, ap, subst, ◌∙◌, arith, inl, inr}
+use Rattle.std.proofs.Common.{◌≡◌, ℕ, suc, ◌+◌, ◌-◌, ◌*◌, ◌<◌, ◌≤◌, List, [], ◌∷◌, ◌++◌, length, reverse, take, get_or, true, false, Ok, Err, refl, sym, ap, subst, ◌∙◌, arith, inl, inr, Result}
 use Rattle.std.specs.Prelude.{◌⊎◌}
 use Rattle.dbus_texts.specs.Types.{NumberCode, TextCode, TypeTree, NumberType, TextType, VariantType, ArrayType, StructType, EntryType, TypeTrees, NoTypes, MoreTypes, number_code, text_code, sig, sigs, IsShaped, AreShaped}
 use Rattle.dbus_types.specs.Alignments.{width, length_width, alignment_of}
@@ -18,14 +18,11 @@ use Rattle.dbus_value_checker.specs.declared.values.ValueChecker.{ValueChecker}
 use Rattle.dbus_value_checker.specs.declared.values.Frame.{Frame}
 use Rattle.dbus_types.specs.SignatureCodes.{first_code}
 use Rattle.dbus_types.proofs.TypeCodes.{begins, after_code, variant_is}
-use Rattle.dbus_value_checker.specs.Codes.{IsNumberCode}
+use Rattle.dbus_value_checker.specs.Fronts.{IsNumberCode, Fronts}
 use Rattle.dbus_value_checker.specs.Suspended.{On, onward, done, Work, Parts, Elements, elements, work, works, TextItem, AString, AHeld, item_code, item_kind, item_width, item_on, head, ALength, own, own_of, opened_by}
-use Rattle.dbus_value_checker.specs.Fronts.{Fronts}
-use Rattle.dbus_value_checker.specs.Frames.{slice, Framed, extra}
-use Rattle.std.proofs.Common.{Result}
+use Rattle.dbus_value_checker.specs.Denotations.{slice, Framed, extra, Answer, rest_of, HasFrames, Goes, Wants, Ready, IsKept, Texts, after_piece}
 use Rattle.dbus_texts.specs.declared.text_kind.TextKind.{TextKind}
 use Rattle.dbus_texts.specs.declared.text_kind.TextKind.TheVariants as kinds
-use Rattle.dbus_value_checker.specs.Denotations.{Answer, rest_of, HasFrames, Goes, Wants, Ready, IsKept, Texts, after_piece}
 use Rattle.dbus_value_checker.specs.Moves.{Moves, Pushed, Enters}
 use Rattle.dbus_value_checker.proofs.Suspension.{works_as, value_begins, after_after}
 use Rattle.dbus_value_checker.proofs.FrontSteps.{front_taken, front_stops}

@@ -2,7 +2,7 @@
 use Rattle.std.proofs.Common.{◌≡◌, ℕ, suc, ◌+◌, ◌-◌, ◌<◌, ◌≤◌, List, [], ◌∷◌, ◌++◌, length, take, drop, get_or, refl, sym, ap, subst, ◌∙◌, arith}
 use Rattle.std.proofs.lemmas.List.{take_at, drop_at, take-take, drop-drop, drop-take, length-append, length-drop, length-take, get_or-take}
 use Rattle.std.proofs.Math.Seq.{drop-cons}
-use Rattle.dbus_value_checker.specs.Frames.{slice}
+use Rattle.dbus_value_checker.specs.Denotations.{slice}
 
 pub slice_room : (text : List ℕ) (pos stop : ℕ) (a : List ℕ) → pos ≤ stop → slice text pos stop ≡ a → pos + length a ≤ stop
 slice_room text pos stop a h e =

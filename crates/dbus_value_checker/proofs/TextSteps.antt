@@ -1,5 +1,5 @@
 -- Texts, whose bytes come in pieces.
-use Rattle.std.proofs.Common.{◌-◌, ◌≡◌, ℕ, zero, suc, ◌+◌, ◌<◌, ◌≤◌, List, [], ◌∷◌, ◌++◌, length, take, drop, get_or, true, false, refl, sym, ap, subst, ◌∙◌, arith, append_assoc}
+use Rattle.std.proofs.Common.{◌-◌, ◌≡◌, ℕ, zero, suc, ◌+◌, ◌<◌, ◌≤◌, List, [], ◌∷◌, ◌++◌, length, take, drop, get_or, true, false, refl, sym, ap, subst, ◌∙◌, arith, append_assoc, Ok, Err}
 use Rattle.std.proofs.lemmas.List.{take-take, append-nil, take_more, take_all, take-append-drop, length-append, length-take}
 use Rattle.arrayvec.specs.ArrayVec.{ArrayVec}
 use Rattle.dbus_texts.specs.Types.{TextCode, STRING, OBJECT_PATH, SIGNATURE, text_code}
@@ -7,7 +7,7 @@ use Rattle.dbus_texts.specs.declared.text_kind.TextKind.{TextKind}
 use Rattle.dbus_texts.specs.declared.text_kind.TextKind.TheVariants as kinds
 use Rattle.dbus_texts.specs.declared.scan.TextScan.{TextScan}
 use Rattle.dbus_texts.specs.Kinds.{IsKind}
-use Rattle.dbus_texts.specs.LimitedKinds.{IsPrefixOf}
+use Rattle.dbus_texts.specs.Verdicts.{IsPrefixOf}
 use Rattle.dbus_texts.specs.Scans.{Stands}
 use Rattle.dbus_texts.specs.Scans as scans
 use Rattle.dbus_value_model.specs.WantedTexts.{WantedText, Of, IsWanted}
@@ -23,7 +23,6 @@ use Rattle.dbus_value_model.specs.declared.stop.Stop.{Stop}
 use Rattle.dbus_value_checker.specs.Fronts.{Fronts}
 use Rattle.dbus_value_checker.specs.Moves.{Moves}
 use Rattle.dbus_value_checker.proofs.FrontSteps.{front_taken, front_stops}
-use Rattle.std.proofs.Common.{Ok, Err}
 use Rattle.dbus_value_checker.proofs.Suspension.{text_waits, text_breaks, text_ends, text_not}
 use Rattle.dbus_value_checker.proofs.FrameLaws.{frames_at}
 use Rattle.dbus_value_laws.proofs.KindLaws.{break_is, one_break, is_wanted, is_not_wanted}

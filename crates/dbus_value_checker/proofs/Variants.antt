@@ -12,11 +12,10 @@ use Rattle.dbus_value_checker.specs.declared.values.ValueChecker.{ValueChecker}
 use Rattle.dbus_value_checker.specs.declared.values.Frame.{Frame}
 use Rattle.dbus_value_checker.specs.declared.values.Doing.TheVariants as doing
 use Rattle.dbus_value_checker.specs.Suspended.{onward, Work, Parts, Elements, works}
-use Rattle.dbus_value_checker.specs.Frames.{slice, IsFrame, Framed, AreFrames, AreNoted}
-use Rattle.dbus_value_checker.specs.Denotations.{Answer, rest_of, Held, Nuls}
+use Rattle.dbus_value_checker.specs.Denotations.{slice, IsFrame, Framed, AreFrames, AreNoted, Answer, rest_of, Held, Nuls}
 use Rattle.dbus_value_checker.proofs.Suspension.{parts_more}
 use Rattle.dbus_value_checker.proofs.FrameLaws.{inner_of, within}
-use Rattle.dbus_types.specs.TypeLengths.{AreLengths}
+use Rattle.dbus_types.specs.SignatureCodes.{AreLengths}
 use Rattle.dbus_value_checker.proofs.Notes.{shorter, notes_same, after_noted, same_notes}
 
 -- ---- the signatures in use stay as they are

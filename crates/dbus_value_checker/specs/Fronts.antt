@@ -1,5 +1,5 @@
 -- What the front of some bytes is read as.
-use Rattle.std.specs.Prelude.{◌≡◌, ℕ, ◌+◌, ◌<◌, ◌≤◌, ◌++◌, List, length, take, Result, Ok, Err}
+use Rattle.std.specs.Prelude.{◌≡◌, ℕ, ◌+◌, ◌<◌, ◌≤◌, ◌++◌, List, length, take, Result, Ok, Err, ◌≢◌}
 use Rattle.dbus_value_model.specs.declared.order.Order.{Order}
 use Rattle.dbus_value_model.specs.declared.fault.Reason.TheVariants as reasons
 use Rattle.dbus_value_model.specs.declared.stop.Stop.{Stop}
@@ -39,3 +39,15 @@ IsWord order o end s (Err e) = Lack 4 o end s e
 abbrev pub IsByte : ℕ → ℕ → List ℕ → Result ℕ Stop → Type 0
 IsByte o end s (Ok n) = (1 ≤ length s) × (o + 1 ≤ end) × ((order : Order) → n ≡ number_of order (take 1 s))
 IsByte o end s (Err e) = Lack 1 o end s e
+
+-- Which codes are none of a number.
+
+-- no code of a text or of a container
+pub record IsNumberCode (c : ℕ) : Type 0 where
+  pub array : c ≢ 97
+  pub struct : c ≢ 40
+  pub entry : c ≢ 123
+  pub signature : c ≢ 103
+  pub path : c ≢ 111
+  pub string : c ≢ 115
+  pub variant : c ≢ 118

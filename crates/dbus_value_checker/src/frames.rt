@@ -10,8 +10,7 @@ use dbus_value_model::{Reason, Stop, gap, refuse};
 
 impl ValueChecker {
     ghost use Rattle.dbus_types.specs.SignatureCodes.{IsTypeEnd};
-    ghost use Rattle.dbus_value_checker.specs.Denotations.{Answer, Denotes, Goes, HasNotes, Ready, denotes};
-    ghost use Rattle.dbus_value_checker.specs.Frames.{IsNoted};
+    ghost use Rattle.dbus_value_checker.specs.Denotations.{Answer, Denotes, Goes, HasNotes, Ready, denotes, IsNoted};
     ghost use Rattle.dbus_value_checker.specs.Moves.{Opens, Enters, wide};
     ghost use Rattle.dbus_value_model.specs.declared.stop.Stop.TheVariants.{Partial};
 

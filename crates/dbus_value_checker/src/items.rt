@@ -9,7 +9,7 @@ use dbus_types::boundary;
 use dbus_value_model::{Reason, Stop, refuse};
 
 impl ValueChecker {
-    ghost use Rattle.dbus_value_checker.specs.Codes.{IsNumberCode};
+    ghost use Rattle.dbus_value_checker.specs.Fronts.{IsNumberCode};
     ghost use Rattle.dbus_value_checker.specs.Denotations.{Answer, Wants, Ready, Numbers};
     ghost use Rattle.dbus_value_checker.specs.Moves.{Moves, wide};
     ghost use Rattle.dbus_value_model.specs.declared.stop.Stop.TheVariants.{Partial};

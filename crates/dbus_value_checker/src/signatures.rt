@@ -2,7 +2,7 @@
 #![tactic(auto)]
 
 ghost use Rattle.std.specs.Prelude.{◌≡◌, ◌+◌, ◌≤◌, ℕ, List, ◌++◌, length, take};
-ghost use Rattle.dbus_types.specs.TypeLengths.{AreLengths};
+ghost use Rattle.dbus_types.specs.SignatureCodes.{AreLengths};
 
 use arrayvec::ArrayVec;
 use dbus_types::lengths_in;

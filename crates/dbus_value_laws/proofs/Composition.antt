@@ -9,7 +9,7 @@ use Rattle.dbus_value_model.specs.declared.order.Order.{Order}
 use Rattle.dbus_value_model.specs.Bytes.{num, gap_to, pad}
 use Rattle.dbus_value_model.specs.FdIndexes.{IsIndexBelow}
 use Rattle.dbus_value_model.specs.Spelling.{contents_start, ended_text, spelling, spellings, Spelled}
-use Rattle.dbus_value_model.specs.SpelledAll.{SpelledAll}
+use Rattle.dbus_value_model.specs.Outcomes.{SpelledAll}
 use Rattle.dbus_value_model.specs.Values.{IsNumber, AllOf, ValueTree, value_trees, ValueTrees, NoValues, MoreValues, NumberValue, TextValue, VariantValue, ArrayValue, StructValue, EntryValue, type_of, types_of}
 use Rattle.dbus_value_model.specs.Items.{Item, Sequence}
 use Rattle.dbus_value_model.specs.ValueItems.{index_row, number_row, text_row, array_row, items, fields}

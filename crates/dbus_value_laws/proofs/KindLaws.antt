@@ -2,7 +2,7 @@
 use Rattle.std.proofs.Common.{append-nil, sym, ◌∙◌, subst, zero, take, inl, inr, ◌≡◌, ℕ, suc, ◌<◌, ◌≤◌, List, [], ◌∷◌, ◌++◌, length, Bool, true, false, eqb, cond, refl, ap, arith}
 use Rattle.std.proofs.lemmas.Bool.{cases_lt, and_parts, and_from, eqb-true, eq-eqb}
 use Rattle.dbus_texts.specs.Types.{TypeTree, TypeTrees, NoTypes, MoreTypes, sig, sigs, IsSingleType, AreShaped}
-use Rattle.dbus_texts.specs.Prefixes.{IsPrefixIn, IsBreakIn}
+use Rattle.dbus_texts.specs.Kinds.{IsPrefixIn, IsBreakIn}
 use Rattle.dbus_texts.specs.ComputedKinds.{type_spelled, types_spelled}
 use Rattle.dbus_texts.specs.declared.text_kind.TextKind.TheVariants as kinds
 use Rattle.dbus_texts.proofs.KindFacts as facts

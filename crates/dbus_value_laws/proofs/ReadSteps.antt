@@ -12,10 +12,9 @@ use Rattle.dbus_value_model.specs.ByteNumbers.{IsBytes}
 use Rattle.dbus_value_model.specs.Items.{fault, no_row}
 use Rattle.dbus_value_model.specs.Reading.{Reader, Outcome, Done, Faulty, Partial, after, zeros, padding, number, number_of, validated, nul}
 use Rattle.dbus_value_model.specs.declared.stop.Stop.{Stop}
-use Rattle.dbus_value_model.specs.Gives.{Stops}
+use Rattle.dbus_value_model.specs.ValueReaders.{Stops, array_frame}
 use Rattle.dbus_value_model.specs.ValueItems.{text_row, array_row}
 use Rattle.dbus_texts.specs.Types.{TypeTree}
-use Rattle.dbus_value_model.specs.ValueReaders.{array_frame}
 use Rattle.dbus_types.specs.Alignments.{alignment_of}
 use Rattle.dbus_value_model.specs.declared.limits.Bounds.{Bounds}
 use Rattle.dbus_value_model.specs.declared.fault.Reason.TheVariants as reasons

@@ -3,7 +3,7 @@ use Rattle.std.proofs.Common.{◌≡◌, ℕ, ◌<◌, Option, refl, sym, arith}
 use Rattle.dbus_texts.specs.Types.{NumberCode, BYTE, BOOLEAN, INT16, UINT16, INT32, UINT32, INT64, UINT64, DOUBLE, UNIX_FD, TypeTree, NumberType, TextType, VariantType, ArrayType, StructType, EntryType}
 use Rattle.dbus_types.specs.Alignments.{width}
 use Rattle.dbus_types.specs.SignatureCodes.{free_width_of}
-use Rattle.dbus_value_model.specs.FreeNumbers.{IsFree}
+use Rattle.dbus_value_model.specs.ValueReaders.{IsFree}
 
 -- a type of which every number may stand
 pub record FreeType (t : TypeTree) (w : ℕ) : Type 0 where

@@ -6,7 +6,7 @@ use Rattle.dbus_types.specs.Alignments.{length_width, alignment_of}
 use Rattle.dbus_value_model.specs.Bytes.{gap_to, num, pad}
 use Rattle.dbus_value_model.specs.declared.order.Order.TheVariants.{Little}
 use Rattle.dbus_value_model.specs.Forming.{IsNamed, AreNamed, IsRanged, AreRanged}
-use Rattle.dbus_value_model.specs.Ranges.{HoldsNumbers, HoldNumbers}
+use Rattle.dbus_value_model.specs.Verdicts.{HoldsNumbers, HoldNumbers}
 use Rattle.dbus_value_model.specs.Spelling.{spelling, spellings, contents_start, ended_text}
 use Rattle.dbus_value_model.specs.Values.{ValueTree, ValueTrees, NoValues, MoreValues, NumberValue, TextValue, VariantValue, ArrayValue, StructValue, EntryValue, type_of}
 

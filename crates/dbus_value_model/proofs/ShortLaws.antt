@@ -2,7 +2,7 @@
 use Rattle.std.proofs.Common.{ℕ, zero, suc, arith}
 use Rattle.dbus_texts.specs.Types.{STRING, OBJECT_PATH, SIGNATURE}
 use Rattle.dbus_value_model.specs.Forming.{IsUniform, AreUniform, IsNamed, AreNamed}
-use Rattle.dbus_value_model.specs.ShortSignatures.{HasShortSignatures, HaveShortSignatures}
+use Rattle.dbus_value_model.specs.Sizes.{HasShortSignatures, HaveShortSignatures}
 use Rattle.dbus_value_model.specs.Values.{ValueTree, ValueTrees, NumberValue, TextValue, VariantValue, ArrayValue, StructValue, EntryValue, NoValues, MoreValues, IsWellFormed, AreWellFormed}
 
 mutual

@@ -8,10 +8,9 @@ use Rattle.dbus_types.specs.SigTypes.{type_tree}
 use Rattle.dbus_types.specs.declared.sig_type.SigType.{SigType}
 use Rattle.dbus_value_model.specs.Checks.{IsTyped}
 use Rattle.dbus_value_model.specs.Forming.{NestsWithin, NestWithin, AreUniform, IsNamed, AreNamed}
-use Rattle.dbus_value_model.specs.Ranges.{HoldsNumbers, HoldNumbers}
+use Rattle.dbus_value_model.specs.Verdicts.{HoldsNumbers, HoldNumbers, earlier, IsVerdict, Fits, Fit, IsPartsVerdict, ArePartsVerdict}
 use Rattle.dbus_value_model.specs.Values.{AllOf, type_of}
 use Rattle.dbus_value_model.specs.ValueViews.{value_tree, value_trees_of, byte_values}
-use Rattle.dbus_value_model.specs.Verdicts.{earlier, IsVerdict, Fits, Fit, IsPartsVerdict, ArePartsVerdict}
 use Rattle.dbus_value_model.specs.declared.value.Value.{Value, Bytes, Array, Struct, Variant}
 use Rattle.dbus_value_model.specs.declared.verdict.Verdict.{Verdict}
 use Rattle.dbus_value_model.specs.declared.verdict.Verdict.TheVariants.{TooDeep, Mixed, Misnamed, Sound}

@@ -2,6 +2,8 @@
 -- D-Bus Specification, "Valid Signatures", "Valid Object Paths", "Valid Names".
 use Rattle.std.specs.Prelude.{ℕ, suc, List, [], ◌∷◌, Bool, true, false, ◌&&◌, nat_eq, if◌then◌else◌}
 use Rattle.dbus_texts.specs.ComputedKinds as computed
+use Rattle.dbus_texts.specs.declared.text_kind.TextKind.{TextKind}
+use Rattle.dbus_texts.specs.declared.text_kind.TextKind.TheVariants as kinds
 use Rattle.dbus_value_model.specs.WantedTexts.{WantedText, Of, Only}
 
 abbrev pub same_text : List ℕ → List ℕ → Bool
@@ -25,3 +27,17 @@ is_kind (Only u) t = same_text u t
 unfoldable pub break_at : WantedText → List ℕ → ℕ
 break_at (Of k) t = computed.break_at k t
 break_at (Only u) t = alike u t
+
+-- The wanted texts that are names, or any texts.
+-- D-Bus Specification, "Valid Names".
+
+-- names are texts
+abbrev pub IsNameKind : TextKind → Type 0
+IsNameKind kinds.Path = ⊥
+IsNameKind kinds.Signature = ⊥
+IsNameKind kinds.Single = ⊥
+IsNameKind _ = Unit {0}
+
+abbrev pub IsName : WantedText → Type 0
+IsName (Of k) = IsNameKind k
+IsName (Only u) = ⊥

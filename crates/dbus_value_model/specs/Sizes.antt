@@ -2,8 +2,8 @@
 -- array, so many bytes from the start of its contents, or that of the message, so many from its
 -- first byte. D-Bus Specification, "Marshaling (Wire Format)" for the items and the arrays' limit,
 -- "Message Protocol" for the message's.
-use Rattle.std.specs.Prelude.{ℕ, ◌+◌, min, Bool, false, length, Option, Some, None, Result, Ok, Err, nat_eq, nat_lt, if◌then◌else◌}
-use Rattle.dbus_texts.specs.Types.{sig}
+use Rattle.std.specs.Prelude.{ℕ, ◌+◌, min, Bool, false, length, Option, Some, None, Result, Ok, Err, nat_eq, nat_lt, if◌then◌else◌, ◌<◌}
+use Rattle.dbus_texts.specs.Types.{sig, TextCode, STRING, OBJECT_PATH, SIGNATURE}
 use Rattle.dbus_types.specs.Alignments.{width, length_width, alignment_of}
 use Rattle.dbus_value_model.specs.declared.limits.Limits.{Limits}
 use Rattle.dbus_value_model.specs.declared.value_fault.ValueFault.{ValueFault}
@@ -58,3 +58,25 @@ abbrev mutual
   pub sizes : Limits → ValueTrees → Option ℕ → Sizing
   sizes limits NoValues b = λ o. Ok o
   sizes limits (MoreValues x xs) b = sized limits x b ⊳ sizes limits xs b
+
+-- Values whose signatures have at most 255 bytes each, so that one byte gives the length: those in
+-- SIGNATURE texts, and those of the types of variants. D-Bus Specification, "Valid Signatures".
+
+-- a text's length fits into the number before it, where that is one byte
+abbrev pub IsShortText : TextCode → ℕ → Type 0
+IsShortText STRING n = Unit {0}
+IsShortText OBJECT_PATH n = Unit {0}
+IsShortText SIGNATURE n = n < 256
+
+abbrev mutual
+  pub HasShortSignatures : ValueTree → Type 0
+  HasShortSignatures (NumberValue k n) = Unit {0}
+  HasShortSignatures (TextValue k t) = IsShortText k (length t)
+  HasShortSignatures (VariantValue x) = (length (sig (type_of x)) < 256) × HasShortSignatures x
+  HasShortSignatures (ArrayValue t xs) = HaveShortSignatures xs
+  HasShortSignatures (StructValue xs) = HaveShortSignatures xs
+  HasShortSignatures (EntryValue k v) = HasShortSignatures k × HasShortSignatures v
+
+  pub HaveShortSignatures : ValueTrees → Type 0
+  HaveShortSignatures NoValues = Unit {0}
+  HaveShortSignatures (MoreValues x xs) = HasShortSignatures x × HaveShortSignatures xs

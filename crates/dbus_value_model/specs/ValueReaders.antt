@@ -1,6 +1,6 @@
 -- The computed reading of a value, in the parts that the code validates and checks.
 -- D-Bus Specification, "Marshaling (Wire Format)".
-use Rattle.std.specs.Prelude.{ℕ, ◌-◌, Option}
+use Rattle.std.specs.Prelude.{ℕ, ◌-◌, Option, ◌≡◌, List, drop, Result, Ok, Err, None}
 use Rattle.dbus_texts.specs.Types.{NumberCode, TextCode, TypeTree, TypeTrees}
 use Rattle.dbus_types.specs.Alignments.{width, length_width, alignment_of}
 use Rattle.dbus_texts.specs.declared.text_kind.TextKind.TheVariants.{Single}
@@ -9,7 +9,10 @@ use Rattle.dbus_value_model.specs.declared.limits.Bounds.{Bounds}
 use Rattle.dbus_value_model.specs.declared.order.Order.{Order}
 use Rattle.dbus_value_model.specs.Values.{value_trees, ValueTree, NumberValue, TextValue, VariantValue, ArrayValue, StructValue, EntryValue}
 use Rattle.dbus_value_model.specs.ValueItems.{number_row, text_row, array_row}
-use Rattle.dbus_value_model.specs.Reading.{Reader, ◌>>=◌, ◌>>◌, pure, padding, number, text, nul, signature, contents, fields, opened, value}
+use Rattle.dbus_value_model.specs.Reading.{Reader, ◌>>=◌, ◌>>◌, pure, padding, number, text, nul, signature, contents, fields, opened, value, Outcome}
+use Rattle.dbus_value_model.specs.Reading as reading
+use Rattle.dbus_value_model.specs.declared.stop.Stop.{Stop}
+use Rattle.dbus_value_model.specs.declared.stop.Stop.TheVariants as stops
 
 -- a number; an index of a descriptor is below the number fds, where there is one
 unfoldable pub number_value : (fds : Option ℕ) → Order → ℕ → NumberCode → Reader ValueTree
@@ -79,3 +82,22 @@ entry_value bounds order depth_left end k v = do
   key ← value bounds order depth_left end k
   x ← value bounds order depth_left end v
   pure (EntryValue key x)
+
+-- What a reader of the code returned is what the computed reading gives.
+
+-- reading stops so too
+abbrev pub Stops : {A : Type 0} → Stop → Outcome A → Type 0
+Stops stops.Partial read = read ≡ reading.Partial
+Stops (stops.Refused f) read = read ≡ reading.Faulty f
+
+-- view gives what was read, and the place after it
+abbrev pub Gives : {X A : Type 0} → (X → A × ℕ) → List ℕ → Result X Stop → Outcome A → Type 0
+Gives view bytes (Ok x) read = read ≡ reading.Done (view x).0 (view x).1 (drop (view x).1 bytes)
+Gives view bytes (Err e) read = Stops e read
+
+-- Types of number of which every number may stand: all but BOOLEAN and, where there is a rule for
+-- its indexes, UNIX_FD. D-Bus Specification, "Basic types".
+
+-- every number may stand
+abbrev pub IsFree : Option ℕ → NumberCode → Type 0
+IsFree fds k = (p n : ℕ) → number_row fds k p n ≡ None

@@ -1,13 +1,30 @@
 -- What is found of the parts of a value, in one walk over it. The type of the whole is no matter of
 -- a part. D-Bus Specification, "Type System", "Message Protocol" for the limit on nesting.
 use Rattle.std.specs.Prelude.{ℕ, List, IsTrue}
+use Rattle.dbus_value_model.specs.Values.{ValueTree, ValueTrees, NumberValue, TextValue, VariantValue, ArrayValue, StructValue, EntryValue, NoValues, MoreValues, IsNumber}
 use Rattle.dbus_value_model.specs.Forming.{NestsWithin, NestWithin, IsUniform, AreUniform, IsNamed, AreNamed}
 use Rattle.dbus_value_model.specs.PackedBytes.{keeps_bytes, keep_bytes}
-use Rattle.dbus_value_model.specs.Ranges.{HoldsNumbers, HoldNumbers}
 use Rattle.dbus_value_model.specs.ValueViews.{value_tree, value_trees_of}
 use Rattle.dbus_value_model.specs.declared.value.Value.{Value}
 use Rattle.dbus_value_model.specs.declared.verdict.Verdict.{Verdict}
 use Rattle.dbus_value_model.specs.declared.verdict.Verdict.TheVariants.{TooDeep, Mixed, Misnamed, Sound}
+
+-- Numbers in their ranges, which no `Value` breaks.
+-- D-Bus Specification, "Type System", "Basic types".
+
+-- every number is one of its type's
+abbrev mutual
+  pub HoldsNumbers : ValueTree → Type 0
+  HoldsNumbers (NumberValue k n) = IsNumber k n
+  HoldsNumbers (TextValue k t) = Unit {0}
+  HoldsNumbers (VariantValue x) = HoldsNumbers x
+  HoldsNumbers (ArrayValue t xs) = HoldNumbers xs
+  HoldsNumbers (StructValue xs) = HoldNumbers xs
+  HoldsNumbers (EntryValue k v) = HoldsNumbers k × HoldsNumbers v
+
+  pub HoldNumbers : ValueTrees → Type 0
+  HoldNumbers NoValues = Unit {0}
+  HoldNumbers (MoreValues x xs) = HoldsNumbers x × HoldNumbers xs
 
 -- Of two verdicts the one whose case comes first.
 abbrev pub earlier : Verdict → Verdict → Verdict

@@ -6,8 +6,7 @@ use Rattle.std.specs.Prelude.{◌≡◌, ℕ, List}
 use Rattle.dbus_texts.specs.Types.{TextCode, STRING, OBJECT_PATH, SIGNATURE}
 use Rattle.dbus_texts.specs.declared.text_kind.TextKind.{TextKind}
 use Rattle.dbus_texts.specs.declared.text_kind.TextKind.TheVariants as kinds
-use Rattle.dbus_texts.specs.Prefixes.{IsBreakIn}
-use Rattle.dbus_texts.specs.Kinds.{IsKind, IsBreak}
+use Rattle.dbus_texts.specs.Kinds.{IsBreakIn, IsKind, IsBreak}
 
 pub data WantedText : Type 0 where
   Of : TextKind → WantedText

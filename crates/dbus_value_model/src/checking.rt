@@ -9,12 +9,11 @@ ghost use Rattle.dbus_types.specs.SigTypes.{type_tree};
 ghost use Rattle.dbus_value_model.specs.Checks.{Checks, IsTyped};
 ghost use Rattle.dbus_value_model.specs.declared.limits.TheConstants.{DEPTH_LIMIT};
 ghost use Rattle.dbus_value_model.specs.Forming.{NestsWithin, IsNamed};
-ghost use Rattle.dbus_value_model.specs.Ranges.{HoldsNumbers};
+ghost use Rattle.dbus_value_model.specs.Verdicts.{HoldsNumbers, IsVerdict, IsPartsVerdict, ArePartsVerdict};
 ghost use Rattle.dbus_value_model.specs.Specification.{specification};
-ghost use Rattle.dbus_value_model.specs.ShortSignatures.{HasShortSignatures};
+ghost use Rattle.dbus_value_model.specs.Sizes.{HasShortSignatures};
 ghost use Rattle.dbus_value_model.specs.Values.{AllOf, type_of as tree_type};
 ghost use Rattle.dbus_value_model.specs.ValueViews.{value_tree, value_trees_of};
-ghost use Rattle.dbus_value_model.specs.Verdicts.{IsVerdict, IsPartsVerdict, ArePartsVerdict};
 
 use crate::limits::Limits;
 use crate::ranges::{basic_in_range, bytes_in_range};

@@ -2,7 +2,7 @@
 #![tactic(auto)]
 
 ghost use Rattle.dbus_texts.specs.Types.{IsBasic};
-ghost use Rattle.dbus_value_model.specs.Ranges.{HoldsNumbers, HoldNumbers};
+ghost use Rattle.dbus_value_model.specs.Verdicts.{HoldsNumbers, HoldNumbers};
 ghost use Rattle.dbus_value_model.specs.Values.{type_of};
 ghost use Rattle.dbus_value_model.specs.ValueViews.{value_tree, byte_values};
 

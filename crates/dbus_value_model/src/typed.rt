@@ -3,7 +3,7 @@
 
 ghost use Rattle.std.specs.Prelude.{◌↔◌, IsTrue, false};
 ghost use Rattle.dbus_texts.specs.Types.{IsSingleType};
-ghost use Rattle.dbus_types.specs.Rooms.{LeavesOfType, LeavesOfTypes};
+ghost use Rattle.dbus_types.specs.Parses.{LeavesOfType, LeavesOfTypes};
 ghost use Rattle.dbus_types.specs.SigTypes.{type_tree};
 ghost use Rattle.dbus_value_model.specs.Values.{AllOf, types_of, type_of as tree_type};
 ghost use Rattle.dbus_value_model.specs.ValueViews.{value_tree, value_trees_of};

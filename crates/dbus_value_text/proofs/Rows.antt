@@ -9,8 +9,7 @@ use Rattle.dbus_value_model.specs.Values.{ValueTree, value_trees}
 use Rattle.dbus_message_model.specs.Messages.{FieldTree}
 use Rattle.dbus_show.proofs.Gaining.{then}
 use Rattle.dbus_value_text.specs.Gaining.{Joins}
-use Rattle.dbus_value_text.specs.Forms.{AreTexts, led}
-use Rattle.dbus_value_text.specs.Fields.{AreFieldTexts, taken_fields}
+use Rattle.dbus_value_text.specs.Forms.{AreTexts, led, AreFieldTexts, taken_fields}
 use Rattle.dbus_value_text.specs.WritingLaws.{texts_push}
 
 -- what stands before a text after these

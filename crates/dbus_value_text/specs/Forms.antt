@@ -1,11 +1,12 @@
 -- The texts of values in a form.
 -- D-Bus Specification, "Marshaling (Wire Format)".
-use Rattle.std.specs.Prelude.{◌≡◌, ℕ, List, [], ◌∷◌, ◌++◌, Bool, true, false}
+use Rattle.std.specs.Prelude.{◌≡◌, ℕ, List, [], ◌∷◌, ◌++◌, Bool, true, false, filter}
 use Rattle.std.specs.List.{join_by}
 use Rattle.dbus_texts.specs.Types.{ArrayType, sig, sigs}
 use Rattle.dbus_texts.specs.PlainTypes.{is_byte}
 use Rattle.dbus_value_model.specs.Values.{ValueTree, ValueTrees, NumberValue, TextValue, ArrayValue, NoValues, MoreValues, types_of}
 use Rattle.dbus_walk.specs.Containers.{parts}
+use Rattle.dbus_message_model.specs.Messages.{FieldTree}
 
 -- values, and a text of each
 abbrev pub AreTexts : (ValueTree → List ℕ → Type 0) → ValueTrees → List (List ℕ) → Type 0
@@ -40,3 +41,17 @@ IsListed _ = Unit {0}
 abbrev pub told_types : ValueTree → List ℕ
 told_types (ArrayValue t xs) = sig (ArrayType t)
 told_types v = sigs (types_of (parts v))
+
+-- The texts of header fields in a form.
+-- D-Bus Specification, "Header Fields".
+
+-- the fields with the codes that are taken, in their order
+abbrev pub taken_fields : (is_taken : ℕ → Bool) → List FieldTree → List FieldTree
+taken_fields is_taken fs = filter (λ f. is_taken f.code) fs
+
+-- fields, and a text of each
+abbrev pub AreFieldTexts : (ℕ → ValueTree → List ℕ → Type 0) → List FieldTree → List (List ℕ) → Type 0
+AreFieldTexts Is [] [] = Unit {0}
+AreFieldTexts Is (f ∷ fs) (text ∷ texts) = Is f.code f.value text × AreFieldTexts Is fs texts
+AreFieldTexts Is [] (text ∷ texts) = ⊥
+AreFieldTexts Is (f ∷ fs) [] = ⊥

@@ -4,7 +4,7 @@
 ghost use Rattle.std.specs.Prelude.{ℕ, List};
 ghost use Rattle.dbus_message_model.specs.Messages.{MessageTree};
 ghost use Rattle.dbus_value_text.specs.Forms.{AreTexts, led};
-ghost use Rattle.dbus_validate.specs.Wholes.{WasValidated, IsWholeOf};
+ghost use Rattle.dbus_validate.specs.Validating.{WasValidated, IsWholeOf};
 
 use crate::value_form::ValueForm;
 use crate::values::write_value;

@@ -4,9 +4,8 @@
 ghost use Rattle.std.specs.Prelude.{◌≡◌, ℕ, List};
 ghost use Rattle.std.specs.List.{list_all};
 ghost use Rattle.dbus_message_model.specs.Messages.{MessageTree};
-ghost use Rattle.dbus_value_text.specs.Forms.{led};
-ghost use Rattle.dbus_value_text.specs.Fields.{AreFieldTexts, taken_fields};
-ghost use Rattle.dbus_validate.specs.Wholes.{WasValidated, IsWholeOf};
+ghost use Rattle.dbus_value_text.specs.Forms.{led, AreFieldTexts, taken_fields};
+ghost use Rattle.dbus_validate.specs.Validating.{WasValidated, IsWholeOf};
 
 use crate::field_form::FieldForm;
 use dbus_show::Draft;

@@ -10,7 +10,7 @@ use Rattle.dbus_texts.proofs.Codes.{basic_is_code, coded_signature, coded_single
 use Rattle.dbus_texts.proofs.TypeTexts.{sig_positive}
 use Rattle.dbus_types.specs.SignatureCodes.{IsTypeEnd, first_code}
 use Rattle.dbus_types.proofs.TypeLengths.{one_byte, first_there}
-use Rattle.dbus_value_validator.specs.NotedTypes.{AreNoted}
+use Rattle.dbus_value_validator.specs.Endings.{AreNoted}
 
 module _ (types lengths : List ℕ) where
   module _ (pos : ℕ) (noted : AreNoted types lengths pos) where

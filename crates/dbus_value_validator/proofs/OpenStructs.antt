@@ -14,8 +14,7 @@ use Rattle.dbus_value_model.specs.ValueReaders.{open_struct, struct_value}
 use Rattle.dbus_types.proofs.Rooms.{basic_length}
 use Rattle.dbus_value_laws.proofs.ReadSteps.{after_after, padding_is}
 use Rattle.dbus_value_laws.proofs.ValueSteps.{value_struct, shaped_inside}
-use Rattle.dbus_value_validator.specs.Endings.{Answers, EndsAt, IsNotRead}
-use Rattle.dbus_value_validator.specs.Sources.{value_in, values_in}
+use Rattle.dbus_value_validator.specs.Endings.{Answers, EndsAt, IsNotRead, value_in, values_in}
 use Rattle.dbus_value_validator.specs.declared.untrusted_bytes.UntrustedBytes.{UntrustedBytes}
 use Rattle.dbus_value_validator.proofs.ReadParts.{not_first, answers_same, answers_unmade, made_first}
 use Rattle.dbus_value_validator.proofs.ValueSteps.{as_struct}

@@ -6,9 +6,9 @@ use Rattle.dbus_texts.specs.ComputedKinds.{type_spelled}
 use Rattle.dbus_texts.specs.declared.text_kind.TextKind.TheVariants.{Single}
 use Rattle.dbus_types.specs.Alignments.{width}
 use Rattle.dbus_types.specs.SignatureCodes.{free_width_of}
-use Rattle.dbus_value_model.specs.FreeNumbers.{IsFree}
+use Rattle.dbus_value_model.specs.ValueReaders.{IsFree, number_value, text_value, variant_value, held_value, array_frame, open_array, array_value, struct_value, entry_value}
 use Rattle.dbus_value_model.proofs.FreeNumbers.{free_is}
-use Rattle.dbus_value_validator.specs.Sources.{value_in}
+use Rattle.dbus_value_validator.specs.Endings.{value_in, Answers, EndsAt, IsNotRead, EndedText}
 use Rattle.dbus_value_validator.specs.declared.untrusted_bytes.UntrustedBytes.{UntrustedBytes}
 use Rattle.dbus_value_model.specs.declared.fault.Reason.TheVariants as reasons
 use Rattle.dbus_value_model.specs.declared.limits.Bounds.{Bounds}
@@ -18,11 +18,9 @@ use Rattle.dbus_value_model.specs.Values.{ValueTree, ValueTrees, NoValues, MoreV
 use Rattle.dbus_value_model.specs.ValueItems.{text_row}
 use Rattle.dbus_value_model.specs.Reading.{Reader, Outcome, Done, after, pure, opened, padding, number, text, up_to, contents, fields, value}
 use Rattle.dbus_value_model.specs.WantedTexts.{Of}
-use Rattle.dbus_value_model.specs.ValueReaders.{number_value, text_value, variant_value, held_value, array_frame, open_array, array_value, struct_value, entry_value}
 use Rattle.dbus_value_laws.proofs.KindLaws.{single_text}
 use Rattle.dbus_value_laws.proofs.ReadSteps.{after_after}
 use Rattle.dbus_value_laws.proofs.ValueSteps.{value_number, value_text, value_variant, value_array, value_struct, value_entry, one_turn, no_turn, same_turns, single_shaped}
-use Rattle.dbus_value_validator.specs.Endings.{Answers, EndsAt, IsNotRead, EndedText}
 use Rattle.dbus_value_validator.proofs.ReadParts.{not_faulty, not_partial, not_same, not_first, not_then, answers_same, answers_made, made_first, not_ended, short_unread}
 
 -- ---- elements of an array

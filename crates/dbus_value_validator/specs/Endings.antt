@@ -1,7 +1,7 @@
 -- What is read of the bytes of a message, and where it ends; its value is forgotten.
 -- D-Bus Specification, "Marshaling (Wire Format)".
-use Rattle.std.specs.Prelude.{◌≡◌, ℕ, ◌+◌, List, Option, Some, None, take, drop}
-use Rattle.dbus_texts.specs.Types.{TypeTree, TypeTrees}
+use Rattle.std.specs.Prelude.{◌≡◌, ℕ, ◌+◌, List, Option, Some, None, take, drop, ◌<◌, ◌++◌, length, get_or}
+use Rattle.dbus_texts.specs.Types.{TypeTree, TypeTrees, sig}
 use Rattle.dbus_texts.specs.Kinds.{IsKind}
 use Rattle.dbus_texts.specs.declared.text_kind.TextKind.{TextKind}
 use Rattle.dbus_value_model.specs.declared.limits.Bounds.{Bounds}
@@ -10,7 +10,9 @@ use Rattle.dbus_value_model.specs.Outcomes.{IsDone}
 use Rattle.dbus_value_model.specs.Spelling.{Spelled}
 use Rattle.dbus_value_model.specs.Values.{ValueTree, ValueTrees}
 use Rattle.dbus_value_model.specs.WantedTexts.{Of}
-use Rattle.dbus_value_model.specs.Reading.{Outcome, Done, text, nul}
+use Rattle.dbus_value_model.specs.Reading.{Outcome, Done, text, nul, value, fields, contents}
+use Rattle.dbus_value_model.specs.ValueReaders.{variant_value, array_value, entry_value}
+use Rattle.dbus_value_validator.specs.declared.untrusted_bytes.UntrustedBytes.{UntrustedBytes}
 
 -- it is read whole, and ends at q: the bytes from there on are left
 abbrev pub EndsAt : {A : Type 0} → List ℕ → ℕ → Outcome A → Type 0
@@ -46,3 +48,36 @@ IsNotSpelled bounds order depth_left end t offset bytes = (after : ℕ) → IsSp
 -- no values of these types, one after another, are spelled there
 abbrev pub AreNotSpelled : Bounds → Order → (depth_left end : ℕ) → TypeTrees → (offset : ℕ) → List ℕ → Type 0
 AreNotSpelled bounds order depth_left end ts offset bytes = (after : ℕ) → AreSpelledTo bounds order depth_left end ts offset bytes after → ⊥
+
+-- How long each type of a signature is, as far as it is noted.
+-- D-Bus Specification, "Valid Signatures".
+
+-- Of types that begin at a place of a signature each length that is noted is that of the type that
+-- begins there, whatever follows it.
+abbrev pub AreNoted : (types lengths : List ℕ) → (pos : ℕ) → Type 0
+AreNoted types lengths pos = (at : ℕ) (t : TypeTree) (more : List ℕ) → pos + at < length lengths → drop at types ≡ sig t ++ more → get_or lengths (pos + at) 0 ≡ length (sig t)
+
+-- What is read of the bytes of a source.
+-- D-Bus Specification, "Marshaling (Wire Format)".
+
+-- a value of the type from an offset on
+abbrev pub value_in : UntrustedBytes → (depth_left end : ℕ) → TypeTree → (at : ℕ) → Outcome ValueTree
+value_in source depth_left end t at = value source.bounds source.order depth_left end t at (drop at source.bytes.now)
+
+-- values of these types, one after another
+abbrev pub values_in : UntrustedBytes → (depth_left end : ℕ) → TypeTrees → (at : ℕ) → Outcome ValueTrees
+values_in source depth_left end ts at = fields (value source.bounds source.order depth_left end) ts at (drop at source.bytes.now)
+
+-- elements of the type in the next n bytes
+abbrev pub elements_in : UntrustedBytes → (n depth_left : ℕ) → TypeTree → (at : ℕ) → Outcome (List ValueTree)
+elements_in source n depth_left t at = contents n (λ end before. value source.bounds source.order depth_left end t) at (drop at source.bytes.now)
+
+-- the containers
+abbrev pub variant_in : UntrustedBytes → (depth_left end at : ℕ) → Outcome ValueTree
+variant_in source depth_left end at = variant_value source.bounds source.order depth_left end at (drop at source.bytes.now)
+
+abbrev pub array_in : UntrustedBytes → (depth_left end : ℕ) → TypeTree → (at : ℕ) → Outcome ValueTree
+array_in source depth_left end t at = array_value source.bounds source.order depth_left end t at (drop at source.bytes.now)
+
+abbrev pub entry_in : UntrustedBytes → (depth_left end : ℕ) → (k v : TypeTree) → (at : ℕ) → Outcome ValueTree
+entry_in source depth_left end k v at = entry_value source.bounds source.order depth_left end k v at (drop at source.bytes.now)

@@ -5,8 +5,7 @@ ghost use Rattle.std.specs.Prelude.{◌≡◌, ℕ, ◌+◌, ◌≤◌, length, 
 ghost use Rattle.dbus_texts.specs.Types.{TypeTree, IsBasic};
 ghost use Rattle.dbus_texts.specs.SignatureScans.{is_basic_code};
 ghost use Rattle.dbus_types.specs.SignatureCodes.{first_code};
-ghost use Rattle.dbus_value_validator.specs.Endings.{Answers};
-ghost use Rattle.dbus_value_validator.specs.Sources.{value_in};
+ghost use Rattle.dbus_value_validator.specs.Endings.{Answers, value_in};
 
 use crate::numbers::{boolean, descriptor, free_number};
 use crate::texts::{long_text, signature};

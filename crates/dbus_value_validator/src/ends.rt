@@ -4,7 +4,7 @@
 ghost use Rattle.std.specs.Prelude.{◌≡◌, ◌+◌, ◌<◌, ◌≤◌, ◌^◌, length, IsTrue, false};
 ghost use Rattle.dbus_texts.specs.Types.{TypeTree, IsBasic};
 ghost use Rattle.dbus_types.specs.SignatureCodes.{IsTypeEnd, first_code};
-ghost use Rattle.dbus_value_validator.specs.NotedTypes.{AreNoted};
+ghost use Rattle.dbus_value_validator.specs.Endings.{AreNoted};
 
 use dbus_types::type_end;
 

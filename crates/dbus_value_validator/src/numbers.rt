@@ -7,9 +7,8 @@ ghost use Rattle.dbus_types.specs.Alignments.{width};
 ghost use Rattle.dbus_value_model.specs.Bytes.{gap_to};
 ghost use Rattle.dbus_value_model.specs.Reading.{number_of};
 ghost use Rattle.dbus_value_model.specs.declared.order.Order.{Order};
-ghost use Rattle.dbus_value_model.specs.ValueReaders.{number_value};
+ghost use Rattle.dbus_value_model.specs.ValueReaders.{number_value, IsFree};
 ghost use Rattle.dbus_value_validator.specs.Endings.{Answers};
-ghost use Rattle.dbus_value_model.specs.FreeNumbers.{IsFree};
 
 use crate::items::{padding, word};
 use dbus_value_model::Order;

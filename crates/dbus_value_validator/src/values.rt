@@ -9,9 +9,7 @@
 
 ghost use Rattle.std.specs.Prelude.{◌≡◌, ℕ, ◌+◌, ◌<◌, ◌≤◌, ◌^◌, length, drop, true, IfSome};
 ghost use Rattle.dbus_texts.specs.Types.{TypeTree, TypeTrees, NoTypes, MoreTypes, sig, sigs, IsShaped, AreShaped};
-ghost use Rattle.dbus_value_validator.specs.Endings.{Answers};
-ghost use Rattle.dbus_value_validator.specs.NotedTypes.{AreNoted};
-ghost use Rattle.dbus_value_validator.specs.Sources.{value_in, values_in, elements_in, variant_in, array_in, entry_in};
+ghost use Rattle.dbus_value_validator.specs.Endings.{Answers, AreNoted, value_in, values_in, elements_in, variant_in, array_in, entry_in};
 
 use crate::arrays::frame;
 use crate::basic::basic_value;

@@ -13,7 +13,7 @@ use Rattle.dbus_value_model.specs.ValueViews.{byte_values}
 use Rattle.dbus_value_model.proofs.Numbers.{length-num}
 use Rattle.dbus_value_model.proofs.OneByte.{byte_spelled}
 use Rattle.dbus_walk.specs.Standing.{ElementsStand}
-use Rattle.dbus_walk.specs.Widths.{number_width}
+use Rattle.dbus_walk.specs.Containers.{number_width}
 use Rattle.dbus_walk.proofs.Lists.{none_ends}
 use Rattle.dbus_walk.proofs.NumberFacts.{number_of_type}
 use Rattle.dbus_walk.proofs.Parts.{number_is}

@@ -14,7 +14,7 @@ use Rattle.dbus_value_model.specs.ValueViews.{byte_values}
 use Rattle.dbus_walk.specs.declared.spot.Run.{Run}
 use Rattle.dbus_walk.specs.declared.spot.MessageBytes.{MessageBytes}
 use Rattle.dbus_walk.specs.declared.spot.Spot.{Spot}
-use Rattle.dbus_walk.specs.Layouts.{IsNumberAt, IsTextAt, IsVariantAt, IsArrayAt, of_elements}
+use Rattle.dbus_walk.specs.Containers.{IsNumberAt, IsTextAt, IsVariantAt, IsArrayAt, of_elements}
 use Rattle.dbus_walk.specs.Standing.{Stands, AllStand, StandsAt}
 use Rattle.dbus_walk.proofs.Parts.{number_is}
 use Rattle.dbus_walk.proofs.Seams.{ends_within}

@@ -6,7 +6,7 @@ ghost use Rattle.dbus_texts.specs.Types.{NumberCode, number_code};
 ghost use Rattle.dbus_types.specs.Alignments.{width};
 ghost use Rattle.dbus_value_model.specs.Reading.{number_of};
 ghost use Rattle.dbus_value_model.specs.Values.{ValueTree, NumberValue, IsNumber};
-ghost use Rattle.dbus_walk.specs.Layouts.{IsArrayAt};
+ghost use Rattle.dbus_walk.specs.Containers.{IsArrayAt};
 ghost use Rattle.dbus_walk.specs.Standing.{StandsAt, StandsThere};
 ghost use Rattle.dbus_values.specs.Seen.{AreSeenInside, IsSeen, weight_in};
 ghost use Rattle.dbus_values.specs.States.{weight};

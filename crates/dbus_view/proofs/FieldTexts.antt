@@ -1,7 +1,7 @@
 -- The known fields of a message, and where their values stand.
 use Rattle.std.proofs.Common.{◌≡◌, ℕ, zero, suc, Bool, true, false, cond, eqb, List, [], ◌∷◌, map, Option, Some, None, slice_index_or, refl, sym, subst}
 use Rattle.dbus_value_model.specs.Values.{ValueTree, IsWellFormed, AreWellFormed, value_trees}
-use Rattle.dbus_message_model.specs.Lookups.{field_value}
+use Rattle.dbus_message_model.specs.KnownFields.{field_value}
 use Rattle.dbus_message_model.specs.Messages.{FieldTree, is_known, field_struct, field_array}
 use Rattle.dbus_validate.specs.Seen.{AreNoted, IsNotedOf, StandsAt}
 use Rattle.dbus_validate.specs.declared.seen.FieldPlace.{FieldPlace}

@@ -3,11 +3,10 @@ use Rattle.std.proofs.Common.{◌≡◌, ℕ, ◌+◌, ◌≤◌, List, length, 
 use Rattle.dbus_texts.specs.Types.{UINT32}
 use Rattle.dbus_value_model.specs.declared.limits.Limits.{Limits}
 use Rattle.dbus_value_model.specs.Values.{ValueTree, NumberValue, IsWellFormed}
-use Rattle.dbus_message_model.specs.Lookups.{field_value}
+use Rattle.dbus_message_model.specs.KnownFields.{field_value, WantsText, IsTextOf}
 use Rattle.dbus_message_model.specs.Messages.{MessageTree, want}
 use Rattle.dbus_validate.specs.declared.validating.Validated.{Validated}
 use Rattle.dbus_validate.specs.declared.seen.FieldPlace.{FieldPlace}
-use Rattle.dbus_message_model.specs.KnownFields.{WantsText, IsTextOf}
 use Rattle.dbus_validate.specs.Seen.{AreNoted}
 use Rattle.dbus_validate.specs.Validating.{IsValidatedWhole}
 use Rattle.dbus_validate.proofs.WholeParts.{noted_there}

@@ -7,7 +7,7 @@ use Rattle.dbus_value_laws.proofs.ValueSteps.{shaped_inside}
 use Rattle.dbus_value_model.specs.declared.order.Order.{Order}
 use Rattle.dbus_value_model.specs.Spelling.{spelling, spellings}
 use Rattle.dbus_value_model.specs.Values.{ValueTree, ValueTrees, NoValues, MoreValues, type_of}
-use Rattle.dbus_message_model.specs.Lookups.{body_value}
+use Rattle.dbus_message_model.specs.KnownFields.{body_value}
 use Rattle.dbus_walk.specs.Standing.{Stands, AllStand}
 use Rattle.dbus_values.specs.Seen.{IsSeen}
 use Rattle.dbus_values.specs.States.{ValuesState, AreLeft, IsAfter}

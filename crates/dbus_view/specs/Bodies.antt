@@ -8,7 +8,7 @@ use Rattle.dbus_value_model.specs.declared.order.Order.{Order}
 use Rattle.dbus_value_model.specs.Spelling.{spelling, spellings}
 use Rattle.dbus_value_model.specs.Values.{ValueTree, ValueTrees, NoValues, MoreValues, TextValue, type_of}
 use Rattle.dbus_types.specs.SignatureCodes.{first_code}
-use Rattle.dbus_message_model.specs.Lookups.{body_value}
+use Rattle.dbus_message_model.specs.KnownFields.{body_value}
 use Rattle.dbus_message_model.specs.Messages.{MessageTree, body_start, body_signature}
 use Rattle.dbus_values.specs.Seen.{IsSeen}
 use Rattle.dbus_values.specs.States.{ValuesState}

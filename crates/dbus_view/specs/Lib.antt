@@ -1,4 +1,2 @@
 pub mod Views
-pub mod Opening
 pub mod Bodies
-pub mod FieldViews

@@ -5,7 +5,7 @@ ghost use Rattle.std.specs.Prelude.{◌≡◌, ◌<◌, ◌-◌, ℕ, List, leng
 ghost use Rattle.dbus_types.specs.SignatureCodes.{first_code};
 ghost use Rattle.dbus_value_model.specs.Values.{ValueTree, ValueTrees, type_of};
 ghost use Rattle.dbus_value_model.specs.declared.order.Order.{Order};
-ghost use Rattle.dbus_message_model.specs.Lookups.{body_value};
+ghost use Rattle.dbus_message_model.specs.KnownFields.{body_value};
 ghost use Rattle.dbus_values.specs.States.{AreLeft};
 
 use crate::arg_place::ArgPlace;

@@ -49,7 +49,7 @@ impl<'a> Model for Fields<'a> {
 
 impl<'a> Fields<'a> {
     ghost use Rattle.dbus_walk.specs.Fields.{FieldsStand};
-    ghost use Rattle.dbus_view.specs.FieldViews.{FieldsAreLeft};
+    ghost use Rattle.dbus_view.specs.Views.{FieldsAreLeft};
 
     /// The fields of a message, in which at most `depth_left` containers may be open.
     pub(crate) fn new(source: &MessageBytes<'a>, depth_left: u8) -> Fields<'a>
@@ -68,7 +68,7 @@ impl<'a> Fields<'a> {
 
 impl<'a> Iterator for Fields<'a> {
     ghost use Rattle.std.specs.Iterator.{at_most};
-    ghost use Rattle.dbus_view.specs.FieldViews.{PassesField};
+    ghost use Rattle.dbus_view.specs.Views.{PassesField};
 
     type Item = FieldView<'a>;
 

@@ -7,7 +7,7 @@ ghost use Rattle.dbus_value_model.specs.Values.{NumberValue, TextValue};
 ghost use Rattle.dbus_value_model.specs.declared.order.Order.{Order};
 ghost use Rattle.dbus_value_model.specs.Specification.{specification};
 ghost use Rattle.dbus_message_model.specs.Messages.{MessageTree, want};
-ghost use Rattle.dbus_message_model.specs.Lookups.{field_value, body_value};
+ghost use Rattle.dbus_message_model.specs.KnownFields.{field_value, body_value};
 ghost use Rattle.dbus_header.specs.MessageOutcomes.{IsWhole};
 ghost use Rattle.dbus_validate.specs.Validating.{IsValidated};
 
@@ -50,10 +50,8 @@ impl<'a> Model for MessageView<'a> {
 impl<'a> MessageView<'a> {
     ghost use Rattle.dbus_values.specs.States.{AreLeft};
     ghost use Rattle.dbus_view.specs.Bodies.{IsArgThere, IsPlaceThere, all_values};
-    ghost use Rattle.dbus_view.specs.FieldViews.{FieldsAreLeft};
+    ghost use Rattle.dbus_view.specs.Views.{FieldsAreLeft, IsViewFault, Views, ViewsOne, IsViewOf};
     ghost use Rattle.dbus_message_model.specs.KnownFields.{WantsText, IsTextOf};
-    ghost use Rattle.dbus_view.specs.Opening.{IsViewFault};
-    ghost use Rattle.dbus_view.specs.Views.{Views, ViewsOne, IsViewOf};
 
     /// A view of the message that the bytes are, as [`MessageView::of_within`] makes it under the
     /// limits of the specification.

@@ -12,10 +12,8 @@ use Rattle.dbus_walk.specs.declared.container.Container.TheVariants as kind
 use Rattle.dbus_walk.specs.declared.spot.Layout.{Layout}
 use Rattle.dbus_walk.specs.declared.spot.MessageBytes.{MessageBytes}
 use Rattle.dbus_walk.specs.declared.spot.Spot.{Spot}
-use Rattle.dbus_walk.specs.Containers.{inside}
-use Rattle.dbus_walk.specs.Layouts.{of_parts, IsNumberAt, IsTextAt, IsVariantAt, IsArrayAt, IsStructAt, IsEntryAt, IsLaidOut}
+use Rattle.dbus_walk.specs.Containers.{inside, of_parts, IsNumberAt, IsTextAt, IsVariantAt, IsArrayAt, IsStructAt, IsEntryAt, IsLaidOut, number_width}
 use Rattle.dbus_walk.specs.Standing.{AllStand, StandsAt, end_of}
-use Rattle.dbus_walk.specs.Widths.{number_width}
 use Rattle.dbus_walk.proofs.Containers.{variant_stands, variant_held, array_stands, array_found, elements_there}
 use Rattle.dbus_walk.proofs.Enclosed.{struct_stands, entry_stands, enclosed_long}
 use Rattle.dbus_walk.proofs.Fronts.{parts_end}

@@ -15,7 +15,7 @@ use Rattle.dbus_types.specs.SignatureCodes.{first_code}
 use Rattle.dbus_types.proofs.TypeCodes.{code_is, text_is}
 use Rattle.dbus_value_model.proofs.Gaps.{no_gap}
 use Rattle.dbus_walk.specs.Standing.{Stands}
-use Rattle.dbus_walk.specs.Widths.{number_width}
+use Rattle.dbus_walk.specs.Containers.{number_width}
 use Rattle.dbus_walk.proofs.NumberFacts.{number_of_type, number_there}
 use Rattle.dbus_walk.proofs.Seams.{there_within, stands_after}
 

@@ -3,8 +3,7 @@ use Rattle.std.proofs.Common.{◌≡◌, ℕ, suc, ◌+◌, ◌-◌, ◌<◌, �
 use Rattle.std.proofs.lemmas.List.{length-append, length-take, length-drop, drop-take, take-take, take_rest, drop-drop, drop_more, length-replicate}
 use Rattle.dbus_texts.specs.Types.{sig, sigs}
 use Rattle.dbus_texts.proofs.TypeTexts.{sig_positive}
-use Rattle.dbus_types.specs.SignatureCodes.{IsTypeEnd}
-use Rattle.dbus_types.specs.TypeLengths.{AreLengths}
+use Rattle.dbus_types.specs.SignatureCodes.{IsTypeEnd, AreLengths}
 use Rattle.dbus_types.proofs.TypeCodes.{within}
 use Rattle.dbus_types.proofs.TypeLengths.{lengths_within}
 use Rattle.dbus_value_model.specs.Bytes.{gap_to, pad}
@@ -13,8 +12,7 @@ use Rattle.dbus_value_model.specs.Spelling.{spelling, spellings}
 use Rattle.dbus_value_model.specs.Values.{ValueTree, ValueTrees, NoValues, MoreValues, StructValue, type_of, types_of}
 use Rattle.dbus_walk.specs.declared.spot.MessageBytes.{MessageBytes}
 use Rattle.dbus_walk.specs.declared.spot.Spot.{Spot}
-use Rattle.dbus_walk.specs.Rows.{IsRow, FieldsStandAt, between}
-use Rattle.dbus_walk.specs.Standing.{Stands, AllStand}
+use Rattle.dbus_walk.specs.Standing.{IsRow, FieldsStandAt, between, Stands, AllStand}
 use Rattle.dbus_walk.proofs.Enclosed.{struct_stands}
 use Rattle.dbus_walk.proofs.Lists.{first_value}
 

@@ -8,8 +8,7 @@ use Rattle.dbus_value_model.specs.Bytes.{gap_to}
 use Rattle.dbus_value_model.specs.declared.order.Order.{Order}
 use Rattle.dbus_value_model.specs.Spelling.{spelling, spellings}
 use Rattle.dbus_value_model.specs.Values.{ValueTree, ValueTrees, NoValues, MoreValues, StructValue, EntryValue, value_trees, type_of, types_of}
-use Rattle.dbus_types.specs.SignatureCodes.{IsTypeEnd}
-use Rattle.dbus_types.specs.TypeLengths.{AreLengths}
+use Rattle.dbus_types.specs.SignatureCodes.{IsTypeEnd, AreLengths}
 use Rattle.dbus_types.proofs.TypeLengths.{ends_by}
 use Rattle.dbus_walk.specs.Standing.{Stands, AllStand, ElementsStand}
 use Rattle.dbus_walk.specs.Containers.{IsOf, inside, is_none}

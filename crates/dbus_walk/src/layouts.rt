@@ -5,7 +5,7 @@ ghost use Rattle.std.specs.Prelude.{◌≡◌, ◌<◌, ℕ, ◌⊎◌, List, sl
 ghost use Rattle.dbus_value_model.specs.Bytes.{gap_to};
 ghost use Rattle.dbus_value_model.specs.Values.{ValueTree};
 ghost use Rattle.dbus_walk.specs.Standing.{StandsAt, StandsThere};
-ghost use Rattle.dbus_walk.specs.Layouts.{IsArrayAt, IsLaidOut};
+ghost use Rattle.dbus_walk.specs.Containers.{IsArrayAt, IsLaidOut};
 
 use crate::numbers::number_width;
 use crate::spot::{Layout, MessageBytes, Run, Spot};

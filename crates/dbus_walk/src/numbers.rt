@@ -4,7 +4,7 @@
 ghost use Rattle.std.specs.Prelude.{◌≡◌, ◌≤◌};
 ghost use Rattle.dbus_texts.specs.Types.{TypeTree};
 ghost use Rattle.dbus_types.specs.SignatureCodes.{first_code};
-ghost use Rattle.dbus_walk.specs.Widths.{number_width};
+ghost use Rattle.dbus_walk.specs.Containers.{number_width};
 
 use dbus_types::free_width;
 

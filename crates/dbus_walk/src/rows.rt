@@ -2,8 +2,8 @@
 #![tactic(auto)]
 
 ghost use Rattle.std.specs.Prelude.{◌≤◌, length};
-ghost use Rattle.dbus_types.specs.TypeLengths.{AreLengths};
-ghost use Rattle.dbus_walk.specs.Rows.{IsRow};
+ghost use Rattle.dbus_types.specs.SignatureCodes.{AreLengths};
+ghost use Rattle.dbus_walk.specs.Standing.{IsRow};
 
 /// How many structs open where a type begins, if each but the first is the only field of the one
 /// around it: 0 if the type is no struct. `lengths` are those of the types in it.

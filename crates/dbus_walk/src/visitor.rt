@@ -12,11 +12,10 @@ ghost use Rattle.dbus_value_model.specs.Reading.{number_of};
 ghost use Rattle.dbus_value_model.specs.declared.order.Order.{Order};
 ghost use Rattle.dbus_value_model.specs.Spelling.{spellings};
 ghost use Rattle.dbus_value_model.specs.Values.{ValueTree, ValueTrees, type_of, types_of, value_trees};
-ghost use Rattle.dbus_walk.specs.Widths.{number_width};
+ghost use Rattle.dbus_walk.specs.Containers.{number_width, IsOf, inside, parts, is_none};
 ghost use Rattle.dbus_walk.specs.Standing.{StandsAt, StandsThere};
 ghost use Rattle.dbus_walk.specs.declared.container.Container.{Container};
 ghost use Rattle.dbus_walk.specs.declared.container.Container.TheVariants.{Array, Variant};
-ghost use Rattle.dbus_walk.specs.Containers.{IsOf, inside, parts, is_none};
 
 use crate::container::Container;
 use crate::spot::{MessageBytes, Run, Spot};

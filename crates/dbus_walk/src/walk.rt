@@ -8,14 +8,12 @@
 ghost use Rattle.std.specs.Prelude.{◌≡◌, ℕ, ◌+◌, ◌<◌, ◌≤◌, ◌⊎◌, List, length, IfOk};
 ghost use Rattle.dbus_texts.specs.Kinds.{IsKind};
 ghost use Rattle.dbus_texts.specs.declared.text_kind.TextKind.TheVariants.{Single};
-ghost use Rattle.dbus_types.specs.TypeLengths.{AreLengths};
+ghost use Rattle.dbus_types.specs.SignatureCodes.{AreLengths};
 ghost use Rattle.dbus_value_model.specs.Bytes.{gap_to};
 ghost use Rattle.dbus_value_model.specs.Values.{ValueTree, ValueTrees, StructValue, VariantValue, value_trees};
-ghost use Rattle.dbus_walk.specs.Containers.{IsOf, inside, parts};
+ghost use Rattle.dbus_walk.specs.Containers.{IsOf, inside, parts, IsVariantAt, IsArrayAt, IsStructAt, IsEntryAt, IsRunAt};
 ghost use Rattle.dbus_walk.specs.declared.container.Container.TheVariants.{Struct, Entry};
-ghost use Rattle.dbus_walk.specs.Rows.{IsRow, FieldsStandAt};
-ghost use Rattle.dbus_walk.specs.Layouts.{IsVariantAt, IsArrayAt, IsStructAt, IsEntryAt, IsRunAt};
-ghost use Rattle.dbus_walk.specs.Standing.{StandsAt, StandsThere, AllStandAt, AllStandThere, ElementsStandAt, ElementsStandThere, end_of, end_of_all};
+ghost use Rattle.dbus_walk.specs.Standing.{IsRow, FieldsStandAt, StandsAt, StandsThere, AllStandAt, AllStandThere, ElementsStandAt, ElementsStandThere, end_of, end_of_all};
 
 use crate::container::Container;
 use crate::layouts::layout;

@@ -1,7 +1,7 @@
 //! A session with a message bus, as bytes that come and bytes that are to be sent.
 
 ghost use Rattle.std.specs.Prelude.{◌≡◌, true};
-ghost use Rattle.dbus_auth.specs.ClientEndViews.{client_end_state};
+ghost use Rattle.dbus_auth.specs.EndViews.{client_end_state};
 
 use anyhow::{Result, bail};
 use dbus_auth::{Client, ClientEnd, Mechanism, Status};

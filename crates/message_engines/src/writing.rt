@@ -1,6 +1,6 @@
 //! What checks, measures and writers do with a value that was read.
 
-ghost use Rattle.dbus_value_model.specs.ShortSignatures.{HasShortSignatures};
+ghost use Rattle.dbus_value_model.specs.Sizes.{HasShortSignatures};
 ghost use Rattle.dbus_value_model.specs.ValueViews.{value_tree};
 
 use crate::asked::Asked;

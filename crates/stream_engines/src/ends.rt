@@ -1,7 +1,7 @@
 //! Both ends of a connection, and what an end did with the pieces that were handed to it.
 
 ghost use Rattle.std.specs.Prelude.{◌≡◌, true, false};
-ghost use Rattle.dbus_auth.specs.ClientEndViews.{client_end_state};
+ghost use Rattle.dbus_auth.specs.EndViews.{client_end_state};
 
 use crate::outcome::Outcome;
 use crate::setups::{mechanisms_of, server_of};

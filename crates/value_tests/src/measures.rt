@@ -2,7 +2,7 @@
 //! answer.
 
 ghost use Rattle.std.specs.Prelude.{IfOk};
-ghost use Rattle.dbus_value_model.specs.ShortSignatures.{HasShortSignatures};
+ghost use Rattle.dbus_value_model.specs.Sizes.{HasShortSignatures};
 ghost use Rattle.dbus_value_model.specs.ValueViews.{value_tree};
 
 use dbus_marshal::{measure, measure_all, measure_header_field, size_after};

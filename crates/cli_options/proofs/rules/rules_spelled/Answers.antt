@@ -5,9 +5,8 @@ use Rattle.std.specs.Result.{is_ok}
 use Rattle.clap.specs.Words.{Text}
 use Rattle.dbus_rule.specs.declared.rule.Rule.{Rule}
 use Rattle.dbus_rule.specs.Rules.{Pair, SpellsRule}
-use Rattle.dbus_rule.specs.RuleReadings.{IsRuleFault}
+use Rattle.dbus_rule.specs.RuleViews.{IsRuleFault, rule_pairs}
 use Rattle.dbus_rule.specs.declared.fault.RuleFault.TheVariants.{Bad}
-use Rattle.dbus_rule.specs.RuleViews.{rule_pairs}
 use Rattle.cli_options.specs.Named.{AreRulesOf}
 use Rattle.cli_options.proofs.WordLists.{each_can, one_more_gives, parted, past_end}
 use Rattle.cli_options.proofs.rules.rules_spelled.Goals as goal

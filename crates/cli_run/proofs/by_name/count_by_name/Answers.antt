@@ -1,5 +1,5 @@
 use Rattle.std.proofs.Common.{◌≡◌, Err, rules, inl, inr, refl, subst}
-use Rattle.dbus_count.specs.Kept.{counting_of}
+use Rattle.dbus_count.specs.Counting.{counting_of}
 use Rattle.dbus_count.specs.declared.counts.Counts.{Counts}
 use Rattle.cli_report.specs.Devices.{writing}
 use Rattle.cli_run.specs.ByName.{WritesTables}

@@ -1,10 +1,9 @@
 use Rattle.std.proofs.Common.{◌≡◌, ◌≤◌, ◌<◌, ◌^◌, ◌+◌, ◌++◌, [], drop, Ok, arith, refl, sym, ap, ◌∙◌, subst}
 use Rattle.dbus_header.proofs.OutcomeLaws.{whole_inside}
-use Rattle.dbus_stream.specs.CheckReading.{GivesLength, limits_of, Reads}
+use Rattle.dbus_stream.specs.CheckReading.{GivesLength, limits_of, Reads, lengths}
 use Rattle.dbus_stream.specs.Cut.{CutMessage, Ended}
-use Rattle.dbus_stream.specs.Lengths.{lengths}
 use Rattle.dbus_stream.specs.Reading.{done_of, most_reads_of, source_of}
-use Rattle.cli_run.specs.Counting.{Tallies, ended_by}
+use Rattle.cli_run.specs.ByName.{Tallies, ended_by}
 use Rattle.cli_report.specs.Devices.{reading, taken}
 use Rattle.cli_run.proofs.ReadSteps.{length-sizes}
 use Rattle.cli_run.proofs.HandSteps.{hands_none, hands_more, hands_all, hands_faulted}

@@ -1,6 +1,5 @@
 use Rattle.std.proofs.Common.{◌≡◌, ◌-◌, ◌^◌, ℕ, List, []}
-use Rattle.dbus_stream.specs.CheckReading.{Keeps, limits_of}
-use Rattle.dbus_stream.specs.Lengths.{lengths}
+use Rattle.dbus_stream.specs.CheckReading.{Keeps, limits_of, lengths}
 use Rattle.dbus_stream.specs.Reading.{done_of, source_of}
 use Rattle.cli_run.proofs.CountSteps.{counts}
 use Rattle.cli_run.proofs.HandSteps.{HasHanded}

@@ -3,7 +3,7 @@ use Rattle.dbus_header.proofs.OutcomeLaws.{whole_inside}
 use Rattle.dbus_stream.specs.Cut.{Ended}
 use Rattle.dbus_stream.specs.Gathering.{gathering}
 use Rattle.dbus_stream.specs.RawReading.{limits_of, done_of, kept}
-use Rattle.cli_run.specs.Counting.{stopped_by}
+use Rattle.cli_run.specs.ByName.{stopped_by}
 use Rattle.cli_run.specs.Handing.{GivesNext}
 use Rattle.cli_run.specs.Onward.{RawHandsOn}
 use Rattle.cli_run.proofs.ReadSteps.{length-sizes}

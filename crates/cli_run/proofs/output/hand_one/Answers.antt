@@ -1,9 +1,8 @@
 use Rattle.std.proofs.Common.{◌≡◌, ℕ, List, [], ◌∷◌, inl, inr, refl, sym, ap, ◌∙◌, subst, Result, Ok, Err, IfOk}
 use Rattle.std.proofs.lemmas.Bool.{false≢true}
-use Rattle.cli_run.specs.Output.{command_of, owners_known}
+use Rattle.cli_run.specs.Output.{command_of, owners_known, text_if, written}
 use Rattle.cli_report.specs.Gathering.{GathersOrNot, Passes, gathered_bytes}
 use Rattle.cli_report.specs.PageLaws.{passes_none}
-use Rattle.cli_run.specs.Windows.{text_if, written}
 use Rattle.cli_run.proofs.Outputs.{some_of_one, some_text}
 use Rattle.cli_run.specs.VisitorLaws.{after_none, written_none}
 use Rattle.cli_run.proofs.output.hand_one.Goals as goal

@@ -1,6 +1,6 @@
 use Rattle.std.proofs.Common.{◌≡◌, Ok, Err, rules, refl, subst}
 use Rattle.cli_report.specs.Devices.{reading, taken, writing}
-use Rattle.cli_run.specs.Counting.{Tallies}
+use Rattle.cli_run.specs.ByName.{Tallies}
 use Rattle.cli_run.proofs.CheckSteps.{gave_up, line_not, line_written}
 use Rattle.cli_run.proofs.running.check.Goals as goal
 

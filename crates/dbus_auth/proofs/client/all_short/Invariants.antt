@@ -1,6 +1,6 @@
 use Rattle.std.proofs.Common.{◌≡◌, map, drop}
 use Rattle.std.specs.List.{list_all, AllByRecursion}
-use Rattle.dbus_auth.specs.Mechanisms.{IsMechanism}
+use Rattle.dbus_auth.specs.Machines.{IsMechanism}
 use Rattle.dbus_auth.specs.ClientViews.{client_mechanism, is_short}
 use Rattle.dbus_auth.proofs.client.all_short.Given as goal
 

@@ -1,5 +1,5 @@
 use Rattle.dbus_value_model.specs.Forming.{NestWithin}
-use Rattle.dbus_value_model.specs.Ranges.{HoldNumbers}
+use Rattle.dbus_value_model.specs.Verdicts.{HoldNumbers}
 use Rattle.dbus_value_model.specs.ValueViews.{value_trees_of}
 use Rattle.dbus_build.specs.BuildFaults.{IsFirstUnsound}
 use Rattle.dbus_build.proofs.Finding.{IsOn}

@@ -1,7 +1,7 @@
 use Rattle.std.proofs.Common.{ℕ, subst}
 use Rattle.dbus_value_model.specs.declared.order.Order.{Order}
 use Rattle.dbus_flatten.specs.Flattening.{AreFlat}
-use Rattle.dbus_c.specs.FlatParts.{start_of, values_of}
+use Rattle.dbus_c.specs.Parting.{start_of, values_of}
 use Rattle.dbus_c.proofs.flattening.flat_part.Goals as goal
 
 pub flatten-requires : goal.flatten-requires

@@ -1,6 +1,6 @@
 use Rattle.std.proofs.Common.{Option, None, sym, subst, ◌∙◌}
 use Rattle.dbus_value_model.specs.Values.{ValueTree}
-use Rattle.dbus_message_model.specs.Lookups.{field_value}
+use Rattle.dbus_message_model.specs.KnownFields.{field_value}
 use Rattle.dbus_validate.specs.Seen.{IsNotedOf}
 use Rattle.dbus_validate.specs.declared.seen.FieldPlace.{FieldPlace}
 use Rattle.dbus_c.proofs.parts.place_of.Goals as goal

@@ -1,6 +1,6 @@
 use Rattle.std.proofs.Common.{rules, ◌≡◌, List, ℕ, Option, refl, ap, subst, ◌∙◌}
 use Rattle.dbus_rule.specs.Faults.{IsFault}
-use Rattle.dbus_rule.specs.RuleReadings.{IsRuleFault}
+use Rattle.dbus_rule.specs.RuleViews.{IsRuleFault}
 use Rattle.dbus_rule.specs.declared.fault.RuleFault.{RuleFault}
 use Rattle.dbus_rule.specs.declared.fault.RuleFault.TheVariants.{Bad}
 use Rattle.dbus_c.specs.Rules.{added, faulty, rule_fault_told}

@@ -6,7 +6,7 @@ use Rattle.dbus_header.specs.MessageOutcomes.{IsWhole}
 use Rattle.dbus_header.specs.NoMessage.{BeginsWithNone}
 use Rattle.dbus_c.specs.Checking.{Tells}
 use Rattle.dbus_c.specs.GivenLimits.{limits_of}
-use Rattle.dbus_c.specs.Swapping.{order_named, swapped, no_room}
+use Rattle.dbus_c.specs.Outcomes.{order_named, swapped, no_room}
 use Rattle.dbus_c.proofs.Swapped.{none_swaps, swaps_exact}
 use Rattle.dbus_c.proofs.Telling.{some_there}
 use Rattle.dbus_c.proofs.swapping.dbus_wire_swap.Goals as goal

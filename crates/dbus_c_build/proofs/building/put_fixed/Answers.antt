@@ -1,7 +1,7 @@
 use Rattle.std.proofs.Common.{◌≡◌, ℕ, List, [], ◌∷◌, ◌++◌, refl, ap, ◌∙◌}
 use Rattle.dbus_value_model.specs.declared.order.Order.{Order}
 use Rattle.dbus_value_model.specs.declared.order.Order.TheVariants.{Little, Big}
-use Rattle.dbus_value_model.specs.Appending.{with_padding}
+use Rattle.dbus_value_model.specs.SizeLimits.{with_padding}
 use Rattle.dbus_value_model.specs.Bytes.{gap_to, num, low_first}
 use Rattle.dbus_message_model.specs.Messages.{order_byte}
 use Rattle.dbus_c_build.proofs.Spelling.{on_ok}

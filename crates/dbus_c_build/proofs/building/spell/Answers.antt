@@ -1,7 +1,7 @@
 use Rattle.std.proofs.Common.{◌-◌, ◌++◌, ℕ, List, length, inr, refl, ap, ◌∙◌, arith}
 use Rattle.std.proofs.lemmas.Result.{err_from_is_err_and}
 use Rattle.dbus_c_build.specs.Placed.{fields_after}
-use Rattle.dbus_c_build.specs.Spelled.{fixed_items, with_fields}
+use Rattle.dbus_c_build.specs.Building.{fixed_items, with_fields}
 use Rattle.dbus_c_build.proofs.Spelling.{all_spelled, fields_count}
 use Rattle.dbus_c_build.proofs.building.spell.Goals as goal
 

@@ -1,6 +1,6 @@
 use Rattle.std.proofs.Common.{sym, ap, ◌∙◌, Option}
 use Rattle.dbus_c_build.specs.Placed.{field_of, number_of, text_value}
-use Rattle.dbus_c_build.specs.Spelled.{with_fields}
+use Rattle.dbus_c_build.specs.Building.{with_fields}
 use Rattle.dbus_c_build.specs.declared.placed.ByteRange.{ByteRange}
 use Rattle.dbus_c_build.proofs.Spelling.{one_field, with_text}
 use Rattle.dbus_c_build.proofs.fields.append_given.Goals as goal

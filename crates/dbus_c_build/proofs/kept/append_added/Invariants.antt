@@ -1,9 +1,8 @@
 use Rattle.std.proofs.Common.{◌≡◌, List, take}
 use Rattle.std.specs.List.{flat_map}
 use Rattle.dbus_message_model.specs.Messages.{FieldTree}
-use Rattle.dbus_c_build.specs.Kept.{AreKept}
-use Rattle.dbus_c_build.specs.Placed.{added, known_codes}
-use Rattle.dbus_c_build.specs.Spelled.{with_fields}
+use Rattle.dbus_c_build.specs.Placed.{AreKept, added, known_codes}
+use Rattle.dbus_c_build.specs.Building.{with_fields}
 use Rattle.dbus_c_build.proofs.kept.append_added.Given as goal
 
 abbrev pub invariant-loop-before : goal.invariant-loop-before

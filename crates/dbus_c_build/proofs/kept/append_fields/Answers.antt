@@ -1,7 +1,7 @@
 use Rattle.std.proofs.Common.{sym, ap, ◌∙◌}
 use Rattle.std.specs.List.{flat_map}
 use Rattle.dbus_c_build.specs.Placed.{added, in_place, known_codes}
-use Rattle.dbus_c_build.specs.Spelled.{with_fields}
+use Rattle.dbus_c_build.specs.Building.{with_fields}
 use Rattle.dbus_c_build.proofs.Spelling.{fields_more, on_ok}
 use Rattle.dbus_c_build.proofs.kept.append_fields.Goals as goal
 

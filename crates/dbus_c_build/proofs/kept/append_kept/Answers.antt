@@ -2,13 +2,13 @@ use Rattle.std.proofs.Common.{◌≡◌, ℕ, List, sym, ap, subst, ◌∙◌, a
 use Rattle.std.specs.List.{flat_map}
 use Rattle.std.proofs.lemmas.List.{length-take}
 use Rattle.dbus_value_model.specs.declared.order.Order.{Order}
-use Rattle.dbus_value_model.specs.Appending.{with_value}
+use Rattle.dbus_value_model.specs.SizeLimits.{with_value}
 use Rattle.dbus_message_model.specs.Messages.{FieldTree, field_struct}
 use Rattle.dbus_marshal.proofs.Written.{written_none}
 use Rattle.dbus_validate.proofs.WholeParts.{inside}
 use Rattle.dbus_walk.proofs.FieldParts.{none_walked, next_field, field_walked, all_walked}
 use Rattle.dbus_c_build.specs.Placed.{field_given, in_place, stays}
-use Rattle.dbus_c_build.specs.Spelled.{with_fields}
+use Rattle.dbus_c_build.specs.Building.{with_fields}
 use Rattle.dbus_c_build.proofs.KeptFields.{is_kept, kept_there, none_kept, noted}
 use Rattle.dbus_c_build.proofs.Spelling.{fields_next, given_in_place, same_in_place}
 use Rattle.dbus_c_build.proofs.kept.append_kept.Goals as goal

@@ -3,9 +3,8 @@ use Rattle.std.specs.List.{flat_map}
 use Rattle.dbus_message_model.specs.Messages.{FieldTree}
 use Rattle.dbus_walk.specs.Fields.{FieldsStand}
 use Rattle.dbus_walk.proofs.FieldParts.{Walked}
-use Rattle.dbus_c_build.specs.Kept.{IsKept}
-use Rattle.dbus_c_build.specs.Placed.{in_place}
-use Rattle.dbus_c_build.specs.Spelled.{with_fields}
+use Rattle.dbus_c_build.specs.Placed.{IsKept, in_place}
+use Rattle.dbus_c_build.specs.Building.{with_fields}
 use Rattle.dbus_c_build.proofs.kept.append_kept.Given as goal
 
 abbrev pub invariant-loop-place : goal.invariant-loop-place

@@ -8,7 +8,7 @@ use Rattle.dbus_value_model.specs.Items.{fault}
 use Rattle.dbus_value_model.proofs.Gaps.{gap_below}
 use Rattle.dbus_value_checker.specs.Fronts.{Lack}
 use Rattle.dbus_value_checker.proofs.FrontSteps.{lacks_number, number_taken, number_refused}
-use Rattle.dbus_check.specs.Fields.{uint32_row}
+use Rattle.dbus_check.specs.Heading.{uint32_row}
 use Rattle.dbus_check.proofs.FieldSteps.{any_number, no_serial, some_serial, padded_stops, padded_number_stops, padded_number_there}
 use Rattle.dbus_check.proofs.field_fronts.uint32_front.Goals as goal
 

@@ -4,7 +4,7 @@ use Rattle.std.proofs.lemmas.Result.{err_from_is_err_and}
 use Rattle.dbus_value_model.specs.WantedTexts.{Of}
 use Rattle.dbus_message_model.specs.Messages.{Name}
 use Rattle.dbus_value_checker.specs.Suspended.{onward, done}
-use Rattle.dbus_check.specs.Fields.{name_text, nothing_of}
+use Rattle.dbus_check.specs.Heading.{name_text, nothing_of}
 use Rattle.dbus_check.proofs.FieldLaws.{signature_stops, value_stops, value_there, name_is}
 use Rattle.dbus_check.proofs.field_values.name_field.Goals as goal
 

@@ -12,7 +12,7 @@ use Rattle.dbus_message_model.specs.Messages.{OfType, text_in}
 use Rattle.dbus_header.specs.HeaderReading.{wanted_value}
 use Rattle.dbus_value_checker.specs.Fronts.{Fronts}
 use Rattle.dbus_value_checker.specs.Suspended.{short_text}
-use Rattle.dbus_check.specs.Fields.{seen_as}
+use Rattle.dbus_check.specs.Heading.{seen_as}
 use Rattle.dbus_check.proofs.FieldLaws.{signature_stops, value_stops, value_there, text_is}
 use Rattle.dbus_check.proofs.field_values.text_field.Goals as goal
 

@@ -2,7 +2,7 @@ use Rattle.std.proofs.Common.{ℕ, ◌+◌, length, refl, ap, arith}
 use Rattle.std.proofs.lemmas.List.{length-drop}
 use Rattle.std.proofs.lemmas.Result.{err_from_is_err_and}
 use Rattle.dbus_message_model.specs.Messages.{number_in}
-use Rattle.dbus_check.specs.Fields.{padded_number, uint32_row, uint32_wanted}
+use Rattle.dbus_check.specs.Heading.{padded_number, uint32_row, uint32_wanted}
 use Rattle.dbus_check.proofs.FieldLaws.{signature_stops, value_stops, value_there, uint32_only, uint32_is}
 use Rattle.dbus_check.proofs.field_values.uint32_field.Goals as goal
 

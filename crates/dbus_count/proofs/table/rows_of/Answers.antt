@@ -3,7 +3,7 @@ use Rattle.std.specs.List.{filter}
 use Rattle.std.specs.List.Sorted.{IsPermutation}
 use Rattle.std.specs.Map.Iter.{deref_pair}
 use Rattle.std.proofs.lemmas.List.Sorted.{IsPermutation-map, answers_always}
-use Rattle.dbus_count.specs.Kept.{counting_of}
+use Rattle.dbus_count.specs.Counting.{counting_of}
 use Rattle.dbus_count.specs.Tables.{goes_before, row_of}
 use Rattle.dbus_count.proofs.RowLaws.{begins, row, filter_rows, deref_rows, rows_counted, rows_all, rows_distinct, rows_rank, rows_sorted}
 use Rattle.dbus_count.proofs.table.rows_of.Goals as goal

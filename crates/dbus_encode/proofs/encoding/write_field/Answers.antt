@@ -1,5 +1,5 @@
 use Rattle.std.proofs.Common.{◌<◌, take, arith, sym, ap, ◌∙◌}
-use Rattle.dbus_value_model.specs.Appending.{with_value}
+use Rattle.dbus_value_model.specs.SizeLimits.{with_value}
 use Rattle.dbus_value_model.specs.ValueViews.{value_tree}
 use Rattle.dbus_message_model.specs.PartsViews.{field_tree}
 use Rattle.dbus_encode.proofs.FieldWriting.{field_written, field_before}

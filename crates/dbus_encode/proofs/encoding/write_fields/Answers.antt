@@ -1,5 +1,5 @@
 use Rattle.std.proofs.Common.{◌+◌, drop, take, arith, sym, ◌∙◌}
-use Rattle.dbus_value_model.specs.Appending.{with_value}
+use Rattle.dbus_value_model.specs.SizeLimits.{with_value}
 use Rattle.dbus_message_model.specs.Messages.{field_struct}
 use Rattle.dbus_message_model.specs.PartsViews.{field_tree}
 use Rattle.dbus_message_model.proofs.FieldStructs.{structs, fields_short}

@@ -1,8 +1,7 @@
 use Rattle.std.proofs.Common.{◌++◌, ℕ, codes, min, subst}
 use Rattle.dbus_show.proofs.Gaining.{then}
-use Rattle.dbus_explain.specs.Explained.{place_in, place_line}
+use Rattle.dbus_explain.specs.Explained.{place_in, place_line, window}
 use Rattle.dbus_explain.specs.Names.{IsNameOf}
-use Rattle.dbus_explain.specs.Windows.{window}
 use Rattle.dbus_explain.proofs.ThreeLines.{message_lines}
 use Rattle.dbus_explain.proofs.message.explain_message.Goals as goal
 

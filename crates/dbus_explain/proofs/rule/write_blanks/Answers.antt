@@ -1,4 +1,4 @@
-use Rattle.dbus_explain.specs.ExplainedRules.{blank_of}
+use Rattle.dbus_explain.specs.Explained.{blank_of}
 use Rattle.dbus_explain.proofs.Rows.{one_more_byte}
 use Rattle.dbus_explain.proofs.rule.write_blanks.Goals as goal
 

@@ -1,6 +1,6 @@
 use Rattle.std.proofs.Common.{take}
 use Rattle.std.specs.List.{flat_map}
-use Rattle.dbus_explain.specs.ExplainedRules.{blank_of}
+use Rattle.dbus_explain.specs.Explained.{blank_of}
 use Rattle.dbus_explain.proofs.rule.write_blanks.Given as goal
 
 abbrev pub invariant-loop-byte : goal.invariant-loop-byte

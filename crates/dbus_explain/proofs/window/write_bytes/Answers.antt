@@ -1,4 +1,4 @@
-use Rattle.dbus_explain.specs.Windows.{byte_text}
+use Rattle.dbus_explain.specs.Explained.{byte_text}
 use Rattle.dbus_explain.proofs.Rows.{one_more_byte}
 use Rattle.dbus_explain.proofs.window.write_bytes.Goals as goal
 

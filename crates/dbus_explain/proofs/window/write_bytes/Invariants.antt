@@ -1,6 +1,6 @@
 use Rattle.std.proofs.Common.{take}
 use Rattle.std.specs.List.{flat_map}
-use Rattle.dbus_explain.specs.Windows.{byte_text}
+use Rattle.dbus_explain.specs.Explained.{byte_text}
 use Rattle.dbus_explain.proofs.window.write_bytes.Given as goal
 
 abbrev pub invariant-loop-byte : goal.invariant-loop-byte

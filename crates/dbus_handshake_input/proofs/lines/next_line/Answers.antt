@@ -1,7 +1,7 @@
 use Rattle.std.proofs.Common.{true, ◌≤◌, ◌<◌, ◌∙◌, List, ℕ, Bool, Ok, Err, length, length-append, ap, refl, subst, sym, arith}
 use Rattle.dbus_auth_lines.specs.CutterStates.{cutter_state}
 use Rattle.dbus_handshake_input.specs.Ahead.{HasMore, kept_of}
-use Rattle.dbus_handshake_input.specs.Lines.{ReadsLine}
+use Rattle.dbus_handshake_input.specs.Heard.{ReadsLine}
 use Rattle.dbus_handshake_input.specs.declared.fault.HandshakeFault.{HandshakeFault}
 use Rattle.dbus_auth_lines.proofs.Cuts.{short_by}
 use Rattle.dbus_handshake_input.proofs.AheadSteps.{went, went_on}

@@ -5,7 +5,7 @@ use Rattle.std.specs.Prelude.{string_bytes}
 use Rattle.dbus_texts.specs.Types.{BYTE, BOOLEAN, INT16, UINT16, INT32, UINT32, INT64, UINT64, DOUBLE, UNIX_FD, SIGNATURE}
 use Rattle.dbus_types.specs.Alignments.{alignment_of}
 use Rattle.dbus_types.specs.SigTypes.{type_tree}
-use Rattle.dbus_value_model.specs.Appending.{with_padding, with_value, with_values}
+use Rattle.dbus_value_model.specs.SizeLimits.{with_padding, with_value, with_values}
 use Rattle.dbus_value_model.specs.Values.{TextValue}
 use Rattle.dbus_value_model.specs.ValueViews.{value_tree, value_trees_of}
 use Rattle.dbus_value_model.specs.declared.value.Value.{the_lemmas}

@@ -1,6 +1,6 @@
 use Rattle.std.proofs.Common.{◌≡◌, ◌≤◌, drop, length, take}
-use Rattle.dbus_value_model.specs.Appending.{with_values}
-use Rattle.dbus_value_model.specs.ShortSignatures.{HaveShortSignatures}
+use Rattle.dbus_value_model.specs.SizeLimits.{with_values}
+use Rattle.dbus_value_model.specs.Sizes.{HaveShortSignatures}
 use Rattle.dbus_value_model.specs.ValueViews.{value_trees_of}
 use Rattle.dbus_marshal.proofs.marshalling.+write.Given as goal
 

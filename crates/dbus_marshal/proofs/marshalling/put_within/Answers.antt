@@ -1,6 +1,6 @@
 use Rattle.std.proofs.Common.{◌≡◌, ◌≤◌, ◌-◌, ◌++◌, ℕ, List, Ok, Err, None, length, replicate, take, drop, sym, ap, ◌∙◌, arith, rules}
 use Rattle.std.proofs.lemmas.List.{length-append, length-replicate, take_at, take_all}
-use Rattle.dbus_value_model.specs.Appending.{with_value}
+use Rattle.dbus_value_model.specs.SizeLimits.{with_value}
 use Rattle.dbus_value_model.specs.declared.limits.Limits.{Limits}
 use Rattle.dbus_value_model.specs.declared.order.Order.{Order}
 use Rattle.dbus_value_model.specs.declared.value_fault.ValueFault.TheVariants.{Memory}

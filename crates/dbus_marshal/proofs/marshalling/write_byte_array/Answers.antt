@@ -1,6 +1,6 @@
 use Rattle.std.proofs.Common.{◌++◌, length, take, sym, ap, ◌∙◌, arith}
 use Rattle.std.proofs.lemmas.List.{length-append, length-take-le}
-use Rattle.dbus_value_model.specs.Appending.{with_padding}
+use Rattle.dbus_value_model.specs.SizeLimits.{with_padding}
 use Rattle.dbus_value_model.specs.Bytes.{num}
 use Rattle.dbus_value_model.proofs.Numbers.{length-num}
 use Rattle.dbus_marshal.proofs.Spells.{written_bytes, length_bytes}

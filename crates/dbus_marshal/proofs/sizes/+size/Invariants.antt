@@ -1,6 +1,5 @@
 use Rattle.std.proofs.Common.{◌≡◌, ◌≤◌, drop}
-use Rattle.dbus_value_model.specs.Sizes.{sizes}
-use Rattle.dbus_value_model.specs.ShortSignatures.{HaveShortSignatures}
+use Rattle.dbus_value_model.specs.Sizes.{sizes, HaveShortSignatures}
 use Rattle.dbus_value_model.specs.ValueViews.{value_trees_of}
 use Rattle.dbus_marshal.proofs.sizes.+size.Given as goal
 

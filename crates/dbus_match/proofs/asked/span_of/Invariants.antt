@@ -1,6 +1,5 @@
 use Rattle.std.proofs.Common.{length}
-use Rattle.dbus_match.specs.Matching.{ownerships}
-use Rattle.dbus_match.specs.Matchers.{OwnsAlike}
+use Rattle.dbus_match.specs.Matching.{ownerships, OwnsAlike}
 use Rattle.dbus_match.proofs.asked.span_of.Given as goal
 
 -- what is left has the owners of the unique name

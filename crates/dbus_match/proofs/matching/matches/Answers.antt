@@ -3,8 +3,7 @@ use Rattle.std.proofs.lemmas.Bool.{false≢true}
 use Rattle.std.specs.List.{AllByRecursion}
 use Rattle.dbus_message_model.specs.MessageViews.{message_tree}
 use Rattle.dbus_match.specs.Matching.{HoldsAt, ownerships}
-use Rattle.dbus_rule.specs.Conditions.{condition_pairs}
-use Rattle.dbus_rule.specs.Rules.{Pair}
+use Rattle.dbus_rule.specs.Rules.{condition_pairs, Pair}
 use Rattle.dbus_rule.specs.declared.condition.Condition.{Condition}
 use Rattle.dbus_match.proofs.MatchingLists.{holds_at, one_holds}
 use Rattle.dbus_match.proofs.matching.matches.Goals as goal

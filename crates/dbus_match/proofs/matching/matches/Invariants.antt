@@ -1,6 +1,6 @@
 use Rattle.std.proofs.Common.{drop}
 use Rattle.dbus_message_model.specs.MessageViews.{message_tree}
-use Rattle.dbus_rule.specs.Conditions.{condition_pairs}
+use Rattle.dbus_rule.specs.Rules.{condition_pairs}
 use Rattle.dbus_match.specs.Matching.{Matches, ownerships}
 use Rattle.dbus_match.proofs.matching.matches.Given as goal
 

@@ -2,7 +2,7 @@ use Rattle.std.proofs.Common.{drop}
 use Rattle.dbus_value_model.specs.declared.order.Order.{Order}
 use Rattle.dbus_message_model.specs.Messages.{MessageTree}
 use Rattle.dbus_view.specs.Views.{Views}
-use Rattle.dbus_rule.specs.Conditions.{condition_pairs}
+use Rattle.dbus_rule.specs.Rules.{condition_pairs}
 use Rattle.dbus_match.specs.Matching.{Matches, ownerships}
 use Rattle.dbus_match.proofs.view_matching.matches_by.Given as goal
 

@@ -1,5 +1,5 @@
 use Rattle.std.proofs.Common.{◌≡◌, drop}
-use Rattle.dbus_message_model.specs.Lookups.{field_value}
+use Rattle.dbus_message_model.specs.KnownFields.{field_value}
 use Rattle.dbus_message_model.specs.PartsViews.{field_trees}
 use Rattle.dbus_message_model.proofs.lookups.field.Given as goal
 

@@ -1,5 +1,5 @@
 use Rattle.std.proofs.Common.{rules, ◌+◌, ◌<◌, length, refl, arith}
-use Rattle.dbus_rule.specs.Conditions.{condition_pair, condition_pairs}
+use Rattle.dbus_rule.specs.Rules.{condition_pair, condition_pairs}
 use Rattle.dbus_rule.proofs.RuleReadings.{spaces_at, read_more, read_last, read_end, read_fault}
 use Rattle.dbus_rule.proofs.conditions.read_conditions.Goals as goal
 

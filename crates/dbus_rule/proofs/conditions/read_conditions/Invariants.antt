@@ -1,5 +1,5 @@
 use Rattle.std.proofs.Common.{◌-◌, ◌≤◌, length}
-use Rattle.dbus_rule.specs.Conditions.{condition_pairs}
+use Rattle.dbus_rule.specs.Rules.{condition_pairs}
 use Rattle.dbus_rule.proofs.RuleReadings.{IsReadUpTo}
 use Rattle.dbus_rule.proofs.conditions.read_conditions.Given as goal
 

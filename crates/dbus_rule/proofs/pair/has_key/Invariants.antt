@@ -1,6 +1,5 @@
 use Rattle.std.proofs.Common.{drop}
-use Rattle.dbus_rule.specs.Conditions.{condition_pairs}
-use Rattle.dbus_rule.specs.Rules.{HasKey}
+use Rattle.dbus_rule.specs.Rules.{condition_pairs, HasKey}
 use Rattle.dbus_rule.proofs.pair.has_key.Given as goal
 
 -- if any has the key, then one of those left

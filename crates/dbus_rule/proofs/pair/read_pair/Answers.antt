@@ -1,6 +1,6 @@
 use Rattle.std.proofs.Common.{rules, sym, ◌∙◌}
 use Rattle.std.proofs.lemmas.Bool.{false≢true}
-use Rattle.dbus_rule.specs.Conditions.{condition_pairs}
+use Rattle.dbus_rule.specs.Rules.{condition_pairs}
 use Rattle.dbus_rule.proofs.PairReadings.{bad_fault}
 use Rattle.dbus_rule.proofs.pair.read_pair.Goals as goal
 

@@ -1,6 +1,5 @@
 use Rattle.std.proofs.Common.{◌≡◌, drop}
-use Rattle.dbus_rule.specs.Conditions.{condition_pairs}
-use Rattle.dbus_rule.specs.Senders.{sender_of}
+use Rattle.dbus_rule.specs.Rules.{condition_pairs, sender_of}
 use Rattle.dbus_rule.proofs.rule_values.sender_at.Given as goal
 
 -- none before is the sender

@@ -1,6 +1,5 @@
 use Rattle.std.proofs.Common.{◌≡◌, string_bytes, take}
-use Rattle.dbus_rule.specs.Rules.{canonical}
-use Rattle.dbus_rule.specs.Conditions.{condition_pairs}
+use Rattle.dbus_rule.specs.Rules.{canonical, condition_pairs}
 use Rattle.dbus_rule.proofs.to_text.canonical_text.Given as goal
 
 -- the text of the conditions so far

@@ -1,6 +1,6 @@
 use Rattle.std.proofs.Common.{◌≡◌, [], drop}
 use Rattle.dbus_rule.specs.declared.value_cut.Mode.TheVariants.{Outside}
-use Rattle.dbus_rule.specs.Scans.{scan}
+use Rattle.dbus_rule.specs.Values.{scan}
 use Rattle.dbus_rule.proofs.value_cut.cut_value.Given as goal
 
 -- what is left gives the reading of the whole

@@ -2,7 +2,7 @@ use denote.Ref.{Bor}
 use Rattle.std.proofs.Common.{◌≡◌, ◌⊎◌, inr, List, ℕ, Option, IfSome, refl, sym, ap, ◌∙◌, subst}
 use Rattle.dbus_texts.specs.Characters.{slash, dot}
 use Rattle.dbus_texts.specs.Types.{STRING, OBJECT_PATH}
-use Rattle.dbus_message_model.specs.Lookups.{field_value, body_value}
+use Rattle.dbus_message_model.specs.KnownFields.{field_value, body_value}
 use Rattle.dbus_message_model.specs.Messages.{MessageTree}
 use Rattle.dbus_rule.specs.declared.key.Key.{Key}
 use Rattle.dbus_match.specs.Matching.{HoldsAt, IsInNamespace, IsOwned, IsThere, IsWithin, Ownership, PathsMeet, ownerships, string_of, string_or_path_of, type_name}

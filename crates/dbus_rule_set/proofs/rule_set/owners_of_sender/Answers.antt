@@ -1,6 +1,5 @@
 use Rattle.std.proofs.Common.{◌≡◌, Some, None, List, ℕ, sym, ap, ◌∙◌, subst}
-use Rattle.dbus_match.specs.Matchers.{OwnsAlike}
-use Rattle.dbus_match.specs.Matching.{ownerships, text_of}
+use Rattle.dbus_match.specs.Matching.{OwnsAlike, ownerships, text_of}
 use Rattle.dbus_rule_set.proofs.rule_set.owners_of_sender.Goals as goal
 
 pub returns-in-Some : goal.returns-in-Some

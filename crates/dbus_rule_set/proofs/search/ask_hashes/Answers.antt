@@ -1,6 +1,6 @@
 use Rattle.std.proofs.Common.{◌+◌, Some, None, inr, refl, sym, ◌∙◌, subst, arith}
 use Rattle.std.proofs.lemmas.List.{take_all}
-use Rattle.dbus_match.specs.Matchers.{MatcherState}
+use Rattle.dbus_match.specs.Matching.{MatcherState}
 use Rattle.dbus_view.specs.Views.{Views}
 use Rattle.dbus_rule_set.specs.Held.{Collects, EntryMatches}
 use Rattle.dbus_rule_set.specs.Places.{IsNext}

@@ -1,7 +1,6 @@
 use Rattle.std.proofs.Common.{◌+◌, inl, sym, subst, arith}
 use Rattle.std.specs.Prelude.{OnOk}
-use Rattle.dbus_match.specs.Matchers.{MatcherState}
-use Rattle.dbus_match.specs.Matching.{ownerships}
+use Rattle.dbus_match.specs.Matching.{MatcherState, ownerships}
 use Rattle.dbus_view.specs.Views.{Views}
 use Rattle.dbus_rule_set.specs.Held.{Collects, EntryMatches}
 use Rattle.dbus_rule_set.specs.Places.{IsAmong, place_hash}

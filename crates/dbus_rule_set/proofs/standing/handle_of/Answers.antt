@@ -1,5 +1,5 @@
 use Rattle.std.proofs.Common.{rules, refl, subst, true, ◌≡◌, ◌∙◌, List, arith}
-use Rattle.dbus_rule.specs.Conditions.{condition_pair, condition_pairs}
+use Rattle.dbus_rule.specs.Rules.{condition_pair, condition_pairs}
 use Rattle.dbus_rule.specs.RuleViews.{rule_pairs}
 use Rattle.dbus_rule.specs.declared.condition.Condition.{Condition}
 use Rattle.dbus_rule_set.specs.declared.handle.RuleHandle.{RuleHandle}

@@ -1,6 +1,6 @@
 use Rattle.std.proofs.Common.{map, take}
 use Rattle.std.specs.List.{flat_map}
-use Rattle.dbus_show_handshake.specs.Sentences.{offer}
+use Rattle.dbus_show_handshake.specs.ShownHandshakes.{offer}
 use Rattle.dbus_show_handshake.proofs.sentences.write_offers.Given as goal
 
 abbrev pub invariant-loop-mech : goal.invariant-loop-mech

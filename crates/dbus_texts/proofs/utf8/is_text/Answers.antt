@@ -4,7 +4,7 @@ use Rattle.std.specs.Int.{IsInRange}
 use Rattle.std.proofs.lemmas.Bool.{false≢true, eqb-true}
 use Rattle.std.proofs.lemmas.List.{take_all}
 use Rattle.dbus_texts.specs.declared.utf8.Utf8Place.TheVariants.{Free}
-use Rattle.dbus_texts.specs.Utf8.{IsText}
+use Rattle.dbus_texts.specs.Kinds.{IsText}
 use Rattle.dbus_texts.proofs.PlainRuns.{plain_run}
 use Rattle.dbus_texts.proofs.Utf8Steps.{text_ends, text_some}
 use Rattle.dbus_texts.proofs.Quotients.{quotient_start}

@@ -2,8 +2,7 @@ use Rattle.std.proofs.Common.{ℕ, List, ◌-◌, length, take, drop, sym, ◌�
 use Rattle.std.proofs.lemmas.Bool.{eqb-false}
 use Rattle.std.proofs.lemmas.List.{take_rest}
 use Rattle.dbus_texts.specs.declared.names.Tail.TheVariants.{Needed}
-use Rattle.dbus_texts.specs.NameScans.{Elements}
-use Rattle.dbus_texts.specs.Neighbours.{AreLinked}
+use Rattle.dbus_texts.specs.NameScans.{Elements, AreLinked}
 use Rattle.dbus_texts.proofs.WholeNames.{found_at, joined_of}
 use Rattle.dbus_texts.proofs.whole_names.is_joined.Goals as goal
 

@@ -1,8 +1,8 @@
 use Rattle.std.proofs.Common.{◌-◌, length, take, drop, sym, ◌∙◌, subst, arith}
 use Rattle.std.proofs.lemmas.Bool.{eqb-false}
 use Rattle.std.proofs.lemmas.List.{take_rest}
-use Rattle.dbus_texts.specs.Names.{IsMember}
-use Rattle.dbus_texts.specs.Neighbours.{AreLinked}
+use Rattle.dbus_texts.specs.Kinds.{IsMember}
+use Rattle.dbus_texts.specs.NameScans.{AreLinked}
 use Rattle.dbus_texts.specs.declared.names.Letters.TheVariants.{Word}
 use Rattle.dbus_texts.proofs.WholeNames.{member_of}
 use Rattle.dbus_texts.proofs.whole_names.is_member.Goals as goal

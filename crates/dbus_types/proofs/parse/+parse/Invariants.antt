@@ -1,7 +1,7 @@
 use Rattle.std.proofs.Common.{◌≡◌, ◌++◌, length, ◌+◌, ◌*◌, ◌≤◌}
 use Rattle.dbus_texts.specs.Types.{sigs}
 use Rattle.dbus_types.specs.SigTypes.{type_trees_of}
-use Rattle.dbus_types.specs.TypeReads.{StartsFields}
+use Rattle.dbus_types.specs.Parses.{StartsFields}
 use Rattle.dbus_types.proofs.parse.+parse.Given as goal
 
 abbrev pub decreases-parse_fields : goal.decreases-parse_fields

@@ -1,5 +1,5 @@
 use Rattle.std.proofs.Common.{sym, ap, subst, arith, length}
-use Rattle.dbus_texts.specs.Signatures.{IsSingle}
+use Rattle.dbus_texts.specs.Kinds.{IsSingle}
 use Rattle.dbus_types.proofs.Parsing.{single_type}
 use Rattle.dbus_types.proofs.parse.parse_single.Goals as goal
 

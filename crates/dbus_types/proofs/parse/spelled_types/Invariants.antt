@@ -1,7 +1,7 @@
 use Rattle.std.proofs.Common.{◌≡◌, ◌++◌, length}
 use Rattle.dbus_texts.specs.Types.{sigs}
 use Rattle.dbus_types.specs.SigTypes.{type_trees_of}
-use Rattle.dbus_types.specs.TypeReads.{IsTextOfTypes}
+use Rattle.dbus_types.specs.Parses.{IsTextOfTypes}
 use Rattle.dbus_types.proofs.parse.spelled_types.Given as goal
 
 abbrev pub invariant-loop-rest : goal.invariant-loop-rest

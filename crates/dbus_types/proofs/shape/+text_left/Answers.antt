@@ -3,7 +3,7 @@ use Rattle.std.proofs.lemmas.Bool.{eqb-false}
 use Rattle.std.proofs.lemmas.List.{drop_more, at_drop_all}
 use Rattle.dbus_texts.specs.Types.{TypeTrees, AreSome, IsBasic}
 use Rattle.dbus_types.specs.SigTypes.{type_tree, type_trees_of}
-use Rattle.dbus_types.specs.Rooms.{LeavesOfType, LeavesOfTypes}
+use Rattle.dbus_types.specs.Parses.{LeavesOfType, LeavesOfTypes}
 use Rattle.dbus_types.specs.declared.sig_type.SigType.{SigType}
 use Rattle.dbus_types.proofs.TypeViews.{type_tree-Struct, type_tree-Entry}
 use Rattle.dbus_types.proofs.Rooms.{struct_leaves, entry_leaves, none_leave, more_leave, first_leaves_none}

@@ -1,6 +1,6 @@
 use Rattle.std.proofs.Common.{ℕ, Option, drop}
 use Rattle.dbus_types.specs.SigTypes.{type_trees_of}
-use Rattle.dbus_types.specs.Rooms.{LeavesOfTypes}
+use Rattle.dbus_types.specs.Parses.{LeavesOfTypes}
 use Rattle.dbus_types.proofs.shape.+text_left.Given as goal
 
 abbrev pub invariant-texts_left-loop-ty : goal.invariant-texts_left-loop-ty

@@ -2,7 +2,7 @@ use Rattle.std.proofs.Common.{◌≡◌, string_bytes, [], ◌∷◌, ◌++◌, 
 use Rattle.std.proofs.lemmas.Result.{on_ok_weaker, on_err_weaker}
 use Rattle.dbus_types.specs.SigTypes.{type_trees_of, type_tree}
 use Rattle.dbus_texts.specs.Types.{sigs, sig}
-use Rattle.dbus_types.specs.AppendedPrefixes.{AppendsPrefix}
+use Rattle.dbus_types.specs.Parses.{AppendsPrefix}
 use Rattle.dbus_types.proofs.TypeViews.{type_tree-Array, type_tree-Struct, type_tree-Entry}
 use Rattle.dbus_types.proofs.PrefixSteps.{on_err, front_within, none_of, texts_front}
 use Rattle.dbus_types.proofs.Spelling.{one_text_more}

@@ -1,6 +1,6 @@
 use Rattle.std.proofs.Common.{◌≡◌, ◌++◌, ◌<◌, ◌∙◌, ap, subst, length, string_bytes, arith}
 use Rattle.dbus_texts.specs.Types.{sigs}
-use Rattle.dbus_texts.specs.Signatures.{IsSignature}
+use Rattle.dbus_texts.specs.Kinds.{IsSignature}
 use Rattle.dbus_types.specs.SigTypes.{type_trees_of}
 use Rattle.dbus_types.proofs.Spelling.{spelled_types}
 use Rattle.dbus_types.proofs.spell.signature_text.Goals as goal

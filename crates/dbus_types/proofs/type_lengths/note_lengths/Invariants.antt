@@ -1,5 +1,5 @@
 use Rattle.std.proofs.Common.{◌≤◌, length}
-use Rattle.dbus_types.specs.TypeLengths.{AreNoted}
+use Rattle.dbus_types.specs.SignatureCodes.{AreNoted}
 use Rattle.dbus_types.proofs.type_lengths.note_lengths.Given as goal
 
 abbrev pub invariant-loop-at : goal.invariant-loop-at

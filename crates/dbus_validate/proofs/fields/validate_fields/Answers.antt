@@ -3,7 +3,7 @@ use Rattle.std.proofs.lemmas.Bool.{eqb-true, eqb-false}
 use Rattle.std.proofs.lemmas.List.{length-take-le, take-append-drop}
 use Rattle.dbus_value_model.specs.Values.{ValueTree}
 use Rattle.dbus_message_model.specs.Messages.{want, is_known, has_code}
-use Rattle.dbus_validate.specs.Held.{IsNoted}
+use Rattle.dbus_validate.specs.Seen.{IsNoted}
 use Rattle.dbus_validate.proofs.FieldTurns.{none_left, same_before, one_left, left_ends, one_unread, none_unread}
 use Rattle.dbus_validate.proofs.SeenSteps.{noted_front}
 use Rattle.dbus_validate.proofs.fields.validate_fields.Goals as goal

@@ -2,7 +2,7 @@ use Rattle.std.proofs.Common.{◌+◌, ◌<◌, false, List, [], ◌∷◌, Some
 use Rattle.std.proofs.lemmas.Bool.{eqb-false}
 use Rattle.std.proofs.lemmas.List.{at_drop_all}
 use Rattle.dbus_texts.specs.Types.{TypeTrees, AreSome}
-use Rattle.dbus_types.specs.Rooms.{LeavesOfType, LeavesOfTypes}
+use Rattle.dbus_types.specs.Parses.{LeavesOfType, LeavesOfTypes}
 use Rattle.dbus_types.proofs.Rooms.{struct_leaves, none_leave, more_leave, first_leaves_none}
 use Rattle.dbus_value_model.specs.Values.{type_of, types_of}
 use Rattle.dbus_value_model.specs.ValueViews.{value_tree, value_trees_of}

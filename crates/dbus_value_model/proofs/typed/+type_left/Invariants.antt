@@ -1,5 +1,5 @@
 use Rattle.std.proofs.Common.{ℕ, Option, drop}
-use Rattle.dbus_types.specs.Rooms.{LeavesOfTypes}
+use Rattle.dbus_types.specs.Parses.{LeavesOfTypes}
 use Rattle.dbus_value_model.specs.Values.{types_of}
 use Rattle.dbus_value_model.specs.ValueViews.{value_trees_of}
 use Rattle.dbus_value_model.proofs.typed.+type_left.Given as goal

@@ -1,6 +1,5 @@
 use Rattle.std.proofs.Common.{◌≡◌, ℕ, ◌+◌, ◌-◌, List, [], ◌++◌, length, drop, get_or, sym, ap, subst, ◌∙◌, rules, arith}
-use Rattle.dbus_types.specs.SignatureCodes.{IsTypeEnd}
-use Rattle.dbus_types.specs.TypeLengths.{AreLengths}
+use Rattle.dbus_types.specs.SignatureCodes.{IsTypeEnd, AreLengths}
 use Rattle.dbus_types.proofs.TypeLengths.{ends_by, lengths_within}
 use Rattle.dbus_value_model.specs.Values.{ValueTrees}
 use Rattle.dbus_value_model.specs.Spelling.{spelling, spellings}

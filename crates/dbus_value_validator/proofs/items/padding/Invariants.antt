@@ -1,5 +1,4 @@
-use Rattle.std.proofs.Common.{◌≡◌, ◌-◌}
-use Rattle.std.proofs.Common.{drop}
+use Rattle.std.proofs.Common.{◌≡◌, ◌-◌, drop}
 use Rattle.dbus_value_model.specs.Reading.{zeros}
 use Rattle.dbus_value_validator.proofs.items.padding.Given as goal
 

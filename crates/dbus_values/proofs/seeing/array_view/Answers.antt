@@ -1,7 +1,7 @@
 use Rattle.std.proofs.Common.{◌≡◌, ◌-◌, length, drop, sym, ap, subst, ◌∙◌, arith}
 use Rattle.std.proofs.lemmas.List.{length-take}
 use Rattle.dbus_texts.specs.Types.{BYTE, NumberType}
-use Rattle.dbus_walk.specs.Widths.{number_width}
+use Rattle.dbus_walk.specs.Containers.{number_width}
 use Rattle.dbus_values.proofs.NumberRuns.{elements_within}
 use Rattle.dbus_values.proofs.Views.{array_type, array_of_bytes}
 use Rattle.dbus_values.specs.States.{ElementsState, ElementsAreLeft}

@@ -1,5 +1,5 @@
 use Rattle.std.proofs.Common.{◌-◌, length}
-use Rattle.dbus_walk.specs.Rows.{IsRow}
+use Rattle.dbus_walk.specs.Standing.{IsRow}
 use Rattle.dbus_walk.proofs.rows.row_of.Given as goal
 
 abbrev pub invariant-loop-n : goal.invariant-loop-n

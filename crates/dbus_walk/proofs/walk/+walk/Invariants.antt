@@ -1,8 +1,7 @@
 use Rattle.std.proofs.Common.{◌+◌, ◌*◌, ◌-◌, ◌≤◌, ℕ, List, length}
-use Rattle.dbus_types.specs.TypeLengths.{AreLengths}
+use Rattle.dbus_types.specs.SignatureCodes.{AreLengths}
 use Rattle.dbus_value_model.specs.Values.{ValueTree, ValueTrees}
-use Rattle.dbus_walk.specs.Standing.{AllStand, AllStandAt, ElementsStand, ElementsStandAt}
-use Rattle.dbus_walk.specs.Rows.{between}
+use Rattle.dbus_walk.specs.Standing.{AllStand, AllStandAt, ElementsStand, ElementsStandAt, between}
 use Rattle.dbus_walk.proofs.Walks.{Left, Taken}
 use Rattle.dbus_walk.proofs.walk.+walk.Given as goal
 

@@ -1,6 +1,6 @@
 use Rattle.std.proofs.Common.{sym, ap, ◌∙◌}
 use Rattle.dbus_match.specs.Matching.{ownership}
-use Rattle.cli_options.specs.Learning.{known}
+use Rattle.cli_options.specs.Owners.{known}
 use Rattle.cli_options.proofs.Selections.{copies_mapped}
 use Rattle.cli_options.proofs.selection.Selection.take_known.Goals as goal
 

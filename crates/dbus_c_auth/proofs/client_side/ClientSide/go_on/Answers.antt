@@ -1,9 +1,7 @@
-use Rattle.std.proofs.Common.{◌≡◌, ◌∙◌, ◌≤◌, List, ℕ, length, true, false, subst, sym, ap, if◌then◌else◌}
+use Rattle.std.proofs.Common.{◌≡◌, ◌∙◌, ◌≤◌, List, ℕ, length, true, false, subst, sym, ap, if◌then◌else◌, Global}
 use Rattle.std.specs.List.{AllByRecursion}
-use Rattle.std.proofs.Common.{Global}
-use Rattle.dbus_auth.specs.Mechanisms.{IsMechanism}
-use Rattle.dbus_auth.specs.Machines.{is_empty}
-use Rattle.dbus_auth.specs.ClientEndViews.{client_end_state}
+use Rattle.dbus_auth.specs.Machines.{IsMechanism, is_empty}
+use Rattle.dbus_auth.specs.EndViews.{client_end_state}
 use Rattle.dbus_auth.specs.EndStepViews.{DidStep}
 use Rattle.dbus_auth.specs.Ends.{ClientEndState, EndOutcome, client_takes}
 use Rattle.dbus_auth.specs.declared.end_step.EndStep.{EndStep}

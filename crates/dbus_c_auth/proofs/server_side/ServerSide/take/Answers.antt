@@ -1,7 +1,7 @@
 use Rattle.std.proofs.Common.{ℕ, ◌≤◌, List, length, subst, sym, arith}
 use Rattle.dbus_auth.specs.Machines.{IsServer}
 use Rattle.dbus_auth.specs.Ends.{ServerEndState}
-use Rattle.dbus_auth.specs.ServerEndViews.{server_end_state}
+use Rattle.dbus_auth.specs.EndViews.{server_end_state}
 use Rattle.dbus_c_auth.specs.declared.step.TheConstants.{REPLY_ROOM}
 use Rattle.dbus_c_auth.proofs.Replies.{server_reply}
 use Rattle.dbus_c_auth.proofs.server_side.ServerSide.take.Goals as goal

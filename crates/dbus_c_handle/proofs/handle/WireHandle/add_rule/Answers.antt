@@ -1,5 +1,5 @@
 use Rattle.std.proofs.Common.{rules, ◌≡◌, Option, Some, MatchResult, ap, sym, subst}
-use Rattle.dbus_rule.specs.RuleReadings.{IsRuleFault}
+use Rattle.dbus_rule.specs.RuleViews.{IsRuleFault}
 use Rattle.dbus_c_handle.specs.Rules.{Adds, KeepsAll}
 use Rattle.dbus_c_handle.specs.declared.kept.Kept.{Kept}
 use Rattle.dbus_c_handle.proofs.RuleAdded.{added_to}

@@ -1,6 +1,6 @@
 use Rattle.std.proofs.Common.{◌≡◌, ℕ, ◌+◌, ◌-◌, ◌<◌, List, ◌++◌, length, take, drop, Ok, Err, refl, sym, ap, subst, ◌∙◌, arith}
 use Rattle.std.proofs.lemmas.Result.{err_from_is_err_and}
-use Rattle.dbus_check.specs.Pieces.{Joined}
+use Rattle.dbus_check.specs.Checks.{Joined}
 use Rattle.dbus_check.specs.Progress.{To, Denotes, IsLive, Runs}
 use Rattle.dbus_check.proofs.PieceSteps.{join_back, join_stays, join_refused}
 use Rattle.dbus_check.proofs.pieces.Pieces.join.Goals as goal

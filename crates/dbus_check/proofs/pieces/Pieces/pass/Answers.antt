@@ -1,6 +1,6 @@
 use Rattle.std.proofs.Common.{length, ◌++◌, ℕ, List, refl, sym, ap, ◌∙◌, subst, arith}
 use Rattle.std.proofs.lemmas.List.{append-nil, drop_all}
-use Rattle.dbus_check.specs.Pieces.{Holds}
+use Rattle.dbus_check.specs.Checks.{Holds}
 use Rattle.dbus_check.specs.declared.progress.Progress.{Progress}
 use Rattle.dbus_check.proofs.PieceSteps.{read_kept}
 use Rattle.dbus_check.proofs.pieces.Pieces.pass.Goals as goal

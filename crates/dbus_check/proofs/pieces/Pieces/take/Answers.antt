@@ -1,7 +1,7 @@
 use Rattle.std.proofs.Common.{◌≡◌, ◌<◌, length, true, false, ap, sym, ◌∙◌, arith}
 use Rattle.std.proofs.lemmas.List.{length-drop}
 use Rattle.std.proofs.lemmas.Result.{err_from_is_err_and}
-use Rattle.dbus_check.specs.Pieces.{Holds}
+use Rattle.dbus_check.specs.Checks.{Holds}
 use Rattle.dbus_check.specs.Progress.{To}
 use Rattle.dbus_check.proofs.PieceSteps.{both_joined, both_refused, both_fed, all_fed}
 use Rattle.dbus_check.proofs.pieces.Pieces.take.Goals.{then-loop-n-test+else-not-is_empty, else-loop-n-test}

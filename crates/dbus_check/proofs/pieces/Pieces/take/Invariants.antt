@@ -1,5 +1,5 @@
 use Rattle.std.proofs.Common.{◌≤◌, ◌*◌, ◌+◌, ◌-◌, length, take}
-use Rattle.dbus_check.specs.Pieces.{Holds}
+use Rattle.dbus_check.specs.Checks.{Holds}
 use Rattle.dbus_check.specs.Progress.{To, after_bytes}
 use Rattle.dbus_check.proofs.pieces.Pieces.take.Given as goal
 

@@ -2,7 +2,7 @@ use Rattle.std.proofs.Common.{◌≡◌, ℕ, List, length, take, drop, refl, sy
 use Rattle.std.proofs.lemmas.List.{length-take}
 use Rattle.std.proofs.lemmas.Result.{err_from_is_err_and}
 use Rattle.dbus_value_model.specs.declared.stop.Stop.{Stop}
-use Rattle.dbus_value_model.specs.Gives.{Stops}
+use Rattle.dbus_value_model.specs.ValueReaders.{Stops}
 use Rattle.dbus_value_model.specs.Reading.{Done}
 use Rattle.dbus_value_laws.proofs.ReadSteps.{bytes_from}
 use Rattle.dbus_header.specs.HeaderReading.{fixed_header}

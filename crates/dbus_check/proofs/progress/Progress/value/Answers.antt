@@ -3,7 +3,7 @@ use Rattle.std.proofs.lemmas.Result.{err_from_is_err_and}
 use Rattle.dbus_texts.specs.Types.{UINT32, NumberType}
 use Rattle.dbus_value_model.specs.WantedTexts.{Of}
 use Rattle.dbus_message_model.specs.Messages.{Name, OfType, Serial, number_in}
-use Rattle.dbus_check.specs.Fields.{nothing_of}
+use Rattle.dbus_check.specs.Heading.{nothing_of}
 use Rattle.dbus_check.specs.declared.progress.Progress.{Progress}
 use Rattle.dbus_check.proofs.PassedFields.{plain_passed, plain_stops, plain_code, field_passed, field_stops, count_code, the_kept, kept_count, not_before}
 use Rattle.dbus_check.proofs.WholeFields.{passed_moves}

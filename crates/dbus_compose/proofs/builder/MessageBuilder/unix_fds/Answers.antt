@@ -1,8 +1,7 @@
 use Rattle.std.proofs.Common.{subst}
 use Rattle.dbus_value_model.specs.Values.{ValueTree}
 use Rattle.dbus_value_model.proofs.ValueRows.{tree-U32}
-use Rattle.dbus_compose.specs.Drafts.{Becomes, field_of, with_field}
-use Rattle.dbus_compose.specs.Composing.{drafted}
+use Rattle.dbus_compose.specs.Drafts.{Becomes, field_of, with_field, drafted}
 use Rattle.dbus_compose.proofs.builder.MessageBuilder.unix_fds.Goals as goal
 
 pub returns : goal.returns

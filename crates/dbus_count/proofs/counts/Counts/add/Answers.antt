@@ -1,10 +1,8 @@
 use Rattle.std.proofs.Common.{◌≡◌, Some, codes, length, option_map, ap, ◌∙◌, subst}
 use Rattle.dbus_texts.specs.Types.{STRING}
-use Rattle.dbus_message_model.specs.Lookups.{field_value}
+use Rattle.dbus_message_model.specs.KnownFields.{field_value}
 use Rattle.dbus_message_model.specs.declared.field_code.TheConstants as field
-use Rattle.dbus_count.specs.Counting.{CountsFirst, with_names}
-use Rattle.dbus_count.specs.Kept.{counting_of}
-use Rattle.dbus_count.specs.Names.{member_of, named, names_of, text_at}
+use Rattle.dbus_count.specs.Counting.{CountsFirst, with_names, counting_of, member_of, named, names_of, text_at}
 use Rattle.dbus_show.specs.ShownMessages.{kind_text}
 use Rattle.dbus_count.proofs.NameSteps.{all_names, on_any, on_err, on_ok, text_seen, kind_fails, sender_fails, destination_fails, interface_fails, member_fails, error_fails}
 use Rattle.dbus_count.proofs.counts.Counts.add.Goals as goal

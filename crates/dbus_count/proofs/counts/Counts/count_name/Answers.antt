@@ -1,5 +1,5 @@
 use Rattle.std.proofs.Common.{refl}
-use Rattle.dbus_count.specs.Kept.{counting_of}
+use Rattle.dbus_count.specs.Counting.{counting_of}
 use Rattle.dbus_count.proofs.NameSteps.{none_named, on_any, on_err}
 use Rattle.dbus_count.proofs.counts.Counts.count_name.Goals as goal
 

@@ -1,8 +1,7 @@
 use Rattle.std.proofs.Common.{◌≡◌, ℕ, List, Option, None, Some, IsSome, rules, sym, subst, ◌∙◌}
 use Rattle.std.specs.BTreeMap.{BTreeMap, UpdatesBy, get_by}
 use Rattle.std.specs.Map.{lookup}
-use Rattle.dbus_count.specs.Counting.{with_name}
-use Rattle.dbus_count.specs.Kept.{counting_of, has}
+use Rattle.dbus_count.specs.Counting.{with_name, counting_of, has}
 use Rattle.dbus_count.specs.NameOrder.{bytes_of, name_order}
 use Rattle.dbus_count.specs.declared.count.Count.{Count}
 use Rattle.dbus_count.specs.declared.name.Name.{Name}

@@ -1,6 +1,6 @@
 use Rattle.std.proofs.Common.{subst}
 use Rattle.dbus_header.specs.MessageOutcomes.{IsPartial}
-use Rattle.dbus_stream.specs.CutterState.{CutterState}
+use Rattle.dbus_stream.specs.Cutting.{CutterState}
 use Rattle.dbus_stream.proofs.CutterSteps.{answer_fits, answer_moves}
 use Rattle.dbus_stream.proofs.cutter.Cutter.take.Goals as goal
 

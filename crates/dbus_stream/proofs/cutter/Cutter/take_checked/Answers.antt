@@ -3,7 +3,7 @@ use Rattle.std.proofs.lemmas.List.{length-append}
 use Rattle.dbus_message_model.specs.MessageViews.{message_tree}
 use Rattle.dbus_header.specs.MessageOutcomes.{IsWhole}
 use Rattle.dbus_header.proofs.OutcomeLaws.{nothing_partial}
-use Rattle.dbus_stream.specs.CutterState.{CutterState, fresh}
+use Rattle.dbus_stream.specs.Cutting.{CutterState, fresh}
 use Rattle.dbus_stream.specs.Gathering.{GathererState, Gathered, IsUnderWay, begun, IsOneMessage}
 use Rattle.dbus_stream.proofs.CutterSteps.{one_message, begins_with}
 use Rattle.dbus_stream.proofs.cutter.Cutter.take_checked.Goals as goal

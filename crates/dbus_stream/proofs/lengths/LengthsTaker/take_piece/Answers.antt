@@ -6,7 +6,7 @@ use Rattle.std.proofs.Math.Nat.{zero-add}
 use Rattle.std.proofs.lemmas.List.{nil_from_length}
 use Rattle.dbus_header.specs.MessageOutcomes.{IsWhole}
 use Rattle.dbus_header.proofs.OutcomeLaws.{whole_inside}
-use Rattle.dbus_stream.specs.Lengths.{lengths}
+use Rattle.dbus_stream.specs.CheckReading.{lengths}
 use Rattle.dbus_stream.specs.Taking.{Completes}
 use Rattle.dbus_stream.proofs.lengths.LengthsTaker.take_piece.Goals as goal
 

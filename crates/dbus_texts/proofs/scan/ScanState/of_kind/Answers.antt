@@ -1,6 +1,6 @@
 use Rattle.std.proofs.Common.{[], ⊎_elim, sym, subst}
 use Rattle.dbus_texts.specs.Quotients.{IsQuotient}
-use Rattle.dbus_texts.specs.Signatures.{IsSignature, IsSingle}
+use Rattle.dbus_texts.specs.Kinds.{IsSignature, IsSingle}
 use Rattle.dbus_texts.specs.SignatureScans.{sig_rest}
 use Rattle.dbus_texts.proofs.ScanSteps.{path_starts, interface_starts, member_starts, bus_starts, signature_starts, single_starts}
 use Rattle.dbus_texts.proofs.scan.ScanState.of_kind.Goals as goal

@@ -2,7 +2,7 @@ use Rattle.std.proofs.Common.{◌≡◌, ◌+◌, ◌<◌, ◌++◌, ◌∷◌, 
 use Rattle.std.proofs.lemmas.List.{take_more}
 use Rattle.dbus_texts.specs.declared.text_kind.TextKind.{TextKind}
 use Rattle.dbus_texts.specs.Scans.{Stands, kind_of}
-use Rattle.dbus_texts.specs.LimitedKinds.{IsPrefixOf}
+use Rattle.dbus_texts.specs.Verdicts.{IsPrefixOf}
 use Rattle.dbus_texts.proofs.scan.TextScan.take.Goals as goal
 
 take_one : (s : List ℕ) (n : ℕ) (w : List ℕ) → n < length s → (w ++ take n s) ++ get_or s n 0 ∷ [] ≡ w ++ take (n + 1) s

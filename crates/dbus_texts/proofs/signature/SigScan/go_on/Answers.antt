@@ -1,8 +1,7 @@
 use Rattle.std.proofs.Common.{◌≡◌, Some, sym, subst, length, ◌-◌, rules}
 use Rattle.dbus_texts.proofs.FrameBounds.{AreBounded-take, AreBounded-innermost}
 use Rattle.dbus_texts.proofs.signature.SigScan.go_on.Goals as goal
-use Rattle.dbus_texts.specs.Frames.{AreBounded}
-use Rattle.dbus_texts.specs.SignatureScans.{innermost}
+use Rattle.dbus_texts.specs.SignatureScans.{AreBounded, innermost}
 
 pub invariant_of-self-clause-bounded : goal.invariant_of-self-clause-bounded
 invariant_of-self-clause-bounded c =

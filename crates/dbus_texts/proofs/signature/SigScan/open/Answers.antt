@@ -1,6 +1,5 @@
 use Rattle.std.proofs.Common.{sym, subst, arith}
-use Rattle.dbus_texts.specs.Frames.{AreBounded}
-use Rattle.dbus_texts.specs.SignatureScans.{frame}
+use Rattle.dbus_texts.specs.SignatureScans.{AreBounded, frame}
 use Rattle.dbus_texts.proofs.FrameBounds.{AreBounded-push}
 use Rattle.dbus_texts.proofs.signature.SigScan.open.Goals as goal
 

@@ -1,6 +1,6 @@
 use Rattle.std.proofs.Common.{arith}
 use Rattle.std.proofs.lemmas.Bool.{ltb-false}
-use Rattle.dbus_walk.specs.Widths.{number_width}
+use Rattle.dbus_walk.specs.Containers.{number_width}
 use Rattle.dbus_walk.proofs.Containers.{array_stands}
 use Rattle.dbus_unmarshal.proofs.Leaves.{not_byte}
 use Rattle.dbus_unmarshal.proofs.building.BuilderVisitor.open_array.Goals as goal

@@ -1,5 +1,5 @@
 use Rattle.std.proofs.Common.{◌≡◌, ◌+◌, ◌-◌, ◌%◌, List, ℕ, length, take, drop, sym, subst, ◌∙◌, arith}
-use Rattle.dbus_value_validator.specs.NotedTypes.{AreNoted}
+use Rattle.dbus_value_validator.specs.Endings.{AreNoted}
 use Rattle.dbus_value_checker.specs.declared.values.Doing.{Doing}
 use Rattle.dbus_value_checker.specs.Denotations.{Goes, Wants, after_piece, denotes}
 use Rattle.dbus_value_checker.proofs.FrameLaws.{inner_of, frame_within}

@@ -4,7 +4,7 @@ use Rattle.dbus_value_model.specs.Values.{ValueTree, ValueTrees, VariantValue, N
 use Rattle.dbus_values.specs.Seen.{AreInside}
 use Rattle.dbus_values.specs.States.{ElementsState, ValuesState, ElementsAreLeft, IsAfter, AreLeft}
 use Rattle.dbus_walk.specs.Fields.{FieldsLeft, field_types, field_end}
-use Rattle.dbus_view.specs.FieldViews.{FieldsAreLeft, IsFieldSeen, PassesField, variant_start}
+use Rattle.dbus_view.specs.Views.{FieldsAreLeft, IsFieldSeen, PassesField, variant_start}
 use Rattle.dbus_view.specs.declared.fields.FieldView.{FieldView}
 use Rattle.dbus_walk.proofs.FieldParts.{no_field}
 use Rattle.dbus_view.proofs.FieldSteps.{first, there, value_left, others_begin}

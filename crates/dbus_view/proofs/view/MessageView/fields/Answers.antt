@@ -1,5 +1,5 @@
 use Rattle.std.proofs.Common.{arith}
-use Rattle.dbus_view.specs.FieldViews.{FieldsAreLeft}
+use Rattle.dbus_view.specs.Views.{FieldsAreLeft}
 use Rattle.dbus_view.proofs.BodyThere.{fields_there}
 use Rattle.dbus_view.proofs.Whole.{as_viewed, views_one}
 use Rattle.dbus_view.proofs.view.MessageView.fields.Goals as goal

@@ -1,5 +1,5 @@
 use Rattle.std.proofs.Common.{sym, ap, ◌∙◌}
-use Rattle.dbus_message_model.specs.Lookups.{field_value}
+use Rattle.dbus_message_model.specs.KnownFields.{field_value}
 use Rattle.dbus_message_model.specs.Messages.{MessageTree}
 use Rattle.dbus_view.proofs.KnownFields.{number_there, no_number}
 use Rattle.dbus_view.proofs.Whole.{same}

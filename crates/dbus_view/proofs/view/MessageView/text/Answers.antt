@@ -1,8 +1,7 @@
 use Rattle.std.proofs.Common.{◌≡◌, ℕ, List, Option, Some, sym, ap, subst, ◌∙◌}
 use Rattle.dbus_value_model.specs.Values.{ValueTree}
-use Rattle.dbus_message_model.specs.Lookups.{field_value}
+use Rattle.dbus_message_model.specs.KnownFields.{field_value, IsTextOf}
 use Rattle.dbus_message_model.specs.Messages.{MessageTree, want}
-use Rattle.dbus_message_model.specs.KnownFields.{IsTextOf}
 use Rattle.dbus_view.proofs.KnownFields.{text_there, no_text}
 use Rattle.dbus_view.proofs.Whole.{same}
 use Rattle.dbus_view.proofs.view.MessageView.text.Goals as goal

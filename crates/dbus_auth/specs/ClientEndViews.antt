@@ -1,8 +1,0 @@
--- The client's end as contracts see it.
-use Rattle.dbus_auth.specs.ClientViews.{client_machine}
-use Rattle.dbus_auth.specs.Ends.{ClientEndState}
-use Rattle.dbus_auth.specs.EndStepViews.{end_state}
-use Rattle.dbus_auth.specs.declared.client_end.ClientEnd.{ClientEnd}
-
-abbrev pub client_end_state : {A : Type 0} → ClientEnd A → ClientEndState
-client_end_state e = end_state client_machine e.end

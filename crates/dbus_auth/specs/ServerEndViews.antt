@@ -1,8 +1,0 @@
--- The server's end as contracts see it.
-use Rattle.dbus_auth.specs.ServerViews.{server_machine}
-use Rattle.dbus_auth.specs.Ends.{ServerEndState}
-use Rattle.dbus_auth.specs.EndStepViews.{end_state}
-use Rattle.dbus_auth.specs.declared.server_end.ServerEnd.{ServerEnd}
-
-abbrev pub server_end_state : {A : Type 0} → ServerEnd A → ServerEndState
-server_end_state e = end_state server_machine e.end
