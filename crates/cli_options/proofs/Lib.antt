@@ -1,8 +1,5 @@
-pub mod WordLists
+pub mod Numbers
 pub mod OwnerWords
-pub mod Learned
 pub mod Selections
 pub mod Nothing
-pub mod Numbers
-pub mod SameCommands
 pub mod Tells

@@ -6,7 +6,7 @@ use Rattle.dbus_value_model.specs.declared.order.Order.{Order}
 use Rattle.dbus_match.specs.Matching.{Ownership, ownership}
 use Rattle.cli_options.specs.Named.{HasSettings, Names, NamesCommand, IsSelectionGiven, order_word, side_word, words_of}
 use Rattle.cli_options.specs.Owners.{IsOwnerWord}
-use Rattle.cli_options.proofs.WordLists.{each_can}
+use Rattle.cli_options.proofs.Numbers.{each_can}
 use Rattle.cli_options.specs.Told.{IsNoCommand, NamesNothing}
 use Rattle.dbus_handshake_input.specs.declared.side.Side.{Side}
 use Rattle.cli_options.specs.declared.asked.Asked.{Asked}

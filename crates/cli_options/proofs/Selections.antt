@@ -1,24 +1,28 @@
 -- Selections: of each message it is decided whether it is selected, and they are equal exactly if
 -- they say the same.
-use Rattle.std.proofs.Common.{◌≡◌, Bool, true, false, List, [], ◌∷◌, map, inl, inr, refl, sym}
-use mathlib.Core.Bool.{beq}
+use Rattle.std.proofs.Common.{◌≡◌, Bool, true, false, List, [], ◌∷◌, map, inl, inr, refl, sym, arith}
 use Rattle.std.specs.Bool.{Decides}
 use Rattle.std.specs.List.{AllZip}
 use Rattle.std.specs.declared.alloc.Global.{Global}
 use Rattle.std.specs.Cmp.Lexicographic.{pointwise}
 use Rattle.std.proofs.lemmas.Bool.{false≢true}
 use Rattle.std.proofs.lemmas.Bool.Decides.{Decides-and}
+use Rattle.std.proofs.lemmas.Grind.{common_steps}
+use mathlib.Core.Bool.{beq}
 use Rattle.dbus_message_model.specs.Messages.{MessageTree}
 use Rattle.dbus_rule.specs.declared.rule.Rule.{Rule}
 use Rattle.dbus_match.specs.Matching.{Ownership, ownership}
 use Rattle.dbus_rule.specs.RuleViews.{rule_pairs}
 use Rattle.dbus_match.proofs.Decided.{decided}
-use Rattle.dbus_rule.proofs.Choices.{Either, one_of}
-use Rattle.dbus_match.proofs.SameOwners.{owners_equal}
-use Rattle.dbus_rule.proofs.SameRules.{rules_equal}
-use Rattle.cli_options.specs.Selections.{AreSameSelection, OrInverted, SelectsBy, SomeMatches}
+use Rattle.dbus_rule.proofs.PairChoices.{Either, one_of}
+use Rattle.dbus_match.proofs.Noted.{owners_equal}
+use Rattle.dbus_rule.proofs.SortedConditions.{rules_equal}
+use Rattle.cli_options.specs.Selections.{AreSameSelection, OrInverted, SelectsBy, SomeMatches, AreSameCommand}
 use Rattle.cli_options.specs.contracts.selection.SelectionPartialEq.TheImpl as selection_eq
 use Rattle.cli_options.specs.declared.selection.Selection.{Selection}
+use Rattle.cli_options.specs.declared.command.Command.{Command}
+use Rattle.cli_options.specs.declared.command.Command.TheVariants.{Show, Json, Check, Swap, Filter}
+use Rattle.cli_options.specs.contracts.command.CommandPartialEq.TheImpl as command_eq
 
 -- ---- which messages are selected
 
@@ -67,3 +71,16 @@ selections_equal a b =
       λ t. record { rules = (all.0 t).0; inverted = (all.0 t).1.0; owners = (all.0 t).1.1.0; learns = (all.0 t).1.1.1 },
       λ h. all.1 (h.rules, (h.inverted, (h.owners, h.learns))),
     )
+
+-- Commands are equal exactly where they are the same.
+
+pub commands_equal : (a b : Command) → Decides (command_eq.ghosts.eq a b) (AreSameCommand a b)
+commands_equal Show b = grind (arith, common_steps)
+commands_equal Json b = grind (arith, common_steps)
+commands_equal Check b = grind (arith, common_steps)
+commands_equal (Swap a) b = grind (arith, common_steps)
+commands_equal (Filter r) Show = grind (arith, common_steps)
+commands_equal (Filter r) Json = grind (arith, common_steps)
+commands_equal (Filter r) Check = grind (arith, common_steps)
+commands_equal (Filter r) (Swap b) = grind (arith, common_steps)
+commands_equal (Filter r) (Filter s) = selections_equal r s

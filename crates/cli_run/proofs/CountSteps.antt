@@ -1,12 +1,12 @@
 -- The messages of a source are counted as if they were handed to a visitor that makes nothing of
 -- them.
-use Rattle.std.proofs.Common.{◌≡◌, ℕ, ◌+◌, false, true, List, [], Option, None, Some, Result, Ok, Err, length, refl, sym, ◌∙◌, inl, inr, arith, subst}
+use Rattle.std.proofs.Common.{◌≡◌, ℕ, ◌+◌, false, true, List, [], Option, None, Some, Result, Ok, Err, length, refl, sym, ◌∙◌, inl, inr, arith, subst, ap}
 use Rattle.std.proofs.Math.Path.{transport}
 use Rattle.std.specs.Io.KnownBytes.{IsAtEnd}
 use Rattle.std.proofs.lemmas.Bool.{or_parts}
 use Rattle.dbus_value_model.specs.declared.fault.Fault.{Fault}
 use Rattle.dbus_value_model.specs.declared.limits.Limits.{Limits}
-use Rattle.dbus_device.specs.Device.{RisesBy}
+use Rattle.dbus_device.specs.Device.{RisesBy, Wrote}
 use Rattle.dbus_stream.specs.CheckReading.{CheckAnswers, CheckReader, limits_of, lengths}
 use Rattle.dbus_stream.specs.Cut.{CutMessage}
 use Rattle.dbus_stream.specs.CutEnds.{sizes}
@@ -16,23 +16,28 @@ use Rattle.dbus_stream.specs.declared.read_fault.ReadFault.TheVariants as read
 use Rattle.dbus_stream.proofs.NextSteps.{both_ways}
 use Rattle.cli_options.specs.Limiting.{ask_more}
 use Rattle.cli_options.specs.declared.settings.Settings.{Settings}
-use Rattle.cli_run.specs.ByName.{IsUnwritten, Tallies}
-use Rattle.cli_run.specs.Going.{Covers, IsMore, IsStopOf, IsToldLast}
-use Rattle.cli_run.specs.Onward.{HasRead, HandsOn, HandsSomeOn}
-use Rattle.cli_run.specs.Inputs.{Placed, sizes_of, wholes}
-use Rattle.cli_run.specs.Output.{fault_line}
-use Rattle.cli_run.specs.Visiting.{AddsUp}
-use Rattle.cli_report.specs.Devices.{Taken, reading, taken}
+use Rattle.cli_report.specs.Devices.{Taken, reading, taken, Writing, writing}
 use Rattle.cli_report.specs.Telling.{IsToldBy, line_of}
 use Rattle.cli_report.specs.declared.telling.RefusedMessage.{RefusedMessage}
 use Rattle.cli_report.specs.declared.ending.Cause.{Cause}
 use Rattle.cli_report.specs.declared.ending.Cause.TheVariants.{Memory, ReadFailed, WriteFailed, TooManyReads}
+use Rattle.dbus_count.specs.Counting.{Counting, counting_of}
+use Rattle.dbus_count.specs.declared.form.Form.{Form}
+use Rattle.cli_report.specs.declared.ending.ExitStatus.{ExitStatus}
+use Rattle.cli_run.specs.ByName.{IsUnwritten, Tallies, CountsMessages, CountsThrough, EndsCount, after_messages, counting}
+use Rattle.cli_run.specs.Going.{Covers, IsMore, IsStopOf, IsToldLast, GoesThrough}
+use Rattle.cli_run.specs.Onward.{HasRead, HandsOn, HandsSomeOn}
+use Rattle.cli_run.specs.Inputs.{Placed, sizes_of, wholes}
+use Rattle.cli_run.specs.Output.{fault_line}
+use Rattle.cli_run.specs.Visiting.{AddsUp}
 use Rattle.cli_run.specs.declared.counted.Counted.{Counted}
 use Rattle.cli_run.specs.declared.visitor.RunStop.{RunStop}
 use Rattle.cli_run.specs.declared.visitor.RunStop.TheVariants.{Cause as ByCause}
 use Rattle.cli_run.proofs.GoSteps.{wholes_tally}
 use Rattle.cli_run.proofs.HandSteps.{Faults}
 use Rattle.cli_run.proofs.PartLaws.{is_last, parts_of, sizes-wholes, told_of}
+use Rattle.cli_run.specs.declared.by_name.Counter.{Counter}
+use Rattle.cli_run.proofs.EndSteps.{goes_as}
 
 -- what the counting keeps of messages is their number, which the loop counts
 abbrev pub counts : (a b : Unit {0}) → List Placed → (told : List ℕ) → Type 0
@@ -120,3 +125,24 @@ module _ {R : Type 0} (left : R → Option (List ℕ)) (calls failures : R → �
   pub tallied : settings.limits ≡ limits_of old → (res : Result Counted Cause) → HandsOn lengths left calls (limits_of old) [] failures counts gives_up 0 old new tt tt res
       → Tallies Took settings (most_reads_of old) res
   tallied same res h = tallies res (subst (λ (l : Limits). HandsOn lengths left calls l [] failures counts gives_up 0 old new tt tt res) (sym same) h)
+
+-- How a run ends that counts messages by their names.
+
+module _ {R W E : Type 0} (left : R → Option (List ℕ)) (calls read_failures : R → ℕ) (held : E → Option (List ℕ)) (failures : E → ℕ) (w : Writing W) (settings : Settings) (form : Form) (most : ℕ) (r0 r1 : R)
+    (a b : Counter E) {r2 : R} {e1 : E} (source : r1 ≡ r2) (second : b.second.now ≡ e1) where
+  -- all was told, and the tables are those of the counts
+  pub counts_all : (e2 : E) (due end : ExitStatus) → ((name : List ℕ) → counting_of a.counts name ≡ None)
+      → GoesThrough (taken (reading left calls read_failures r0 r1)) settings most false (CountsMessages held failures a b) due → EndsCount w (writing held failures e1 e2) form (counting_of b.counts) due end
+      → CountsThrough (reading left calls read_failures r0 r2) w (writing held failures a.second.now e2) settings form most end
+  counts_all e2 due end none g ends =
+      let after : (items : List Placed) (told : List ℕ) → CountsMessages held failures a b items told → Wrote held failures a.second.now told e1 × EndsCount w (writing held failures e1 e2) form (counting items) due end
+      = λ items told h. (
+        subst (λ (x : E). Wrote held failures a.second.now told x) second h.tells,
+        subst (λ (c : Counting). EndsCount w (writing held failures e1 e2) form c due end) (λ i name. (h.counts name ∙ ap (λ x. after_messages items name x) (none name)) i) ends,
+      ) in
+      record {
+        due = due;
+        before = e1;
+        through = subst (λ (x : R). GoesThrough (taken (reading left calls read_failures r0 x)) settings most false
+            (λ items told. Wrote held failures a.second.now told e1 × EndsCount w (writing held failures e1 e2) form (counting items) due end) due) source (goes_as after g);
+      }

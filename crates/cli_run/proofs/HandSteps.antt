@@ -35,7 +35,7 @@ use Rattle.cli_run.specs.declared.place.MessagePlace.{MessagePlace}
 use Rattle.cli_run.specs.declared.visitor.RunStop.{RunStop}
 use Rattle.cli_run.specs.declared.visitor.RunStop.TheVariants.{Cause as ByCause}
 use Rattle.dbus_stream.proofs.RawSteps.{starts, unread}
-use Rattle.cli_run.proofs.LentSteps.{lent_size, lent_whole}
+use Rattle.cli_run.proofs.OutputSteps.{lent_size, lent_whole}
 use Rattle.cli_run.proofs.PartLaws.{placed_last}
 use Rattle.cli_run.proofs.ReadSteps.{read_none, read_more, read_message, sizes-last, length-last}
 

@@ -1,9 +1,7 @@
 pub mod RuleSets
-pub mod WindowSteps
-pub mod PartLaws
 pub mod OutputSteps
+pub mod PartLaws
 pub mod Outputs
-pub mod LentSteps
 pub mod ReadSteps
 pub mod GivenSteps
 pub mod HandSteps
@@ -12,7 +10,6 @@ pub mod CheckSteps
 pub mod GoSteps
 pub mod GoEnds
 pub mod EndSteps
-pub mod NameSteps
 pub mod RunSteps
 pub mod SameParts
 pub mod SameOutputs

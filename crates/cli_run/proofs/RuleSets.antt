@@ -10,7 +10,7 @@ use Rattle.std.proofs.lemmas.Bool.{false≢true}
 use Rattle.std.proofs.lemmas.List.{drop_more}
 use Rattle.dbus_message_model.specs.Messages.{MessageTree}
 use Rattle.dbus_match.specs.Matching.{Matches, Ownership}
-use Rattle.dbus_rule.proofs.Choices.{Either}
+use Rattle.dbus_rule.proofs.PairChoices.{Either}
 use Rattle.dbus_rule.specs.RuleViews.{rule_pairs}
 use Rattle.dbus_rule.specs.declared.rule.Rule.{Rule}
 use Rattle.dbus_rule_set.specs.Handles.{handle_cmp}

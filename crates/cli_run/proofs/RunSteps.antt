@@ -36,7 +36,7 @@ use Rattle.cli_run.specs.declared.visitor.RunStop.TheVariants.{Cause as ByCause,
 use Rattle.cli_run.proofs.Outputs.{front_of_first}
 use Rattle.cli_run.proofs.PartLaws.{line_is, sizes-wholes}
 use Rattle.cli_run.proofs.SameOutputs.{none_last}
-use Rattle.cli_run.proofs.WindowSteps.{written_all}
+use Rattle.cli_run.proofs.OutputSteps.{written_all}
 
 -- settings that ask for no more than limits and a handshake
 abbrev plain : Settings → Settings

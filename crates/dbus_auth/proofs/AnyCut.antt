@@ -8,7 +8,7 @@ use Rattle.dbus_auth.specs.World.{ServerRun, line_sent, run_server, IsFinished, 
 use Rattle.dbus_auth.specs.declared.end_step.Status.{Status}
 use Rattle.dbus_auth.specs.declared.end_step.Status.TheVariants as status
 use Rattle.dbus_auth_lines.proofs.Cuts.{StaysSettled, IsAbove, cut_follows}
-use Rattle.dbus_auth.proofs.Outcomes.{takes_by}
+use Rattle.dbus_auth.proofs.Stages.{takes_by}
 use Rattle.dbus_auth.proofs.Sides.{cut_nil}
 
 -- ---- byte by byte

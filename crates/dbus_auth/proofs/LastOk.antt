@@ -11,7 +11,7 @@ use Rattle.dbus_auth_lines.specs.Lines.{server_line, ended, client_meaning}
 use Rattle.dbus_auth_lines.specs.Cut.{Cut, Ends, Bad, More, cut}
 use Rattle.dbus_auth.specs.Machines.{Begins, Disconnects, ServerMachine, ServerStep, server_step, server_step_at, rejects, accepts, replies, complains, mechanisms}
 use Rattle.dbus_auth.specs.Ends.{ServerEndState, after_turn, cuts, server_turn, server_takes}
-use Rattle.dbus_auth.proofs.Outcomes.{server_answers, takes_by}
+use Rattle.dbus_auth.proofs.Stages.{server_answers, takes_by}
 use Rattle.dbus_auth.specs.declared.end_step.Status.TheVariants as status
 use Rattle.dbus_auth.specs.declared.states.ServerState.{ServerState}
 use Rattle.dbus_auth.specs.declared.states.ServerState.TheVariants as at

@@ -1,10 +1,8 @@
-pub mod Outcomes
+pub mod Stages
 pub mod Sides
 pub mod Readable
-pub mod Stages
 pub mod Steps
 pub mod Handshake
 pub mod LastOk
 pub mod AnyCut
 pub mod Finishes
-pub mod SameActs

@@ -10,9 +10,9 @@ use Rattle.dbus_auth_lines.specs.ClientCommands as client
 use Rattle.dbus_auth_lines.specs.ServerCommands.{ServerCommand}
 use Rattle.dbus_auth_lines.specs.ServerCommands as server
 use Rattle.dbus_auth_lines.specs.Lines.{ended, client_line, server_line}
-use Rattle.dbus_auth_lines.specs.Cut.{IsPlain, IsLine}
-use Rattle.dbus_auth.specs.Machines.{ServerMachine, ClientMachine, ClientMechanism, auth_line, waits_in, mechanisms, IsMechanism}
-use Rattle.dbus_auth.specs.Ends.{EndState, ServerEndState, ClientEndState, EndOutcome, Turn, after_turn, takes, server_takes, client_takes}
+use Rattle.dbus_auth_lines.specs.Cut.{IsPlain, IsLine, cut}
+use Rattle.dbus_auth.specs.Machines.{ServerMachine, ClientMachine, ClientMechanism, auth_line, waits_in, mechanisms, IsMechanism, ServerStep}
+use Rattle.dbus_auth.specs.Ends.{EndState, ServerEndState, ClientEndState, EndOutcome, Turn, after_turn, takes, server_takes, client_takes, nothing, closes, cuts, first, talks, takes_at, does, server_sends}
 use Rattle.dbus_auth.specs.World.{Wire, untaken, sending, taking, World, Start, To_client, Server_writes, Client_writes, client_did, server_writes, client_writes, start_once, hand_client, happens, line_ends}
 use Rattle.dbus_auth.specs.declared.end_step.Status.TheVariants as status
 use Rattle.dbus_auth.specs.declared.states.ServerState.{ServerState}
@@ -20,6 +20,7 @@ use Rattle.dbus_auth.specs.declared.states.ServerState.TheVariants as at
 use Rattle.dbus_auth.specs.declared.states.ClientState.{ClientState}
 use Rattle.dbus_auth.specs.declared.states.ClientState.TheVariants as now
 use Rattle.dbus_auth.proofs.Sides.{Carries, Side, Quiet, Took, Quiet-sending, Quiet-nil, Side-nil, stays}
+use Rattle.dbus_auth.specs.declared.end_step.Status.{Status}
 
 -- ---- lines are counted by their ends
 
@@ -179,3 +180,32 @@ client_mute_closed w bytes h = ap (client_writes w bytes) h
 
 pub to_client_of : (w : World) (n : ℕ) → w.client.started ≡ true → happens w (To_client n) ≡ client_did w (client_takes w.client (take n (untaken w.to_client)))
 to_client_of w n h = ap (hand_client w n) h
+
+-- What holds of each outcome of an end: it stays, closes, or cuts what it keeps and is handed.
+
+-- what a server's end does by a step
+abbrev pub server_answers : ServerMachine → ServerStep → Turn ServerMachine
+server_answers s = does (λ state. record s { state = state }) server_sends
+
+module _ {M : Type 0} (turn : M → List ℕ → Turn M) (P : EndOutcome (EndState M) → Type 0) (e : EndState M) (stays : P (nothing e)) (shuts : P (closes e))
+    (goes_on : (skipped : ℕ) (q : List ℕ) → P (cuts turn e skipped q (cut (e.kept ++ q)))) where
+  by_zero : (q : List ℕ) (t : Bool) → P (cond t (cuts turn e 1 q (cut (e.kept ++ q))) (closes e))
+  by_zero q true = goes_on 1 q
+  by_zero q false = shuts
+
+  by_first : (p : List ℕ) → P (first turn e p)
+  by_first [] = stays
+  by_first (b ∷ q) = by_zero q (b == 0)
+
+  by_talk : (p : List ℕ) (z : Bool) → P (talks turn e p z)
+  by_talk p true = goes_on 0 p
+  by_talk p false = by_first p
+
+  by_status : (p : List ℕ) (st : Status) → P (takes_at turn e p st)
+  by_status p status.Talking = by_talk p e.started
+  by_status p status.Begun = stays
+  by_status p status.Closed = stays
+
+  pub takes_by : (p : List ℕ) → P (takes turn e p)
+  unfolding takes
+  takes_by p = by_status p e.status

@@ -3,10 +3,17 @@ use Rattle.std.proofs.Common.{◌≡◌, ◌⊎◌, inl, inr, ℕ, suc, ◌+◌,
 use Rattle.std.specs.Prelude.{codes}
 use Rattle.std.specs.List.{AllByRecursion}
 use Rattle.std.proofs.lemmas.List.{append-nil}
+use Rattle.std.proofs.lemmas.Grind.{common_steps}
+use Rattle.std.specs.Bool.{Decides}
+use Rattle.std.specs.declared.alloc.Allocator as allocator
 use Rattle.dbus_auth_lines.specs.ClientCommands as client
 use Rattle.dbus_auth_lines.specs.ServerCommands as server
 use Rattle.dbus_auth_lines.specs.Lines.{ended, client_line, server_line}
-use Rattle.dbus_auth.specs.Machines.{Begins, ServerMachine, ClientMachine, ClientMechanism, External, Anonymous, ClientStep, server_step, client_step, IsServer, auth_line, waits_in, mechanisms, asks, begins, next_of, IsMechanism}
+use Rattle.dbus_auth_lines.specs.ServerCommands.{ServerCommand}
+use Rattle.dbus_auth_lines.proofs.SameLines.{server_lines_equal}
+use denote.RattleType.{RattleType}
+use mir.Syntax.{Dict}
+use Rattle.dbus_auth.specs.Machines.{Begins, ServerMachine, ClientMachine, ClientMechanism, External, Anonymous, ClientStep, server_step, client_step, IsServer, auth_line, waits_in, mechanisms, asks, begins, next_of, IsMechanism, ServerAction, Sends}
 use Rattle.dbus_auth.specs.Ends.{ServerEndState, ClientEndState, EndOutcome, Turn, nothing, after_turn, does, server_turn, client_turn, client_sends, client_starts}
 use Rattle.dbus_auth.specs.World.{untaken, sending, taking, World, Start, To_server, To_client, Server_writes, Client_writes, server_did, client_did, server_writes, client_writes, start_once, hand_client, happens, client_at_first, line_ends}
 use Rattle.dbus_auth.specs.declared.end_step.Status.TheVariants as status
@@ -14,9 +21,12 @@ use Rattle.dbus_auth.specs.declared.states.ServerState.TheVariants as at
 use Rattle.dbus_auth.specs.declared.states.ClientState.{ClientState}
 use Rattle.dbus_auth.specs.declared.states.ClientState.TheVariants as now
 use Rattle.dbus_auth.proofs.Sides.{Carries, Carries-sending, Carries-nil, Carries-taking, Quiet, Took, Quiet-sending, Quiet-nil, Side-more, Side-nil, waits_on, took, moves, stays, is_done}
-use Rattle.dbus_auth.proofs.Outcomes.{server_answers}
+use Rattle.dbus_auth.proofs.Stages.{server_answers, served, heard, line_ends-append, line_ends-ended, line_ends-more, line_ends-same, still, waits_still, answers_by, at_state, talks_as, Unsaid, IsAwaiting, Exchange, asked, gave_data, rejected, accepted, wants_data, ClientBegan, ServerBegan, Follows, confirming, both, ClientClosed, Fresh, Stage, fresh, speaks, began, over, to_client_of}
 use Rattle.dbus_auth.proofs.Readable.{auth_is_line, auth_is_read, data_is_line, data_is_read, begin_is_line, begin_is_read, server_data_is_read, rejected_is_line, rejected_is_read, accepted_is_line, accepted_is_read, auth_step, data_step}
-use Rattle.dbus_auth.proofs.Stages.{served, heard, line_ends-append, line_ends-ended, line_ends-more, line_ends-same, still, waits_still, answers_by, at_state, talks_as, Unsaid, IsAwaiting, Exchange, asked, gave_data, rejected, accepted, wants_data, ClientBegan, ServerBegan, Follows, confirming, both, ClientClosed, Fresh, Stage, fresh, speaks, began, over, to_client_of}
+use Rattle.dbus_auth.specs.ServerViews.{server_action}
+use Rattle.dbus_auth.specs.declared.server.ServerAct.{ServerAct}
+use Rattle.dbus_auth.specs.declared.server.ServerAct.TheVariants as act
+use Rattle.dbus_auth.specs.contracts.server.ServerActPartialEq.TheImpl as act_eq
 
 -- ---- the machines' steps
 
@@ -232,3 +242,19 @@ module _ (s : ServerMachine) (all : List ClientMechanism) (w : World) where
       → Quiet w.server w.to_server (at_state s at.WaitingForAuth) z → ClientClosed w.client w.to_client → Unsaid w.client_wrote w.server_wrote → Stage s all (happens w (To_client n))
   over-to_client n z bound q c u =
       rw (client_done n c.started (inr c.status)) (over z (omega (arith, same_lines w)) (Quiet-nil refl q) (record { status = c.status; started = c.started; carries = Carries-taking w.to_client [] c.carries }) u)
+
+-- Acts of servers are equal exactly where they do the same.
+
+abbrev line_of : ServerAction → ServerCommand
+line_of (Sends line) = line
+line_of _ = server.Other
+
+module _ (A : RattleType) (laws : allocator.Ghosts A.Denot) (d e : Dict) where
+  pub server_acts_equal : (a b : ServerAct A.Denot) → Decides ((act_eq.ghosts A laws d e).eq a b) (server_action a ≡ server_action b)
+  server_acts_equal (act.Send x) (act.Send y) =
+      let same = server_lines_equal A laws d e x y in
+      (λ t. ap Sends (same.0 t), λ h. same.1 (ap line_of h))
+  server_acts_equal (act.Send x) act.Begin = grind (arith, common_steps)
+  server_acts_equal (act.Send x) act.Disconnect = grind (arith, common_steps)
+  server_acts_equal act.Begin b = grind (arith, common_steps)
+  server_acts_equal act.Disconnect b = grind (arith, common_steps)

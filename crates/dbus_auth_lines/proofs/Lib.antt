@@ -3,10 +3,7 @@ pub mod Cuts
 pub mod PrintedWords
 pub mod Spaces
 pub mod FirstLines
-pub mod CutterAnswers
 pub mod RoundTrips
 pub mod WordForms
-pub mod HexTexts
 pub mod Meanings
-pub mod SameWords
 pub mod SameLines

@@ -1,22 +1,25 @@
 -- Each line that is written is one line, and is read back as what was written.
-use Rattle.std.proofs.Common.{◌≡◌, inl, inr, ℕ, ◌≤◌, ◌==◌, not, nat_le, Bool, true, false, List, [], ◌∷◌, ◌++◌, length, Some, None, if◌then◌else◌, refl, sym, ap, subst, arith}
-use Rattle.std.specs.Prelude.{codes}
+use Rattle.std.proofs.Common.{◌≡◌, inl, inr, ℕ, ◌≤◌, ◌==◌, not, nat_le, Bool, true, false, List, [], ◌∷◌, ◌++◌, length, Some, None, if◌then◌else◌, refl, sym, ap, subst, arith, ◌%◌, ◌∙◌}
+use Rattle.std.specs.Prelude.{codes, Result, Ok, Err}
 use Rattle.std.specs.List.{AllByRecursion, list_all, flat_map}
 use Rattle.std.proofs.lemmas.Bool.{and_parts, false≢true, leb-true}
 use Rattle.std.proofs.lemmas.List.{append-nil}
-use Rattle.hex.specs.Hex.{IsBytes, encode_lower, lower_digits}
-use Rattle.hex.proofs.HexLemmas.{length-encode_with, decode_of-encode_lower}
+use Rattle.std.proofs.lemmas.List.Sums.{AllPass-from_list_all, list_all-from_AllPass}
+use Rattle.hex.specs.Hex.{IsBytes, encode_lower, lower_digits, decode_of, is_hex_digit}
+use Rattle.hex.proofs.HexLemmas.{length-encode_with, decode_of-encode_lower, decode_of-digits, decode_of-ok}
+use Rattle.hex.specs.declared.error.FromHexError.{FromHexError}
 use Rattle.dbus_auth_lines.specs.ClientCommands.{ClientCommand}
 use Rattle.dbus_auth_lines.specs.ClientCommands as client
 use Rattle.dbus_auth_lines.specs.ServerCommands.{ServerCommand}
 use Rattle.dbus_auth_lines.specs.ServerCommands as server
-use Rattle.dbus_auth_lines.specs.Lines.{client_line, server_line, client_meaning, server_meaning, spaced, hex_word, text_word, ended}
+use Rattle.dbus_auth_lines.specs.Lines.{client_line, server_line, client_meaning, server_meaning, spaced, hex_word, text_word, ended, by_hex}
 use Rattle.dbus_auth_lines.specs.LineForms.{IsWord, HasWords, HasForm, HasHex, HasText, IsClientLine, IsServerLine}
 use Rattle.dbus_auth_lines.specs.Cut.{IsPlain, IsLine}
 use Rattle.dbus_auth_lines.specs.WrittenLines.{is_printed, is_plain, is_word, is_client_spelled, is_server_spelled, within_limit, client_text_of, server_text_of, HasClientBytes, HasServerBytes, ReadsBack}
 use Rattle.dbus_auth_lines.proofs.Cuts.{length-ended}
 use Rattle.dbus_auth_lines.proofs.PrintedWords.{plain_text, plain_word, plain-append, word_by_test, hex_is_word, hex_word_plain}
 use Rattle.dbus_auth_lines.proofs.Meanings.{client_row_means, server_row_means}
+use Rattle.dbus_auth_lines.specs.WordPlaces.{is_hex}
 
 -- ---- a written line is plain
 
@@ -138,3 +141,17 @@ pub server_reads_back : (c : ServerCommand) (text : List ℕ) → HasServerBytes
 server_reads_back c text k h =
     let s = spelled_by (is_server_spelled c) (server_line c) text h in
     record { line = server_line c; is_line = server_is_line c k s.0 (omega (arith, s.2, length-ended (server_line c))); is = s.1; reads = server_reads c k s.0 }
+
+-- Which texts are bytes in hexadecimal, by their digits.
+
+-- what decodes is digits
+digits_if : (text : List ℕ) (r : Result (List ℕ) FromHexError) → decode_of text ≡ r → list_all is_hex_digit text ≡ false → by_hex (λ bytes. true) false r ≡ false
+digits_if text (Ok bytes) e h = absurd (let x : true ≡ false = sym (list_all-from_AllPass is_hex_digit text (decode_of-ok text bytes e).1) ∙ h in cc)
+digits_if text (Err f) e h = refl
+
+digits_by : (text : List ℕ) → length text % 2 ≡ 0 → (digits : Bool) → list_all is_hex_digit text ≡ digits → digits ≡ is_hex text
+digits_by text even true d = let r = decode_of-digits text even (AllPass-from_list_all is_hex_digit text d) in sym (ap (by_hex (λ bytes. true) false) r.1)
+digits_by text even false d = sym (digits_if text (decode_of text) refl d)
+
+pub hex_digits : (text : List ℕ) → length text % 2 ≡ 0 → list_all is_hex_digit text ≡ is_hex text
+hex_digits text even = digits_by text even (list_all is_hex_digit text) refl

@@ -9,7 +9,7 @@ use Rattle.dbus_auth_lines.specs.declared.lines.ServerLine.{ServerLine}
 use Rattle.dbus_auth_lines.specs.declared.lines.ServerLine.TheVariants as s
 use Rattle.dbus_auth_lines.specs.contracts.lines.ServerLinePartialEq.TheImpl as server_eq
 use Rattle.std.specs.Cmp.Lexicographic.{bytes_decides}
-use Rattle.dbus_auth_lines.proofs.SameWords.{words_equal}
+use Rattle.dbus_auth_lines.proofs.Spaces.{words_equal}
 use denote.RattleType.{RattleType}
 use mir.Syntax.{Dict}
 use Rattle.std.specs.declared.alloc.Allocator as allocator

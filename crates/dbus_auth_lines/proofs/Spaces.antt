@@ -1,7 +1,12 @@
 -- The steps of the functions that find words.
-use Rattle.std.proofs.Common.{◌≡◌, ◌≢◌, ℕ, ◌+◌, ◌-◌, ◌<◌, ◌≤◌, ◌==◌, Bool, true, false, cond, List, [], ◌∷◌, length, take, drop, get_or, refl, sym, ◌∙◌, ap, subst, arith, length-drop, length-take}
+use Rattle.std.proofs.Common.{◌≡◌, ◌≢◌, ℕ, ◌+◌, ◌-◌, ◌<◌, ◌≤◌, ◌==◌, Bool, true, false, cond, List, [], ◌∷◌, length, take, drop, get_or, refl, sym, ◌∙◌, ap, subst, arith, length-drop, length-take, map, nat_eq}
 use Rattle.std.proofs.lemmas.Bool.{ne_eqb, false≢true, false_from_ne_true}
 use Rattle.std.proofs.lemmas.List.{at_drop_more, at_drop_all, take_all, drop-drop, get_or-drop}
+use Rattle.std.specs.Prelude.{Vec}
+use Rattle.std.specs.Bool.{Decides}
+use Rattle.std.specs.Cmp.Lexicographic.{pointwise, pointwise_decides, bytes_decides}
+use Rattle.std.specs.Cmp.Derive.Mapped.{pointwise-map}
+use Rattle.std.specs.List.{AllZip, each_same}
 use Rattle.dbus_auth_lines.specs.Lines.{command_name, words, at_word_end, onto_first}
 use Rattle.dbus_auth_lines.specs.WordPlaces.{AreNextWords, IsNextWord}
 
@@ -134,3 +139,26 @@ next_word_at line rest from at n k is left some word stops le =
       no_space = bytes_from line at rest is (λ b. b ≢ 32) k word;
       ends = λ lt. byte_from line at rest is (λ b. b ≡ 32) k (at + k) (stops (omega (arith, left.to_end))) refl;
     }
+
+-- Bytes and words of a line that are compared or copied.
+
+pub bytes_copied : (bs copies : List ℕ) → AllZip (λ b d. d ≡ b) bs copies → copies ≡ bs
+bytes_copied bs copies h = each_same bs copies h
+
+-- copies of words are the same words
+pub words_copied : {Z : Type 0} (ws copies : List (Vec ℕ Z))
+    → AllZip (λ w c. AllZip (λ b d. d ≡ b) w.items c.items × (c.len ≡ w.len)) ws copies
+    → map (λ w. w.items) copies ≡ map (λ w. w.items) ws
+words_copied [] [] h = refl
+words_copied [] (c ∷ cs) h = absurd h
+words_copied (w ∷ ws) [] h = absurd h
+words_copied (w ∷ ws) (c ∷ cs) h =
+    ap (λ (i : List ℕ). i ∷ map (λ v. v.items) cs) (each_same w.items c.items h.0.0)
+    ∙ ap (λ (r : List (List ℕ)). w.items ∷ r) (words_copied ws cs h.1)
+
+-- words are equal exactly where their bytes are
+pub words_equal : {Z : Type 0} (ws vs : List (Vec ℕ Z))
+    → Decides (pointwise (λ w v. pointwise nat_eq w.items v.items) ws vs) (map (λ w. w.items) ws ≡ map (λ v. v.items) vs)
+words_equal ws vs =
+    let P : Bool → Type 0 = λ t. Decides t (map (λ w. w.items) ws ≡ map (λ v. v.items) vs) in
+    subst P (pointwise-map (λ w. w.items) (pointwise nat_eq) ws vs) (pointwise_decides bytes_decides (map (λ w. w.items) ws) (map (λ v. v.items) vs))

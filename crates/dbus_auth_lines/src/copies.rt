@@ -13,7 +13,7 @@ impl<A: Allocator + Clone> Clone for ClientLine<A> {
     /// A line that says the same, in memory of its own from the same allocator.
     ///
     /// Returns `AllocError` if an allocation failed, and nothing of the copy is left then.
-    #[tactic(auto, using(crate::proofs::SameWords::bytes_copied))]
+    #[tactic(auto, using(crate::proofs::Spaces::bytes_copied))]
     fn clone(&self) -> Result<ClientLine<A>, AllocError> {
         match self {
             ClientLine::Auth => Ok(ClientLine::Auth),
@@ -37,7 +37,7 @@ impl<A: Allocator + Clone> Clone for ServerLine<A> {
     /// A line that says the same, in memory of its own from the same allocator.
     ///
     /// Returns `AllocError` if an allocation failed, and nothing of the copy is left then.
-    #[tactic(auto, using(crate::proofs::SameWords::bytes_copied, crate::proofs::SameWords::words_copied))]
+    #[tactic(auto, using(crate::proofs::Spaces::bytes_copied, crate::proofs::Spaces::words_copied))]
     fn clone(&self) -> Result<ServerLine<A>, AllocError> {
         match self {
             ServerLine::Rejected(words) => Ok(ServerLine::Rejected(words.clone()?)),

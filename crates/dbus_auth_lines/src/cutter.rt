@@ -81,7 +81,7 @@ impl<A: Allocator + Copy> LineCutter<A> {
     /// If a byte has a fault before any line ends, returns the first one's and takes nothing. That
     /// answer stays from then on. Returns `Memory` if an allocation failed: the cutter is unchanged
     /// then, and the same piece is to be handed in again.
-    #[tactic(auto, using(crate::proofs::CutterAnswers::takes_as))]
+    #[tactic(auto, using(crate::proofs::Cuts::takes_as))]
     pub fn take(&mut self, piece: &[u8]) -> Result<(usize, Option<Vec<u8, A>>), LineFault>
         ensures taken { (cutter_state self.old).fault ≡ None → (b : Beginning) →
             BeginsAs ((cutter_state self.old).kept ++ piece.now) b →

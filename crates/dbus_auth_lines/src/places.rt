@@ -278,7 +278,7 @@ fn error_text(line: &[u8]) -> WordPlace
 }
 
 /// Whether a text is bytes in hexadecimal.
-#[tactic(auto, using(crate::proofs::HexTexts::hex_digits))]
+#[tactic(auto, using(crate::proofs::RoundTrips::hex_digits))]
 fn is_hex(text: &[u8]) -> bool
     ensures { result ≡ is_hex text.now }
 {

@@ -44,7 +44,7 @@ pub fn find(kept: &[u8], piece: &[u8]) -> Found
 /// The line that the bytes begin with, without its CR LF; `None` if more bytes are wanted, since
 /// they are a prefix of a line and not all of it. Returns the first fault if one comes before any
 /// line ends. It takes no memory.
-#[tactic(auto, using(crate::proofs::Scans::cut_empty, crate::proofs::CutterAnswers::whole_line, crate::proofs::CutterAnswers::faulty_line, crate::proofs::CutterAnswers::no_line))]
+#[tactic(auto, using(crate::proofs::Scans::cut_empty, crate::proofs::Cuts::whole_line, crate::proofs::Cuts::faulty_line, crate::proofs::Cuts::no_line))]
 pub fn first_line(bytes: &[u8]) -> Result<Option<&[u8]>, BadLine>
     ensures { (b : Beginning) → BeginsAs bytes.now b →
         MatchResult result (λ r. MatchOption r (b ≡ Unfinished) (λ line. b ≡ WholeLine line.now))

@@ -16,7 +16,7 @@ pub(crate) struct Reading<'a> {
 
 impl Reading<'_> {
     // The value that they all spell.
-    #[tactic(auto, using(dbus_value_model::proofs::ShortLaws::formed_short))]
+    #[tactic(auto, using(dbus_value_model::proofs::Formed::formed_short))]
     fn value(&self, rt: &HostRuntime) -> Option<Value>
         ensures { IfSome result (λ v. HasShortSignatures (value_tree v)) }
     {

@@ -1,5 +1,5 @@
 //! Arrays, whose length is written once their elements are.
-#![tactic(auto, using(dbus_marshal::proofs::Written::lengths, dbus_value_model::proofs::Gaps::gap_below))]
+#![tactic(auto, using(dbus_marshal::proofs::Written::lengths, dbus_value_model::proofs::Periods::gap_below))]
 
 ghost use Rattle.std.specs.Prelude.{◌≡◌, ◌<◌, length, vec_capacity, OnOk, OnErr, IfOk, IfErr};
 ghost use Rattle.dbus_body.specs.Arrays.{IsOpen, closed, opened, place_of, IsArrayRefused, IsLengthWritten};

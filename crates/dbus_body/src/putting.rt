@@ -1,5 +1,5 @@
 //! Basic values, and the padding before the fields of a struct.
-#![tactic(auto, using(dbus_marshal::proofs::Written::lengths, dbus_value_model::proofs::Gaps::gap_below))]
+#![tactic(auto, using(dbus_marshal::proofs::Written::lengths, dbus_value_model::proofs::Periods::gap_below))]
 
 ghost use Rattle.std.specs.Prelude.{◌≡◌, ◌+◌, ◌<◌, ◌≤◌, ◌^◌, ◌++◌, length, vec_capacity, OnOk, OnErr, IfErr};
 ghost use Rattle.dbus_texts.specs.Types.{STRING, SIGNATURE};
@@ -15,7 +15,7 @@ use dbus_value_model::{Order, gap};
 use std::alloc::{AllocError, Allocator};
 
 /// Appends zeros up to the next multiple of `alignment`.
-#[tactic(auto, using(dbus_value_model::proofs::Gaps::gap_below), unfolding(dbus_value_model::specs::SizeLimits::with_padding))]
+#[tactic(auto, using(dbus_value_model::proofs::Periods::gap_below), unfolding(dbus_value_model::specs::SizeLimits::with_padding))]
 pub(crate) fn put_padding<A: Allocator>(
     out: &mut Vec<u8, A>,
     alignment: u8,
@@ -38,7 +38,7 @@ pub(crate) fn put_padding<A: Allocator>(
 /// capacity was too small; then the bytes are as they were. D-Bus Specification, "Marshaling (Wire
 /// Format)".
 #[inline]
-#[tactic(auto, using(dbus_marshal::proofs::Written::lengths, dbus_value_model::proofs::Gaps::gap_below), unfolding(dbus_value_model::specs::SizeLimits::with_padding))]
+#[tactic(auto, using(dbus_marshal::proofs::Written::lengths, dbus_value_model::proofs::Periods::gap_below), unfolding(dbus_value_model::specs::SizeLimits::with_padding))]
 pub fn put_number<A: Allocator>(
     out: &mut Vec<u8, A>,
     order: Order,
@@ -65,7 +65,7 @@ pub fn put_number<A: Allocator>(
 /// `TooLong` exactly if the text has 4,294,967,296 bytes or more. `Memory` if an allocation failed,
 /// only if the capacity was too small. After an error the bytes are as they were. D-Bus
 /// Specification, "Marshaling (Wire Format)".
-#[tactic(auto, using(dbus_marshal::proofs::Written::texts, dbus_value_model::proofs::Gaps::gap_below))]
+#[tactic(auto, using(dbus_marshal::proofs::Written::texts, dbus_value_model::proofs::Periods::gap_below))]
 pub fn put_text<A: Allocator>(
     out: &mut Vec<u8, A>,
     order: Order,
@@ -118,7 +118,7 @@ pub fn put_signature<A: Allocator>(out: &mut Vec<u8, A>, text: &[u8]) -> Result<
 ///
 /// The error is that an allocation failed, only if the capacity was too small; then the bytes are
 /// as they were. D-Bus Specification, "Marshaling (Wire Format)".
-#[tactic(auto, using(dbus_value_model::proofs::Gaps::gap_below), unfolding(dbus_value_model::specs::SizeLimits::with_padding))]
+#[tactic(auto, using(dbus_value_model::proofs::Periods::gap_below), unfolding(dbus_value_model::specs::SizeLimits::with_padding))]
 pub fn begin_struct<A: Allocator>(out: &mut Vec<u8, A>) -> Result<(), AllocError>
     ensures written { OnOk result (out.new.items ≡ with_padding 8 out.old.items) }
     ensures unchanged { OnErr result (out.new.items ≡ out.old.items) }

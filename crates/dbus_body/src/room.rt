@@ -5,7 +5,7 @@
 //! then; the bytes after that may have changed. If `at` or that end is past the end of `out`, it
 //! gives nothing, and `out` stays as it was. [`crate::close_array`] closes an array, of the bytes
 //! up to where its elements end.
-#![tactic(auto, using(dbus_marshal::proofs::Written::lengths, dbus_value_model::proofs::Gaps::gap_below))]
+#![tactic(auto, using(dbus_marshal::proofs::Written::lengths, dbus_value_model::proofs::Periods::gap_below))]
 
 ghost use Rattle.std.specs.Prelude.{◌≡◌, ◌+◌, ◌<◌, ◌≤◌, ◌^◌, ◌++◌, List, ℕ, length, take, Some, None, MatchOption, IsTrue, IsFalse};
 ghost use Rattle.dbus_texts.specs.Types.{STRING, SIGNATURE};
@@ -40,7 +40,7 @@ pub fn number_in(out: &mut [u8], at: usize, order: Order, width: u8, bits: u64) 
 }
 
 /// Puts a STRING or an OBJECT_PATH of fewer than 4,294,967,296 bytes, as [`crate::put_text`] does.
-#[tactic(auto, using(dbus_marshal::proofs::Written::texts, dbus_value_model::proofs::Gaps::gap_below))]
+#[tactic(auto, using(dbus_marshal::proofs::Written::texts, dbus_value_model::proofs::Periods::gap_below))]
 pub fn text_in(out: &mut [u8], at: usize, order: Order, text: &[u8]) -> Option<usize>
     requires { length text.now < 2 ^ 32 }
     ensures { Puts (with_value order (TextValue STRING text.now)) at out.old result out.new }

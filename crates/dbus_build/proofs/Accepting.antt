@@ -1,33 +1,33 @@
 -- Parts that are valid within limits, and in which each array of bytes is `Bytes`, have no case of
 -- fault.
-use Rattle.std.proofs.Common.{◌≡◌, inl, inr, ℕ, zero, suc, ◌+◌, ◌<◌, List, [], ◌∷◌, ◌++◌, ◌&&◌, Bool, true, false, length, map, None, IsTrue, if◌then◌else◌, eqb, refl, sym, ap, subst, ◌∙◌, arith}
-use Rattle.std.proofs.lemmas.Bool.{ne_eqb, eqb-true, and_parts}
-use Rattle.dbus_texts.specs.Types.{UINT32, NumberType, TextType, VariantType, ArrayType, StructType, EntryType, NoTypes, TypeTrees, AreComplete, sigs}
+use Rattle.std.proofs.Common.{◌≡◌, inl, inr, ℕ, zero, suc, ◌+◌, ◌<◌, List, [], ◌∷◌, ◌++◌, ◌&&◌, Bool, true, false, length, map, None, IsTrue, if◌then◌else◌, eqb, refl, sym, ap, subst, ◌∙◌, arith, rules}
+use Rattle.std.proofs.lemmas.Bool.{ne_eqb, eqb-true, and_parts, and_from}
+use Rattle.dbus_texts.specs.Types.{UINT32, NumberType, TextType, VariantType, ArrayType, StructType, EntryType, NoTypes, TypeTrees, AreComplete, sigs, IsBasic}
 use Rattle.dbus_texts.specs.Kinds.{IsKind}
 use Rattle.dbus_texts.specs.declared.text_kind.TextKind.TheVariants as kinds
 use Rattle.dbus_texts.proofs.KindFacts.{sigs_same}
 use Rattle.dbus_value_model.specs.declared.limits.Limits.{Limits}
 use Rattle.dbus_value_model.specs.declared.order.Order.TheVariants.{Little}
 use Rattle.dbus_value_model.specs.Forming.{IsNamed}
-use Rattle.dbus_value_model.specs.PackedBytes.{keep_bytes}
+use Rattle.dbus_value_model.specs.PackedBytes.{keep_bytes, keeps_bytes}
 use Rattle.dbus_value_model.specs.Values.{ValueTree, NumberValue, type_of, types_of, value_trees, AreWellFormed}
 use Rattle.dbus_value_model.specs.ValueViews.{value_tree, value_trees_of}
 use Rattle.dbus_value_model.specs.WantedTexts.{IsWanted, kind_of}
-use Rattle.dbus_value_model.specs.declared.value.Value.{Value}
+use Rattle.dbus_value_model.specs.declared.value.Value.{Value, the_lemmas}
 use Rattle.dbus_value_model.proofs.Formed.{parts_of, all_parts_of}
-use Rattle.dbus_build.specs.BuildFaults.{IsFirstWithout, IsNonzero, HasOwnType, HasOwnKind, IsOfType, IsOf, type_wanted, text_wanted, twice, IsFirstUnsoundField, IsFirstUnsound, SerialsPass, TypesPass, NamesPass, SignaturePasses, NoFault, KeptParts}
 use Rattle.dbus_message_model.specs.KeptLimits.{IsShallow}
-use Rattle.dbus_message_model.specs.Messages.{FieldTree, Want, Anything, OfType, Name, Serial, want, Suits, AreFields, field_struct, field_array, has_code, is_known, text_in, body_signature, IsValidMessage}
-use Rattle.dbus_build.proofs.ValidatedFields.{one_more}
+use Rattle.dbus_message_model.specs.Messages.{FieldTree, Want, Anything, OfType, Name, Serial, want, Suits, AreFields, field_struct, field_array, has_code, is_known, text_in, body_signature, IsValidMessage, is_particular}
 use Rattle.dbus_message_model.specs.PackedParts.{field_values, PartsKeepBytes}
 use Rattle.dbus_message_model.specs.PartsViews.{field_tree, field_trees, parts_tree}
 use Rattle.dbus_message_model.specs.SingleTypes.{AreSingleTypes}
 use Rattle.dbus_message_model.specs.declared.header_field.HeaderField.{HeaderField}
 use Rattle.dbus_message_model.specs.declared.parts.Parts.{Parts}
-use Rattle.dbus_message_model.proofs.SingleTypes.{each_single}
-use Rattle.dbus_message_model.proofs.TextValues.{text_of}
-use Rattle.dbus_message_model.proofs.Wants.{WantOk, want_ok}
+use Rattle.dbus_message_model.proofs.FieldLists.{each_single}
+use Rattle.dbus_message_model.proofs.KnownValues.{text_of, WantOk, want_ok}
 use Rattle.dbus_message_model.proofs.Widening.{kept_valid}
+use Rattle.dbus_build.specs.BuildFaults.{IsFirstWithout, IsNonzero, HasOwnType, HasOwnKind, IsOfType, IsOf, type_wanted, text_wanted, twice, IsFirstUnsoundField, IsFirstUnsound, SerialsPass, TypesPass, NamesPass, SignaturePasses, NoFault, KeptParts, HoldsSound}
+use Rattle.dbus_build.proofs.ValidatedFields.{one_more, rest_without, rest_unsound}
+use Rattle.dbus_build.proofs.Finding.{none_unsound}
 
 -- ---- one field
 
@@ -148,3 +148,40 @@ kept_parts limits p valid packed = (
   λ none. (none.0.0.0.0.0.0.0.1, none.0.0.1, none.0.1, none.1),
   λ keeps. no_fault limits p (kept_valid limits (parts_tree p) valid keeps) packed,
 )
+
+-- Parts of which no case of fault holds have each array of bytes as `Bytes`.
+
+-- ---- values that hold no others
+
+basic_packed : {A : Type 0} (v : Value A) → IsBasic (type_of (value_tree v)) → IsTrue (keeps_bytes v)
+basic_packed v h = search (rules, the_lemmas)
+
+wanted_basic : (w : Want) → WantOk w → is_particular w ≡ true → (v : ValueTree) → IsOfType (type_wanted w) v → IsBasic (type_of v)
+wanted_basic Anything ok is v typed = absurd cc
+wanted_basic (OfType t) ok is v typed = subst IsBasic (sym typed) ok.1
+wanted_basic (Name k) ok is v typed = subst IsBasic (sym typed) tt
+wanted_basic Serial ok is v typed = subst IsBasic (sym typed) tt
+
+-- ---- fields
+
+field_packed : {A : Type 0} (f : HeaderField A) (known : Bool) → is_known f.code ≡ known → HasOwnType (field_tree f) → HoldsSound f → IsTrue (keeps_bytes f.value)
+field_packed f true is typed sound = basic_packed f.value (wanted_basic (want f.code) (want_ok f.code) is (value_tree f.value) typed)
+field_packed f false is typed sound = (sound is).0.packed
+
+fields_packed : {A : Type 0} (fs : List (HeaderField A)) → IsFirstWithout HasOwnType (field_trees fs) None → IsFirstUnsoundField fs None → IsTrue (keep_bytes (field_values fs))
+fields_packed [] typed sound = refl
+fields_packed (f ∷ fs) typed sound =
+    let t = rest_without HasOwnType (field_tree f) (field_trees fs) typed in
+    let s = rest_unsound f fs sound in
+    and_from _ _ (field_packed f (is_known f.code) refl t.0 s.0) (fields_packed fs t.1 s.1)
+
+-- ---- the body
+
+body_packed : {A : Type 0} (n : ℕ) (vs : List (Value A)) → IsFirstUnsound n vs None → IsTrue (keep_bytes vs)
+body_packed n [] h = refl
+body_packed n (v ∷ vs) h = let w = none_unsound n v vs h in and_from _ _ w.0.0.packed (body_packed (n + 1) vs w.1)
+
+pub parts_packed : {A : Type 0} (limits : Limits) (p : Parts A) → NoFault limits p → PartsKeepBytes p
+parts_packed limits p h =
+    let s = h.0.0.0 in
+    (fields_packed p.fields.items s.0.0.0.0.0.0.1 s.0.0.1, body_packed 0 p.body.items s.0.1)

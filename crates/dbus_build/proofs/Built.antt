@@ -17,7 +17,7 @@ use Rattle.dbus_value_model.specs.Spelling.{spelling, spellings, IsWithinLimits,
 use Rattle.dbus_value_model.specs.Values.{value_trees, ValueTrees, NoValues, MoreValues}
 use Rattle.dbus_value_model.specs.ValueViews.{value_trees_of}
 use Rattle.dbus_value_model.specs.declared.value.Value.{Value}
-use Rattle.dbus_value_model.proofs.Formed.{formed_of, all_formed_of}
+use Rattle.dbus_value_model.proofs.Formed.{formed_of, all_formed_of, all_short_of}
 use Rattle.dbus_value_model.proofs.Numbers.{length-num}
 use Rattle.dbus_build.specs.BuildFaults.{IsFirstWithout, IsNonzero, HasOwnType, HasOwnKind, IsFirstUnsoundField, IsFirstUnsound, SignaturePasses, ArraysPass, SizePasses, NoFault, IsFirstFault, HoldTheirNumbers, AreFieldEnds}
 use Rattle.dbus_message_model.specs.KeptLimits.{KeepsArrays, IsLong}
@@ -27,14 +27,11 @@ use Rattle.dbus_message_model.specs.declared.header_field.HeaderField.{HeaderFie
 use Rattle.dbus_message_model.specs.declared.parts.Parts.{Parts}
 use Rattle.dbus_message_model.specs.Messages.{FieldTree, MessageTree, field_struct, field_array, fields_end, body_start, message_bytes, IsValidMessage}
 use Rattle.dbus_message_model.specs.PartsViews.{parts_tree}
-use Rattle.dbus_message_model.proofs.BothOrders.{valid_from}
-use Rattle.dbus_build.proofs.FaultyBody.{none_unsound}
-use Rattle.dbus_build.proofs.FaultyFields.{not_both}
+use Rattle.dbus_message_model.proofs.BothOrders.{valid_from, message_length}
+use Rattle.dbus_build.proofs.Finding.{none_unsound, not_both}
 use Rattle.dbus_build.proofs.ValidatedFields.{AreValidated, validated_all, rest_without, rest_unsound, formed_fields, fields_hold, are_fields}
 use Rattle.dbus_build.proofs.PartEnds.{body_past, body_long, body_ends, body_kept}
 use Rattle.dbus_value_model.proofs.PartRanges.{ranged_of, all_ranged_of}
-use Rattle.dbus_value_model.proofs.ShortLaws.{all_short_of}
-use Rattle.dbus_message_model.proofs.MessageLengths.{message_length}
 use Rattle.dbus_message_model.proofs.Widening.{nests_wider, nest_wider, within_wider, are_within_wider}
 
 pub past_both : (fds : Option ℕ) (n : ℕ) (vs : ValueTrees) (i : ℕ) → AreAllBelow fds vs → IsFirstPast fds n vs (Some i) → ⊥

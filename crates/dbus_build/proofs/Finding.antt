@@ -1,9 +1,9 @@
 -- Going over fields or values for the first that is not sound, and for how deep they nest.
-use Rattle.std.proofs.Common.{◌≡◌, ◌↔◌, inl, inr, ℕ, zero, suc, ◌+◌, ◌-◌, ◌<◌, ◌≤◌, List, [], ◌∷◌, length, get_or, drop, map, IsTrue, Option, Some, None, Result, Ok, Err, refl, sym, subst, arith}
+use Rattle.std.proofs.Common.{◌≡◌, ◌↔◌, inl, inr, ℕ, zero, suc, ◌+◌, ◌-◌, ◌<◌, ◌≤◌, List, [], ◌∷◌, length, get_or, drop, map, IsTrue, Option, Some, None, Result, Ok, Err, refl, sym, subst, arith, ◌++◌, take, Bool, true, false, ◌&&◌, ap, ◌∙◌}
 use Rattle.std.specs.Option.{option_or}
 use Rattle.std.specs.Result.{is_ok}
 use Rattle.std.proofs.lemmas.Bool.{false≢true}
-use Rattle.std.proofs.lemmas.List.{drop_all}
+use Rattle.std.proofs.lemmas.List.{drop_all, map_push, take_more, drop_more, length-append, append-nil}
 use Rattle.dbus_value_model.specs.Forming.{NestsWithin, NestWithin}
 use Rattle.dbus_value_model.specs.Verdicts.{HoldsNumbers, HoldNumbers, IsVerdict}
 use Rattle.dbus_value_model.specs.Values.{value_trees}
@@ -11,12 +11,12 @@ use Rattle.dbus_value_model.specs.ValueViews.{value_tree, value_trees_of}
 use Rattle.dbus_value_model.specs.declared.value.Value.{Value}
 use Rattle.dbus_value_model.specs.declared.verdict.Verdict.{Verdict}
 use Rattle.dbus_value_model.specs.declared.verdict.Verdict.TheVariants.{TooDeep, Mixed, Misnamed, Sound}
-use Rattle.dbus_value_model.proofs.Items.{item_of, items_from}
-use Rattle.dbus_message_model.specs.Messages.{FieldTree, field_array, field_struct}
+use Rattle.dbus_value_model.proofs.ValueRows.{item_of, items_from}
+use Rattle.dbus_message_model.specs.Messages.{FieldTree, field_array, field_struct, has_code, is_known}
 use Rattle.dbus_message_model.specs.PartsViews.{field_tree, field_trees}
 use Rattle.dbus_message_model.specs.declared.header_field.HeaderField.{HeaderField}
-use Rattle.dbus_message_model.proofs.FieldStructs.{structs}
-use Rattle.dbus_build.specs.BuildFaults.{HasOwnType, HoldsSound, IsSound, IsSoundness, IsFound, IsFirstUnsound, IsFirstUnsoundField, HoldsTypedNumber, HoldTypedNumbers}
+use Rattle.dbus_message_model.proofs.FieldLists.{structs, fields_from, no_fields_from}
+use Rattle.dbus_build.specs.BuildFaults.{HasOwnType, HoldsSound, IsSound, IsSoundness, IsFound, IsFirstUnsound, IsFirstUnsoundField, HoldsTypedNumber, HoldTypedNumbers, IsFirstWithout, twice}
 use Rattle.dbus_build.specs.declared.build_fault.BuildFault.{BuildFault}
 use Rattle.dbus_build.proofs.ValidatedFields.{rest_without}
 
@@ -122,3 +122,49 @@ unsound_of n s k TooDeep shallow bad w = absurd (shallow refl)
 unsound_of n s k Mixed shallow bad w = w
 unsound_of n s k Misnamed shallow bad w = w
 unsound_of n s k Sound shallow bad w = absurd (bad refl)
+
+-- Going over a list of header fields for the first that is at fault.
+
+module _ {A : Type 0} (P : FieldTree → Type 0) (fields : List (HeaderField A)) (i : ℕ) where
+  pub first_here : (f : HeaderField A) → i < length fields → f ≡ get_or fields i f → (P (field_tree f) → ⊥) → IsFirstWithout P (field_trees (drop i fields)) (Some f.code)
+  first_here f h is p = subst (λ (fs : List FieldTree). IsFirstWithout P fs (Some f.code)) (sym (fields_from fields i f h is)) (inl (p, refl))
+
+  pub first_later : (f : HeaderField A) (r : Option ℕ) → i < length fields → f ≡ get_or fields i f → P (field_tree f) → IsFirstWithout P (field_trees (drop (i + 1) fields)) r → IsFirstWithout P (field_trees (drop i fields)) r
+  first_later f r h is p w = subst (λ (fs : List FieldTree). IsFirstWithout P fs r) (sym (fields_from fields i f h is)) (inr (p, w))
+
+  pub first_none : length fields ≤ i → IsFirstWithout P (field_trees (drop i fields)) None
+  first_none h = subst (λ (fs : List FieldTree). IsFirstWithout P fs None) (sym (no_fields_from fields i h)) refl
+
+pub not_both : (b : Bool) → b ≡ false → b ≡ true → ⊥
+not_both b f t = cc
+
+module _ {A : Type 0} (fields : List (HeaderField A)) (i : ℕ) where
+  pub twice_here : (f : HeaderField A) → i < length fields → f ≡ get_or fields i f → is_known f.code && has_code f.code (field_trees (take i fields)) ≡ true → Some f.code ≡ twice (field_trees (take i fields)) (field_trees (drop i fields))
+  twice_here f h is e = rw (fields_from fields i f h is, e) refl
+
+  pub twice_later : (f : HeaderField A) → i < length fields → f ≡ get_or fields i f → is_known f.code && has_code f.code (field_trees (take i fields)) ≡ false
+      → twice (field_trees (take (i + 1) fields)) (field_trees (drop (i + 1) fields)) ≡ twice (field_trees (take i fields)) (field_trees (drop i fields))
+  twice_later f h is e =
+      let front : field_trees (take (i + 1) fields) ≡ field_trees (take i fields) ++ field_tree f ∷ [] = ap field_trees (take_more fields i f h) ∙ map_push field_tree (take i fields) (get_or fields i f) ∙ ap (λ (u : HeaderField A). field_trees (take i fields) ++ field_tree u ∷ []) (sym is) in
+      rw (fields_from fields i f h is, e, front) refl
+
+-- Going over a body's values for the first that is at fault, and for their types.
+
+module _ {A : Type 0} where
+  pub none_unsound : (n : ℕ) (v : Value A) (vs : List (Value A)) → IsFirstUnsound n (v ∷ vs) None → IsSound v × IsFirstUnsound (n + 1) vs None
+  none_unsound n v vs h = elim h [ inl x ↦ absurd cc | inr y ↦ y ]
+
+module _ {A : Type 0} (values : List (Value A)) (i : ℕ) where
+  from : (v : Value A) → i < length values → v ≡ get_or values i v → drop i values ≡ v ∷ drop (i + 1) values
+  from v h is = drop_more values i v h ∙ ap (λ (u : Value A). u ∷ drop (i + 1) values) (sym is)
+
+  pub sound_from : (v : Value A) (n : ℕ) → i < length values → v ≡ get_or values i v → IsFirstUnsound n (drop i values) None → IsSound v × IsFirstUnsound (n + 1) (drop (i + 1) values) None
+  sound_from v n h is w = none_unsound n v (drop (i + 1) values) (subst (λ (vs : List (Value A)). IsFirstUnsound n vs None) (from v h is) w)
+
+-- too long for the text
+pub spelled_past : (out head rest tail whole text : List ℕ) → rest ≡ head ++ tail → out ++ rest ≡ whole → length text - length out < length head → whole ≡ text → ⊥
+spelled_past out head rest tail whole text is all long same =
+    omega (arith, length-append out rest, length-append head tail, ap length is, ap length all, ap length same, long)
+
+pub spelled_whole : (out rest whole : List ℕ) → rest ≡ [] → out ++ rest ≡ whole → out ≡ whole
+spelled_whole out rest whole is all = sym (append-nil out) ∙ ap (λ (t : List ℕ). out ++ t) (sym is) ∙ all

@@ -1,8 +1,7 @@
 -- Where fields and values end, as they are measured.
 use Rattle.std.proofs.Common.{◌≡◌, ℕ, ◌+◌, ◌<◌, ◌≤◌, List, length, get_or, drop, map, Option, Some, None, sym, subst, ◌∙◌, arith}
 use Rattle.std.proofs.Math.Decide.{dec_lt}
-use Rattle.dbus_marshal.proofs.Capping.{capped-near, capped_tells}
-use Rattle.dbus_marshal.proofs.MeasureSteps.{measured-none, measured-more, measured-first}
+use Rattle.dbus_marshal.proofs.MeasureSteps.{capped-near, capped_tells, measured-none, measured-more, measured-first}
 use Rattle.dbus_value_model.specs.declared.limits.Limits.{Limits}
 use Rattle.dbus_value_model.specs.declared.limits.TheConstants.{MESSAGE_LIMIT}
 use Rattle.dbus_value_model.specs.Specification.{specification}
@@ -14,8 +13,7 @@ use Rattle.dbus_message_model.specs.Messages.{FieldTree, field_struct}
 use Rattle.dbus_build.specs.BuildFaults.{AreFieldEnds}
 use Rattle.dbus_message_model.specs.PartsViews.{field_tree}
 use Rattle.dbus_message_model.specs.declared.header_field.HeaderField.{HeaderField}
-use Rattle.dbus_message_model.proofs.FieldLists.{no_fields_from}
-use Rattle.dbus_message_model.proofs.FieldStructs.{structs, structs_from}
+use Rattle.dbus_message_model.proofs.FieldLists.{no_fields_from, structs, structs_from}
 
 module _ (limits : Limits) where
   -- an offset within the limit on all messages is its capped one

@@ -5,14 +5,12 @@ use Rattle.dbus_value_model.specs.Forming.{IsUniform, AreUniform, IsNamed, AreNa
 use Rattle.dbus_value_model.specs.Verdicts.{HoldNumbers}
 use Rattle.dbus_value_model.specs.Values.{ValueTree, NumberValue, TextValue, VariantValue, ArrayValue, StructValue, EntryValue, type_of, value_trees, AllOf}
 use Rattle.dbus_value_model.specs.WantedTexts.{WantedText, IsWanted, kind_of}
-use Rattle.dbus_message_model.proofs.NameTexts.{name_is_text}
-use Rattle.dbus_message_model.proofs.TextValues.{text_of}
+use Rattle.dbus_message_model.proofs.KnownValues.{name_is_text, text_of, WantOk, want_ok}
 use Rattle.dbus_build.specs.BuildFaults.{IsFirstWithout, IsNonzero, HasOwnType, HasOwnKind, IsOfType, IsOf, type_wanted, text_wanted, twice, HoldsSound, IsFirstUnsoundField, HoldFieldNumbers}
 use Rattle.dbus_message_model.specs.Messages.{FieldTree, Want, Anything, OfType, Name, Serial, want, is_particular, Suits, AreFields, field_struct, field_type, has_code, is_known, text_in}
 use Rattle.dbus_message_model.specs.PartsViews.{field_tree, field_trees}
 use Rattle.dbus_message_model.specs.declared.header_field.HeaderField.{HeaderField}
-use Rattle.dbus_message_model.proofs.FieldCodes.{has_append, or_comm, or_false}
-use Rattle.dbus_message_model.proofs.Wants.{WantOk, want_ok}
+use Rattle.dbus_message_model.proofs.FieldLists.{has_append, or_comm, or_false}
 
 -- ---- one field
 

@@ -1,9 +1,7 @@
 pub mod MeantLimits
-pub mod FirstBytes
+pub mod Outcomes
 pub mod Telling
 pub mod Swapped
-pub mod Fronts
-pub mod Outcomes
 pub mod RuleTelling
 pub mod EndsMade
 mod Built

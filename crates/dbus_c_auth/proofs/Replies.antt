@@ -13,7 +13,7 @@ use Rattle.dbus_auth_lines.specs.Cut.{Cut, Ends, Bad, More, cut}
 use Rattle.dbus_auth_lines.proofs.PrintedWords.{length-hex_word}
 use Rattle.dbus_auth.specs.Machines.{ServerMachine, ServerStep, IsServer, server_step, server_step_at, by_mechanism, rejects, accepts, replies, is_user, is_empty, offers_external, external_words, ClientMachine, ClientMechanism, External, Anonymous, ClientStep, client_step, client_step_at, auth_line, next_of, IsMechanism}
 use Rattle.dbus_auth.specs.Ends.{EndState, ServerEndState, ClientEndState, EndOutcome, Turn, cuts, takes, server_sends, server_turn, server_takes, client_sends, client_turn, client_greets, client_starts, status_after}
-use Rattle.dbus_auth.proofs.Outcomes.{takes_by}
+use Rattle.dbus_auth.proofs.Stages.{takes_by}
 use Rattle.dbus_c_auth.specs.Handshakes.{client_goes_on, client_goes_on_at}
 use Rattle.dbus_auth.specs.declared.states.ServerState.{ServerState}
 use Rattle.dbus_auth.specs.declared.states.ServerState.TheVariants as at

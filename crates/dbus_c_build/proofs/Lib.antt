@@ -5,4 +5,3 @@ mod ClearFields
 pub mod OnlyMessage
 mod Spelling
 pub mod Refusing
-mod KeptFields

@@ -10,7 +10,7 @@ use Rattle.dbus_value_model.specs.Bytes.{num, pad, gap_to}
 use Rattle.dbus_value_model.specs.Spelling.{spelling, spellings}
 use Rattle.dbus_value_model.specs.Values.{ValueTrees}
 use Rattle.dbus_message_model.specs.Messages.{FieldTree, MessageTree, IsMessage, order_byte, field_array, fields_end, body_bytes, message_bytes}
-use Rattle.dbus_message_model.proofs.MessageLengths.{message_length}
+use Rattle.dbus_message_model.proofs.BothOrders.{message_length}
 use Rattle.dbus_c_build.specs.Building.{OneBuilt, with_header, spelled, HaveBytes}
 use Rattle.dbus_c_build.specs.Placed.{HasParts, text_at, fields_after}
 use Rattle.dbus_c_build.specs.declared.placed.PlacedParts.{PlacedParts}

@@ -16,7 +16,7 @@ use Rattle.dbus_value_model.specs.Values.{ValueTree, NumberValue, TextValue, Var
 use Rattle.dbus_marshal.proofs.Written.{written_more, length_values}
 use Rattle.dbus_message_model.specs.Messages.{FieldTree, MessageTree, IsMessage, field_struct, has_code, message_bytes}
 use Rattle.dbus_encode.proofs.FieldWriting.{field_length}
-use Rattle.dbus_message_model.proofs.MessageLengths.{message_length}
+use Rattle.dbus_message_model.proofs.BothOrders.{message_length}
 use Rattle.dbus_header.specs.MessageOutcomes.{IsWhole}
 use Rattle.dbus_validate.specs.Validating.{IsValidated}
 use Rattle.dbus_header.specs.NoMessage.{BeginsWithNone}

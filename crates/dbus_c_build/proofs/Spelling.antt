@@ -10,8 +10,7 @@ use Rattle.dbus_value_model.specs.SizeLimits.{with_padding, with_value, with_val
 use Rattle.dbus_value_model.specs.Bytes.{num, pad}
 use Rattle.dbus_value_model.specs.Spelling.{spelling, spellings}
 use Rattle.dbus_value_model.specs.Values.{ValueTrees, NoValues, TextValue, value_trees, type_of}
-use Rattle.dbus_value_model.proofs.Numbers.{length-num}
-use Rattle.dbus_value_model.proofs.OneByte.{num_1}
+use Rattle.dbus_value_model.proofs.Numbers.{length-num, num_1}
 use Rattle.dbus_marshal.proofs.Written.{padding_is, written_none, written_more, written_path}
 use Rattle.dbus_message_model.specs.Messages.{FieldTree, field_struct, field_array, fields_end, has_code, order_byte}
 use Rattle.dbus_encode.proofs.FieldWriting.{before_value, field_written}

@@ -1,3 +1,2 @@
 pub mod Steps
 pub mod LettingGo
-pub mod RuleAdded

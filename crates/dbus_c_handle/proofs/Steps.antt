@@ -1,7 +1,14 @@
 -- What the walks of a handle share: what is kept and the heap as a call passes them, the handle's
 -- machine value, and what it owns.
-use Rattle.std.proofs.Common.{◌≡◌, ℕ, List, [], ◌∷◌, ◌++◌, refl, subst}
-use Rattle.std.specs.Prelude.{Option, None, Some}
+use Rattle.std.proofs.Common.{◌≡◌, ℕ, List, [], ◌∷◌, ◌++◌, refl, subst, ◌+◌, Option, Result, Ok, Err, MatchResult, ap, sym, ◌∙◌}
+use Rattle.std.specs.Prelude.{None, Some}
+use Rattle.std.proofs.GlobalToken.{dealloc_token-Testable}
+use Rattle.std.specs.Box.Ownership.{box_owns}
+use Rattle.std.proofs.BoxSteps.Form.{Bx}
+use Rattle.std.specs.contracts.alloc.Global as heap
+use Rattle.std.proofs.alloc.Global.TheLaws as heap_laws
+use Rattle.std.specs.contracts.impls.GlobalAllocator.TheImpl.{ghosts, dict}
+use Rattle.std.specs.declared.alloc.Global.{Global}
 use seplogic.Ra.Ura.{Ura}
 use mir.Syntax.{Dict, impl, tnil, tcons, dnil}
 use mir.Raw.{raw as bare}
@@ -22,18 +29,20 @@ use denote.RawPtr.{Ptr, RawPtr, block_ptr, null_ptr, ptr_val, Testable, lies_at,
 use denote.Steps.{nothing}
 use denote.Struct.Struct.{within}
 use denote.Struct.Owning.{shape}
-use Rattle.std.proofs.GlobalToken.{dealloc_token-Testable}
-use Rattle.std.specs.Box.Ownership.{box_owns}
-use Rattle.std.proofs.BoxSteps.Form.{Bx}
-use Rattle.std.specs.contracts.alloc.Global as heap
-use Rattle.std.proofs.alloc.Global.TheLaws as heap_laws
-use Rattle.std.specs.contracts.impls.GlobalAllocator.TheImpl.{ghosts, dict}
+use Rattle.dbus_rule.specs.RuleViews.{IsRuleFault, rule_pairs}
+use Rattle.dbus_rule.specs.Rules.{SpellsRule}
+use Rattle.dbus_rule.specs.declared.fault.RuleFault.{RuleFault}
+use Rattle.dbus_rule.specs.declared.fault.RuleFault.TheVariants.{Memory}
+use Rattle.dbus_rule.specs.declared.rule.Rule.{Rule}
+use Rattle.dbus_rule_set.specs.Held.{rule_at, with_rule}
+use Rattle.dbus_rule_set.specs.declared.handle.RuleHandle.{RuleHandle}
 use Rattle.dbus_c_handle.specs.declared.kept.Kept.{Kept}
 use Rattle.dbus_c_handle.specs.contracts.kept.Kept as kept
 use Rattle.dbus_c_handle.proofs.kept.Kept.TheLaws as kept_laws
 use Rattle.dbus_c_handle.specs.Handles.{holds}
 use Rattle.dbus_c_handle.specs.declared.handle.WireHandle.{WireHandle}
 use Rattle.dbus_c_handle.specs.contracts.handle.WireHandle.{the_row, the_type}
+use Rattle.dbus_c_handle.specs.Rules.{Adds, AddsRule, KeepsAll}
 
 -- a call passes a type as the machine sees it
 abbrev pub passed : RattleType → RattleType
@@ -99,3 +108,27 @@ module _ {M : Type 1} {𝓤 : Ura M} {𝓛 : Logic 𝓤} {K : Type 0} {Γ : List
   either t a p (Some x) none some =
       fpick t (λ g. in_a_block t p (λ q. box_owns (ghosts.dealloc_token g) kept.the_row q x) (fst∗ 𝓤 (never 𝓤) (sem 𝓛 ((ghosts.dealloc_token g) (bare (lone kept.the_row.mir)) null_ptr))) (λ b o e.
       use1 𝓛 (given (Testable (block_ptr b o)) (‵ (box_owns (ghosts.dealloc_token g) kept.the_row (block_ptr b o) x))) (tested 𝓛 g (block_ptr b o) x) $ learn t (λ can. some b o x e refl can)))
+
+-- A rule that comes to what was kept comes to the rules that were kept.
+
+pub all_kept : (old mid new : Option Kept) → KeepsAll old mid → KeepsAll mid new → KeepsAll old new
+all_kept old mid new a b = record {
+  stay = record { rules = b.stay.rules ∙ a.stay.rules; given = b.stay.given ∙ a.stay.given; owners = b.stay.owners ∙ a.stay.owners };
+  shared = b.shared ∙ a.shared;
+  other = b.other ∙ a.other;
+}
+
+pub added_to : (w : List ℕ) (rule : Rule Global) (old mid new : Option Kept) → SpellsRule w (rule_pairs rule) → KeepsAll old mid → (r : Result RuleHandle RuleFault)
+    → MatchResult r (AddsRule rule mid new) (λ fault. (fault ≡ Memory) × KeepsAll mid new) → MatchResult r (Adds w old new) (λ fault. IsRuleFault w fault × KeepsAll old new)
+added_to w rule old mid new spelled same (Ok h) a = (
+  rule,
+  spelled,
+  record {
+    added = a.added ∙ ap (with_rule h rule) same.stay.rules;
+    unheld = ap (rule_at h) (sym same.stay.rules) ∙ a.unheld;
+    number = a.number ∙ same.stay.given;
+    given = a.given ∙ ap (λ n. n + 1) same.stay.given;
+    owners = a.owners ∙ same.stay.owners;
+  },
+)
+added_to w rule old mid new spelled same (Err fault) (is, kept) = (subst (λ (f : RuleFault). IsRuleFault w f) (sym is) tt, all_kept old mid new same kept)

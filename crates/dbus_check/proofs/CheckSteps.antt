@@ -1,11 +1,18 @@
 -- What a checker answers of all bytes that it was handed, by what it does with a piece.
-use Rattle.std.proofs.Common.{◌≡◌, ℕ, List, ◌++◌, take, Option, Some, None, Result, Ok, Err, sym, ap, subst, ◌∙◌, arith, append_assoc, ◌+◌, length, refl}
+use Rattle.std.proofs.Common.{◌≡◌, ℕ, List, ◌++◌, take, Option, Some, None, Result, Ok, Err, sym, ap, subst, ◌∙◌, arith, append_assoc, ◌+◌, length, refl, [], ◌∷◌, true}
 use Rattle.std.proofs.lemmas.List.{take_all, take-append-drop}
 use Rattle.dbus_value_model.specs.ByteNumbers.{IsBytes}
-use Rattle.dbus_value_model.specs.Reading.{Faulty}
+use Rattle.dbus_value_model.specs.Reading.{Faulty, Done}
 use Rattle.dbus_value_model.specs.declared.fault.Fault.{Fault}
 use Rattle.dbus_value_model.specs.declared.limits.Limits.{Limits}
 use Rattle.dbus_value_model.proofs.Numbers.{IsBytes-append, IsBytes-front}
+use Rattle.dbus_header.proofs.OutcomeLaws.{one_outcome, one_whole, one_fault}
+use Rattle.dbus_value_laws.proofs.Agreement.{read_passes, read_refuses}
+use Rattle.dbus_header.specs.MessageItems.{fixed_items}
+use Rattle.dbus_header.specs.HeaderReading.{fixed_header}
+use Rattle.dbus_header.specs.declared.fixed_header.FixedHeader.{FixedHeader}
+use Rattle.dbus_header.proofs.MessageParts.{Agrees-fixed}
+use Rattle.dbus_message_model.specs.Messages.{is_known}
 use Rattle.dbus_check.specs.declared.check.Check.{Check}
 use Rattle.dbus_check.specs.Checks.{IsExact, taken, CheckerState, StandsAfter, Stands, Takes, Holds, Fed, IsLive}
 use Rattle.dbus_check.specs.declared.check.Check.TheVariants as check
@@ -14,7 +21,6 @@ use Rattle.dbus_check.specs.Heading.{message_on}
 use Rattle.dbus_check.specs.Progress.{To, after_bytes}
 use Rattle.dbus_check.proofs.Outcomes.{done_is, refused_is, partial_is}
 use Rattle.dbus_check.proofs.PieceSteps.{whole_answers}
-use Rattle.dbus_header.proofs.OutcomeLaws.{one_outcome, one_whole, one_fault}
 
 pub takes_exact : (limits : Limits) (w piece : List ℕ) (answer : Check) → Takes limits w piece answer → IsExact limits w piece answer
 takes_exact limits w piece check.Partial t =
@@ -121,3 +127,22 @@ module _ (x seen : CheckerState) (is : x ≡ seen) (w piece : List ℕ) (more : 
 
     pub took_refused : (f : Fault) → Feeds (Err f) → Told (check.Refused f) (record x { pieces = p; refused = Some f })
     took_refused f feeds = let t = fed_refused x.limits p w piece h.bytes more f (fed (Err f) feeds) in told (check.Refused f) (record x { pieces = p; refused = Some f }) t.0 t.1
+
+-- What the fixed header's reading answers stays, whatever follows.
+
+module _ (limits : Limits) (o : ℕ) (s : List ℕ) (bytes : IsBytes s) (c : List ℕ) where
+  pub fixed_read : (h : FixedHeader) (q : ℕ) (r : List ℕ) → fixed_header limits o s ≡ Done h q r → fixed_header limits o (s ++ c) ≡ Done h q (r ++ c)
+  fixed_read h q r e =
+      let a = Agrees-fixed limits in
+      a.passes o (s ++ c) h q (r ++ c) (a.passes_more c o s h q r (read_passes (fixed_items limits) (fixed_header limits) a o s bytes h q r e))
+
+  pub fixed_refused : (f : Fault) → fixed_header limits o s ≡ Faulty f → fixed_header limits o (s ++ c) ≡ Faulty f
+  fixed_refused f e =
+      let a = Agrees-fixed limits in
+      a.refuses o (s ++ c) f (a.refuses_more c o s f (read_refuses (fixed_items limits) (fixed_header limits) a o s bytes f e))
+
+-- The known fields that a message requires.
+
+abbrev pub AreKnown : List ℕ → Type 0
+AreKnown [] = Unit {0}
+AreKnown (c ∷ cs) = (is_known c ≡ true) × AreKnown cs

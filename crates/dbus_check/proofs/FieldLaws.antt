@@ -1,6 +1,8 @@
 -- A field, by what its code asks of its value.
-use Rattle.std.proofs.Common.{◌≡◌, ℕ, zero, suc, ◌-◌, List, ◌∙◌, ◌+◌, ◌≤◌, [], ◌∷◌, drop, Bool, true, false, Ok, refl, sym, ap}
-use Rattle.dbus_texts.specs.Types.{UINT32, STRING, SIGNATURE, TypeTree, NumberType, TextType}
+use Rattle.std.proofs.Common.{◌≡◌, ℕ, zero, suc, ◌-◌, List, ◌∙◌, ◌+◌, ◌≤◌, [], ◌∷◌, drop, Bool, true, false, Ok, refl, sym, ap, ◌++◌, length, take, Result, Err, subst, arith}
+use Rattle.std.proofs.Math.Path.{fun_ext}
+use Rattle.std.proofs.lemmas.List.{length-drop, take-append-drop}
+use Rattle.dbus_texts.specs.Types.{UINT32, STRING, SIGNATURE, TypeTree, NumberType, TextType, OBJECT_PATH, IsSingleType, sig}
 use Rattle.dbus_texts.specs.ComputedKinds.{type_spelled}
 use Rattle.dbus_texts.specs.declared.text_kind.TextKind.TheVariants as kinds
 use Rattle.dbus_value_model.specs.WantedTexts.{WantedText, Of, Only}
@@ -12,16 +14,23 @@ use Rattle.dbus_value_model.specs.declared.fault.Reason.TheVariants as reasons
 use Rattle.dbus_value_model.specs.Values.{ValueTree, NumberValue, TextValue}
 use Rattle.dbus_value_model.specs.ValueItems.{number_row}
 use Rattle.dbus_value_model.specs.Reading.{Reader, after, padding, value, Outcome, Done, pure}
-use Rattle.dbus_message_model.specs.Messages.{Want, Name, Serial, want, OfType, number_in, text_in}
+use Rattle.dbus_message_model.specs.Messages.{Want, Name, Serial, want, OfType, number_in, text_in, Anything}
 use Rattle.dbus_header.specs.MessageItems.{kind_wanted, not_zero_row}
 use Rattle.dbus_header.specs.HeaderReading.{value_wanted, wanted_signature, wanted_value}
-use Rattle.dbus_value_laws.proofs.ReadSteps.{after_after, no_padding}
+use Rattle.dbus_value_laws.proofs.ReadSteps.{after_after, no_padding, same_after}
 use Rattle.dbus_value_checker.specs.Suspended.{On, short_text, onward, done}
-use Rattle.dbus_check.specs.Heading.{Kept, kept_of, field_on, field_code, name_text, padded_number, uint32_row, uint32_wanted, seen_as, nothing_of}
 use Rattle.dbus_value_model.specs.declared.stop.Stop.{Stop}
-use Rattle.dbus_value_laws.proofs.KindLaws.{spelled_sig}
+use Rattle.dbus_value_laws.proofs.KindLaws.{spelled_sig, single_text}
 use Rattle.dbus_value_checker.specs.Fronts.{Halts, Fronts}
-use Rattle.dbus_value_checker.proofs.Chains.{halts_same, fronts_same, first_err, then_err, then_ok}
+use Rattle.dbus_value_checker.proofs.Suspension.{halts_same, fronts_same, first_err, then_err, then_ok, take-both, split-at}
+use Rattle.dbus_value_model.specs.declared.stop.Stop.TheVariants as stops
+use Rattle.dbus_texts.specs.Kinds.{IsKind}
+use Rattle.dbus_check.specs.Heading.{Kept, kept_of, field_on, field_code, name_text, padded_number, uint32_row, uint32_wanted, seen_as, nothing_of, fields_on}
+use Rattle.dbus_check.specs.Progress.{To, Denotes, denotes, Moves, Passes, Coded, after_bytes, Steps, WantsValue, WantsHeld}
+use Rattle.dbus_check.specs.declared.progress.Progress.{Progress}
+use Rattle.dbus_check.specs.declared.progress.Stage.{Stage}
+use Rattle.dbus_check.specs.declared.progress.Stage.TheVariants as stage
+use Rattle.dbus_check.proofs.PassedFields.{the_kept, kept_plain, plain_code}
 
 -- its code, and then its value
 pub field_begins : (limits : Limits) (order : Order) (end : ℕ) (kept : Kept) (more : Kept → On) (o : ℕ) (s : List ℕ)
@@ -133,3 +142,91 @@ module _ (limits : Limits) (order : Order) (end : ℕ) where
       ∙ ap (λ (r : Outcome (Unit {0})). after r (λ _ q u. after (short_text order end (Of kinds.Signature) q u) (λ w. pure w))) (sym (no_padding end p t le))
       ∙ sym (body_signature_begins order end (bounds_of limits) room (λ v. pure (text_in v)) p t)
       ∙ ap (λ (held : TypeTree). after (value_wanted (bounds_of limits) order room end (OfType (TextType SIGNATURE)) held p t) (λ v. pure (text_in v))) (sym (spelled_sig (TextType SIGNATURE)))
+
+-- A field, its code and then its value.
+
+-- after a field that was passed the next is wanted
+pub passed_moves : (old new : Progress) (s : List ℕ) (r : Result ℕ Stop) (to : To) → new.stage ≡ stage.Fields → Passes old s r new to → Moves old s r new to
+passed_moves old new s (Ok m) to at h = (h.0, subst (λ (st : Stage). denotes st new (after_bytes to (take m s))) (sym at) h.1)
+passed_moves old new s (Err stops.Partial) to at h = h
+passed_moves old new s (Err (stops.Refused f)) to at h = h
+
+-- the second of two parts
+module _ (old new : Progress) (s : List ℕ) (n : ℕ) (there : n ≤ length s) (to : To) (rest : List ℕ) (rest_is : rest ≡ drop n s) where
+  pub both_move : (m : ℕ) → Moves old rest (Ok m) new (after_bytes to (take n s)) → Moves old s (Ok (n + m)) new to
+  both_move m h =
+      let a = h.0 in
+      let l = ap length rest_is ∙ length-drop n s in
+      (omega (arith, a, l, there), subst (λ (t : To). Denotes new t) (fun_ext (λ c. ap (λ (u : List ℕ). to (take n s ++ (take m u ++ c))) rest_is ∙ ap to (sym (take-both n m s c there)))) h.1)
+
+  pub second_stops : (e : Stop) → Moves old rest (Err e) new (after_bytes to (take n s)) → Moves old s (Err e) new to
+  second_stops stops.Partial h = (h.0, sym (ap to (take-append-drop n s)) ∙ ap (λ (u : List ℕ). to (take n s ++ u)) (sym rest_is) ∙ h.1)
+  second_stops (stops.Refused f) h = λ c. ap to (split-at n s c) ∙ ap (λ (u : List ℕ). to (take n s ++ (u ++ c))) (sym rest_is) ∙ h c
+
+-- the first of two parts
+pub coded_stops : (x : Progress) (s : List ℕ) (e : Stop) (to : To) → Coded x s (Err e) to → Moves x s (Err e) x to
+coded_stops x s stops.Partial to h = (refl, h)
+coded_stops x s (stops.Refused f) to h = h
+
+pub steps_of : (old new : Progress) (s : List ℕ) (r : Result ℕ Stop) (to : To) → Denotes old to → Moves old s r new to → Steps s r new to
+steps_of old new s (Ok n) to d h = h
+steps_of old new s (Err stops.Partial) to d h = (subst (λ (y : Progress). Denotes y to) (sym h.0) d, h.1)
+steps_of old new s (Err (stops.Refused f)) to d h = h
+
+-- Fields whose values are under way once their signatures are read.
+
+module _ (x : Progress) (code n : ℕ) (to : To) (w : WantsValue x code n to) (wanted : Want) (is : wanted ≡ want code) (plain : (code ≡ 8 → ⊥) × (code ≡ 9 → ⊥)) (s : List ℕ)
+    (free : (t : TypeTree) → value_wanted (bounds_of x.limits) x.order (x.limits.depth - 3) x.end wanted t ≡ value (bounds_of x.limits) x.order (x.limits.depth - 3) x.end t) where
+  abbrev more : Kept → On
+  more = fields_on x.limits x.order x.kind x.body w.turns x.end
+
+  abbrev kept : Kept
+  kept = the_kept (code ∷ w.kept.codes) w.kept.text w.kept.count
+
+  abbrev held_run : List ℕ → On
+  held_run t p u = after (value_wanted (bounds_of x.limits) x.order (x.limits.depth - 3) x.end wanted (type_spelled t) p u) (λ v. more (kept_of w.kept code v))
+
+  law : (c : List ℕ) → after (short_text x.order x.end (kind_wanted wanted) (x.offset + n) c) held_run ≡ to c
+  law c =
+      sym (value_begins x.order x.end x.limits wanted (λ v. more (kept_of w.kept code v)) (x.offset + n) c)
+      ∙ ap (λ (u : Want). after (wanted_value x.limits x.order x.end u (x.offset + n) c) (λ v. more (kept_of w.kept code v))) is
+      ∙ w.same c
+
+  pub held_stops : {X : Type 0} (view : X → List ℕ × ℕ) (e : Stop) → Fronts view (x.offset + n) s (Err e) (short_text x.order x.end (kind_wanted wanted)) → Moves x s (Err e) x to
+  held_stops view stops.Partial h = (refl, sym (law s) ∙ ap (λ (r : Outcome (List ℕ)). after r held_run) h)
+  held_stops view (stops.Refused f) h = λ c. sym (law (s ++ c)) ∙ ap (λ (r : Outcome (List ℕ)). after r held_run) (h c)
+
+  pub held_there : {X : Type 0} (view : X → List ℕ × ℕ) (y : X) → Fronts view (x.offset + n) s (Ok y) (short_text x.order x.end (kind_wanted wanted)) → (k : ℕ) → k ≡ n + (view y).1 → x.offset + n + (view y).1 ≤ x.end
+      → WantsHeld x code k (type_spelled (view y).0) (after_bytes to (take (view y).1 s))
+  held_there view y h k k_is low =
+      let t = type_spelled (view y).0 in
+      let a = w.turns_is in
+      let e : x.offset + k ≡ x.offset + n + (view y).1 = omega (arith, k_is) in
+      record {
+        kept = w.kept;
+        turns = w.turns;
+        keeps = w.keeps;
+        low = omega (arith, k_is, low);
+        turns_is = omega (arith, a, k_is);
+        near = w.near;
+        same = λ c.
+            ap (λ (p : ℕ). after (value (bounds_of x.limits) x.order (x.limits.depth - 3) x.end t p c) (λ _. more kept)) e
+            ∙ ap (λ (run : Reader ValueTree). after (run (x.offset + n + (view y).1) c) (λ _. more kept)) (sym (free t))
+            ∙ same_after (value_wanted (bounds_of x.limits) x.order (x.limits.depth - 3) x.end wanted t (x.offset + n + (view y).1) c) (λ _. more kept) (λ v. more (kept_of w.kept code v))
+            (λ v p u. ap (λ (k : Kept). more k p u) (sym (kept_plain w.kept code w.keeps.no_text w.keeps.no_count v plain.0 plain.1)))
+            ∙ sym (ap (λ (r : Outcome (List ℕ)). after r held_run) (h.1 c))
+            ∙ law (take (view y).1 s ++ c);
+      }
+
+-- a value of any type, whose signature is there
+pub any_held : (x : Progress) (code n : ℕ) (to : To) (w : WantsValue x code n to) → Anything ≡ want code → (s : List ℕ) (m : ℕ) → Fronts (λ (n : ℕ). (take n (drop 1 s), n + 2)) (x.offset + n) s (Ok m) (short_text x.order x.end (Of kinds.Single)) → x.offset + n + m + 2 ≤ x.end → IsKind kinds.Single (take m (drop 1 s))
+    → (types : List ℕ) → types ≡ take m (drop 1 s) → (t : TypeTree) × (WantsHeld x code (n + m + 2) t (after_bytes to (take (m + 2) s)) × (types ≡ sig t) × IsSingleType t)
+any_held x code n to w wanted s m h low kind types types_is =
+    let single = single_text (take m (drop 1 s)) kind in
+    (type_spelled (take m (drop 1 s)), (held_there x code n to w Anything wanted (plain_code Anything code wanted (λ e. cc) (λ e. cc)) s (λ t. refl) (λ (n : ℕ). (take n (drop 1 s), n + 2)) m h (n + m + 2) (omega arith) (omega arith), types_is ∙ sym single.1, single.0))
+
+-- a path
+pub path_held : (x : Progress) (code n : ℕ) (to : To) (w : WantsValue x code n to) → OfType (TextType OBJECT_PATH) ≡ want code → (s : List ℕ) → Fronts (λ (u : Unit {0}). (111 ∷ [], 3)) (x.offset + n) s (Ok tt) (short_text x.order x.end (Only (111 ∷ []))) → x.offset + n + 3 ≤ x.end → WantsHeld x code (n + 3) (TextType OBJECT_PATH) (after_bytes to (take 3 s))
+path_held x code n to w wanted s h low =
+    subst (λ (t : TypeTree). WantsHeld x code (n + 3) t (after_bytes to (take 3 s))) (spelled_sig (TextType OBJECT_PATH))
+    (held_there x code n to w (OfType (TextType OBJECT_PATH)) wanted (plain_code (OfType (TextType OBJECT_PATH)) code wanted (λ e. cc) (λ e. cc)) s (λ t. refl) (λ (u : Unit {0}). (111 ∷ [], 3)) tt h (n + 3) refl low)

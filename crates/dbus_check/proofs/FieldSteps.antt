@@ -1,6 +1,8 @@
 -- The parts of a header's field, front by front.
-use Rattle.std.proofs.Common.{◌≡◌, ℕ, zero, suc, ◌+◌, ◌-◌, ◌<◌, ◌≤◌, List, ◌++◌, take, drop, Bool, true, false, ◌&&◌, cond, eqb, Option, Some, None, Ok, refl, sym, ap, ◌∙◌, arith}
+use Rattle.std.proofs.Common.{◌≡◌, ℕ, zero, suc, ◌+◌, ◌-◌, ◌<◌, ◌≤◌, List, ◌++◌, take, drop, Bool, true, false, ◌&&◌, cond, eqb, Option, Some, None, Ok, refl, sym, ap, ◌∙◌, arith, Result, Err, [], ◌∷◌, length, get_or, subst}
 use Rattle.std.proofs.lemmas.Bool.{lt-ltb, le-ltb, eq-eqb, ne_eqb}
+use Rattle.std.specs.Prelude.{IfOk}
+use Rattle.std.proofs.lemmas.List.{length-take}
 use Rattle.dbus_value_model.specs.declared.limits.Limits.{Limits}
 use Rattle.dbus_value_model.specs.declared.order.Order.{Order}
 use Rattle.dbus_value_model.specs.declared.fault.Reason.{Reason}
@@ -8,16 +10,22 @@ use Rattle.dbus_value_model.specs.declared.fault.Reason.TheVariants as reasons
 use Rattle.dbus_value_model.specs.declared.stop.Stop.{Stop}
 use Rattle.dbus_value_model.specs.declared.stop.Stop.TheVariants as stops
 use Rattle.dbus_value_model.specs.Items.{fault}
-use Rattle.dbus_value_model.specs.Reading.{Reader, Faulty, after, pure, padding, number}
-use Rattle.dbus_value_model.specs.WantedTexts.{WantedText}
-use Rattle.dbus_message_model.specs.Messages.{is_known}
+use Rattle.dbus_value_model.specs.Reading.{Reader, Faulty, after, pure, padding, number, Outcome, Done, text}
+use Rattle.dbus_value_model.specs.WantedTexts.{WantedText, Only, IsBreakOf, IsWanted}
+use Rattle.dbus_message_model.specs.Messages.{is_known, want}
 use Rattle.dbus_header.specs.MessageItems.{name_row}
-use Rattle.dbus_header.specs.HeaderReading.{opening}
+use Rattle.dbus_header.specs.HeaderReading.{opening, wanted_value}
 use Rattle.dbus_value_laws.proofs.ReadSteps.{same_after}
 use Rattle.dbus_value_checker.specs.Fronts.{Halts, Fronts}
-use Rattle.dbus_check.specs.Heading.{has, seen_row, field_code, name_text, padded_number, uint32_row}
-use Rattle.dbus_value_checker.specs.Suspended.{onward, done, ended_text, counted_text}
-use Rattle.dbus_value_checker.proofs.Chains.{halts_same, fronts_same, first_err, then_err, then_ok, front_as, forgotten}
+use Rattle.dbus_value_checker.specs.Suspended.{onward, done, ended_text, counted_text, On}
+use Rattle.dbus_value_checker.proofs.Suspension.{halts_same, fronts_same, first_err, then_err, then_ok, front_as, forgotten}
+use Rattle.dbus_value_model.specs.ComputedTexts.{break_at}
+use Rattle.dbus_value_laws.proofs.KindLaws.{break_le, break_is}
+use Rattle.dbus_value_checker.proofs.FrontSteps.{text_breaks_at, text_waits_at, text_unlike_at, text_there_at}
+use Rattle.dbus_check.specs.Heading.{has, seen_row, field_code, name_text, padded_number, uint32_row, Kept, kept_of, field_on, fields_on}
+use Rattle.dbus_check.specs.Progress.{To, WantsFields, Coded}
+use Rattle.dbus_check.specs.declared.progress.Progress.{Progress}
+use Rattle.dbus_check.proofs.FieldLaws.{field_begins}
 
 -- ---- rows
 
@@ -168,3 +176,120 @@ module _ (order : Order) (end : ℕ) (o : ℕ) (s : List ℕ) where
       pub padded_number_there : {Z : Type 0} (w : Z → ℕ × ℕ) (x : ℕ) → Fronts (λ (n : ℕ). (n, 4)) (o + n) rest (Ok x) (number order 4 end row) → (z : Z) → (w z).0 ≡ x → (w z).1 ≡ n + 4 → Fronts w o s (Ok z) (padded_number order end row)
       unfolding padded_number
       padded_number_there w x h z value_is size_is = then_ok padded o s (padding 4 end) (λ _. number order 4 end row) n first rest rest_is (λ (n : ℕ). (n, 4)) w x h z value_is size_is
+
+-- The next field of a message under way.
+
+fields_more : (limits : Limits) (order : Order) (kind body t end : ℕ) (kept : Kept) (o : ℕ) (c : List ℕ) → o < end → fields_on limits order kind body (suc t) end kept o c ≡ field_on limits order end kept (fields_on limits order kind body t end) o c
+fields_more limits order kind body t end kept o c lt = rw (lt-ltb o end lt) refl
+
+one_less : (n : ℕ) → 0 < n → (t : ℕ) × (n ≡ suc t)
+one_less zero h = absurd (omega arith)
+one_less (suc t) h = (t, refl)
+
+module _ (x : Progress) (to : To) (w : WantsFields x to) (more : x.offset < x.end) (s : List ℕ) where
+  left : (t : ℕ) × (w.turns ≡ suc t)
+  left = let a = w.turns_is in one_less w.turns (omega (arith, a, more))
+
+  abbrev turns : ℕ
+  turns = left.0
+
+  abbrev code_run : Reader ℕ
+  code_run = field_code x.limits x.order x.end w.kept.codes
+
+  abbrev value_run : ℕ → On
+  value_run code p u = after (wanted_value x.limits x.order x.end (want code) p u) (λ v. fields_on x.limits x.order x.kind x.body turns x.end (kept_of w.kept code v))
+
+  law : (c : List ℕ) → after (code_run x.offset c) value_run ≡ to c
+  law c =
+      sym (field_begins x.limits x.order x.end w.kept (fields_on x.limits x.order x.kind x.body turns x.end) x.offset c)
+      ∙ sym (fields_more x.limits x.order x.kind x.body turns x.end w.kept x.offset c more)
+      ∙ ap (λ (n : ℕ). fields_on x.limits x.order x.kind x.body n x.end w.kept x.offset c) (sym left.1)
+      ∙ w.same c
+
+  pub field_coded : (r : Result (ℕ × ℕ) Stop) → Fronts (λ (y : ℕ × ℕ). y) x.offset s r (field_code x.limits x.order x.end w.kept.codes)
+      → IfOk r (λ y. (0 < y.1) × (x.offset + y.1 ≤ x.end)) → IfOk r (λ y. is_known y.0 && has y.0 w.kept.codes ≡ false) → Coded x s r to
+  field_coded (Ok y) h moves once =
+      let some = moves.0 in
+      let low = moves.1 in
+      let a = w.turns_is in
+      let b = left.1 in (
+        h.0,
+        record {
+          kept = w.kept;
+          turns = turns;
+          keeps = w.keeps;
+          once = once;
+          low = low;
+          turns_is = omega (arith, a, b, some);
+          near = w.near;
+          same = λ c. sym (ap (λ (r : Outcome ℕ). after r value_run) (h.1 c)) ∙ law (take y.1 s ++ c);
+        },
+      )
+  field_coded (Err stops.Partial) h moves once = sym (law s) ∙ ap (λ (r : Outcome ℕ). after r value_run) h
+  field_coded (Err (stops.Refused f)) h moves once = λ c. sym (law (s ++ c)) ∙ ap (λ (r : Outcome ℕ). after r value_run) (h c)
+
+-- what is asked of a result, less of it
+pub less : {X : Type 0} (P Q : X → Type 0) (r : Result X Stop) → ((x : X) → P x → Q x) → IfOk r P → IfOk r Q
+less P Q (Ok x) f h = f x h
+less P Q (Err e) f h = tt
+
+-- A text that is to be one byte, at the front of some bytes.
+
+break_first : (w : ℕ) (given : List ℕ) → 0 < length given → (get_or given 0 0 ≡ w → ⊥) → break_at (Only (w ∷ [])) given ≡ 0
+unfolding break_at
+break_first w [] h n = absurd (omega arith)
+break_first w (b ∷ given) h n = rw (ne_eqb w b (λ e. n (sym e))) refl
+
+break_second : (w : ℕ) (given : List ℕ) → 0 < length given → get_or given 0 0 ≡ w → break_at (Only (w ∷ [])) given ≡ 1
+unfolding break_at
+break_second w [] h e = absurd (omega arith)
+break_second w (b ∷ given) h e = rw (eq-eqb w b (sym e)) refl
+
+alone : (w : ℕ) (given : List ℕ) → 0 < length given → length given ≤ 1 → get_or given 0 0 ≡ w → given ≡ w ∷ []
+alone w [] h le e = absurd (omega arith)
+alone w (b ∷ []) h le e = ap (λ (c : ℕ). c ∷ []) e
+alone w (b ∷ (d ∷ given)) h le e = absurd (omega arith)
+
+module _ (w n o : ℕ) (s given : List ℕ) (is : given ≡ take n s) where
+  abbrev k : WantedText
+  k = Only (w ∷ [])
+
+  abbrev view : Unit {0} → List ℕ × ℕ
+  view x = (w ∷ [], 1)
+
+  broken_at : (i : ℕ) → break_at k given ≡ i → IsBreakOf k given i
+  broken_at i e = subst (IsBreakOf k given) e (break_is k given)
+
+  pub only_waits : length given ≡ 0 → 0 < n → Fronts view o s (Err stops.Partial) (text (Only (w ∷ [])) n)
+  only_waits none some = text_waits_at k n o s given is (break_at k given) (break_is k given) (omega arith) (omega arith)
+
+  pub only_empty : length given ≡ 0 → n ≡ 0 → Fronts view o s (Err (stops.Refused (fault o reasons.FieldType))) (text (Only (w ∷ [])) n)
+  only_empty none no_more = λ c.
+      let l = break_le k given in
+      let at : break_at k given ≡ 0 = omega arith in
+      let e : o + 0 ≡ o = omega arith in
+      let not : IsWanted k given → ⊥ = λ h. let d = ap length h in absurd (omega arith) in
+      subst (λ (p : ℕ). text k n o (s ++ c) ≡ Faulty (fault p reasons.FieldType)) e (text_unlike_at k n o s given is 0 (broken_at 0 at) (omega arith) (omega arith) not c)
+
+  module _ (some : 0 < length given) where
+    pub only_other : (get_or given 0 0 ≡ w → ⊥) → Fronts view o s (Err (stops.Refused (fault o reasons.FieldType))) (text (Only (w ∷ [])) n)
+    only_other other = λ c.
+        let e : o + 0 ≡ o = omega arith in
+        subst (λ (p : ℕ). text k n o (s ++ c) ≡ Faulty (fault p reasons.FieldType)) e (text_breaks_at k n o s given is 0 (broken_at 0 (break_first w given some other)) some c)
+
+    module _ (first : get_or given 0 0 ≡ w) where
+      pub only_long : 1 < length given → Fronts view o s (Err (stops.Refused (fault (o + 1) reasons.FieldType))) (text (Only (w ∷ [])) n)
+      only_long long = λ c. text_breaks_at k n o s given is 1 (broken_at 1 (break_second w given some first)) long c
+
+      pub only_more : length given ≤ 1 → 1 < n → Fronts view o s (Err stops.Partial) (text (Only (w ∷ [])) n)
+      only_more short more = text_waits_at k n o s given is 1 (broken_at 1 (break_second w given some first)) short (omega arith)
+
+      pub only_there : length given ≤ 1 → n ≤ 1 → Fronts view o s (Ok tt) (text (Only (w ∷ [])) n)
+      only_there short few =
+          let wanted = alone w given some short first in
+          let l = ap length is ∙ length-take n s in
+          let one : n ≡ 1 = omega arith in
+          let h = text_there_at k n o s given is wanted (omega arith) in
+          let fits = h.0 in
+          let front : take n s ≡ w ∷ [] = sym is ∙ wanted in
+          (omega arith, λ c. ap (λ (m : ℕ). text k n o (take m s ++ c)) (sym one) ∙ h.1 c ∙ ap (λ (t : List ℕ). Done t (o + n) c) front ∙ ap (λ (m : ℕ). Done (w ∷ []) (o + m) c) one)

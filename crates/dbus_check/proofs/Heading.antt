@@ -12,7 +12,7 @@ use Rattle.dbus_message_model.specs.Messages.{FieldTree, want, has_code, is_know
 use Rattle.dbus_header.specs.MessageItems.{code_row}
 use Rattle.dbus_header.specs.HeaderReading.{opening, fixed_header, wanted_value, field_read, fields_read, body_read, message_read}
 use Rattle.dbus_header.specs.declared.fixed_header.FixedHeader.{FixedHeader}
-use Rattle.dbus_message_model.proofs.FieldCodes.{has_reversed}
+use Rattle.dbus_message_model.proofs.FieldLists.{has_reversed}
 use Rattle.dbus_value_laws.proofs.ReadSteps.{after_after, same_after}
 use Rattle.dbus_value_checker.specs.Suspended.{On, onward, done}
 use Rattle.dbus_check.specs.Heading.{has, seen_row, missing, Kept, nothing, kept_of, body_on, after_fields, field_on, fields_on, message_on}

@@ -1,16 +1,9 @@
 pub mod Heading
-pub mod Lasts
+pub mod CheckSteps
 pub mod Outcomes
 pub mod FieldLaws
 pub mod FieldSteps
-pub mod SeenSteps
-pub mod OnlySteps
 pub mod Stages
 pub mod PassedFields
-pub mod HeldValues
-pub mod WholeFields
-pub mod NextFields
-pub mod Underway
 pub mod ValueStages
 pub mod PieceSteps
-pub mod CheckSteps

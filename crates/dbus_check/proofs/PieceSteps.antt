@@ -4,7 +4,7 @@ use Rattle.std.proofs.Math.Seq.{take-append-add}
 use Rattle.std.proofs.lemmas.List.{append-nil, take_all, take-append-le, take-take, take-append-drop, length-append, length-take, length-drop}
 use Rattle.dbus_value_model.specs.declared.fault.Fault.{Fault}
 use Rattle.dbus_value_model.specs.Reading.{Done, Faulty, Partial}
-use Rattle.dbus_value_checker.proofs.Chains.{take-both, split-at}
+use Rattle.dbus_value_checker.proofs.Suspension.{take-both, split-at}
 use Rattle.dbus_check.specs.Checks.{Holds, Joined, Fed}
 use Rattle.dbus_check.specs.Checks as pieces
 use Rattle.dbus_check.specs.Progress.{To, Denotes, denotes, Runs, IsLive, after_bytes}

@@ -16,8 +16,8 @@ use Rattle.dbus_check.specs.declared.progress.Progress.{Progress}
 use Rattle.dbus_check.specs.declared.progress.Stage.TheVariants as stage
 use Rattle.dbus_check.specs.Progress as progress
 use Rattle.dbus_check.specs.declared.progress.Stage.{Stage}
-use Rattle.dbus_value_checker.proofs.Chains.{split-at}
-use Rattle.dbus_check.proofs.Underway.{Ran, flows_refused, flows_there, flows_wait, flows_on, flows_over}
+use Rattle.dbus_value_checker.proofs.Suspension.{split-at}
+use Rattle.dbus_check.proofs.Stages.{Ran, flows_refused, flows_there, flows_wait, flows_on, flows_over}
 
 -- ---- a field's value
 

@@ -2,4 +2,3 @@ mod NameSteps
 mod NamedCounts
 mod OneTable
 mod RowLaws
-mod RowTexts

@@ -1,5 +1,5 @@
 -- The rows of a table are the entries of a map whose names begin with a word, in another order.
-use Rattle.std.proofs.Common.{◌≡◌, ◌<◌, ◌+◌, ℕ, List, [], ◌∷◌, Ordering, Bool, true, false, cond, nat_eq, length, Some, map, refl, sym, ap, ◌∙◌, subst, arith, slice_index_or}
+use Rattle.std.proofs.Common.{◌≡◌, ◌<◌, ◌+◌, ℕ, List, [], ◌∷◌, Ordering, Bool, true, false, cond, nat_eq, length, Some, map, refl, sym, ap, ◌∙◌, subst, arith, slice_index_or, ◌++◌, codes, Option, None, MatchOption, drop, append-nil, append_assoc}
 use Rattle.std.specs.BTreeMap.{BTreeMap, IsOrdered}
 use Rattle.std.specs.Borrow.{Bor}
 use Rattle.std.specs.Cmp.Lexicographic.{slice_cmp, bytes_decides, nat_list_eq_equiv}
@@ -10,7 +10,7 @@ use Rattle.std.specs.List.Sorted.{IsPermutation, IsSortedBy}
 use Rattle.std.specs.Map.{lookup, keys_of}
 use Rattle.std.specs.Map.Iter.{deref_pair}
 use Rattle.std.specs.Ordering.{eq_by_cmp, nat_cmp, ordering_then}
-use Rattle.std.specs.Str.{bytes_eq}
+use Rattle.std.specs.Str.{bytes_eq, IsCharBoundary}
 use Rattle.std.proofs.lemmas.List.{get_or_default, get_or-map, length-map}
 use Rattle.std.proofs.lemmas.List.Elements.{All-filter, filter_passes}
 use Rattle.std.proofs.lemmas.List.Sorted.{All-permutation, Contains-permutation, IsPermutation-map, ranks_by}
@@ -18,11 +18,16 @@ use Rattle.std.proofs.lemmas.Map.Entries.{lookup-filter-keys}
 use Rattle.std.proofs.lemmas.Map.Keys.{IsDistinct-from_sorted, IsDistinct-IsPermutation}
 use Rattle.std.proofs.lemmas.Map.Made.{IsDistinct-keys_filter}
 use Rattle.std.proofs.lemmas.Map.Views.{Contains-from_lookup, lookup-from_Contains}
-use Rattle.dbus_count.specs.Counting.{has}
+use Rattle.std.specs.Option.{unwrap_or}
+use Rattle.std.specs.Str.Pattern.{FindsTextPrefix, StripsPrefix}
+use Rattle.std.proofs.lemmas.Str.Pattern.{starts_text}
+use Rattle.dbus_json.specs.JsonValues.{member, object}
+use Rattle.dbus_count.specs.Counting.{has, Counting}
 use Rattle.dbus_count.specs.NameOrder.{bytes_of, name_order, name_ties}
-use Rattle.dbus_count.specs.Tables.{Row, goes_before, row_of}
+use Rattle.dbus_count.specs.Tables.{Row, goes_before, row_of, AreRows, AreTables, behind, row_text, rows_text}
 use Rattle.dbus_count.specs.declared.count.Count.{Count}
 use Rattle.dbus_count.specs.declared.name.Name.{Name}
+use Rattle.dbus_count.specs.declared.form.Form.{Form}
 
 abbrev pub row : Name × Count → Row
 row e = (bytes_of e.0, e.1)
@@ -110,3 +115,47 @@ module _ (m : BTreeMap Name Count) (ordered : IsOrdered name_order m) (word : Li
   rows_distinct =
       IsDistinct-IsPermutation bytes_eq nat_list_eq_equiv.symm (keys_of chosen) (keys_of rows) (IsPermutation-map (λ r. r.0) chosen rows moved)
       (IsDistinct-keys_filter bytes_eq (begins word) es distinct)
+
+-- The lines of rows.
+
+-- a line more
+pub rows_push : (form : Form) (word : List ℕ) (ps : List (Bor Name × Bor Count)) (p : Bor Name × Bor Count)
+    → rows_text form word (map row_of (ps ++ p ∷ [])) ≡ rows_text form word (map row_of ps) ++ row_text form word (row_of p)
+rows_push form word [] p = append-nil (row_text form word (row_of p))
+rows_push form word (q ∷ ps) p =
+    ap (λ t. row_text form word (row_of q) ++ t) (rows_push form word ps p)
+    ∙ sym (append_assoc (row_text form word (row_of q)) (rows_text form word (map row_of ps)) (row_text form word (row_of p)))
+
+-- the pieces of an object of a name and two numbers
+pieces : (begin quote word colon value second m third n close end : List ℕ)
+    → (begin ++ quote) ++ (word ++ ((quote ++ colon) ++ (value ++ (second ++ (m ++ (third ++ (n ++ (close ++ end))))))))
+    ≡ (begin ++ ((((quote ++ (word ++ quote)) ++ (colon ++ value)) ++ ((second ++ m) ++ ((third ++ n) ++ []))) ++ close)) ++ end
+pieces begin quote word colon value second m third n close end = simp (append-nil, append_assoc)
+
+pub object_is : (word value messages bytes : List ℕ)
+    → codes "{\"" ++ (word ++ (codes "\":" ++ (value ++ (codes ",\"messages\":" ++ (messages ++ (codes ",\"bytes\":" ++ (bytes ++ codes "}\n")))))))
+    ≡ object (member word value ∷ member (codes "messages") messages ∷ member (codes "bytes") bytes ∷ []) ++ codes "\n"
+object_is word value messages bytes = pieces (codes "{") (codes "\"") word (codes ":") value (codes ",\"messages\":") messages (codes ",\"bytes\":") bytes (codes "}") (codes "\n")
+
+-- what `strip_prefix` leaves, or the whole
+pub behind_is : (r : Option (Bor (List ℕ))) (text : Bor (List ℕ)) (front : List ℕ) → MatchOption r (FindsTextPrefix front text.now None) (λ x. StripsPrefix (FindsTextPrefix front) text.now x.now)
+    → (unwrap_or r text).now ≡ behind front text.now
+behind_is None text front lacks = ap (λ (b : Bool). cond b (drop (length front) text.now) text.now) (starts_text false front text.now lacks)
+behind_is (Some x) text front strips =
+    strips.2 ∙ (ap (λ i. drop i text.now) strips.1.0
+    ∙ ap (λ (b : Bool). cond b (drop (length front) text.now) text.now) (starts_text true front text.now (strips.0, strips.1, subst (λ i. IsCharBoundary text.now i) (sym strips.1.0) strips.1.2)))
+
+-- a draft gains tables one after the other
+module _ {D : Type 0} (gains : D → List ℕ → D → Type 0) (joins : (a b c : D) (s t : List ℕ) → gains a s b → gains b t c → gains a (s ++ t) c) (form : Form) (c : Counting) where
+  abbrev pub HasTable : (word : List ℕ) → D → D → Type 0
+  HasTable word a b = (rows : List Row) × AreRows c word rows × gains a (rows_text form word rows) b
+
+  abbrev pub HasTables : (words : List (List ℕ)) → D → D → Type 0
+  HasTables words a b = (text : List ℕ) × AreTables form c words text × gains a text b
+
+  pub no_tables : (a : D) → gains a [] a → HasTables [] a a
+  no_tables a none = ([], refl, none)
+
+  pub more_tables : (word : List ℕ) (words : List (List ℕ)) (x y z : D) → HasTable word x y → HasTables words y z → HasTables (word ∷ words) x z
+  more_tables word words x y z table more =
+      (rows_text form word table.0 ++ more.0, (table.0, more.0, table.1, more.1, refl), joins x y z (rows_text form word table.0) more.0 table.2 more.2)

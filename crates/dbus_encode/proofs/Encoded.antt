@@ -6,11 +6,10 @@ use Rattle.dbus_value_model.specs.SizeLimits.{with_padding, with_values}
 use Rattle.dbus_value_model.specs.Values.{ValueTrees, value_trees}
 use Rattle.dbus_value_model.specs.Bytes.{num, pad, gap_to}
 use Rattle.dbus_value_model.specs.Spelling.{spelling, spellings}
-use Rattle.dbus_value_model.proofs.Numbers.{length-num}
-use Rattle.dbus_value_model.proofs.OneByte.{num_1}
+use Rattle.dbus_value_model.proofs.Numbers.{length-num, num_1}
 use Rattle.dbus_marshal.proofs.Patching.{taken_over}
 use Rattle.dbus_marshal.proofs.Written.{length_padding, length_values}
-use Rattle.dbus_message_model.proofs.MessageLengths.{message_length}
+use Rattle.dbus_message_model.proofs.BothOrders.{message_length}
 use Rattle.dbus_encode.specs.FixedBytes.{fixed_bytes}
 use Rattle.dbus_message_model.specs.Messages.{FieldTree, MessageTree, field_struct, field_array, fields_end, body_start, body_bytes, message_bytes, order_byte}
 

@@ -7,14 +7,12 @@ use Rattle.dbus_value_model.specs.SizeLimits.{with_padding, with_value, with_val
 use Rattle.dbus_value_model.specs.Values.{ValueTree, ValueTrees, NoValues, MoreValues, NumberValue, VariantValue, type_of, value_trees}
 use Rattle.dbus_value_model.specs.Bytes.{num}
 use Rattle.dbus_value_model.specs.Spelling.{spelling}
-use Rattle.dbus_value_model.proofs.Numbers.{length-num}
-use Rattle.dbus_value_model.proofs.OneByte.{num_1}
+use Rattle.dbus_value_model.proofs.Numbers.{length-num, num_1}
 use Rattle.dbus_marshal.proofs.Written.{lengths, length_value, length_values, written_number, written_variant, written_struct, written_none, written_more, no_padding}
 use Rattle.dbus_message_model.specs.Messages.{FieldTree, field_struct}
 use Rattle.dbus_message_model.specs.PartsViews.{field_tree}
 use Rattle.dbus_message_model.specs.declared.header_field.HeaderField.{HeaderField}
-use Rattle.dbus_message_model.proofs.FieldLists.{fields_from, no_fields_from}
-use Rattle.dbus_message_model.proofs.FieldStructs.{structs}
+use Rattle.dbus_message_model.proofs.FieldLists.{fields_from, no_fields_from, structs}
 
 -- ---- a field
 

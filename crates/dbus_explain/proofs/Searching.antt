@@ -1,6 +1,8 @@
 -- What a search passes and enters.
-use Rattle.std.proofs.Common.{◌≡◌, ℕ, zero, suc, ◌+◌, List, false, true, length, take, drop, Option, None, Some, IfSome, refl, sym, ap, ◌∙◌, subst, zero-add, add-one}
+use Rattle.std.proofs.Common.{◌≡◌, ℕ, zero, suc, ◌+◌, List, false, true, length, take, drop, Option, None, Some, IfSome, refl, sym, ap, ◌∙◌, subst, zero-add, add-one, [], ◌∷◌, ◌++◌, append_assoc, append-nil}
 use Rattle.std.proofs.lemmas.List.{drop_at, take_at}
+use Rattle.std.specs.List.{flat_map}
+use Rattle.std.proofs.lemmas.List.Concat.{flat_map-append}
 use Rattle.dbus_texts.specs.Types.{TypeTree, TypeTrees, VariantType, ArrayType, StructType, EntryType, NoTypes, MoreTypes, IsShaped, AreShaped, sig, sigs}
 use Rattle.dbus_texts.specs.declared.text_kind.TextKind.TheVariants.{Signature, Single}
 use Rattle.dbus_texts.proofs.KindFacts.{shaped_of, are_shaped_of}
@@ -8,10 +10,11 @@ use Rattle.dbus_types.specs.Alignments.{alignment_of}
 use Rattle.dbus_types.specs.SignatureCodes.{IsTypeEnd}
 use Rattle.dbus_value_model.specs.Bytes.{gap_to}
 use Rattle.dbus_value_laws.proofs.ValueSteps.{shaped_inside}
-use Rattle.dbus_explain.specs.Places.{Leads, AreBodyTypes, Enters, IsAmong, IsIn, IsSignatureField, IsTyped, Pass, Passes, field_type, first_element}
+use Rattle.dbus_explain.specs.Places.{Leads, AreBodyTypes, Enters, IsAmong, IsIn, IsSignatureField, IsTyped, Pass, Passes, field_type, first_element, IsPath}
 use Rattle.dbus_explain.specs.declared.path.Step.{Step}
 use Rattle.dbus_explain.specs.declared.path.Step.TheVariants.{Key, Value}
 use Rattle.dbus_explain.specs.declared.search.ValuePlace.{ValuePlace}
+use Rattle.dbus_explain.specs.Names.{path_text, step_text}
 
 pub some_map : {A : Type 0} {P Q : A → Type 0} (o : Option A) → ((a : A) → P a → Q a) → IfSome o P → IfSome o Q
 some_map None f h = h
@@ -84,3 +87,19 @@ module _ (bytes : List ℕ) (at : ℕ) where
   module _ (t : TypeTree) (p : ℕ) (step : Step) (spot : ValuePlace) where
     pub leads_by : (u : TypeTree) → t ≡ u → Leads bytes at u p step spot → Leads bytes at t p step spot
     leads_by u is h = subst (λ (x : TypeTree). Leads bytes at x p step spot) (sym is) h
+
+-- A path grows by a step.
+
+pub text_more : (steps : List Step) (step : Step) → path_text steps ++ step_text step ≡ path_text (steps ++ step ∷ [])
+text_more steps step = sym (flat_map-append step_text steps (step ∷ []) ∙ ap (λ s. path_text steps ++ s) (append-nil (step_text step)))
+
+module _ (bytes : List ℕ) (at : ℕ) (t : TypeTree) (p : ℕ) where
+  -- steps that lead from a value to one in it, from which others go on
+  abbrev pub GoesOn : (steps : List Step) → TypeTree → ℕ → Type 0
+  GoesOn steps u q = (more : List Step) → IsPath bytes at u q more → IsPath bytes at t p (steps ++ more)
+
+  pub goes_on : (steps : List Step) (u : TypeTree) (q : ℕ) (step : Step) (v : TypeTree) (r : ℕ) → GoesOn steps u q → Enters bytes at u q step v r → GoesOn (steps ++ step ∷ []) v r
+  goes_on steps u q step v r h enters = λ more path. subst (λ (s : List Step). IsPath bytes at t p s) (sym (append_assoc steps (step ∷ []) more)) (h (step ∷ more) (v, r, enters, path))
+
+  pub ends_there : (steps : List Step) (u : TypeTree) (q : ℕ) → GoesOn steps u q → IsPath bytes at t p steps
+  ends_there steps u q h = subst (λ (s : List Step). IsPath bytes at t p s) (append-nil steps) (h [] tt)

@@ -12,7 +12,7 @@ use Rattle.dbus_value_model.specs.Reading.{number_of}
 use Rattle.dbus_value_model.specs.declared.order.Order.{Order}
 use Rattle.dbus_value_model.specs.Spelling.{spellings, contents_start}
 use Rattle.dbus_value_model.specs.Values.{ValueTree, VariantValue, type_of, types_of, value_trees}
-use Rattle.dbus_value_model.proofs.Gaps.{no_gap}
+use Rattle.dbus_value_model.proofs.Periods.{no_gap}
 use Rattle.dbus_walk.specs.declared.container.Container.TheVariants as kind
 use Rattle.dbus_walk.specs.Containers.{IsOf, parts, number_width}
 use Rattle.dbus_walk.specs.Standing.{Stands}

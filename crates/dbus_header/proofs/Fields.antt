@@ -1,7 +1,7 @@
 -- A field of the header: what its items pass is a field that is spelled, and its reader agrees.
-use Rattle.std.proofs.Common.{◌≡◌, ℕ, zero, suc, ◌+◌, ◌-◌, ◌<◌, ◌≤◌, List, [], ◌∷◌, ◌++◌, length, replicate, false, ltb, eqb, ◌&&◌, None, refl, sym, ap, subst, ◌∙◌, arith, inl, inr, append_assoc}
-use Rattle.std.proofs.lemmas.Bool.{le-ltb, eqb-false, ne_eqb}
-use Rattle.std.proofs.lemmas.List.{length-append, length-replicate}
+use Rattle.std.proofs.Common.{◌≡◌, ℕ, zero, suc, ◌+◌, ◌-◌, ◌<◌, ◌≤◌, List, [], ◌∷◌, ◌++◌, length, replicate, false, ltb, eqb, ◌&&◌, None, refl, sym, ap, subst, ◌∙◌, arith, inl, inr, append_assoc, reverse}
+use Rattle.std.proofs.lemmas.Bool.{le-ltb, eqb-false, ne_eqb, lt-ltb, eq-eqb}
+use Rattle.std.proofs.lemmas.List.{length-append, length-replicate, append-nil, reverse-append}
 use Rattle.dbus_texts.specs.Types.{UINT32, STRING, TypeTree, NumberType, TextType, sig, IsSingleType}
 use Rattle.dbus_texts.proofs.KindFacts.{shaped_of}
 use Rattle.dbus_value_model.specs.WantedTexts.{WantedText, IsWanted}
@@ -9,7 +9,6 @@ use Rattle.dbus_texts.specs.ComputedKinds.{type_spelled}
 use Rattle.dbus_value_model.specs.declared.limits.Bounds.{Bounds}
 use Rattle.dbus_value_model.specs.declared.limits.Limits.{Limits}
 use Rattle.dbus_value_model.specs.Bounds.{bounds_of}
-use Rattle.dbus_header.specs.HeaderReading.{wanted_signature, wanted_value, field_read}
 use Rattle.dbus_value_model.specs.declared.order.Order.{Order}
 use Rattle.dbus_value_model.specs.Bytes.{num, gap_to, pad}
 use Rattle.dbus_value_model.specs.Spelling.{ended_text, spelling, Spelled}
@@ -20,19 +19,20 @@ use Rattle.dbus_value_model.specs.Items as items
 use Rattle.dbus_value_model.specs.ValueItems.{text_row, value}
 use Rattle.dbus_value_model.specs.Reading as reading
 use Rattle.dbus_message_model.specs.Messages.{FieldTree, Want, Anything, OfType, Name, Serial, want, Suits, field_type, field_struct, is_known, has_code}
-use Rattle.dbus_header.specs.MessageItems.{name_row, not_zero_row, code_row, kind_wanted, opening, value_wanted, signature_wanted, signed_value, field_items, field}
-use Rattle.dbus_header.specs.HeaderReading as reads
-use Rattle.dbus_message_model.proofs.Wants.{WantOk, want_ok}
+use Rattle.dbus_message_model.proofs.KnownValues.{WantOk, want_ok, name_is_text}
 use Rattle.dbus_value_model.proofs.Numbers.{length-num}
 use Rattle.dbus_value_laws.proofs.KindLaws.{spelled_sig, only_is, only_same, text_single}
-use Rattle.dbus_message_model.proofs.NameTexts.{name_is_text}
 use Rattle.dbus_value_laws.proofs.Agreement.{Agrees, Agrees-then, Agrees-before, Agrees-as}
 use Rattle.dbus_value_laws.proofs.OwnItems.{chosen, IsOfSingles, Agrees-pure, Agrees-refuse, Agrees-padding, Agrees-number, Agrees-text, Agrees-nul, Agrees-signature}
 use Rattle.dbus_value_laws.proofs.ReadSteps.{text_fits}
 use Rattle.dbus_value_laws.proofs.Composition.{number_to, number_from, text_to, text_from}
 use Rattle.dbus_value_laws.proofs.ValueItemLaws.{Agrees-value, value_inside, positive}
 use Rattle.dbus_value_model.specs.declared.fault.Reason.TheVariants as reasons
-use Rattle.dbus_value_model.proofs.Gaps.{no_gap}
+use Rattle.dbus_value_model.proofs.Periods.{no_gap}
+use Rattle.dbus_value_model.specs.Reading.{Reader, Outcome, Done, Faulty, Partial, after, pure, up_to, contents}
+use Rattle.dbus_header.specs.HeaderReading.{wanted_signature, wanted_value, field_read}
+use Rattle.dbus_header.specs.MessageItems.{name_row, not_zero_row, code_row, kind_wanted, opening, value_wanted, signature_wanted, signed_value, field_items, field}
+use Rattle.dbus_header.specs.HeaderReading as reads
 
 -- ---- what is wanted of a code
 
@@ -343,3 +343,38 @@ module _ (limits : Limits) (order : Order) (depth_left end : ℕ) (opened : limi
   Agrees-field =
       Agrees-as (field_items (bounds_of limits) order depth_left end before) (field (bounds_of limits) order depth_left end before).Passed (field_read limits order end before) agrees_field_items
       (λ o s f q r. (field_to (bounds_of limits) order depth_left end before o s f q r, field_from (bounds_of limits) order depth_left end before o s f q r))
+
+-- The loop over a header's fields, each of which sees those before it, the last first.
+
+abbrev pub with_front : {A : Type 0} → List A → Outcome (List A) → Outcome (List A)
+with_front front read = after read (λ us. pure (front ++ us))
+
+module _ {A : Type 0} (part : List A → Reader A) (end : ℕ) where
+  front_more : (front : List A) (v : A) (r : Outcome (List A)) → with_front front (after r (λ vs. pure (v ∷ vs))) ≡ with_front (front ++ v ∷ []) r
+  front_more front v (Done vs p t) = ap (λ (u : List A). Done u p t) (sym (append_assoc front (v ∷ []) vs))
+  front_more front v (Faulty f) = refl
+  front_more front v Partial = refl
+
+  -- a part is read: what is left is read after it
+  pub goes_on : (front : List A) (turns rest : ℕ) (o : ℕ) (s : List ℕ) (v : A) (q : ℕ) (r : List ℕ) → turns ≡ suc rest → o < end → part (reverse front) o s ≡ Done v q r
+      → with_front front (up_to turns end part (reverse front) o s) ≡ with_front (front ++ v ∷ []) (up_to rest end part (reverse (front ++ v ∷ [])) q r)
+  goes_on front turns rest o s v q r more on e =
+      let go : up_to (suc rest) end part (reverse front) o s ≡ after (up_to rest end part (v ∷ reverse front) q r) (λ vs. pure (v ∷ vs)) = rw (lt-ltb _ _ on, e) refl in
+      ap (λ (k : ℕ). with_front front (up_to k end part (reverse front) o s)) more ∙ ap (with_front front) go ∙ front_more front v (up_to rest end part (v ∷ reverse front) q r)
+      ∙ ap (λ (before : List A). with_front (front ++ v ∷ []) (up_to rest end part before q r)) (sym (reverse-append front (v ∷ [])))
+
+  pub is_done : (front : List A) (turns : ℕ) (o : ℕ) (s : List ℕ) → o ≡ end → with_front front (up_to turns end part (reverse front) o s) ≡ Done front o s
+  is_done front zero o s e = rw (eq-eqb o end e) (ap (λ (u : List A). Done u o s) (append-nil front))
+  is_done front (suc turns) o s e =
+      let no_more : ltb o end ≡ false = le-ltb _ _ (omega arith) in
+      rw (no_more, eq-eqb o end e) (ap (λ (u : List A). Done u o s) (append-nil front))
+
+-- ---- codes
+
+with_nothing : {A : Type 0} (r : Outcome (List A)) → with_front [] r ≡ r
+with_nothing (Done vs p t) = refl
+with_nothing (Faulty f) = refl
+with_nothing Partial = refl
+
+pub starts : {A : Type 0} (part : ℕ → List A → Reader A) (n o : ℕ) (s : List ℕ) → with_front [] (up_to (n - 0) (o + n) (part (o + n)) [] o s) ≡ contents n part o s
+starts part n o s = with_nothing _ ∙ ap (λ (k : ℕ). up_to k (o + n) (part (o + n)) [] o s) (omega arith)

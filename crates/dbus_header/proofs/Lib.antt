@@ -2,9 +2,7 @@ pub mod Fields
 pub mod MessageParts
 pub mod Whole
 pub mod OutcomeLaws
-pub mod FixedItems
 pub mod FieldSteps
-pub mod FieldLoop
 pub mod BodyLoop
 pub mod Decoded
 pub mod WorkedExamples

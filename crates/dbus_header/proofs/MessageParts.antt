@@ -26,8 +26,7 @@ use Rattle.dbus_header.specs.HeaderReading.{fixed_header, field_read, fields_rea
 use Rattle.dbus_header.specs.HeaderReading as reads
 use Rattle.dbus_value_laws.proofs.KindLaws.{signature_text, spelled_sigs}
 use Rattle.dbus_value_laws.proofs.Agreement.{Agrees, Says, Agrees-then, Agrees-before}
-use Rattle.dbus_value_laws.proofs.OwnItems.{chosen, Agrees-pure, Agrees-padding, Agrees-number, Agrees-validate, Agrees-bounded, Agrees-ends}
-use Rattle.dbus_value_laws.proofs.Contents.{Agrees-contents}
+use Rattle.dbus_value_laws.proofs.OwnItems.{chosen, Agrees-pure, Agrees-padding, Agrees-number, Agrees-validate, Agrees-bounded, Agrees-ends, Agrees-contents}
 use Rattle.dbus_value_laws.proofs.ValueItemLaws.{Agrees-value, value_inside, agrees_fields}
 use Rattle.dbus_header.proofs.Fields.{Agrees-opening, Agrees-field, field_moves, open_to, two_rooms}
 use Rattle.dbus_value_model.specs.declared.fault.Reason.TheVariants as reasons

@@ -14,7 +14,7 @@ use Rattle.dbus_header.specs.OutcomeLaws.{OneMessage, OneLength, SomeOutcome, On
 use Rattle.dbus_message_model.proofs.BothOrders.{valid_from, any_message_length}
 use Rattle.dbus_message_model.proofs.Widening.{wider_message}
 use Rattle.dbus_value_laws.proofs.Agreement.{Says, read_passes, read_refuses}
-use Rattle.dbus_value_laws.proofs.ValueOutcomes.{agreed_fault, agreed_either, agreed_value}
+use Rattle.dbus_value_laws.proofs.ValueItemLaws.{agreed_fault, agreed_either, agreed_value}
 use Rattle.dbus_header.proofs.MessageParts.{Agrees-message_items}
 use Rattle.dbus_header.proofs.Whole.{message_passed}
 

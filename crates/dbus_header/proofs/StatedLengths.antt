@@ -12,7 +12,7 @@ use Rattle.dbus_value_model.specs.Items.{fault, no_row}
 use Rattle.dbus_value_model.specs.declared.order.Order.TheVariants.{Little, Big}
 use Rattle.dbus_value_model.specs.Reading.{Reader, Outcome, Done, Faulty, Partial, after, validated, pure, number, number_of, ◌>>=◌}
 use Rattle.dbus_value_laws.proofs.Agreement.{read_passes}
-use Rattle.dbus_value_laws.proofs.ValueOutcomes.{agreed_value}
+use Rattle.dbus_value_laws.proofs.ValueItemLaws.{agreed_value}
 use Rattle.dbus_header.specs.MessageItems.{not_zero_row, version_row, fields_row, fixed_items}
 use Rattle.dbus_header.specs.HeaderReading.{byte_order, opening, fixed_header, message_read}
 use Rattle.dbus_header.specs.MessageOutcomes.{IsWhole, IsRefused, IsPartial}

@@ -33,7 +33,7 @@ pub struct FixedHeader {
 }
 
 /// The byte order, at 0: `ByteOrder` if the byte is neither `l` nor `B`.
-#[tactic(auto, using(crate::proofs::FixedItems::orders))]
+#[tactic(auto, using(crate::proofs::Whole::orders))]
 fn read_order(bytes: &[u8]) -> Result<Order, Stop>
     ensures gives { Gives (λ order. (order, 1)) bytes.now result (byte_order 0 bytes.now) }
     ensures there { IfOk result (λ _. 1 ≤ length bytes.now) }

@@ -1,11 +1,12 @@
 -- The JSON of a message has no line feed but its last byte.
-use Rattle.std.proofs.Common.{◌≡◌, ◌≢◌, ℕ, ◌<◌, ◌&&◌, ◌⊎◌, inl, inr, Bool, true, false, List, [], ◌∷◌, ◌++◌, length, nat_lt, codes, decimal, from_bits, refl, sym, subst, arith}
+use Rattle.std.proofs.Common.{◌≡◌, ◌≢◌, ℕ, ◌<◌, ◌&&◌, ◌⊎◌, inl, inr, Bool, true, false, List, [], ◌∷◌, ◌++◌, length, nat_lt, codes, decimal, from_bits, refl, sym, subst, arith, ap, ◌∙◌, append-nil, append_assoc}
 use Rattle.std.specs.Char.{digit_value}
 use Rattle.std.specs.Float.{binary64, float_is_finite}
 use Rattle.std.specs.Float.Numeral.{exponent_text, text_of}
 use Rattle.std.specs.Fmt.{sign_text}
 use Rattle.std.specs.List.{flat_map}
 use Rattle.std.specs.Str.Parse.{AllDigits}
+use Rattle.std.proofs.lemmas.List.Concat.{flat_map-append}
 use Rattle.hex.specs.Hex.{encode_lower}
 use Rattle.ryu.specs.Plain.{IsPlainNumber}
 use Rattle.dbus_texts.specs.Types.{NumberCode, DOUBLE, sig}
@@ -13,13 +14,16 @@ use Rattle.dbus_texts.specs.PlainTypes.{is_byte}
 use Rattle.dbus_value_model.specs.declared.order.Order.TheVariants.{Big}
 use Rattle.dbus_value_model.specs.Bytes.{num}
 use Rattle.dbus_value_model.specs.Values.{ValueTree, ValueTrees, NumberValue, TextValue, VariantValue, ArrayValue, StructValue, EntryValue, NoValues, MoreValues, type_of}
-use Rattle.dbus_message_model.specs.Messages.{FieldTree, order_byte, message_bytes, is_known}
+use Rattle.dbus_message_model.specs.Messages.{FieldTree, order_byte, message_bytes, is_known, MessageTree}
 use Rattle.dbus_show.specs.ShownMessages.{line_feeds, field_name, kind_text}
 use Rattle.dbus_show.specs.ShownValues.{bytes_in}
 use Rattle.dbus_show.proofs.LineFeeds.{IsOneLine, AreLines, line_literal, line_append, line_cons, line_either, line_decimal, line_hex, line_number, line_quoted, line_sig, between}
 use Rattle.dbus_show.proofs.FieldTexts.{name_line, kind_line, order_line}
+use Rattle.dbus_value_model.specs.declared.order.Order.{Order}
+use Rattle.dbus_validate.specs.declared.validating.Validated.{Validated}
+use Rattle.dbus_value_text.specs.Forms.{led}
 use Rattle.dbus_json.specs.JsonValues.{plain, string, listed, array, member, object, IsDouble, IsNumber, IsJson, AreJson}
-use Rattle.dbus_json.specs.JsonMessages.{type_text, IsField, AreFields, fields_of, first_members, IsOneLineEach}
+use Rattle.dbus_json.specs.JsonMessages.{type_text, IsField, AreFields, fields_of, first_members, IsOneLineEach, start_text}
 
 -- ---- the parts of JSON
 
@@ -159,3 +163,57 @@ one_line_each order m number offset text is =
     let last : AreLines back = (others, (body, tt)) in
     let line = object_line (front ++ (is.known ++ back)) (lines_append front (is.known ++ back) first (lines_append is.known back known last)) in
     (object (front ++ (is.known ++ back)), is.is, line.none)
+
+-- A line by its parts, as they are written.
+
+abbrev more : List (List ℕ) → List ℕ
+more texts = flat_map (λ (y : List ℕ). codes "," ++ y) texts
+
+listed_led : (texts : List (List ℕ)) → listed texts ≡ led [] (codes ",") texts
+listed_led [] = refl
+listed_led (t ∷ texts) = refl
+
+led_more : (texts : List (List ℕ)) → led (codes ",") (codes ",") texts ≡ more texts
+led_more [] = refl
+led_more (t ∷ texts) = refl
+
+parts_joined : (first known others values : List ℕ)
+    → (codes "{" ++ first) ++ (known ++ (codes ",\"fields\":[" ++ (others ++ (codes "],\"body\":[" ++ (values ++ codes "]}\n")))))
+    ≡ (codes "{" ++ ((first ++ (known ++ (codes ",\"fields\":[" ++ ((others ++ codes "]") ++ (codes ",\"body\":[" ++ (values ++ codes "]")))))) ++ codes "}")) ++ codes "\n"
+parts_joined first known others values = simp append_assoc
+
+pub line_is : (t : List ℕ) (ts known others values : List (List ℕ))
+    → (codes "{" ++ listed (t ∷ ts)) ++ (led (codes ",") (codes ",") known ++ (codes ",\"fields\":[" ++ (led [] (codes ",") others ++ (codes "],\"body\":[" ++ (led [] (codes ",") values ++ codes "]}\n")))))
+    ≡ object ((t ∷ ts) ++ (known ++ (member (codes "fields") (array others) ∷ member (codes "body") (array values) ∷ []))) ++ codes "\n"
+line_is t ts known others values =
+    let y = λ (x : List ℕ). codes "," ++ x in
+    let two = member (codes "fields") (array others) ∷ member (codes "body") (array values) ∷ [] in
+    let last : more two ≡ codes ",\"fields\":[" ++ ((listed others ++ codes "]") ++ (codes ",\"body\":[" ++ (listed values ++ codes "]"))) = simp append-nil in
+    let all : listed ((t ∷ ts) ++ (known ++ two)) ≡ listed (t ∷ ts) ++ (more known ++ (codes ",\"fields\":[" ++ ((listed others ++ codes "]") ++ (codes ",\"body\":[" ++ (listed values ++ codes "]"))))) =
+    ap (λ (s : List ℕ). t ++ s) (flat_map-append y ts (known ++ two) ∙ ap (λ (s : List ℕ). more ts ++ s) (flat_map-append y known two ∙ ap (λ (s : List ℕ). more known ++ s) last))
+    ∙ sym (append_assoc t (more ts) (more known ++ (codes ",\"fields\":[" ++ ((listed others ++ codes "]") ++ (codes ",\"body\":[" ++ (listed values ++ codes "]")))))) in
+    ap (λ (s : List ℕ). (codes "{" ++ listed (t ∷ ts)) ++ (s ++ (codes ",\"fields\":[" ++ (led [] (codes ",") others ++ (codes "],\"body\":[" ++ (led [] (codes ",") values ++ codes "]}\n")))))) (led_more known)
+    ∙ ap (λ (s : List ℕ). (codes "{" ++ listed (t ∷ ts)) ++ (more known ++ (codes ",\"fields\":[" ++ (s ++ (codes "],\"body\":[" ++ (led [] (codes ",") values ++ codes "]}\n")))))) (sym (listed_led others))
+    ∙ ap (λ (s : List ℕ). (codes "{" ++ listed (t ∷ ts)) ++ (more known ++ (codes ",\"fields\":[" ++ (listed others ++ (codes "],\"body\":[" ++ (s ++ codes "]}\n")))))) (sym (listed_led values))
+    ∙ parts_joined (listed (t ∷ ts)) (more known) (listed others) (listed values)
+    ∙ ap (λ (s : List ℕ). (codes "{" ++ (s ++ codes "}")) ++ codes "\n") (sym all)
+
+-- those of the first members that stand after the number
+abbrev pub later_members : Order → (size kind flags serial offset : ℕ) → List (List ℕ)
+later_members order size kind flags serial offset =
+    member (codes "offset") (decimal offset)
+    ∷ member (codes "length") (decimal size)
+    ∷ member (codes "order") (plain (order_byte order ∷ []))
+    ∷ member (codes "type") (type_text kind)
+    ∷ member (codes "flags") (decimal flags)
+    ∷ member (codes "serial") (decimal serial)
+    ∷ []
+
+pub start_is : (j : Validated) (m : MessageTree) (number offset : ℕ) → j.length ≡ length (message_bytes j.order m) → (m.kind ≡ j.kind) × (m.flags ≡ j.flags) × (m.serial ≡ j.serial)
+    → start_text j number offset ≡ codes "{" ++ listed (first_members j.order (length (message_bytes j.order m)) m.kind m.flags m.serial number offset)
+start_is j m number offset size same =
+    let text = λ (n kind flags serial : ℕ). codes "{" ++ listed (first_members j.order n kind flags serial number offset) in
+    ap (λ (n : ℕ). text n j.kind j.flags j.serial) size
+    ∙ ap (λ (k : ℕ). text (length (message_bytes j.order m)) k j.flags j.serial) (sym same.0)
+    ∙ ap (λ (k : ℕ). text (length (message_bytes j.order m)) m.kind k j.serial) (sym same.1)
+    ∙ ap (λ (k : ℕ). text (length (message_bytes j.order m)) m.kind m.flags k) (sym same.2)

@@ -1,10 +1,6 @@
-pub mod Joining
+pub mod Spells
 pub mod Sizing
-pub mod Signing
 pub mod Written
 pub mod Patching
-pub mod Spells
 pub mod SizeLaws
-pub mod Lengths
-pub mod Capping
 pub mod MeasureSteps

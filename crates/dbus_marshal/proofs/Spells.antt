@@ -1,7 +1,11 @@
 -- What is written of a value, level by level and along a list.
-use Rattle.std.proofs.Common.{◌≡◌, ℕ, ◌+◌, ◌<◌, ◌≤◌, List, [], ◌∷◌, ◌++◌, suc, replicate, length, get_or, drop, String, refl, sym, ap, ◌∙◌, arith, append_assoc}
+use Rattle.std.proofs.Common.{◌≡◌, ℕ, ◌+◌, ◌<◌, List, ◌∷◌, length, get_or, drop, sym, subst, ◌≤◌, [], ◌++◌, suc, replicate, String, refl, ap, ◌∙◌, arith, append_assoc}
+use Rattle.std.proofs.lemmas.List.{drop_more, at_drop_more, at_drop_all, length-append}
 use Rattle.std.specs.Prelude.{string_bytes}
-use Rattle.std.proofs.lemmas.List.{at_drop_more, at_drop_all, length-append}
+use Rattle.dbus_value_model.specs.Sizes.{HasShortSignatures, HaveShortSignatures}
+use Rattle.dbus_value_model.specs.ValueViews.{value_tree, value_trees_of, byte_values}
+use Rattle.dbus_value_model.specs.declared.value.Value.{Value, Path}
+use Rattle.dbus_value_model.proofs.ValueRows.{tree-Byte, tree-Bool, tree-I16, tree-U16, tree-I32, tree-U32, tree-I64, tree-U64, tree-Double, tree-Str, tree-Path, tree-Sig, tree-Fd, tree-Bytes, tree-Array, tree-Struct, tree-Entry, tree-Variant}
 use Rattle.dbus_texts.specs.Types.{NumberType, NumberCode, BYTE, STRING, sig}
 use Rattle.dbus_types.specs.Alignments.{width}
 use Rattle.dbus_value_model.specs.declared.order.Order.{Order}
@@ -9,14 +13,19 @@ use Rattle.dbus_value_model.specs.Values.{ValueTree, NumberValue, TextValue, Arr
 use Rattle.dbus_value_model.specs.Bytes.{pad, gap_to, num}
 use Rattle.dbus_value_model.specs.Spelling.{spelling, spellings}
 use Rattle.dbus_value_model.specs.SizeLimits.{with_padding, with_value, with_values}
-use Rattle.dbus_value_model.specs.ValueViews.{value_tree, value_trees_of, byte_values}
-use Rattle.dbus_value_model.specs.declared.value.Value.{Value, Path}
-use Rattle.dbus_value_model.proofs.ValueRows.{tree-Path}
-use Rattle.dbus_value_model.proofs.Numbers.{length-num}
-use Rattle.dbus_value_model.proofs.Gaps.{no_gap}
-use Rattle.dbus_value_model.proofs.OneByte.{num_1, byte_spelled}
-use Rattle.dbus_marshal.proofs.Signing.{trees}
+use Rattle.dbus_value_model.proofs.Numbers.{length-num, num_1, byte_spelled}
+use Rattle.dbus_value_model.proofs.Periods.{no_gap}
 use Rattle.dbus_marshal.proofs.Written.{length_value, length_number, written_number, written_path, written_none, written_more}
+
+-- Trees of values, level by level, and short signatures along a list.
+
+pub short_more : {A : Type 0} (vs : List (Value A)) (i : ℕ) (v : Value A) → i < length vs → v ≡ get_or vs i v → HaveShortSignatures (value_trees_of (drop i vs)) →
+    HasShortSignatures (value_tree v) × HaveShortSignatures (value_trees_of (drop (i + 1) vs))
+short_more {A} vs i v lt e h =
+    let here : HaveShortSignatures (value_trees_of (get_or vs i v ∷ drop (i + 1) vs)) = subst (λ (l : List (Value A)). HaveShortSignatures (value_trees_of l)) (drop_more vs i v lt) h in
+    (subst (λ (x : Value A). HasShortSignatures (value_tree x)) (sym e) here.0, here.1)
+
+pub ruleset trees = (tree-Byte, tree-Bool, tree-I16, tree-U16, tree-I32, tree-U32, tree-I64, tree-U64, tree-Double, tree-Fd, tree-Str, tree-Path, tree-Sig, tree-Bytes, tree-Array, tree-Struct, tree-Entry, tree-Variant)
 
 pub writes-Path : {A : Type 0} (order : Order) (s : String A) (front : List ℕ) → with_value order (value_tree {A = A} (Path s)) front ≡ with_value order (TextValue STRING (string_bytes s)) front
 writes-Path order s front = ap (λ (v : ValueTree). with_value order v front) (tree-Path s) ∙ written_path order (string_bytes s) front
@@ -78,3 +87,19 @@ variant_fits order x front cap h =
     omega arith
 
 pub ruleset spells = (trees, writes-Path)
+
+-- Lists that are joined step by step.
+
+pub join_assoc : (old s t mid new : List ℕ) → mid ≡ old ++ s → new ≡ mid ++ t → new ≡ old ++ (s ++ t)
+join_assoc old s t mid new e d = d ∙ ap (λ (l : List ℕ). l ++ t) e ∙ append_assoc old s t
+
+pub join_around : (old s n1 n2 n3 : List ℕ) (a b : ℕ) → n1 ≡ old ++ a ∷ [] → n2 ≡ n1 ++ s → n3 ≡ n2 ++ b ∷ [] → n3 ≡ old ++ (a ∷ (s ++ b ∷ []))
+join_around old s n1 n2 n3 a b e d f =
+    join_assoc old (a ∷ s) (b ∷ []) n2 n3 (join_assoc old (a ∷ []) s n1 n2 e d) f
+
+pub join_two : (old s t n1 n2 n3 n4 : List ℕ) (a b : ℕ) → n1 ≡ old ++ a ∷ [] → n2 ≡ n1 ++ s → n3 ≡ n2 ++ t → n4 ≡ n3 ++ b ∷ [] → n4 ≡ old ++ (a ∷ (s ++ (t ++ b ∷ [])))
+join_two old s t n1 n2 n3 n4 a b e d h f = join_around old (s ++ t) n1 n3 n4 a b e (join_assoc n1 s t n2 n3 d h) f ∙ ap (λ (l : List ℕ). old ++ (a ∷ l)) (append_assoc s t (b ∷ []))
+
+pub step_joined : (now s rest part target next : List ℕ) → now ++ rest ≡ target → rest ≡ s ++ part → next ≡ now ++ s → next ++ part ≡ target
+step_joined now s rest part target next so_far more written =
+    ap (λ (l : List ℕ). l ++ part) written ∙ append_assoc now s part ∙ ap (λ (l : List ℕ). now ++ l) (sym more) ∙ so_far

@@ -10,10 +10,8 @@ use Rattle.dbus_value_model.specs.Values.{ValueTree, ValueTrees, NumberValue, Te
 use Rattle.dbus_value_model.specs.Bytes.{gap_to, pad, num, low_first}
 use Rattle.dbus_value_model.specs.Spelling.{ended_text, spelling, spellings}
 use Rattle.dbus_value_model.specs.SizeLimits.{with_padding, with_value, with_values}
-use Rattle.dbus_value_model.proofs.NumberBytes.{num_64_little, num_64_big}
-use Rattle.dbus_value_model.proofs.Numbers.{length-num}
-use Rattle.dbus_value_model.proofs.Gaps.{no_gap}
-use Rattle.dbus_value_model.proofs.OneByte.{num_1}
+use Rattle.dbus_value_model.proofs.Numbers.{num_64_little, num_64_big, length-num, num_1}
+use Rattle.dbus_value_model.proofs.Periods.{no_gap}
 
 -- ---- lengths
 

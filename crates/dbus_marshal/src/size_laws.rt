@@ -18,7 +18,7 @@ pub fn size_stops()
 {}
 
 /// Each signature in a well-formed value has at most 255 bytes.
-#[tactic(auto, using(dbus_value_model::proofs::ShortLaws::formed_short))]
+#[tactic(auto, using(dbus_value_model::proofs::Formed::formed_short))]
 pub fn formed_is_short()
     ensures { FormedIsShort }
 {}

@@ -152,7 +152,7 @@ pub fn write_signature(out: &mut [u8], at: usize, text: &[u8]) -> usize
 
 /// Writes a number over the four bytes at `at`, and leaves the others as they are.
 #[inline]
-#[tactic(auto, using(dbus_value_model::proofs::NumberBytes::numbers))]
+#[tactic(auto, using(dbus_value_model::proofs::Numbers::numbers))]
 pub fn overwrite_32(out: &mut [u8], at: usize, order: Order, n: u32)
     requires there { at + 4 ≤ length out.old }
     ensures written { out.new ≡ take at out.old ++ (num order 4 n ++ drop (at + 4) out.old) }

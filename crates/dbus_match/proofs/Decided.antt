@@ -1,13 +1,17 @@
 -- Of every rule and every message it is decided whether the rule matches.
-use Rattle.std.proofs.Common.{◌≡◌, ℕ, ◌⊎◌, inl, inr, List, [], ◌∷◌, ◌++◌, Option, None, Some, refl}
+use Rattle.std.proofs.Common.{◌≡◌, ℕ, ◌⊎◌, inl, inr, List, [], ◌∷◌, ◌++◌, Option, None, Some, refl, zero, suc, ◌+◌, ◌<◌, length, get_or, drop, sym, ap, ◌∙◌, subst, string_bytes, arith, append_assoc, length-append}
 use Rattle.std.proofs.lemmas.Bool.{cases_eq}
+use Rattle.std.specs.List.{AllByRecursion}
+use Rattle.std.proofs.lemmas.List.{drop_more}
 use Rattle.dbus_message_model.specs.Messages.{MessageTree}
 use Rattle.dbus_message_model.specs.KnownFields.{field_value, body_value}
 use Rattle.dbus_rule.specs.declared.key.Key.{Key}
 use Rattle.dbus_rule.specs.declared.key.Key.TheVariants.{MessageType, Sender, Interface, Member, Path, PathNamespace, Destination, Arg, ArgPath, Arg0Namespace, Eavesdrop}
-use Rattle.dbus_rule.specs.Rules.{Pair}
-use Rattle.dbus_match.specs.Matching.{Ownership, BeginsWith, EndsInSlash, PathsMeet, IsWithin, IsInNamespace, IsThere, HasField, IsOwned, HoldsAt, Matches, string_of, string_or_path_of, text_of, type_name}
-use Rattle.dbus_rule.proofs.Choices.{Either, both, one_of, same}
+use Rattle.dbus_rule.specs.Rules.{Pair, condition_pair, condition_pairs}
+use Rattle.dbus_rule.proofs.PairChoices.{Either, both, one_of, same}
+use Rattle.dbus_rule.specs.declared.condition.Condition.{Condition}
+use Rattle.dbus_match.specs.Matching.{Ownership, BeginsWith, EndsInSlash, PathsMeet, IsWithin, IsInNamespace, IsThere, HasField, IsOwned, HoldsAt, Matches, string_of, string_or_path_of, text_of, type_name, ownerships}
+use Rattle.dbus_match.specs.declared.owner.Owner.{Owner}
 
 -- ---- one text begins another, or ends in a slash
 
@@ -92,3 +96,47 @@ holds Eavesdrop v m os = inl tt
 pub decided : (ps : List Pair) (m : MessageTree) (os : List Ownership) → Either (Matches ps m os)
 decided [] m os = inl tt
 decided (p ∷ ps) m os = both (holds p.key p.value m os) (decided ps m os)
+
+-- Owners and conditions, one by one.
+
+pub owned_at : {A : Type 0} (os : List (Owner A)) (i : ℕ) (o : Owner A) (v w : List ℕ) → i < length os → o ≡ get_or os i o → (string_bytes o.name ≡ v) × (string_bytes o.unique ≡ w) → IsOwned (ownerships os) v w
+owned_at [] i o v w l e h = absurd (omega (arith, l))
+owned_at (p ∷ os) zero o v w l e h = inl (ap (λ x. string_bytes x.name) (sym e) ∙ h.0, ap (λ x. string_bytes x.unique) (sym e) ∙ h.1)
+owned_at (p ∷ os) (suc i) o v w l e h = inr (owned_at os i o v w (omega (arith, l)) e h)
+
+pub holds_at : {A : Type 0} (P : Pair → Type 0) (cs : List (Condition A)) (i : ℕ) (c : Condition A) → i < length cs → c ≡ get_or cs i c → AllByRecursion P (condition_pairs cs) → P (condition_pair c)
+holds_at P [] i c l e h = absurd (omega (arith, l))
+holds_at P (d ∷ cs) zero c l e h = subst (λ x. P (condition_pair x)) (sym e) h.0
+holds_at P (d ∷ cs) (suc i) c l e h = holds_at P cs i c (omega (arith, l)) e h.1
+
+pub one_holds : {A : Type 0} (P : Pair → Type 0) (cs : List (Condition A)) (i : ℕ) (c : Condition A) → i < length cs → c ≡ get_or cs i c → P (condition_pair c) → AllByRecursion P (condition_pairs (drop (i + 1) cs)) → AllByRecursion P (condition_pairs (drop i cs))
+one_holds P cs i c l e h k =
+    let d = drop_more cs i c l in
+    subst (λ z. AllByRecursion P (condition_pairs z)) (sym d) (subst (λ x. P (condition_pair x)) e h, k)
+
+-- A text that begins with a value and a separator.
+
+-- BeginsWith w (v ++ s ∷ []) by the byte after v
+pub within_from : (s : ℕ) (v w : List ℕ) → BeginsWith w v → length v < length w → get_or w (length v) 0 ≡ s → BeginsWith w (v ++ s ∷ [])
+within_from s [] [] h l e = absurd (omega (arith, l))
+within_from s [] (b ∷ w) h l e = (w, ap (λ x. x ∷ w) e)
+within_from s (a ∷ v) [] h l e = absurd (omega (arith, l))
+within_from s (a ∷ v) (b ∷ w) h l e =
+    let q : b ≡ a = let x = h.1 in cc in
+    let t : w ≡ v ++ h.0 = let x = h.1 in cc in
+    let r = within_from s v w (h.0, t) (omega (arith, l)) (tail_read a v b w s e) in
+    (r.0, ap (λ x. x ∷ w) q ∙ ap (λ x. a ∷ x) r.1)
+  where
+    tail_read : (a : ℕ) (v : List ℕ) (b : ℕ) (w : List ℕ) (s : ℕ) → get_or (b ∷ w) (length (a ∷ v)) 0 ≡ s → get_or w (length v) 0 ≡ s
+    tail_read a v b w s e = e
+
+pub within_reads : (s : ℕ) (v w : List ℕ) → BeginsWith w (v ++ s ∷ []) → BeginsWith w v × (length v < length w) × (get_or w (length v) 0 ≡ s)
+within_reads s v w h =
+    let e : w ≡ v ++ s ∷ h.0 = h.1 ∙ append_assoc v (s ∷ []) h.0 in
+    let l = ap length e in
+    let k = length-append v (s ∷ h.0) in
+    ((s ∷ h.0, e), omega (arith, l, k), ap (λ x. get_or x (length v) 0) e ∙ at_mid v s h.0)
+  where
+    at_mid : (v : List ℕ) (s : ℕ) (r : List ℕ) → get_or (v ++ s ∷ r) (length v) 0 ≡ s
+    at_mid [] s r = refl
+    at_mid (a ∷ v) s r = at_mid v s r

@@ -1,7 +1,3 @@
 pub mod Decided
-pub mod SameOwners
-pub mod Separators
-pub mod MatchingLists
-pub mod Spans
-pub mod Alike
 pub mod Noted
+pub mod Alike

@@ -1,15 +1,40 @@
 -- A message that is valid and within the limits in one byte order is so in the other.
-use Rattle.std.proofs.Common.{◌≡◌, ℕ, ◌+◌, ◌≤◌, List, length, refl, sym, ap, subst, ◌∙◌, arith}
+use Rattle.std.proofs.Common.{◌≡◌, ℕ, ◌+◌, List, ◌++◌, length, map, refl, arith, ◌≤◌, sym, ap, subst, ◌∙◌, suc}
 use Rattle.std.proofs.lemmas.List.{length-append, length-replicate}
-use Rattle.dbus_texts.specs.Types.{sig}
-use Rattle.dbus_value_model.specs.declared.limits.Limits.{Limits}
+use Rattle.std.specs.Coded.{×_prop, Unit-prop, le_prop}
 use Rattle.dbus_value_model.specs.declared.order.Order.{Order}
-use Rattle.dbus_value_model.specs.Bytes.{gap_to}
+use Rattle.dbus_value_model.specs.Bytes.{num, gap_to}
 use Rattle.dbus_value_model.specs.Spelling.{spelling, spellings, contents_start, ended_text, IsWithinLimits, AreWithinLimits}
-use Rattle.dbus_value_model.specs.Values.{ValueTree, ValueTrees, NoValues, MoreValues, NumberValue, TextValue, VariantValue, ArrayValue, StructValue, EntryValue, type_of, IsWellFormed, AreWellFormed}
-use Rattle.dbus_message_model.specs.Messages.{FieldTree, MessageTree, message_bytes, field_array, fields_end, body_start, body_bytes, IsMessage, KeepsIndexes, IsValidMessage}
+use Rattle.dbus_value_model.specs.Values.{value_trees, ValueTree, ValueTrees, NoValues, MoreValues, NumberValue, TextValue, VariantValue, ArrayValue, StructValue, EntryValue, type_of, IsWellFormed, AreWellFormed}
 use Rattle.dbus_value_model.proofs.Numbers.{length-num}
-use Rattle.dbus_message_model.proofs.MessageLengths.{message_length}
+use Rattle.dbus_texts.specs.Types.{sig, STRING, OBJECT_PATH, SIGNATURE}
+use Rattle.dbus_value_model.specs.declared.limits.Limits.{Limits}
+use Rattle.dbus_value_model.specs.Sizes.{HasShortSignatures, HaveShortSignatures}
+use Rattle.dbus_value_model.proofs.Formed.{all_short}
+use Rattle.dbus_message_model.specs.Messages.{FieldTree, MessageTree, field_struct, field_array, fields_end, body_start, body_bytes, message_bytes, IsMessage, KeepsIndexes, IsValidMessage}
+
+-- Where the fields of a message end, and how many bytes it has.
+
+-- the bytes of the fields, which begin at 16
+abbrev pub field_bytes : Order → List FieldTree → List ℕ
+field_bytes order fs = spellings order 16 (value_trees (map field_struct fs))
+
+pub field_array_bytes : (order : Order) (fs : List FieldTree) → spelling order 12 (field_array fs) ≡ num order 4 (length (field_bytes order fs)) ++ field_bytes order fs
+unfolding spelling gap_to
+field_array_bytes order fs = refl
+
+pub fields_end_is : (order : Order) (fs : List FieldTree) → fields_end order fs ≡ 16 + length (field_bytes order fs)
+fields_end_is order fs = rw (field_array_bytes order fs) (simp (length-append, length-num) (omega arith))
+
+module _ (order : Order) (m : MessageTree) where
+  abbrev pub body_length : ℕ
+  body_length = length (body_bytes order m)
+
+  pub message_length : length (message_bytes order m) ≡ body_start order m.fields + body_length
+  message_length =
+      let e = fields_end_is order m.fields in
+      let l : length (spelling order 12 (field_array m.fields)) ≡ 4 + length (field_bytes order m.fields) = rw (field_array_bytes order m.fields) (simp (length-append, length-num)) in
+      simp (length-append, length-num, length-replicate) (omega (arith, e, l))
 
 -- ---- any two orders take as many bytes
 
@@ -110,3 +135,27 @@ any_order limits order other m h =
 
 pub valid_from : (limits : Limits) (order : Order) (m : MessageTree) → IsMessage limits order m → IsValidMessage limits m
 valid_from limits order m h other = any_order limits order other m h
+
+-- A valid message has short signatures.
+
+mutual
+  pub short_prop : (v : ValueTree) → IsProp (HasShortSignatures v)
+  short_prop (NumberValue k n) = Unit-prop
+  short_prop (TextValue STRING t) = Unit-prop
+  short_prop (TextValue OBJECT_PATH t) = Unit-prop
+  short_prop (TextValue SIGNATURE t) = le_prop
+  short_prop (VariantValue x) = ×_prop le_prop (short_prop x)
+  short_prop (ArrayValue t xs) = shorts_prop xs
+  short_prop (StructValue xs) = shorts_prop xs
+  short_prop (EntryValue k v) = ×_prop (short_prop k) (short_prop v)
+
+  pub shorts_prop : (vs : ValueTrees) → IsProp (HaveShortSignatures vs)
+  shorts_prop NoValues = Unit-prop
+  shorts_prop (MoreValues x xs) = ×_prop (short_prop x) (shorts_prop xs)
+
+pub short_all : (room : ℕ) (vs : ValueTrees) → AreWellFormed room vs → HaveShortSignatures vs
+short_all room vs h = all_short room vs h
+
+-- the fields' structs too
+pub short_fields : (room : ℕ) (fs : List FieldTree) → IsWellFormed (suc room) (field_array fs) → HaveShortSignatures (value_trees (map field_struct fs))
+short_fields room fs h = all_short room (value_trees (map field_struct fs)) h.1

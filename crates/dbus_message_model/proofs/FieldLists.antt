@@ -1,15 +1,19 @@
 -- Going over a list of header fields.
-use Rattle.std.proofs.Common.{◌≡◌, ℕ, ◌+◌, ◌<◌, ◌≤◌, List, [], ◌∷◌, length, get_or, drop, true, false, Some, IsTrue, refl, sym, ap, ◌∙◌}
+use Rattle.std.proofs.Common.{◌≡◌, ℕ, ◌+◌, ◌<◌, ◌≤◌, List, [], ◌∷◌, length, get_or, drop, true, false, Some, IsTrue, refl, sym, ap, ◌∙◌, map, subst, ◌++◌, reverse, Bool, ◌||◌, eqb, arith}
 use Rattle.std.proofs.lemmas.Bool.{and_parts, eq-eqb, ne_eqb}
-use Rattle.std.proofs.lemmas.List.{drop_more, drop_all}
-use Rattle.dbus_message_model.specs.KnownFields.{field_value}
-use Rattle.dbus_message_model.specs.Messages.{has_code, text_in, body_signature, number_in, fd_count}
+use Rattle.std.proofs.lemmas.List.{drop_more, drop_all, reverse-append, length-append}
 use Rattle.dbus_value_model.specs.PackedBytes.{keeps_bytes, keep_bytes}
 use Rattle.dbus_value_model.specs.ValueViews.{value_tree}
-use Rattle.dbus_value_model.proofs.Items.{item_of}
+use Rattle.dbus_value_model.proofs.ValueRows.{item_of}
+use Rattle.dbus_value_model.specs.Sizes.{HasShortSignatures, HaveShortSignatures}
+use Rattle.dbus_value_model.specs.Values.{ValueTrees, MoreValues, value_trees}
+use Rattle.dbus_texts.specs.Types.{TypeTrees, NoTypes, MoreTypes, AreComplete, sig, sigs}
+use Rattle.dbus_message_model.specs.KnownFields.{field_value}
+use Rattle.dbus_message_model.specs.Messages.{has_code, text_in, body_signature, number_in, fd_count, FieldTree, field_struct}
 use Rattle.dbus_message_model.specs.PackedParts.{field_values}
 use Rattle.dbus_message_model.specs.PartsViews.{field_tree, field_trees}
 use Rattle.dbus_message_model.specs.declared.header_field.HeaderField.{HeaderField}
+use Rattle.dbus_message_model.specs.SingleTypes.{AreSingleTypes}
 
 module _ {A : Type 0} (fields : List (HeaderField A)) (i : ℕ) where
   -- the fields from i on
@@ -48,3 +52,51 @@ module _ {A : Type 0} (fields : List (HeaderField A)) (i : ℕ) where
 
 pub field_kept : {A : Type 0} (fields : List (HeaderField A)) (i : ℕ) (f : HeaderField A) → i < length fields → f ≡ get_or fields i f → IsTrue (keep_bytes (field_values fields)) → IsTrue (keeps_bytes f.value)
 field_kept fields i f h is kept = item_of (λ fs. IsTrue (keep_bytes (field_values fs))) (λ u. IsTrue (keeps_bytes u.value)) (λ u fs k. and_parts _ _ k) fields i f h is kept
+
+-- The fields of a header as structs, one after the other.
+
+abbrev pub structs : {A : Type 0} → List (HeaderField A) → ValueTrees
+structs fields = value_trees (map field_struct (field_trees fields))
+
+module _ {A : Type 0} (fields : List (HeaderField A)) (i : ℕ) where
+  pub structs_from : (f : HeaderField A) → i < length fields → f ≡ get_or fields i f → structs (drop i fields) ≡ MoreValues (field_struct (field_tree f)) (structs (drop (i + 1) fields))
+  structs_from f h is = ap (λ (fs : List FieldTree). value_trees (map field_struct fs)) (fields_from fields i f h is)
+
+module _ {A : Type 0} where
+  pub fields_short : (fields : List (HeaderField A)) (i : ℕ) (f : HeaderField A) → i < length fields → f ≡ get_or fields i f → HaveShortSignatures (structs (drop i fields)) → HasShortSignatures (field_struct (field_tree f)) × HaveShortSignatures (structs (drop (i + 1) fields))
+  fields_short fields i f h is all = subst (λ (fs : List FieldTree). HaveShortSignatures (value_trees (map field_struct fs))) (fields_from fields i f h is) all
+
+-- Whether a code stands among fields: after others, and in the other order.
+
+pub or_comm : (a b : Bool) → (a || b) ≡ (b || a)
+or_comm true true = refl
+or_comm true false = refl
+or_comm false true = refl
+or_comm false false = refl
+
+or_assoc : (a b c : Bool) → ((a || b) || c) ≡ (a || (b || c))
+or_assoc true b c = refl
+or_assoc false b c = refl
+
+pub has_append : (c : ℕ) (xs ys : List FieldTree) → has_code c (xs ++ ys) ≡ (has_code c xs || has_code c ys)
+has_append c [] ys = refl
+has_append c (x ∷ xs) ys = ap (λ (b : Bool). eqb x.code c || b) (has_append c xs ys) ∙ sym (or_assoc (eqb x.code c) (has_code c xs) (has_code c ys))
+
+pub or_false : (b : Bool) → (b || false) ≡ b
+or_false true = refl
+or_false false = refl
+
+pub has_reversed : (c : ℕ) (xs : List FieldTree) → has_code c (reverse xs) ≡ has_code c xs
+has_reversed c [] = refl
+has_reversed c (x ∷ xs) =
+    ap (has_code c) (reverse-append (x ∷ []) xs) ∙ has_append c (reverse xs) (x ∷ []) ∙ ap (λ (b : Bool). b || (eqb x.code c || false)) (has_reversed c xs)
+    ∙ or_comm (has_code c xs) (eqb x.code c || false) ∙ ap (λ (b : Bool). b || has_code c xs) (or_false (eqb x.code c))
+
+-- Types that a signature spells.
+
+-- each of some types that have a signature has one
+pub each_single : (ts : TypeTrees) → AreComplete ts 0 0 → length (sigs ts) < 256 → AreSingleTypes ts
+each_single NoTypes complete short = tt
+each_single (MoreTypes t ts) complete short =
+    let both = length-append (sig t) (sigs ts) in
+    ((complete.0, omega (arith, both)), each_single ts complete.1 (omega (arith, both)))

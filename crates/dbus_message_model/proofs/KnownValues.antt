@@ -1,17 +1,73 @@
 -- The value of a known field, which has the type that is wanted of it.
-use Rattle.std.proofs.Common.{◌≡◌, ◌⊎◌, inl, inr, ℕ, Bool, true, false, cond, eqb, List, [], ◌∷◌, String, string_bytes, Option, Some, refl, sym, ap, subst, ◌∙◌, rules}
-use Rattle.std.proofs.lemmas.Bool.{eqb-true}
-use mathlib.Core.Logic.{∥∥₁_elim, ∥∥₁_map}
-use Rattle.dbus_texts.specs.Types.{TextCode, STRING, OBJECT_PATH, SIGNATURE, UINT32, BYTE, BOOLEAN, INT16, UINT16, INT32, INT64, UINT64, DOUBLE, UNIX_FD, NumberType, TextType, VariantType, ArrayType, StructType, EntryType}
-use Rattle.dbus_value_model.specs.Specification.{specification}
+use Rattle.std.proofs.Common.{ℕ, ◌<◌, List, length, Bool, true, false, cond, eqb, arith, ◌≡◌, ap, ◌⊎◌, inl, inr, [], ◌∷◌, String, string_bytes, Option, Some, refl, sym, subst, ◌∙◌, rules, zero, suc, ◌≤◌, get_or, None, IfSome, MatchOption, IsTrue, Bor}
+use Rattle.std.proofs.lemmas.Bool.{eqb-true, and_parts}
+use Rattle.dbus_texts.specs.Types.{IsBasic, IsSingleType, TextCode, TextType, STRING, OBJECT_PATH, SIGNATURE, UINT32, BYTE, BOOLEAN, INT16, UINT16, INT32, INT64, UINT64, DOUBLE, UNIX_FD, NumberType, VariantType, ArrayType, StructType, EntryType}
+use Rattle.dbus_value_model.specs.WantedTexts.{IsWanted, WantedText, Of, Only}
+use Rattle.dbus_value_model.specs.ComputedTexts.{IsName}
+use Rattle.dbus_texts.specs.ComputedKinds as computed
+use Rattle.dbus_texts.specs.declared.text_kind.TextKind.{TextKind}
+use Rattle.dbus_texts.specs.declared.text_kind.TextKind.TheVariants as kinds
+use Rattle.dbus_texts.proofs.KindFacts as facts
 use Rattle.dbus_value_model.specs.Values.{ValueTree, NumberValue, TextValue, VariantValue, ArrayValue, StructValue, EntryValue, type_of}
-use Rattle.dbus_value_model.specs.ValueViews.{value_tree}
+use mathlib.Core.Logic.{∥∥₁_elim, ∥∥₁_map}
+use Rattle.dbus_value_model.specs.Specification.{specification}
+use Rattle.dbus_value_model.specs.ValueViews.{value_tree, value_trees_of}
 use Rattle.dbus_value_model.specs.declared.order.Order.TheVariants.{Little}
 use Rattle.dbus_value_model.specs.declared.value.Value.{Value, the_lemmas}
 use Rattle.dbus_value_model.specs.declared.value.Value.TheVariants as case
-use Rattle.dbus_message_model.specs.KnownFields.{WantsText, IsTextOf, WantsNumber, field_value}
-use Rattle.dbus_message_model.specs.Messages.{FieldTree, MessageTree, Want, Anything, OfType, Name, Serial, want, is_particular, Suits, AreFields, text_in, number_in, IsValidMessage}
-use Rattle.dbus_message_model.proofs.TextValues.{text_of}
+use Rattle.dbus_value_model.specs.PackedBytes.{keeps_bytes, keep_bytes}
+use Rattle.dbus_value_model.proofs.ValueRows.{item_of}
+use Rattle.dbus_message_model.specs.Messages.{Want, Anything, OfType, Name, Serial, want, FieldTree, MessageTree, is_particular, Suits, AreFields, text_in, number_in, IsValidMessage}
+use Rattle.dbus_message_model.specs.KnownFields.{WantsText, IsTextOf, WantsNumber, field_value, body_value}
+
+-- What is wanted of the known fields: basic types, and names of at most 255 bytes.
+
+abbrev pub WantOk : Want → Type 0
+WantOk Anything = Unit {0}
+WantOk (OfType t) = IsSingleType t × IsBasic t
+WantOk (Name k) = IsName k × ((t : List ℕ) → IsWanted k t → length t < 256)
+WantOk Serial = Unit {0}
+
+cond_holds : {X : Type 0} (P : X → Type 0) (b : Bool) (x y : X) → P x → P y → P (cond b x y)
+cond_holds P true x y p q = p
+cond_holds P false x y p q = q
+
+pub want_ok : (code : ℕ) → WantOk (want code)
+want_ok code =
+    cond_holds WantOk (eqb code 1) _ _ ((tt, omega arith), tt) (cond_holds WantOk (eqb code 2) _ _ (tt, λ t k. omega (arith, k.1))
+    (cond_holds WantOk (eqb code 3) _ _ (tt, λ t k. omega (arith, k.1)) (cond_holds WantOk (eqb code 4) _ _ (tt, λ t k. omega (arith, k.1))
+    (cond_holds WantOk (eqb code 5) _ _ tt (cond_holds WantOk (eqb code 6) _ _ (tt, λ t k. omega (arith, k.1))
+    (cond_holds WantOk (eqb code 7) _ _ (tt, λ t k. omega (arith, k.1)) (cond_holds WantOk (eqb code 8) _ _ ((tt, omega arith), tt)
+    (cond_holds WantOk (eqb code 9) _ _ ((tt, omega arith), tt) tt))))))))
+
+-- A name is a text.
+
+as_text : (k : TextKind) (t : List ℕ) → computed.IsName k → IsWanted (Of k) t → IsWanted (Of kinds.Text) t
+as_text k t n h = facts.kind_is kinds.Text t (facts.name_is_text k t n (facts.is_kind_of k t h))
+
+pub name_is_text : (k : WantedText) (t : List ℕ) → IsName k → IsWanted k t → IsWanted (Of kinds.Text) t
+name_is_text (Of k) t n h = name_kind_is_text k t n h
+  where
+    name_kind_is_text : (k : TextKind) (t : List ℕ) → IsName (Of k) → IsWanted (Of k) t → IsWanted (Of kinds.Text) t
+    name_kind_is_text kinds.Text t n h = h
+    name_kind_is_text kinds.Path t n h = absurd n
+    name_kind_is_text kinds.Signature t n h = absurd n
+    name_kind_is_text kinds.Single t n h = absurd n
+    name_kind_is_text kinds.Interface t n h = as_text kinds.Interface t tt h
+    name_kind_is_text kinds.Member t n h = as_text kinds.Member t tt h
+    name_kind_is_text kinds.ErrorName t n h = as_text kinds.ErrorName t tt h
+    name_kind_is_text kinds.BusName t n h = as_text kinds.BusName t tt h
+name_is_text (Only u) t n h = absurd n
+
+-- A value of a type of text is a text.
+
+pub text_of : (c : TextCode) (v : ValueTree) → type_of v ≡ TextType c → (t : List ℕ) × (v ≡ TextValue c t)
+text_of c (NumberValue k n) h = absurd cc
+text_of c (TextValue k t) h = let e : k ≡ c = cc in (t, ap (λ d. TextValue d t) e)
+text_of c (VariantValue x) h = absurd cc
+text_of c (ArrayValue t xs) h = absurd cc
+text_of c (StructValue xs) h = absurd cc
+text_of c (EntryValue k v) h = absurd cc
 
 -- ---- the first field of a code
 
@@ -154,3 +210,26 @@ module _ {A : Type 0} where
     number_not_there wants no_number = ∥∥₁_elim (valid_suits c m valid _ there) no_proofs (λ s.
         let n = number_of (want c) (value_tree v) wants s in
         not_number v no_number n.0 n.1)
+
+-- Looking up a body's value by number.
+
+module _ {A : Type 0} where
+  there : (xs : List (Value A)) (n : ℕ) (d : Value A) → n < length xs → body_value n (value_trees_of xs) ≡ Some (value_tree (get_or xs n d))
+  there [] n d h = absurd (omega arith)
+  there (x ∷ xs) zero d h = refl
+  there (x ∷ xs) (suc n) d h = there xs n d (omega arith)
+
+  past : (xs : List (Value A)) (n : ℕ) → length xs ≤ n → body_value n (value_trees_of xs) ≡ None
+  past [] n h = refl
+  past (x ∷ xs) zero h = absurd (omega arith)
+  past (x ∷ xs) (suc n) h = past xs n (omega arith)
+
+  pub value_found : (xs : List (Value A)) (n : ℕ) (more : Bor (Value A) → Type 0) (r : Option (Bor (Value A))) → IfSome r (λ x. x.now ≡ get_or xs n x.now) → MatchOption r (length xs ≤ n) (λ x. (n < length xs) × more x)
+      → MatchOption r (body_value n (value_trees_of xs) ≡ None) (λ v. body_value n (value_trees_of xs) ≡ Some (value_tree v.now))
+  value_found xs n more None is h = past xs n h
+  value_found xs n more (Some x) is h = there xs n x.now h.0 ∙ ap (λ (v : Value A). Some (value_tree v)) (sym is)
+
+  pub kept_found : (xs : List (Value A)) (n : ℕ) (more : Bor (Value A) → Type 0) (r : Option (Bor (Value A))) → IsTrue (keep_bytes xs) → IfSome r (λ x. x.now ≡ get_or xs n x.now) → MatchOption r (length xs ≤ n) (λ x. (n < length xs) × more x)
+      → IfSome r (λ v. IsTrue (keeps_bytes v.now))
+  kept_found xs n more None kept is h = tt
+  kept_found xs n more (Some x) kept is h = item_of (λ vs. IsTrue (keep_bytes vs)) (λ v. IsTrue (keeps_bytes v)) (λ v vs k. and_parts _ _ k) xs n x.now h.0 is kept

@@ -1,13 +1,4 @@
-pub mod Wants
-pub mod NameTexts
-pub mod TextValues
-pub mod FieldLists
-pub mod FieldCodes
-pub mod FieldStructs
-pub mod SingleTypes
-pub mod MessageLengths
-pub mod BothOrders
-pub mod ShortParts
-pub mod BodyValues
 pub mod KnownValues
+pub mod FieldLists
+pub mod BothOrders
 pub mod Widening

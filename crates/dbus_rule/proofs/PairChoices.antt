@@ -1,7 +1,7 @@
 -- What stands where a pair is wanted is a pair that may stand there, or shows a fault.
-use Rattle.std.proofs.Common.{◌≡◌, ℕ, ◌+◌, ◌-◌, ◌<◌, ◌≤◌, ◌⊎◌, inl, inr, Bool, true, false, Option, Some, None, List, [], ◌∷◌, length, take, drop, refl, sym, ap, subst, ◌∙◌, arith, length-append, length-drop}
+use Rattle.std.proofs.Common.{◌≡◌, ℕ, ◌⊎◌, inl, inr, List, [], ◌∷◌, refl, ◌+◌, ◌-◌, ◌<◌, ◌≤◌, Bool, true, false, Option, Some, None, length, take, drop, sym, ap, subst, ◌∙◌, arith, length-append, length-drop}
+use Rattle.std.proofs.lemmas.Bool.{cases_eq, cases_lt, false≢true}
 use Rattle.std.specs.List.{AllByRecursion}
-use Rattle.std.proofs.lemmas.Bool.{cases_lt, false≢true}
 use Rattle.dbus_texts.specs.declared.text_kind.TextKind.{TextKind}
 use Rattle.dbus_texts.specs.declared.text_kind.TextKind.TheVariants as kinds
 use Rattle.dbus_texts.specs.ComputedKinds.{is_kind}
@@ -18,12 +18,39 @@ use Rattle.dbus_rule.specs.Keys.{IsNamed, key_text, IsKey, IsValueOf}
 use Rattle.dbus_rule.specs.PairReadings.{NameCut, equals_at, none_at, name_cut, IsClash, IsFaultAt, IsKeyAt, IsPairAt}
 use Rattle.dbus_rule.specs.Values.{IsClosed, Reading, closed, open_at, scan, pieces_text}
 use Rattle.dbus_rule.specs.Rules.{Pair, HasKey, IsPair}
-use Rattle.dbus_rule.proofs.Choices.{Either, one_of, same}
-use Rattle.dbus_rule.proofs.KeyNames.{key_named}
-use Rattle.dbus_rule.proofs.KeyTexts.{named, key_or, key_same}
+use Rattle.dbus_rule.proofs.Keys.{key_named, named, key_or, key_same}
 use Rattle.dbus_rule.proofs.NameReadings.{left_over, no_equals_fault, unknown_fault, clash_fault, key_at, drop_past}
 use Rattle.dbus_rule.proofs.PairReadings.{open_fault, bad_fault}
-use Rattle.dbus_rule.proofs.ValueCuts.{is_closed, is_open}
+use Rattle.dbus_rule.proofs.Values.{is_closed, is_open}
+
+-- What holds or does not: of two things, and that two texts are equal.
+
+-- P holds, or it does not
+abbrev pub Either : Type 0 → Type 0
+Either P = P ⊎ (P → ⊥)
+
+pub both : {P Q : Type 0} → Either P → Either Q → Either (P × Q)
+both (inl p) (inl q) = inl (p, q)
+both (inl p) (inr q) = inr (λ h. q h.1)
+both (inr p) q = inr (λ h. p h.0)
+
+pub one_of : {P Q : Type 0} → Either P → Either Q → Either (P ⊎ Q)
+one_of (inl p) q = inl (inl p)
+one_of (inr p) (inl q) = inl (inr q)
+one_of (inr p) (inr q) = inr (λ h. elim h [ inl x ↦ p x | inr y ↦ q y ])
+
+same_head : (a b : ℕ) (v w : List ℕ) → a ≡ b → Either (v ≡ w) → Either (a ∷ v ≡ b ∷ w)
+same_head a b v w e (inl h) = inl (cc (e, h))
+same_head a b v w e (inr h) = inr (λ g. h (cc g))
+
+pub same : (v w : List ℕ) → Either (v ≡ w)
+same [] [] = inl refl
+same [] (b ∷ w) = inr (λ h. absurd cc)
+same (a ∷ v) [] = inr (λ h. absurd cc)
+same (a ∷ v) (b ∷ w) = elim (cases_eq a b) [
+  | inl e ↦ same_head a b v w e (same v w)
+  | inr n ↦ inr (λ h. n (cc h))
+]
 
 -- ---- which values a key takes
 

@@ -1,6 +1,6 @@
 -- A rule's text, read pair by pair.
-use Rattle.std.proofs.Common.{◌≡◌, ◌≢◌, ℕ, suc, ◌+◌, ◌<◌, ◌≤◌, eqb, List, [], ◌∷◌, ◌++◌, length, drop, take, ◌-◌, replicate, refl, sym, ap, ◌∙◌, subst, append_assoc, append-nil, arith, length-append, length-drop}
-use Rattle.std.specs.Prelude.{◌==◌, ◌↔◌}
+use Rattle.std.proofs.Common.{◌≡◌, ◌≢◌, ℕ, suc, ◌+◌, ◌<◌, ◌≤◌, eqb, List, [], ◌∷◌, ◌++◌, length, drop, take, ◌-◌, replicate, refl, sym, ap, ◌∙◌, subst, append_assoc, append-nil, arith, length-append, length-drop, inl, inr}
+use Rattle.std.specs.Prelude.{◌==◌, ◌↔◌, Result, Ok, Err}
 use Rattle.std.specs.List.{AllByRecursion, prefix_len}
 use Rattle.std.proofs.Math.Seq.{drop-length, take-length}
 use Rattle.std.proofs.lemmas.Bool.{cond_both, eqb-true, eqb-false}
@@ -15,13 +15,14 @@ use Rattle.dbus_rule.specs.Values.{Piece, quoted, escaped, plain, piece_text, pi
 use Rattle.dbus_rule.specs.Rules.{Pair, IsIn, IsPair, IsRule, IsAscending, Item, item_text, pair_of, pairs_of, each_with_comma, AreItems, spaces_alone, one_more, SpellsRule, insert_pair}
 use Rattle.dbus_rule.specs.Faults.{AreGood, NoSpaceFirst, IsPairFault, HasPairFault, IsFault}
 use Rattle.dbus_rule.specs.PairReadings.{IsPairAt, IsFaultAt}
-use Rattle.dbus_rule.specs.RuleViews.{IsRuleFault}
-use Rattle.dbus_rule.proofs.AddedPairs.{AreAdded, added}
-use Rattle.dbus_rule.proofs.FaultMoves.{length_spaces, pair_fault_members, pair_fault_shift}
-use Rattle.dbus_rule.proofs.Members.{keys_along}
-use Rattle.dbus_rule.proofs.NameCuts.{item_spelled}
-use Rattle.dbus_rule.proofs.NameReadings.{drop_past}
-use Rattle.dbus_rule.proofs.Parts.{all_drop, all_front, all_back, all_join}
+use Rattle.dbus_rule.specs.RuleViews.{IsRuleFault, rule_pairs, IsRuleReading, IsThisFault, IsThisRule}
+use Rattle.dbus_rule.proofs.PairReadings.{AreAdded, added}
+use Rattle.dbus_rule.proofs.FaultLaws.{length_spaces, pair_fault_members, pair_fault_shift, one_fault, not_both}
+use Rattle.dbus_rule.proofs.SortedConditions.{keys_along}
+use Rattle.dbus_rule.proofs.NameReadings.{item_spelled, drop_past}
+use Rattle.dbus_rule.proofs.Values.{all_drop, all_front, all_back, all_join}
+use Rattle.dbus_rule.specs.declared.rule.Rule.{Rule}
+use Rattle.dbus_rule.proofs.Unique.{one_rule}
 
 -- the spaces at the start
 pub record IsSpaced (w : List ℕ) (n : ℕ) : Type 0 where
@@ -247,3 +248,15 @@ has_fault w at s m ps r a n e q h f =
 pub read_fault : (w : List ℕ) (at s m : ℕ) (ps : List Pair) (e : RuleFault) → AllByRecursion (λ b. b ≢ 0) w → drop at w ≡ replicate s 32 ++ drop m w → m ≡ at + s → IsReadUpTo w at ps → IsFaultAt ps w m e → IsRuleFault w e
 read_fault w at s m ps Memory n d q h f = tt
 read_fault w at s m ps (Bad a r) n d q h f = fault_of w ps (drop m w) m r a f (has_fault w at s m ps r a n d q h f)
+
+-- A reading is the text's one rule or its one fault.
+
+pub this_rule : {A : Type 0} (w : List ℕ) (x : Result (Rule A) RuleFault) → IsRuleReading w x → (ps : List Pair) → SpellsRule w ps → IsThisRule ps x
+this_rule w (Ok r) h ps s = one_rule w (rule_pairs r) ps h s
+this_rule w (Err Memory) h ps s = refl
+this_rule w (Err (Bad at reason)) h ps s = absurd (not_both w ps reason at s h)
+
+pub this_fault : {A : Type 0} (w : List ℕ) (x : Result (Rule A) RuleFault) → IsRuleReading w x → (reason : RuleReason) (at : ℕ) → IsFault w reason at → IsThisFault reason at x
+this_fault w (Ok r) h reason at f = not_both w (rule_pairs r) reason at h f
+this_fault w (Err Memory) h reason at f = inl refl
+this_fault w (Err (Bad n r)) h reason at f = let e = one_fault w r reason n at h f in inr (ap (λ m. Bad m r) e.1 ∙ ap (λ s. Bad at s) e.0)

@@ -4,11 +4,11 @@ use Rattle.dbus_rule.specs.declared.key.Key.{Key}
 use Rattle.dbus_rule.specs.Keys.{key_text, IsKey}
 use Rattle.dbus_rule.specs.Values.{Piece, quoted, escaped, plain, pieces_text, pieces_value, NoQuoteFirst, IsPiece, ArePieces, Ends}
 use Rattle.dbus_rule.specs.Rules.{Pair, Item, item_text, pair_of, pairs_of, each_with_comma, AreItems, Last, spaces_alone, one_more, last_text, last_pairs, IsLast, GivesPairs, SpellsRule, IsIn}
-use Rattle.dbus_rule.proofs.Pieces.{pieces_same}
+use Rattle.dbus_rule.proofs.Values.{pieces_same}
 use Rattle.dbus_rule.specs.Faults.{HasName}
-use Rattle.dbus_rule.proofs.KeyTexts.{key_same}
-use Rattle.dbus_rule.proofs.NameCuts.{has_same, item_has, spaces_no_name}
-use Rattle.dbus_rule.proofs.Sorted.{same_sorted}
+use Rattle.dbus_rule.proofs.Keys.{key_same}
+use Rattle.dbus_rule.proofs.NameReadings.{has_same, item_has, spaces_no_name}
+use Rattle.dbus_rule.proofs.SortedConditions.{same_sorted}
 
 -- pieces stand also before an end
 after_comma : (x r : List ℕ) → Ends r → NoQuoteFirst (x ++ []) → NoQuoteFirst (x ++ r)

@@ -7,8 +7,7 @@ use Rattle.std.proofs.lemmas.Str.{IsUtf8-append, IsUtf8-nil, encode_ascii, insid
 use lib.Utf8.{encode, encodes, scalar, scalars}
 use Rattle.dbus_rule.specs.declared.value_cut.Mode.TheVariants.{Outside, Escape, Inside}
 use Rattle.dbus_rule.specs.Values.{Reading, closed, quote_first, scan}
-use Rattle.dbus_rule.proofs.ScanSteps.{at_plain, no_escape, after_escape, in_quote}
-use Rattle.dbus_rule.proofs.Pieces.{reading_value}
+use Rattle.dbus_rule.proofs.Values.{at_plain, no_escape, after_escape, in_quote, reading_value}
 
 low_or_high : (P : Type 0) (c : ℕ) → (c < 128 → P) → (128 ≤ c → P) → P
 low_or_high P c f g = go (ltb c 128) refl

@@ -30,7 +30,7 @@ impl<A: Allocator + Clone> Clone for Rule<A> {
     /// A rule of the same keys and the same values, in memory of its own from the same allocator.
     ///
     /// Returns `AllocError` if an allocation failed, and nothing of the copy is left then.
-    #[tactic(auto, using(crate::proofs::CopiedRules::conditions_copied, crate::proofs::CopiedRules::copy_is_rule))]
+    #[tactic(auto, using(crate::proofs::SortedConditions::conditions_copied, crate::proofs::SortedConditions::copy_is_rule))]
     fn clone(&self) -> Result<Rule<A>, AllocError> {
         let conditions = self.conditions.clone()?;
         Ok(Rule { conditions })

@@ -12,7 +12,7 @@ use std::alloc::{AllocError, Allocator};
 const ARGUMENTS: u8 = 64;
 
 /// The key of that name.
-#[tactic(auto, using(crate::proofs::KeyReadings::differs, crate::proofs::KeyReadings::named_else))]
+#[tactic(auto, using(crate::proofs::Keys::differs, crate::proofs::Keys::named_else))]
 pub(crate) fn key_of(name: &[u8]) -> Option<Key>
     ensures { IsNamed name.now result }
 {

@@ -33,7 +33,7 @@ fn find_equals(text: &[u8], from: usize) -> Result<usize, usize>
 }
 
 /// Whether one of the conditions has the key.
-#[tactic(auto, using(crate::proofs::ConditionLists::has_at))]
+#[tactic(auto, using(crate::proofs::SortedConditions::has_at))]
 fn has_key<A: Allocator>(conditions: &[Condition<A>], key: Key) -> bool
     ensures { IsTrue result ↔ HasKey key (condition_pairs conditions.now) }
 {
@@ -98,7 +98,7 @@ fn read_key<A: Allocator>(
 }
 
 /// The value whose text begins at `from`, and the place where its text ends.
-#[tactic(auto, using(crate::proofs::ValueCuts::reads_closed, crate::proofs::ValueCuts::reads_open, crate::proofs::ValueCuts::is_closed, crate::proofs::ValueCuts::is_open))]
+#[tactic(auto, using(crate::proofs::Values::reads_closed, crate::proofs::Values::reads_open, crate::proofs::Values::is_closed, crate::proofs::Values::is_open))]
 fn read_value<A: Allocator + Copy>(
     alloc: A,
     text: &str,

@@ -52,7 +52,7 @@ fn read_rule<A: Allocator + Copy>(alloc: A, text: &str) -> Result<Rule<A>, RuleF
 ///     Err(RuleFault::Memory) => println!(rt; "out of memory")?,
 /// }
 /// ```
-#[tactic(auto, using(crate::proofs::RuleVerdicts::this_rule, crate::proofs::RuleVerdicts::this_fault))]
+#[tactic(auto, using(crate::proofs::RuleReadings::this_rule, crate::proofs::RuleReadings::this_fault))]
 pub fn parse_rule<A: Allocator + Copy>(alloc: A, text: &str) -> Result<Rule<A>, RuleFault>
     ensures reading { IsRuleReading text.now result }
     ensures spelled { (pairs : List Pair) → SpellsRule text.now pairs → IsThisRule pairs result }

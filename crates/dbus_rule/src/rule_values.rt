@@ -10,7 +10,7 @@ use crate::rule::Rule;
 use std::alloc::Allocator;
 
 /// The value of the condition with the key, if one has it.
-#[tactic(auto, using(crate::proofs::ConditionLists::value_at))]
+#[tactic(auto, using(crate::proofs::SortedConditions::value_at))]
 fn value_at<A: Allocator>(conditions: &[Condition<A>], key: Key) -> Option<&str>
     ensures { MatchOption result (HasKey key (condition_pairs conditions.now) → ⊥) (λ s.
         IsIn (record { key = key; value = s.now }) (condition_pairs conditions.now)) }

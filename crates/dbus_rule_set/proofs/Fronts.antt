@@ -5,7 +5,7 @@ use Rattle.std.proofs.lemmas.Bool.{cases_Bool, cond-true, cond-false, eqb-true}
 use Rattle.std.proofs.lemmas.List.{take_at}
 use Rattle.dbus_texts.specs.Characters.{slash}
 use Rattle.dbus_match.specs.Matching.{BeginsWith, EndsInSlash, IsInNamespace, PathsMeet}
-use Rattle.dbus_match.proofs.Separators.{within_reads}
+use Rattle.dbus_match.proofs.Decided.{within_reads}
 use Rattle.dbus_rule_set.specs.Places.{Covers, IsAmong, IsFront, trimmed}
 use Rattle.dbus_rule_set.specs.TextNumbers.{text_hash}
 

@@ -13,7 +13,7 @@ use Rattle.dbus_rule.specs.declared.rule.Rule.{Rule}
 use Rattle.dbus_rule.specs.Rules.{condition_pair, condition_pairs, Pair}
 use Rattle.dbus_rule.specs.Keys.{IsKey, rank}
 use Rattle.dbus_rule.specs.RuleViews.{rule_pairs}
-use Rattle.dbus_rule.proofs.Ranks.{rank_same}
+use Rattle.dbus_rule.proofs.Keys.{rank_same}
 use Rattle.dbus_match.specs.Matching.{HoldsAt, Matches, Ownership, text_of}
 use Rattle.dbus_rule_set.specs.declared.handle.RuleHandle.{RuleHandle}
 use Rattle.dbus_rule_set.specs.Held.{EntryMatches}

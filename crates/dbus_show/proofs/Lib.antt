@@ -1,6 +1,4 @@
-pub mod Gaining
+pub mod FieldTexts
 pub mod EscapedText
-pub mod HexDigits
 pub mod LineFeeds
 mod PlainRuns
-pub mod FieldTexts

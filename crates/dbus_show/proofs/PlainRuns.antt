@@ -5,7 +5,7 @@ use Rattle.std.proofs.lemmas.List.{drop-drop, length-map, take-append-drop, take
 use Rattle.std.proofs.lemmas.List.Folds.{prefix_len-append}
 use Rattle.std.proofs.lemmas.Simd.{length-chunk, mask_l-mod}
 use lib.Lanes.{zip2, mask_l, top}
-use Rattle.dbus_texts.proofs.ByteLanes.{below, same_as, top_mark}
+use Rattle.dbus_texts.proofs.WordBlocks.{below, same_as, top_mark}
 use Rattle.dbus_show.specs.ShownValues.{is_escaped}
 use Rattle.dbus_show.proofs.EscapedText.{plain_length}
 

@@ -9,7 +9,7 @@ use Rattle.dbus_message_model.specs.Messages.{MessageTree}
 use Rattle.dbus_message_model.specs.MessageViews.{message_tree}
 use Rattle.dbus_header.specs.MessageOutcomes.{IsWhole, IsPartial}
 use Rattle.dbus_header.proofs.OutcomeLaws.{one_outcome, whole_inside}
-use Rattle.dbus_validate.proofs.Firsts.{alone, followed}
+use Rattle.dbus_validate.proofs.Headed.{alone, followed}
 use Rattle.dbus_check.specs.declared.check.Check.{Check}
 use Rattle.dbus_check.specs.declared.check.Check.TheVariants as checks
 use Rattle.dbus_check.specs.Checks.{Takes, taken}

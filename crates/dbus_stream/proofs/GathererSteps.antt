@@ -6,7 +6,7 @@ use Rattle.dbus_value_model.specs.declared.limits.Limits.{Limits}
 use Rattle.dbus_header.specs.MessageOutcomes.{IsWhole, IsRefused, IsPartial}
 use Rattle.dbus_validate.specs.declared.validating.Validated.{Validated}
 use Rattle.dbus_validate.specs.Validating.{IsValidated, IsValidatedWhole}
-use Rattle.dbus_validate.proofs.Firsts.{own_validated}
+use Rattle.dbus_validate.proofs.Headed.{own_validated}
 use Rattle.dbus_stream.specs.Gathering.{GathererState, gathering, begun, under_way, Gathered, Gathers}
 use Rattle.dbus_stream.specs.Taking.{Completes, Takes}
 use Rattle.dbus_stream.specs.declared.stream_fault.StreamFault.{StreamFault}

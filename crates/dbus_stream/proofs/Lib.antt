@@ -1,4 +1,4 @@
-pub mod Lists
+pub mod CutLaws
 pub mod ValueEnds
 pub mod MessageEnds
 pub mod NextSteps
@@ -6,7 +6,6 @@ pub mod GathererSteps
 pub mod RawSteps
 pub mod PassSteps
 pub mod MessageSteps
-pub mod CutLaws
 pub mod CutterSteps
 pub mod RunLaws
 pub mod HeadlineLaws

@@ -15,10 +15,10 @@ use Rattle.dbus_value_model.specs.declared.fault.Reason.TheVariants as reasons
 use Rattle.dbus_value_model.specs.declared.limits.Limits.{Limits}
 use Rattle.dbus_value_model.specs.declared.order.Order.{Order}
 use Rattle.dbus_value_model.specs.declared.order.Order.TheVariants.{Little, Big}
-use Rattle.dbus_value_model.proofs.Gaps.{gap_below}
+use Rattle.dbus_value_model.proofs.Periods.{gap_below}
 use Rattle.dbus_value_model.proofs.Numbers.{IsBytes-rest}
 use Rattle.dbus_message_model.specs.Messages.{FieldTree, MessageTree, Want, Anything, OfType, Name, Serial, want, is_known, has_code, lacks, required, body_signature, body_fds}
-use Rattle.dbus_message_model.proofs.Wants.{WantOk, want_ok}
+use Rattle.dbus_message_model.proofs.KnownValues.{WantOk, want_ok}
 use Rattle.dbus_value_laws.proofs.Agreement.{read_passes}
 use Rattle.dbus_value_laws.proofs.KindLaws.{only_is, signature_text, text_single}
 use Rattle.dbus_value_laws.proofs.OwnItems.{IsOfSingles, chosen}

@@ -25,7 +25,7 @@ use Rattle.dbus_stream.specs.RawReading.{limits_of, kept, lent_of, whole_or}
 use Rattle.dbus_stream.specs.Reading.{part_of, done_of, is_ended, stopped_of}
 use Rattle.dbus_stream.specs.Steps.{Drops, Calls, FillsBy}
 use Rattle.dbus_stream.specs.Taking.{Taking}
-use Rattle.dbus_stream.proofs.Lists.{no_part}
+use Rattle.dbus_stream.proofs.CutLaws.{no_part}
 use Rattle.dbus_stream.proofs.NextSteps.{gave, reads_none, reads_still, reads_from, reads_one}
 
 -- what follows the first bytes of two lists

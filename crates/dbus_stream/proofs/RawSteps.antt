@@ -15,7 +15,7 @@ use Rattle.dbus_stream.specs.declared.raw_reader.RawReader.{RawReader}
 use Rattle.dbus_stream.specs.declared.read_fault.ReadFault.{ReadFault}
 use Rattle.dbus_stream.specs.declared.read_fault.ReadFault.TheVariants.{Memory, Format, Device, TooManyReads}
 use Rattle.dbus_stream.specs.declared.reader.Reader.{Reader}
-use Rattle.dbus_stream.proofs.Lists.{no_part}
+use Rattle.dbus_stream.proofs.CutLaws.{no_part}
 use Rattle.dbus_stream.proofs.NextSteps as steps
 
 module _ {R B : Type 0} {b : Ghosts B} where

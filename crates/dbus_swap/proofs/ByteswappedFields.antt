@@ -7,15 +7,14 @@ use Rattle.dbus_value_model.specs.declared.order.Order.{Order}
 use Rattle.dbus_value_model.specs.Spelling.{spelling, spellings, ended_text}
 use Rattle.dbus_value_model.specs.Values.{VariantValue, value_trees, type_of}
 use Rattle.dbus_value_model.proofs.Numbers.{length-num}
-use Rattle.dbus_value_model.proofs.Gaps.{no_gap}
+use Rattle.dbus_value_model.proofs.Periods.{no_gap}
 use Rattle.dbus_message_model.specs.Messages.{FieldTree, field_type, field_struct, field_array}
 use Rattle.dbus_walk.specs.declared.container.Container.TheVariants.{Array}
 use Rattle.dbus_walk.specs.Containers.{inside, front}
 use Rattle.dbus_walk.proofs.Fronts.{same_inside}
 use Rattle.dbus_swap.specs.Byteswapping.{other, Replaces}
 use Rattle.dbus_swap.specs.ByteswapLaws.{ByteswappedTo, nothing_put, then_put, one_more, whole_put}
-use Rattle.dbus_swap.proofs.Byteswapped.{one_byte}
-use Rattle.dbus_swap.proofs.Leaves.{array_opens}
+use Rattle.dbus_swap.proofs.Leaves.{one_byte, array_opens}
 
 -- what stands before a field's value
 abbrev before_value : Order → ℕ → FieldTree → List ℕ

@@ -1,14 +1,15 @@
 -- What byteswaps numbers, texts, and arrays as they open.
-use Rattle.std.proofs.Common.{◌≡◌, ℕ, ◌+◌, ◌<◌, List, [], ◌∷◌, ◌++◌, length, get_or, take, drop, reverse, refl, ap, subst, ◌∙◌, ◌⊎◌, arith}
-use Rattle.std.proofs.lemmas.List.{length-replicate}
+use Rattle.std.proofs.Common.{◌≡◌, ℕ, ◌+◌, ◌≤◌, List, [], ◌∷◌, ◌++◌, length, get_or, take, drop, reverse, refl, sym, ap, ◌∙◌, arith, ◌<◌, subst, ◌⊎◌}
+use Rattle.std.proofs.lemmas.List.{take_at, drop_at, drop-drop, drop_more, take-append-drop, reverse-reverse, length-replicate}
+use Rattle.dbus_value_model.specs.Bytes.{low_first, num, gap_to, pad}
+use Rattle.dbus_value_model.specs.declared.order.Order.{Order}
+use Rattle.dbus_value_model.specs.declared.order.Order.TheVariants.{Little, Big}
+use Rattle.dbus_value_model.proofs.Numbers.{length-num}
 use Rattle.dbus_texts.specs.Types.{NumberCode, TextCode, TypeTree, NumberType, sig}
 use Rattle.dbus_types.specs.Alignments.{width, length_width, alignment_of}
 use Rattle.dbus_types.specs.SignatureCodes.{first_code}
-use Rattle.dbus_value_model.specs.Bytes.{gap_to, pad, num}
-use Rattle.dbus_value_model.specs.declared.order.Order.{Order}
 use Rattle.dbus_value_model.specs.Spelling.{spelling, spellings, contents_start, ended_text}
 use Rattle.dbus_value_model.specs.Values.{ValueTree, ValueTrees, NumberValue, TextValue, VariantValue, ArrayValue, StructValue, EntryValue, AllOf, type_of}
-use Rattle.dbus_value_model.proofs.Numbers.{length-num}
 use Rattle.dbus_message_model.proofs.BothOrders.{any_lengths}
 use Rattle.dbus_value_validator.proofs.NumberArrays.{comes_aligned}
 use Rattle.dbus_walk.specs.declared.container.Container.{Container}
@@ -17,9 +18,36 @@ use Rattle.dbus_walk.specs.Containers.{IsOf, front, number_width}
 use Rattle.dbus_walk.specs.Standing.{Stands}
 use Rattle.dbus_walk.proofs.Containers.{ArrayStands, array_stands, elements_there}
 use Rattle.dbus_walk.proofs.Parts.{number_is, number_stands, long_stands, short_stands}
-use Rattle.dbus_swap.specs.Byteswapping.{other, Replaces}
+use Rattle.dbus_swap.specs.Byteswapping.{other, IsPut, Replaces}
 use Rattle.dbus_swap.specs.ByteswapLaws.{nothing_put, then_put}
-use Rattle.dbus_swap.proofs.Byteswapped.{one_byte, number_put}
+
+-- A number's bytes in one order, reversed, are its bytes in the other.
+
+pub byteswapped_num : (order : Order) (w n : ℕ) → reverse (num order w n) ≡ num (other order) w n
+unfolding num
+byteswapped_num Little w n = refl
+byteswapped_num Big w n = reverse-reverse (low_first w n)
+
+-- a number of one byte is the same
+pub one_byte : (order : Order) (n : ℕ) → num order 1 n ≡ num (other order) 1 n
+unfolding num low_first
+one_byte Little n = refl
+one_byte Big n = refl
+
+-- in place of a number stands the byteswapped one
+pub number_put : (order : Order) (w n at : ℕ) (out now r : List ℕ) → drop at out ≡ num order w n ++ r
+    → now ≡ take at out ++ (reverse (take w (drop at out)) ++ drop (at + w) out) → IsPut at (num (other order) w n) r out now
+number_put order w n at out now r is e =
+    let front : take w (drop at out) ≡ num order w n = ap (take w) is ∙ take_at (num order w n) r w (length-num order w n) in
+    let rest : drop (at + w) out ≡ r = sym (drop-drop w at out) ∙ ap (drop w) is ∙ drop_at (num order w n) r w (length-num order w n) in
+    e ∙ rw (front, rest, byteswapped_num order w n) refl
+
+-- and where no more is done it is byteswapped
+pub byte_byteswapped : (at : ℕ) (l : List ℕ) → at + 1 ≤ length l → l ≡ take at l ++ (reverse (take 1 (drop at l)) ++ drop (at + 1) l)
+byte_byteswapped at l h =
+    let is = drop_more l at 0 (omega arith) in
+    let front : take 1 (drop at l) ≡ get_or l at 0 ∷ [] = ap (take 1) is in
+    sym (take-append-drop at l) ∙ ap (λ (m : List ℕ). take at l ++ m) is ∙ ap (λ (m : List ℕ). take at l ++ (reverse m ++ drop (at + 1) l)) (sym front)
 
 -- a number after its padding, and before bytes that are the same in both orders
 module _ (order : Order) (at size start n : ℕ) (out now : List ℕ) (begins : start ≡ at + gap_to size at)

@@ -1,5 +1,4 @@
-pub mod Byteswapped
+pub mod Leaves
 pub mod ByteswappedFields
 pub mod NumberRuns
-pub mod Leaves
 pub mod MessageParts

@@ -13,7 +13,7 @@ use Rattle.dbus_walk.proofs.NumberFacts.{number_of_type}
 use Rattle.dbus_walk.proofs.Walks.{Left, all_left, less_left, none_left}
 use Rattle.dbus_swap.specs.Byteswapping.{other, Replaces}
 use Rattle.dbus_swap.specs.ByteswapLaws.{ByteswappedTo, nothing_put, one_more}
-use Rattle.dbus_swap.proofs.Byteswapped.{one_byte, number_put}
+use Rattle.dbus_swap.proofs.Leaves.{one_byte, number_put}
 
 -- numbers of one type, with no padding between them, up to an end
 pub record NumbersLeft (order : Order) (k : NumberCode) (end place : ℕ) (us : ValueTrees) : Type 0 where

@@ -10,7 +10,7 @@ use Rattle.dbus_message_model.proofs.BothOrders.{any_lengths}
 use Rattle.dbus_walk.specs.declared.container.Container.{Container}
 use Rattle.dbus_walk.specs.Containers.{IsOf, inside, parts, front}
 use Rattle.dbus_walk.proofs.Fronts.{spelled_apart, front_ends, same_inside}
-use Rattle.dbus_walk.proofs.Put.{put_rest, put_more}
+use Rattle.dbus_walk.proofs.Containers.{put_rest, put_more}
 use Rattle.dbus_walk.proofs.Walks.{spellings_more}
 use Rattle.dbus_swap.specs.declared.byteswapper.Byteswapper.{Byteswapper}
 use Rattle.dbus_swap.specs.Byteswapping.{other, Replaces, Byteswaps, Stays}

@@ -19,15 +19,12 @@ use Rattle.dbus_texts.specs.Types.{TypeTree, TypeTrees, sig, sigs, IsSingleType}
 use Rattle.dbus_texts.specs.PlainTypes.{AreSignatureTypes}
 use Rattle.dbus_texts.specs.ComputedKinds.{taken, accepts, is_of_kind, is_kind, break_at, IsName, type_spelled, types_spelled}
 use Rattle.dbus_texts.proofs.Runs.{taken_more, accepts_is, accepts_of, taken_breaks, one_break_in, break_along}
-use Rattle.dbus_texts.proofs.Breaks.{break_of_whole}
+use Rattle.dbus_texts.proofs.ScanSteps.{break_of_whole, quotient_start, path_starts, interface_starts, member_starts, bus_starts, signature_starts, single_starts}
 use Rattle.dbus_texts.proofs.NameSteps.{name_moves, name_ended_at, name_ends_at}
-use Rattle.dbus_texts.proofs.Quotients.{quotient_start}
-use Rattle.dbus_texts.proofs.ScanSteps.{path_starts, interface_starts, member_starts, bus_starts, signature_starts, single_starts}
-use Rattle.dbus_texts.proofs.Utf8Steps.{text_moves, text_ended, text_ends, text_some}
+use Rattle.dbus_texts.proofs.Utf8Steps.{text_moves, text_ended, text_ends, text_some, utf8_of_text, text_of_utf8}
 use Rattle.dbus_texts.proofs.SignatureSteps.{sig_moves, sig_ended_at, sig_ends_at}
 pub use Rattle.dbus_texts.proofs.TypeTexts.{spelled_sig, spelled_sigs, sigs_same, shaped_of, are_shaped_of}
 use Rattle.dbus_texts.proofs.AsciiNames.{name_text, text_bytes}
-use Rattle.dbus_texts.proofs.TextUtf8.{utf8_of_text, text_of_utf8}
 
 -- what an automaton says of the set of texts that it reads
 record Automaton (L : List ℕ → Type 0) (accepted : List ℕ → Bool) (stop : List ℕ → ℕ) : Type 0 where

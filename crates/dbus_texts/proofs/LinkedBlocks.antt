@@ -5,7 +5,7 @@ use Rattle.std.proofs.lemmas.Bool.{cases_lt, eqb-true}
 use Rattle.std.proofs.lemmas.Simd.{length-zip2, get_or-zip2, get_or-chunk, Each1-get_or}
 use Rattle.std.proofs.lemmas.List.{length-map, length-drop, get_or-map, get_or-drop}
 use lib.Lanes.{zip2, mask_l, top, Each1, chunk}
-use Rattle.dbus_texts.proofs.ByteLanes.{less, below, same_as, differs, below_holds, marked_from, top_mark}
+use Rattle.dbus_texts.proofs.WordBlocks.{less, below, same_as, differs, below_holds, marked_from, top_mark}
 use Rattle.dbus_texts.specs.declared.names.Letters.{Letters}
 use Rattle.dbus_texts.specs.declared.names.Letters.TheVariants.{Word}
 use Rattle.dbus_texts.specs.NameScans.{begins, goes_on, may_follow, extra, first_digits, AreLinked}

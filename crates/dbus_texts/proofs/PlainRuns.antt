@@ -6,8 +6,7 @@ use Rattle.dbus_texts.specs.declared.utf8.Utf8Place.TheVariants.{Free}
 use Rattle.dbus_texts.specs.Quotients.{Moves, IsQuotient}
 use Rattle.dbus_texts.specs.Kinds.{IsText}
 use Rattle.dbus_texts.specs.Utf8Scans.{text_rest, text_next}
-use Rattle.dbus_texts.proofs.Quotients.{quotient_start, quotient_push}
-use Rattle.dbus_texts.proofs.ScanSteps.{step_some}
+use Rattle.dbus_texts.proofs.ScanSteps.{quotient_start, quotient_push, step_some}
 use Rattle.dbus_texts.proofs.Utf8Steps.{lead_is, text_moves, text_ends, text_some}
 
 -- such a byte changes nothing

@@ -1,5 +1,5 @@
 -- The steps of a signature.
-use Rattle.std.proofs.Common.{◌≡◌, ℕ, ◌+◌, ◌-◌, ◌<◌, ◌≤◌, Bool, true, false, cond, eqb, ltb, Option, Some, None, List, [], ◌∷◌, ◌++◌, ◌⊎◌, ⊎_elim, inl, inr, refl, sym, ap, ◌∙◌, subst, arith, append_assoc, append-nil, length, length-append, take_at}
+use Rattle.std.proofs.Common.{◌≡◌, ℕ, ◌+◌, ◌-◌, ◌<◌, ◌≤◌, Bool, true, false, cond, eqb, ltb, Option, Some, None, List, [], ◌∷◌, ◌++◌, ◌⊎◌, ⊎_elim, inl, inr, refl, sym, ap, ◌∙◌, subst, arith, append_assoc, append-nil, length, length-append, take_at, zero, suc, take}
 use Rattle.std.specs.Prelude.{slice_get}
 use Rattle.std.proofs.lemmas.Bool.{cond_both, eqb-true, eqb-false, ltb-true, ltb-false, false≢true}
 use Rattle.std.proofs.lemmas.Option.{slice_get-get_or}
@@ -9,9 +9,9 @@ use Rattle.dbus_texts.specs.declared.signature.SigPlace.{SigPlace}
 use Rattle.dbus_texts.specs.declared.signature.SigPlace.TheVariants.{After, One, Element, Key}
 use Rattle.dbus_texts.specs.Quotients.{IsStepFrom, IsStep, Moves}
 use Rattle.dbus_texts.proofs.TypeTexts.{sig_positive}
-use Rattle.dbus_texts.proofs.Codes.{number_is_basic, text_is_basic, number_is_code, text_is_code, basic_type, code_type}
+use Rattle.dbus_texts.proofs.NameSteps.{number_is_basic, text_is_basic, number_is_code, text_is_code, basic_type, code_type}
 use Rattle.dbus_texts.specs.Types.{TypeTree, NumberType, TextType, VariantType, BYTE, number_code, text_code, TypeTrees, ArrayType, StructType, EntryType, NoTypes, MoreTypes, sig, sigs, IsComplete, AreComplete}
-use Rattle.dbus_texts.specs.SignatureScans.{is_basic_code, is_type_code, OneThen, MoreThen, CloseThen, KeyThen, frame_rest_at, frame_rest, frames_rest, AtTop, SigState, after, sig_rest, sig_state, frame, begin, innermost, others, in_frame_at, past, sig_next_at, sig_next, no_frames, sig_end_at}
+use Rattle.dbus_texts.specs.SignatureScans.{is_basic_code, is_type_code, OneThen, MoreThen, CloseThen, KeyThen, frame_rest_at, frame_rest, frames_rest, AtTop, SigState, after, sig_rest, sig_state, frame, begin, innermost, others, in_frame_at, past, sig_next_at, sig_next, no_frames, sig_end_at, AreBounded}
 use Rattle.dbus_texts.specs.Kinds.{IsSignature, IsSingle}
 
 -- how a struct's text joins with what follows
@@ -343,3 +343,28 @@ signature_some = ([], (NoTypes, tt, refl))
 
 pub single_some : (c : List ℕ) × IsSingle c
 single_some = (121 ∷ [], (NumberType BYTE, tt, refl))
+
+-- The frames stay few.
+
+pub AreBounded-push : (k : ℕ) (fs : List Frame) (f : Frame) → AreBounded k fs → k + length fs < f.arrays + f.structs → f.arrays ≤ 32 → f.structs ≤ 32 → AreBounded k (fs ++ f ∷ [])
+AreBounded-push k [] f h l a s = ((omega arith, (a, s)), tt)
+AreBounded-push k (g ∷ fs) f h l a s = (h.0, AreBounded-push (k + 1) fs f h.1 (omega arith) a s)
+
+pub AreBounded-take : (k n : ℕ) (fs : List Frame) → AreBounded k fs → AreBounded k (take n fs)
+AreBounded-take k zero fs h = tt
+AreBounded-take k (suc n) [] h = tt
+AreBounded-take k (suc n) (f ∷ fs) h = (h.0, AreBounded-take (k + 1) n fs h.1)
+
+pub AreBounded-get : (k n : ℕ) (fs : List Frame) (f : Frame) → AreBounded k fs → slice_get fs n ≡ Some f → (k + n < f.arrays + f.structs) × ((f.arrays ≤ 32) × (f.structs ≤ 32))
+AreBounded-get k n [] f h e = cc
+AreBounded-get k zero (g ∷ fs) f h e =
+    let same : g ≡ f = cc in
+    subst (λ x. (k + zero < x.arrays + x.structs) × ((x.arrays ≤ 32) × (x.structs ≤ 32))) same (omega arith, h.0.1)
+AreBounded-get k (suc n) (g ∷ fs) f h e =
+    let r = AreBounded-get (k + 1) n fs f h.1 e in
+    (omega arith, r.1)
+
+pub AreBounded-innermost : (fs : List Frame) (f : Frame) → AreBounded 0 fs → innermost fs ≡ Some f → (length fs ≤ f.arrays + f.structs) × ((f.arrays ≤ 32) × (f.structs ≤ 32))
+AreBounded-innermost fs f h e =
+    let r = AreBounded-get 0 (length fs - 1) fs f h e in
+    (omega arith, r.1)

@@ -60,7 +60,7 @@ impl<T: Drop> From<AllocFailed<T>> for SigFault {
 
 /// Whether the text spells one type of a form that most signatures have: a code; an array of one,
 /// or of dict entries of two; or a struct of two.
-#[tactic(auto, using(crate::proofs::Codes::coded_single, crate::proofs::Codes::array_single, crate::proofs::Codes::pair_single, crate::proofs::Codes::entries_single))]
+#[tactic(auto, using(crate::proofs::NameSteps::coded_single, crate::proofs::NameSteps::array_single, crate::proofs::NameSteps::pair_single, crate::proofs::NameSteps::entries_single))]
 fn is_common_type(text: &[u8]) -> bool
     ensures { IsTrue result → IsSingle text.now }
 {
@@ -81,7 +81,7 @@ fn is_common_type(text: &[u8]) -> bool
 }
 
 /// Whether the text is of the kind, if that is one of signatures, as far as a quick look shows.
-#[tactic(auto, using(crate::proofs::Codes::signature_of))]
+#[tactic(auto, using(crate::proofs::NameSteps::signature_of))]
 fn is_common_signature(kind: TextKind, text: &[u8]) -> bool
     ensures { IsTrue result → IsOfKind kind text.now }
 {
@@ -107,7 +107,7 @@ fn is_seen_at_once(kind: TextKind, text: &[u8]) -> bool
 /// Where a text breaks that is not of the kind, limits on length aside, by its scan. A function of
 /// its own, so that the quick look before it makes no room for a scan.
 #[inline(never)]
-#[tactic(auto, using(crate::proofs::Breaks::break_from))]
+#[tactic(auto, using(crate::proofs::ScanSteps::break_from))]
 fn scanned_break(kind: TextKind, text: &[u8]) -> Option<usize>
     ensures { IsBreakOf kind text.now result }
 {
@@ -126,7 +126,7 @@ fn break_of(kind: TextKind, text: &[u8]) -> Option<usize>
 
 /// The length of the text's longest prefix with which some text of the kind begins, limits on
 /// length lifted. This is the text's length if all of it begins some text of the kind.
-#[tactic(auto, using(crate::proofs::Breaks::break_of_whole))]
+#[tactic(auto, using(crate::proofs::ScanSteps::break_of_whole))]
 pub fn first_break(kind: TextKind, text: &[u8]) -> usize
     ensures { IsBreak kind text.now result }
 {

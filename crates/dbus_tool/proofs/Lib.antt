@@ -1,3 +1,2 @@
-pub mod ListSteps
 pub mod SameAsked
 pub mod SamePrograms

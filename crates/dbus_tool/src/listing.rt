@@ -14,7 +14,7 @@ use std::alloc::Global;
 
 /// Reads the handshake of a side, and writes a line for each of its lines, and at its end one that
 /// says how many they are.
-#[tactic(auto, using(crate::proofs::ListSteps::written_out))]
+#[tactic(auto, using(crate::proofs::SameAsked::written_out))]
 pub(crate) fn write_lines<R: Source, W: Sink>(
     alloc: Global,
     side: Side,
@@ -61,7 +61,7 @@ fn gather_lines<R: Source, W: Sink>(
 }
 
 // Reads the handshake, and puts those lines on the page.
-#[tactic(auto, using(crate::proofs::ListSteps::puts_all, crate::proofs::ListSteps::puts_some))]
+#[tactic(auto, using(crate::proofs::SameAsked::puts_all, crate::proofs::SameAsked::puts_some))]
 fn put_lines<R: Source, W: Sink>(
     alloc: Global,
     side: Side,

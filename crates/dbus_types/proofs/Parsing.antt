@@ -1,16 +1,17 @@
 -- The parser's steps.
-use Rattle.std.proofs.Common.{◌≡◌, ℕ, ◌-◌, ◌<◌, ◌≤◌, false, List, [], ◌∷◌, ◌++◌, sym, ap, ◌∙◌, subst, arith, append_assoc, append-nil, length, length-append, get_or, take, drop, Vec}
+use Rattle.std.proofs.Common.{◌≡◌, ℕ, ◌-◌, ◌<◌, ◌≤◌, false, List, [], ◌∷◌, ◌++◌, sym, ap, ◌∙◌, subst, arith, append_assoc, append-nil, length, length-append, get_or, take, drop, Vec, ◌+◌}
 use Rattle.std.specs.declared.sync.Arc.{Arc}
-use Rattle.std.proofs.lemmas.List.{take_all}
+use Rattle.std.proofs.lemmas.List.{take_all, take_more}
+use Rattle.dbus_texts.specs.Types.{TypeTree, TypeTrees, StructType, EntryType, NoTypes, MoreTypes, sig, sigs, IsComplete, IsSingleType, AreComplete}
+use Rattle.dbus_texts.specs.Kinds.{IsSingle, IsSignature}
+use Rattle.dbus_texts.proofs.TypeTexts.{sig_positive, sigs_same}
+use Rattle.dbus_texts.specs.PlainTypes.{AreSignatureTypes}
 use Rattle.dbus_types.specs.declared.sig_type.SigType as ty
 use Rattle.dbus_types.specs.declared.sig_type.SigType.{SigType}
-use Rattle.dbus_texts.specs.Types.{TypeTree, TypeTrees, StructType, EntryType, NoTypes, MoreTypes, sig, sigs, IsComplete, IsSingleType}
-use Rattle.dbus_texts.specs.Kinds.{IsSingle}
 use Rattle.dbus_types.specs.SigTypes.{type_tree, type_trees_of}
 use Rattle.dbus_types.specs.Parses.{StartsType, StartsFields, ReadsType, ReadsFields, IsTypeText, IsTextOfTypes}
-use Rattle.dbus_texts.proofs.TypeTexts.{sig_positive}
-use Rattle.dbus_types.proofs.TypeViews.{type_tree-Struct, type_tree-Entry}
-use Rattle.dbus_types.proofs.Prefixes.{text_same, StartsPair}
+use Rattle.dbus_types.proofs.TypeEnds.{type_tree-Struct, type_tree-Entry}
+use Rattle.dbus_types.proofs.PrefixSteps.{text_same, StartsPair}
 
 pub not_empty_at : (w : List ℕ) → length w ≡ 0 → StartsType w → ⊥
 not_empty_at w e h = omega (arith, e, ap length h.spelled, length-append (sig h.tree) h.rest, sig_positive h.tree)
@@ -97,3 +98,15 @@ module _ {A : Type 0} where
 -- a type whose text is a signature of exactly one
 pub single_type : (t : TypeTree) → IsSingle (sig t) → length (sig t) < 256 → IsSingleType t
 single_type t h l = (subst (λ u. IsComplete u false 0 0) (text_same h.0 t [] [] (append-nil (sig h.0) ∙ sym h.2 ∙ sym (append-nil (sig t)))).0 h.1, l)
+
+-- The writer's steps.
+
+module _ {A : Type 0} where
+  pub one_text_more : (ts : List (SigType A)) (i : ℕ) (d : SigType A) (b0 b b' : List ℕ) → i < length ts → b ≡ b0 ++ sigs (type_trees_of (take i ts)) → b' ≡ b ++ sig (type_tree (get_or ts i d)) → b' ≡ b0 ++ sigs (type_trees_of (take (i + 1) ts))
+  one_text_more ts i d b0 b b' l e q =
+      let t = get_or ts i d in
+      q ∙ ap (λ x. x ++ sig (type_tree t)) e ∙ append_assoc b0 (sigs (type_trees_of (take i ts))) (sig (type_tree t)) ∙ ap (λ x. b0 ++ x) (sym (ap (λ us. sigs (type_trees_of us)) (take_more ts i d l) ∙ texts_push (take i ts) t))
+
+-- types whose text is a signature
+pub spelled_types : (ts : TypeTrees) → IsSignature (sigs ts) → length (sigs ts) < 256 → AreSignatureTypes ts
+spelled_types ts h l = (subst (λ us. AreComplete us 0 0) (sym (sigs_same ts h.0 h.2)) h.1, l)

@@ -1,9 +1,13 @@
 -- Where a type's text ends, as the code counts brackets, and that this is where the text itself
 -- does.
-use Rattle.std.proofs.Common.{◌≡◌, ℕ, zero, suc, pred, ◌+◌, ◌||◌, ◌==◌, if◌then◌else◌, List, [], ◌∷◌, ◌++◌, length, drop, refl, ap, ◌∙◌, arith, append_assoc}
+use Rattle.std.proofs.Common.{◌≡◌, ℕ, zero, suc, pred, ◌+◌, ◌||◌, ◌==◌, if◌then◌else◌, List, [], ◌∷◌, ◌++◌, length, drop, refl, ap, ◌∙◌, arith, append_assoc, Vec, rules}
 use Rattle.std.proofs.lemmas.List.{length-append}
+use Rattle.std.specs.declared.sync.Arc.{Arc}
 use Rattle.dbus_texts.specs.Types.{NumberCode, BYTE, TextCode, STRING, TypeTree, NumberType, TextType, VariantType, ArrayType, StructType, EntryType, TypeTrees, NoTypes, MoreTypes, number_code, text_code, sig, sigs}
 use Rattle.dbus_types.specs.SignatureCodes.{IsTypeEnd}
+use Rattle.dbus_types.specs.SigTypes.{type_tree, type_trees_of}
+use Rattle.dbus_types.specs.declared.sig_type.SigType as ty
+use Rattle.dbus_types.specs.declared.sig_type.SigType.{SigType, the_lemmas}
 
 -- how many brackets are open after a byte, where so many are before it
 abbrev open_after : ℕ → ℕ → ℕ
@@ -61,3 +65,15 @@ type_ends t r = passed t 0 r ∙ omega arith
 -- so a count of the brackets from a place on ends where the type there does
 pub ends_there : (types : List ℕ) (pos at : ℕ) → at ≡ pos + type_length 0 (drop pos types) → IsTypeEnd types pos at
 ends_there types pos at is t more e = is ∙ ap (λ (s : List ℕ). pos + type_length 0 s) e ∙ ap (λ (n : ℕ). pos + n) (type_ends t more)
+
+-- The tree of each case of a `SigType`.
+
+module _ {A : Type 0} where
+  pub type_tree-Array : (t : Arc (SigType A) A) → type_tree (ty.Array t) ≡ ArrayType (type_tree t.value)
+  type_tree-Array t = search (rules, the_lemmas)
+
+  pub type_tree-Struct : (ts : Arc (Vec (SigType A) A) A) → type_tree (ty.Struct ts) ≡ StructType (type_trees_of ts.value.items)
+  type_tree-Struct ts = search (rules, the_lemmas)
+
+  pub type_tree-Entry : (k v : Arc (SigType A) A) → type_tree (ty.Entry k v) ≡ EntryType (type_tree k.value) (type_tree v.value)
+  type_tree-Entry k v = search (rules, the_lemmas)

@@ -15,12 +15,12 @@ use Rattle.dbus_texts.proofs.TypeTexts.{spelled_sig, spelled_sigs}
 use Rattle.dbus_types.specs.SigTypes.{type_tree, type_trees_of}
 use Rattle.dbus_types.specs.declared.sig_type.SigType as ty
 use Rattle.dbus_types.specs.declared.sig_type.SigType.{SigType, the_lemmas}
-use Rattle.dbus_types.proofs.TypeViews.{type_tree-Array, type_tree-Struct, type_tree-Entry}
+use Rattle.dbus_types.proofs.TypeEnds.{type_tree-Array, type_tree-Struct, type_tree-Entry}
 use Rattle.dbus_value_model.specs.ValueViews.{value_tree}
 use Rattle.dbus_value_model.specs.Values.{ValueTree, ValueTrees, VariantValue, ArrayValue, StructValue, EntryValue, NoValues, MoreValues, AllOf, IsWellFormed, AreWellFormed, type_of, types_of, value_trees}
 use Rattle.dbus_value_model.specs.declared.value.Value.{Value, Array, Struct}
 use Rattle.dbus_value_model.specs.declared.value.DictEntry.{DictEntry}
-use Rattle.dbus_value_model.proofs.Fitting.{keeps-Array, keeps-Struct, keep_push}
+use Rattle.dbus_value_model.proofs.Formed.{keeps-Array, keeps-Struct, keep_push}
 use Rattle.dbus_value_model.proofs.ValueRows.{tree-Array, tree-Struct}
 use Rattle.dbus_walk.specs.Containers.{IsOf, parts}
 use Rattle.dbus_walk.specs.declared.container.Container.{Container}

@@ -16,8 +16,8 @@ use Rattle.dbus_value_model.specs.ValueViews.{value_tree, byte_values}
 use Rattle.dbus_value_model.specs.Values.{ValueTree, NumberValue, TextValue, ArrayValue, type_of, value_trees, IsNumber, IsWellFormed}
 use Rattle.dbus_value_model.specs.declared.order.Order.{Order}
 use Rattle.dbus_value_model.specs.declared.value.Value.{Value, Bytes, Array}
-use Rattle.dbus_value_model.proofs.Fitting.{keeps-Array}
-use Rattle.dbus_value_model.proofs.ValueRows.{tree-Bytes, tree-Array}
+use Rattle.dbus_value_model.proofs.Formed.{keeps-Array}
+use Rattle.dbus_value_model.proofs.ValueRows.{tree-Bytes, tree-Array, tree-Byte, tree-Bool, tree-I16, tree-U16, tree-I32, tree-U32, tree-I64, tree-U64, tree-Double, tree-Fd}
 use Rattle.dbus_walk.specs.Standing.{Stands, ElementsStand}
 use Rattle.dbus_walk.specs.Containers.{number_width}
 use Rattle.dbus_walk.specs.declared.spot.Run.{Run}
@@ -106,3 +106,7 @@ module _ {order : Order} {depth_left : ℕ} {types : List ℕ} {at : ℕ} {bytes
         tree = tree-Array t rs ∙ ap (λ (l : List ValueTree). ArrayValue (type_tree t) (value_trees l)) built.trees ∙ ap (ArrayValue (type_tree t)) (sym are) ∙ ap (λ (u : TypeTree). ArrayValue u p.xs) fit ∙ sym p.is;
         packed = keeps-Array t rs ∙ and_from _ _ (ap not no_byte) built.packed;
       }
+
+-- Values that are one number.
+
+pub ruleset numbers = (tree-Byte, tree-Bool, tree-I16, tree-U16, tree-I32, tree-U32, tree-I64, tree-U64, tree-Double, tree-Fd)

@@ -1,4 +1,3 @@
-mod NumberRows
-mod Gathering
 mod Leaves
+mod Gathering
 mod Validating

@@ -13,7 +13,7 @@ use Rattle.dbus_value_model.specs.Reading.{Outcome, Done, Faulty, Partial, after
 use Rattle.dbus_value_model.specs.ValueItems as items
 use Rattle.dbus_value_model.specs.RoundTrip.{IsValuePartial}
 use Rattle.dbus_value_laws.proofs.Agreement.{after_done, after_faulty}
-use Rattle.dbus_value_laws.proofs.ValueOutcomes.{reads_spelled, reads_faults}
+use Rattle.dbus_value_laws.proofs.ValueItemLaws.{reads_spelled, reads_faults}
 use Rattle.dbus_value_laws.proofs.ValueSteps.{single_shaped}
 use Rattle.dbus_value_checker.specs.Suspended.{done}
 use Rattle.dbus_value_checker.specs.Denotations.{Answer, after_piece}

@@ -1,5 +1,5 @@
 //! Numbers as values, from a message's bytes. D-Bus Specification, "Marshaling (Wire Format)".
-#![tactic(auto, using(crate::proofs::NumberRows::numbers))]
+#![tactic(auto, using(crate::proofs::Leaves::numbers))]
 
 ghost use Rattle.std.specs.Prelude.{◌≡◌, ℕ, ◌+◌, ◌<◌, ◌≤◌, List, length, take, drop, slice_index, IsTrue, IfOk};
 ghost use Rattle.dbus_texts.specs.Types.{NumberCode, TypeTree, number_code};

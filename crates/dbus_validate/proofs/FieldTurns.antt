@@ -1,26 +1,28 @@
 -- The loop over a header's fields, each of which sees those before it.
-use Rattle.std.proofs.Common.{◌≡◌, ℕ, suc, ◌+◌, ◌-◌, ◌<◌, ◌≤◌, List, [], ◌∷◌, ◌++◌, length, map, take, drop, get_or, reverse, false, true, ◌&&◌, Bool, refl, sym, ap, ◌∙◌, arith, append-nil}
+use Rattle.std.proofs.Common.{◌≡◌, ℕ, suc, ◌+◌, ◌-◌, ◌<◌, ◌≤◌, List, [], ◌∷◌, ◌++◌, length, map, take, drop, get_or, reverse, false, true, ◌&&◌, Bool, refl, sym, ap, ◌∙◌, arith, append-nil, zero, eqb, None}
 use Rattle.std.proofs.lemmas.Bool.{lt-ltb, ne_eqb}
 use Rattle.std.proofs.lemmas.List.{length-append}
 use Rattle.dbus_value_model.specs.Bounds.{bounds_of}
 use Rattle.dbus_value_model.specs.Spelling.{spelling, spellings}
 use Rattle.dbus_value_laws.proofs.Agreement.{read_passes}
-use Rattle.dbus_value_laws.proofs.ReadSteps.{bytes_at}
-use Rattle.dbus_header.specs.MessageItems.{field}
-use Rattle.dbus_header.proofs.Fields.{Agrees-field}
+use Rattle.dbus_value_laws.proofs.ReadSteps.{bytes_at, number_done, number_overrun, one_byte}
+use Rattle.dbus_header.specs.MessageItems.{field, code_row}
+use Rattle.dbus_header.proofs.Fields.{Agrees-field, with_front, goes_on, is_done, starts}
 use Rattle.dbus_value_model.specs.declared.limits.Limits.{Limits}
 use Rattle.dbus_value_model.specs.declared.order.Order.{Order}
 use Rattle.dbus_value_model.specs.Values.{ValueTree, ValueTrees, value_trees}
-use Rattle.dbus_value_model.specs.Reading.{Done, up_to}
+use Rattle.dbus_value_model.specs.Reading.{Done, up_to, padding, number}
 use Rattle.dbus_message_model.specs.Messages.{FieldTree, field_struct, want, is_known, has_code}
-use Rattle.dbus_message_model.proofs.FieldCodes.{has_reversed}
-use Rattle.dbus_header.specs.HeaderReading.{field_read, fields_read}
-use Rattle.dbus_header.proofs.FieldLoop.{with_front, goes_on, is_done, starts}
+use Rattle.dbus_message_model.proofs.FieldLists.{has_reversed}
+use Rattle.dbus_header.specs.HeaderReading.{field_read, fields_read, wanted_value, opening}
 use Rattle.dbus_value_validator.specs.Endings.{IsNotRead}
-use Rattle.dbus_value_validator.proofs.ReadParts.{not_partial, not_same, not_first}
+use Rattle.dbus_value_validator.proofs.ReadParts.{not_partial, not_same, not_first, not_faulty, not_then, number_read, row_against}
+use Rattle.dbus_value_model.specs.declared.fault.Reason.TheVariants as reasons
+use Rattle.dbus_value_model.specs.Bytes.{gap_to}
+use Rattle.dbus_value_model.specs.Items.{fault, no_row}
 use Rattle.dbus_validate.specs.declared.field_values.Held.{Held}
 use Rattle.dbus_validate.specs.declared.seen.FieldPlaces.{FieldPlaces}
-use Rattle.dbus_validate.specs.Seen.{IsNoted, IsHeldField, AreNoted, ArePlaced, field_start, known_start, text_start}
+use Rattle.dbus_validate.specs.Seen.{IsNoted, IsHeldField, AreNoted, ArePlaced, field_start, known_start, text_start, IsHeld}
 
 -- ---- where the fields begin
 
@@ -107,3 +109,65 @@ module _ (limits : Limits) (order : Order) (bytes : List ℕ) (at n : ℕ) where
     -- no field is left to be read, and bytes are
     pub none_unread : turns ≡ 0 → (place ≡ at + n → ⊥) → IsNotRead (fields_read limits order n at (drop at bytes))
     none_unread none more = not_left (not_partial _ (rw (none, ne_eqb place (at + n) more) refl))
+
+-- Header fields: what is said of them where their parts are read, or are not.
+
+closed : (depth_left o : ℕ) (s : List ℕ) → depth_left ≡ 0 → IsNotRead (opening depth_left o s)
+closed depth_left o s none = rw none (not_faulty _ (fault o reasons.TooDeep) refl)
+
+open_on : (depth_left o : ℕ) (s : List ℕ) → 0 < depth_left → opening depth_left o s ≡ Done (depth_left - 1) o s
+open_on zero o s h = absurd (omega arith)
+open_on (suc depth_left) o s h = refl
+
+module _ (limits : Limits) (order : Order) (end : ℕ) (before : List FieldTree) (at : ℕ) (bytes : List ℕ) where
+  pub field_too_deep : limits.depth < 3 → IsNotRead (field_read limits order end before at (drop at bytes))
+  unfolding field_read
+  field_too_deep few =
+      not_then (padding 8 end at (drop at bytes)) _ (λ x p u e.
+      not_then (opening (limits.depth - 1) p u) _ (λ y o s f.
+      not_then (number order 1 end (code_row before) o s) _ (λ c q r g. not_first (opening (limits.depth - 2) q r) _ (closed (limits.depth - 2) q r (omega arith)))))
+
+  pub field_unpadded : IsNotRead (padding 8 end at (drop at bytes)) → IsNotRead (field_read limits order end before at (drop at bytes))
+  unfolding field_read
+  field_unpadded unread = not_first (padding 8 end at (drop at bytes)) _ unread
+
+  module _ (deep : 3 ≤ limits.depth) (start : ℕ) (padded : padding 8 end at (drop at bytes) ≡ Done tt start (drop start bytes)) where
+    no_code : IsNotRead (number order 1 end (code_row before) start (drop start bytes)) → IsNotRead (field_read limits order end before at (drop at bytes))
+    unfolding field_read
+    no_code unread = rw (padded, open_on (limits.depth - 1) start (drop start bytes) (omega arith)) (not_first (number order 1 end (code_row before) start (drop start bytes)) _ unread)
+
+    pub field_ended : start ≡ end → IsNotRead (field_read limits order end before at (drop at bytes))
+    field_ended is = no_code (not_faulty _ _ (number_overrun order 1 end (code_row before) start bytes (omega arith)))
+
+    module _ (lt : start < end) (inside : end ≤ length bytes) where
+      abbrev code : ℕ
+      code = get_or bytes start 0
+
+      -- its row says something against the code
+      code_against : (code_row before (start + 1) code ≡ None → ⊥) → IsNotRead (field_read limits order end before at (drop at bytes))
+      code_against against =
+          let plain = number_done order 1 end no_row start bytes (omega arith) code (omega arith) (one_byte order bytes start (omega arith)) refl in
+          no_code (row_against order 1 end (code_row before) start (drop start bytes) code (start + 1) (drop (start + 1) bytes) plain against)
+
+      pub field_zero : code ≡ 0 → IsNotRead (field_read limits order end before at (drop at bytes))
+      field_zero is = code_against (rw is (λ e. absurd cc))
+
+      pub field_again : 0 < code → is_known code && has_code code before ≡ true → IsNotRead (field_read limits order end before at (drop at bytes))
+      field_again some again = let none : eqb code 0 ≡ false = ne_eqb code 0 (omega arith) in code_against (rw (none, again) (λ e. absurd cc))
+
+      pub field_unheld : IsNotRead (wanted_value limits order end (want code) (start + 1) (drop (start + 1) bytes)) → IsNotRead (field_read limits order end before at (drop at bytes))
+      unfolding field_read
+      field_unheld unread =
+          rw (padded, open_on (limits.depth - 1) start (drop start bytes) (omega arith)) (
+          not_then (number order 1 end (code_row before) start (drop start bytes)) _ (λ c p u e.
+          let r = number_read order 1 end (code_row before) start bytes c p u e in
+          let is : c ≡ code = r.is ∙ sym (one_byte order bytes start (omega arith)) in
+          rw (r.ends, r.left, is, open_on (limits.depth - 2) (start + 1) (drop (start + 1) bytes) (omega arith)) (not_first (wanted_value limits order end (want code) (start + 1) (drop (start + 1) bytes)) _ unread)))
+
+      pub field_held : (h : Held) → start ≡ at + gap_to 8 at → 0 < code → is_known code && has_code code before ≡ false → IsHeld limits order end (want code) (start + 1) bytes h → IsHeldField limits order end before at bytes code h
+      unfolding field_read
+      field_held h begins some alone held =
+          let after : start + 1 + 3 ≡ known_start at = omega (arith, begins) in
+          let none : eqb code 0 ≡ false = ne_eqb code 0 (omega arith) in
+          let read = number_done order 1 end (code_row before) start bytes (omega arith) code (omega arith) (one_byte order bytes start (omega arith)) (rw (none, alone) refl) in
+          (held.0, rw (padded, open_on (limits.depth - 1) start (drop start bytes) (omega arith), read, open_on (limits.depth - 2) (start + 1) (drop (start + 1) bytes) (omega arith), held.1) refl, held.2, λ known. held.3 known ∙ ap (λ (k : ℕ). text_start k held.0) after)

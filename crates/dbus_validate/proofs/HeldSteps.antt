@@ -17,8 +17,7 @@ use Rattle.dbus_value_model.specs.ValueReaders.{text_value}
 use Rattle.dbus_message_model.specs.Messages.{Want, Anything, OfType, Name, Serial}
 use Rattle.dbus_value_laws.proofs.Composition.{row_fits}
 use Rattle.dbus_value_laws.proofs.KindLaws.{single_text}
-use Rattle.dbus_value_laws.proofs.ReadSteps.{number_done, text_fits, one_byte, nul_done}
-use Rattle.dbus_value_laws.proofs.StringSteps.{only_done}
+use Rattle.dbus_value_laws.proofs.ReadSteps.{number_done, text_fits, one_byte, nul_done, only_done}
 use Rattle.dbus_value_laws.proofs.ValueSteps.{value_number, value_text, single_shaped}
 use Rattle.dbus_header.specs.HeaderReading.{wanted_signature, wanted_value}
 use Rattle.dbus_header.specs.MessageItems.{kind_wanted, name_row, not_zero_row}

@@ -23,7 +23,7 @@ use Rattle.dbus_header.proofs.MessageParts.{Agrees-fields, field_signature}
 use Rattle.dbus_validate.specs.declared.seen.FieldPlaces.{FieldPlaces}
 use Rattle.dbus_validate.specs.Validating.{IsValidated}
 use Rattle.dbus_validate.specs.Seen.{AreNoted, ArePlaced}
-use Rattle.dbus_validate.proofs.BodyPlaces.{body_begins, body_there}
+use Rattle.dbus_validate.proofs.BodySteps.{body_begins, body_there}
 
 -- ---- the padding after the fields
 

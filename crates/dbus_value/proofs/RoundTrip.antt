@@ -20,8 +20,7 @@ use Rattle.dbus_value_model.specs.Reading as reading
 use Rattle.dbus_value_model.proofs.Formed.{formed_of}
 use Rattle.dbus_value_model.proofs.PartRanges.{ranged_of}
 use Rattle.dbus_marshal.proofs.SizeLaws.{size_ends}
-use Rattle.dbus_value_laws.proofs.ValueItemLaws.{Agrees-value, value_inside}
-use Rattle.dbus_value_laws.proofs.ValueOutcomes.{agreed_either, agreed_value}
+use Rattle.dbus_value_laws.proofs.ValueItemLaws.{Agrees-value, value_inside, agreed_either, agreed_value}
 use Rattle.dbus_value_laws.proofs.ValueSteps.{single_shaped}
 
 written_spelled : (limits : Limits) (fds : Option ℕ) (order : Order) (room end o e : ℕ) (v : ValueTree) (more : List ℕ)

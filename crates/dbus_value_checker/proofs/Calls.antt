@@ -15,7 +15,7 @@ use Rattle.dbus_value_checker.proofs.FrameLaws.{inner_of}
 use Rattle.dbus_types.proofs.TypeCodes.{begins}
 use Rattle.dbus_value_checker.specs.Denotations.{Answer, denotes, Denotes, Wants, after_piece}
 use Rattle.dbus_value_checker.specs.Moves.{Moves, Opens, IsLive, offset_of}
-use Rattle.dbus_value_checker.proofs.Chains.{take-both, split-at}
+use Rattle.dbus_value_checker.proofs.Suspension.{take-both, split-at}
 
 -- the same answers
 pub denotes_same : (x : ValueChecker) (last : On) (f g : List ℕ → Outcome (Unit {0})) → ((c : List ℕ) → f c ≡ g c) → Denotes x (record { last = last; to = f }) → Denotes x (record { last = last; to = g })

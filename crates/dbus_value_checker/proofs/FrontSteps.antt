@@ -1,8 +1,8 @@
 -- Items at the front of some bytes.
-use Rattle.std.proofs.Common.{◌≡◌, ℕ, zero, suc, ◌+◌, ◌<◌, ◌≤◌, List, [], ◌∷◌, ◌++◌, length, get_or, take, drop, replicate, Option, Some, None, refl, sym, ap, subst, ◌∙◌, arith, append_assoc, inl, inr, Ok, Err}
+use Rattle.std.proofs.Common.{◌≡◌, ℕ, zero, suc, ◌+◌, ◌<◌, ◌≤◌, List, [], ◌∷◌, ◌++◌, length, get_or, take, drop, replicate, Option, Some, None, refl, sym, ap, subst, ◌∙◌, arith, append_assoc, inl, inr, Ok, Err, Bool, true, false}
 use Rattle.std.specs.Prelude.{◌⊎◌}
 use Rattle.std.proofs.lemmas.Bool.{lt-ltb, le-ltb}
-use Rattle.std.proofs.lemmas.List.{take_more, take_all, drop_more, take-append-drop, length-take}
+use Rattle.std.proofs.lemmas.List.{take_more, take_all, drop_more, take-append-drop, length-take, length-append, append-nil}
 use Rattle.dbus_value_model.specs.declared.limits.Bounds.{Bounds}
 use Rattle.dbus_value_model.specs.declared.order.Order.{Order}
 use Rattle.dbus_value_model.specs.declared.order.Order.TheVariants.{Little, Big}
@@ -12,23 +12,23 @@ use Rattle.dbus_value_model.specs.declared.fault.Fault.{Fault}
 use Rattle.dbus_value_model.specs.Bytes.{gap_to}
 use Rattle.dbus_value_model.specs.Items.{fault, text_reason}
 use Rattle.dbus_value_model.specs.Reading.{Reader, Outcome, Done, Faulty, Partial, after, zeros, padding, number, number_of, validated, text}
-use Rattle.dbus_value_checker.proofs.Chains.{split-at, first_err, then_err, then_ok, front_as, forgotten}
-use Rattle.dbus_texts.specs.Types.{NumberCode, BYTE, BOOLEAN, INT16, UINT16, INT32, UINT32, INT64, UINT64, DOUBLE, UNIX_FD, TextCode, STRING, OBJECT_PATH, SIGNATURE, number_code, text_code, TypeTree, NumberType}
+use Rattle.dbus_texts.specs.Types.{NumberCode, BYTE, BOOLEAN, INT16, UINT16, INT32, UINT32, INT64, UINT64, DOUBLE, UNIX_FD, TextCode, STRING, OBJECT_PATH, SIGNATURE, number_code, text_code, TypeTree, NumberType, TextType, VariantType, ArrayType, StructType, EntryType, TypeTrees, NoTypes, MoreTypes, sig, sigs, IsShaped, AreShaped}
 use Rattle.dbus_types.specs.Alignments.{width, length_width, alignment_of}
 use Rattle.dbus_value_model.specs.ValueItems.{number_row, text_row, array_row}
 use Rattle.dbus_value_model.specs.ValueReaders.{array_frame}
-use Rattle.dbus_types.proofs.TypeCodes.{boolean_is, descriptor_is}
+use Rattle.dbus_types.proofs.TypeCodes.{boolean_is, descriptor_is, begins, code_is, array_is, struct_is, entry_is, entry_shaped, text_is}
 use Rattle.dbus_value_model.specs.declared.stop.Stop.{Stop}
 use Rattle.dbus_value_model.specs.declared.stop.Stop.TheVariants as stops
-use Rattle.dbus_value_checker.specs.declared.values.ValueChecker.{ValueChecker}
-use Rattle.dbus_value_checker.specs.Moves.{Moves}
-use Rattle.dbus_value_checker.specs.Fronts.{Halts, Fronts, Lack}
-use Rattle.dbus_value_checker.specs.Suspended.{On, onward, done}
 use Rattle.dbus_value_model.specs.WantedTexts.{WantedText, IsWanted, IsBreakOf}
 use Rattle.dbus_value_model.specs.ComputedTexts.{break_at}
 use Rattle.dbus_value_laws.proofs.OwnItems.{zeros_pass}
 use Rattle.dbus_value_laws.proofs.KindLaws.{break_le, break_is, one_break, break_whole, is_wanted, is_not_wanted}
-use Rattle.dbus_value_checker.proofs.Suspension.{number_waits, number_over, number_read, text_waits, text_breaks, text_ends, text_not}
+use Rattle.dbus_types.specs.SignatureCodes.{first_code}
+use Rattle.dbus_value_checker.proofs.Suspension.{split-at, first_err, then_err, then_ok, front_as, forgotten, number_waits, number_over, number_read, text_waits, text_breaks, text_ends, text_not}
+use Rattle.dbus_value_checker.specs.declared.values.ValueChecker.{ValueChecker}
+use Rattle.dbus_value_checker.specs.Moves.{Moves}
+use Rattle.dbus_value_checker.specs.Fronts.{Halts, Fronts, Lack}
+use Rattle.dbus_value_checker.specs.Suspended.{On, onward, done}
 
 -- ---- what is read after a front
 
@@ -254,3 +254,53 @@ module _ (k : WantedText) (n o : ℕ) (s given : List ℕ) (is : given ≡ take 
         let le = g.0 in
         let fits = g.1 in
         (omega arith, λ c. subst (λ (t : List ℕ). text k n o (t ++ c) ≡ Done t (o + n) c) is (text_ends k n o given c (omega arith) (is_wanted k given wanted)))
+
+-- Which type begins with a code, what a type opens, and which types are complete in it.
+
+-- ---- which type begins with the code of a container, of a text, of a number
+
+pub array_of : (t : TypeTree) → first_code t ≡ 97 → (u : TypeTree) × (t ≡ ArrayType u)
+array_of t e = let a = array_is t (sig t) refl (sym (code_is t (sig t) refl) ∙ e) in (a.0, a.1)
+
+pub struct_of : (t : TypeTree) → first_code t ≡ 40 → (ts : TypeTrees) × (t ≡ StructType ts)
+struct_of t e = let s = struct_is t (sig t) refl (sym (code_is t (sig t) refl) ∙ e) in (s.0, s.1)
+
+pub entry_of : (t : TypeTree) → first_code t ≡ 123 → (k : TypeTree) × ((v : TypeTree) × (t ≡ EntryType k v))
+entry_of t e = let s = entry_is t (sig t) refl (sym (code_is t (sig t) refl) ∙ e) in (s.0, (s.1, s.2))
+
+pub text_of : (t : TypeTree) (c : ℕ) → first_code t ≡ c → (c ≡ 103) ⊎ ((c ≡ 111) ⊎ (c ≡ 115)) → (k : TextCode) × (t ≡ TextType k)
+text_of t c e (inl a) = (SIGNATURE, text_is t SIGNATURE (e ∙ a))
+text_of t c e (inr (inl a)) = (OBJECT_PATH, text_is t OBJECT_PATH (e ∙ a))
+text_of t c e (inr (inr a)) = (STRING, text_is t STRING (e ∙ a))
+
+pub number_type : (t : TypeTree) (c : ℕ) → first_code t ≡ c → (c ≡ 97 → ⊥) → (c ≡ 40 → ⊥) → (c ≡ 123 → ⊥) → (c ≡ 103 → ⊥) → (c ≡ 111 → ⊥) → (c ≡ 115 → ⊥) → (c ≡ 118 → ⊥) → (k : NumberCode) × (t ≡ NumberType k)
+number_type (NumberType k) c e n1 n2 n3 n4 n5 n6 n7 = (k, refl)
+number_type (TextType STRING) c e n1 n2 n3 n4 n5 n6 n7 = absurd (n6 (sym e))
+number_type (TextType OBJECT_PATH) c e n1 n2 n3 n4 n5 n6 n7 = absurd (n5 (sym e))
+number_type (TextType SIGNATURE) c e n1 n2 n3 n4 n5 n6 n7 = absurd (n4 (sym e))
+number_type VariantType c e n1 n2 n3 n4 n5 n6 n7 = absurd (n7 (sym e))
+number_type (ArrayType u) c e n1 n2 n3 n4 n5 n6 n7 = absurd (n1 (sym e))
+number_type (StructType ts) c e n1 n2 n3 n4 n5 n6 n7 = absurd (n2 (sym e))
+number_type (EntryType k v) c e n1 n2 n3 n4 n5 n6 n7 = absurd (n3 (sym e))
+
+-- ---- which types are complete
+
+pub array_complete : (b : Bool) (u : TypeTree) → IsShaped b (ArrayType u) → IsShaped true u
+array_complete true u h = h
+array_complete false u h = h
+
+pub sigs_some : (t : TypeTree) (ts : TypeTrees) → 0 < length (sigs (MoreTypes t ts))
+sigs_some t ts = let e = ap (λ (l : List ℕ). length l) (begins t) in omega (arith, e, length-append (sig t) (sigs ts))
+
+pub struct_complete : (b : Bool) (ts : TypeTrees) → IsShaped b (StructType ts) → AreShaped ts × (0 < length (sigs ts))
+struct_complete true NoTypes h = absurd h
+struct_complete false NoTypes h = absurd h
+struct_complete true (MoreTypes t ts) h = (h, sigs_some t ts)
+struct_complete false (MoreTypes t ts) h = (h, sigs_some t ts)
+
+pub entry_text : (k v : TypeTree) → sig (EntryType k v) ≡ 123 ∷ (sigs (MoreTypes k (MoreTypes v NoTypes)) ++ 125 ∷ [])
+entry_text k v = simp (append_assoc, append-nil)
+
+pub entry_complete : (b : Bool) (k v : TypeTree) → IsShaped b (EntryType k v) → (b ≡ true) × AreShaped (MoreTypes k (MoreTypes v NoTypes))
+entry_complete true k v h = (refl, entry_shaped k v h)
+entry_complete false k v h = absurd h

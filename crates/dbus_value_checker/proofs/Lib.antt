@@ -1,6 +1,5 @@
 pub mod Suspension
 pub mod FrontSteps
-pub mod TypeCodes
 pub mod Slices
 pub mod FrameLaws
 pub mod Notes
@@ -11,5 +10,4 @@ pub mod TextSteps
 pub mod NumberRuns
 pub mod ArrayRuns
 pub mod Calls
-pub mod Chains
 pub mod WholeValues

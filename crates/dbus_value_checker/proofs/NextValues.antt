@@ -14,7 +14,7 @@ use Rattle.dbus_value_checker.proofs.Suspension.{parts_more, elements_more, elem
 use Rattle.dbus_value_checker.specs.Moves.{Pushed, values_on}
 use Rattle.dbus_value_checker.proofs.FrameLaws.{frame_within, within, frames_reach}
 use Rattle.dbus_value_checker.proofs.Notes.{part_noted, same_notes, after_noted}
-use Rattle.dbus_value_checker.proofs.TypeCodes.{sigs_some}
+use Rattle.dbus_value_checker.proofs.FrontSteps.{sigs_some}
 use Rattle.dbus_value_checker.proofs.Slices.{slice_room, slice_whole, slice_after, slice_first}
 
 -- a state whose only frame is that of these types

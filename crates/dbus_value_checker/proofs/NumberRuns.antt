@@ -15,8 +15,7 @@ use Rattle.dbus_value_model.proofs.FreeNumbers.{free_is}
 use Rattle.dbus_value_laws.proofs.ValueItemLaws.{width_positive}
 use Rattle.dbus_value_validator.proofs.NumberArrays.{stays_aligned}
 use Rattle.dbus_value_checker.specs.Suspended.{On, Elements, work, ANumber, AHead, own}
-use Rattle.dbus_value_checker.proofs.Chains.{split-at}
-use Rattle.dbus_value_checker.proofs.Suspension.{elements_more, value_begins, padding_zeros, number_waits}
+use Rattle.dbus_value_checker.proofs.Suspension.{split-at, elements_more, value_begins, padding_zeros, number_waits}
 use Rattle.dbus_value_checker.proofs.FrontSteps.{number_taken}
 use Rattle.dbus_value_checker.proofs.TextSteps.{empty_list}
 

@@ -25,10 +25,9 @@ use Rattle.dbus_texts.specs.declared.text_kind.TextKind.{TextKind}
 use Rattle.dbus_texts.specs.declared.text_kind.TextKind.TheVariants as kinds
 use Rattle.dbus_value_checker.specs.Moves.{Moves, Pushed, Enters}
 use Rattle.dbus_value_checker.proofs.Suspension.{works_as, value_begins, after_after}
-use Rattle.dbus_value_checker.proofs.FrontSteps.{front_taken, front_stops}
+use Rattle.dbus_value_checker.proofs.FrontSteps.{front_taken, front_stops, array_of, struct_of, entry_of, text_of, number_type, array_complete, struct_complete, entry_complete, entry_text, sigs_some}
 use Rattle.dbus_value_checker.proofs.Slices.{slice_head, slice_room, slice_after, slice_inner}
 use Rattle.dbus_value_checker.proofs.FrameLaws.{frames_at, frame_within, pushed_frames, inner_of}
-use Rattle.dbus_value_checker.proofs.TypeCodes.{array_of, struct_of, entry_of, text_of, number_type, array_complete, struct_complete, entry_complete, entry_text, sigs_some}
 use Rattle.dbus_value_checker.proofs.NextValues.{next_part_at}
 use Rattle.dbus_value_checker.proofs.Notes.{part_noted, pushed_notes}
 

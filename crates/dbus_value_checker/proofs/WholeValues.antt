@@ -12,10 +12,10 @@ use Rattle.dbus_value_laws.proofs.ValueItemLaws.{Agrees-value, value_inside}
 use Rattle.dbus_value_laws.proofs.ValueSteps.{shaped_inside}
 use Rattle.dbus_value_validator.specs.Endings.{EndsAt, AreNoted}
 use Rattle.dbus_value_validator.proofs.NumberArrays.{boolean_ends}
-use Rattle.dbus_value_validator.proofs.Spelled.{value_spelled}
+use Rattle.dbus_value_validator.proofs.ItemSteps.{value_spelled}
 use Rattle.dbus_value_checker.specs.declared.values.ValueChecker.{ValueChecker}
 use Rattle.dbus_value_checker.specs.Denotations.{slice, IsNoted, Answer, rest_of, Goes, Wants, after_piece}
-use Rattle.dbus_value_checker.proofs.Chains.{take-both}
+use Rattle.dbus_value_checker.proofs.Suspension.{take-both}
 use Rattle.dbus_value_checker.proofs.FrameLaws.{frames_at, inner_of}
 use Rattle.dbus_value_checker.proofs.NextValues.{next_element}
 

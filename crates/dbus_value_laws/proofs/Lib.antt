@@ -1,10 +1,7 @@
 pub mod KindLaws
 pub mod Agreement
 pub mod OwnItems
-pub mod Contents
 pub mod Composition
 pub mod ValueItemLaws
-pub mod ValueOutcomes
 pub mod ReadSteps
-pub mod StringSteps
 pub mod ValueSteps

@@ -1,24 +1,34 @@
 -- Steps of reading: the bytes of a slice, padding, numbers, an array's length, and the zero after a
 -- text.
-use Rattle.std.proofs.Common.{◌≡◌, ℕ, zero, suc, ◌+◌, ◌-◌, ◌<◌, ◌≤◌, List, ◌∷◌, length, get_or, take, drop, Option, Some, None, ◌%◌, Bool, true, false, cond, ltb, refl, ap, ◌∙◌, arith, []}
+use Rattle.std.proofs.Common.{◌≡◌, ℕ, zero, suc, ◌+◌, ◌-◌, ◌<◌, ◌≤◌, List, ◌∷◌, length, get_or, take, drop, Option, Some, None, ◌%◌, Bool, true, false, cond, ltb, refl, ap, ◌∙◌, arith, [], IsUtf8, sym, subst}
 use Rattle.std.proofs.lemmas.Bool.{lt-ltb, le-ltb}
-use Rattle.std.proofs.lemmas.List.{drop_more, drop-drop, length-drop, get_or-drop}
+use Rattle.std.proofs.lemmas.List.{drop_more, drop-drop, length-drop, get_or-drop, length-take}
 use Rattle.std.proofs.Math.Numerals.{add-one}
+use Rattle.std.proofs.lemmas.Str.{IsUtf8-from_ascii}
 use Rattle.dbus_value_model.specs.declared.order.Order.{Order}
 use Rattle.dbus_value_model.specs.declared.order.Order.TheVariants.{Little, Big}
 use Rattle.dbus_value_model.specs.declared.fault.Reason.{Reason}
 use Rattle.dbus_value_model.specs.Bytes.{gap_to}
 use Rattle.dbus_value_model.specs.ByteNumbers.{IsBytes}
 use Rattle.dbus_value_model.specs.Items.{fault, no_row}
-use Rattle.dbus_value_model.specs.Reading.{Reader, Outcome, Done, Faulty, Partial, after, zeros, padding, number, number_of, validated, nul}
+use Rattle.dbus_value_model.specs.Reading.{Reader, Outcome, Done, Faulty, Partial, after, zeros, padding, number, number_of, validated, nul, text}
 use Rattle.dbus_value_model.specs.declared.stop.Stop.{Stop}
-use Rattle.dbus_value_model.specs.ValueReaders.{Stops, array_frame}
+use Rattle.dbus_value_model.specs.ValueReaders.{Stops, array_frame, text_value}
 use Rattle.dbus_value_model.specs.ValueItems.{text_row, array_row}
-use Rattle.dbus_texts.specs.Types.{TypeTree}
+use Rattle.dbus_texts.specs.Types.{TypeTree, SIGNATURE}
 use Rattle.dbus_types.specs.Alignments.{alignment_of}
 use Rattle.dbus_value_model.specs.declared.limits.Bounds.{Bounds}
 use Rattle.dbus_value_model.specs.declared.fault.Reason.TheVariants as reasons
 use Rattle.dbus_value_model.specs.declared.stop.Stop.TheVariants as stops
+use Rattle.dbus_texts.specs.ComputedKinds.{types_spelled}
+use Rattle.dbus_texts.specs.Kinds.{IsKind}
+use Rattle.dbus_texts.specs.declared.text_kind.TextKind.TheVariants.{Signature}
+use Rattle.dbus_texts.proofs.KindFacts.{is_kind_of, signature_text_is}
+use Rattle.dbus_texts.proofs.TypeTexts.{sigs_ascii}
+use Rattle.dbus_value_model.specs.WantedTexts.{Of, WantedText, Only, IsWanted}
+use Rattle.dbus_value_model.specs.Values.{TextValue}
+use Rattle.dbus_value_model.specs.ComputedTexts.{break_at}
+use Rattle.dbus_value_laws.proofs.KindLaws.{break_whole, is_wanted}
 
 -- a stop within the first part is one of the whole
 pub stops_after : {A B : Type 0} (e : Stop) (r : Outcome A) (next : A → Reader B) → Stops e r → Stops e (after r next)
@@ -167,3 +177,42 @@ bytes_from (b ∷ s) h = (h 0, bytes_from s (λ i. h (suc i)))
 
 pub bytes_at : (s : List ℕ) (at : ℕ) → ((i : ℕ) → get_or s i 0 < 256) → IsBytes (drop at s)
 bytes_at s at h = bytes_from (drop at s) (λ i. rw get_or-drop (h (at + i)))
+
+-- Steps of reading texts.
+
+-- ---- a text that is there
+
+-- given is what is there of a text of n bytes at a place
+module _ (k : WantedText) (n at : ℕ) (bytes given : List ℕ) (is : given ≡ take n (drop at bytes)) where
+  module _ (wanted : IsWanted k given) where
+    pub text_there : n ≤ length given → text k n at (drop at bytes) ≡ Done (take n (drop at bytes)) (at + n) (drop (at + n) bytes)
+    unfolding text
+    text_there whole =
+        let all = ap length is ∙ length-take n (drop at bytes) in
+        let enough : n ≤ length (drop at bytes) = omega arith in
+        let e : break_at k given ≡ length given = break_whole k given wanted in
+        rw (← is, e, le-ltb (length given) (length given) (omega arith), le-ltb _ _ enough, is_wanted k given wanted, drop-drop n at bytes) refl
+
+module _ (n at : ℕ) (bytes given : List ℕ) (is : given ≡ take n (drop at bytes)) where
+  pub only_done : (u : List ℕ) → given ≡ u → n ≤ length given → text (Only u) n at (drop at bytes) ≡ Done u (at + n) (drop (at + n) bytes)
+  only_done u e whole =
+      text_there (Only u) n at bytes given is e whole ∙ ap (λ (t : List ℕ). Done t (at + n) (drop (at + n) bytes)) (sym is ∙ e)
+
+-- the text of n bytes at a place, up to the place after it
+module _ (n at suffix : ℕ) (bytes : List ℕ) (ends : suffix ≡ at + n) where
+  pub same_part : take n (drop at bytes) ≡ take (suffix - at) (drop at bytes)
+  same_part = let long : n ≡ suffix - at = omega arith in ap (λ (k : ℕ). take k (drop at bytes)) long
+
+  pub utf8_signature : IsKind Signature (take n (drop at bytes)) → IsUtf8 (take (suffix - at) (drop at bytes))
+  utf8_signature h =
+      let e = (signature_text_is (take n (drop at bytes)) (is_kind_of Signature (take n (drop at bytes)) h)).1 in
+      subst IsUtf8 (e ∙ same_part) (IsUtf8-from_ascii _ (sigs_ascii (types_spelled (take n (drop at bytes)))))
+
+-- ---- a signature has no padding
+
+module _ (order : Order) (end o : ℕ) (s : List ℕ) (fits : o ≤ end) where
+  module _ (n p : ℕ) (t : List ℕ) (measured : number order 1 end (text_row end) o s ≡ Done n p t) where
+    module _ (w : List ℕ) (q : ℕ) (r : List ℕ) (there : text (Of Signature) n p t ≡ Done w q r) where
+      pub sig_done : (q' : ℕ) (r' : List ℕ) → nul q r ≡ Done tt q' r' → text_value order end SIGNATURE o s ≡ Done (TextValue SIGNATURE w) q' r'
+      unfolding text_value
+      sig_done q' r' h = rw (no_padding end o s fits, measured, there, h) refl

@@ -1,6 +1,6 @@
 //! Laws over the definitions: what a function here ensures is a fact about the marshalling
 //! relation, and it does nothing when it runs. D-Bus Specification, "Marshaling (Wire Format)".
-#![tactic(auto, using(crate::proofs::ValueOutcomes::laws))]
+#![tactic(auto, using(crate::proofs::ValueItemLaws::laws))]
 
 ghost use Rattle.dbus_value_model.specs.Laws.{OneValue, OneOutcome, NotBoth, OneFault, RefusedForGood, DoneForGood, LeastPadding, NumberIsPlaceSum, ReadsSpelled, ReadsFaults};
 

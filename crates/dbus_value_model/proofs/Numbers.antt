@@ -1,13 +1,20 @@
 -- Bytes and the numbers that they spell.
-use Rattle.std.proofs.Common.{◌≡◌, ℕ, zero, suc, ◌+◌, ◌*◌, ◌/◌, ◌%◌, ◌^◌, ◌<◌, List, [], ◌∷◌, ◌++◌, length, reverse, refl, sym, ap, subst, ◌∙◌, arith}
-use Rattle.std.proofs.lemmas.List.{reverse-append, reverse-reverse, length-reverse}
-use Rattle.std.proofs.Math.Nat.{pow-succ'}
+use Rattle.std.proofs.Common.{◌≡◌, ℕ, zero, suc, ◌+◌, ◌*◌, ◌/◌, ◌%◌, ◌^◌, ◌<◌, List, [], ◌∷◌, ◌++◌, length, reverse, refl, sym, ap, subst, ◌∙◌, arith, get_or, ◌≤◌, take, drop, replicate}
+use Rattle.std.proofs.lemmas.List.{reverse-append, reverse-reverse, length-reverse, drop_more}
+use Rattle.std.proofs.Math.Nat.{pow-succ', div-div-eq-div-mul}
+use Rattle.std.specs.Int.{w16, w32, w64, byte_at, bytes_low_first, to_le_bytes, to_be_bytes}
+use Rattle.dbus_texts.specs.Types.{BYTE}
 use Rattle.dbus_value_model.specs.ByteNumbers.{IsBytes}
 use Rattle.dbus_value_model.specs.Bytes.{low_first, num, gap_to}
 use Rattle.dbus_value_model.specs.declared.order.Order.{Order}
 use Rattle.dbus_value_model.specs.declared.order.Order.TheVariants.{Little, Big}
 use Rattle.dbus_value_model.specs.Reading.{place_sum, number_of}
 use Rattle.dbus_value_model.specs.Laws.{LeastPadding, NumberIsPlaceSum}
+use Rattle.dbus_value_model.specs.Verdicts.{HoldNumbers}
+use Rattle.dbus_value_model.specs.ValueViews.{byte_values}
+use Rattle.dbus_value_model.specs.Spelling.{spelling}
+use Rattle.dbus_value_model.specs.Values.{NumberValue}
+use Rattle.dbus_value_model.proofs.Periods.{no_gap}
 
 pub IsBytes-append : (s t : List ℕ) → IsBytes s → IsBytes t → IsBytes (s ++ t)
 IsBytes-append [] t hs ht = ht
@@ -90,3 +97,88 @@ least_padding o = ((omega arith, λ k h. omega arith), (omega arith, λ k h. ome
 
 pub number_is_place_sum : NumberIsPlaceSum
 number_is_place_sum order w n h = (length-num order w n, number_of-num order w n h)
+
+-- The bytes of a number, as std has them.
+
+byte_is : (i n : ℕ) → byte_at i n ≡ n / 256 ^ i % 256
+byte_is zero n = omega arith
+byte_is (suc i) n = refl
+
+lower : (i n : ℕ) → n / 256 ^ i / 256 ≡ n / 256 ^ suc i
+lower i n =
+    let e = pow-succ' 256 i in
+    let same : 256 ^ i * 256 ≡ 256 ^ suc i = omega arith in
+    div-div-eq-div-mul n (256 ^ i) 256 ∙ ap (λ (k : ℕ). n / k) same
+
+low_first_from : (i w n : ℕ) → low_first w (n / 256 ^ i) ≡ bytes_low_first i w n
+unfolding low_first
+low_first_from i zero n = refl
+low_first_from i (suc w) n =
+    let tail : low_first w (n / 256 ^ i / 256) ≡ bytes_low_first (suc i) w n = ap (low_first w) (lower i n) ∙ low_first_from (suc i) w n in
+    rw (← byte_is i n, tail) refl
+
+low_first_is : (w n : ℕ) → low_first w n ≡ bytes_low_first 0 w n
+low_first_is w n =
+    let e : n ≡ n / 256 ^ 0 = omega arith in
+    ap (low_first w) e ∙ low_first_from 0 w n
+
+pub num_16_little : (n : ℕ) → to_le_bytes w16 n ≡ num Little 2 n
+unfolding num
+num_16_little n = sym (low_first_is 2 n)
+
+pub num_16_big : (n : ℕ) → to_be_bytes w16 n ≡ num Big 2 n
+unfolding num
+num_16_big n = sym (ap reverse (low_first_is 2 n))
+
+pub num_32_little : (n : ℕ) → to_le_bytes w32 n ≡ num Little 4 n
+unfolding num
+num_32_little n = sym (low_first_is 4 n)
+
+pub num_32_big : (n : ℕ) → to_be_bytes w32 n ≡ num Big 4 n
+unfolding num
+num_32_big n = sym (ap reverse (low_first_is 4 n))
+
+pub num_64_little : (n : ℕ) → to_le_bytes w64 n ≡ num Little 8 n
+unfolding num
+num_64_little n = sym (low_first_is 8 n)
+
+pub num_64_big : (n : ℕ) → to_be_bytes w64 n ≡ num Big 8 n
+unfolding num
+num_64_big n = sym (ap reverse (low_first_is 8 n))
+
+pub ruleset numbers = (num_16_little, num_16_big, num_32_little, num_32_big, num_64_little, num_64_big)
+
+-- The numbers of values, one value after another.
+
+pub bytes_hold : (bs : List ℕ) → ((i : ℕ) → i < length bs → get_or bs i 0 < 256) → HoldNumbers (byte_values bs)
+bytes_hold [] h = tt
+bytes_hold (b ∷ bs) h = (h 0 (omega arith), bytes_hold bs (λ i l. h (suc i) (omega arith)))
+
+-- The bytes of a slice from a place on, one by one.
+
+-- n bytes, from i places after `at` on
+abbrev listed : ℕ → ℕ → ℕ → List ℕ → List ℕ
+listed zero i at bytes = []
+listed (suc n) i at bytes = get_or bytes (at + i) 0 ∷ listed n (suc i) at bytes
+
+listed_from : (n i at : ℕ) (bytes : List ℕ) → at + i + n ≤ length bytes → take n (drop (at + i) bytes) ≡ listed n i at bytes
+listed_from zero i at bytes h = refl
+listed_from (suc n) i at bytes h =
+    let next : at + i + 1 ≡ at + suc i = omega arith in
+    rw (drop_more bytes (at + i) 0 (omega arith), next, listed_from n (suc i) at bytes (omega arith)) refl
+
+pub bytes_at : (n at : ℕ) (bytes : List ℕ) → at + n ≤ length bytes → take n (drop at bytes) ≡ listed n 0 at bytes
+bytes_at n at bytes h =
+    let here : at ≡ at + 0 = omega arith in
+    ap (λ (p : ℕ). take n (drop p bytes)) here ∙ listed_from n 0 at bytes (omega arith)
+
+-- A number of one byte, and a BYTE, are spelled by it in either order.
+
+pub num_1 : (order : Order) (n : ℕ) → n < 256 → num order 1 n ≡ n ∷ []
+unfolding num low_first
+num_1 Little n h = let e : n % 256 ≡ n = omega arith in ap (λ (m : ℕ). m ∷ []) e
+num_1 Big n h = let e : n % 256 ≡ n = omega arith in ap (λ (m : ℕ). m ∷ []) e
+
+pub byte_spelled : (order : Order) (o n : ℕ) → n < 256 → spelling order o (NumberValue BYTE n) ≡ n ∷ []
+unfolding spelling
+byte_spelled order o n h = ap (λ (g : ℕ). replicate g 0 ++ num order 1 n) (no_gap o) ∙ num_1 order n h

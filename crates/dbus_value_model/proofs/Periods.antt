@@ -1,5 +1,6 @@
 -- A spelling, and whether its arrays keep their limit, depend on the offset modulo 8 alone.
-use Rattle.std.proofs.Common.{◌≡◌, ℕ, ◌+◌, ◌%◌, ◌≤◌, List, ◌++◌, length, replicate, refl, sym, ap, subst, ◌∙◌, arith}
+use Rattle.std.proofs.Common.{◌≡◌, ℕ, ◌+◌, ◌%◌, ◌≤◌, List, ◌++◌, length, replicate, refl, sym, ap, subst, ◌∙◌, arith, ◌-◌, ◌<◌}
+use Rattle.std.proofs.Math.Nat.{mod-lt}
 use Rattle.dbus_texts.specs.Types.{sig, TypeTree, NumberType, TextType, VariantType, ArrayType, StructType, EntryType, NumberCode, BYTE, BOOLEAN, INT16, UINT16, INT32, UINT32, INT64, UINT64, DOUBLE, UNIX_FD, TextCode, STRING, OBJECT_PATH, SIGNATURE}
 use Rattle.dbus_types.specs.Alignments.{width, length_width, alignment_of}
 use Rattle.dbus_value_model.specs.declared.limits.Bounds.{Bounds}
@@ -148,3 +149,15 @@ spelled-period {bounds} {order} {depth_left} {t} {s} {r} {v} o p e f n same le d
       place = omega (arith, d.place, ap length period.0);
       bound = le;
     }
+
+-- How many zeros reach a boundary.
+
+-- fewer than the boundary
+pub gap_below : (a o : ℕ) → 0 < a → gap_to a o < a
+unfolding gap_to
+gap_below a o some = mod-lt (a - o % a) some
+
+-- none to a boundary of 1
+pub no_gap : (o : ℕ) → gap_to 1 o ≡ 0
+unfolding gap_to
+no_gap o = omega arith

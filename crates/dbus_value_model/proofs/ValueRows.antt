@@ -1,7 +1,8 @@
 -- A value's tree, level by level.
-use Rattle.std.proofs.Common.{◌≡◌, ℕ, ℤ, Vec, Box, String, Bool, rules, cond}
+use Rattle.std.proofs.Common.{◌≡◌, ℕ, ℤ, Vec, Box, String, Bool, rules, cond, zero, suc, ◌+◌, ◌<◌, List, [], ◌∷◌, length, get_or, drop, sym, subst, arith}
 use Rattle.std.specs.Prelude.{string_bytes}
 use Rattle.std.specs.Int.{cast_unsigned, w16, w32, w64}
+use Rattle.std.proofs.lemmas.List.{drop_more}
 use Rattle.dbus_texts.specs.Types.{NumberType, BYTE, BOOLEAN, INT16, UINT16, INT32, UINT32, INT64, UINT64, DOUBLE, UNIX_FD, STRING, OBJECT_PATH, SIGNATURE}
 use Rattle.dbus_types.specs.SigTypes.{type_tree}
 use Rattle.dbus_types.specs.declared.sig_type.SigType.{SigType}
@@ -63,3 +64,20 @@ tree-Entry e = search (rules, the_lemmas)
 
 pub tree-Variant : {A : Type 0} (v : Box (Value A) A) → value_tree {A = A} (Variant v) ≡ VariantValue (value_tree v.value)
 tree-Variant v = search (rules, the_lemmas)
+
+-- What is said of every item of a list, one by one.
+
+module _ {A : Type 0} (Each : List A → Type 0) where
+  -- said of all, it is said of the one at i
+  module _ (P : A → Type 0) (parts : (x : A) (xs : List A) → Each (x ∷ xs) → P x × Each xs) where
+    at_index : (xs : List A) (i : ℕ) (d : A) → i < length xs → Each xs → P (get_or xs i d)
+    at_index [] i d l h = absurd (omega arith)
+    at_index (x ∷ xs) zero d l h = (parts x xs h).0
+    at_index (x ∷ xs) (suc i) d l h = at_index xs i d (omega arith) (parts x xs h).1
+
+    pub item_of : (xs : List A) (i : ℕ) (x : A) → i < length xs → x ≡ get_or xs i x → Each xs → P x
+    item_of xs i x l is h = subst P (sym is) (at_index xs i x l h)
+
+  -- said of the one at i and of those after it, it is said of all from i on
+  pub items_from : (xs : List A) (i : ℕ) (x : A) → i < length xs → x ≡ get_or xs i x → Each (x ∷ drop (i + 1) xs) → Each (drop i xs)
+  items_from xs i x l is h = subst Each (sym (drop_more xs i x l)) (subst (λ y. Each (y ∷ drop (i + 1) xs)) is h)

@@ -14,7 +14,7 @@ use Rattle.dbus_value_model.specs.ValueViews.{value_tree, value_trees_of, byte_v
 use Rattle.dbus_value_model.specs.declared.value.Value.{Value, Bytes, Array, Struct, Variant}
 use Rattle.dbus_value_model.specs.declared.verdict.Verdict.{Verdict}
 use Rattle.dbus_value_model.specs.declared.verdict.Verdict.TheVariants.{TooDeep, Mixed, Misnamed, Sound}
-use Rattle.dbus_value_model.proofs.Fitting.{keeps-Array, keeps-Struct, keeps-Variant, keeps-Bytes}
+use Rattle.dbus_value_model.proofs.Formed.{keeps-Array, keeps-Struct, keeps-Variant, keeps-Bytes}
 use Rattle.dbus_value_model.proofs.ValueRows.{tree-Bytes, tree-Array, tree-Struct, tree-Variant}
 
 -- ---- any facts

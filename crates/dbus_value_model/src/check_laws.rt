@@ -15,7 +15,7 @@ pub fn formed_by_parts()
 /// If the type of a whole is one that a signature spells, the items of arrays have their arrays'
 /// types and the values of variants such types as well exactly if every part, but for dict entries
 /// in arrays, has such a type.
-#[tactic(auto, using(crate::proofs::TypeParts::wholes_speak))]
+#[tactic(auto, using(crate::proofs::TypeRows::wholes_speak))]
 pub fn wholes_speak_for_parts()
     ensures { WholesSpeakForParts }
 {}

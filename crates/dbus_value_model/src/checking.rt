@@ -52,7 +52,7 @@ pub fn check_value<A: Allocator + Copy>(
 /// never returned. A value that passes has short signatures, as writing and measuring ask, and as
 /// every value has it, numbers in the ranges of their types. D-Bus Specification, "Type System",
 /// "Valid Signatures" and "Message Protocol".
-#[tactic(auto, using(crate::proofs::ShortLaws::short_of))]
+#[tactic(auto, using(crate::proofs::Formed::short_of))]
 pub fn check_value_within<A: Allocator + Copy>(
     _alloc: A,
     value: &Value<A>,

@@ -1,3 +1,2 @@
-pub mod Codes
+pub mod Rows
 pub mod Read
-mod Rows

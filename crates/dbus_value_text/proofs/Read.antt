@@ -24,7 +24,7 @@ use Rattle.dbus_walk.proofs.Parts.{NumberStands, TextStands}
 use Rattle.dbus_walk.proofs.ReadThere.{number_read}
 use Rattle.dbus_show.specs.ShownValues.{bytes_in}
 use Rattle.dbus_value_text.specs.Forms.{IsListed, told_types}
-use Rattle.dbus_value_text.proofs.Codes.{types_ascii, byte_is, not_byte, bytes_spelled}
+use Rattle.dbus_value_text.proofs.Rows.{types_ascii, byte_is, not_byte, bytes_spelled}
 
 -- a container other than an array opens
 pub told_parts : (what : Container) (v : ValueTree) → IsOf what v → (what ≡ kind.Array → ⊥) → IsListed v × (told_types v ≡ sigs (types_of (parts v)))

@@ -4,7 +4,7 @@ use Rattle.std.specs.List.{flat_map}
 use Rattle.std.proofs.lemmas.List.Concat.{flat_map-append}
 use Rattle.dbus_value_model.specs.Values.{ValueTree, ValueTrees, NoValues, value_trees}
 use Rattle.dbus_walk.specs.Containers.{parts, is_none}
-use Rattle.dbus_show.proofs.Gaining.{then}
+use Rattle.dbus_show.proofs.FieldTexts.{then}
 use Rattle.dbus_value_text.specs.Gaining.{Joins}
 use Rattle.dbus_value_text.specs.Forms.{AreTexts, IsListed, joined, part_text}
 use Rattle.dbus_value_text.specs.Writing.{Writes, WritesSome, WritesAll, Opens}

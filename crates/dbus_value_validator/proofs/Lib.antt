@@ -1,8 +1,5 @@
 pub mod ReadParts
 pub mod ItemSteps
-mod NotedTypes
+mod OpenStructs
 pub mod NumberArrays
 pub mod ValueSteps
-mod OpenStructs
-pub mod Spelled
-mod PlainBlocks

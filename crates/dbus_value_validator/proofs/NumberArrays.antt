@@ -1,7 +1,11 @@
 -- Arrays of numbers that may all stand: they end where their bytes are those of whole numbers.
-use Rattle.std.proofs.Common.{◌≡◌, ℕ, zero, suc, ◌+◌, ◌-◌, ◌*◌, ◌/◌, ◌%◌, ◌<◌, ◌≤◌, List, [], ◌∷◌, length, take, drop, refl, Some, None, Bool, true, false, cond, eqb, inl, inr, sym, ap, ◌∙◌, arith}
+use Rattle.std.proofs.Common.{◌≡◌, ℕ, zero, suc, ◌+◌, ◌-◌, ◌*◌, ◌/◌, ◌%◌, ◌<◌, ◌≤◌, List, [], ◌∷◌, length, take, drop, refl, Some, None, Bool, true, false, cond, eqb, inl, inr, sym, ap, ◌∙◌, arith, ◌++◌, subst}
 use Rattle.std.proofs.Math.Nat.{add-mod_right, add-mod-mod, mul-add-mod_self_left, mod_self, mod-eq_of_lt}
 use Rattle.std.proofs.lemmas.Bool.{lt-ltb, eq-eqb, ne_eqb, cases_lt}
+use Rattle.std.specs.List.{AllByRecursion}
+use Rattle.std.specs.Int.{IsInRange}
+use Rattle.std.proofs.lemmas.List.{drop-drop, drop-take}
+use Rattle.std.proofs.Math.Seq.{take-add}
 use Rattle.dbus_texts.specs.Types.{TypeTree, NumberCode, NumberType, BOOLEAN}
 use Rattle.dbus_types.specs.Alignments.{width}
 use Rattle.dbus_value_model.specs.declared.limits.Bounds.{Bounds}
@@ -13,6 +17,7 @@ use Rattle.dbus_value_model.specs.Reading.{Reader, Done, up_to, contents, value,
 use Rattle.dbus_value_model.proofs.FreeNumbers.{FreeType}
 use Rattle.dbus_value_laws.proofs.ReadSteps.{padding_is}
 use Rattle.dbus_value_laws.proofs.ValueSteps.{value_number, no_turn}
+use Rattle.dbus_texts.proofs.WordBlocks.{plain_append}
 use Rattle.dbus_value_validator.specs.Endings.{Answers, EndsAt, IsNotRead}
 use Rattle.dbus_value_validator.proofs.ReadParts.{not_first, answers_made}
 use Rattle.dbus_value_validator.proofs.ItemSteps.{is_number, free_ends, number_short, is_boolean}
@@ -124,3 +129,27 @@ boolean_elements bounds order depth_left n first bytes begins ends inside few =
 -- one of them
 pub boolean_ends : (bounds : Bounds) (order : Order) (depth_left end p : ℕ) (bytes : List ℕ) → gap_to 4 p ≡ 0 → p + 4 ≤ end → end ≤ length bytes → number_of order (take 4 (drop p bytes)) ≤ 1 → EndsAt bytes (p + 4) (value bounds order depth_left end (NumberType BOOLEAN) p (drop p bytes))
 boolean_ends bounds order depth_left end p bytes aligned fits inside few = number_ends bounds order depth_left end BOOLEAN 4 p bytes refl (is_boolean bounds.fds (p + 4) (number_of order (take 4 (drop p bytes))) few) aligned fits inside
+
+-- Bytes from 1 to 127, block by block.
+
+abbrev pub ArePlain : List ℕ → Type 0
+ArePlain w = AllByRecursion (IsInRange 1 127) w
+
+module _ (bytes : List ℕ) (start at : ℕ) (begun : start ≤ at) (before : ArePlain (take (at - start) (drop start bytes))) where
+  -- n bytes more
+  pub plain_more : (n : ℕ) → ArePlain (take n (drop at bytes)) → ArePlain (take (at + n - start) (drop start bytes))
+  plain_more n more =
+      let far : start + (at - start) ≡ at = omega arith in
+      let long : at - start + n ≡ at + n - start = omega arith in
+      let rest : drop (at - start) (drop start bytes) ≡ drop at bytes = drop-drop (at - start) start bytes ∙ ap (λ (i : ℕ). drop i bytes) far in
+      let split : take (at - start + n) (drop start bytes) ≡ take (at - start) (drop start bytes) ++ take n (drop at bytes) = take-add (at - start) n (drop start bytes) ∙ ap (λ (l : List ℕ). take (at - start) (drop start bytes) ++ take n l) rest in
+      subst (λ (i : ℕ). ArePlain (take i (drop start bytes))) long (subst ArePlain (sym split) (plain_append _ _ before more))
+
+  -- the last block, which ends with the bytes
+  pub plain_last : (end last : ℕ) → at ≤ end → end - at ≤ 16 → end ≡ last + 16 → ArePlain (drop (at - last) (take 16 (drop last bytes))) → ArePlain (take (end - start) (drop start bytes))
+  plain_last end last le few is block =
+      let far : last + (at - last) ≡ at = omega arith in
+      let long : at - last + (end - at) ≡ 16 = omega arith in
+      let all : at + (end - at) - start ≡ end - start = omega arith in
+      let same : drop (at - last) (take 16 (drop last bytes)) ≡ take (end - at) (drop at bytes) = ap (λ (i : ℕ). drop (at - last) (take i (drop last bytes))) (sym long) ∙ drop-take (at - last) (end - at) (drop last bytes) ∙ ap (take (end - at)) (drop-drop (at - last) last bytes ∙ ap (λ (i : ℕ). drop i bytes) far) in
+      subst (λ (i : ℕ). ArePlain (take i (drop start bytes))) all (plain_more (end - at) (subst ArePlain same block))

@@ -13,8 +13,7 @@ use Rattle.dbus_value_model.specs.Reading.{Reader, Outcome, Done, Faulty, Partia
 use Rattle.dbus_value_model.specs.declared.stop.Stop.TheVariants as stops
 use Rattle.dbus_value_laws.proofs.Agreement.{after_done}
 use Rattle.dbus_value_laws.proofs.KindLaws.{wanted_is}
-use Rattle.dbus_value_laws.proofs.ReadSteps.{number_stops, number_fails}
-use Rattle.dbus_value_laws.proofs.StringSteps.{text_there}
+use Rattle.dbus_value_laws.proofs.ReadSteps.{number_stops, number_fails, text_there}
 use Rattle.dbus_value_validator.specs.Endings.{Answers, IsNotRead, EndedText}
 
 -- ---- outcomes

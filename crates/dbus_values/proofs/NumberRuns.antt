@@ -10,14 +10,12 @@ use Rattle.dbus_value_model.specs.declared.order.Order.TheVariants.{Little, Big}
 use Rattle.dbus_value_model.specs.Spelling.{spelling, spellings}
 use Rattle.dbus_value_model.specs.Values.{ValueTree, ValueTrees, NumberValue, NoValues, MoreValues, type_of, value_trees, AllOf, IsWellFormed, AreWellFormed}
 use Rattle.dbus_value_model.specs.ValueViews.{byte_values}
-use Rattle.dbus_value_model.proofs.Numbers.{length-num}
-use Rattle.dbus_value_model.proofs.OneByte.{byte_spelled}
+use Rattle.dbus_value_model.proofs.Numbers.{length-num, byte_spelled}
 use Rattle.dbus_walk.specs.Standing.{ElementsStand}
 use Rattle.dbus_walk.specs.Containers.{number_width}
 use Rattle.dbus_walk.proofs.Lists.{none_ends}
 use Rattle.dbus_walk.proofs.NumberFacts.{number_of_type}
-use Rattle.dbus_walk.proofs.Parts.{number_is}
-use Rattle.dbus_walk.proofs.Seams.{stands_after}
+use Rattle.dbus_walk.proofs.Parts.{number_is, stands_after}
 use Rattle.dbus_values.specs.States.{AreNumbersIn}
 
 pub one_byte : (k : NumberCode) → width k ≡ 1 → k ≡ BYTE

@@ -1,7 +1,3 @@
-mod FieldTexts
-mod Whole
 mod KnownFields
-mod BodyThere
+mod Whole
 mod Numbered
-mod ArgTexts
-mod FieldSteps

@@ -1,18 +1,32 @@
 -- The values of a body by their numbers, as they are passed over.
-use Rattle.std.proofs.Common.{◌≡◌, ℕ, zero, suc, ◌+◌, ◌-◌, ◌≤◌, List, ◌++◌, length, None, refl, sym, ap, subst, ◌∙◌, arith, append_assoc}
+use Rattle.std.proofs.Common.{◌≡◌, ℕ, zero, suc, ◌+◌, ◌-◌, ◌≤◌, List, ◌++◌, length, None, refl, sym, ap, subst, ◌∙◌, arith, append_assoc, ◌<◌, get_or, inl, inr, ◌^◌, [], ◌∷◌, take_all}
 use Rattle.std.proofs.lemmas.List.{length-append}
-use Rattle.dbus_texts.specs.Types.{sig}
+use Rattle.dbus_texts.specs.Types.{sig, TextCode, STRING, OBJECT_PATH, SIGNATURE, text_code}
 use Rattle.dbus_types.specs.SignatureCodes.{first_code}
 use Rattle.dbus_value_laws.proofs.ValueSteps.{shaped_inside}
 use Rattle.dbus_value_model.specs.declared.order.Order.{Order}
 use Rattle.dbus_value_model.specs.Spelling.{spelling, spellings}
-use Rattle.dbus_value_model.specs.Values.{ValueTree, ValueTrees, NoValues, MoreValues, type_of}
+use Rattle.dbus_value_model.specs.Values.{ValueTree, ValueTrees, NoValues, MoreValues, type_of, TextValue}
 use Rattle.dbus_message_model.specs.KnownFields.{body_value}
 use Rattle.dbus_walk.specs.Standing.{Stands, AllStand}
 use Rattle.dbus_values.specs.Seen.{IsSeen}
-use Rattle.dbus_values.specs.States.{ValuesState, AreLeft, IsAfter}
-use Rattle.dbus_view.specs.Bodies.{IsFound, IsNumbered, first_values, value_start}
+use Rattle.dbus_values.specs.States.{ValuesState, AreLeft, IsAfter, SomeAreLeft}
+use Rattle.dbus_types.specs.Alignments.{length_width}
+use Rattle.dbus_types.proofs.TypeCodes.{code_is}
+use Rattle.dbus_value_model.specs.Bytes.{gap_to}
+use Rattle.dbus_walk.proofs.Parts.{TextStands, long_stands, short_stands, text_ends}
+use Rattle.dbus_walk.proofs.ReadThere.{text_there}
+use Rattle.dbus_value_model.specs.declared.limits.Limits.{Limits}
+use Rattle.dbus_message_model.specs.Messages.{field_array, body_start, body_signature, message_bytes}
+use Rattle.dbus_header.proofs.OutcomeLaws.{whole_bytes}
+use Rattle.dbus_validate.specs.declared.validating.Validated.{Validated}
+use Rattle.dbus_validate.specs.Validating.{IsValidatedWhole}
+use Rattle.dbus_walk.proofs.MessageParts.{fields_stand, body_stands, body_few}
+use Rattle.dbus_walk.specs.Fields.{field_types}
+use Rattle.dbus_view.specs.Bodies.{IsFound, IsNumbered, first_values, value_start, IsTextAt, IsTextPlace, all_values}
 use Rattle.dbus_view.specs.declared.arg.Arg.{Arg}
+use Rattle.dbus_view.specs.declared.arg_place.ArgPlace.{ArgPlace}
+use Rattle.dbus_view.proofs.Whole.{message, all_whole, valid, state}
 
 none_in : (n : ℕ) → body_value n NoValues ≡ None
 none_in zero = refl
@@ -88,3 +102,75 @@ module _ (s : ValuesState) (xs : ValueTrees) (rest : List ℕ) where
       -- the first of them is value k
       pub first : (next : ValuesState) → IsAfter left x next → (n : ℕ) → n ≡ k → (a : Arg) → a.after ≡ next.at → first_code (type_of x) ≡ a.code → IsSeen a.seen x → IsNumbered s n xs a
       first next after n last a ends code seen = p.found 0 n (omega (arith, last)) a (subst (λ (u : ValueTrees). IsNumbered left 0 u a) (sym is) (first_found left next x us after a rest stands ends code seen))
+
+-- What is seen of a value, and where its text stands if it is one.
+
+module _ {order : Order} {bytes : List ℕ} {from : ℕ} {x : ValueTree} {a : Arg} (h : IsFound order bytes from x a) where
+  coded : (k : TextCode) (t : List ℕ) → x ≡ TextValue k t → get_or (sig (type_of x)) 0 0 ≡ text_code k
+  coded k t is = sym (code_is (type_of x) (sig (type_of x)) refl) ∙ ap (λ (v : ValueTree). first_code (type_of v)) is
+
+  text_stands : (k : TextCode) (t : List ℕ) → x ≡ TextValue k t → TextStands h.stands (length_width k)
+  text_stands STRING t is = long_stands h.stands (inl (coded STRING t is))
+  text_stands OBJECT_PATH t is = long_stands h.stands (inr (coded OBJECT_PATH t is))
+  text_stands SIGNATURE t is = short_stands h.stands (coded SIGNATURE t is)
+
+  module _ (k : TextCode) (t : List ℕ) (is : x ≡ TextValue k t) where
+    abbrev q : TextStands h.stands (length_width k)
+    q = text_stands k t is
+
+    same : q.text ≡ t
+    same = let both : TextValue q.code q.text ≡ TextValue k t = sym q.is ∙ is in cc
+
+    ends : a.after ≡ from + gap_to (length_width k) from + length_width k + length t + 1
+    ends = omega (arith, h.after, ap length same, text_ends h.stands (length_width k) (from + gap_to (length_width k) from) q refl)
+
+    pub text_before : length t < a.after
+    text_before = omega (arith, ends)
+
+    pub text_told : (p : ArgPlace) → p ≡ record { code = a.code; start = a.after - 1 - length t; length = length t } → (first_code (type_of x) ≡ p.code) × IsTextPlace bytes from x p
+    text_told p told =
+        let w = length_width k in
+        let begins : p.start ≡ from + gap_to w from + w = ap (λ (u : ArgPlace). u.start) told ∙ omega (arith, ends) in
+        let spans : p.length ≡ length t = ap (λ (u : ArgPlace). u.length) told in
+        let there : IsTextAt bytes w from t p = record {
+          begins = begins;
+          spans = spans;
+          text = sym same ∙ sym (text_there h.stands w q p.start p.length begins (spans ∙ sym (ap length same)));
+          inside = omega (arith, q.inside, begins, spans, ap length same);
+        } in
+        (h.code ∙ sym (ap (λ (u : ArgPlace). u.code) told), subst (λ (v : ValueTree). IsTextPlace bytes from v p) (sym is) there)
+
+-- The fields and the body of a message that is validated.
+
+module _ (limits : Limits) (bytes : List ℕ) (j : Validated) (h : IsValidatedWhole limits bytes j) where
+  all_bytes : bytes ≡ message_bytes j.order (message limits bytes j h)
+  all_bytes = sym (take_all (length bytes) bytes (omega arith)) ∙ (whole_bytes limits bytes j.order (message limits bytes j h) (length bytes) (all_whole limits bytes j h)).0
+
+  abbrev all : ValuesState
+  all = all_values (state limits bytes j h) j.order (message limits bytes j h)
+
+  module _ (small : limits.array < 256 ^ 4) where
+    -- its fields stand there
+    pub fields_there : (rest : List ℕ) × Stands j.order limits.depth (97 ∷ field_types) 12 bytes (field_array (message limits bytes j h).fields) rest
+    fields_there = (_, fields_stand limits j.order (message limits bytes j h) bytes all_bytes (valid limits bytes j h) small)
+
+    -- its values are left, all of them
+    pub body_left : AreLeft all (message limits bytes j h).body []
+    body_left =
+        let m = message limits bytes j h in
+        body_stands limits j.order m bytes all_bytes (valid limits bytes j h) small (body_signature m.fields) (body_start j.order m.fields) refl refl
+
+    -- as what was validated says where they begin and of which types they are
+    module _ (types : List ℕ) (typed : types ≡ body_signature (message limits bytes j h).fields) where
+      abbrev pub noted : ValuesState
+      noted = record { order = j.order; bytes = bytes; at = j.body; types = types; depth_left = limits.depth }
+
+      pub noted_all : noted ≡ all
+      noted_all =
+          ap (λ (n : ℕ). record { order = j.order; bytes = bytes; at = n; types = types; depth_left = limits.depth }) (sym h.validated.body.0)
+          ∙ ap (λ (l : List ℕ). record { order = j.order; bytes = bytes; at = body_start j.order (message limits bytes j h).fields; types = l; depth_left = limits.depth }) typed
+
+      pub some_left : SomeAreLeft noted
+      some_left =
+          let m = message limits bytes j h in
+          subst SomeAreLeft (sym noted_all) (body_few limits j.order m bytes all_bytes (valid limits bytes j h) small (body_signature m.fields) refl, m.body, [], body_left)

@@ -3,7 +3,7 @@ use Rattle.std.proofs.Common.{◌≡◌, ℕ, ◌+◌, List, length, sym, subst,
 use Rattle.dbus_value_model.specs.declared.limits.Limits.{Limits}
 use Rattle.dbus_value_model.specs.declared.order.Order.{Order}
 use Rattle.dbus_message_model.specs.Messages.{MessageTree, IsMessage, body_start, body_bytes}
-use Rattle.dbus_message_model.proofs.MessageLengths.{message_length}
+use Rattle.dbus_message_model.proofs.BothOrders.{message_length}
 use Rattle.dbus_header.specs.MessageOutcomes.{IsWhole}
 use Rattle.dbus_header.proofs.OutcomeLaws.{one_whole}
 use Rattle.dbus_validate.specs.declared.validating.Validated.{Validated}

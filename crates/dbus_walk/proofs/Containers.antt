@@ -1,6 +1,6 @@
 -- Variants and arrays that stand in the bytes, taken apart.
 use Rattle.std.proofs.Common.{◌≡◌, ℕ, zero, suc, ◌+◌, ◌-◌, ◌^◌, ◌<◌, ◌≤◌, List, [], ◌∷◌, ◌++◌, length, get_or, take, drop, refl, sym, ap, subst, ◌∙◌, arith, append_assoc}
-use Rattle.std.proofs.lemmas.List.{length-append, length-replicate, take_at}
+use Rattle.std.proofs.lemmas.List.{length-append, length-replicate, take_at, drop_at, length-take}
 use Rattle.dbus_texts.specs.Types.{TypeTree, VariantType, ArrayType, sig, IsSingleType}
 use Rattle.dbus_texts.proofs.TypeTexts.{sig_positive}
 use Rattle.dbus_types.specs.Alignments.{alignment_of}
@@ -18,7 +18,7 @@ use Rattle.dbus_walk.specs.Standing.{Stands, ElementsStand}
 use Rattle.dbus_walk.specs.Containers.{inside}
 use Rattle.dbus_walk.specs.declared.container.Container.TheVariants as kind
 use Rattle.dbus_walk.proofs.Fronts.{parts_end, parts_there, parts_within}
-use Rattle.dbus_walk.proofs.Seams.{there_within, stands_after, stands_as}
+use Rattle.dbus_walk.proofs.Parts.{there_within, stands_after, stands_as}
 use Rattle.dbus_walk.proofs.NumberFacts.{number_there}
 
 variant_of_type : (v : ValueTree) → type_of v ≡ VariantType → (x : ValueTree) × (v ≡ VariantValue x)
@@ -184,3 +184,33 @@ module _ {order : Order} {depth_left : ℕ} {types : List ℕ} {at : ℕ} {bytes
   elements_there p first n is_first is_n =
       subst (λ (k : ℕ). ElementsStand order (depth_left - 1) (element_types types) first (first + k) bytes p.xs rest) (sym is_n)
       (subst (λ (k : ℕ). ElementsStand order (depth_left - 1) (element_types types) k (k + p.n) bytes p.xs rest) (sym is_first) p.elements)
+
+-- Bytes put one after another.
+
+module _ (at : ℕ) (x r b n : List ℕ) (h : at ≤ length b) (e : n ≡ take at b ++ (x ++ r)) where
+  flat : n ≡ (take at b ++ x) ++ r
+  flat = e ∙ sym (append_assoc (take at b) x r)
+
+  module _ (q : ℕ) (place : q ≡ at + length x) where
+    long : length (take at b ++ x) ≡ q
+    long = omega (arith, place, length-append (take at b) x, length-take at b)
+
+    pub put_front : take q n ≡ take at b ++ x
+    put_front = ap (take q) flat ∙ take_at (take at b ++ x) r q long
+
+    pub put_rest : drop q n ≡ r
+    put_rest = ap (drop q) flat ∙ drop_at (take at b ++ x) r q long
+
+    -- and more after it
+    pub put_more : (y s m : List ℕ) → m ≡ take q n ++ (y ++ s) → m ≡ take at b ++ ((x ++ y) ++ s)
+    put_more y s m more =
+        more ∙ ap (λ (l : List ℕ). l ++ (y ++ s)) put_front ∙ append_assoc (take at b) x (y ++ s)
+        ∙ ap (λ (l : List ℕ). take at b ++ l) (sym (append_assoc x y s))
+
+-- bytes in place of others of the same length
+module _ (x s r c : List ℕ) (q : ℕ) (is : c ≡ x ++ (s ++ r)) (long : length x ≡ q) where
+  pub rest_next : drop q c ≡ s ++ r
+  rest_next = ap (drop q) is ∙ drop_at x (s ++ r) q long
+
+  pub put_next : (t next : List ℕ) → next ≡ take q c ++ (t ++ r) → next ≡ (x ++ t) ++ r
+  put_next t next put = put ∙ ap (λ (l : List ℕ). l ++ (t ++ r)) (ap (take q) is ∙ take_at x (s ++ r) q long) ∙ sym (append_assoc x t r)

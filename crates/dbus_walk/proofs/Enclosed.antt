@@ -9,7 +9,7 @@ use Rattle.dbus_types.proofs.TypeCodes.{struct_is, entry_is, struct_shaped, entr
 use Rattle.dbus_walk.specs.declared.container.Container.TheVariants as kind
 use Rattle.dbus_walk.specs.Standing.{Stands, AllStand}
 use Rattle.dbus_walk.proofs.Fronts.{parts_there, parts_within}
-use Rattle.dbus_walk.proofs.Seams.{stands_as}
+use Rattle.dbus_walk.proofs.Parts.{stands_as}
 
 struct_of_type : (v : ValueTree) (ts : TypeTrees) → type_of v ≡ StructType ts → (xs : ValueTrees) × (v ≡ StructValue xs) × (types_of xs ≡ ts)
 struct_of_type (StructValue xs) ts e = (xs, refl, cc)

@@ -8,7 +8,7 @@ use Rattle.dbus_value_model.specs.Bytes.{gap_to}
 use Rattle.dbus_value_model.specs.Reading.{number_of}
 use Rattle.dbus_value_model.specs.Spelling.{spelling, spellings}
 use Rattle.dbus_value_model.specs.Values.{ValueTrees, NoValues, MoreValues, NumberValue, VariantValue, value_trees, type_of}
-use Rattle.dbus_value_model.proofs.Gaps.{no_gap}
+use Rattle.dbus_value_model.proofs.Periods.{no_gap}
 use Rattle.dbus_message_model.specs.Messages.{FieldTree, field_struct}
 use Rattle.dbus_value_laws.proofs.ReadSteps.{one_byte}
 use Rattle.dbus_walk.specs.Containers.{inside}
@@ -20,9 +20,8 @@ use Rattle.dbus_walk.proofs.Containers.{variant_parts, array_stands, array_found
 use Rattle.dbus_walk.proofs.Enclosed.{struct_parts}
 use Rattle.dbus_walk.proofs.Fronts.{parts_end}
 use Rattle.dbus_walk.proofs.Lists.{none_ends, some_ends, first_element, other_elements, first_value, other_values}
-use Rattle.dbus_walk.proofs.Parts.{number_of_width, number_ends}
+use Rattle.dbus_walk.proofs.Parts.{number_of_width, number_ends, stands_positive}
 use Rattle.dbus_walk.proofs.ReadThere.{number_read}
-use Rattle.dbus_walk.proofs.Seams.{stands_positive}
 
 -- ---- a field
 

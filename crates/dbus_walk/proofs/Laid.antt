@@ -17,9 +17,8 @@ use Rattle.dbus_walk.specs.Standing.{AllStand, StandsAt, end_of}
 use Rattle.dbus_walk.proofs.Containers.{variant_stands, variant_held, array_stands, array_found, elements_there}
 use Rattle.dbus_walk.proofs.Enclosed.{struct_stands, entry_stands, enclosed_long}
 use Rattle.dbus_walk.proofs.Fronts.{parts_end}
-use Rattle.dbus_walk.proofs.Parts.{TextStands, number_stands, number_ends, text_ends}
+use Rattle.dbus_walk.proofs.Parts.{TextStands, number_stands, number_ends, text_ends, stands_as}
 use Rattle.dbus_walk.proofs.ReadThere.{number_read, text_there}
-use Rattle.dbus_walk.proofs.Seams.{stands_as}
 
 -- the bytes that types of texts begin with
 pub long_coded : (k : TextCode) {c : ℕ} → length_width k ≡ 4 → c ≡ first_code (TextType k) → (c ≡ 115) ⊎ (c ≡ 111)

@@ -8,7 +8,7 @@ use Rattle.dbus_value_model.specs.Values.{ValueTree, ValueTrees, NoValues, MoreV
 use Rattle.dbus_value_laws.proofs.ValueSteps.{shaped_inside}
 use Rattle.dbus_types.specs.SignatureCodes.{IsTypeEnd}
 use Rattle.dbus_walk.specs.Standing.{Stands, AllStand, ElementsStand}
-use Rattle.dbus_walk.proofs.Seams.{there_within, stands_after, stands_positive}
+use Rattle.dbus_walk.proofs.Parts.{there_within, stands_after, stands_positive}
 
 -- the first value of some, and those after it
 module _ (order : Order) (place : ℕ) (bytes : List ℕ) (v : ValueTree) (us : ValueTrees) (rest : List ℕ) (spelled : drop place bytes ≡ spellings order place (MoreValues v us) ++ rest) where

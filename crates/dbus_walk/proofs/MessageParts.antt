@@ -11,7 +11,7 @@ use Rattle.dbus_value_model.proofs.Numbers.{length-num}
 use Rattle.dbus_message_model.specs.Messages.{MessageTree, order_byte, field_array, fields_end, body_start, body_bytes, body_signature, message_bytes, IsMessage}
 use Rattle.dbus_message_model.proofs.BothOrders.{any_length}
 use Rattle.dbus_walk.specs.Standing.{Stands, AllStand}
-use Rattle.dbus_walk.proofs.Put.{rest_next}
+use Rattle.dbus_walk.proofs.Containers.{rest_next}
 use Rattle.dbus_walk.proofs.Signed.{array_signed, body_shaped}
 
 -- the order's byte, the type, the flags and the version

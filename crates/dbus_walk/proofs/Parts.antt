@@ -1,23 +1,49 @@
 -- Values that stand in the bytes, taken apart: numbers and texts.
-use Rattle.std.proofs.Common.{◌≡◌, ℕ, ◌+◌, ◌^◌, ◌<◌, ◌≤◌, List, [], ◌∷◌, ◌++◌, length, get_or, take, drop, refl, sym, ap, subst, ◌∙◌, arith, append_assoc, ◌⊎◌, inl, inr}
-use Rattle.std.proofs.lemmas.List.{length-append, length-replicate}
-use Rattle.dbus_texts.specs.Types.{NumberCode, BYTE, TextCode, STRING, OBJECT_PATH, SIGNATURE, TypeTree, NumberType, TextType, VariantType, ArrayType, StructType, EntryType}
+use Rattle.std.proofs.Common.{◌≡◌, ℕ, ◌+◌, ◌<◌, ◌≤◌, List, ◌++◌, length, drop, true, None, refl, sym, ap, subst, ◌∙◌, arith, ◌^◌, [], ◌∷◌, get_or, take, append_assoc, ◌⊎◌, inl, inr}
+use Rattle.std.proofs.lemmas.List.{drop_at, drop-drop, length-append, length-drop, length-replicate}
+use Rattle.dbus_texts.specs.Types.{IsShaped, NumberCode, BYTE, TextCode, STRING, OBJECT_PATH, SIGNATURE, TypeTree, NumberType, TextType, VariantType, ArrayType, StructType, EntryType}
+use Rattle.dbus_value_model.specs.declared.limits.Bounds.{Bounds}
+use Rattle.dbus_value_model.specs.declared.order.Order.{Order}
+use Rattle.dbus_value_model.specs.Spelling.{spelling}
+use Rattle.dbus_value_model.specs.Values.{ValueTree, type_of, NumberValue, TextValue, IsWellFormed}
+use Rattle.dbus_value_laws.proofs.ValueItemLaws.{positive}
 use Rattle.dbus_texts.proofs.TypeTexts.{sig_positive}
 use Rattle.dbus_types.specs.Alignments.{width, length_width}
 use Rattle.dbus_value_model.specs.Bytes.{gap_to, pad, num}
 use Rattle.dbus_value_model.specs.Reading.{number_of}
-use Rattle.dbus_value_model.specs.declared.order.Order.{Order}
-use Rattle.dbus_value_model.specs.Spelling.{spelling}
-use Rattle.dbus_value_model.specs.Values.{ValueTree, NumberValue, TextValue, type_of, IsWellFormed}
 use Rattle.dbus_value_model.proofs.Numbers.{length-num}
 use Rattle.dbus_value_laws.proofs.ReadSteps.{one_byte}
 use Rattle.dbus_types.specs.SignatureCodes.{first_code}
 use Rattle.dbus_types.proofs.TypeCodes.{code_is, text_is}
-use Rattle.dbus_value_model.proofs.Gaps.{no_gap}
+use Rattle.dbus_value_model.proofs.Periods.{no_gap}
 use Rattle.dbus_walk.specs.Standing.{Stands}
 use Rattle.dbus_walk.specs.Containers.{number_width}
 use Rattle.dbus_walk.proofs.NumberFacts.{number_of_type, number_there}
-use Rattle.dbus_walk.proofs.Seams.{there_within, stands_after}
+
+-- What stands somewhere among bytes.
+
+-- what stands there ends within the bytes
+pub there_within : (at : ℕ) (x r bytes : List ℕ) → drop at bytes ≡ x ++ r → 0 < length x → at + length x ≤ length bytes
+there_within at x r bytes e some = omega (arith, some, ap length e, length-append x r, length-drop at bytes)
+
+-- and what stands after it
+pub stands_after : (at q : ℕ) (x r bytes : List ℕ) → drop at bytes ≡ x ++ r → q ≡ at + length x → drop q bytes ≡ r
+stands_after at q x r bytes e place = ap (λ (k : ℕ). drop k bytes) place ∙ sym (drop-drop (length x) at bytes) ∙ ap (drop (length x)) e ∙ drop_at x r (length x) refl
+
+-- ---- a value that stands there
+
+any_bounds : Bounds
+any_bounds = record { array = 0; fds = None; array_in = omega arith }
+
+pub stands_positive : (order : Order) (v : ValueTree) (o : ℕ) → IsShaped true (type_of v) → 0 < length (spelling order o v)
+stands_positive order v o h = positive any_bounds order v true o h
+
+module _ {order : Order} {depth_left : ℕ} {types : List ℕ} {at : ℕ} {bytes : List ℕ} {v : ValueTree} {rest : List ℕ} (s : Stands order depth_left types at bytes v rest) where
+  pub ends_within : at + length (spelling order at v) ≤ length bytes
+  ends_within = there_within at (spelling order at v) rest bytes s.spelled (stands_positive order v at s.shaped)
+
+  pub stands_as : {u : ValueTree} → v ≡ u → Stands order depth_left types at bytes u rest
+  stands_as e = subst (λ (w : ValueTree). Stands order depth_left types at bytes w rest) e s
 
 -- ---- which type it is
 

@@ -11,11 +11,10 @@ use Rattle.dbus_value_model.specs.Reading.{number_of}
 use Rattle.dbus_value_model.specs.declared.order.Order.{Order}
 use Rattle.dbus_value_model.specs.Values.{ValueTree, TextValue, IsNumber, IsWellFormed}
 use Rattle.dbus_value_model.proofs.Numbers.{length-num}
-use Rattle.dbus_value_laws.proofs.StringSteps.{utf8_signature}
+use Rattle.dbus_value_laws.proofs.ReadSteps.{utf8_signature}
 use Rattle.dbus_walk.specs.Standing.{Stands}
 use Rattle.dbus_walk.proofs.NumberFacts.{number_there}
-use Rattle.dbus_walk.proofs.Parts.{NumberStands, TextStands}
-use Rattle.dbus_walk.proofs.Seams.{stands_after}
+use Rattle.dbus_walk.proofs.Parts.{NumberStands, TextStands, stands_after}
 
 -- ---- a well-formed text is UTF-8
 

@@ -1,7 +1,7 @@
 use Rattle.std.proofs.Common.{◌∙◌}
 use Rattle.clap.specs.Words.{found_of}
 use Rattle.clap.proofs.WalkLemmas.{first_value-rows}
-use Rattle.cli_options.proofs.WordLists.{flag_told}
+use Rattle.cli_options.proofs.Numbers.{flag_told}
 use Rattle.cli_options.proofs.command_line.is_given.Goals as goal
 
 pub returns : goal.returns

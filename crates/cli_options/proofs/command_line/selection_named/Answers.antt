@@ -4,7 +4,7 @@ use Rattle.clap.specs.Words.{Text, found_of, rows_of, all_of}
 use Rattle.clap.proofs.WalkLemmas.{raw_values-rows}
 use Rattle.dbus_match.specs.Matching.{ownership}
 use Rattle.cli_options.specs.Named.{words_of}
-use Rattle.cli_options.proofs.WordLists.{each_can}
+use Rattle.cli_options.proofs.Numbers.{each_can}
 use Rattle.cli_options.proofs.Tells.{no_command_told, unowned_told, unruled_told}
 use Rattle.cli_options.proofs.Nothing.{bare_is_no_command}
 use Rattle.cli_options.proofs.command_line.selection_named.Goals as goal

@@ -1,4 +1,4 @@
-use Rattle.cli_options.proofs.SameCommands.{commands_equal}
+use Rattle.cli_options.proofs.Selections.{commands_equal}
 use Rattle.cli_options.proofs.laws.equal_commands.Goals as goal
 
 pub returns : goal.returns

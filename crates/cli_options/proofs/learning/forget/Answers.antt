@@ -2,7 +2,7 @@ use Rattle.std.proofs.Common.{rules, not, ap, ◌∙◌}
 use Rattle.std.specs.Str.{bytes_eq}
 use Rattle.std.proofs.lemmas.Fn.{filter_same}
 use Rattle.dbus_match.specs.Matching.{ownerships}
-use Rattle.cli_options.proofs.Learned.{kept}
+use Rattle.cli_options.proofs.OwnerWords.{kept}
 use Rattle.cli_options.proofs.learning.forget.Goals as goal
 
 pub returns : goal.returns

@@ -8,7 +8,7 @@ use Rattle.dbus_match.specs.declared.owner.Owner.{Owner}
 use Rattle.dbus_match.specs.Matching.{Ownership, ownership}
 use Rattle.cli_options.specs.Owners.{AreOwnersOf, IsOwnerWord}
 use Rattle.cli_options.proofs.Tells.{no_owners_told}
-use Rattle.cli_options.proofs.WordLists.{at_place, one_more_gives, past_end}
+use Rattle.cli_options.proofs.Numbers.{at_place, one_more_gives, past_end}
 use Rattle.cli_options.proofs.owners.owners_given.Goals as goal
 
 abbrev text_of : Bor Text → Text

@@ -8,7 +8,7 @@ use Rattle.dbus_rule.specs.Rules.{Pair, SpellsRule}
 use Rattle.dbus_rule.specs.RuleViews.{IsRuleFault, rule_pairs}
 use Rattle.dbus_rule.specs.declared.fault.RuleFault.TheVariants.{Bad}
 use Rattle.cli_options.specs.Named.{AreRulesOf}
-use Rattle.cli_options.proofs.WordLists.{each_can, one_more_gives, parted, past_end}
+use Rattle.cli_options.proofs.Numbers.{each_can, one_more_gives, parted, past_end}
 use Rattle.cli_options.proofs.rules.rules_spelled.Goals as goal
 
 abbrev text_of : Bor Text → Text

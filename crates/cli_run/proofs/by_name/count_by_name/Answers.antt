@@ -3,7 +3,7 @@ use Rattle.dbus_count.specs.Counting.{counting_of}
 use Rattle.dbus_count.specs.declared.counts.Counts.{Counts}
 use Rattle.cli_report.specs.Devices.{writing}
 use Rattle.cli_run.specs.ByName.{WritesTables}
-use Rattle.cli_run.proofs.NameSteps.{counts_all}
+use Rattle.cli_run.proofs.CountSteps.{counts_all}
 use Rattle.cli_run.proofs.by_name.count_by_name.Goals as goal
 
 pub returns-in-Ok-write_tables : goal.returns-in-Ok-write_tables

@@ -2,7 +2,7 @@ use Rattle.std.proofs.Common.{List, subst}
 use Rattle.std.specs.Bool.{Decides}
 use Rattle.dbus_match.specs.Matching.{Ownership}
 use Rattle.cli_options.specs.Selections.{SelectsBy}
-use Rattle.cli_run.proofs.LentSteps.{views_it}
+use Rattle.cli_run.proofs.OutputSteps.{views_it}
 use Rattle.cli_run.proofs.filtering.select.Goals as goal
 
 pub returns : goal.returns

@@ -8,7 +8,7 @@ use Rattle.cli_run.specs.Handing.{GivesNext}
 use Rattle.cli_run.specs.Onward.{RawHandsOn}
 use Rattle.cli_run.proofs.ReadSteps.{length-sizes}
 use Rattle.cli_run.proofs.HandSteps.{HasHanded, hands_none, hands_more, hands_all, hands_stopped, hands_not, item_of, settled_last, still, took_lent}
-use Rattle.cli_run.proofs.LentSteps.{lent_validated}
+use Rattle.cli_run.proofs.OutputSteps.{lent_validated}
 use Rattle.cli_run.proofs.handing.hand_all.Goals as goal
 use Rattle.cli_run.proofs.handing.hand_all.Goals.{In-Ok-Some}
 

@@ -3,7 +3,7 @@ use Rattle.dbus_message_model.specs.Messages.{message_bytes}
 use Rattle.dbus_show.specs.ShownMessages.{message_text}
 use Rattle.cli_report.specs.Gathering.{gathered_bytes}
 use Rattle.cli_report.specs.PageLaws.{passes_none}
-use Rattle.cli_run.proofs.LentSteps.{bytes_are}
+use Rattle.cli_run.proofs.OutputSteps.{bytes_are}
 use Rattle.cli_run.proofs.output.write_one.Goals as goal
 
 pub returns-in-Nothing : goal.returns-in-Nothing

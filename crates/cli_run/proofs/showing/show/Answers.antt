@@ -2,7 +2,7 @@ use Rattle.std.proofs.Common.{◌≡◌, rules, refl}
 use Rattle.std.proofs.Math.Path.{transport}
 use Rattle.dbus_show.specs.ShownMessages.{message_text}
 use Rattle.cli_report.specs.Gathering.{Breaks, Passes, gathered_bytes}
-use Rattle.cli_run.proofs.LentSteps.{validated_whole}
+use Rattle.cli_run.proofs.OutputSteps.{validated_whole}
 use Rattle.cli_run.proofs.showing.show.Goals as goal
 
 pub returns-then-page : goal.returns-then-page

@@ -3,7 +3,7 @@ use Rattle.std.proofs.Math.Path.{transport}
 use Rattle.dbus_value_model.specs.declared.order.Order.{Order}
 use Rattle.dbus_json.specs.JsonMessages.{IsJsonLine}
 use Rattle.cli_report.specs.Gathering.{Breaks, Passes, gathered_bytes}
-use Rattle.cli_run.proofs.LentSteps.{validated_whole}
+use Rattle.cli_run.proofs.OutputSteps.{validated_whole}
 use Rattle.cli_run.proofs.showing.write_json_line.Goals as goal
 
 pub returns-then-page : goal.returns-then-page

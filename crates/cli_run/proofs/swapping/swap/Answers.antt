@@ -4,7 +4,7 @@ use Rattle.dbus_message_model.specs.Messages.{message_bytes}
 use Rattle.dbus_header.specs.MessageOutcomes.{IsWhole}
 use Rattle.dbus_swap.specs.Byteswapping.{other}
 use Rattle.cli_report.specs.Gathering.{GathersOrNot, gathered_bytes}
-use Rattle.cli_run.proofs.LentSteps.{bytes_are, validated_order}
+use Rattle.cli_run.proofs.OutputSteps.{bytes_are, validated_order}
 use Rattle.cli_run.proofs.swapping.swap.Goals as goal
 
 pub returns-then-eq : goal.returns-then-eq

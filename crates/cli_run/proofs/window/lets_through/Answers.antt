@@ -1,5 +1,5 @@
 use Rattle.std.proofs.Common.{◌≡◌, ℕ, Option, None, Some, refl, sym, ap, ◌∙◌, arith}
-use Rattle.cli_run.proofs.WindowSteps.{skipped, let_in, kept_out}
+use Rattle.cli_run.proofs.OutputSteps.{skipped, let_in, kept_out}
 use Rattle.cli_run.proofs.window.lets_through.Goals as goal
 
 pub returns-then-window-gt0-clause-lets : goal.returns-then-window-gt0-clause-lets

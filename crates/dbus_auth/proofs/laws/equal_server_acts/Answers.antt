@@ -1,4 +1,4 @@
-use Rattle.dbus_auth.proofs.SameActs.{server_acts_equal}
+use Rattle.dbus_auth.proofs.Steps.{server_acts_equal}
 use Rattle.dbus_auth.proofs.laws.equal_server_acts.Goals as goal
 
 pub returns : goal.returns

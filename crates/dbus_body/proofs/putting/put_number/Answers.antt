@@ -2,7 +2,7 @@ use Rattle.std.proofs.Common.{◌≡◌, ◌≤◌, ◌++◌, ℕ, List, length,
 use Rattle.std.proofs.lemmas.List.{take-replicate}
 use Rattle.dbus_value_model.specs.SizeLimits.{with_padding}
 use Rattle.dbus_value_model.specs.Bytes.{gap_to, num}
-use Rattle.dbus_value_model.proofs.Gaps.{gap_below}
+use Rattle.dbus_value_model.proofs.Periods.{gap_below}
 use Rattle.dbus_body.proofs.putting.put_number.Goals as goal
 
 appended : {T E : Type 0} (r : Result T E) (old more new x : List ℕ) → new ≡ (if is_ok r then old ++ more else old) → old ++ more ≡ x → OnOk r (new ≡ x)

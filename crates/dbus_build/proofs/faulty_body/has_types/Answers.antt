@@ -7,8 +7,8 @@ use Rattle.dbus_texts.specs.Types.{sig, sigs}
 use Rattle.dbus_value_model.specs.Values.{type_of, types_of}
 use Rattle.dbus_value_model.specs.ValueViews.{value_tree, value_trees_of}
 use Rattle.dbus_value_model.proofs.TypeRows.{types_more, types_end}
-use Rattle.dbus_marshal.proofs.Joining.{step_joined}
-use Rattle.dbus_build.proofs.FaultyBody.{sound_from, spelled_past, spelled_whole}
+use Rattle.dbus_marshal.proofs.Spells.{step_joined}
+use Rattle.dbus_build.proofs.Finding.{sound_from, spelled_past, spelled_whole}
 use Rattle.dbus_build.proofs.faulty_body.has_types.Goals as goal
 
 pub signature_length-requires : goal.signature_length-requires

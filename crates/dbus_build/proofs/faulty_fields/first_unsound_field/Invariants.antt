@@ -2,7 +2,7 @@ use Rattle.std.proofs.Common.{◌-◌}
 use Rattle.dbus_value_model.specs.Forming.{NestWithin}
 use Rattle.dbus_build.specs.BuildFaults.{IsFirstUnsoundField, HoldTypedNumbers}
 use Rattle.dbus_message_model.specs.PartsViews.{field_trees}
-use Rattle.dbus_message_model.proofs.FieldStructs.{structs}
+use Rattle.dbus_message_model.proofs.FieldLists.{structs}
 use Rattle.dbus_build.proofs.Finding.{IsOn}
 use Rattle.dbus_build.proofs.faulty_fields.first_unsound_field.Given as goal
 

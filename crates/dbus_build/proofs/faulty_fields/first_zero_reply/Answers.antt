@@ -1,5 +1,5 @@
 use Rattle.dbus_build.specs.BuildFaults.{IsNonzero}
-use Rattle.dbus_build.proofs.FaultyFields.{first_here, first_later, first_none, not_both}
+use Rattle.dbus_build.proofs.Finding.{first_here, first_later, first_none, not_both}
 use Rattle.dbus_build.proofs.faulty_fields.first_zero_reply.Goals as goal
 
 pub loop-field-init : goal.loop-field-init

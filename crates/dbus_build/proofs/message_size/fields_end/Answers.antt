@@ -1,6 +1,6 @@
 use Rattle.std.proofs.Common.{None, Some, arith}
 use Rattle.dbus_message_model.specs.PartsViews.{field_trees}
-use Rattle.dbus_message_model.proofs.FieldStructs.{fields_short}
+use Rattle.dbus_message_model.proofs.FieldLists.{fields_short}
 use Rattle.dbus_build.proofs.PartEnds.{fields_on, fields_stop, fields_last, ends_none, ends_past, ends_near}
 use Rattle.dbus_build.proofs.message_size.fields_end.Goals as goal
 

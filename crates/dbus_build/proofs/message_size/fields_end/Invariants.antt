@@ -1,7 +1,7 @@
 use Rattle.std.proofs.Common.{ℕ, Option, drop}
 use Rattle.dbus_value_model.specs.SizeLimits.{IsCapped, AreMeasured}
 use Rattle.dbus_value_model.specs.Sizes.{HaveShortSignatures}
-use Rattle.dbus_message_model.proofs.FieldStructs.{structs}
+use Rattle.dbus_message_model.proofs.FieldLists.{structs}
 use Rattle.dbus_build.proofs.message_size.fields_end.Given as goal
 
 abbrev pub invariant-loop-field : goal.invariant-loop-field

@@ -1,7 +1,7 @@
 use mathlib.Core.Logic.{∥∥₁_elim}
 use Rattle.dbus_value_model.specs.declared.order.Order.TheVariants.{Little}
 use Rattle.dbus_message_model.specs.PartsViews.{parts_tree}
-use Rattle.dbus_message_model.proofs.ShortParts.{short_fields, short_all, shorts_prop}
+use Rattle.dbus_message_model.proofs.BothOrders.{short_fields, short_all, shorts_prop}
 use Rattle.dbus_build.proofs.within.keeps_limits.Goals as goal
 
 pub keeps_arrays-requires-clause-fields_signed : goal.keeps_arrays-requires-clause-fields_signed

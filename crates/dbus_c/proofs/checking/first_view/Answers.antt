@@ -1,8 +1,8 @@
 use Rattle.std.proofs.Common.{sym}
 use Rattle.std.proofs.lemmas.List.{length-take-le}
-use Rattle.dbus_validate.proofs.Firsts.{own_validated}
+use Rattle.dbus_validate.proofs.Headed.{own_validated}
 use Rattle.dbus_validate.proofs.WholeParts.{inside}
-use Rattle.dbus_c.proofs.Fronts.{front_viewed}
+use Rattle.dbus_c.proofs.Outcomes.{front_viewed}
 use Rattle.dbus_c.proofs.checking.first_view.Goals as goal
 
 pub slice_bounds-message-end : goal.slice_bounds-message-end

@@ -1,5 +1,5 @@
 use Rattle.std.proofs.Common.{refl}
-use Rattle.dbus_c.proofs.FirstBytes.{first_is}
+use Rattle.dbus_c.proofs.Outcomes.{first_is}
 use Rattle.dbus_c.proofs.checking.whole_told.Goals as goal
 
 pub returns : goal.returns

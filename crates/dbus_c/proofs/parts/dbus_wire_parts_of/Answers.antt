@@ -1,6 +1,6 @@
 use Rattle.std.proofs.Common.{take, refl, sym, ◌∙◌}
 use Rattle.dbus_c.specs.GivenLimits.{limits_of}
-use Rattle.dbus_c.proofs.Fronts.{first_body_length, first_body}
+use Rattle.dbus_c.proofs.Outcomes.{first_body_length, first_body}
 use Rattle.dbus_c.proofs.parts.dbus_wire_parts_of.Goals as goal
 
 pub returns-in-Ok-clause-parts : goal.returns-in-Ok-clause-parts

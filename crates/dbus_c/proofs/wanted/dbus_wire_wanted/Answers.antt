@@ -1,7 +1,7 @@
 use Rattle.std.proofs.Common.{Ok, arith, subst}
 use Rattle.dbus_value_model.specs.declared.limits.Limits.{Limits}
 use Rattle.dbus_header.specs.StatedLengths.{Stated}
-use Rattle.dbus_validate.proofs.Firsts.{none_stated}
+use Rattle.dbus_validate.proofs.Headed.{none_stated}
 use Rattle.dbus_c.specs.GivenLimits.{limits_of}
 use Rattle.dbus_c.proofs.wanted.dbus_wire_wanted.Goals as goal
 

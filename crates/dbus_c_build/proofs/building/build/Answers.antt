@@ -2,7 +2,7 @@ use Rattle.std.proofs.Common.{refl, subst, ◌∙◌, List, ℕ}
 use Rattle.std.proofs.lemmas.Result.{err_from_is_err_and}
 use Rattle.dbus_validate.specs.Validating.{IsValidated}
 use Rattle.dbus_header.specs.NoMessage.{BeginsWithNone, IsFaultAtEnd}
-use Rattle.dbus_c_build.proofs.KeptFields.{all_spelled}
+use Rattle.dbus_c_build.proofs.SameFields.{all_spelled}
 use Rattle.dbus_c_build.proofs.Refusing.{built_so, none_so, refused_so}
 use Rattle.dbus_c_build.proofs.building.build.Goals as goal
 

@@ -4,7 +4,7 @@ use Rattle.std.proofs.lemmas.List.{take_all}
 use Rattle.dbus_marshal.proofs.Written.{written_none}
 use Rattle.dbus_c_build.specs.Placed.{added, known_codes}
 use Rattle.dbus_c_build.specs.Building.{with_fields}
-use Rattle.dbus_c_build.proofs.KeptFields.{known_code, next_code}
+use Rattle.dbus_c_build.proofs.SameFields.{known_code, next_code}
 use Rattle.dbus_c_build.proofs.Spelling.{fields_next, given_added, none_added}
 use Rattle.dbus_c_build.proofs.kept.append_added.Goals as goal
 

@@ -9,7 +9,7 @@ use Rattle.dbus_validate.proofs.WholeParts.{inside}
 use Rattle.dbus_walk.proofs.FieldParts.{none_walked, next_field, field_walked, all_walked}
 use Rattle.dbus_c_build.specs.Placed.{field_given, in_place, stays}
 use Rattle.dbus_c_build.specs.Building.{with_fields}
-use Rattle.dbus_c_build.proofs.KeptFields.{is_kept, kept_there, none_kept, noted}
+use Rattle.dbus_c_build.proofs.SameFields.{is_kept, kept_there, none_kept, noted}
 use Rattle.dbus_c_build.proofs.Spelling.{fields_next, given_in_place, same_in_place}
 use Rattle.dbus_c_build.proofs.kept.append_kept.Goals as goal
 

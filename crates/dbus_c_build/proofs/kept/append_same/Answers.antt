@@ -1,7 +1,7 @@
 use Rattle.std.proofs.Common.{◌+◌, ◌-◌, ◌++◌, ℕ, List, take, drop, ap, ◌∙◌, arith}
 use Rattle.std.proofs.lemmas.List.{length-drop}
 use Rattle.dbus_message_model.specs.Messages.{field_struct}
-use Rattle.dbus_walk.proofs.Seams.{stands_positive}
+use Rattle.dbus_walk.proofs.Parts.{stands_positive}
 use Rattle.dbus_c_build.proofs.Anywhere.{coded, struct_copied, struct_inside}
 use Rattle.dbus_c_build.proofs.Spelling.{if_ok}
 use Rattle.dbus_c_build.proofs.kept.append_same.Goals as goal

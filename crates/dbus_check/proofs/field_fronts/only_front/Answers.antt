@@ -4,7 +4,7 @@ use Rattle.dbus_value_model.specs.Reading.{Done, after, number, text, nul}
 use Rattle.dbus_value_model.specs.ValueItems.{text_row}
 use Rattle.dbus_value_model.specs.WantedTexts.{Only}
 use Rattle.dbus_value_checker.specs.Suspended.{ended_text}
-use Rattle.dbus_value_checker.proofs.Chains.{first_err, then_err, then_ok, front_as}
+use Rattle.dbus_value_checker.proofs.Suspension.{first_err, then_err, then_ok, front_as}
 use Rattle.dbus_check.proofs.field_fronts.only_front.Goals as goal
 
 pub returns-in_err-n-clause-gives : goal.returns-in_err-n-clause-gives

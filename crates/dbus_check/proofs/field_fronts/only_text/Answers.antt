@@ -1,5 +1,5 @@
 use Rattle.std.proofs.Common.{arith}
-use Rattle.dbus_check.proofs.OnlySteps.{only_waits, only_empty, only_other, only_long, only_more, only_there}
+use Rattle.dbus_check.proofs.FieldSteps.{only_waits, only_empty, only_other, only_long, only_more, only_there}
 use Rattle.dbus_check.proofs.field_fronts.only_text.Goals as goal
 
 pub returns-then-n-gt0-clause-gives : goal.returns-then-n-gt0-clause-gives

@@ -5,7 +5,7 @@ use Rattle.dbus_value_model.specs.declared.fault.Reason.TheVariants as reasons
 use Rattle.dbus_value_model.specs.declared.stop.Stop.{Stop}
 use Rattle.dbus_value_model.specs.declared.stop.Stop.TheVariants as stops
 use Rattle.dbus_value_model.specs.Items.{fault}
-use Rattle.dbus_value_model.proofs.Gaps.{gap_below}
+use Rattle.dbus_value_model.proofs.Periods.{gap_below}
 use Rattle.dbus_value_checker.specs.Fronts.{Lack}
 use Rattle.dbus_value_checker.proofs.FrontSteps.{lacks_number, number_taken, number_refused}
 use Rattle.dbus_check.specs.Heading.{uint32_row}

@@ -8,7 +8,7 @@ use Rattle.dbus_value_model.proofs.ValueRows.{tree-Sig}
 use Rattle.dbus_message_model.specs.Messages.{FieldTree, MessageTree}
 use Rattle.dbus_message_model.specs.PartsViews.{field_trees}
 use Rattle.dbus_compose.specs.Drafts.{field_of, put}
-use Rattle.dbus_compose.proofs.Steps.{signed-some}
+use Rattle.dbus_compose.proofs.FieldPlaces.{signed-some}
 use Rattle.dbus_compose.proofs.signature.with_signature.Goals as goal
 
 pub returns-clause-signed : goal.returns-clause-signed

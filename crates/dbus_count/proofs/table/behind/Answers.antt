@@ -1,5 +1,5 @@
 use Rattle.std.proofs.Common.{ap, ◌∙◌}
-use Rattle.dbus_count.proofs.RowTexts.{behind_is}
+use Rattle.dbus_count.proofs.RowLaws.{behind_is}
 use Rattle.dbus_count.proofs.table.behind.Goals as goal
 
 pub returns : goal.returns

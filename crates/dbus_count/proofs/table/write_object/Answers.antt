@@ -1,8 +1,8 @@
 use Rattle.std.proofs.Common.{List, ℕ, codes, decimal, ap, ◌∙◌, subst}
 use Rattle.dbus_json.specs.JsonValues.{string}
 use Rattle.dbus_count.specs.Tables.{behind, name_of}
-use Rattle.dbus_show.proofs.Gaining.{then}
-use Rattle.dbus_count.proofs.RowTexts.{object_is}
+use Rattle.dbus_show.proofs.FieldTexts.{then}
+use Rattle.dbus_count.proofs.RowLaws.{object_is}
 use Rattle.dbus_count.proofs.table.write_object.Goals as goal
 
 pub returns : goal.returns

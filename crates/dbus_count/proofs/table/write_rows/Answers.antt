@@ -1,7 +1,7 @@
 use Rattle.std.proofs.Common.{map}
 use Rattle.dbus_count.specs.Tables.{row_of, row_text, rows_text}
-use Rattle.dbus_count.proofs.RowTexts.{rows_push}
-use Rattle.dbus_show.proofs.Gaining.{one_more}
+use Rattle.dbus_count.proofs.RowLaws.{rows_push}
+use Rattle.dbus_show.proofs.FieldTexts.{one_more}
 use Rattle.dbus_count.proofs.table.write_rows.Goals as goal
 
 pub loop-row-preserved : goal.loop-row-preserved

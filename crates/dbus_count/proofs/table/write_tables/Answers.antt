@@ -1,7 +1,7 @@
 use Rattle.std.proofs.Common.{[], ◌∷◌, codes}
 use Rattle.dbus_count.specs.Counting.{counting_of}
 use Rattle.dbus_count.proofs.NameSteps.{on_ok}
-use Rattle.dbus_count.proofs.RowTexts.{more_tables, no_tables}
+use Rattle.dbus_count.proofs.RowLaws.{more_tables, no_tables}
 use Rattle.dbus_count.proofs.table.write_tables.Goals as goal
 
 pub returns : goal.returns

@@ -1,6 +1,6 @@
 use Rattle.std.proofs.Common.{◌≡◌, [], ◌∷◌, ◌++◌, arith, refl, ap, ◌∙◌}
 use Rattle.std.proofs.lemmas.List.{map_push}
-use Rattle.dbus_value_model.proofs.Fitting.{keep_push}
+use Rattle.dbus_value_model.proofs.Formed.{keep_push}
 use Rattle.dbus_message_model.specs.PackedParts.{field_values}
 use Rattle.dbus_message_model.specs.PartsViews.{field_tree, field_trees}
 use Rattle.dbus_walk.proofs.FieldParts.{none_walked, next_field, field_walked, all_walked}

@@ -2,7 +2,7 @@ use Rattle.std.proofs.Common.{◌+◌, drop, take, arith, sym, ◌∙◌}
 use Rattle.dbus_value_model.specs.SizeLimits.{with_value}
 use Rattle.dbus_message_model.specs.Messages.{field_struct}
 use Rattle.dbus_message_model.specs.PartsViews.{field_tree}
-use Rattle.dbus_message_model.proofs.FieldStructs.{structs, fields_short}
+use Rattle.dbus_message_model.proofs.FieldLists.{structs, fields_short}
 use Rattle.dbus_encode.proofs.FieldWriting.{fields_step, fields_end_step, within_all}
 use Rattle.dbus_encode.proofs.encoding.write_fields.Goals as goal
 

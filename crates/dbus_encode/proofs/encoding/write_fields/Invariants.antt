@@ -1,7 +1,7 @@
 use Rattle.std.proofs.Common.{◌≡◌, ◌≤◌, drop, length, take}
 use Rattle.dbus_value_model.specs.SizeLimits.{with_values}
 use Rattle.dbus_value_model.specs.Sizes.{HaveShortSignatures}
-use Rattle.dbus_message_model.proofs.FieldStructs.{structs}
+use Rattle.dbus_message_model.proofs.FieldLists.{structs}
 use Rattle.dbus_encode.proofs.encoding.write_fields.Given as goal
 
 abbrev pub invariant-loop-field : goal.invariant-loop-field

@@ -6,7 +6,7 @@ use Rattle.dbus_value_model.specs.SizeLimits.{with_padding}
 use Rattle.dbus_value_model.specs.ValueViews.{value_trees_of}
 use Rattle.dbus_message_model.specs.Messages.{MessageTree, message_bytes}
 use Rattle.dbus_message_model.specs.PartsViews.{parts_tree, field_trees}
-use Rattle.dbus_message_model.proofs.ShortParts.{short_all, short_fields, shorts_prop}
+use Rattle.dbus_message_model.proofs.BothOrders.{short_all, short_fields, shorts_prop}
 use Rattle.dbus_encode.proofs.Encoded.{long_fields, fits_fields, fits_start, fits_body, step_fields, step_length, step_body, step_all}
 use Rattle.dbus_encode.proofs.encoding.write_whole.Goals as goal
 

@@ -1,5 +1,5 @@
 use Rattle.std.proofs.Common.{◌++◌, ℕ, codes, min, subst}
-use Rattle.dbus_show.proofs.Gaining.{then}
+use Rattle.dbus_show.proofs.FieldTexts.{then}
 use Rattle.dbus_explain.specs.Explained.{place_in, place_line, window}
 use Rattle.dbus_explain.specs.Names.{IsNameOf}
 use Rattle.dbus_explain.proofs.ThreeLines.{message_lines}

@@ -1,4 +1,4 @@
-use Rattle.dbus_show.proofs.Gaining.{then}
+use Rattle.dbus_show.proofs.FieldTexts.{then}
 use Rattle.dbus_explain.proofs.path.write_number.Goals as goal
 
 pub returns : goal.returns

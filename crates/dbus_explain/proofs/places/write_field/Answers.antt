@@ -1,5 +1,5 @@
 use Rattle.std.proofs.Common.{◌++◌, codes}
-use Rattle.dbus_show.proofs.Gaining.{then}
+use Rattle.dbus_show.proofs.FieldTexts.{then}
 use Rattle.dbus_explain.specs.Names.{behind_fields, code_name, in_field}
 use Rattle.dbus_explain.proofs.places.write_field.Goals as goal
 

@@ -4,7 +4,7 @@ use Rattle.dbus_value_model.specs.Reading.{number_of}
 use Rattle.dbus_value_model.specs.declared.order.Order.{Order}
 use Rattle.dbus_explain.specs.Names.{first, missing, field, padding, value, first_part, is_missing}
 use Rattle.dbus_explain.specs.Places.{body_begin, fields_end}
-use Rattle.dbus_explain.proofs.OtherReasons.{other_reason}
+use Rattle.dbus_explain.proofs.ThreeLines.{other_reason}
 use Rattle.dbus_explain.proofs.places.write_name.Goals as goal
 
 pub returns-then-at-lt-FIELDS : goal.returns-then-at-lt-FIELDS

@@ -1,6 +1,6 @@
 use Rattle.std.proofs.Common.{List, ℕ, [], ◌∷◌, ◌++◌, subst}
-use Rattle.dbus_show.proofs.Gaining.{then}
-use Rattle.dbus_explain.proofs.Paths.{ends_there, goes_on, text_more}
+use Rattle.dbus_show.proofs.FieldTexts.{then}
+use Rattle.dbus_explain.proofs.Searching.{ends_there, goes_on, text_more}
 use Rattle.dbus_explain.proofs.places.write_steps.Goals as goal
 
 pub loop-init : goal.loop-init

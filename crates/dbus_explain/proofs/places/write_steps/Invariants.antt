@@ -2,7 +2,7 @@ use Rattle.std.proofs.Common.{◌≡◌, List, true}
 use Rattle.dbus_texts.specs.Types.{TypeTree, IsShaped, sig}
 use Rattle.dbus_explain.specs.Names.{path_text}
 use Rattle.dbus_explain.specs.declared.path.Step.{Step}
-use Rattle.dbus_explain.proofs.Paths.{GoesOn}
+use Rattle.dbus_explain.proofs.Searching.{GoesOn}
 use Rattle.dbus_explain.proofs.places.write_steps.Given as goal
 
 abbrev pub invariant-loop : goal.invariant-loop

@@ -1,5 +1,5 @@
 use Rattle.std.proofs.Common.{ℕ, ◌∷◌, ◌++◌, codes, subst}
-use Rattle.dbus_show.proofs.Gaining.{then}
+use Rattle.dbus_show.proofs.FieldTexts.{then}
 use Rattle.dbus_explain.specs.Names.{behind_values, in_value, path_text}
 use Rattle.dbus_explain.specs.Places.{IsAmong}
 use Rattle.dbus_explain.specs.declared.path.Step.TheVariants.{Number}

@@ -1,9 +1,8 @@
 use Rattle.std.proofs.Common.{◌++◌, List, ℕ, codes, subst}
 use Rattle.dbus_show.specs.ShownValues.{quoted}
-use Rattle.dbus_show.proofs.Gaining.{then}
+use Rattle.dbus_show.proofs.FieldTexts.{then}
 use Rattle.dbus_explain.specs.Explained.{mark_line}
-use Rattle.dbus_explain.proofs.Rows.{marked_within}
-use Rattle.dbus_explain.proofs.ThreeLines.{rule_lines}
+use Rattle.dbus_explain.proofs.ThreeLines.{marked_within, rule_lines}
 use Rattle.dbus_explain.proofs.rule.explain_rule.Goals as goal
 
 pub returns : goal.returns

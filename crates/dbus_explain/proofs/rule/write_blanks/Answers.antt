@@ -1,5 +1,5 @@
 use Rattle.dbus_explain.specs.Explained.{blank_of}
-use Rattle.dbus_explain.proofs.Rows.{one_more_byte}
+use Rattle.dbus_explain.proofs.ThreeLines.{one_more_byte}
 use Rattle.dbus_explain.proofs.rule.write_blanks.Goals as goal
 
 pub loop-byte-preserved : goal.loop-byte-preserved

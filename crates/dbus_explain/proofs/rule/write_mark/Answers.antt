@@ -1,6 +1,6 @@
 use Rattle.std.proofs.Common.{List, ℕ, take, subst}
 use Rattle.std.specs.List.{flat_map}
-use Rattle.dbus_show.proofs.Gaining.{then}
+use Rattle.dbus_show.proofs.FieldTexts.{then}
 use Rattle.dbus_explain.specs.Explained.{blank_of}
 use Rattle.dbus_explain.proofs.rule.write_mark.Goals as goal
 

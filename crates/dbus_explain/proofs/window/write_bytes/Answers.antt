@@ -1,5 +1,5 @@
 use Rattle.dbus_explain.specs.Explained.{byte_text}
-use Rattle.dbus_explain.proofs.Rows.{one_more_byte}
+use Rattle.dbus_explain.proofs.ThreeLines.{one_more_byte}
 use Rattle.dbus_explain.proofs.window.write_bytes.Goals as goal
 
 pub loop-byte-preserved : goal.loop-byte-preserved

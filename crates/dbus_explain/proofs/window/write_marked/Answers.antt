@@ -1,6 +1,6 @@
 use Rattle.std.proofs.Common.{List, ℕ, subst}
-use Rattle.dbus_show.proofs.Gaining.{then}
-use Rattle.dbus_explain.proofs.Rows.{marked_some}
+use Rattle.dbus_show.proofs.FieldTexts.{then}
+use Rattle.dbus_explain.proofs.ThreeLines.{marked_some}
 use Rattle.dbus_explain.proofs.window.write_marked.Goals as goal
 
 pub returns-in-len1-up : goal.returns-in-len1-up

@@ -1,6 +1,6 @@
 use Rattle.std.proofs.Common.{List, ℕ, subst}
-use Rattle.dbus_show.proofs.Gaining.{then}
-use Rattle.dbus_explain.proofs.Rows.{window_is}
+use Rattle.dbus_show.proofs.FieldTexts.{then}
+use Rattle.dbus_explain.proofs.ThreeLines.{window_is}
 use Rattle.dbus_explain.proofs.window.write_window.Goals as goal
 
 pub returns : goal.returns

@@ -2,7 +2,7 @@ use Rattle.std.proofs.Common.{drop, arith}
 use Rattle.dbus_value_model.specs.declared.fault.Reason.TheVariants as reasons
 use Rattle.dbus_header.specs.MessageItems.{fields_row}
 use Rattle.dbus_value_laws.proofs.ReadSteps.{number_passes, number_fails, number_stops}
-use Rattle.dbus_header.proofs.FixedItems.{exits, long_fields, long_message}
+use Rattle.dbus_header.proofs.Whole.{exits, long_fields, long_message}
 use Rattle.dbus_header.proofs.MessageParts.{fits_fields_row}
 use Rattle.dbus_header.proofs.fixed_header.read_fields_length.Goals as goal
 

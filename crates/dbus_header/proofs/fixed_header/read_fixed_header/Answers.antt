@@ -1,7 +1,7 @@
 use Rattle.std.proofs.Common.{◌≡◌, ◌-◌, drop, arith}
 use Rattle.dbus_value_laws.proofs.ReadSteps.{stops_after}
 use Rattle.dbus_header.specs.HeaderReading.{fixed_header, opening}
-use Rattle.dbus_header.proofs.FixedItems.{exits}
+use Rattle.dbus_header.proofs.Whole.{exits}
 use Rattle.dbus_header.proofs.fixed_header.read_fixed_header.Goals as goal
 
 pub returns-in_err-check_open-clause-gives : goal.returns-in_err-check_open-clause-gives

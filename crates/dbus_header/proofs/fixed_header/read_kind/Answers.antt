@@ -2,7 +2,7 @@ use Rattle.std.proofs.Common.{drop}
 use Rattle.dbus_value_model.specs.declared.fault.Reason.TheVariants as reasons
 use Rattle.dbus_header.specs.MessageItems.{not_zero_row}
 use Rattle.dbus_value_laws.proofs.ReadSteps.{number_passes, number_fails, number_stops}
-use Rattle.dbus_header.proofs.FixedItems.{exits, zero_row, some_row}
+use Rattle.dbus_header.proofs.Whole.{exits, zero_row, some_row}
 use Rattle.dbus_header.proofs.fixed_header.read_kind.Goals as goal
 
 pub returns-in_err-kind-clause-gives : goal.returns-in_err-kind-clause-gives

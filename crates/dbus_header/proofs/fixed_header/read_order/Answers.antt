@@ -1,5 +1,5 @@
 use Rattle.std.proofs.Common.{sym, ◌∙◌, arith}
-use Rattle.dbus_header.proofs.FixedItems.{order_done}
+use Rattle.dbus_header.proofs.Whole.{order_done}
 use Rattle.dbus_header.proofs.fixed_header.read_order.Goals as goal
 
 pub returns-in-Some-clause-gives : goal.returns-in-Some-clause-gives

@@ -3,7 +3,7 @@ use Rattle.dbus_value_model.specs.declared.fault.Reason.TheVariants as reasons
 use Rattle.dbus_value_model.specs.Reading.{Done}
 use Rattle.dbus_header.specs.MessageItems.{version_row}
 use Rattle.dbus_value_laws.proofs.ReadSteps.{number_passes, number_fails, number_stops}
-use Rattle.dbus_header.proofs.FixedItems.{exits, other_version}
+use Rattle.dbus_header.proofs.Whole.{exits, other_version}
 use Rattle.dbus_header.proofs.fixed_header.read_version.Goals as goal
 
 pub returns-in_err-version-clause-gives : goal.returns-in_err-version-clause-gives

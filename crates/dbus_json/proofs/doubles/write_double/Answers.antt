@@ -2,8 +2,8 @@ use Rattle.std.proofs.Common.{List, ℕ, refl, subst, ◌∙◌}
 use Rattle.hex.specs.Hex.{encode_lower}
 use Rattle.dbus_value_model.specs.Bytes.{num}
 use Rattle.dbus_value_model.specs.declared.order.Order.TheVariants.{Big}
-use Rattle.dbus_value_model.proofs.NumberBytes.{num_64_big}
-use Rattle.dbus_show.proofs.Gaining.{then}
+use Rattle.dbus_value_model.proofs.Numbers.{num_64_big}
+use Rattle.dbus_show.proofs.FieldTexts.{then}
 use Rattle.dbus_json.specs.JsonValues.{plain}
 use Rattle.dbus_json.proofs.doubles.write_double.Goals as goal
 

@@ -1,12 +1,12 @@
 use Rattle.std.proofs.Common.{ℕ, List, [], ◌∷◌, ◌++◌, length, codes, decimal, refl, subst}
 use Rattle.dbus_message_model.specs.Messages.{message_bytes}
 use Rattle.dbus_header.proofs.OutcomeLaws.{whole_bytes}
-use Rattle.dbus_show.proofs.Gaining.{then}
+use Rattle.dbus_show.proofs.FieldTexts.{then}
 use Rattle.dbus_validate.proofs.WholeParts.{told_parts}
 use Rattle.dbus_json.specs.JsonValues.{array, member, object}
 use Rattle.dbus_json.specs.JsonMessages.{IsJsonLine, first_members}
 use Rattle.dbus_json.specs.FormLaws.{are_json}
-use Rattle.dbus_json.proofs.Lines.{later_members, line_is, start_is}
+use Rattle.dbus_json.proofs.OneLines.{later_members, line_is, start_is}
 use Rattle.dbus_json.proofs.line.write_json.Goals as goal
 
 pub returns : goal.returns

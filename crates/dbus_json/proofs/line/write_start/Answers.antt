@@ -1,5 +1,5 @@
 use Rattle.std.proofs.Common.{[], ◌∷◌, append-nil, decimal, sym, subst}
-use Rattle.dbus_show.proofs.Gaining.{then}
+use Rattle.dbus_show.proofs.FieldTexts.{then}
 use Rattle.dbus_json.proofs.line.write_start.Goals as goal
 
 pub returns : goal.returns

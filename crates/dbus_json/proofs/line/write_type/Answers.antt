@@ -1,6 +1,6 @@
 use Rattle.std.proofs.Common.{◌≡◌, ℕ, Bool, true, cond, List, ◌&&◌, nat_lt, refl, sym, subst}
 use Rattle.std.proofs.lemmas.Bool.{lt-ltb}
-use Rattle.dbus_show.proofs.Gaining.{then}
+use Rattle.dbus_show.proofs.FieldTexts.{then}
 use Rattle.dbus_show.specs.ShownMessages.{kind_text}
 use Rattle.dbus_json.specs.JsonValues.{plain}
 use Rattle.dbus_json.specs.JsonMessages.{type_text}

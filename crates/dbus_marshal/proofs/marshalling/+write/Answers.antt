@@ -9,11 +9,10 @@ use Rattle.dbus_value_model.specs.SizeLimits.{with_padding, with_value, with_val
 use Rattle.dbus_value_model.specs.Values.{TextValue}
 use Rattle.dbus_value_model.specs.ValueViews.{value_tree, value_trees_of}
 use Rattle.dbus_value_model.specs.declared.value.Value.{the_lemmas}
-use Rattle.dbus_value_model.proofs.Measuring.{below_most_of_three}
+use Rattle.dbus_value_model.proofs.Formed.{below_most_of_three}
 use Rattle.dbus_marshal.proofs.Patching.{array_written, length_array, array_grows, after_count}
-use Rattle.dbus_marshal.proofs.Signing.{short_more}
+use Rattle.dbus_marshal.proofs.Spells.{short_more, number_fits, number_is, variant_fits, writes_more, writes_end}
 use Rattle.dbus_value_model.proofs.ValueRows.{tree-Byte, tree-Bool, tree-I16, tree-U16, tree-I32, tree-U32, tree-I64, tree-U64, tree-Double, tree-Fd, tree-Array, tree-Struct, tree-Entry, tree-Sig, tree-Variant}
-use Rattle.dbus_marshal.proofs.Spells.{number_fits, number_is, variant_fits, writes_more, writes_end}
 use Rattle.dbus_marshal.proofs.Written.{length_value, length_values, length_text, no_padding, written_struct, written_entry, written_variant}
 use Rattle.dbus_marshal.proofs.marshalling.+write.Goals as goal
 

@@ -3,11 +3,11 @@ use Rattle.std.specs.Prelude.{string_bytes}
 use Rattle.dbus_value_model.specs.declared.value.Value.{the_lemmas}
 use Rattle.dbus_value_model.specs.SizeLimits.{AreMeasured}
 use Rattle.dbus_value_model.specs.ValueViews.{value_trees_of}
-use Rattle.dbus_value_model.proofs.Measuring.{below_most}
+use Rattle.dbus_value_model.proofs.Formed.{below_most}
 use Rattle.dbus_texts.specs.Types.{BYTE, BOOLEAN, INT16, UINT16, INT32, UINT32, INT64, UINT64, DOUBLE, UNIX_FD, STRING, OBJECT_PATH, SIGNATURE}
 use Rattle.dbus_value_model.proofs.ValueRows.{tree-Byte, tree-Bool, tree-I16, tree-U16, tree-I32, tree-U32, tree-I64, tree-U64, tree-Double, tree-Str, tree-Path, tree-Sig, tree-Fd, tree-Bytes, tree-Array, tree-Struct, tree-Entry, tree-Variant}
 use Rattle.dbus_marshal.proofs.MeasureSteps.{measured-number, measured-text, measured-bytes, measured-array, measured-items, measured-struct, measured-entry, measured-key, measured-variant, measured-rest, measured-stop, measured-end}
-use Rattle.dbus_marshal.proofs.Signing.{short_more}
+use Rattle.dbus_marshal.proofs.Spells.{short_more}
 use Rattle.dbus_marshal.proofs.measures.+size.Goals as goal
 
 pub measure-measure_all-requires : goal.measure-measure_all-requires

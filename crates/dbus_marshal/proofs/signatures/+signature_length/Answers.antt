@@ -1,7 +1,7 @@
 use Rattle.std.proofs.Common.{arith, rules}
 use Rattle.dbus_value_model.specs.declared.value.Value.{the_lemmas}
 use Rattle.dbus_value_model.proofs.TypeRows.{value_length-Array, value_length-Struct, value_length-Entry, value_length_more, value_length_end}
-use Rattle.dbus_value_model.proofs.Measuring.{below_most}
+use Rattle.dbus_value_model.proofs.Formed.{below_most}
 use Rattle.dbus_marshal.proofs.signatures.+signature_length.Goals as goal
 
 pub signature_length-signatures_length-requires : goal.signature_length-signatures_length-requires

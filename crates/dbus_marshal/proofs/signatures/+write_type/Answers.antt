@@ -1,6 +1,6 @@
 use Rattle.std.proofs.Common.{arith}
-use Rattle.dbus_marshal.proofs.Joining.{join_assoc, join_around, join_two, step_joined}
-use Rattle.dbus_value_model.proofs.Measuring.{below_most}
+use Rattle.dbus_marshal.proofs.Spells.{join_assoc, join_around, join_two, step_joined}
+use Rattle.dbus_value_model.proofs.Formed.{below_most}
 use Rattle.dbus_value_model.proofs.TypeRows.{sig-Array, sig-Struct, sig-Entry, sigs_more, length_more}
 use Rattle.dbus_marshal.proofs.signatures.+write_type.Goals as goal
 

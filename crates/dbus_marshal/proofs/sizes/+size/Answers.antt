@@ -1,10 +1,10 @@
 use Rattle.std.proofs.Common.{Ok, Err, ◌∙◌, arith, rules}
 use Rattle.std.proofs.lemmas.Result.{err_from_is_err_and}
 use Rattle.dbus_value_model.specs.declared.value.Value.{the_lemmas}
-use Rattle.dbus_value_model.proofs.Measuring.{below_most}
+use Rattle.dbus_value_model.proofs.Formed.{below_most}
 use Rattle.dbus_marshal.proofs.Sizing.{sized_bytes, sized_array, sized_struct, sized_entry, sized_variant, sizes_step, sizes_stop}
 use Rattle.dbus_value_model.proofs.ValueRows.{tree-Array, tree-Struct}
-use Rattle.dbus_marshal.proofs.Signing.{short_more}
+use Rattle.dbus_marshal.proofs.Spells.{short_more}
 use Rattle.dbus_marshal.proofs.sizes.+size.Goals as goal
 
 pub size_value-size_values-requires : goal.size_value-size_values-requires

@@ -1,5 +1,5 @@
 use Rattle.std.proofs.Common.{rules}
-use Rattle.dbus_match.proofs.Spans.{without_last}
+use Rattle.dbus_match.proofs.Noted.{without_last}
 use Rattle.dbus_match.proofs.asked.span_of.Goals as goal
 
 pub loop-last-preserved : goal.loop-last-preserved

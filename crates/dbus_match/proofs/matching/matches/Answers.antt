@@ -5,7 +5,7 @@ use Rattle.dbus_message_model.specs.MessageViews.{message_tree}
 use Rattle.dbus_match.specs.Matching.{HoldsAt, ownerships}
 use Rattle.dbus_rule.specs.Rules.{condition_pairs, Pair}
 use Rattle.dbus_rule.specs.declared.condition.Condition.{Condition}
-use Rattle.dbus_match.proofs.MatchingLists.{holds_at, one_holds}
+use Rattle.dbus_match.proofs.Decided.{holds_at, one_holds}
 use Rattle.dbus_match.proofs.matching.matches.Goals as goal
 
 pub returns-then-not-holds : goal.returns-then-not-holds

@@ -4,7 +4,7 @@ use Rattle.std.specs.List.{AllByRecursion}
 use Rattle.dbus_match.specs.Matching.{HoldsAt, ownerships}
 use Rattle.dbus_rule.specs.Rules.{condition_pairs, Pair}
 use Rattle.dbus_rule.specs.declared.condition.Condition.{Condition}
-use Rattle.dbus_match.proofs.MatchingLists.{holds_at, one_holds}
+use Rattle.dbus_match.proofs.Decided.{holds_at, one_holds}
 use Rattle.dbus_match.proofs.view_matching.matches_by.Goals as goal
 
 pub returns-then-not-holds : goal.returns-then-not-holds

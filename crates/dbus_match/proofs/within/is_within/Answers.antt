@@ -2,7 +2,7 @@ use Rattle.std.proofs.Common.{⊎_elim, inr, sym, ◌∙◌, arith}
 use Rattle.std.proofs.lemmas.Bool.{false≢true}
 use Rattle.std.proofs.lemmas.Bool.Decides.{Decides-eqb}
 use Rattle.std.proofs.lemmas.Slice.Eq.{slice_eq-Decides}
-use Rattle.dbus_match.proofs.Separators.{within_from, within_reads}
+use Rattle.dbus_match.proofs.Decided.{within_from, within_reads}
 use Rattle.dbus_match.proofs.within.is_within.Goals as goal
 
 pub returns-then-value-text : goal.returns-then-value-text

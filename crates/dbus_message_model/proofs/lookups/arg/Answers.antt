@@ -2,7 +2,7 @@ use Rattle.std.proofs.Common.{◌≡◌, ap, ◌∙◌}
 use Rattle.dbus_value_model.specs.ValueViews.{value_trees_of}
 use Rattle.dbus_message_model.specs.Messages.{MessageTree}
 use Rattle.dbus_message_model.specs.MessageViews.{message_tree}
-use Rattle.dbus_message_model.proofs.BodyValues.{value_found, kept_found}
+use Rattle.dbus_message_model.proofs.KnownValues.{value_found, kept_found}
 use Rattle.dbus_message_model.proofs.lookups.arg.Goals as goal
 
 pub returns-clause-numbered : goal.returns-clause-numbered

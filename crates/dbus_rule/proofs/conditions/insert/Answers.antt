@@ -1,7 +1,7 @@
 use Rattle.std.proofs.Common.{ltb, arith}
 use Rattle.std.proofs.lemmas.List.Sums.{prefix_len-le-length}
 use Rattle.dbus_rule.specs.Keys.{rank}
-use Rattle.dbus_rule.proofs.Placed.{inserted_ok}
+use Rattle.dbus_rule.proofs.SortedConditions.{inserted_ok}
 use Rattle.dbus_rule.proofs.conditions.insert.Goals as goal
 
 pub insert-requires : goal.insert-requires

@@ -1,4 +1,4 @@
-use Rattle.dbus_rule.proofs.SameRules.{rules_equal}
+use Rattle.dbus_rule.proofs.SortedConditions.{rules_equal}
 use Rattle.dbus_rule.proofs.laws.equal_rules.Goals as goal
 
 pub returns : goal.returns

@@ -1,5 +1,5 @@
 use Rattle.std.proofs.Common.{drop}
-use Rattle.dbus_rule.proofs.ValueCuts.{reads_closed}
+use Rattle.dbus_rule.proofs.Values.{reads_closed}
 use Rattle.dbus_rule.proofs.ValueUtf8.{value_utf8}
 use Rattle.dbus_rule.proofs.pair.read_value.Goals as goal
 

@@ -1,6 +1,6 @@
 use Rattle.std.proofs.Common.{rules, ℕ, Bool, List, Some, if◌then◌else◌, drop, ◌+◌, sym, ap, ◌∙◌, string_bytes}
 use Rattle.dbus_rule.specs.Rules.{condition_pairs, sender_of}
-use Rattle.dbus_rule.proofs.ConditionLists.{sender_step, sender_end}
+use Rattle.dbus_rule.proofs.SortedConditions.{sender_step, sender_end}
 use Rattle.dbus_rule.proofs.rule_values.sender_at.Goals as goal
 
 pub returns-then-is_sender : goal.returns-then-is_sender

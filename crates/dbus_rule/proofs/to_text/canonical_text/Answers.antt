@@ -1,5 +1,5 @@
 use Rattle.std.proofs.Common.{refl, string_bytes, inl, inr, arith, ap, ◌∙◌}
-use Rattle.dbus_rule.proofs.RuleTexts.{IsJoint, text_more}
+use Rattle.dbus_rule.proofs.Canonical.{IsJoint, text_more}
 use Rattle.dbus_rule.proofs.to_text.canonical_text.Goals as goal
 use Rattle.dbus_rule.proofs.to_text.canonical_text.Goals.{then-i-gt0+in_ok-push_str, else-i-gt0}
 

@@ -1,7 +1,7 @@
 use Rattle.std.proofs.Common.{rules, ◌++◌, string_bytes, arith}
 use Rattle.std.proofs.lemmas.Str.Pattern.{split_parts}
 use Rattle.dbus_rule.specs.Rules.{quote_escaped}
-use Rattle.dbus_rule.proofs.Escapes.{escaped_step, escaped_last}
+use Rattle.dbus_rule.proofs.Values.{escaped_step, escaped_last}
 use Rattle.dbus_rule.proofs.to_text.push_escaped.Goals as goal
 
 pub loop-run-preserved : goal.loop-run-preserved

@@ -1,7 +1,7 @@
 use Rattle.std.proofs.Common.{rules, ◌≡◌, ◌∷◌, [], ◌++◌, subst}
 use Rattle.hex.specs.Hex.{encode_lower}
 use Rattle.dbus_show.specs.ShownValues.{escape_by}
-use Rattle.dbus_show.proofs.Gaining.{then}
+use Rattle.dbus_show.proofs.FieldTexts.{then}
 use Rattle.dbus_show.proofs.escapes.write_escape.Goals as goal
 
 pub returns-in_default : goal.returns-in_default

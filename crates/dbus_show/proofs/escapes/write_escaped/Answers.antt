@@ -4,7 +4,7 @@ use Rattle.std.proofs.lemmas.List.Sums.{prefix_len-le-length}
 use Rattle.std.proofs.lemmas.Str.{IsCharBoundary-start, IsCharBoundary-before_ascii, IsCharBoundary-after_ascii}
 use Rattle.dbus_show.specs.ShownValues.{escape_by, is_escaped}
 use Rattle.dbus_show.proofs.EscapedText.{plain_length, run_within, run_stops, escape_after, escaped_ascii, plain_last}
-use Rattle.dbus_show.proofs.Gaining.{then}
+use Rattle.dbus_show.proofs.FieldTexts.{then}
 use Rattle.dbus_show.proofs.escapes.write_escaped.Goals as goal
 
 pub loop-end-init : goal.loop-end-init

@@ -1,6 +1,6 @@
 use Rattle.std.proofs.Common.{rules, ◌≡◌, ◌++◌, codes, decimal, subst}
 use Rattle.dbus_show.specs.ShownMessages.{field_name}
-use Rattle.dbus_show.proofs.Gaining.{then}
+use Rattle.dbus_show.proofs.FieldTexts.{then}
 use Rattle.dbus_show.proofs.fields.write_field_name.Goals as goal
 
 pub returns-in_default : goal.returns-in_default

@@ -1,7 +1,7 @@
 use Rattle.std.proofs.lemmas.Str.{IsUtf8-from_ascii}
 use Rattle.hex.proofs.HexLemmas.{IsAscii-encode_with}
 use Rattle.hex.specs.Hex.{lower_digits}
-use Rattle.dbus_show.proofs.HexDigits.{lower_ascii}
+use Rattle.dbus_show.proofs.EscapedText.{lower_ascii}
 use Rattle.dbus_show.proofs.hexadecimal.write_block.Goals as goal
 
 pub from_utf8_unchecked-requires : goal.from_utf8_unchecked-requires

@@ -1,6 +1,6 @@
 use Rattle.std.proofs.Common.{◌+◌, ◌-◌, ◌≡◌, arith, sym, subst}
-use Rattle.dbus_show.proofs.HexDigits.{encode_none, block_more, block_last}
-use Rattle.dbus_show.proofs.Gaining.{then}
+use Rattle.dbus_show.proofs.EscapedText.{encode_none, block_more, block_last}
+use Rattle.dbus_show.proofs.FieldTexts.{then}
 use Rattle.dbus_show.proofs.hexadecimal.write_hex.Goals as goal
 
 pub loop-start-init : goal.loop-start-init

@@ -1,5 +1,5 @@
 use Rattle.std.proofs.Common.{subst}
-use Rattle.dbus_show.proofs.Gaining.{then}
+use Rattle.dbus_show.proofs.FieldTexts.{then}
 use Rattle.dbus_show.proofs.show.write_kind.Goals as goal
 
 pub returns-in-Some : goal.returns-in-Some

@@ -1,5 +1,5 @@
 use Rattle.std.proofs.Common.{sym}
-use Rattle.dbus_show.proofs.Gaining.{then}
+use Rattle.dbus_show.proofs.FieldTexts.{then}
 use Rattle.dbus_show_handshake.proofs.sentences.write_client.Goals as goal
 
 pub returns-in-AuthBy : goal.returns-in-AuthBy

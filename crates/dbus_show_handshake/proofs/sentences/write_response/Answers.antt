@@ -1,6 +1,6 @@
 use Rattle.std.proofs.Common.{List, ℕ, ap, length, subst, sym}
 use Rattle.std.proofs.lemmas.Bool.{eqb-false}
-use Rattle.dbus_show.proofs.Gaining.{then}
+use Rattle.dbus_show.proofs.FieldTexts.{then}
 use Rattle.dbus_show_handshake.proofs.Offers.{response_is}
 use Rattle.dbus_show_handshake.proofs.sentences.write_response.Goals as goal
 

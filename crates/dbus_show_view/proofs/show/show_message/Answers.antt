@@ -1,6 +1,6 @@
 use Rattle.std.proofs.Common.{◌∙◌}
 use Rattle.dbus_message_model.specs.MessageViews.{message_tree}
-use Rattle.dbus_show_view.proofs.OwnBytes.{begins_with_one, same_text}
+use Rattle.dbus_show_view.proofs.FieldParts.{begins_with_one, same_text}
 use Rattle.dbus_show_view.proofs.show.show_message.Goals as goal
 
 pub unreachable-requires : goal.unreachable-requires

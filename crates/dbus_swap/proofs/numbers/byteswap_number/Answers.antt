@@ -1,7 +1,7 @@
 use Rattle.std.proofs.Common.{◌≡◌, ◌+◌, ◌++◌, ℕ, take, drop, reverse, sym, subst, arith}
 use Rattle.dbus_texts.specs.Types.{BYTE, BOOLEAN, INT16, UINT16, INT32, UINT32, INT64, UINT64, DOUBLE, UNIX_FD, NumberCode}
 use Rattle.dbus_types.specs.Alignments.{width}
-use Rattle.dbus_swap.proofs.Byteswapped.{byte_byteswapped}
+use Rattle.dbus_swap.proofs.Leaves.{byte_byteswapped}
 use Rattle.dbus_swap.proofs.numbers.byteswap_number.Goals as goal
 
 only_byte : (k : NumberCode) (n : ℕ) → width k ≡ n → (n ≡ 2 → ⊥) → (n ≡ 4 → ⊥) → (n ≡ 8 → ⊥) → 1 ≡ n

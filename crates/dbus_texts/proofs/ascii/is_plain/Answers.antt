@@ -1,5 +1,5 @@
 use Rattle.std.proofs.Common.{arith}
-use Rattle.dbus_texts.proofs.PlainBlocks.{plain_of_mask}
+use Rattle.dbus_texts.proofs.WordBlocks.{plain_of_mask}
 use Rattle.dbus_texts.proofs.ascii.is_plain.Goals as goal
 
 pub returns : goal.returns

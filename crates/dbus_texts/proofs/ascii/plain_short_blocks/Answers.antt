@@ -1,7 +1,7 @@
 use Rattle.std.proofs.Common.{sym, subst, arith, take-add}
 use Rattle.std.specs.List.{AllByRecursion}
 use Rattle.std.specs.Int.{IsInRange}
-use Rattle.dbus_texts.proofs.PlainBlocks.{plain_append}
+use Rattle.dbus_texts.proofs.WordBlocks.{plain_append}
 use Rattle.dbus_texts.proofs.ascii.plain_short_blocks.Goals as goal
 
 pub loop-at-preserved : goal.loop-at-preserved

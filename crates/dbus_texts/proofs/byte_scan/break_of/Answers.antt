@@ -1,6 +1,5 @@
 use Rattle.std.proofs.Common.{arith}
-use Rattle.dbus_texts.proofs.Quotients.{quotient_start}
-use Rattle.dbus_texts.proofs.Breaks.{front_refuses, front_takes, front_stops, front_ends}
+use Rattle.dbus_texts.proofs.ScanSteps.{quotient_start, front_refuses, front_takes, front_stops, front_ends}
 use Rattle.dbus_texts.proofs.byte_scan.break_of.Goals as goal
 
 pub loop-i-init : goal.loop-i-init

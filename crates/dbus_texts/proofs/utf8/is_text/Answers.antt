@@ -6,9 +6,8 @@ use Rattle.std.proofs.lemmas.List.{take_all}
 use Rattle.dbus_texts.specs.declared.utf8.Utf8Place.TheVariants.{Free}
 use Rattle.dbus_texts.specs.Kinds.{IsText}
 use Rattle.dbus_texts.proofs.PlainRuns.{plain_run}
-use Rattle.dbus_texts.proofs.Utf8Steps.{text_ends, text_some}
-use Rattle.dbus_texts.proofs.Quotients.{quotient_start}
-use Rattle.dbus_texts.proofs.TextUtf8.{no_zero, a_zero}
+use Rattle.dbus_texts.proofs.Utf8Steps.{text_ends, text_some, no_zero, a_zero}
+use Rattle.dbus_texts.proofs.ScanSteps.{quotient_start}
 use Rattle.dbus_texts.proofs.KindFacts.{text_utf8, utf8_text}
 use Rattle.dbus_texts.proofs.utf8.is_text.Goals as goal
 

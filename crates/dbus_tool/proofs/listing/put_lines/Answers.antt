@@ -1,4 +1,4 @@
-use Rattle.dbus_tool.proofs.ListSteps.{puts_all}
+use Rattle.dbus_tool.proofs.SameAsked.{puts_all}
 use Rattle.dbus_tool.proofs.listing.put_lines.Goals as goal
 
 pub returns-in-Ok-clause-lines : goal.returns-in-Ok-clause-lines

@@ -1,5 +1,5 @@
 use Rattle.cli_report.specs.Gathering.{gathered_bytes}
-use Rattle.dbus_tool.proofs.ListSteps.{written_out}
+use Rattle.dbus_tool.proofs.SameAsked.{written_out}
 use Rattle.dbus_tool.proofs.listing.write_lines.Goals as goal
 
 pub returns-in-Ok-clause-lines : goal.returns-in-Ok-clause-lines

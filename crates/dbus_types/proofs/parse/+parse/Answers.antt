@@ -1,6 +1,6 @@
 use Rattle.std.proofs.Common.{arith, ◌∙◌, sym}
 use Rattle.std.proofs.lemmas.Bool.{false≢true}
-use Rattle.dbus_types.proofs.Prefixes.{inside_array, inside_struct, inside_entry, code_first}
+use Rattle.dbus_types.proofs.PrefixSteps.{inside_array, inside_struct, inside_entry, code_first}
 use Rattle.dbus_types.proofs.Parsing.{left_of_end, reads_shorter, pair_value, pair_end, fields_type, fields_more, reads_struct, reads_entry, not_empty_at, spelled_push}
 use Rattle.dbus_types.proofs.parse.+parse.Goals as goal
 

@@ -1,6 +1,6 @@
 use Rattle.std.proofs.Common.{sym, ap, subst, arith, length}
 use Rattle.dbus_texts.specs.Kinds.{IsSignature}
-use Rattle.dbus_types.proofs.Spelling.{spelled_types}
+use Rattle.dbus_types.proofs.Parsing.{spelled_types}
 use Rattle.dbus_types.proofs.parse.parse_signature.Goals as goal
 
 pub returns : goal.returns

@@ -5,8 +5,8 @@ use Rattle.dbus_texts.specs.Types.{TypeTrees, AreSome, IsBasic}
 use Rattle.dbus_types.specs.SigTypes.{type_tree, type_trees_of}
 use Rattle.dbus_types.specs.Parses.{LeavesOfType, LeavesOfTypes}
 use Rattle.dbus_types.specs.declared.sig_type.SigType.{SigType}
-use Rattle.dbus_types.proofs.TypeViews.{type_tree-Struct, type_tree-Entry}
-use Rattle.dbus_types.proofs.Rooms.{struct_leaves, entry_leaves, none_leave, more_leave, first_leaves_none}
+use Rattle.dbus_types.proofs.TypeEnds.{type_tree-Struct, type_tree-Entry}
+use Rattle.dbus_types.proofs.PrefixSteps.{struct_leaves, entry_leaves, none_leave, more_leave, first_leaves_none}
 use Rattle.dbus_types.proofs.shape.+text_left.Goals as goal
 
 are_some : {A : Type 0} (ts : List (SigType A)) → 0 < length ts → AreSome (type_trees_of ts)

@@ -3,9 +3,9 @@ use Rattle.std.proofs.lemmas.Result.{on_ok_weaker, on_err_weaker}
 use Rattle.dbus_types.specs.SigTypes.{type_trees_of, type_tree}
 use Rattle.dbus_texts.specs.Types.{sigs, sig}
 use Rattle.dbus_types.specs.Parses.{AppendsPrefix}
-use Rattle.dbus_types.proofs.TypeViews.{type_tree-Array, type_tree-Struct, type_tree-Entry}
+use Rattle.dbus_types.proofs.TypeEnds.{type_tree-Array, type_tree-Struct, type_tree-Entry}
 use Rattle.dbus_types.proofs.PrefixSteps.{on_err, front_within, none_of, texts_front}
-use Rattle.dbus_types.proofs.Spelling.{one_text_more}
+use Rattle.dbus_types.proofs.Parsing.{one_text_more}
 use Rattle.dbus_types.proofs.spell.+spell.Goals as goal
 
 pub push_type-returns-in_ok-push_code-in-Array-clause-written : goal.push_type-returns-in_ok-push_code-in-Array-clause-written

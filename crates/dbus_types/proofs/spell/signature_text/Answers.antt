@@ -2,7 +2,7 @@ use Rattle.std.proofs.Common.{◌≡◌, ◌++◌, ◌<◌, ◌∙◌, ap, subst
 use Rattle.dbus_texts.specs.Types.{sigs}
 use Rattle.dbus_texts.specs.Kinds.{IsSignature}
 use Rattle.dbus_types.specs.SigTypes.{type_trees_of}
-use Rattle.dbus_types.proofs.Spelling.{spelled_types}
+use Rattle.dbus_types.proofs.Parsing.{spelled_types}
 use Rattle.dbus_types.proofs.spell.signature_text.Goals as goal
 
 pub returns : goal.returns

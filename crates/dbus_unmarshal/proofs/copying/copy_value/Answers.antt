@@ -2,7 +2,7 @@ use Rattle.std.proofs.Common.{length, sym, ap, subst, ◌∙◌, arith}
 use Rattle.std.proofs.lemmas.Bool.{eqb-true, eqb-false}
 use Rattle.dbus_value_model.specs.Values.{ValueTree, MoreValues}
 use Rattle.dbus_values.specs.States.{ValuesState, AreLeft, values_at}
-use Rattle.dbus_values.proofs.Firsts.{no_values, value_of}
+use Rattle.dbus_values.proofs.Views.{no_values, value_of}
 use Rattle.dbus_unmarshal.proofs.copying.copy_value.Goals as goal
 
 pub returns-then-is_empty-clause-copied : goal.returns-then-is_empty-clause-copied

@@ -4,7 +4,7 @@ use Rattle.dbus_value_model.proofs.ValueRows.{tree-Sig}
 use Rattle.dbus_walk.proofs.Parts.{short_stands, short_counts}
 use Rattle.dbus_walk.proofs.ReadThere.{text_there, text_utf8}
 use Rattle.dbus_value_model.specs.declared.value.Value.{the_lemmas}
-use Rattle.dbus_value_model.proofs.Gaps.{no_gap}
+use Rattle.dbus_value_model.proofs.Periods.{no_gap}
 use Rattle.dbus_unmarshal.proofs.Leaves.{text_built}
 use Rattle.dbus_unmarshal.proofs.texts.short_text_at.Goals as goal
 

@@ -3,7 +3,7 @@ use Rattle.std.proofs.lemmas.List.{length-append}
 use Rattle.dbus_texts.specs.Types.{sig, sigs}
 use Rattle.dbus_types.specs.SigTypes.{type_tree, type_trees_of}
 use Rattle.dbus_value_model.proofs.TypeRows.{sigs_more}
-use Rattle.dbus_value_model.proofs.Measuring.{below_most}
+use Rattle.dbus_value_model.proofs.Formed.{below_most}
 use Rattle.dbus_unmarshal.proofs.type_text.+text.Goals as goal
 
 pub put_types-put_type-requires : goal.put_types-put_type-requires

@@ -1,7 +1,7 @@
 use Rattle.std.proofs.Common.{◌+◌, ◌-◌, arith}
 use Rattle.dbus_message_model.specs.Messages.{Anything}
 use Rattle.dbus_value_validator.proofs.ReadParts.{not_same}
-use Rattle.dbus_value_validator.proofs.Spelled.{value_read, value_spelled}
+use Rattle.dbus_value_validator.proofs.ItemSteps.{value_read, value_spelled}
 use Rattle.dbus_validate.proofs.HeldSteps.{unsigned, single_unread, is_any}
 use Rattle.dbus_validate.proofs.field_values.anything.Goals as goal
 

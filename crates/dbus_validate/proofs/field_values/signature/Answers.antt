@@ -1,7 +1,7 @@
 use Rattle.std.proofs.Common.{◌+◌, take, drop, refl, ◌∙◌, arith}
 use Rattle.dbus_texts.specs.Types.{SIGNATURE, TextType}
 use Rattle.dbus_value_model.specs.Values.{TextValue}
-use Rattle.dbus_value_model.proofs.Gaps.{no_gap}
+use Rattle.dbus_value_model.proofs.Periods.{no_gap}
 use Rattle.dbus_message_model.specs.Messages.{OfType}
 use Rattle.dbus_value_validator.proofs.ItemSteps.{signature_done, signature_unread}
 use Rattle.dbus_value_validator.proofs.ReadParts.{not_same}

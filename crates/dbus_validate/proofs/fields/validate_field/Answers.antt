@@ -1,5 +1,5 @@
 use Rattle.std.proofs.Common.{arith}
-use Rattle.dbus_validate.proofs.FieldSteps.{field_too_deep, field_unpadded, field_ended, field_zero, field_again, field_unheld, field_held}
+use Rattle.dbus_validate.proofs.FieldTurns.{field_too_deep, field_unpadded, field_ended, field_zero, field_again, field_unheld, field_held}
 use Rattle.dbus_validate.proofs.fields.validate_field.Goals as goal
 
 pub returns-clause-field : goal.returns-clause-field

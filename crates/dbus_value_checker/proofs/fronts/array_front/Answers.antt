@@ -1,6 +1,6 @@
 use Rattle.std.proofs.Common.{◌+◌, length, arith, ap, ◌∙◌}
 use Rattle.std.proofs.lemmas.List.{length-drop}
-use Rattle.dbus_value_model.proofs.Gaps.{gap_below}
+use Rattle.dbus_value_model.proofs.Periods.{gap_below}
 use Rattle.dbus_value_checker.proofs.FrontSteps.{array_stop, array_too_long, array_past, array_there, array_padding}
 use Rattle.dbus_value_checker.proofs.fronts.array_front.Goals as goal
 

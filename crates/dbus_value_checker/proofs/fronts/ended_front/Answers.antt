@@ -7,7 +7,7 @@ use Rattle.dbus_value_validator.specs.Endings.{EndedText}
 use Rattle.dbus_value_checker.specs.Fronts.{Fronts}
 use Rattle.dbus_value_checker.specs.Suspended.{ended_text}
 use Rattle.dbus_value_checker.proofs.FrontSteps.{text_there_at}
-use Rattle.dbus_value_checker.proofs.Chains.{first_err, then_err, then_ok, front_as}
+use Rattle.dbus_value_checker.proofs.Suspension.{first_err, then_err, then_ok, front_as}
 use Rattle.dbus_value_checker.proofs.fronts.ended_front.Goals as goal
 
 nul_there : (o p q : ℕ) (s r : List ℕ) → nul p s ≡ Done tt q r → (1 ≤ length s) × ((c : List ℕ) → nul o (take 1 s ++ c) ≡ Done tt (o + 1) c)

@@ -1,5 +1,5 @@
 use Rattle.std.proofs.Common.{◌≡◌, arith}
-use Rattle.dbus_value_model.proofs.Gaps.{gap_below}
+use Rattle.dbus_value_model.proofs.Periods.{gap_below}
 use Rattle.dbus_value_checker.proofs.FrontSteps.{padding_past, padding_taken, padding_waits, padding_breaks, more_zeros}
 use Rattle.dbus_value_checker.proofs.fronts.padding.Goals as goal
 

@@ -3,7 +3,7 @@ use Rattle.dbus_value_model.specs.Reading.{number}
 use Rattle.dbus_value_model.specs.ValueItems.{text_row}
 use Rattle.dbus_value_model.specs.WantedTexts.{Of}
 use Rattle.dbus_value_checker.specs.Suspended.{ended_text}
-use Rattle.dbus_value_checker.proofs.Chains.{first_err, then_err, then_ok}
+use Rattle.dbus_value_checker.proofs.Suspension.{first_err, then_err, then_ok}
 use Rattle.dbus_value_checker.proofs.fronts.signature_front.Goals as goal
 
 pub returns-in-Err-clause-gives : goal.returns-in-Err-clause-gives

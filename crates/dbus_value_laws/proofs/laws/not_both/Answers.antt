@@ -1,4 +1,4 @@
-use Rattle.dbus_value_laws.proofs.ValueOutcomes.{not_both}
+use Rattle.dbus_value_laws.proofs.ValueItemLaws.{not_both}
 use Rattle.dbus_value_laws.proofs.laws.not_both.Goals as goal
 
 pub returns : goal.returns

@@ -1,4 +1,4 @@
-use Rattle.dbus_value_laws.proofs.ValueOutcomes.{one_fault}
+use Rattle.dbus_value_laws.proofs.ValueItemLaws.{one_fault}
 use Rattle.dbus_value_laws.proofs.laws.one_fault.Goals as goal
 
 pub returns : goal.returns

@@ -1,4 +1,4 @@
-use Rattle.dbus_value_laws.proofs.ValueOutcomes.{reads_spelled}
+use Rattle.dbus_value_laws.proofs.ValueItemLaws.{reads_spelled}
 use Rattle.dbus_value_laws.proofs.laws.reads_spelled.Goals as goal
 
 pub returns : goal.returns

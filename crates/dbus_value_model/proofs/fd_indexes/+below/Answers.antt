@@ -2,9 +2,8 @@ use Rattle.std.proofs.Common.{Some, refl, sym, subst}
 use Rattle.std.proofs.lemmas.Bool.{false≢true}
 use Rattle.dbus_value_model.specs.FdIndexes.{AreIndexesBelow, AreAllBelow}
 use Rattle.dbus_value_model.specs.ValueViews.{value_tree, value_trees_of}
-use Rattle.dbus_value_model.proofs.ValueRows.{tree-Array, tree-Struct, tree-Bytes}
+use Rattle.dbus_value_model.proofs.ValueRows.{tree-Array, tree-Struct, tree-Bytes, item_of, items_from}
 use Rattle.dbus_value_model.proofs.Indexes.{bytes_below}
-use Rattle.dbus_value_model.proofs.Items.{item_of, items_from}
 use Rattle.dbus_value_model.proofs.fd_indexes.+below.Goals as goal
 
 pub is_below-returns-in-Array : goal.is_below-returns-in-Array

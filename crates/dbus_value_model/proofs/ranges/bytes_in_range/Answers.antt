@@ -1,5 +1,5 @@
 use Rattle.std.proofs.Common.{arith}
-use Rattle.dbus_value_model.proofs.RangeSteps.{bytes_hold}
+use Rattle.dbus_value_model.proofs.Numbers.{bytes_hold}
 use Rattle.dbus_value_model.proofs.ranges.bytes_in_range.Goals as goal
 
 pub returns : goal.returns

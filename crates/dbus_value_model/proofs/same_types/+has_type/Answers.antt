@@ -5,10 +5,9 @@ use Rattle.dbus_value_model.specs.Values.{type_of}
 use Rattle.dbus_value_model.specs.ValueViews.{value_tree}
 use Rattle.dbus_value_model.specs.declared.value.Value.{Value}
 use Rattle.dbus_texts.specs.Types.{TypeTree}
-use Rattle.dbus_types.proofs.TypeViews.{type_tree-Struct}
+use Rattle.dbus_types.proofs.TypeEnds.{type_tree-Struct}
 use Rattle.dbus_value_model.proofs.ValueRows.{tree-Struct}
-use Rattle.dbus_value_model.proofs.TypeRows.{types_of-trees}
-use Rattle.dbus_value_model.proofs.SameTypes.{same_length, differ_at, same_more, structs_same}
+use Rattle.dbus_value_model.proofs.TypeRows.{types_of-trees, same_length, differ_at, same_more, structs_same}
 use Rattle.dbus_value_model.proofs.same_types.+has_type.Goals as goal
 
 abbrev own : {A : Type 0} → Value A → TypeTree

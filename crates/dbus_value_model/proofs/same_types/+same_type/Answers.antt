@@ -1,8 +1,8 @@
 use Rattle.std.proofs.Common.{◌≡◌, ◌<◌, length, refl, sym, ap, subst, ◌∙◌, arith}
 use Rattle.std.proofs.lemmas.Bool.{false≢true}
 use Rattle.dbus_types.specs.SigTypes.{type_tree}
-use Rattle.dbus_types.proofs.TypeViews.{type_tree-Struct}
-use Rattle.dbus_value_model.proofs.SameTypes.{same_length, differ_at, same_more, structs_same, entry_told}
+use Rattle.dbus_types.proofs.TypeEnds.{type_tree-Struct}
+use Rattle.dbus_value_model.proofs.TypeRows.{same_length, differ_at, same_more, structs_same, entry_told}
 use Rattle.dbus_value_model.proofs.same_types.+same_type.Goals as goal
 
 pub same_type-returns-in-Struct-other : goal.same_type-returns-in-Struct-other

@@ -3,12 +3,11 @@ use Rattle.std.proofs.lemmas.Bool.{eqb-false}
 use Rattle.std.proofs.lemmas.List.{at_drop_all}
 use Rattle.dbus_texts.specs.Types.{TypeTrees, AreSome}
 use Rattle.dbus_types.specs.Parses.{LeavesOfType, LeavesOfTypes}
-use Rattle.dbus_types.proofs.Rooms.{struct_leaves, none_leave, more_leave, first_leaves_none}
+use Rattle.dbus_types.proofs.PrefixSteps.{struct_leaves, none_leave, more_leave, first_leaves_none}
 use Rattle.dbus_value_model.specs.Values.{type_of, types_of}
 use Rattle.dbus_value_model.specs.ValueViews.{value_tree, value_trees_of}
 use Rattle.dbus_value_model.specs.declared.value.Value.{Value, the_lemmas}
-use Rattle.dbus_value_model.proofs.Items.{items_from}
-use Rattle.dbus_value_model.proofs.ValueRows.{tree-Struct}
+use Rattle.dbus_value_model.proofs.ValueRows.{items_from, tree-Struct}
 use Rattle.dbus_value_model.proofs.typed.+type_left.Goals as goal
 
 are_some : {A : Type 0} (vs : List (Value A)) → 0 < length vs → AreSome (types_of (value_trees_of vs))

@@ -3,7 +3,7 @@ use Rattle.std.proofs.lemmas.Bool.{false≢true}
 use Rattle.dbus_types.specs.SigTypes.{type_tree}
 use Rattle.dbus_value_model.specs.Values.{AllOf, type_of}
 use Rattle.dbus_value_model.specs.ValueViews.{value_tree, value_trees_of}
-use Rattle.dbus_value_model.proofs.Items.{item_of, items_from}
+use Rattle.dbus_value_model.proofs.ValueRows.{item_of, items_from}
 use Rattle.dbus_value_model.proofs.typed.all_of.Goals as goal
 
 pub returns-then-not-has_type : goal.returns-then-not-has_type

@@ -4,7 +4,7 @@ use Rattle.dbus_texts.specs.Types.{StructType}
 use Rattle.dbus_types.specs.SigTypes.{type_tree, type_trees_of}
 use Rattle.dbus_value_model.specs.Values.{StructValue, type_of as tree_type}
 use Rattle.dbus_value_model.specs.ValueViews.{value_tree, value_trees_of}
-use Rattle.dbus_types.proofs.TypeViews.{type_tree-Struct}
+use Rattle.dbus_types.proofs.TypeEnds.{type_tree-Struct}
 use Rattle.dbus_value_model.proofs.ValueRows.{tree-Struct}
 use Rattle.dbus_value_model.proofs.TypeRows.{struct_type, entry_type}
 use Rattle.dbus_value_model.proofs.typing.+type_of.Goals as goal

@@ -5,11 +5,11 @@ use Rattle.dbus_types.specs.Alignments.{width}
 use Rattle.dbus_value_model.specs.Bytes.{num}
 use Rattle.dbus_value_model.specs.Reading.{number_of}
 use Rattle.dbus_value_model.specs.declared.order.Order.TheVariants.{Big}
-use Rattle.dbus_value_model.proofs.NumberBytes.{num_64_big}
+use Rattle.dbus_value_model.proofs.Numbers.{num_64_big}
 use Rattle.dbus_value_laws.proofs.ReadSteps.{one_byte}
 use Rattle.dbus_walk.proofs.ReadThere.{byte_code}
 use Rattle.dbus_show.specs.ShownValues.{number_text}
-use Rattle.dbus_value_text.proofs.Codes.{double_code}
+use Rattle.dbus_value_text.proofs.Rows.{double_code}
 use Rattle.dbus_value_text.proofs.numbers.write_number_at.Goals as goal
 
 pub bounds-bytes-at : goal.bounds-bytes-at

@@ -1,4 +1,4 @@
-use Rattle.dbus_value_validator.proofs.NotedTypes.{one_byte_end}
+use Rattle.dbus_value_validator.proofs.OpenStructs.{one_byte_end}
 use Rattle.dbus_value_validator.proofs.ends.end_of.Goals as goal
 
 pub returns-then-code-ne123-clause-value : goal.returns-then-code-ne123-clause-value

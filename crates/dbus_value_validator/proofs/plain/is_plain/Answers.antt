@@ -1,5 +1,5 @@
 use Rattle.std.proofs.Common.{◌≡◌, ◌+◌, ◌-◌, arith, ℕ, subst, take, drop}
-use Rattle.dbus_value_validator.proofs.PlainBlocks.{ArePlain, plain_more, plain_last}
+use Rattle.dbus_value_validator.proofs.NumberArrays.{ArePlain, plain_more, plain_last}
 use Rattle.dbus_value_validator.proofs.plain.is_plain.Goals as goal
 
 pub loop-at-preserved : goal.loop-at-preserved

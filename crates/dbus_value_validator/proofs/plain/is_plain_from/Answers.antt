@@ -1,5 +1,5 @@
 use Rattle.std.proofs.Common.{arith}
-use Rattle.dbus_texts.proofs.PlainBlocks.{plain_from}
+use Rattle.dbus_texts.proofs.WordBlocks.{plain_from}
 use Rattle.dbus_value_validator.proofs.plain.is_plain_from.Goals as goal
 
 pub returns : goal.returns

@@ -6,7 +6,7 @@ use Rattle.dbus_texts.specs.declared.text_kind.TextKind.{TextKind}
 use Rattle.dbus_texts.specs.declared.text_kind.TextKind.TheVariants.{Signature, Single}
 use Rattle.dbus_texts.specs.SignatureScans.{is_basic_code}
 use Rattle.dbus_texts.proofs.PlainRuns.{plain_text}
-use Rattle.dbus_value_validator.proofs.NotedTypes.{one_code}
+use Rattle.dbus_value_validator.proofs.OpenStructs.{one_code}
 use Rattle.dbus_value_validator.proofs.plain.is_seen_at_once.Goals as goal
 
 -- the text at a place that is of one byte, the code of a basic type

@@ -1,5 +1,5 @@
 use Rattle.std.proofs.Common.{arith}
-use Rattle.dbus_value_validator.proofs.Spelled.{value_answered}
+use Rattle.dbus_value_validator.proofs.ItemSteps.{value_answered}
 use Rattle.dbus_value_validator.proofs.validating.validate_value.Goals as goal
 
 pub returns : goal.returns

@@ -1,5 +1,5 @@
 use Rattle.std.proofs.Common.{arith}
-use Rattle.dbus_value_validator.proofs.Spelled.{fields_answered}
+use Rattle.dbus_value_validator.proofs.ItemSteps.{fields_answered}
 use Rattle.dbus_value_validator.proofs.validating.validate_values.Goals as goal
 
 pub returns-then-wants_lengths : goal.returns-then-wants_lengths

@@ -10,11 +10,10 @@ use Rattle.dbus_value_model.specs.ValueReaders.{array_value, struct_value, entry
 use Rattle.dbus_types.proofs.TypeCodes.{no_text_of, free_width_by, code_is, boolean_is, variant_is, array_is, struct_is, entry_is, entry_shaped}
 use Rattle.dbus_value_model.proofs.FreeNumbers.{free_is}
 use Rattle.dbus_value_validator.specs.Endings.{Answers, EndsAt}
-use Rattle.dbus_value_validator.proofs.NotedTypes.{part_noted, first_front}
+use Rattle.dbus_value_validator.proofs.OpenStructs.{part_noted, first_front, all_left, left_ends, left_unread, less_left, struct_unread, structs_left, closed_left, structs_closed, basic_there, variant_there, array_there, struct_outside}
 use Rattle.dbus_value_validator.proofs.NumberArrays.{free_elements, boolean_elements, words_begin}
 use Rattle.dbus_value_validator.proofs.ReadParts.{not_first, answers_unmade}
 use Rattle.dbus_value_validator.proofs.ValueSteps.{leads_all, leads_on, leads_end, lacks_element, lacks_end, too_deep, variant_too_deep, variant_unsigned, variant_answers, array_unframed, array_answers, entry_answers, as_variant, as_array, as_entry, free_value}
-use Rattle.dbus_value_validator.proofs.OpenStructs.{all_left, left_ends, left_unread, less_left, struct_unread, structs_left, closed_left, structs_closed, basic_there, variant_there, array_there, struct_outside}
 use Rattle.dbus_value_validator.proofs.values.+values.Goals.{array-then-depth_left-eq0-via-then-depth_left-eq0, array-then-depth_left-eq0-via-else-depth_left-eq0+then-is_empty}
 use Rattle.dbus_value_validator.proofs.values.+values.Goals as goal
 

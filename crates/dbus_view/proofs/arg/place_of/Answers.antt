@@ -2,7 +2,7 @@ use Rattle.std.proofs.Common.{subst}
 use Rattle.dbus_texts.specs.Types.{STRING, OBJECT_PATH, SIGNATURE}
 use Rattle.dbus_values.specs.Seen.{IsSeen}
 use Rattle.dbus_values.specs.declared.view.ValueView.{ValueView}
-use Rattle.dbus_view.proofs.ArgTexts.{text_before, text_told}
+use Rattle.dbus_view.proofs.Numbered.{text_before, text_told}
 use Rattle.dbus_view.proofs.arg.place_of.Goals as goal
 
 pub text_place-requires : goal.text_place-requires

@@ -1,7 +1,7 @@
 use Rattle.std.proofs.Common.{◌<◌, ◌+◌, ◌∙◌, arith, inr}
 use Rattle.dbus_types.proofs.TypeCodes.{code_is}
 use Rattle.dbus_value_model.specs.Values.{type_of}
-use Rattle.dbus_value_model.proofs.Gaps.{no_gap}
+use Rattle.dbus_value_model.proofs.Periods.{no_gap}
 use Rattle.dbus_walk.specs.Containers.{number_width}
 use Rattle.dbus_walk.proofs.Enclosed.{enclosed_within, struct_left}
 use Rattle.dbus_walk.proofs.Laid.{number_laid, text_laid, struct_laid, entry_laid}

@@ -15,9 +15,8 @@ use Rattle.dbus_walk.specs.Containers.{IsOf, inside, parts}
 use Rattle.dbus_walk.proofs.Laid.{long_coded, short_coded, laid_as}
 use Rattle.dbus_walk.proofs.Together.{no_row, aligned, between_long, one_struct, one_ends, fields_inside, outermost}
 use Rattle.dbus_walk.proofs.Lists.{no_elements}
-use Rattle.dbus_value_model.proofs.Gaps.{no_gap}
-use Rattle.dbus_walk.proofs.Parts.{types_some}
-use Rattle.dbus_walk.proofs.Seams.{ends_within}
+use Rattle.dbus_value_model.proofs.Periods.{no_gap}
+use Rattle.dbus_walk.proofs.Parts.{types_some, ends_within}
 use Rattle.dbus_walk.proofs.Walks.{not_ok, held_ok, ok_from, Taken, none_taken, more_taken, starts, first_part, all_left, next_element, element_left, no_element, first_ends, of_first, of_others, next_value, value_left, no_value}
 use Rattle.dbus_walk.proofs.walk.+walk.Goals as goal
 

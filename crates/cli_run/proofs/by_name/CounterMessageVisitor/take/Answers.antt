@@ -1,6 +1,6 @@
 use Rattle.std.proofs.Common.{refl, rules}
 use Rattle.cli_run.specs.VisitorLaws.{wrote_nothing}
-use Rattle.cli_run.proofs.LentSteps.{views_it}
+use Rattle.cli_run.proofs.OutputSteps.{views_it}
 use Rattle.cli_run.proofs.by_name.CounterMessageVisitor.take.Goals as goal
 
 pub returns-in-Ok : goal.returns-in-Ok

@@ -1,7 +1,7 @@
 use Rattle.std.proofs.Common.{ap, ◌∙◌}
 use Rattle.std.specs.Option.{is_some}
 use Rattle.dbus_validate.proofs.SeenSteps.{has_noted}
-use Rattle.dbus_c_build.proofs.KeptFields.{is_kept, noted}
+use Rattle.dbus_c_build.proofs.SameFields.{is_kept, noted}
 use Rattle.dbus_c_build.proofs.given.Given.has.Goals as goal
 
 pub returns-in-Some : goal.returns-in-Some

@@ -2,7 +2,7 @@ use Rattle.std.proofs.Common.{rules, ◌≡◌, Option, Some, MatchResult, ap, s
 use Rattle.dbus_rule.specs.RuleViews.{IsRuleFault}
 use Rattle.dbus_c_handle.specs.Rules.{Adds, KeepsAll}
 use Rattle.dbus_c_handle.specs.declared.kept.Kept.{Kept}
-use Rattle.dbus_c_handle.proofs.RuleAdded.{added_to}
+use Rattle.dbus_c_handle.proofs.Steps.{added_to}
 use Rattle.dbus_c_handle.proofs.handle.WireHandle.add_rule.Goals as goal
 
 pub returns-clause-added : goal.returns-clause-added

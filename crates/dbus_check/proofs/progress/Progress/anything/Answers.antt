@@ -2,7 +2,7 @@ use Rattle.std.proofs.Common.{take, drop, ◌+◌, ℕ, refl, ap, ◌∙◌, ari
 use Rattle.std.proofs.lemmas.Result.{err_from_is_err_and}
 use Rattle.dbus_message_model.specs.Messages.{Anything}
 use Rattle.dbus_check.proofs.PassedFields.{plain_code}
-use Rattle.dbus_check.proofs.HeldValues.{any_held, held_stops}
+use Rattle.dbus_check.proofs.FieldLaws.{any_held, held_stops}
 use Rattle.dbus_check.proofs.progress.Progress.anything.Goals as goal
 
 pub hold-requires-clause-valid : goal.hold-requires-clause-valid

@@ -2,7 +2,7 @@ use Rattle.std.proofs.Common.{◌≡◌, ℕ, ◌+◌, ◌<◌, ◌≤◌, List,
 use Rattle.dbus_message_model.specs.Messages.{is_known}
 use Rattle.dbus_check.specs.Heading.{has}
 use Rattle.dbus_check.specs.Progress.{Sees}
-use Rattle.dbus_check.proofs.NextFields.{field_coded, less}
+use Rattle.dbus_check.proofs.FieldSteps.{field_coded, less}
 use Rattle.dbus_check.proofs.progress.Progress.code.Goals as goal
 
 pub returns-clause-coded : goal.returns-clause-coded

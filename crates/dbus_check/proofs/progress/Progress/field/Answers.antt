@@ -1,7 +1,7 @@
 use Rattle.std.proofs.Common.{length, ap, arith}
 use Rattle.std.proofs.lemmas.List.{length-drop}
 use Rattle.std.proofs.lemmas.Result.{err_from_is_err_and}
-use Rattle.dbus_check.proofs.WholeFields.{both_move, second_stops, coded_stops}
+use Rattle.dbus_check.proofs.FieldLaws.{both_move, second_stops, coded_stops}
 use Rattle.dbus_check.proofs.progress.Progress.field.Goals as goal
 
 pub returns-in_err-code-clause-moves : goal.returns-in_err-code-clause-moves

@@ -3,7 +3,7 @@ use Rattle.std.proofs.lemmas.Result.{err_from_is_err_and}
 use Rattle.dbus_texts.specs.Types.{OBJECT_PATH, TextType}
 use Rattle.dbus_message_model.specs.Messages.{OfType}
 use Rattle.dbus_check.proofs.PassedFields.{plain_code}
-use Rattle.dbus_check.proofs.HeldValues.{path_held, held_stops}
+use Rattle.dbus_check.proofs.FieldLaws.{path_held, held_stops}
 use Rattle.dbus_check.proofs.progress.Progress.path.Goals as goal
 
 pub hold-requires-clause-valid : goal.hold-requires-clause-valid

@@ -2,7 +2,7 @@ use Rattle.std.proofs.Common.{ℕ, take, Result, Err, ap, ◌∙◌, subst}
 use Rattle.dbus_value_model.specs.declared.stop.Stop.{Stop}
 use Rattle.dbus_value_model.specs.declared.stop.Stop.TheVariants as stops
 use Rattle.dbus_check.specs.Progress.{To, Denotes, Steps, after_bytes}
-use Rattle.dbus_check.proofs.WholeFields.{both_move, second_stops}
+use Rattle.dbus_check.proofs.FieldLaws.{both_move, second_stops}
 use Rattle.dbus_check.proofs.progress.Progress.run.Goals as goal
 
 pub loop-self-preserved : goal.loop-self-preserved

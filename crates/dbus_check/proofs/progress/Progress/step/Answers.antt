@@ -1,7 +1,7 @@
 use Rattle.std.proofs.Common.{subst}
 use Rattle.dbus_check.specs.Progress.{denotes}
 use Rattle.dbus_check.specs.declared.progress.Stage.{Stage}
-use Rattle.dbus_check.proofs.WholeFields.{steps_of}
+use Rattle.dbus_check.proofs.FieldLaws.{steps_of}
 use Rattle.dbus_check.proofs.progress.Progress.step.Goals as goal
 
 pub returns-in-Header-clause-steps : goal.returns-in-Header-clause-steps

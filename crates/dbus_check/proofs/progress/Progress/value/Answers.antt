@@ -6,7 +6,7 @@ use Rattle.dbus_message_model.specs.Messages.{Name, OfType, Serial, number_in}
 use Rattle.dbus_check.specs.Heading.{nothing_of}
 use Rattle.dbus_check.specs.declared.progress.Progress.{Progress}
 use Rattle.dbus_check.proofs.PassedFields.{plain_passed, plain_stops, plain_code, field_passed, field_stops, count_code, the_kept, kept_count, not_before}
-use Rattle.dbus_check.proofs.WholeFields.{passed_moves}
+use Rattle.dbus_check.proofs.FieldLaws.{passed_moves}
 use Rattle.dbus_check.proofs.progress.Progress.value.Goals as goal
 
 pub returns-in-Signature-clause-moves : goal.returns-in-Signature-clause-moves

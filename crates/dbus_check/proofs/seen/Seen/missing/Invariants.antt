@@ -2,7 +2,7 @@ use Rattle.std.proofs.Common.{◌≡◌, ℕ, List, drop}
 use Rattle.dbus_message_model.specs.Messages.{required}
 use Rattle.dbus_check.specs.Heading.{missing}
 use Rattle.dbus_check.specs.Progress.{Sees}
-use Rattle.dbus_check.proofs.SeenSteps.{AreKnown}
+use Rattle.dbus_check.proofs.CheckSteps.{AreKnown}
 use Rattle.dbus_check.proofs.seen.Seen.missing.Given as goal
 
 abbrev pub invariant-loop-code : goal.invariant-loop-code

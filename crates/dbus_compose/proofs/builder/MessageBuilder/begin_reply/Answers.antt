@@ -7,7 +7,7 @@ use Rattle.dbus_value_model.proofs.ValueRows.{tree-U32}
 use Rattle.dbus_message_model.specs.Messages.{MessageTree}
 use Rattle.dbus_message_model.specs.MessageViews.{message_tree}
 use Rattle.dbus_compose.specs.Drafts.{begun, field_of, with_field, drafted}
-use Rattle.dbus_compose.proofs.Steps.{first_step, next_step, replied}
+use Rattle.dbus_compose.proofs.FieldPlaces.{first_step, next_step, replied}
 use Rattle.dbus_compose.proofs.builder.MessageBuilder.begin_reply.Goals as goal
 
 pub returns-in-Ok : goal.returns-in-Ok

@@ -1,4 +1,4 @@
-use Rattle.dbus_compose.proofs.Steps.{refused}
+use Rattle.dbus_compose.proofs.FieldPlaces.{refused}
 use Rattle.dbus_compose.proofs.builder.MessageBuilder.build.Goals as goal
 
 pub returns-in-Err : goal.returns-in-Err

@@ -1,6 +1,6 @@
 use Rattle.std.proofs.Common.{[]}
 use Rattle.dbus_compose.specs.Drafts.{begun, name_field, path_field, with_field, drafted}
-use Rattle.dbus_compose.proofs.Steps.{first_step, next_step}
+use Rattle.dbus_compose.proofs.FieldPlaces.{first_step, next_step}
 use Rattle.dbus_compose.proofs.compose.MessageCompose.call.Goals as goal
 
 pub returns : goal.returns

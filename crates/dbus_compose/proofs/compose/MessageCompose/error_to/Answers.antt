@@ -1,6 +1,6 @@
 use Rattle.dbus_message_model.specs.MessageViews.{message_tree}
 use Rattle.dbus_compose.specs.Drafts.{begun, name_field, reply_fields, with_field, drafted}
-use Rattle.dbus_compose.proofs.Steps.{next_step}
+use Rattle.dbus_compose.proofs.FieldPlaces.{next_step}
 use Rattle.dbus_compose.proofs.compose.MessageCompose.error_to.Goals as goal
 
 pub returns : goal.returns

@@ -1,5 +1,5 @@
 use Rattle.std.proofs.Common.{ℕ, List, subst}
-use Rattle.dbus_show.proofs.Gaining.{then}
+use Rattle.dbus_show.proofs.FieldTexts.{then}
 use Rattle.dbus_json.proofs.FieldTexts.{is_true, known_field, known_text}
 use Rattle.dbus_json.proofs.fields.KnownFieldsFieldForm.field.Goals as goal
 

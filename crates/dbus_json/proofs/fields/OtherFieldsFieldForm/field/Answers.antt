@@ -1,5 +1,5 @@
 use Rattle.std.proofs.Common.{ℕ, List, subst}
-use Rattle.dbus_show.proofs.Gaining.{then}
+use Rattle.dbus_show.proofs.FieldTexts.{then}
 use Rattle.dbus_value_text.proofs.Read.{all_ascii}
 use Rattle.dbus_json.proofs.FieldTexts.{is_false, other_field, other_text}
 use Rattle.dbus_json.proofs.fields.OtherFieldsFieldForm.field.Goals as goal

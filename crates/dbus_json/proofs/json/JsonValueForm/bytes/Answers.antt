@@ -1,6 +1,6 @@
 use Rattle.std.proofs.Common.{◌≡◌, ℕ, List, true, false, sym, ap}
 use Rattle.hex.specs.Hex.{encode_lower}
-use Rattle.dbus_show.proofs.Gaining.{then}
+use Rattle.dbus_show.proofs.FieldTexts.{then}
 use Rattle.dbus_json.specs.JsonValues.{plain}
 use Rattle.dbus_json.proofs.json.JsonValueForm.bytes.Goals as goal
 

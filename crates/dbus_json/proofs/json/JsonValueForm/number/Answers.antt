@@ -3,7 +3,7 @@ use Rattle.dbus_texts.specs.Types.{NumberCode, DOUBLE}
 use Rattle.dbus_types.specs.Alignments.{width}
 use Rattle.dbus_value_model.specs.Reading.{number_of}
 use Rattle.dbus_show.specs.ShownValues.{number_text}
-use Rattle.dbus_value_text.proofs.Codes.{double_code}
+use Rattle.dbus_value_text.proofs.Rows.{double_code}
 use Rattle.dbus_json.specs.JsonValues.{IsDouble, IsNumber}
 use Rattle.dbus_json.proofs.Floats.{shown_number}
 use Rattle.dbus_json.proofs.json.JsonValueForm.number.Goals as goal

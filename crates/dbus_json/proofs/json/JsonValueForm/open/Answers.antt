@@ -4,7 +4,7 @@ use Rattle.dbus_value_model.specs.Values.{ValueTree, VariantValue, type_of}
 use Rattle.dbus_walk.specs.Containers.{IsOf}
 use Rattle.dbus_walk.specs.declared.container.Container.{Container}
 use Rattle.dbus_walk.specs.declared.container.Container.TheVariants as kind
-use Rattle.dbus_show.proofs.Gaining.{then}
+use Rattle.dbus_show.proofs.FieldTexts.{then}
 use Rattle.dbus_value_text.specs.Forms.{told_types}
 use Rattle.dbus_json.specs.Form.{open_text}
 use Rattle.dbus_json.proofs.json.JsonValueForm.open.Goals as goal

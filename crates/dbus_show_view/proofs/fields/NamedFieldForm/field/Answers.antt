@@ -1,7 +1,7 @@
 use Rattle.std.proofs.Common.{ℕ, List, ◌++◌, Bool, cond, codes, sym, ap, subst, ◌∙◌}
 use Rattle.dbus_show.specs.ShownValues.{value_text}
 use Rattle.dbus_show.specs.ShownMessages.{bare, field_name}
-use Rattle.dbus_show.proofs.Gaining.{then}
+use Rattle.dbus_show.proofs.FieldTexts.{then}
 use Rattle.dbus_show_view.proofs.fields.NamedFieldForm.field.Goals as goal
 
 pub returns-then-is_known : goal.returns-then-is_known

@@ -1,6 +1,6 @@
 use Rattle.std.proofs.Common.{ℕ, List, ◌++◌, codes, refl, sym, subst}
 use Rattle.hex.specs.Hex.{encode_lower}
-use Rattle.dbus_show.proofs.Gaining.{then}
+use Rattle.dbus_show.proofs.FieldTexts.{then}
 use Rattle.dbus_show_view.proofs.plain.PlainValueForm.bytes.Goals as goal
 
 pub returns : goal.returns

@@ -2,7 +2,7 @@ use Rattle.std.proofs.Common.{ℕ, ◌∷◌, take, drop, refl, sym, subst}
 use Rattle.dbus_types.specs.Alignments.{width}
 use Rattle.dbus_value_model.specs.Reading.{number_of}
 use Rattle.dbus_show.specs.ShownValues.{number_text}
-use Rattle.dbus_show.proofs.Gaining.{then}
+use Rattle.dbus_show.proofs.FieldTexts.{then}
 use Rattle.dbus_show_view.proofs.plain.PlainValueForm.number.Goals as goal
 
 pub returns : goal.returns

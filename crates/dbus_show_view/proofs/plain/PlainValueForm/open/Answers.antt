@@ -3,7 +3,7 @@ use Rattle.dbus_value_model.specs.Values.{ValueTree, ArrayValue}
 use Rattle.dbus_walk.specs.Containers.{IsOf}
 use Rattle.dbus_walk.specs.declared.container.Container.{Container}
 use Rattle.dbus_walk.specs.declared.container.Container.TheVariants as kind
-use Rattle.dbus_show.proofs.Gaining.{then}
+use Rattle.dbus_show.proofs.FieldTexts.{then}
 use Rattle.dbus_value_text.specs.Forms.{told_types}
 use Rattle.dbus_show_view.specs.Plain.{open_text}
 use Rattle.dbus_show_view.proofs.plain.PlainValueForm.open.Goals as goal

@@ -1,6 +1,6 @@
 use Rattle.std.proofs.Common.{ℕ, ◌∷◌, refl, sym, subst}
 use Rattle.dbus_show.specs.ShownValues.{quoted}
-use Rattle.dbus_show.proofs.Gaining.{then}
+use Rattle.dbus_show.proofs.FieldTexts.{then}
 use Rattle.dbus_show_view.proofs.plain.PlainValueForm.text.Goals as goal
 
 pub returns : goal.returns

@@ -2,7 +2,7 @@ use Rattle.std.proofs.Common.{rules, ◌≡◌, ◌-◌, ◌≤◌, ◌++◌, fa
 use Rattle.std.specs.List.{slice_range}
 use Rattle.dbus_stream.specs.Gathering.{GathererState, under_way}
 use Rattle.dbus_stream.specs.RawReading.{whole_or}
-use Rattle.dbus_stream.proofs.Lists.{no_part, kept_again, part_size}
+use Rattle.dbus_stream.proofs.CutLaws.{no_part, kept_again, part_size}
 use Rattle.dbus_stream.proofs.raw_reader.RawReader.give.Goals as goal
 
 pub returns-clause-gives : goal.returns-clause-gives

@@ -1,5 +1,5 @@
 use Rattle.std.proofs.Common.{refl, sym}
-use Rattle.dbus_stream.proofs.Lists.{left_of}
+use Rattle.dbus_stream.proofs.CutLaws.{left_of}
 use Rattle.dbus_stream.proofs.reader.Reader.skip.Goals as goal
 
 pub returns-clause-drops : goal.returns-clause-drops

@@ -5,7 +5,7 @@ use Rattle.std.proofs.lemmas.List.{length-append, length-take}
 use Rattle.dbus_header.specs.MessageOutcomes.{IsWhole, IsPartial, IsRefused}
 use Rattle.dbus_stream.specs.Reading.{limits_of}
 use Rattle.dbus_stream.specs.Taking.{Completes, Waits}
-use Rattle.dbus_stream.proofs.Lists.{left_after, no_part, front_of}
+use Rattle.dbus_stream.proofs.CutLaws.{left_after, no_part, front_of}
 use Rattle.dbus_stream.proofs.reader.Reader.take_kept.Goals as goal
 
 -- what is given

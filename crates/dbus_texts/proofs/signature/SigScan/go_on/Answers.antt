@@ -1,5 +1,5 @@
 use Rattle.std.proofs.Common.{◌≡◌, Some, sym, subst, length, ◌-◌, rules}
-use Rattle.dbus_texts.proofs.FrameBounds.{AreBounded-take, AreBounded-innermost}
+use Rattle.dbus_texts.proofs.SignatureSteps.{AreBounded-take, AreBounded-innermost}
 use Rattle.dbus_texts.proofs.signature.SigScan.go_on.Goals as goal
 use Rattle.dbus_texts.specs.SignatureScans.{AreBounded, innermost}
 

@@ -1,6 +1,6 @@
 use Rattle.std.proofs.Common.{sym, subst, arith}
 use Rattle.dbus_texts.specs.SignatureScans.{AreBounded, frame}
-use Rattle.dbus_texts.proofs.FrameBounds.{AreBounded-push}
+use Rattle.dbus_texts.proofs.SignatureSteps.{AreBounded-push}
 use Rattle.dbus_texts.proofs.signature.SigScan.open.Goals as goal
 
 pub invariant_of-self-clause-bounded : goal.invariant_of-self-clause-bounded

@@ -1,6 +1,6 @@
 use Rattle.std.proofs.Common.{◌≡◌, ◌+◌, arith}
 use Rattle.dbus_value_model.specs.Reading.{number_of}
-use Rattle.dbus_value_model.proofs.ByteNumbers.{bytes_at}
+use Rattle.dbus_value_model.proofs.Numbers.{bytes_at}
 use Rattle.dbus_value_model.proofs.order.Order.u16_at.Goals as goal
 
 pub returns-in-Little : goal.returns-in-Little

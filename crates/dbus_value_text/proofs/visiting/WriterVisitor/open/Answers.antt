@@ -1,7 +1,7 @@
 use Rattle.std.proofs.Common.{◌≡◌, ◌⊎◌, inl, inr, refl, sym, ◌∙◌}
 use Rattle.dbus_walk.specs.declared.container.Container.{Container}
 use Rattle.dbus_walk.specs.declared.container.Container.TheVariants as kind
-use Rattle.dbus_value_text.proofs.Codes.{types_ascii}
+use Rattle.dbus_value_text.proofs.Rows.{types_ascii}
 use Rattle.dbus_value_text.proofs.Read.{told_parts}
 use Rattle.dbus_value_text.proofs.visiting.WriterVisitor.open.Goals as goal
 

@@ -1,6 +1,6 @@
 use Rattle.std.proofs.Common.{◌≡◌, ◌+◌, refl, subst, ◌∙◌, arith}
 use Rattle.dbus_value_model.specs.Values.{ValueTree}
-use Rattle.dbus_value_model.proofs.Gaps.{no_gap}
+use Rattle.dbus_value_model.proofs.Periods.{no_gap}
 use Rattle.dbus_walk.proofs.Parts.{short_stands, short_counts}
 use Rattle.dbus_walk.proofs.ReadThere.{text_there, text_utf8}
 use Rattle.dbus_value_text.proofs.Read.{text_coded, text_held}

@@ -1,7 +1,7 @@
 use Rattle.std.proofs.Common.{◌<◌, length, sym, ap, subst, ◌∙◌, arith}
 use Rattle.std.proofs.lemmas.Bool.{eqb-true, eqb-false}
 use Rattle.dbus_values.specs.States.{ValuesState, AreLeft}
-use Rattle.dbus_values.proofs.Firsts.{no_values, first_coded}
+use Rattle.dbus_values.proofs.Views.{no_values, first_coded}
 use Rattle.dbus_values.proofs.values.Values.first_code.Goals as goal
 
 pub returns-then-is_empty : goal.returns-then-is_empty

@@ -6,7 +6,7 @@ use Rattle.dbus_value_model.specs.Spelling.{spelling}
 use Rattle.dbus_value_model.specs.Values.{ValueTree, MoreValues}
 use Rattle.dbus_values.specs.Seen.{AreSeenInside, PassesValue}
 use Rattle.dbus_values.specs.States.{ValuesState}
-use Rattle.dbus_values.proofs.Firsts.{no_values, value_of}
+use Rattle.dbus_values.proofs.Views.{no_values, value_of}
 use Rattle.dbus_values.proofs.values.ValuesIterator.next.Goals as goal
 
 pub returns-then-is_empty-clause-steps : goal.returns-then-is_empty-clause-steps

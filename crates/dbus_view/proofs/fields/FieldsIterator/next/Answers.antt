@@ -7,7 +7,7 @@ use Rattle.dbus_walk.specs.Fields.{FieldsLeft, field_types, field_end}
 use Rattle.dbus_view.specs.Views.{FieldsAreLeft, IsFieldSeen, PassesField, variant_start}
 use Rattle.dbus_view.specs.declared.fields.FieldView.{FieldView}
 use Rattle.dbus_walk.proofs.FieldParts.{no_field}
-use Rattle.dbus_view.proofs.FieldSteps.{first, there, value_left, others_begin}
+use Rattle.dbus_view.proofs.KnownFields.{first, there, value_left, others_begin}
 use Rattle.dbus_view.proofs.fields.FieldsIterator.next.Goals as goal
 
 pub returns-then-self-clause-steps : goal.returns-then-self-clause-steps

@@ -2,7 +2,7 @@ use Rattle.std.proofs.Common.{◌≡◌, [], sym, subst, ◌∙◌, arith}
 use Rattle.dbus_values.specs.States.{ValuesState, AreLeft}
 use Rattle.dbus_view.specs.Bodies.{all_values}
 use Rattle.dbus_validate.proofs.WholeParts.{noted_there}
-use Rattle.dbus_view.proofs.BodyThere.{body_left, noted_all, some_left}
+use Rattle.dbus_view.proofs.Numbered.{body_left, noted_all, some_left}
 use Rattle.dbus_view.proofs.Whole.{as_viewed, views_one}
 use Rattle.dbus_view.proofs.view.MessageView.body.Goals as goal
 

@@ -1,6 +1,6 @@
 use Rattle.std.proofs.Common.{arith}
 use Rattle.dbus_view.specs.Views.{FieldsAreLeft}
-use Rattle.dbus_view.proofs.BodyThere.{fields_there}
+use Rattle.dbus_view.proofs.Numbered.{fields_there}
 use Rattle.dbus_view.proofs.Whole.{as_viewed, views_one}
 use Rattle.dbus_view.proofs.view.MessageView.fields.Goals as goal
 
