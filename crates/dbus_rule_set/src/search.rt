@@ -22,6 +22,9 @@ use std::alloc::{AllocError, Allocator};
 use std::collections::BTreeMap;
 use std::collections::btree_map::Range;
 
+/// The most rules that are asked one by one without the index, which costs more than they do.
+const FEW: usize = 8;
+
 /// Puts the handles of those of the rules that match at the end of `found`.
 #[tactic(auto, using(crate::proofs::Begins::begins_push))]
 fn ask_each<A: Allocator>(
@@ -130,6 +133,9 @@ pub(crate) fn search<A: Allocator>(
     ensures kept { take (vec_len found.old) found.new.items ≡ found.old.items }
 {
     let mut matcher = Matcher::new(view, owners);
+    if rules.len() <= FEW {
+        return ask_each(rules_between(rules, 0, 0, KINDS, 0), &mut matcher, found);
+    }
     for kind in 0..KINDS {
         if !kinds.has(kind) {
             continue;

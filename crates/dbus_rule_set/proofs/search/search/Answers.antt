@@ -1,12 +1,27 @@
-use Rattle.std.proofs.Common.{◌≡◌, sym, ◌∙◌, subst, arith}
+use Rattle.std.proofs.Common.{◌≡◌, inl, sym, ◌∙◌, subst, arith}
+use Rattle.std.specs.Prelude.{OnOk}
 use Rattle.std.proofs.lemmas.List.{take_all}
-use Rattle.dbus_match.specs.Matching.{ownerships}
+use Rattle.dbus_view.specs.Views.{Views}
+use Rattle.dbus_match.specs.Matching.{MatcherState, ownerships}
 use Rattle.dbus_rule_set.specs.Held.{Collects, EntryMatches}
 use Rattle.dbus_rule_set.proofs.Begins.{begins_on}
 use Rattle.dbus_rule_set.proofs.Collected.{none, along}
 use Rattle.dbus_rule_set.proofs.Kept.{standing}
-use Rattle.dbus_rule_set.proofs.Parted.{Below, skipped_kind, none_below, all_below}
+use Rattle.dbus_rule_set.proofs.OfSender.{on_ok}
+use Rattle.dbus_rule_set.proofs.Parted.{Below, more_found, skipped_kind, none_below, all_below}
 use Rattle.dbus_rule_set.proofs.search.search.Goals as goal
+
+-- the rules of all kinds are all rules
+pub returns-then-len-le-FEW-clause-found : goal.returns-then-len-le-FEW-clause-found
+returns-then-len-le-FEW-clause-found g c = λ order m v.
+    let P = EntryMatches m (ownerships c.args.owners.now) in
+    let es = c.args.rules.now.entries in
+    let from = c.args.found.now.items in
+    let to = c.ask_each.new.found.items in
+    on_ok c.ask_each.result
+    (λ some. along (Below P 137 0) P es from to (all_below P c.args.kinds.now es c.requires.indexed)
+    (more_found P 0 0 137 0 es c.rules_between.result from from to (inl (omega arith)) c.rules_between.ensures.ordered c.rules_between.ensures.between (none (Below P 0 0) es from (none_below P es)) some))
+    (subst (λ (s : MatcherState). Views s.view order m → OnOk c.ask_each.result (Collects (EntryMatches m s.owners) c.rules_between.result from to)) c.new-matcher.ensures (c.ask_each.ensures.found order m) v)
 
 pub loop-kind-init : goal.loop-kind-init
 loop-kind-init g c =
