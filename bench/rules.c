@@ -49,7 +49,7 @@ int main(int count_of_words, char **words) {
     double start, added, best;
     if (count == 0) return 2;
     length = fread(bytes, 1, sizeof bytes, stdin);
-    dbus_wire_rules_owner(&rules, (const uint8_t *)words[2], strlen(words[2]), (const uint8_t *)":1.7", 4);
+    if (dbus_wire_rules_owner(&rules, (const uint8_t *)words[2], strlen(words[2]), (const uint8_t *)":1.7", 4) != DBUS_WIRE_WHOLE) return 1;
     start = now();
     for (i = 0; i < count; i++) add(i < MATCHES ? words[3] : words[4], FIRST + i);
     added = (now() - start) / (double)count;
