@@ -1,3 +1,4 @@
+pub mod MessageTypes
 pub mod Messages
 pub mod PartsViews
 pub mod MessageViews
