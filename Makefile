@@ -10,7 +10,7 @@
 # make readme-test runs the commands of README.md, by what make build made or else without proofs, and compares what they write;
 #                  those of docs/RECIPES.md too, if make build made dbus-wire
 # make build       proves dbus-wire and all below it, on all processors, and builds it: half an hour on four
-# make test        the gate: every proof that was not passed on this machine, the wrong bodies that are due, the tests and the programs' stored runs
+# make test        the gate: every proof, the wrong bodies that are due, the tests and the programs' stored runs
 # make gate-times  the gate, and the processor minutes of each of its steps
 # make library     proves and builds the library for C, static and shared
 # make peers       compares the message cases with libdbus, GDBus and sd-bus, and writes docs/PEERS.md
