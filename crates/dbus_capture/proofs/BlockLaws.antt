@@ -1,0 +1,320 @@
+-- A block of a pcapng file that is no section's is read as it is spelled.
+use Rattle.std.proofs.Common.{◌≡◌, ◌≢◌, ◌⊎◌, inl, inr, ℕ, ◌+◌, ◌-◌, ◌*◌, ◌<◌, ◌≤◌, ◌^◌, Bool, true, false, cond, List, [], ◌++◌, length, Option, None, refl, sym, ap, subst, ◌∙◌, arith, append_assoc, length-append, Some}
+use Rattle.std.specs.Prelude.{◌||◌, ◌==◌, nat_le, slice_get}
+use Rattle.dbus_capture.specs.declared.byte_order.ByteOrder.{ByteOrder}
+use Rattle.dbus_capture.specs.declared.stage.Stage.{Stage}
+use Rattle.dbus_capture.specs.declared.stage.Stage.TheVariants as stages
+use Rattle.dbus_capture.specs.declared.interface.Interface.{Interface}
+use Rattle.dbus_capture.specs.declared.scan.Scan.{Scan}
+use Rattle.dbus_capture.specs.Numbers.{u32_bytes, u16_bytes, u32_at, u16_at}
+use Rattle.dbus_capture.specs.Stages.{begun, is_filed, want}
+use Rattle.dbus_capture.specs.Scans.{place}
+use Rattle.dbus_capture.specs.Blocks.{padded, block_stage, block_by, time_of, give_packet, pass_packet, block_packet, enhanced_by, simple_by, captured_length, decoded_by}
+use Rattle.dbus_capture.specs.Steps.{run, given}
+use Rattle.dbus_capture.specs.Reading.{InSection}
+use Rattle.dbus_capture.specs.Packets.{block_front, block_packet_reported}
+use Rattle.dbus_capture.specs.BlockFiles.{FitsBody, framed_bytes, PacketBlock, ObsoleteBlock, SimpleBlock, OtherBlock, block_bytes, block_body, block_payload, bytes_by, FitsBlock}
+use Rattle.dbus_capture.proofs.NumberLaws.{u32_size, u16_size, u32_after, u16_after, u32_last}
+use Rattle.dbus_capture.proofs.StepLaws.{run-append, given-append, run_gives}
+use Rattle.dbus_capture.proofs.PcapOutcomes.{eq_is, eq_not, cases_same}
+use Rattle.dbus_capture.proofs.BlockTurns.{when_true, when_false, le_true, lt_false, length_ok, takes_head, ends_block, opens_block, opens_as}
+
+-- bytes were taken up to the end of a block
+pub record Went (s : Scan) (bytes : List ℕ) (order : ByteOrder) (interfaces : List Interface) (out : List ℕ) : Type 0 where
+  pub final : Scan
+  pub ran : run s bytes ≡ final
+  pub gave : given s bytes ≡ out
+  pub stands : InSection final order interfaces
+
+-- bytes of which none is handed on, and then more
+pub goes_on : (s m : Scan) (xs ys : List ℕ) (order : ByteOrder) (interfaces : List Interface) (out : List ℕ) → run s xs ≡ m → given s xs ≡ [] → Went m ys order interfaces out → Went s (xs ++ ys) order interfaces out
+goes_on s m xs ys order interfaces out e g w = record {
+  final = w.final;
+  ran = run-append s xs ys ∙ ap (λ (v : Scan). run v ys) e ∙ w.ran;
+  gave = given-append s xs ys ∙ ap (λ l. l ++ given (run s xs) ys) g ∙ ap (λ (v : Scan). given v ys) e ∙ w.gave;
+  stands = w.stands;
+}
+
+pub respell : (s : Scan) (xs ys : List ℕ) (order : ByteOrder) (interfaces : List Interface) (out : List ℕ) → xs ≡ ys → Went s ys order interfaces out → Went s xs order interfaces out
+respell s xs ys order interfaces out e w = record { final = w.final; ran = ap (run s) e ∙ w.ran; gave = ap (given s) e ∙ w.gave; stands = w.stands }
+
+pub hands_as : (s : Scan) (xs : List ℕ) (order : ByteOrder) (interfaces : List Interface) (out told : List ℕ) → out ≡ told → Went s xs order interfaces out → Went s xs order interfaces told
+hands_as s xs order interfaces out told e w = record { final = w.final; ran = w.ran; gave = w.gave ∙ e; stands = w.stands }
+
+-- the end of a block that leaves the interfaces as they were
+pub went : (t : Scan) (bytes rest : List ℕ) (n : ℕ) (order : ByteOrder) (interfaces : List Interface) → t.fault ≡ None → t.head ≡ begun stages.Trailer → t.give ≡ length bytes → t.skip ≡ length rest
+    → t.total ≡ n → n < 2 ^ 32 → t.order ≡ order → t.interfaces ≡ interfaces → Went t ((bytes ++ rest) ++ u32_bytes order n) order interfaces bytes
+went t bytes rest n order interfaces u h g k e low o f =
+    let law = ends_block t bytes rest n u h g k e low in
+    let same : (bytes ++ rest) ++ u32_bytes order n ≡ (bytes ++ rest) ++ u32_bytes t.order n = ap (λ (v : ByteOrder). (bytes ++ rest) ++ u32_bytes v n) (sym o) in
+    respell t _ _ order interfaces bytes same (record {
+      final = record t { head = begun stages.Block; give = 0; skip = 0; next = place (t.next + 4) };
+      ran = law.0;
+      gave = law.1;
+      stands = record { ready = record { unfaulted = u; head = refl; give = refl; skip = refl }; order_is = o; interfaces_are = f };
+    })
+
+-- the beginning of a block that is no section's, and then more
+pub begins_block : (s : Scan) (kind total : ℕ) (m : Scan) (ys : List ℕ) (order : ByteOrder) (interfaces interfaces' : List Interface) (out : List ℕ) → InSection s order interfaces → kind < 2 ^ 32 → total < 2 ^ 32 → kind ≢ 0x0a0d0d0a
+    → block_by s total (block_stage kind) ≡ m → Went m ys order interfaces' out → Went s ((u32_bytes order kind ++ u32_bytes order total) ++ ys) order interfaces' out
+begins_block s kind total m ys order interfaces interfaces' out i k n other e w =
+    let law = opens_block s kind total i.ready k n other in
+    respell s _ _ order interfaces' out (ap (λ (v : ByteOrder). (u32_bytes v kind ++ u32_bytes v total) ++ ys) (sym i.order_is))
+    (goes_on s m (u32_bytes s.order kind ++ u32_bytes s.order total) ys order interfaces' out (law.0 ∙ e) law.1 w)
+
+-- ---- a block of another type
+
+other_stage : (kind : ℕ) → kind ≢ 1 → kind ≢ 2 → kind ≢ 3 → kind ≢ 6 → block_stage kind ≡ None
+other_stage kind a b c d =
+    when_false _ _ _ (eq_not kind 1 a) ∙ when_false _ _ _ (eq_not kind 2 b) ∙ when_false _ _ _ (eq_not kind 3 c) ∙ when_false _ _ _ (eq_not kind 6 d)
+
+pub other_read : (s : Scan) (order : ByteOrder) (interfaces : List Interface) (kind : ℕ) (body : List ℕ) → InSection s order interfaces → FitsBlock interfaces (OtherBlock kind body) → FitsBody body
+    → Went s (framed_bytes order kind body) order interfaces []
+other_read s order interfaces kind body i f b =
+    let total = 12 + length body in
+    let m : Scan = record s { head = begun stages.Trailer; skip = total - 12; next = place (s.next + (total - 4)); total = total } in
+    let at = ap (block_by s total) (other_stage kind f.1 f.2 f.3 f.4) ∙ when_true _ _ _ (length_ok 12 total b.whole (omega arith)) in
+    let z = i.ready.give in
+    let left : total - 12 ≡ length body = omega arith in
+    begins_block s kind total m (body ++ u32_bytes order total) order interfaces interfaces [] i f.0 b.size f.5 at
+    (went m [] body total order interfaces i.ready.unfaulted refl z left refl b.size i.order_is i.interfaces_are)
+
+-- ---- a packet
+
+packet_given : (t : Scan) (size k room link_type : ℕ) (time : Option ℕ) (n : ℕ) → padded n ≤ room → link_type ≡ 231 → block_packet t size k room link_type time n n ≡ give_packet t size room time n
+packet_given t size k room link_type time n h e =
+    when_false _ _ _ (lt_false room (padded n) h) ∙ when_true _ _ _ (eq_is link_type 231 e) ∙ when_false _ _ _ (lt_false n n (omega arith)) ∙ when_false _ _ _ (lt_false n n (omega arith))
+
+packet_passed : (t : Scan) (size k room link_type : ℕ) (time : Option ℕ) (n : ℕ) → padded n ≤ room → link_type ≢ 231 → block_packet t size k room link_type time n n ≡ pass_packet t size room
+packet_passed t size k room link_type time n h d = when_false _ _ _ (lt_false room (padded n) h) ∙ when_false _ _ _ (eq_not link_type 231 d)
+
+-- what follows the head of a packet's block
+packet_went : (t : Scan) (order : ByteOrder) (interfaces : List Interface) (size k room link_type : ℕ) (time : Option ℕ) (bytes rest : List ℕ) (total : ℕ)
+    → t.fault ≡ None → t.give ≡ 0 → t.skip ≡ 0 → t.total ≡ total → total < 2 ^ 32 → t.order ≡ order → t.interfaces ≡ interfaces → room ≡ length bytes + length rest → padded (length bytes) ≤ room
+    → Went (block_packet t size k room link_type time (length bytes) (length bytes)) ((bytes ++ rest) ++ u32_bytes order total) order interfaces (cond (link_type == 231) bytes [])
+packet_went t order interfaces size k room link_type time bytes rest total u g z e low o f r h =
+    elim (cases_same link_type 231) [
+      | inl same ↦
+          let x = give_packet t size room time (length bytes) in
+          let left : room - length bytes ≡ length rest = omega (arith, r) in
+          subst (λ (v : Scan). Went v ((bytes ++ rest) ++ u32_bytes order total) order interfaces (cond (link_type == 231) bytes [])) (sym (packet_given t size k room link_type time (length bytes) h same))
+          (hands_as x _ order interfaces bytes _ (sym (when_true _ _ _ (eq_is link_type 231 same))) (went x bytes rest total order interfaces u refl refl left e low o f))
+      | inr other ↦
+          let x = pass_packet t size room in
+          let l = length-append bytes rest in
+          let left : room ≡ length (bytes ++ rest) = omega (arith, r, l) in
+          subst (λ (v : Scan). Went v ((bytes ++ rest) ++ u32_bytes order total) order interfaces (cond (link_type == 231) bytes [])) (sym (packet_passed t size k room link_type time (length bytes) h other))
+          (hands_as x _ order interfaces [] _ (sym (when_false _ _ _ (eq_not link_type 231 other))) (went x [] (bytes ++ rest) total order interfaces u refl g left e low o f))
+    ]
+
+-- the head of an enhanced or an obsolete packet block, which begins with four bytes
+module _ (o : ByteOrder) (front : List ℕ) (four : length front ≡ 4) (high low n : ℕ) where
+  abbrev packet_head : List ℕ
+  packet_head = front ++ (u32_bytes o high ++ (u32_bytes o low ++ (u32_bytes o n ++ u32_bytes o n)))
+
+  head_size : length packet_head ≡ 20
+  head_size =
+      let a = length-append front (u32_bytes o high ++ (u32_bytes o low ++ (u32_bytes o n ++ u32_bytes o n))) in
+      let b = length-append (u32_bytes o high) (u32_bytes o low ++ (u32_bytes o n ++ u32_bytes o n)) in
+      let c = length-append (u32_bytes o low) (u32_bytes o n ++ u32_bytes o n) in
+      let d = length-append (u32_bytes o n) (u32_bytes o n) in
+      let f = u32_size o high in
+      let g = u32_size o low in
+      let h = u32_size o n in
+      omega (arith, a, b, c, d, four, f, g, h)
+
+  two_size : length (front ++ u32_bytes o high) ≡ 8
+  two_size =
+      let b = length-append front (u32_bytes o high) in
+      let f = u32_size o high in
+      omega (arith, b, four, f)
+
+  three_size : length ((front ++ u32_bytes o high) ++ u32_bytes o low) ≡ 12
+  three_size =
+      let a = length-append (front ++ u32_bytes o high) (u32_bytes o low) in
+      let b = two_size in
+      let g = u32_size o low in
+      omega (arith, a, b, g)
+
+  four_size : length (((front ++ u32_bytes o high) ++ u32_bytes o low) ++ u32_bytes o n) ≡ 16
+  four_size =
+      let a = length-append ((front ++ u32_bytes o high) ++ u32_bytes o low) (u32_bytes o n) in
+      let b = three_size in
+      let h = u32_size o n in
+      omega (arith, a, b, h)
+
+  regroup_three : packet_head ≡ ((front ++ u32_bytes o high) ++ u32_bytes o low) ++ (u32_bytes o n ++ u32_bytes o n)
+  regroup_three =
+      sym (append_assoc front (u32_bytes o high) (u32_bytes o low ++ (u32_bytes o n ++ u32_bytes o n)))
+      ∙ sym (append_assoc (front ++ u32_bytes o high) (u32_bytes o low) (u32_bytes o n ++ u32_bytes o n))
+
+  high_read : high < 2 ^ 32 → u32_at o 4 packet_head ≡ high
+  high_read h = u32_after o front high (u32_bytes o low ++ (u32_bytes o n ++ u32_bytes o n)) 4 four h
+
+  low_read : low < 2 ^ 32 → u32_at o 8 packet_head ≡ low
+  low_read h =
+      ap (u32_at o 8) (sym (append_assoc front (u32_bytes o high) (u32_bytes o low ++ (u32_bytes o n ++ u32_bytes o n))))
+      ∙ u32_after o (front ++ u32_bytes o high) low (u32_bytes o n ++ u32_bytes o n) 8 two_size h
+
+  captured_read : n < 2 ^ 32 → u32_at o 12 packet_head ≡ n
+  captured_read h = ap (u32_at o 12) regroup_three ∙ u32_after o ((front ++ u32_bytes o high) ++ u32_bytes o low) n (u32_bytes o n) 12 three_size h
+
+  original_read : n < 2 ^ 32 → u32_at o 16 packet_head ≡ n
+  original_read h =
+      ap (u32_at o 16) (regroup_three ∙ sym (append_assoc ((front ++ u32_bytes o high) ++ u32_bytes o low) (u32_bytes o n) (u32_bytes o n)))
+      ∙ u32_last o (((front ++ u32_bytes o high) ++ u32_bytes o low) ++ u32_bytes o n) n 16 four_size h
+
+-- how such a block is read, by the type and the head that it has
+record IsPacketBlock (kind : ℕ) (stage : Stage) (order : ByteOrder) (interfaces : List Interface) (head : List ℕ) (i : Interface) : Type 0 where
+  low : kind < 2 ^ 32
+  no_section : kind ≢ 0x0a0d0d0a
+  staged : block_stage kind ≡ Some (stage, 32)
+  filed : is_filed stage ≡ true
+  wanted : want stage ≡ 20
+  of : (m : Scan) → m.order ≡ order → m.interfaces ≡ interfaces → decoded_by stage m head ≡ enhanced_by m head (Some i)
+
+packet_read : (s : Scan) (order : ByteOrder) (interfaces : List Interface) (kind : ℕ) (stage : Stage) (i : Interface) (front : List ℕ) (four : length front ≡ 4) (high low : ℕ) (bytes rest : List ℕ)
+    → let h = packet_head order front four high low (length bytes) in
+    IsPacketBlock kind stage order interfaces h i → InSection s order interfaces → length bytes < 2 ^ 32 → padded (length bytes) ≤ length bytes + length rest
+    → FitsBody (h ++ (bytes ++ rest)) → Went s (framed_bytes order kind (h ++ (bytes ++ rest))) order interfaces (cond (i.link_type == 231) bytes [])
+packet_read s order interfaces kind stage i front four high low bytes rest p w fits low_room b =
+    let n = length bytes in
+    let h = packet_head order front four high low n in
+    let body = h ++ (bytes ++ rest) in
+    let total = 12 + length body in
+    let l = length-append h (bytes ++ rest) in
+    let k = length-append bytes rest in
+    let size = head_size order front four high low n in
+    let m : Scan = record s { head = begun stage; next = place (s.next + 8); total = total; rest = total - 20 } in
+    let opened = ap (block_by s total) p.staged ∙ opens_as s total (stage, 32) b.whole (omega (arith, l, size)) in
+    let law = takes_head m stage h (record { unfaulted = w.ready.unfaulted; head = refl; give = w.ready.give; skip = w.ready.skip }) p.filed (omega (arith, size)) (size ∙ sym p.wanted) in
+    let time = time_of i (u32_at s.order 4 h * 2 ^ 32 + u32_at s.order 8 h) in
+    let to : run m h ≡ block_packet m 20 12 (total - 32) i.link_type time n n =
+    law.0 ∙ p.of m w.order_is w.interfaces_are
+    ∙ ap (λ (v : ℕ). block_packet m 20 12 (total - 32) i.link_type time v (u32_at s.order 16 h)) (ap (λ (v : ByteOrder). u32_at v 12 h) w.order_is ∙ captured_read order front four high low n fits)
+    ∙ ap (λ (v : ℕ). block_packet m 20 12 (total - 32) i.link_type time n v) (ap (λ (v : ByteOrder). u32_at v 16 h) w.order_is ∙ original_read order front four high low n fits) in
+    let room : total - 32 ≡ n + length rest = omega (arith, l, k, size) in
+    let after = packet_went m order interfaces 20 12 (total - 32) i.link_type time bytes rest total w.ready.unfaulted w.ready.give w.ready.skip refl b.size
+    w.order_is w.interfaces_are room (omega (arith, low_room, room)) in
+    begins_block s kind total m (body ++ u32_bytes order total) order interfaces interfaces _ w p.low b.size p.no_section opened
+    (respell m _ _ order interfaces _ (append_assoc h (bytes ++ rest) (u32_bytes order total)) (goes_on m _ h ((bytes ++ rest) ++ u32_bytes order total) order interfaces _ to law.1 after))
+
+pub enhanced_read : (s : Scan) (order : ByteOrder) (interfaces : List Interface) (number high low : ℕ) (bytes rest : List ℕ) → InSection s order interfaces → FitsBlock interfaces (PacketBlock number high low bytes rest)
+    → FitsBody (block_body order (PacketBlock number high low bytes rest)) → Went s (block_bytes order (PacketBlock number high low bytes rest)) order interfaces (block_payload interfaces (PacketBlock number high low bytes rest))
+enhanced_read s order interfaces number high low bytes rest i f b =
+    let front = u32_bytes order number in
+    let four = u32_size order number in
+    let n = length bytes in
+    let h = packet_head order front four high low n in
+    let found = f.3 in
+    let is : IsPacketBlock 6 stages.Enhanced order interfaces h found.0 = record {
+      low = omega arith;
+      no_section = λ e. absurd (omega (arith, e));
+      staged = refl;
+      filed = refl;
+      wanted = refl;
+      of = λ m o j. ap (λ (v : ℕ). enhanced_by m h (slice_get m.interfaces v)) (ap (λ (v : ByteOrder). u32_at v 0 h) o ∙ u32_after order [] number _ 0 refl f.0)
+          ∙ ap (λ (v : List Interface). enhanced_by m h (slice_get v number)) j ∙ ap (enhanced_by m h) found.1;
+    } in
+    hands_as s _ order interfaces _ _ (sym (ap (bytes_by bytes) found.1)) (packet_read s order interfaces 6 stages.Enhanced found.0 front four high low bytes rest is i f.1 f.2 b)
+
+pub obsolete_read : (s : Scan) (order : ByteOrder) (interfaces : List Interface) (number drops high low : ℕ) (bytes rest : List ℕ) → InSection s order interfaces
+    → FitsBlock interfaces (ObsoleteBlock number drops high low bytes rest) → FitsBody (block_body order (ObsoleteBlock number drops high low bytes rest))
+    → Went s (block_bytes order (ObsoleteBlock number drops high low bytes rest)) order interfaces (block_payload interfaces (ObsoleteBlock number drops high low bytes rest))
+obsolete_read s order interfaces number drops high low bytes rest i f b =
+    let front = u16_bytes order number ++ u16_bytes order drops in
+    let four : length front ≡ 4 =
+        let z = length-append (u16_bytes order number) (u16_bytes order drops) in
+        let x = u16_size order number in
+        let y = u16_size order drops in
+        omega (arith, x, y, z) in
+    let n = length bytes in
+    let more = u32_bytes order high ++ (u32_bytes order low ++ (u32_bytes order n ++ u32_bytes order n)) in
+    let h = packet_head order front four high low n in
+    let found = f.3 in
+    let number_read : u16_at order 0 h ≡ number = ap (u16_at order 0) (append_assoc (u16_bytes order number) (u16_bytes order drops) more) ∙ u16_after order [] number (u16_bytes order drops ++ more) 0 refl f.0 in
+    let is : IsPacketBlock 2 stages.ObsoletePacket order interfaces h found.0 = record {
+      low = omega arith;
+      no_section = λ e. absurd (omega (arith, e));
+      staged = refl;
+      filed = refl;
+      wanted = refl;
+      of = λ m o j. ap (λ (v : ℕ). enhanced_by m h (slice_get m.interfaces v)) (ap (λ (v : ByteOrder). u16_at v 0 h) o ∙ number_read)
+          ∙ ap (λ (v : List Interface). enhanced_by m h (slice_get v number)) j ∙ ap (enhanced_by m h) found.1;
+    } in
+    hands_as s _ order interfaces _ _ (sym (ap (bytes_by bytes) found.1)) (packet_read s order interfaces 2 stages.ObsoletePacket found.0 front four high low bytes rest is i f.1 f.2 b)
+
+captured_all : (snap_length n : ℕ) → (snap_length ≡ 0) ⊎ (n ≤ snap_length) → captured_length snap_length n ≡ n
+captured_all snap_length n (inl z) = when_true _ _ _ (ap (λ (v : Bool). v || nat_le n snap_length) (eq_is snap_length 0 z))
+captured_all snap_length n (inr h) = when_true _ _ _ (or_true (snap_length == 0) (nat_le n snap_length) (le_true n snap_length h))
+  where
+    or_true : (a b : Bool) → b ≡ true → (a || b) ≡ true
+    or_true true b p = refl
+    or_true false b p = p
+
+pub simple_read : (s : Scan) (order : ByteOrder) (interfaces : List Interface) (bytes rest : List ℕ) → InSection s order interfaces → FitsBlock interfaces (SimpleBlock bytes rest)
+    → FitsBody (block_body order (SimpleBlock bytes rest)) → Went s (block_bytes order (SimpleBlock bytes rest)) order interfaces (block_payload interfaces (SimpleBlock bytes rest))
+simple_read s order interfaces bytes rest i f b =
+    let n = length bytes in
+    let h = u32_bytes order n in
+    let body = h ++ (bytes ++ rest) in
+    let total = 12 + length body in
+    let l = length-append h (bytes ++ rest) in
+    let k = length-append bytes rest in
+    let size = u32_size order n in
+    let m : Scan = record s { head = begun stages.Simple; next = place (s.next + 8); total = total; rest = total - 20 } in
+    let opened = opens_as s total (stages.Simple, 16) b.whole (omega (arith, l, size)) in
+    let found = f.2 in
+    let law = takes_head m stages.Simple h (record { unfaulted = i.ready.unfaulted; head = refl; give = i.ready.give; skip = i.ready.skip }) refl (omega (arith, size)) size in
+    let told : u32_at s.order 0 h ≡ n = ap (λ (v : ByteOrder). u32_at v 0 h) i.order_is ∙ u32_last order [] n 0 refl f.0 in
+    let to : run m h ≡ block_packet m 4 0 (total - 16) found.0.link_type None n n =
+    law.0 ∙ ap (λ (v : List Interface). simple_by m h (slice_get v 0)) i.interfaces_are ∙ ap (simple_by m h) found.1
+    ∙ ap (λ (v : ℕ). block_packet m 4 0 (total - 16) found.0.link_type None (captured_length found.0.snap_length v) v) told
+    ∙ ap (λ (v : ℕ). block_packet m 4 0 (total - 16) found.0.link_type None v n) (captured_all found.0.snap_length n found.2) in
+    let low_room = f.1 in
+    let room : total - 16 ≡ n + length rest = omega (arith, l, k, size) in
+    let after = packet_went m order interfaces 4 0 (total - 16) found.0.link_type None bytes rest total i.ready.unfaulted i.ready.give i.ready.skip refl b.size i.order_is i.interfaces_are room (omega (arith, low_room, room)) in
+    hands_as s _ order interfaces _ _ (sym (ap (bytes_by bytes) found.1))
+    (begins_block s 3 total m (body ++ u32_bytes order total) order interfaces interfaces _ i (omega arith) b.size (λ e. absurd (omega (arith, e))) opened
+    (respell m _ _ order interfaces _ (append_assoc h (bytes ++ rest) (u32_bytes order total)) (goes_on m _ h ((bytes ++ rest) ++ u32_bytes order total) order interfaces _ to law.1 after)))
+
+-- ---- what is reported of a packet
+
+back_eight : (a : ℕ) → place (place (a + 8) + 2 ^ 64 - 8) ≡ place a
+back_eight a = omega arith
+
+pub enhanced_reported : (s : Scan) (order : ByteOrder) (interfaces : List Interface) (i : Interface) (number high low : ℕ) (bytes rest front back : List ℕ) → InSection s order interfaces
+    → FitsBlock interfaces (PacketBlock number high low bytes rest) → FitsBody (block_body order (PacketBlock number high low bytes rest)) → high < 2 ^ 32 → low < 2 ^ 32
+    → slice_get interfaces number ≡ Some i → i.link_type ≡ 231 → bytes ≡ front ++ back
+    → (run s (block_front order (PacketBlock number high low bytes rest) ++ front)).packet ≡ Some (block_packet_reported s i high low bytes)
+enhanced_reported s order interfaces i number high low bytes rest front back w f b fh fl found link_type e =
+    let n = length bytes in
+    let four = u32_size order number in
+    let h = packet_head order (u32_bytes order number) four high low n in
+    let total = 12 + length (h ++ (bytes ++ rest)) in
+    let l = length-append h (bytes ++ rest) in
+    let k = length-append bytes rest in
+    let size = head_size order (u32_bytes order number) four high low n in
+    let m : Scan = record s { head = begun stages.Enhanced; next = place (s.next + 8); total = total; rest = total - 20 } in
+    let h8 = u32_bytes order 6 ++ u32_bytes order total in
+    let opened = opens_block s 6 total w.ready (omega arith) b.size (λ z. absurd (omega (arith, z))) in
+    let to_m : run s h8 ≡ m = ap (λ (v : ByteOrder). run s (u32_bytes v 6 ++ u32_bytes v total)) (sym w.order_is) ∙ opened.0 ∙ opens_as s total (stages.Enhanced, 32) b.whole (omega (arith, l, size)) in
+    let law = takes_head m stages.Enhanced h (record { unfaulted = w.ready.unfaulted; head = refl; give = w.ready.give; skip = w.ready.skip }) refl (omega (arith, size)) size in
+    let time = λ (hi : ℕ) (lo : ℕ). time_of i (hi * 2 ^ 32 + lo) in
+    let low_room = f.2 in
+    let room : total - 32 ≡ n + length rest = omega (arith, l, k, size) in
+    let to_packet : run m h ≡ give_packet m 20 (total - 32) (time high low) n =
+    law.0 ∙ ap (λ (v : ℕ). enhanced_by m h (slice_get s.interfaces v)) (ap (λ (v : ByteOrder). u32_at v 0 h) w.order_is ∙ u32_after order [] number _ 0 refl f.0)
+    ∙ ap (λ (v : List Interface). enhanced_by m h (slice_get v number)) w.interfaces_are ∙ ap (enhanced_by m h) found
+    ∙ ap (λ (v : ByteOrder). block_packet m 20 12 (total - 32) i.link_type (time (u32_at v 4 h) (u32_at v 8 h)) (u32_at v 12 h) (u32_at v 16 h)) w.order_is
+    ∙ ap (λ (v : ℕ). block_packet m 20 12 (total - 32) i.link_type (time v (u32_at order 8 h)) (u32_at order 12 h) (u32_at order 16 h)) (high_read order (u32_bytes order number) four high low n fh)
+    ∙ ap (λ (v : ℕ). block_packet m 20 12 (total - 32) i.link_type (time high v) (u32_at order 12 h) (u32_at order 16 h)) (low_read order (u32_bytes order number) four high low n fl)
+    ∙ ap (λ (v : ℕ). block_packet m 20 12 (total - 32) i.link_type (time high low) v (u32_at order 16 h)) (captured_read order (u32_bytes order number) four high low n f.1)
+    ∙ ap (λ (v : ℕ). block_packet m 20 12 (total - 32) i.link_type (time high low) n v) (original_read order (u32_bytes order number) four high low n f.1)
+    ∙ packet_given m 20 12 (total - 32) i.link_type (time high low) n (omega (arith, low_room, room)) link_type in
+    let p = give_packet m 20 (total - 32) (time high low) n in
+    let q = length-append front back in
+    let z = ap length e in
+    let gives = run_gives p front w.ready.unfaulted refl (omega (arith, q, z)) in
+    ap (λ (v : Scan). v.packet) (ap (run s) (append_assoc h8 h front) ∙ run-append s h8 (h ++ front) ∙ ap (λ (v : Scan). run v (h ++ front)) to_m ∙ run-append m h front ∙ ap (λ (v : Scan). run v front) to_packet ∙ gives.0)
+    ∙ ap (λ (v : ℕ). Some (record { number = place (s.packets + 1); at = v; time = time high low; length = n })) (back_eight s.next)

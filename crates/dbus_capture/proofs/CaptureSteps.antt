@@ -1,0 +1,261 @@
+-- What a capture takes of its file in several turns.
+use Rattle.std.proofs.Common.{◌≡◌, ◌≢◌, ◌≤◌, ◌<◌, ◌+◌, ◌^◌, ◌-◌, ℕ, true, List, [], ◌++◌, length, take, drop, Option, None, Some, Result, Ok, Err, is_some, inl, inr, refl, sym, ap, ◌∙◌, subst, arith, append_assoc, append-nil, length-append, take-append-drop}
+use Rattle.std.specs.Io.KnownBytes.{Consumes, Keeps, IsAtEnd, ReadConsumes, prepend_known}
+use Rattle.std.proofs.KnownBytes.{Consumes-nil, Consumes-trans}
+use Rattle.std.specs.List.{slice_range}
+use Rattle.std.proofs.lemmas.List.{drop-take, drop-drop, length-take}
+use Rattle.std.proofs.Math.Nat.{min-le_left}
+use Rattle.dbus_device.specs.Device.{one_more, ReadCounts}
+use Rattle.dbus_device.specs.declared.device_fault.DeviceFault.{DeviceFault}
+use Rattle.dbus_capture.specs.declared.scan.Scan.{Scan}
+use Rattle.dbus_capture.specs.declared.capture.Capture.{Capture}
+use Rattle.dbus_capture.specs.Steps.{run, given, ended, IsPart}
+use Rattle.dbus_capture.specs.Captures.{given_of, source_of, scan_of, kept_of, file_of, left_of, gave_up_of, calls_of, failures_of, HandsOn, Reads, GivesPart, Ends, IsUnfailed, GivesUp, ReadsPart, Waits}
+use Rattle.dbus_capture.proofs.StepLaws.{run-append, given-append, run_stopped}
+
+-- a part that ends where it begins
+pub no_part : (bytes : List ℕ) (start end : ℕ) → end ≤ start → slice_range bytes start end ≡ []
+no_part bytes start end none =
+    let n : end - start ≡ 0 = omega arith in
+    ap (λ k. take k (drop start bytes)) n
+
+-- a part has at most so many bytes
+part_fits : (bytes : List ℕ) (start end : ℕ) → length (slice_range bytes start end) ≤ end - start
+part_fits bytes start end = let e = length-take (end - start) (drop start bytes) in rw e (min-le_left (end - start) (length (drop start bytes)))
+
+-- a part that begins later
+pub later_part : (bytes : List ℕ) (start end count : ℕ) → count ≤ length (slice_range bytes start end)
+    → slice_range bytes (start + count) end ≡ drop count (slice_range bytes start end)
+later_part bytes start end count within =
+    let there = part_fits bytes start end in
+    let split : end - start ≡ count + (end - (start + count)) = omega (arith, within, there) in
+    sym (ap (λ k. drop count (take k (drop start bytes))) split
+    ∙ (drop-take count (end - (start + count)) (drop start bytes)
+    ∙ ap (take (end - (start + count))) (drop-drop count start bytes)))
+
+pub split_part : (bytes : List ℕ) (start end count : ℕ) → count ≤ length (slice_range bytes start end)
+    → slice_range bytes start end ≡ take count (slice_range bytes start end) ++ slice_range bytes (start + count) end
+split_part bytes start end count within =
+    let part = slice_range bytes start end in
+    sym (take-append-drop count part) ∙ ap (λ l. take count part ++ l) (sym (later_part bytes start end count within))
+
+-- ---- a read of the file
+
+pub filled : (a b : Option (List ℕ)) (kept front : List ℕ) → kept ≡ [] → Consumes a b front → Consumes (prepend_known kept a) (prepend_known front b) []
+filled None b kept front none c = tt
+filled (Some x) None kept front none c = absurd c
+filled (Some x) (Some y) kept front none c = ap (λ l. l ++ x) none ∙ c
+
+pub filled_none : (a b : Option (List ℕ)) (kept : List ℕ) → kept ≡ [] → Keeps a b → Consumes (prepend_known kept a) (prepend_known [] b) []
+filled_none None b kept none c = tt
+filled_none (Some x) None kept none c = absurd c
+filled_none (Some x) (Some y) kept none c = ap (λ l. l ++ x) none ∙ sym c
+
+-- ---- several turns
+
+front_taken : (a : Option (List ℕ)) (old new used : List ℕ) → old ≡ used ++ new → Consumes (prepend_known old a) (prepend_known new a) used
+front_taken None old new used e = tt
+front_taken (Some x) old new used e = ap (λ l. l ++ x) e ∙ append_assoc used new x
+
+module _ {R : Type 0} (left : R → Option (List ℕ)) where
+  pub reads_nothing : (s : Capture R) → Reads left s s []
+  unfolding run given
+  reads_nothing s = record { used = []; consumed = Consumes-nil (file_of left s); gave = refl; ran = refl }
+
+  pub reads_filled : (old mid new : Capture R) (out : List ℕ) → Reads left old mid out → Consumes (file_of left mid) (file_of left new) [] → scan_of new ≡ scan_of mid → Reads left old new out
+  reads_filled old mid new out r c same = record {
+    used = r.used;
+    consumed = subst (Consumes (file_of left old) (file_of left new)) (append-nil r.used)
+        (Consumes-trans (file_of left old) (file_of left mid) (file_of left new) r.used [] r.consumed c);
+    gave = r.gave;
+    ran = same ∙ r.ran;
+  }
+
+  pub reads_more : (old mid new : Capture R) (n : ℕ) (out : List ℕ) → Reads left old mid [] → HandsOn mid new n out → source_of new ≡ source_of mid → Reads left old new out
+  reads_more old mid new n out r h same = record {
+    used = r.used ++ h.used;
+    consumed = Consumes-trans (file_of left old) (file_of left mid) (file_of left new) r.used h.used r.consumed
+        (subst (λ (s : R). Consumes (file_of left mid) (prepend_known (kept_of new) (left s)) h.used) (sym same) (front_taken (left (source_of mid)) (kept_of mid) (kept_of new) h.used h.front));
+    gave = given-append (scan_of old) r.used h.used ∙ ap (λ l. l ++ given (run (scan_of old) r.used) h.used) r.gave ∙ ap (λ (s : Scan). given s h.used) (sym r.ran) ∙ h.gave;
+    ran = h.ran ∙ ap (λ (s : Scan). run s h.used) r.ran ∙ sym (run-append (scan_of old) r.used h.used);
+  }
+
+  pub gives_part : (old mid new : Capture R) (n : ℕ) (out : List ℕ) → Reads left old mid [] → HandsOn mid new n out → source_of new ≡ source_of mid → GivesPart left old new n out
+  unfolding reads_more
+  gives_part old mid new n out r h same = record {
+    reads = reads_more old mid new n out r h same;
+    one = λ some. record {
+      before = r.used;
+      last = h.used;
+      joined = refl;
+      size = (h.one some).0;
+      nothing = r.gave;
+      part = subst (λ (s : Scan). IsPart s (scan_of new) n) r.ran (h.one some).1;
+    };
+  }
+
+  pub reads_end : (old mid new : Capture R) → Reads left old mid [] → source_of new ≡ source_of mid → kept_of new ≡ kept_of mid → scan_of new ≡ ended (scan_of mid)
+      → kept_of mid ≡ [] → IsAtEnd (left (source_of mid)) → Ends left old new
+  reads_end old mid new r same kept scan none end = record {
+    used = r.used;
+    consumed = subst (λ (s : R). Consumes (file_of left old) (prepend_known (kept_of new) (left s)) r.used) (sym same)
+        (subst (λ (l : List ℕ). Consumes (file_of left old) (prepend_known l (left (source_of mid))) r.used) (sym kept) r.consumed);
+    gave = r.gave;
+    ran = scan ∙ ap ended r.ran;
+    nothing = kept ∙ none;
+    at_end = subst (λ (s : R). IsAtEnd (left s)) (sym same) end;
+  }
+
+-- ---- what is handed on
+
+given_front : (s t : Scan) (a b : Option (List ℕ)) (used out : List ℕ) → Consumes a b used → given s used ≡ out → t ≡ run s used → Consumes (given_of s a) (given_of t b) out
+given_front s t None b used out c gave ran = tt
+given_front s t (Some x) None used out c gave ran = absurd c
+given_front s t (Some x) (Some y) used out c gave ran =
+    ap (given s) c ∙ given-append s used y ∙ ap (λ l. l ++ given (run s used) y) gave ∙ ap (λ (v : Scan). out ++ given v y) (sym ran)
+
+given_stopped : (t : Scan) (b : Option (List ℕ)) → is_some t.fault ≡ true → IsAtEnd (given_of t b)
+given_stopped t None p = tt
+given_stopped t (Some y) p = (run_stopped t y p).1
+
+given_end : (s t : Scan) (a b : Option (List ℕ)) (used kept : List ℕ) → Consumes a (prepend_known kept b) used → given s used ≡ [] → kept ≡ [] → IsAtEnd b
+    → Consumes (given_of s a) (given_of t (prepend_known kept b)) [] × IsAtEnd (given_of t (prepend_known kept b))
+unfolding given
+given_end s t None None used kept c gave none end = (tt, tt)
+given_end s t None (Some y) used kept c gave none end = (tt, ap (given t) (ap (λ l. l ++ y) none ∙ end))
+given_end s t (Some x) None used kept c gave none end = absurd c
+given_end s t (Some x) (Some y) used kept c gave none end =
+    let nothing : kept ++ y ≡ [] = ap (λ l. l ++ y) none ∙ end in
+    let all : x ≡ used = c ∙ ap (λ l. used ++ l) nothing ∙ append-nil used in
+    (ap (given s) all ∙ gave ∙ sym (ap (given t) nothing), ap (given t) nothing)
+
+keeps_from : (a b : Option (List ℕ)) → Consumes a b [] → Keeps a b
+keeps_from None b c = tt
+keeps_from (Some x) None c = absurd c
+keeps_from (Some x) (Some y) c = sym c
+
+pub reads_keep : {R : Type 0} (left : R → Option (List ℕ)) (old new : Capture R) → Reads left old new [] → Keeps (left_of left old) (left_of left new)
+reads_keep left old new r =
+    keeps_from (left_of left old) (left_of left new) (given_front (scan_of old) (scan_of new) (file_of left old) (file_of left new) r.used [] r.consumed r.gave r.ran)
+
+module _ {R : Type 0} (left : R → Option (List ℕ)) (failures : R → ℕ) where
+  pub part_gives : (old new : Capture R) (r : Result ℕ DeviceFault) (buffer : List ℕ) → ReadsPart left failures old new r buffer → ReadConsumes (left_of left old) (left_of left new) r buffer
+  part_gives old new (Err e) buffer (inl f) = reads_keep left old new f.reads
+  part_gives old new (Err e) buffer (inr f) = reads_keep left old new f.reads
+  part_gives old new (Ok n) buffer (_, inl r) = (
+    given_front (scan_of old) (scan_of new) (file_of left old) (file_of left new) r.0.reads.used (take n buffer) r.0.reads.consumed r.0.reads.gave r.0.reads.ran,
+    λ zero room. given_stopped (scan_of new) (file_of left new) (r.1 zero room),
+  )
+  part_gives old new (Ok n) buffer (_, inr r) =
+      let both = given_end (scan_of old) (scan_of new) (file_of left old) (left (source_of new)) r.1.used (kept_of new) r.1.consumed r.1.gave r.1.nothing r.1.at_end in (
+        subst (λ (k : ℕ). Consumes (left_of left old) (left_of left new) (take k buffer)) (sym r.0) both.0,
+        λ zero room. both.1,
+      )
+
+  -- a failure counts once
+  pub part_fails : (old new : Capture R) (r : Result ℕ DeviceFault) (buffer : List ℕ) → ReadsPart left failures old new r buffer → ReadCounts (failures_of failures old) (failures_of failures new) r
+  part_fails old new (Ok n) buffer r = let a = r.0.source in let b = r.0.gave_up in cc
+  part_fails old new (Err e) buffer (inl f) = let a = f.source in let b = f.gave_up in omega (arith, a, b)
+  part_fails old new (Err e) buffer (inr f) = let a = f.source in let b = f.gave_up in omega (arith, a, b)
+
+  -- ---- the count of calls
+
+  recounted : (old new : Capture R) (n : ℕ) (p : old.start ≤ old.end) (q : old.end ≤ 65536) (out : List ℕ) → Reads left (record old { calls = n; in_order = p; in_room = q }) new out → Reads left old new out
+  recounted old new n p q out r = record { used = r.used; consumed = r.consumed; gave = r.gave; ran = r.ran }
+
+  -- how often it was called does not matter
+  pub part_counted : (old new : Capture R) (n : ℕ) (p : old.start ≤ old.end) (q : old.end ≤ 65536) (r : Result ℕ DeviceFault) (buffer : List ℕ)
+      → ReadsPart left failures (record old { calls = n; in_order = p; in_room = q }) new r buffer → ReadsPart left failures old new r buffer
+  unfolding recounted
+  part_counted old new n p q (Err e) buffer (inl f) = inl (record { reads = recounted old new n p q [] f.reads; source = f.source; gave_up = f.gave_up })
+  part_counted old new n p q (Err e) buffer (inr f) = inr (record { reads = recounted old new n p q [] f.reads; many = f.many; source = f.source; gave_up = f.gave_up })
+  part_counted old new n p q (Ok k) buffer (u, inl w) = (
+    record { source = u.source; gave_up = u.gave_up },
+    inl (record { reads = recounted old new n p q (take k buffer) w.0.reads; one = w.0.one }, w.1),
+  )
+  part_counted old new n p q (Ok k) buffer (u, inr w) = (
+    record { source = u.source; gave_up = u.gave_up },
+    inr (w.0, record { used = w.1.used; consumed = w.1.consumed; gave = w.1.gave; ran = w.1.ran; nothing = w.1.nothing; at_end = w.1.at_end }),
+  )
+
+-- ---- many turns
+
+-- in so many turns bytes of the file were taken, one each or more, none of which is a packet's
+pub record Passes {R : Type 0} (left : R → Option (List ℕ)) (failures : R → ℕ) (turns : ℕ) (old new : Capture R) : Type 0 where
+  pub reads : Reads left old new []
+  pub many : turns ≤ length reads.used
+  pub unfailed : IsUnfailed failures old new
+  pub calls : calls_of new ≡ calls_of old
+  pub waits : given (scan_of old) (kept_of old) ≢ [] → (source_of new ≡ source_of old) × (given (scan_of new) (kept_of new) ≢ [])
+
+module _ {R : Type 0} (left : R → Option (List ℕ)) (failures : R → ℕ) where
+  pub passes_nothing : (s : Capture R) → Passes left failures 0 s s
+  passes_nothing s = record {
+    reads = reads_nothing left s;
+    many = omega arith;
+    unfailed = record { source = refl; gave_up = refl };
+    calls = refl;
+    waits = λ some. (refl, some);
+  }
+
+  some_kept : (s : Capture R) → given (scan_of s) (kept_of s) ≢ [] → kept_of s ≢ []
+  unfolding given
+  some_kept s some e = some (ap (given (scan_of s)) e)
+
+  pub passes_filled : (turns : ℕ) (old mid new : Capture R) → Passes left failures turns old mid → Consumes (file_of left mid) (file_of left new) [] → scan_of new ≡ scan_of mid
+      → failures (source_of new) ≡ failures (source_of mid) → gave_up_of new ≡ gave_up_of mid → calls_of new ≡ calls_of mid → (kept_of mid ≢ [] → new ≡ mid)
+      → Passes left failures turns old new
+  unfolding reads_filled
+  passes_filled turns old mid new p c same source gave_up calls keeps = record {
+    reads = reads_filled left old mid new [] p.reads c same;
+    many = p.many;
+    unfailed = record { source = source ∙ p.unfailed.source; gave_up = gave_up ∙ p.unfailed.gave_up };
+    calls = calls ∙ p.calls;
+    waits = λ some.
+        let w = p.waits some in
+        subst (λ (s : Capture R). (source_of s ≡ source_of old) × (given (scan_of s) (kept_of s) ≢ [])) (sym (keeps (some_kept mid w.1))) w;
+  }
+
+  pub passes_more : (turns : ℕ) (old mid new : Capture R) (n : ℕ) → Passes left failures turns old mid → HandsOn mid new n [] → length (kept_of new) < length (kept_of mid)
+      → source_of new ≡ source_of mid → gave_up_of new ≡ gave_up_of mid → calls_of new ≡ calls_of mid → Passes left failures (turns + 1) old new
+  unfolding reads_more
+  passes_more turns old mid new n p h fewer source gave_up calls =
+      let split = ap length h.front ∙ length-append h.used (kept_of new) in
+      let joined = length-append p.reads.used h.used in
+      let many = p.many in
+      let rest : given (scan_of mid) (kept_of mid) ≡ given (scan_of new) (kept_of new) =
+      ap (given (scan_of mid)) h.front ∙ given-append (scan_of mid) h.used (kept_of new)
+      ∙ ap (λ (l : List ℕ). l ++ given (run (scan_of mid) h.used) (kept_of new)) h.gave ∙ ap (λ (s : Scan). given s (kept_of new)) (sym h.ran) in
+      record {
+        reads = reads_more left old mid new n [] p.reads h source;
+        many = omega (arith, split, joined, many, fewer);
+        unfailed = record { source = ap failures source ∙ p.unfailed.source; gave_up = gave_up ∙ p.unfailed.gave_up };
+        calls = calls ∙ p.calls;
+        waits = λ some.
+            let w = p.waits some in
+            (source ∙ w.0, λ e. w.1 (rest ∙ e));
+      }
+
+  -- nothing was kept that holds a byte of a packet, if nothing is kept at last
+  pub none_kept : (turns : ℕ) (old mid new : Capture R) → Passes left failures turns old mid → (kept_of mid ≢ [] → new ≡ mid) → kept_of new ≡ [] → Waits old new
+  none_kept turns old mid new p keeps none some =
+      let w = p.waits some in
+      let there = some_kept mid w.1 in
+      absurd (there (subst (λ (s : Capture R). kept_of s ≡ []) (keeps there) none))
+
+  pub part_end : (turns : ℕ) (old mid new : Capture R) (buffer : List ℕ) → Passes left failures turns old mid → source_of new ≡ source_of mid → kept_of new ≡ kept_of mid → gave_up_of new ≡ gave_up_of mid
+      → scan_of new ≡ ended (scan_of mid) → (kept_of mid ≡ []) × IsAtEnd (left (source_of mid)) → ReadsPart left failures old new (Ok 0) buffer
+  part_end turns old mid new buffer p source kept gave_up scan end = (
+    record { source = ap failures source ∙ p.unfailed.source; gave_up = gave_up ∙ p.unfailed.gave_up },
+    inr (refl, reads_end left old mid new p.reads source kept scan end.0 end.1),
+  )
+
+  pub part_gives_up : (turns : ℕ) (old mid new : Capture R) → Passes left failures turns old mid → 2 ^ 64 ≤ turns + 1 → Consumes (file_of left mid) (file_of left new) [] → scan_of new ≡ scan_of mid
+      → source_of new ≡ source_of mid → gave_up_of new ≡ one_more (gave_up_of mid) → GivesUp left failures old new
+  unfolding reads_filled
+  part_gives_up turns old mid new p most c scan source gave_up = record {
+    reads = reads_filled left old mid new [] p.reads c scan;
+    many = let many = p.many in omega (arith, many, most);
+    source = ap failures source ∙ p.unfailed.source;
+    gave_up = gave_up ∙ ap one_more p.unfailed.gave_up;
+  }

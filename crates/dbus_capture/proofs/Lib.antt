@@ -1,0 +1,14 @@
+pub mod StepLaws
+pub mod HeadLaws
+pub mod CaptureSteps
+pub mod NumberLaws
+pub mod PcapLaws
+pub mod PcapFileLaws
+pub mod ByteLaws
+pub mod PcapFaultLaws
+pub mod PcapOutcomes
+pub mod PacketLaws
+pub mod BlockTurns
+pub mod BlockLaws
+pub mod InterfaceLaws
+pub mod SectionLaws

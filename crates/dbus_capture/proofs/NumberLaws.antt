@@ -1,0 +1,40 @@
+-- Numbers that are read where they were written.
+use Rattle.std.proofs.Common.{◌≡◌, ℕ, ◌+◌, ◌-◌, ◌<◌, ◌^◌, List, [], ◌++◌, length, take, drop, refl, sym, ap, ◌∙◌, arith, append-nil}
+use Rattle.std.specs.List.{slice_range}
+use Rattle.std.proofs.lemmas.List.{take_at, drop_at}
+use Rattle.std.proofs.lemmas.Nat.{from_le_bytes-to_le_bytes_4, from_be_bytes-to_be_bytes_4, from_le_bytes-to_le_bytes_2, from_be_bytes-to_be_bytes_2}
+use Rattle.dbus_capture.specs.declared.byte_order.ByteOrder.{ByteOrder}
+use Rattle.dbus_capture.specs.declared.byte_order.ByteOrder.TheVariants.{Little, Big}
+use Rattle.dbus_capture.specs.Numbers.{u32_of, u16_of, u32_bytes, u16_bytes, u32_at, u16_at}
+
+pub u32_size : (o : ByteOrder) (n : ℕ) → length (u32_bytes o n) ≡ 4
+u32_size Little n = refl
+u32_size Big n = refl
+
+pub u16_size : (o : ByteOrder) (n : ℕ) → length (u16_bytes o n) ≡ 2
+u16_size Little n = refl
+u16_size Big n = refl
+
+pub u32_again : (o : ByteOrder) (n : ℕ) → n < 2 ^ 32 → u32_of o (u32_bytes o n) ≡ n
+u32_again Little n h = from_le_bytes-to_le_bytes_4 n h
+u32_again Big n h = from_be_bytes-to_be_bytes_4 n h
+
+pub u16_again : (o : ByteOrder) (n : ℕ) → n < 2 ^ 16 → u16_of o (u16_bytes o n) ≡ n
+u16_again Little n h = from_le_bytes-to_le_bytes_2 n h
+u16_again Big n h = from_be_bytes-to_be_bytes_2 n h
+
+-- the part that comes after a front
+pub part_after : (front part rest : List ℕ) (k n : ℕ) → length front ≡ k → length part ≡ n → slice_range (front ++ (part ++ rest)) k (k + n) ≡ part
+part_after front part rest k n f p =
+    let size : k + n - k ≡ n = omega arith in
+    ap (λ m. take m (drop k (front ++ (part ++ rest)))) size ∙ ap (take n) (drop_at front (part ++ rest) k f) ∙ take_at part rest n p
+
+pub u32_after : (o : ByteOrder) (front : List ℕ) (n : ℕ) (rest : List ℕ) (k : ℕ) → length front ≡ k → n < 2 ^ 32 → u32_at o k (front ++ (u32_bytes o n ++ rest)) ≡ n
+u32_after o front n rest k f h = ap (u32_of o) (part_after front (u32_bytes o n) rest k 4 f (u32_size o n)) ∙ u32_again o n h
+
+pub u16_after : (o : ByteOrder) (front : List ℕ) (n : ℕ) (rest : List ℕ) (k : ℕ) → length front ≡ k → n < 2 ^ 16 → u16_at o k (front ++ (u16_bytes o n ++ rest)) ≡ n
+u16_after o front n rest k f h = ap (u16_of o) (part_after front (u16_bytes o n) rest k 2 f (u16_size o n)) ∙ u16_again o n h
+
+-- the last part
+pub u32_last : (o : ByteOrder) (front : List ℕ) (n k : ℕ) → length front ≡ k → n < 2 ^ 32 → u32_at o k (front ++ u32_bytes o n) ≡ n
+u32_last o front n k f h = ap (λ l. u32_at o k (front ++ l)) (sym (append-nil (u32_bytes o n))) ∙ u32_after o front n [] k f h

@@ -1,0 +1,376 @@
+-- What follows the header of a pcap file is packets, and then nothing or a fault.
+use Rattle.std.proofs.Common.{◌≡◌, ◌≢◌, ◌⊎◌, inl, inr, ℕ, zero, suc, ◌+◌, ◌-◌, ◌<◌, ◌≤◌, ◌^◌, Bool, true, false, cond, nat_lt, List, [], ◌∷◌, ◌++◌, length, take, drop, Option, None, Some, is_some, refl, sym, ap, subst, ◌∙◌, arith, append_assoc, length-append, take-append-drop}
+use Rattle.std.proofs.lemmas.Bool.{cases_lt}
+use Rattle.std.proofs.lemmas.List.{length-take-le, length-drop, drop_all, drop_at}
+use Rattle.dbus_capture.specs.declared.byte_order.ByteOrder.{ByteOrder}
+use Rattle.dbus_capture.specs.declared.stage.Stage.{Stage}
+use Rattle.dbus_capture.specs.declared.stage.Stage.TheVariants.{Record}
+use Rattle.dbus_capture.specs.declared.fault.CaptureFault.{CaptureFault}
+use Rattle.dbus_capture.specs.declared.fault.CaptureReason.{CaptureReason}
+use Rattle.dbus_capture.specs.declared.fault.CaptureReason.TheVariants.{Lengths, PacketCut, Truncated}
+use Rattle.dbus_capture.specs.declared.scan.Scan.{Scan}
+use Rattle.dbus_capture.specs.Numbers.{u32_of, u32_bytes, u32_at}
+use Rattle.dbus_capture.specs.Stages.{want, is_raw, is_filed, Heading}
+use Rattle.dbus_capture.specs.Scans.{place, refused}
+use Rattle.dbus_capture.specs.Heads.{record_time, packet_of, passed_over, record_head}
+use Rattle.dbus_capture.specs.Steps.{Turn, Gives, Gathers, run, turn_of, turn_by, may_end, ended, given}
+use Rattle.dbus_capture.specs.PcapFiles.{PcapPacket, packet_header_bytes, packets_bytes, FitsPacket, AllFitPackets, payload}
+use Rattle.dbus_capture.specs.PcapFaults.{AreBytes, IsRestFault, part_given}
+use Rattle.dbus_capture.proofs.ByteLaws.{bytes_front, bytes_back, u32_respelled, u32_fits, FourWords, four_u32s, third_u32, fourth_u32, sixteen, sixteen_size, sixteen_joined, four_cong}
+use Rattle.dbus_capture.proofs.StepLaws.{run-append, run_stopped, run_gives, turn_gives, turn_gathers, given-append}
+use Rattle.dbus_capture.proofs.HeadLaws.{run_gathers}
+use Rattle.dbus_capture.proofs.PcapLaws.{packet_header_size, Between, after, after_between, packet_taken, record_taken}
+use Rattle.dbus_capture.proofs.PcapFileLaws.{between_ends}
+
+-- ---- numbers
+
+lt_true : (a b : ℕ) → a < b → nat_lt a b ≡ true
+lt_true a b h = grind (arith, h)
+
+lt_false : (a b : ℕ) → b ≤ a → nat_lt a b ≡ false
+lt_false a b h = grind (arith, h)
+
+-- ---- the end of the input
+
+abbrev cut_fault : Scan → ℕ → CaptureFault
+cut_fault s n = record { at = place (s.next + n); reason = Truncated }
+
+pub place_of : (a n : ℕ) → place (a + n + 2 ^ 64 - place 0) ≡ place (a + n)
+place_of a n = omega arith
+
+-- how an end is reported that is not between two packets
+pub ended_cut : (s : Scan) → may_end (turn_of s) s.head.stage s.head.bytes ≡ false
+    → (ended s).fault ≡ Some (record { at = place (s.next + length s.head.bytes + 2 ^ 64 - place (s.give + s.skip)); reason = Truncated })
+ended_cut s e =
+    let cut : Scan = record s { fault = Some (record { at = place (s.next + length s.head.bytes + 2 ^ 64 - place (s.give + s.skip)); reason = Truncated }) } in
+    ap (λ (b : Bool). (cond b s cut).fault) e
+
+ended_stopped : (s : Scan) (f : CaptureFault) → s.fault ≡ Some f → (ended s).fault ≡ Some f
+ended_stopped s f e =
+    let cut : Scan = record s { fault = Some (record { at = place (s.next + length s.head.bytes + 2 ^ 64 - place (s.give + s.skip)); reason = Truncated }) } in
+    ap (λ (v : Option CaptureFault). (cond (may_end (turn_by v (is_raw s.head.stage) s.give s.skip) s.head.stage s.head.bytes) s cut).fault) e ∙ e
+
+nothing_ends : (s : Scan) → Between s → (ended (run s [])).fault ≡ None
+unfolding run
+nothing_ends s b = ap (λ (v : Scan). v.fault) (between_ends s b) ∙ b.unfaulted
+
+-- part of a header
+head_cut : (s : Scan) (bytes : List ℕ) → Between s → bytes ≢ [] → length bytes < 16
+    → (ended (run s bytes)).fault ≡ Some (record { at = place (s.next + length bytes); reason = Truncated })
+head_cut s [] b some h = absurd (some refl)
+head_cut s (x ∷ xs) b some h =
+    let bytes = x ∷ xs in
+    let stage : s.head.stage ≡ Record = ap (λ (v : Heading). v.stage) b.head in
+    let held : s.head.bytes ≡ [] = ap (λ (v : Heading). v.bytes) b.head in
+    let none : length s.head.bytes ≡ 0 = ap length held in
+    let wanted : want s.head.stage ≡ 16 = ap want stage in
+    let filed : is_filed s.head.stage ≡ true = ap is_filed stage in
+    let raw : is_raw s.head.stage ≡ false = ap is_raw stage in
+    let law = run_gathers s bytes b.unfaulted filed b.give b.skip (omega (arith, h, none, wanted)) in
+    let t : Scan = record s { head = record { stage = Record; bytes = bytes } } in
+    let same : run s bytes ≡ t = law.0 ∙ ap (λ (v : Stage). record s { head = record { stage = v; bytes = s.head.bytes ++ bytes } }) stage
+    ∙ ap (λ (l : List ℕ). record s { head = record { stage = Record; bytes = l ++ bytes } }) held in
+    let turn : turn_of t ≡ Gathers = turn_gathers s.fault false s.give s.skip b.unfaulted refl b.give b.skip in
+    let stop = ended_cut t (ap (λ (v : Turn). may_end v Record bytes) turn) in
+    let zero : s.give + s.skip ≡ 0 = let g = b.give in let k = b.skip in omega (arith, g, k) in
+    ap (λ (v : Scan). (ended v).fault) same ∙ stop
+    ∙ ap (λ (n : ℕ). Some (record { at = place (s.next + length bytes + 2 ^ 64 - place n); reason = Truncated })) zero
+    ∙ ap (λ (n : ℕ). Some (record { at = n; reason = Truncated })) (place_of s.next (length bytes))
+
+head_cut_gives : (s : Scan) (bytes : List ℕ) → Between s → length bytes < 16 → given s bytes ≡ []
+head_cut_gives s bytes b h =
+    let stage : s.head.stage ≡ Record = ap (λ (v : Heading). v.stage) b.head in
+    let none : length s.head.bytes ≡ 0 = ap (λ (v : Heading). length v.bytes) b.head in
+    let wanted : want s.head.stage ≡ 16 = ap want stage in
+    (run_gathers s bytes b.unfaulted (ap is_filed stage) b.give b.skip (omega (arith, h, none, wanted))).1
+
+body_gives : (s : Scan) (time captured : ℕ) (bytes : List ℕ) → Between s → length bytes < captured → given (packet_of s 16 (Some time) captured) bytes ≡ bytes
+body_gives s time captured bytes b short =
+    let stage : s.head.stage ≡ Record = ap (λ (v : Heading). v.stage) b.head in
+    (run_gives (packet_of s 16 (Some time) captured) bytes b.unfaulted (ap is_filed stage) (omega (arith, short))).1
+
+place_in : (a n captured : ℕ) → n < captured → captured < 2 ^ 32 → place (place (a + (16 + captured)) + 0 + 2 ^ 64 - place (captured - n + 0)) ≡ place (a + (16 + n))
+place_in a n captured h k = omega (arith, h, k)
+
+-- part of a packet
+body_cut : (s : Scan) (time captured : ℕ) (bytes : List ℕ) → Between s → length bytes < captured → captured < 2 ^ 32
+    → (ended (run (packet_of s 16 (Some time) captured) bytes)).fault ≡ Some (record { at = place (s.next + (16 + length bytes)); reason = Truncated })
+body_cut s time captured bytes b short fits =
+    let stage : s.head.stage ≡ Record = ap (λ (v : Heading). v.stage) b.head in
+    let none : length s.head.bytes ≡ 0 = ap (λ (v : Heading). length v.bytes) b.head in
+    let filed : is_filed s.head.stage ≡ true = ap is_filed stage in
+    let raw : is_raw s.head.stage ≡ false = ap is_raw stage in
+    let p = packet_of s 16 (Some time) captured in
+    let law = run_gives p bytes b.unfaulted filed (omega (arith, short)) in
+    let t : Scan = record p { give = captured - length bytes } in
+    let more : captured - length bytes ≡ suc (captured - length bytes - 1) = omega (arith, short) in
+    let turn : turn_of t ≡ Gives = turn_gives s.fault (is_raw s.head.stage) (captured - length bytes) s.skip (captured - length bytes - 1) b.unfaulted raw more in
+    let stop = ended_cut t (ap (λ (v : Turn). may_end v s.head.stage s.head.bytes) turn) in
+    ap (λ (v : Scan). (ended v).fault) law.0 ∙ stop
+    ∙ ap (λ (n : ℕ). Some (record { at = place (place (s.next + (16 + captured)) + n + 2 ^ 64 - place (captured - length bytes + s.skip)); reason = Truncated })) none
+    ∙ ap (λ (n : ℕ). Some (record { at = place (place (s.next + (16 + captured)) + 0 + 2 ^ 64 - place (captured - length bytes + n)); reason = Truncated })) b.skip
+    ∙ ap (λ (n : ℕ). Some (record { at = n; reason = Truncated })) (place_in s.next (length bytes) captured short fits)
+
+-- ---- a header of a packet
+
+abbrev by_lengths : Scan → ℕ → ℕ → Bool → Bool → Scan
+by_lengths s time captured over cut =
+    cond over (refused s 12 Lengths) (cond cut (cond s.passes_cut (passed_over s 16 captured) (refused s 8 PacketCut)) (packet_of s 16 (Some time) captured))
+
+abbrev time_at : Scan → List ℕ → ℕ
+time_at s h = record_time s.nanoseconds (u32_at s.order 0 h) (u32_at s.order 4 h)
+
+record_by : (s : Scan) (h : List ℕ) (over cut : Bool) → nat_lt (u32_at s.order 12 h) (u32_at s.order 8 h) ≡ over → nat_lt (u32_at s.order 8 h) (u32_at s.order 12 h) ≡ cut
+    → record_head s h ≡ by_lengths s (time_at s h) (u32_at s.order 8 h) over cut
+record_by s h over cut p q =
+    ap (λ (b : Bool). by_lengths s (time_at s h) (u32_at s.order 8 h) b (nat_lt (u32_at s.order 8 h) (u32_at s.order 12 h))) p
+    ∙ ap (λ (b : Bool). by_lengths s (time_at s h) (u32_at s.order 8 h) over b) q
+
+pub stopped_after : (s t : Scan) (h more : List ℕ) (f : CaptureFault) → run s h ≡ t → t.fault ≡ Some f → (ended (run s (h ++ more))).fault ≡ Some f
+stopped_after s t h more f e p =
+    let stops = (run_stopped t more (ap is_some p)).0 in
+    ap (λ (v : Scan). (ended v).fault) (run-append s h more ∙ ap (λ (v : Scan). run v more) e ∙ stops) ∙ ended_stopped t f p
+
+pub stopped_gives : (s t : Scan) (h more : List ℕ) (f : CaptureFault) → run s h ≡ t → given s h ≡ [] → t.fault ≡ Some f → given s (h ++ more) ≡ []
+stopped_gives s t h more f e g p =
+    given-append s h more ∙ ap (λ l. l ++ given (run s h) more) g ∙ ap (λ (v : Scan). given v more) e ∙ (run_stopped t more (ap is_some p)).1
+
+-- ---- the whole
+
+-- the bytes are whole packets
+pub record AllPackets (s : Scan) (bytes : List ℕ) : Type 0 where
+  pub packets : List PcapPacket
+  pub fit : AllFitPackets packets
+  pub joined : bytes ≡ packets_bytes s.order packets
+  pub gives : given s bytes ≡ payload packets
+  pub ends : (ended (run s bytes)).fault ≡ None
+
+-- or a fault comes after whole packets
+pub record FaultAfter (s : Scan) (bytes : List ℕ) : Type 0 where
+  pub packets : List PcapPacket
+  pub rest : List ℕ
+  pub within : ℕ
+  pub reason : CaptureReason
+  pub fit : AllFitPackets packets
+  pub joined : bytes ≡ packets_bytes s.order packets ++ rest
+  pub faulty : IsRestFault s.order rest within reason
+  pub gives : given s bytes ≡ payload packets ++ part_given rest reason
+  pub ends : (ended (run s bytes)).fault ≡ Some (record { at = place (s.next + (length (packets_bytes s.order packets) + within)); reason = reason })
+
+abbrev pub Outcome : Scan → List ℕ → Type 0
+Outcome s bytes = AllPackets s bytes ⊎ FaultAfter s bytes
+
+-- a fault of the first packet
+fault_here : (s : Scan) (bytes : List ℕ) (k : ℕ) (reason : CaptureReason) → IsRestFault s.order bytes k reason
+    → given s bytes ≡ part_given bytes reason → (ended (run s bytes)).fault ≡ Some (record { at = place (s.next + k); reason = reason }) → Outcome s bytes
+fault_here s bytes k reason h g e = inr (record {
+  packets = [];
+  rest = bytes;
+  within = k;
+  reason = reason;
+  fit = tt;
+  joined = refl;
+  faulty = h;
+  gives = g;
+  ends = e ∙ ap (λ (n : ℕ). Some (record { at = place (s.next + n); reason = reason })) (let z : k ≡ 0 + k = omega arith in z);
+})
+
+place_along : (a n m k : ℕ) → place (place (a + (16 + n)) + (m + k)) ≡ place (a + (16 + n + m + k))
+place_along a n m k = omega arith
+
+-- what is handed on of a packet and what is left
+given_more : (s : Scan) (p : PcapPacket) (bytes rest : List ℕ) → Between s → FitsPacket p → bytes ≡ packet_header_bytes s.order p ++ (p.bytes ++ rest) → given s bytes ≡ p.bytes ++ given (after s p) rest
+given_more s p bytes rest b f e =
+    let taken = packet_taken s p b f in
+    ap (given s) (e ∙ sym (append_assoc (packet_header_bytes s.order p) p.bytes rest)) ∙ given-append s (packet_header_bytes s.order p ++ p.bytes) rest
+    ∙ ap (λ l. l ++ given (run s (packet_header_bytes s.order p ++ p.bytes)) rest) taken.1 ∙ ap (λ (v : Scan). p.bytes ++ given v rest) taken.0
+
+-- a packet comes before what is left
+packet_before : (s : Scan) (p : PcapPacket) (bytes rest : List ℕ) → Between s → FitsPacket p → bytes ≡ packet_header_bytes s.order p ++ (p.bytes ++ rest) → Outcome (after s p) rest → Outcome s bytes
+unfolding after
+packet_before s p bytes rest b f e (inl o) =
+    let run_is : run s bytes ≡ run (after s p) rest =
+    ap (run s) (e ∙ sym (append_assoc (packet_header_bytes s.order p) p.bytes rest)) ∙ run-append s (packet_header_bytes s.order p ++ p.bytes) rest ∙ ap (λ (v : Scan). run v rest) (packet_taken s p b f).0 in
+    inl (record {
+      packets = p ∷ o.packets;
+      fit = (f, o.fit);
+      joined = e ∙ ap (λ l. packet_header_bytes s.order p ++ (p.bytes ++ l)) o.joined;
+      gives = given_more s p bytes rest b f e ∙ ap (λ l. p.bytes ++ l) o.gives;
+      ends = ap (λ (v : Scan). (ended v).fault) run_is ∙ o.ends;
+    })
+packet_before s p bytes rest b f e (inr o) =
+    let run_is : run s bytes ≡ run (after s p) rest =
+    ap (run s) (e ∙ sym (append_assoc (packet_header_bytes s.order p) p.bytes rest)) ∙ run-append s (packet_header_bytes s.order p ++ p.bytes) rest ∙ ap (λ (v : Scan). run v rest) (packet_taken s p b f).0 in
+    let head = packet_header_bytes s.order p in
+    let tail = packets_bytes s.order o.packets in
+    let head_is : length head ≡ 16 = packet_header_size s.order p in
+    let l = length-append head (p.bytes ++ tail) in
+    let m = length-append p.bytes tail in
+    let total : 16 + length p.bytes + length tail + o.within ≡ length (head ++ (p.bytes ++ tail)) + o.within = omega (arith, l, m, head_is) in
+    inr (record {
+      packets = p ∷ o.packets;
+      rest = o.rest;
+      within = o.within;
+      reason = o.reason;
+      fit = (f, o.fit);
+      joined = e ∙ ap (λ l. head ++ (p.bytes ++ l)) o.joined ∙ ap (λ l. head ++ l) (sym (append_assoc p.bytes tail o.rest)) ∙ sym (append_assoc head (p.bytes ++ tail) o.rest);
+      faulty = o.faulty;
+      gives = given_more s p bytes rest b f e ∙ ap (λ l. p.bytes ++ l) o.gives ∙ sym (append_assoc p.bytes (payload o.packets) (part_given o.rest o.reason));
+      ends = ap (λ (v : Scan). (ended v).fault) run_is ∙ o.ends
+          ∙ ap (λ (n : ℕ). Some (record { at = n; reason = o.reason })) (place_along s.next (length p.bytes) (length tail) o.within ∙ ap (λ (n : ℕ). place (s.next + n)) total);
+    })
+
+-- sixteen bytes whose two lengths agree are the header of a packet
+respelled : (o : ByteOrder) (bytes a b c d more body : List ℕ) → FourWords bytes a b c d more → AreBytes a → AreBytes b → AreBytes c → AreBytes d
+    → u32_of o c ≡ length body → u32_of o d ≡ length body
+    → a ++ (b ++ (c ++ d)) ≡ packet_header_bytes o (record { seconds = u32_of o a; fraction = u32_of o b; bytes = body })
+respelled o bytes a b c d more body w p q r s e f =
+    four_cong a b c d _ _ _ _ (sym (u32_respelled o a w.first p)) (sym (u32_respelled o b w.second q))
+    (sym (u32_respelled o c w.third r) ∙ ap (u32_bytes o) e) (sym (u32_respelled o d w.fourth s) ∙ ap (u32_bytes o) f)
+
+nothing_given : (s : Scan) → given s [] ≡ []
+unfolding given
+nothing_given s = refl
+
+ends_short : (s : Scan) (bytes : List ℕ) → length bytes < 16 → Between s → Outcome s bytes
+ends_short s [] h b = inl (record { gives = nothing_given s; packets = []; fit = tt; joined = refl; ends = nothing_ends s b })
+ends_short s (x ∷ xs) h b = fault_here s (x ∷ xs) (length (x ∷ xs)) Truncated (refl, (λ e. cc), inl h)
+    (head_cut_gives s (x ∷ xs) b h ∙ sym (drop_all 16 (x ∷ xs) (omega (arith, h)))) (head_cut s (x ∷ xs) b (λ e. cc) h)
+
+passes_after : (s : Scan) (p : PcapPacket) → (after s p).passes_cut ≡ s.passes_cut
+unfolding after
+passes_after s p = refl
+
+module _ (s : Scan) (bytes a b c d more : List ℕ) (w : FourWords bytes a b c d more) (between : Between s) (refuses : s.passes_cut ≡ false) (are : AreBytes bytes) where
+  whole_is : bytes ≡ (a ++ (b ++ (c ++ d))) ++ more
+  whole_is = sixteen_joined bytes a b c d more w
+
+  are_front : AreBytes (a ++ (b ++ (c ++ d)))
+  are_front = bytes_front (a ++ (b ++ (c ++ d))) more (subst AreBytes whole_is are)
+
+  are_more : AreBytes more
+  are_more = bytes_back (a ++ (b ++ (c ++ d))) more (subst AreBytes whole_is are)
+
+  packet_there : u32_at s.order 8 (a ++ (b ++ (c ++ d))) ≡ u32_of s.order c
+  packet_there = third_u32 s.order (a ++ (b ++ (c ++ d))) a b c d [] (sixteen bytes a b c d more w)
+
+  original_there : u32_at s.order 12 (a ++ (b ++ (c ++ d))) ≡ u32_of s.order d
+  original_there = fourth_u32 s.order (a ++ (b ++ (c ++ d))) a b c d [] (sixteen bytes a b c d more w)
+
+  packet_here : u32_at s.order 8 bytes ≡ u32_of s.order c
+  packet_here = third_u32 s.order bytes a b c d more w
+
+  original_here : u32_at s.order 12 bytes ≡ u32_of s.order d
+  original_here = fourth_u32 s.order bytes a b c d more w
+
+  long : 16 ≤ length bytes
+  long =
+      let size = sixteen_size bytes a b c d more w in
+      let l = length-append (a ++ (b ++ (c ++ d))) more in
+      let e = ap length whole_is in
+      omega (arith, size, l, e)
+
+  total : length bytes ≡ 16 + length more
+  total =
+      let size = sixteen_size bytes a b c d more w in
+      let l = length-append (a ++ (b ++ (c ++ d))) more in
+      let e = ap length whole_is in
+      omega (arith, size, l, e)
+
+  reads_as : (over cut : Bool) → nat_lt (u32_of s.order d) (u32_of s.order c) ≡ over → nat_lt (u32_of s.order c) (u32_of s.order d) ≡ cut
+      → run s (a ++ (b ++ (c ++ d))) ≡ by_lengths s (time_at s (a ++ (b ++ (c ++ d)))) (u32_of s.order c) over cut
+  reads_as over cut p q =
+      let h = a ++ (b ++ (c ++ d)) in
+      (record_taken s h between (sixteen_size bytes a b c d more w)).0
+      ∙ record_by s h over cut
+      (ap (λ (n : ℕ). nat_lt n (u32_at s.order 8 h)) original_there ∙ ap (λ (n : ℕ). nat_lt (u32_of s.order d) n) packet_there ∙ p)
+      (ap (λ (n : ℕ). nat_lt n (u32_at s.order 12 h)) packet_there ∙ ap (λ (n : ℕ). nat_lt (u32_of s.order c) n) original_there ∙ q)
+      ∙ ap (λ (n : ℕ). by_lengths s (time_at s h) n over cut) packet_there
+
+  head_gives : given s (a ++ (b ++ (c ++ d))) ≡ []
+  head_gives = (record_taken s (a ++ (b ++ (c ++ d))) between (sixteen_size bytes a b c d more w)).1
+
+  over_long : u32_of s.order d < u32_of s.order c → Outcome s bytes
+  over_long h =
+      let reads = reads_as true (nat_lt (u32_of s.order c) (u32_of s.order d)) (lt_true _ _ h) refl in
+      let stop = stopped_after s (refused s 12 Lengths) (a ++ (b ++ (c ++ d))) more (record { at = place (s.next + 12); reason = Lengths }) reads refl in
+      let r8 = packet_here in
+      let r12 = original_here in
+      fault_here s bytes 12 Lengths (refl, long, omega (arith, h, r8, r12))
+      (ap (given s) whole_is ∙ stopped_gives s (refused s 12 Lengths) (a ++ (b ++ (c ++ d))) more (record { at = place (s.next + 12); reason = Lengths }) reads head_gives refl)
+      (ap (λ (l : List ℕ). (ended (run s l)).fault) whole_is ∙ stop)
+
+  cut_short : u32_of s.order c < u32_of s.order d → Outcome s bytes
+  cut_short h =
+      let reads = reads_as false true (lt_false _ _ (omega (arith, h))) (lt_true _ _ h) in
+      let kept = ap (λ (v : Bool). cond v (passed_over s 16 (u32_of s.order c)) (refused s 8 PacketCut)) refuses in
+      let stop = stopped_after s (refused s 8 PacketCut) (a ++ (b ++ (c ++ d))) more (record { at = place (s.next + 8); reason = PacketCut }) (reads ∙ kept) refl in
+      let r8 = packet_here in
+      let r12 = original_here in
+      fault_here s bytes 8 PacketCut (refl, long, omega (arith, h, r8, r12))
+      (ap (given s) whole_is ∙ stopped_gives s (refused s 8 PacketCut) (a ++ (b ++ (c ++ d))) more (record { at = place (s.next + 8); reason = PacketCut }) (reads ∙ kept) head_gives refl)
+      (ap (λ (l : List ℕ). (ended (run s l)).fault) whole_is ∙ stop)
+
+  in_body : u32_of s.order c ≡ u32_of s.order d → length more < u32_of s.order c → Outcome s bytes
+  in_body same short =
+      let n = u32_of s.order c in
+      let fits = u32_fits s.order c (bytes_front c d (bytes_back b (c ++ d) (bytes_back a (b ++ (c ++ d)) are_front))) in
+      let reads = reads_as false false (lt_false _ _ (omega (arith, same))) (lt_false _ _ (omega (arith, same))) in
+      let stop = body_cut s (time_at s (a ++ (b ++ (c ++ d)))) n more between short fits in
+      let r8 = packet_here in
+      let r12 = original_here in
+      let size = total in
+      let l = long in
+      fault_here s bytes (length bytes) Truncated
+      (refl, (λ e. let none : length bytes ≡ 0 = ap length e in absurd (omega (arith, l, none))), inr (l, omega (arith, same, r8, r12), omega (arith, size, short, r8)))
+      (ap (given s) whole_is ∙ given-append s (a ++ (b ++ (c ++ d))) more ∙ ap (λ (l : List ℕ). l ++ given (run s (a ++ (b ++ (c ++ d)))) more) head_gives
+      ∙ ap (λ (v : Scan). given v more) reads ∙ body_gives s (time_at s (a ++ (b ++ (c ++ d)))) n more between short
+      ∙ sym (ap (drop 16) whole_is ∙ drop_at (a ++ (b ++ (c ++ d))) more 16 (sixteen_size bytes a b c d more w)))
+      (ap (λ (v : List ℕ). (ended (run s v)).fault) whole_is ∙ ap (λ (v : Scan). (ended v).fault) (run-append s (a ++ (b ++ (c ++ d))) more ∙ ap (λ (v : Scan). run v more) reads) ∙ stop
+      ∙ ap (λ (k : ℕ). Some (record { at = place (s.next + k); reason = Truncated })) (sym size))
+
+  begins : (n : ℕ) → length bytes < suc n → ((t : Scan) (rest : List ℕ) → length rest < n → Between t → t.passes_cut ≡ false → AreBytes rest → Outcome t rest)
+      → u32_of s.order c ≡ u32_of s.order d → u32_of s.order c ≤ length more → Outcome s bytes
+  begins n low ih same enough =
+      let o = s.order in
+      let k = u32_of o c in
+      let body = take k more in
+      let rest = drop k more in
+      let size : length body ≡ k = length-take-le k more enough in
+      let p : PcapPacket = record { seconds = u32_of o a; fraction = u32_of o b; bytes = body } in
+      let are_rest = bytes_back body rest (subst AreBytes (sym (take-append-drop k more)) are_more) in
+      let are_tail = bytes_back a (b ++ (c ++ d)) are_front in
+      let are_end = bytes_back b (c ++ d) are_tail in
+      let fits_c = u32_fits o c (bytes_front c d are_end) in
+      let fits : FitsPacket p = record {
+        seconds = u32_fits o a (bytes_front a (b ++ (c ++ d)) are_front);
+        fraction = u32_fits o b (bytes_front b (c ++ d) are_tail);
+        length = omega (arith, size, fits_c);
+      } in
+      let spelled = respelled o bytes a b c d more body w (bytes_front a (b ++ (c ++ d)) are_front) (bytes_front b (c ++ d) are_tail) (bytes_front c d are_end) (bytes_back c d are_end)
+      (sym size) (sym same ∙ sym size) in
+      let e : bytes ≡ packet_header_bytes o p ++ (body ++ rest) = whole_is ∙ ap (λ (l : List ℕ). l ++ more) spelled ∙ ap (λ (l : List ℕ). packet_header_bytes o p ++ l) (sym (take-append-drop k more)) in
+      let less = total in
+      let left = length-drop k more in
+      packet_before s p bytes rest between fits e
+      (ih (after s p) rest (omega (arith, less, left, low)) (after_between s p between) (passes_after s p ∙ refuses) are_rest)
+
+  lengths_agree : (n : ℕ) → length bytes < suc n → ((t : Scan) (rest : List ℕ) → length rest < n → Between t → t.passes_cut ≡ false → AreBytes rest → Outcome t rest)
+      → u32_of s.order c ≡ u32_of s.order d → Outcome s bytes
+  lengths_agree n low ih same = elim (cases_lt (length more) (u32_of s.order c)) [ inl short ↦ in_body same short | inr enough ↦ begins n low ih same enough ]
+
+  pub begins_long : (n : ℕ) → length bytes < suc n → ((t : Scan) (rest : List ℕ) → length rest < n → Between t → t.passes_cut ≡ false → AreBytes rest → Outcome t rest) → Outcome s bytes
+  begins_long n low ih =
+      elim (cases_lt (u32_of s.order d) (u32_of s.order c)) [
+        | inl over ↦ over_long over
+        | inr least ↦ elim (cases_lt (u32_of s.order c) (u32_of s.order d)) [ inl cut ↦ cut_short cut | inr most ↦ lengths_agree n low ih (omega (arith, least, most)) ]
+      ]
+
+pub outcome_of : (n : ℕ) (s : Scan) (bytes : List ℕ) → length bytes < n → Between s → s.passes_cut ≡ false → AreBytes bytes → Outcome s bytes
+outcome_of zero s bytes low b r are = absurd (omega (arith, low))
+outcome_of (suc n) s bytes low b r are =
+    elim (cases_lt (length bytes) 16) [
+      | inl short ↦ ends_short s bytes short b
+      | inr long ↦ begins_long s bytes (take 4 bytes) (take 4 (drop 4 bytes)) (take 4 (drop 4 (drop 4 bytes))) (take 4 (drop 4 (drop 4 (drop 4 bytes)))) (drop 4 (drop 4 (drop 4 (drop 4 bytes))))
+          (four_u32s bytes long) b r are n low (outcome_of n)
+    ]

@@ -1,0 +1,171 @@
+-- Which bytes are a pcapng file, and which D-Bus packets it has. "PCAP Now Generic (pcapng) Capture
+-- File Format", "General File Structure", "Options" and "Block Definition".
+use Rattle.std.specs.Prelude.{◌≡◌, ◌≢◌, ℕ, ◌+◌, ◌<◌, ◌≤◌, ◌^◌, ◌%◌, ◌⊎◌, ◌==◌, if◌then◌else◌, true, false, List, [], ◌∷◌, ◌++◌, length, slice_get, slice_index, Option, Some, None}
+use Rattle.dbus_capture.specs.declared.byte_order.ByteOrder.{ByteOrder}
+use Rattle.dbus_capture.specs.declared.interface.Interface.{Interface}
+use Rattle.dbus_capture.specs.Numbers.{u32_bytes, u16_bytes}
+use Rattle.dbus_capture.specs.Blocks.{padded}
+
+-- a block of a type and a body, whose length is at both of its ends
+abbrev pub framed_bytes : ByteOrder → ℕ → List ℕ → List ℕ
+framed_bytes order kind body = (u32_bytes order kind ++ u32_bytes order (12 + length body)) ++ (body ++ u32_bytes order (12 + length body))
+
+-- a body that a block may have
+pub record FitsBody (body : List ℕ) : Type 0 where
+  pub size : 12 + length body < 2 ^ 32
+  pub whole : (12 + length body) % 4 ≡ 0
+
+-- ---- interfaces
+
+-- an option: its value is filled up to a multiple of four bytes
+pub record InterfaceOption : Type 0 where
+  pub code : ℕ
+  pub value : List ℕ
+  pub filler : List ℕ
+
+abbrev pub option_bytes : ByteOrder → InterfaceOption → List ℕ
+option_bytes order o = (u16_bytes order o.code ++ u16_bytes order (length o.value)) ++ (o.value ++ o.filler)
+
+abbrev pub options_bytes : ByteOrder → List InterfaceOption → List ℕ
+options_bytes order [] = []
+options_bytes order (o ∷ options) = option_bytes order o ++ options_bytes order options
+
+-- code 0 is the end of the options
+pub record FitsOption (o : InterfaceOption) : Type 0 where
+  pub code : o.code < 2 ^ 16
+  pub no_end : o.code ≢ 0
+  pub size : length o.value < 2 ^ 16
+  pub filled : length o.value + length o.filler ≡ padded (length o.value)
+  pub resolution : o.code ≡ 9 → length o.value ≡ 1
+
+abbrev pub AllFitOptions : List InterfaceOption → Type 0
+AllFitOptions [] = Unit {0}
+AllFitOptions (o ∷ options) = FitsOption o × AllFitOptions options
+
+-- what an option says of its interface
+abbrev pub with_option : Interface → InterfaceOption → Interface
+with_option i o = if o.code == 9 then record i { resolution = slice_index o.value 0 } else (if o.code == 14 then record i { has_offset = true } else i)
+
+abbrev pub with_options : Interface → List InterfaceOption → Interface
+with_options i [] = i
+with_options i (o ∷ options) = with_options (with_option i o) options
+
+-- what ends the options: nothing, or code 0 and what is not looked at
+abbrev pub end_bytes : ByteOrder → Option (List ℕ) → List ℕ
+end_bytes order None = []
+end_bytes order (Some more) = u16_bytes order 0 ++ more
+
+abbrev pub FitsEnd : Option (List ℕ) → Type 0
+FitsEnd None = Unit {0}
+FitsEnd (Some more) = 2 ≤ length more
+
+-- ---- blocks
+
+pub data FileBlock : Type 0 where
+  -- an interface of this link type and snap length
+  InterfaceBlock : ℕ → ℕ → ℕ → List InterfaceOption → Option (List ℕ) → FileBlock
+  -- a packet of an interface, captured whole at a time of two numbers; its padding and its options
+  PacketBlock : ℕ → ℕ → ℕ → List ℕ → List ℕ → FileBlock
+  -- the same in the obsolete packet block, with a count of drops
+  ObsoleteBlock : ℕ → ℕ → ℕ → ℕ → List ℕ → List ℕ → FileBlock
+  -- the same with no time, of the first interface
+  SimpleBlock : List ℕ → List ℕ → FileBlock
+  -- a block of another type
+  OtherBlock : ℕ → List ℕ → FileBlock
+
+abbrev pub block_kind : FileBlock → ℕ
+block_kind (InterfaceBlock link_type reserved snap_length options end) = 1
+block_kind (PacketBlock number high low bytes rest) = 6
+block_kind (ObsoleteBlock number drops high low bytes rest) = 2
+block_kind (SimpleBlock bytes rest) = 3
+block_kind (OtherBlock kind body) = kind
+
+abbrev pub block_body : ByteOrder → FileBlock → List ℕ
+block_body order (InterfaceBlock link_type reserved snap_length options end) = (u16_bytes order link_type ++ (u16_bytes order reserved ++ u32_bytes order snap_length)) ++ (options_bytes order options ++ end_bytes order end)
+block_body order (PacketBlock number high low bytes rest) =
+    (u32_bytes order number ++ (u32_bytes order high ++ (u32_bytes order low ++ (u32_bytes order (length bytes) ++ u32_bytes order (length bytes))))) ++ (bytes ++ rest)
+block_body order (ObsoleteBlock number drops high low bytes rest) =
+    ((u16_bytes order number ++ u16_bytes order drops) ++ (u32_bytes order high ++ (u32_bytes order low ++ (u32_bytes order (length bytes) ++ u32_bytes order (length bytes))))) ++ (bytes ++ rest)
+block_body order (SimpleBlock bytes rest) = u32_bytes order (length bytes) ++ (bytes ++ rest)
+block_body order (OtherBlock kind body) = body
+
+abbrev pub block_bytes : ByteOrder → FileBlock → List ℕ
+block_bytes order block = framed_bytes order (block_kind block) (block_body order block)
+
+abbrev pub blocks_bytes : ByteOrder → List FileBlock → List ℕ
+blocks_bytes order [] = []
+blocks_bytes order (block ∷ blocks) = block_bytes order block ++ blocks_bytes order blocks
+
+-- the interfaces after a block
+abbrev pub interfaces_after : List Interface → FileBlock → List Interface
+interfaces_after interfaces (InterfaceBlock link_type reserved snap_length options end) = interfaces ++ with_options (record { link_type = link_type; snap_length = snap_length; resolution = 6; has_offset = false }) options ∷ []
+interfaces_after interfaces (PacketBlock number high low bytes rest) = interfaces
+interfaces_after interfaces (ObsoleteBlock number drops high low bytes rest) = interfaces
+interfaces_after interfaces (SimpleBlock bytes rest) = interfaces
+interfaces_after interfaces (OtherBlock kind body) = interfaces
+
+-- a packet's interface is there, and does not cut it
+abbrev pub HasInterface : List Interface → ℕ → (Interface → Type 0) → Type 0
+HasInterface interfaces number P = (i : Interface) × (slice_get interfaces number ≡ Some i) × P i
+
+abbrev pub FitsBlock : List Interface → FileBlock → Type 0
+FitsBlock interfaces (InterfaceBlock link_type reserved snap_length options end) = (link_type < 2 ^ 16) × (snap_length < 2 ^ 32) × AllFitOptions options × FitsEnd end × (length interfaces < 64)
+FitsBlock interfaces (PacketBlock number high low bytes rest) = (number < 2 ^ 32) × (length bytes < 2 ^ 32) × (padded (length bytes) ≤ length bytes + length rest) × HasInterface interfaces number (λ i. Unit {0})
+FitsBlock interfaces (ObsoleteBlock number drops high low bytes rest) = (number < 2 ^ 16) × (length bytes < 2 ^ 32) × (padded (length bytes) ≤ length bytes + length rest) × HasInterface interfaces number (λ i. Unit {0})
+FitsBlock interfaces (SimpleBlock bytes rest) = (length bytes < 2 ^ 32) × (padded (length bytes) ≤ length bytes + length rest) × HasInterface interfaces 0 (λ i. (i.snap_length ≡ 0) ⊎ (length bytes ≤ i.snap_length))
+FitsBlock interfaces (OtherBlock kind body) = (kind < 2 ^ 32) × (kind ≢ 1) × (kind ≢ 2) × (kind ≢ 3) × (kind ≢ 6) × (kind ≢ 0x0a0d0d0a)
+
+abbrev pub AllFitBlocks : ByteOrder → List Interface → List FileBlock → Type 0
+AllFitBlocks order interfaces [] = Unit {0}
+AllFitBlocks order interfaces (block ∷ blocks) = FitsBlock interfaces block × FitsBody (block_body order block) × AllFitBlocks order (interfaces_after interfaces block) blocks
+
+-- the bytes of a packet, if its link type is 231, D-Bus
+abbrev pub bytes_by : List ℕ → Option Interface → List ℕ
+bytes_by bytes None = []
+bytes_by bytes (Some i) = if i.link_type == 231 then bytes else []
+
+abbrev pub block_payload : List Interface → FileBlock → List ℕ
+block_payload interfaces (InterfaceBlock link_type reserved snap_length options end) = []
+block_payload interfaces (PacketBlock number high low bytes rest) = bytes_by bytes (slice_get interfaces number)
+block_payload interfaces (ObsoleteBlock number drops high low bytes rest) = bytes_by bytes (slice_get interfaces number)
+block_payload interfaces (SimpleBlock bytes rest) = bytes_by bytes (slice_get interfaces 0)
+block_payload interfaces (OtherBlock kind body) = []
+
+abbrev pub blocks_payload : List Interface → List FileBlock → List ℕ
+blocks_payload interfaces [] = []
+blocks_payload interfaces (block ∷ blocks) = block_payload interfaces block ++ blocks_payload (interfaces_after interfaces block) blocks
+
+-- ---- sections
+
+-- The length of a section and its options are not looked at.
+pub record FileSection : Type 0 where
+  pub order : ByteOrder
+  pub minor : ℕ
+  pub size : List ℕ
+  pub options : List ℕ
+  pub blocks : List FileBlock
+
+abbrev pub section_body : FileSection → List ℕ
+section_body s = (u32_bytes s.order 0x1a2b3c4d ++ (u16_bytes s.order 1 ++ (u16_bytes s.order s.minor ++ s.size))) ++ s.options
+
+abbrev pub section_bytes : FileSection → List ℕ
+section_bytes s = framed_bytes s.order 0x0a0d0d0a (section_body s) ++ blocks_bytes s.order s.blocks
+
+pub record FitsSection (s : FileSection) : Type 0 where
+  pub minor : (s.minor ≡ 0) ⊎ (s.minor ≡ 2)
+  pub size : length s.size ≡ 8
+  pub body : FitsBody (section_body s)
+  pub blocks : AllFitBlocks s.order [] s.blocks
+
+-- a file has one section or more
+abbrev pub sections_bytes : List FileSection → List ℕ
+sections_bytes [] = []
+sections_bytes (s ∷ sections) = section_bytes s ++ sections_bytes sections
+
+abbrev pub sections_payload : List FileSection → List ℕ
+sections_payload [] = []
+sections_payload (s ∷ sections) = blocks_payload [] s.blocks ++ sections_payload sections
+
+abbrev pub AllFitSections : List FileSection → Type 0
+AllFitSections [] = Unit {0}
+AllFitSections (s ∷ sections) = FitsSection s × AllFitSections sections

@@ -1,0 +1,118 @@
+-- What a capture reads of its file, and what it hands on.
+use Rattle.std.specs.Prelude.{◌≡◌, ◌≢◌, ℕ, ◌+◌, ◌<◌, ◌≤◌, ◌^◌, ◌%◌, ◌⊎◌, ◌++◌, Bool, true, false, List, [], take, length, slice_range, Option, Some, None, is_some, Result, Ok, Err}
+use Rattle.std.specs.Io.KnownBytes.{Consumes, IsAtEnd, prepend_known}
+use Rattle.dbus_device.specs.Device.{one_more}
+use Rattle.dbus_device.specs.declared.device_fault.DeviceFault.{DeviceFault}
+use Rattle.dbus_capture.specs.Steps.{IsPart, IsOfOnePacket, run, given, ended}
+use Rattle.dbus_capture.specs.declared.scan.Scan.{Scan}
+use Rattle.dbus_capture.specs.declared.capture.Capture.{Capture}
+
+-- the source below
+abbrev pub source_of : {R : Type 0} → Capture R → R
+source_of s = s.source
+
+abbrev pub scan_of : {R : Type 0} → Capture R → Scan
+scan_of s = s.scan
+
+-- the bytes of the file that were read and not taken yet
+abbrev pub kept_of : {R : Type 0} → Capture R → List ℕ
+kept_of s = slice_range s.bytes s.start s.end
+
+-- how often a read gave up
+abbrev pub gave_up_of : {R : Type 0} → Capture R → ℕ
+gave_up_of s = s.gave_up
+
+-- how often it was called
+abbrev pub calls_of : {R : Type 0} → Capture R → ℕ
+calls_of s = s.calls
+
+-- how often a call failed: the source below failed in it, or it gave up
+abbrev pub failures_of : {R : Type 0} → (R → ℕ) → Capture R → ℕ
+failures_of failures s = (failures (source_of s) + gave_up_of s) % 2 ^ 64
+
+-- the bytes of the file that were not taken yet, if they are known
+abbrev pub file_of : {R : Type 0} → (R → Option (List ℕ)) → Capture R → Option (List ℕ)
+file_of left s = prepend_known (kept_of s) (left (source_of s))
+
+-- what is handed on of bytes, if they are known
+abbrev pub given_of : Scan → Option (List ℕ) → Option (List ℕ)
+given_of s None = None
+given_of s (Some bytes) = Some (given s bytes)
+
+-- the bytes of the packets that were not handed on yet, if they are known
+abbrev pub left_of : {R : Type 0} → (R → Option (List ℕ)) → Capture R → Option (List ℕ)
+left_of left s = given_of (scan_of s) (file_of left s)
+
+-- bytes of the file are kept, or the input is at its end
+abbrev pub HasBytes : {R : Type 0} → (R → Option (List ℕ)) → Capture R → Result Bool DeviceFault → Type 0
+HasBytes left new (Ok true) = kept_of new ≢ []
+HasBytes left new (Ok false) = (kept_of new ≡ []) × IsAtEnd (left (source_of new))
+HasBytes left new (Err e) = kept_of new ≡ []
+
+-- bytes that were kept were taken, and these n of them are a packet's
+pub record HandsOn {R : Type 0} (old new : Capture R) (n : ℕ) (out : List ℕ) : Type 0 where
+  pub used : List ℕ
+  pub front : kept_of old ≡ used ++ kept_of new
+  pub ran : scan_of new ≡ run (scan_of old) used
+  pub gave : given (scan_of old) used ≡ out
+  pub one : 0 < n → (length used ≡ n) × IsPart (scan_of old) (scan_of new) n
+
+-- bytes of the file were taken, and those of packets among them are these
+pub record Reads {R : Type 0} (left : R → Option (List ℕ)) (old new : Capture R) (out : List ℕ) : Type 0 where
+  pub used : List ℕ
+  pub consumed : Consumes (file_of left old) (file_of left new) used
+  pub gave : given (scan_of old) used ≡ out
+  pub ran : scan_of new ≡ run (scan_of old) used
+
+-- the same, and these n bytes are all of one packet
+pub record GivesPart {R : Type 0} (left : R → Option (List ℕ)) (old new : Capture R) (n : ℕ) (out : List ℕ) : Type 0 where
+  pub reads : Reads left old new out
+  pub one : 0 < n → IsOfOnePacket (scan_of old) (scan_of new) reads.used n
+
+-- the rest of the file was taken, no byte of which is a packet's
+pub record Ends {R : Type 0} (left : R → Option (List ℕ)) (old new : Capture R) : Type 0 where
+  pub used : List ℕ
+  pub consumed : Consumes (file_of left old) (file_of left new) used
+  pub gave : given (scan_of old) used ≡ []
+  pub ran : scan_of new ≡ ended (run (scan_of old) used)
+  pub nothing : kept_of new ≡ []
+  pub at_end : IsAtEnd (left (source_of new))
+
+-- neither did the source below fail, nor did a read give up
+pub record IsUnfailed {R : Type 0} (failures : R → ℕ) (old new : Capture R) : Type 0 where
+  pub source : failures (source_of new) ≡ failures (source_of old)
+  pub gave_up : gave_up_of new ≡ gave_up_of old
+
+-- the source below failed, and no byte of a packet was taken
+pub record SourceFails {R : Type 0} (left : R → Option (List ℕ)) (failures : R → ℕ) (old new : Capture R) : Type 0 where
+  pub reads : Reads left old new []
+  pub source : failures (source_of new) ≡ one_more (failures (source_of old))
+  pub gave_up : gave_up_of new ≡ gave_up_of old
+
+-- 2^64 - 1 bytes of the file were taken, or more, none of which is a packet's
+pub record GivesUp {R : Type 0} (left : R → Option (List ℕ)) (failures : R → ℕ) (old new : Capture R) : Type 0 where
+  pub reads : Reads left old new []
+  pub many : 2 ^ 64 ≤ length reads.used + 1
+  pub source : failures (source_of new) ≡ failures (source_of old)
+  pub gave_up : gave_up_of new ≡ one_more (gave_up_of old)
+
+-- What a read does. It gives no byte only at the end of the input, or if the file has a fault, or
+-- if there is no room.
+abbrev pub ReadsPart : {R : Type 0} → (R → Option (List ℕ)) → (R → ℕ) → Capture R → Capture R → Result ℕ DeviceFault → List ℕ → Type 0
+ReadsPart left failures old new (Ok n) buffer = IsUnfailed failures old new
+    × ((GivesPart left old new n (take n buffer) × (n ≡ 0 → 0 < length buffer → is_some (scan_of new).fault ≡ true))
+    ⊎ ((n ≡ 0) × Ends left old new))
+ReadsPart left failures old new (Err e) buffer = SourceFails left failures old new ⊎ GivesUp left failures old new
+
+-- the source below is not called if bytes that are kept hold some of a packet
+abbrev pub Waits : {R : Type 0} → Capture R → Capture R → Type 0
+Waits old new = given (scan_of old) (kept_of old) ≢ [] → source_of new ≡ source_of old
+
+-- after a fault nothing is read and nothing changes
+pub record IsStill {R : Type 0} (old new : Capture R) (result : Result ℕ DeviceFault) : Type 0 where
+  pub gives : result ≡ Ok 0
+  pub source : source_of new ≡ source_of old
+  pub scan : scan_of new ≡ scan_of old
+
+abbrev pub Stops : {R : Type 0} → Capture R → Capture R → Result ℕ DeviceFault → Type 0
+Stops old new result = is_some (scan_of old).fault ≡ true → IsStill old new result

@@ -1,0 +1,13 @@
+pub mod Numbers
+pub mod Stages
+pub mod Scans
+pub mod Heads
+pub mod Blocks
+pub mod Steps
+pub mod Captures
+pub mod CaptureTexts
+pub mod PcapFiles
+pub mod PcapFaults
+pub mod BlockFiles
+pub mod Packets
+pub mod Reading

@@ -1,0 +1,107 @@
+-- How a file is read, byte by byte. The code takes many bytes at once, and gives what this gives.
+use Rattle.std.specs.Prelude.{◌≡◌, ◌≤◌, ◌⊎◌, ℕ, zero, suc, ◌+◌, ◌-◌, ◌^◌, nat_eq, Bool, true, false, if◌then◌else◌, List, [], ◌∷◌, ◌++◌, length, Option, Some, None}
+use Rattle.dbus_capture.specs.declared.stage.Stage.{Stage}
+use Rattle.dbus_capture.specs.declared.stage.Stage.TheVariants.{Start, Record, Block}
+use Rattle.dbus_capture.specs.declared.fault.CaptureFault.{CaptureFault}
+use Rattle.dbus_capture.specs.declared.fault.CaptureReason.TheVariants.{Truncated}
+use Rattle.dbus_capture.specs.declared.scan.Scan.{Scan}
+use Rattle.dbus_capture.specs.Stages.{begun, want, is_raw, first_stage}
+use Rattle.dbus_capture.specs.Scans.{place}
+use Rattle.dbus_capture.specs.Blocks.{decoded}
+
+-- what is done with the next byte
+pub data Turn : Type 0 where
+  -- nothing, after a fault
+  Stays : Turn
+  -- it is handed on, of a stream with no file around it
+  Passes : Turn
+  -- it is handed on, of a packet
+  Gives : Turn
+  -- it is passed over
+  Skips : Turn
+  -- it is a head's
+  Gathers : Turn
+
+abbrev pub counted_turn : ℕ → ℕ → Turn
+counted_turn zero zero = Gathers
+counted_turn zero (suc n) = Skips
+counted_turn (suc n) skip = Gives
+
+abbrev pub turn_by : Option CaptureFault → Bool → ℕ → ℕ → Turn
+turn_by (Some f) raw give skip = Stays
+turn_by None true give skip = Passes
+turn_by None false give skip = counted_turn give skip
+
+abbrev pub turn_of : Scan → Turn
+turn_of s = turn_by s.fault (is_raw s.head.stage) s.give s.skip
+
+-- these bytes of a head are there
+abbrev pub gathered : Scan → List ℕ → Scan
+gathered s bytes = if nat_eq (length bytes) (want s.head.stage) then decoded (record s { head = begun s.head.stage }) bytes
+    else record s { head = record { stage = s.head.stage; bytes = bytes } }
+
+abbrev pub stepped : Scan → ℕ → Turn → Scan
+stepped s b Stays = s
+stepped s b Passes = s
+stepped s b Gives = record s { give = s.give - 1 }
+stepped s b Skips = record s { skip = s.skip - 1 }
+stepped s b Gathers = gathered s (s.head.bytes ++ b ∷ [])
+
+-- what is handed on of a byte, and then the rest
+abbrev pub with_byte : Turn → ℕ → List ℕ → List ℕ
+with_byte Stays b rest = rest
+with_byte Passes b rest = b ∷ rest
+with_byte Gives b rest = b ∷ rest
+with_byte Skips b rest = rest
+with_byte Gathers b rest = rest
+
+-- the first byte says what comes
+abbrev pub opened_by : Option CaptureFault → Stage → Scan → ℕ → Scan
+opened_by None Start s b = record s { head = begun (first_stage b) }
+opened_by f stage s b = s
+
+abbrev pub opened : Scan → ℕ → Scan
+opened s b = opened_by s.fault s.head.stage s b
+
+unfoldable pub step : Scan → ℕ → Scan
+step s b = stepped (opened s b) b (turn_of (opened s b))
+
+-- after these bytes
+unfoldable pub run : Scan → List ℕ → Scan
+run s [] = s
+run s (b ∷ bytes) = run (step s b) bytes
+
+-- what is handed on of these bytes
+unfoldable pub given : Scan → List ℕ → List ℕ
+given s [] = []
+given s (b ∷ bytes) = with_byte (turn_of (opened s b)) b (given (step s b) bytes)
+
+-- so many bytes were handed on, all of the packet that was under way; or no file is around them
+abbrev pub IsPart : Scan → Scan → ℕ → Type 0
+IsPart old new n = ((n ≤ old.give) × (new.give ≡ old.give - n) × (new.packet ≡ old.packet)) ⊎ (is_raw new.head.stage ≡ true)
+
+-- Nothing was handed on but the last n bytes, and these are all of one packet: the one that began
+-- last.
+pub record IsOfOnePacket (old new : Scan) (used : List ℕ) (n : ℕ) : Type 0 where
+  pub before : List ℕ
+  pub last : List ℕ
+  pub joined : used ≡ before ++ last
+  pub size : length last ≡ n
+  pub nothing : given old before ≡ []
+  pub part : IsPart (run old before) new n
+
+-- whether the file may end here
+abbrev pub may_end : Turn → Stage → List ℕ → Bool
+may_end Stays stage held = true
+may_end Passes stage held = true
+may_end Gives stage held = false
+may_end Skips stage held = false
+may_end Gathers Start held = true
+may_end Gathers Record [] = true
+may_end Gathers Block [] = true
+may_end Gathers stage held = false
+
+-- the input ends here
+abbrev pub ended : Scan → Scan
+ended s = if may_end (turn_of s) s.head.stage s.head.bytes then s
+    else record s { fault = Some (record { at = place (s.next + length s.head.bytes + 2 ^ 64 - place (s.give + s.skip)); reason = Truncated }) }

@@ -1,0 +1,54 @@
+//! The numbers of a capture, in its byte order.
+ghost use Rattle.std.specs.Prelude.{◌≡◌, ◌≤◌, ◌+◌, length};
+ghost use Rattle.dbus_capture.specs.Numbers.{u32_of, u16_of, u32_at, u16_at};
+
+/// The byte order of the numbers of a file or a section: that of the machine that wrote it.
+#[derive(Clone, Copy, Debug, PartialEq, Eq)]
+pub enum ByteOrder {
+    /// The lowest byte comes first.
+    Little,
+    /// The highest byte comes first.
+    Big,
+}
+
+impl ByteOrder {
+    // The number of the four bytes at a place of a head.
+    pub(crate) fn u32_at(self, place: usize, head: &[u8]) -> u32
+        requires { place + 4 ≤ length head.now }
+        ensures { result ≡ u32_at self place head.now }
+    {
+        self.u32_of(&head[place..place + 4])
+    }
+
+    // The number of the two bytes at a place of a head.
+    pub(crate) fn u16_at(self, place: usize, head: &[u8]) -> u16
+        requires { place + 2 ≤ length head.now }
+        ensures { result ≡ u16_at self place head.now }
+    {
+        self.u16_of(&head[place..place + 2])
+    }
+
+    // The number of four bytes.
+    fn u32_of(self, bytes: &[u8]) -> u32
+        requires { length bytes.now ≡ 4 }
+        ensures { result ≡ u32_of self bytes.now }
+    {
+        let four = [bytes[0], bytes[1], bytes[2], bytes[3]];
+        match self {
+            ByteOrder::Little => u32::from_le_bytes(four),
+            ByteOrder::Big => u32::from_be_bytes(four),
+        }
+    }
+
+    // The number of two bytes.
+    fn u16_of(self, bytes: &[u8]) -> u16
+        requires { length bytes.now ≡ 2 }
+        ensures { result ≡ u16_of self bytes.now }
+    {
+        let two = [bytes[0], bytes[1]];
+        match self {
+            ByteOrder::Little => u16::from_le_bytes(two),
+            ByteOrder::Big => u16::from_be_bytes(two),
+        }
+    }
+}

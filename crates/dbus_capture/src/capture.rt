@@ -1,0 +1,207 @@
+//! A capture as a source of messages' bytes.
+ghost use Rattle.std.specs.Prelude.{◌≡◌, ◌≢◌, ◌≤◌, [], None, length};
+ghost use Rattle.dbus_device.specs.Device.{ReadCounts};
+
+use crate::fault::CaptureFault;
+use crate::packet::Packet;
+use crate::scan::Scan;
+use crate::stage::Stage;
+use dbus_device::{DeviceFault, Source};
+
+// How many bytes of the file one call of the source below reads at most.
+const ROOM: usize = 65_536;
+
+/// A source of the bytes of the D-Bus packets of a file, pcap or pcapng, which it reads from the
+/// source below. If the first byte is that of no such file, all bytes are handed on as they are: a
+/// message begins with `l` or `B`, and a handshake with the byte 0 or one of the letters ABCDENOR.
+///
+/// It allocates nothing, and keeps 65,536 bytes and about 1,000 more.
+///
+/// ```rust
+/// use dbus_capture::Capture;
+/// use dbus_stream::{FromRead, MessageReader};
+///
+/// let mut reader = MessageReader::new(alloc, Capture::new(FromRead::new(rt.stdin()), false));
+/// for _ in 0..u64::MAX {
+///     let Some((_, message)) = reader.next()? else {
+///         break;
+///     };
+///     println!(rt; "serial {}", message.parts().serial)?;
+/// }
+/// if let Some(fault) = reader.into_source().fault() {
+///     println!(rt; "refused: {fault}")?;
+/// }
+/// ```
+#[derive(Drop)]
+pub struct Capture<R> {
+    source: R,
+    scan: Scan,
+    // The bytes of the file that were read and not taken yet.
+    bytes: [u8; ROOM],
+    start: usize,
+    end: usize,
+    // How often a read found no byte of a packet in 2^64 - 1 turns or more, modulo 2^64.
+    gave_up: u64,
+    calls: u64,
+    ghost in_order: { start ≤ end },
+    ghost in_room: { end ≤ 65536 },
+}
+
+impl<R: Source> Capture<R> {
+    ghost use Rattle.std.specs.Prelude.{◌<◌, IfOk, is_some, take};
+    ghost use Rattle.std.specs.Io.KnownBytes.{Consumes};
+    ghost use Rattle.dbus_capture.specs.Scans.{fresh};
+    ghost use Rattle.dbus_capture.specs.Captures.{source_of, scan_of, kept_of, gave_up_of, calls_of, file_of, HasBytes, HandsOn, ReadsPart, Waits, Stops};
+
+    /// The capture that this source gives. It has read nothing yet.
+    ///
+    /// A packet of D-Bus of which not all bytes were captured is a fault, or is passed over if
+    /// `passes_cut`. Packets of other link types in a pcapng file are passed over.
+    pub fn new(source: R, passes_cut: bool) -> Self
+        ensures source { source_of result ≡ source }
+        ensures kept { kept_of result ≡ [] }
+        ensures scan { scan_of result ≡ fresh passes_cut Stage.Start }
+        ensures gave_up { gave_up_of result ≡ 0 }
+        ensures calls { calls_of result ≡ 0 }
+    {
+        Capture {
+            source,
+            scan: Scan::new(passes_cut, Stage::Start),
+            bytes: [0; ROOM],
+            start: 0,
+            end: 0,
+            gave_up: 0,
+            calls: 0,
+        }
+    }
+
+    /// The packet that began last, if one did: the one whose bytes were read last.
+    pub fn packet(&self) -> Option<Packet>
+        ensures { result ≡ (scan_of self.now).packet }
+    {
+        self.scan.packet
+    }
+
+    /// The fault of the file, if it was met. Nothing is read after it.
+    pub fn fault(&self) -> Option<CaptureFault>
+        ensures { result ≡ (scan_of self.now).fault }
+    {
+        self.scan.fault
+    }
+
+    /// How many packets were passed over, modulo 2^64: those of other link types, and those that
+    /// were cut.
+    pub fn passed_over(&self) -> u64
+        ensures { result ≡ (scan_of self.now).passed_over }
+    {
+        self.scan.passed_over
+    }
+
+    // Whether a fault was met.
+    fn is_stopped(&self) -> bool
+        ensures { result ≡ is_some (scan_of self.now).fault }
+    {
+        self.fault().is_some()
+    }
+
+    // Reads once if no bytes are kept. It is false at the end of the input.
+    fn fill(&mut self) -> Result<bool, DeviceFault>
+        ensures has { HasBytes R.left self.new result }
+        ensures keeps { kept_of self.old ≢ [] → self.new ≡ self.old }
+        ensures file { Consumes (file_of R.left self.old) (file_of R.left self.new) [] }
+        ensures scan { scan_of self.new ≡ scan_of self.old }
+        ensures failed { ReadCounts (R.failures (source_of self.old))
+            (R.failures (source_of self.new)) result }
+        ensures gave_up { gave_up_of self.new ≡ gave_up_of self.old }
+        ensures called { calls_of self.new ≡ calls_of self.old }
+    {
+        if self.start < self.end {
+            return Ok(true);
+        }
+        self.start = 0;
+        self.end = 0;
+        let count = self.source.read(&mut self.bytes)?;
+        self.end = count;
+        Ok(count > 0)
+    }
+
+    // Takes bytes that are kept, and hands on those of a packet.
+    fn hand_on(&mut self, buffer: &mut [u8]) -> usize
+        ensures bound { result ≤ length buffer.new }
+        ensures moved { HandsOn self.old self.new result (take result buffer.new) }
+        ensures some { 0 < length (kept_of self.old) → 0 < length buffer.old →
+            length (kept_of self.new) < length (kept_of self.old) }
+        ensures source { source_of self.new ≡ source_of self.old }
+        ensures gave_up { gave_up_of self.new ≡ gave_up_of self.old }
+        ensures called { calls_of self.new ≡ calls_of self.old }
+    {
+        let bytes: &[u8] = &self.bytes;
+        let piece = &bytes[self.start..self.end];
+        let (used, given) = self.scan.take(piece, buffer);
+        self.start += used;
+        given
+    }
+
+    // Reads bytes of a packet, in as many turns as that takes.
+    fn read_part(&mut self, buffer: &mut [u8]) -> Result<usize, DeviceFault>
+        ensures bound { IfOk result (λ n. n ≤ length buffer.new) }
+        ensures part { ReadsPart R.left R.failures self.old self.new result buffer.new }
+        ensures waits { Waits self.old self.new }
+        ensures stops { Stops self.old self.new result }
+        ensures called { calls_of self.new ≡ calls_of self.old }
+    {
+        if self.is_stopped() {
+            return Ok(0);
+        }
+        'turns: for turn in 0..u64::MAX {
+            if !self.fill()? {
+                self.scan.end();
+                return Ok(0);
+            }
+            let count = self.hand_on(buffer);
+            if count > 0 || buffer.is_empty() || self.is_stopped() {
+                return Ok(count);
+            }
+        }
+        self.gave_up = self.gave_up.wrapping_add(1);
+        Err(DeviceFault)
+    }
+}
+
+impl<R: Source> Source for Capture<R> {
+    ghost use Rattle.std.specs.Prelude.{IfOk};
+    ghost use Rattle.std.specs.Io.KnownBytes.{ReadConsumes};
+    ghost use Rattle.dbus_device.specs.Device.{one_more};
+    ghost use Rattle.dbus_capture.specs.Captures.{left_of, failures_of, calls_of, ReadsPart, Waits, Stops};
+
+    ghost left = { λ s. left_of R.left s };
+
+    ghost failures = { λ s. failures_of R.failures s };
+
+    ghost calls = { λ s. calls_of s };
+
+    ghost reference = { λ s. None };
+
+    /// Fills a prefix of the buffer with bytes of one packet, and returns their number.
+    ///
+    /// 0 bytes are the end of the input, a fault of the file, or the buffer has no room. The source
+    /// below is not called while bytes that it gave hold one of a packet, nor after a fault.
+    ///
+    /// `DeviceFault`: the source below failed. No byte is lost, and the call may be made again. It
+    /// also comes if at least 2^64 - 1 bytes of the file in a row have none of a packet.
+    fn read(&mut self, buffer: &mut [u8]) -> Result<usize, DeviceFault>
+        ensures bound { IfOk result (λ n. n ≤ length buffer.new) }
+        ensures bytes { ReadConsumes (left_of R.left self.old) (left_of R.left self.new)
+            result buffer.new }
+        ensures failed { ReadCounts (failures_of R.failures self.old)
+            (failures_of R.failures self.new) result }
+        ensures called { calls_of self.new ≡ one_more (calls_of self.old) }
+        // What the file has to do with it, and which packet the bytes are of.
+        ensures part { ReadsPart R.left R.failures self.old self.new result buffer.new }
+        ensures waits { Waits self.old self.new }
+        ensures stops { Stops self.old self.new result }
+    {
+        self.calls = self.calls.wrapping_add(1);
+        self.read_part(buffer)
+    }
+}

@@ -1,0 +1,75 @@
+//! What the contracts come to, for whole files. Each function does nothing when it runs: its
+//! contract is the law. `given` are the bytes that are handed on of an input, and `run` is what is
+//! kept after it; both are as [`Source::read`] of a capture gives them in any pieces, by its clause
+//! `part`.
+//!
+//! [`Source::read`]: dbus_device::Source::read
+ghost use Rattle.std.specs.Prelude.{◌≡◌, ℕ, ◌++◌, List, ◌∷◌, ◌<◌, ◌^◌, Bool, false, Some, slice_get};
+ghost use Rattle.dbus_capture.specs.Stages.{first_stage, IsFirstOfStream};
+ghost use Rattle.dbus_capture.specs.Scans.{fresh};
+ghost use Rattle.dbus_capture.specs.Steps.{run, given, ended};
+ghost use Rattle.dbus_capture.specs.Reading.{IsRead, InSection};
+ghost use Rattle.dbus_capture.specs.PcapFiles.{PcapHeader, PcapPacket, FitsHeader, FitsPacket, AllFitPackets, packet_header_bytes, pcap_bytes, payload};
+ghost use Rattle.dbus_capture.specs.BlockFiles.{PacketBlock, FitsBlock, FitsBody, block_body, FileSection, FitsSection, AllFitSections, sections_bytes, sections_payload};
+ghost use Rattle.dbus_capture.specs.PcapFaults.{AreBytes, IsPcapOutcome};
+ghost use Rattle.dbus_capture.specs.Packets.{Reports, pcap_packet_reported, block_front, block_packet_reported};
+ghost use Rattle.dbus_capture.specs.declared.scan.Scan.{Scan};
+ghost use Rattle.dbus_capture.specs.declared.byte_order.ByteOrder.{ByteOrder};
+ghost use Rattle.dbus_capture.specs.declared.interface.Interface.{Interface};
+ghost use Rattle.dbus_capture.specs.declared.stage.Stage.TheVariants as stages;
+
+/// A pcap file of link type 231, all of whose packets were captured whole, is read whole: the bytes
+/// of its packets are handed on, and it has no fault.
+pub fn pcap_is_read()
+    ensures { (passes_cut : Bool) (header : PcapHeader) (packets : List PcapPacket) →
+        FitsHeader header → AllFitPackets packets →
+        IsRead passes_cut (pcap_bytes header packets) (payload packets) }
+{}
+
+/// Bytes that begin as a pcap file are such a file, whose packets' bytes are handed on; or they
+/// have one fault, at one place and for one reason, and the bytes of the packets before it are
+/// handed on, with those of the packet that it ends within, if it does.
+pub fn pcap_outcome()
+    ensures { (x : ℕ) (xs : List ℕ) → AreBytes (x ∷ xs) → first_stage x ≡ stages.FileHeader →
+        IsPcapOutcome (x ∷ xs) (given (fresh false stages.Start) (x ∷ xs))
+        (ended (run (fresh false stages.Start) (x ∷ xs))).fault }
+{}
+
+/// A pcapng file of one section or more, all of whose packets were captured whole, is read whole:
+/// the bytes of its packets of link type 231 are handed on, and it has no fault.
+pub fn pcapng_is_read()
+    ensures { (passes_cut : Bool) (x : FileSection) (sections : List FileSection) →
+        FitsSection x → AllFitSections sections →
+        IsRead passes_cut (sections_bytes (x ∷ sections)) (sections_payload (x ∷ sections)) }
+{}
+
+/// While the bytes of a packet of a pcap file are handed on, its number, place, time and length are
+/// reported.
+pub fn pcap_packet_is_reported()
+    ensures { (passes_cut : Bool) (header : PcapHeader) (packets : List PcapPacket)
+        (packet : PcapPacket) (front back : List ℕ) →
+        FitsHeader header → AllFitPackets packets → FitsPacket packet →
+        packet.bytes ≡ front ++ back →
+        Reports (run (fresh passes_cut stages.Start) (pcap_bytes header packets ++
+        (packet_header_bytes header.order packet ++ front)))
+        (pcap_packet_reported header packets packet) }
+{}
+
+/// The same of a packet in an enhanced packet block of a pcapng file, from where its block begins:
+/// its number and its place count on from there.
+pub fn pcapng_packet_is_reported()
+    ensures { (s : Scan) (order : ByteOrder) (interfaces : List Interface) (i : Interface)
+        (number high low : ℕ) (bytes rest front back : List ℕ) →
+        InSection s order interfaces →
+        FitsBlock interfaces (PacketBlock number high low bytes rest) →
+        FitsBody (block_body order (PacketBlock number high low bytes rest)) →
+        high < 2 ^ 32 → low < 2 ^ 32 → slice_get interfaces number ≡ Some i →
+        i.link_type ≡ 231 → bytes ≡ front ++ back →
+        Reports (run s (block_front order (PacketBlock number high low bytes rest) ++ front))
+        (block_packet_reported s i high low bytes) }
+{}
+
+/// What begins as a message or a handshake is handed on as it is.
+pub fn streams_are_no_files()
+    ensures { (first : ℕ) → IsFirstOfStream first → first_stage first ≡ stages.Raw }
+{}

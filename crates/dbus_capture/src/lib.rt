@@ -1,0 +1,34 @@
+//! Captures of D-Bus messages in files, pcap and pcapng, read from a source.
+//!
+//! A [`Capture`] reads such a file from a source, and is itself a source: of the bytes of the
+//! file's D-Bus packets, one after another, as `dbus_stream` reads them. Messages with no file
+//! around them, and a handshake, pass through it unchanged: the first byte alone says which it is.
+//! No read gives bytes of two packets, so [`Capture::packet`] says where and when what was read
+//! last was captured. A file that cannot be read has one fault ([`Capture::fault`]), at one place
+//! and for one reason, and what is read ends there.
+//!
+//! The formats are those of two IETF drafts, "PCAP Capture File Format" and "PCAP Now Generic
+//! (pcapng) Capture File Format", whose sections comments name by their titles. The packets of
+//! D-Bus have link type 231, LINKTYPE_DBUS: each is one message, from its byte-order flag on. A
+//! packet is not compared with the message that it should be. All places are in bytes from the
+//! start of the file.
+//!
+//! [`laws`] says of whole files what is read of them. An example is at [`Capture`].
+#![tactic(auto)]
+
+mod blocks;
+mod byte_order;
+mod capture;
+mod fault;
+mod fault_text;
+mod head;
+mod interface;
+pub mod laws;
+mod packet;
+mod pcap;
+mod scan;
+mod stage;
+
+pub use capture::Capture;
+pub use fault::{CaptureFault, CaptureReason};
+pub use packet::Packet;

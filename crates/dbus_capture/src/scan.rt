@@ -1,0 +1,268 @@
+//! A file, as its bytes come in pieces.
+ghost use Rattle.std.specs.Prelude.{◌≡◌, ◌≤◌, ◌<◌, length, take};
+
+use crate::byte_order::ByteOrder;
+use crate::fault::{CaptureFault, CaptureReason};
+use crate::head::Head;
+use crate::interface::{Interface, Interfaces};
+use crate::packet::Packet;
+use crate::stage::{Stage, first_stage};
+use std::mem;
+
+/// What is kept between the bytes of a file that were taken and those that come.
+#[derive(Drop)]
+pub struct Scan {
+    // The head that comes after the bytes that are counted below, with those of it that are there.
+    pub(crate) head: Head,
+    // How many bytes of the packet come next, and how many then that are passed over.
+    pub(crate) give: usize,
+    pub(crate) skip: usize,
+    // The place of that head.
+    pub(crate) next: u64,
+    pub(crate) order: ByteOrder,
+    pub(crate) nanoseconds: bool,
+    // The length of the block, and how many bytes of its options are left.
+    pub(crate) total: u32,
+    pub(crate) rest: u32,
+    // The interface that the block describes, and those of the section that came before.
+    pub(crate) interface: Interface,
+    pub(crate) interfaces: Interfaces,
+    // Whether packets of which not all bytes were captured are passed over.
+    pub(crate) passes_cut: bool,
+    // How many packets began, and how many were passed over.
+    pub(crate) packets: u64,
+    pub(crate) passed_over: u64,
+    // The packet that began last.
+    pub(crate) packet: Option<Packet>,
+    pub(crate) fault: Option<CaptureFault>,
+}
+
+impl Scan {
+    ghost use Rattle.std.specs.Prelude.{[], None, true};
+    ghost use Rattle.dbus_capture.specs.Scans.{fresh, refused};
+    ghost use Rattle.dbus_capture.specs.Stages.{is_filed, want};
+    ghost use Rattle.dbus_capture.specs.Steps.{IsPart, run, given, ended, may_end, turn_of};
+    ghost use Rattle.dbus_capture.specs.Blocks.{decoded};
+
+    // A file of which no byte was taken.
+    pub(crate) fn new(passes_cut: bool, stage: Stage) -> Self
+        ensures { result ≡ fresh passes_cut stage }
+    {
+        Scan {
+            head: Head::new(stage),
+            give: 0,
+            skip: 0,
+            next: 0,
+            order: ByteOrder::Little,
+            nanoseconds: false,
+            total: 0,
+            rest: 0,
+            interface: Interface {
+                link_type: 0,
+                snap_length: 0,
+                resolution: 6,
+                has_offset: false,
+            },
+            interfaces: Interfaces::new(),
+            passes_cut,
+            packets: 0,
+            passed_over: 0,
+            packet: None,
+            fault: None,
+        }
+    }
+
+    // Takes bytes of the piece and hands on those of a packet: how many it took, and how many it
+    // handed on.
+    pub(crate) fn take(&mut self, piece: &[u8], out: &mut [u8]) -> (usize, usize)
+        ensures took { result.0 ≤ length piece.now }
+        ensures gave { result.1 ≤ length out.new }
+        ensures runs { self.new ≡ run self.old (take result.0 piece.now) }
+        ensures gives { given self.old (take result.0 piece.now) ≡ take result.1 out.new }
+        ensures moves { 0 < length piece.now → 0 < length out.old → 0 < result.0 }
+        ensures one { 0 < result.1 → (result.0 ≡ result.1) ×
+            IsPart self.old self.new result.1 }
+    {
+        if self.fault.is_some() {
+            return (piece.len(), 0);
+        }
+        match self.head.stage() {
+            Stage::Start => self.take_first(piece, out),
+            Stage::Raw => {
+                let count = copy_front(piece, out);
+                (count, count)
+            }
+            _ => self.take_filed(piece, out),
+        }
+    }
+
+    // The same at the start, where the first byte says what comes.
+    fn take_first(&mut self, piece: &[u8], out: &mut [u8]) -> (usize, usize)
+        requires unfaulted { self.old.fault ≡ None }
+        requires starts { self.old.head.stage ≡ Stage.Start }
+        ensures took { result.0 ≤ length piece.now }
+        ensures gave { result.1 ≤ length out.new }
+        ensures runs { self.new ≡ run self.old (take result.0 piece.now) }
+        ensures gives { given self.old (take result.0 piece.now) ≡ take result.1 out.new }
+        ensures moves { 0 < length piece.now → 0 < length out.old → 0 < result.0 }
+        ensures one { 0 < result.1 → (result.0 ≡ result.1) ×
+            IsPart self.old self.new result.1 }
+    {
+        if piece.is_empty() || out.is_empty() {
+            return (0, 0);
+        }
+        let stage = first_stage(piece[0]);
+        self.head = Head::new(stage);
+        if stage.is_raw() {
+            let count = copy_front(piece, out);
+            return (count, count);
+        }
+        self.take_filed(piece, out)
+    }
+
+    // The same, in a file.
+    fn take_filed(&mut self, piece: &[u8], out: &mut [u8]) -> (usize, usize)
+        requires unfaulted { self.old.fault ≡ None }
+        requires filed { is_filed self.old.head.stage ≡ true }
+        ensures took { result.0 ≤ length piece.now }
+        ensures gave { result.1 ≤ length out.new }
+        ensures runs { self.new ≡ run self.old (take result.0 piece.now) }
+        ensures gives { given self.old (take result.0 piece.now) ≡ take result.1 out.new }
+        ensures moves { 0 < length piece.now → 0 < length out.old → 0 < result.0 }
+        ensures one { 0 < result.1 → (result.0 ≡ result.1) ×
+            IsPart self.old self.new result.1 }
+    {
+        if self.give > 0 {
+            let count = self.give_some(piece, out);
+            return (count, count);
+        }
+        if self.skip > 0 {
+            return (self.skip_some(piece), 0);
+        }
+        (self.gather(piece), 0)
+    }
+
+    // Hands on bytes of the packet under way.
+    fn give_some(&mut self, piece: &[u8], out: &mut [u8]) -> usize
+        requires unfaulted { self.old.fault ≡ None }
+        requires some { 0 < self.old.give }
+        requires filed { is_filed self.old.head.stage ≡ true }
+        ensures took { result ≤ length piece.now }
+        ensures gave { result ≤ length out.new }
+        ensures runs { self.new ≡ run self.old (take result piece.now) }
+        ensures gives { given self.old (take result piece.now) ≡ take result out.new }
+        ensures moves { 0 < length piece.now → 0 < length out.old → 0 < result }
+        ensures part { IsPart self.old self.new result }
+    {
+        let most = self.give.min(piece.len());
+        let count = copy_front(&piece[..most], out);
+        self.give -= count;
+        count
+    }
+
+    // Passes over bytes.
+    fn skip_some(&mut self, piece: &[u8]) -> usize
+        requires unfaulted { self.old.fault ≡ None }
+        requires filed { is_filed self.old.head.stage ≡ true }
+        requires some { 0 < self.old.skip }
+        requires given { self.old.give ≡ 0 }
+        ensures took { result ≤ length piece.now }
+        ensures runs { self.new ≡ run self.old (take result piece.now) }
+        ensures gives { given self.old (take result piece.now) ≡ [] }
+        ensures moves { 0 < length piece.now → 0 < result }
+    {
+        let count = self.skip.min(piece.len());
+        self.skip -= count;
+        count
+    }
+
+    // Gathers bytes of a head, and follows what it says once it is whole.
+    fn gather(&mut self, piece: &[u8]) -> usize
+        requires unfaulted { self.old.fault ≡ None }
+        requires filed { is_filed self.old.head.stage ≡ true }
+        requires given { self.old.give ≡ 0 }
+        requires skipped { self.old.skip ≡ 0 }
+        ensures took { result ≤ length piece.now }
+        ensures runs { self.new ≡ run self.old (take result piece.now) }
+        ensures gives { given self.old (take result piece.now) ≡ [] }
+        ensures moves { 0 < length piece.now → 0 < result }
+    {
+        let missing = self.head.missing();
+        if piece.len() < missing {
+            self.head.push(piece);
+            return piece.len();
+        }
+        let stage = self.head.stage();
+        let (bytes, size) = mem::replace(&mut self.head, Head::new(stage)).with(&piece[..missing]);
+        self.decode(&bytes[..size]);
+        missing
+    }
+
+    // Follows what a whole head says.
+    pub(crate) fn decode(&mut self, head: &[u8])
+        requires { length head.now ≡ want self.old.head.stage }
+        ensures { self.new ≡ decoded self.old head.now }
+    {
+        match self.head.stage() {
+            Stage::Start => {}
+            Stage::Raw => {}
+            Stage::FileHeader => self.file_header(head),
+            Stage::Record => self.record(head),
+            Stage::Section => self.section(head),
+            Stage::Block => self.block(head),
+            Stage::InterfaceHead => self.interface_head(head),
+            Stage::OptionHead => self.option_head(head),
+            Stage::Resolution => self.resolution(head),
+            Stage::InterfaceTrailer => self.interface_trailer(head),
+            Stage::Enhanced => self.enhanced(head),
+            Stage::ObsoletePacket => self.obsolete_packet(head),
+            Stage::Simple => self.simple(head),
+            Stage::Trailer => self.trailer(head),
+        }
+    }
+
+    // Whether the file may end here: between two packets or blocks, or before its first byte.
+    fn may_end(&self) -> bool
+        requires { self.now.fault ≡ None }
+        ensures { result ≡ may_end (turn_of self.now) self.now.head.stage self.now.head.bytes }
+    {
+        match self.head.stage() {
+            Stage::Start => self.give == 0 && self.skip == 0,
+            Stage::Raw => true,
+            Stage::Record | Stage::Block => self.give == 0
+                && self.skip == 0
+                && self.head.len() == 0,
+            _ => false,
+        }
+    }
+
+    // Ends the input, which is a fault within a head, a packet or a block.
+    pub(crate) fn end(&mut self)
+        ensures { self.new ≡ ended self.old }
+    {
+        if self.fault.is_some() || self.may_end() {
+            return;
+        }
+        let left = (self.give as u64).wrapping_add(self.skip as u64);
+        let at = self
+            .next
+            .wrapping_add(self.head.len() as u64)
+            .wrapping_sub(left);
+        self.fault = Some(CaptureFault {
+            at,
+            reason: CaptureReason::Truncated,
+        });
+    }
+}
+
+// Copies the front of the bytes, as far as there is room, and returns how many those are.
+fn copy_front(bytes: &[u8], out: &mut [u8]) -> usize
+    ensures took { result ≤ length bytes.now }
+    ensures gave { result ≤ length out.new }
+    ensures same { take result bytes.now ≡ take result out.new }
+    ensures moves { 0 < length bytes.now → 0 < length out.old → 0 < result }
+{
+    let count = bytes.len().min(out.len());
+    out[..count].copy_from_slice(&bytes[..count]);
+    count
+}
