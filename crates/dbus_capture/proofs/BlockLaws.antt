@@ -12,8 +12,8 @@ use Rattle.dbus_capture.specs.Scans.{place}
 use Rattle.dbus_capture.specs.Blocks.{padded, block_stage, block_by, time_of, give_packet, pass_packet, block_packet, enhanced_by, simple_by, captured_length, decoded_by}
 use Rattle.dbus_capture.specs.Steps.{run, given}
 use Rattle.dbus_capture.specs.Reading.{InSection}
-use Rattle.dbus_capture.specs.Packets.{block_front, block_packet_reported}
-use Rattle.dbus_capture.specs.BlockFiles.{FitsBody, framed_bytes, PacketBlock, ObsoleteBlock, SimpleBlock, OtherBlock, block_bytes, block_body, block_payload, bytes_by, FitsBlock}
+use Rattle.dbus_capture.specs.Packets.{Reports, IsTimed, interface_of, packet_bytes, block_front, block_packet_reported}
+use Rattle.dbus_capture.specs.BlockFiles.{FitsBody, framed_bytes, FileBlock, InterfaceBlock, PacketBlock, ObsoleteBlock, SimpleBlock, OtherBlock, block_bytes, block_body, block_payload, bytes_by, FitsBlock}
 use Rattle.dbus_capture.proofs.NumberLaws.{u32_size, u16_size, u32_after, u16_after, u32_last}
 use Rattle.dbus_capture.proofs.StepLaws.{run-append, given-append, run_gives}
 use Rattle.dbus_capture.proofs.PcapOutcomes.{eq_is, eq_not, cases_same}
@@ -199,50 +199,57 @@ packet_read s order interfaces kind stage i front four high low bytes rest p w f
     begins_block s kind total m (body ++ u32_bytes order total) order interfaces interfaces _ w p.low b.size p.no_section opened
     (respell m _ _ order interfaces _ (append_assoc h (bytes ++ rest) (u32_bytes order total)) (goes_on m _ h ((bytes ++ rest) ++ u32_bytes order total) order interfaces _ to law.1 after))
 
-pub enhanced_read : (s : Scan) (order : ByteOrder) (interfaces : List Interface) (number high low : ℕ) (bytes rest : List ℕ) → InSection s order interfaces → FitsBlock interfaces (PacketBlock number high low bytes rest)
-    → FitsBody (block_body order (PacketBlock number high low bytes rest)) → Went s (block_bytes order (PacketBlock number high low bytes rest)) order interfaces (block_payload interfaces (PacketBlock number high low bytes rest))
-enhanced_read s order interfaces number high low bytes rest i f b =
-    let front = u32_bytes order number in
-    let four = u32_size order number in
-    let n = length bytes in
-    let h = packet_head order front four high low n in
-    let found = f.3 in
-    let is : IsPacketBlock 6 stages.Enhanced order interfaces h found.0 = record {
+enhanced_is : (order : ByteOrder) (interfaces : List Interface) (i : Interface) (number high low n : ℕ) → number < 2 ^ 32 → slice_get interfaces number ≡ Some i
+    → IsPacketBlock 6 stages.Enhanced order interfaces (packet_head order (u32_bytes order number) (u32_size order number) high low n) i
+enhanced_is order interfaces i number high low n fits found =
+    let h = packet_head order (u32_bytes order number) (u32_size order number) high low n in
+    record {
       low = omega arith;
       no_section = λ e. absurd (omega (arith, e));
       staged = refl;
       filed = refl;
       wanted = refl;
-      of = λ m o j. ap (λ (v : ℕ). enhanced_by m h (slice_get m.interfaces v)) (ap (λ (v : ByteOrder). u32_at v 0 h) o ∙ u32_after order [] number _ 0 refl f.0)
-          ∙ ap (λ (v : List Interface). enhanced_by m h (slice_get v number)) j ∙ ap (enhanced_by m h) found.1;
-    } in
-    hands_as s _ order interfaces _ _ (sym (ap (bytes_by bytes) found.1)) (packet_read s order interfaces 6 stages.Enhanced found.0 front four high low bytes rest is i f.1 f.2 b)
+      of = λ m o j. ap (λ (v : ℕ). enhanced_by m h (slice_get m.interfaces v)) (ap (λ (v : ByteOrder). u32_at v 0 h) o ∙ u32_after order [] number _ 0 refl fits)
+          ∙ ap (λ (v : List Interface). enhanced_by m h (slice_get v number)) j ∙ ap (enhanced_by m h) found;
+    }
 
-pub obsolete_read : (s : Scan) (order : ByteOrder) (interfaces : List Interface) (number drops high low : ℕ) (bytes rest : List ℕ) → InSection s order interfaces
-    → FitsBlock interfaces (ObsoleteBlock number drops high low bytes rest) → FitsBody (block_body order (ObsoleteBlock number drops high low bytes rest))
-    → Went s (block_bytes order (ObsoleteBlock number drops high low bytes rest)) order interfaces (block_payload interfaces (ObsoleteBlock number drops high low bytes rest))
-obsolete_read s order interfaces number drops high low bytes rest i f b =
-    let front = u16_bytes order number ++ u16_bytes order drops in
-    let four : length front ≡ 4 =
-        let z = length-append (u16_bytes order number) (u16_bytes order drops) in
-        let x = u16_size order number in
-        let y = u16_size order drops in
-        omega (arith, x, y, z) in
-    let n = length bytes in
-    let more = u32_bytes order high ++ (u32_bytes order low ++ (u32_bytes order n ++ u32_bytes order n)) in
-    let h = packet_head order front four high low n in
+pub enhanced_read : (s : Scan) (order : ByteOrder) (interfaces : List Interface) (number high low : ℕ) (bytes rest : List ℕ) → InSection s order interfaces → FitsBlock interfaces (PacketBlock number high low bytes rest)
+    → FitsBody (block_body order (PacketBlock number high low bytes rest)) → Went s (block_bytes order (PacketBlock number high low bytes rest)) order interfaces (block_payload interfaces (PacketBlock number high low bytes rest))
+enhanced_read s order interfaces number high low bytes rest i f b =
     let found = f.3 in
-    let number_read : u16_at order 0 h ≡ number = ap (u16_at order 0) (append_assoc (u16_bytes order number) (u16_bytes order drops) more) ∙ u16_after order [] number (u16_bytes order drops ++ more) 0 refl f.0 in
-    let is : IsPacketBlock 2 stages.ObsoletePacket order interfaces h found.0 = record {
+    hands_as s _ order interfaces _ _ (sym (ap (bytes_by bytes) found.1)) (packet_read s order interfaces 6 stages.Enhanced found.0 (u32_bytes order number) (u32_size order number) high low bytes rest
+    (enhanced_is order interfaces found.0 number high low (length bytes) f.0 found.1) i f.1 f.2 b)
+
+halves_size : (order : ByteOrder) (number drops : ℕ) → length (u16_bytes order number ++ u16_bytes order drops) ≡ 4
+halves_size order number drops =
+    let z = length-append (u16_bytes order number) (u16_bytes order drops) in
+    let x = u16_size order number in
+    let y = u16_size order drops in
+    omega (arith, x, y, z)
+
+obsolete_is : (order : ByteOrder) (interfaces : List Interface) (i : Interface) (number drops high low n : ℕ) → number < 2 ^ 16 → slice_get interfaces number ≡ Some i
+    → IsPacketBlock 2 stages.ObsoletePacket order interfaces (packet_head order (u16_bytes order number ++ u16_bytes order drops) (halves_size order number drops) high low n) i
+obsolete_is order interfaces i number drops high low n fits found =
+    let more = u32_bytes order high ++ (u32_bytes order low ++ (u32_bytes order n ++ u32_bytes order n)) in
+    let h = packet_head order (u16_bytes order number ++ u16_bytes order drops) (halves_size order number drops) high low n in
+    let number_read : u16_at order 0 h ≡ number = ap (u16_at order 0) (append_assoc (u16_bytes order number) (u16_bytes order drops) more) ∙ u16_after order [] number (u16_bytes order drops ++ more) 0 refl fits in
+    record {
       low = omega arith;
       no_section = λ e. absurd (omega (arith, e));
       staged = refl;
       filed = refl;
       wanted = refl;
       of = λ m o j. ap (λ (v : ℕ). enhanced_by m h (slice_get m.interfaces v)) (ap (λ (v : ByteOrder). u16_at v 0 h) o ∙ number_read)
-          ∙ ap (λ (v : List Interface). enhanced_by m h (slice_get v number)) j ∙ ap (enhanced_by m h) found.1;
-    } in
-    hands_as s _ order interfaces _ _ (sym (ap (bytes_by bytes) found.1)) (packet_read s order interfaces 2 stages.ObsoletePacket found.0 front four high low bytes rest is i f.1 f.2 b)
+          ∙ ap (λ (v : List Interface). enhanced_by m h (slice_get v number)) j ∙ ap (enhanced_by m h) found;
+    }
+
+pub obsolete_read : (s : Scan) (order : ByteOrder) (interfaces : List Interface) (number drops high low : ℕ) (bytes rest : List ℕ) → InSection s order interfaces
+    → FitsBlock interfaces (ObsoleteBlock number drops high low bytes rest) → FitsBody (block_body order (ObsoleteBlock number drops high low bytes rest))
+    → Went s (block_bytes order (ObsoleteBlock number drops high low bytes rest)) order interfaces (block_payload interfaces (ObsoleteBlock number drops high low bytes rest))
+obsolete_read s order interfaces number drops high low bytes rest i f b =
+    let found = f.3 in
+    hands_as s _ order interfaces _ _ (sym (ap (bytes_by bytes) found.1)) (packet_read s order interfaces 2 stages.ObsoletePacket found.0 (u16_bytes order number ++ u16_bytes order drops) (halves_size order number drops)
+    high low bytes rest (obsolete_is order interfaces found.0 number drops high low (length bytes) f.0 found.1) i f.1 f.2 b)
 
 captured_all : (snap_length n : ℕ) → (snap_length ≡ 0) ⊎ (n ≤ snap_length) → captured_length snap_length n ≡ n
 captured_all snap_length n (inl z) = when_true _ _ _ (ap (λ (v : Bool). v || nat_le n snap_length) (eq_is snap_length 0 z))
@@ -283,38 +290,87 @@ simple_read s order interfaces bytes rest i f b =
 back_eight : (a : ℕ) → place (place (a + 8) + 2 ^ 64 - 8) ≡ place a
 back_eight a = omega arith
 
-pub enhanced_reported : (s : Scan) (order : ByteOrder) (interfaces : List Interface) (i : Interface) (number high low : ℕ) (bytes rest front back : List ℕ) → InSection s order interfaces
-    → FitsBlock interfaces (PacketBlock number high low bytes rest) → FitsBody (block_body order (PacketBlock number high low bytes rest)) → high < 2 ^ 32 → low < 2 ^ 32
-    → slice_get interfaces number ≡ Some i → i.link_type ≡ 231 → bytes ≡ front ++ back
-    → (run s (block_front order (PacketBlock number high low bytes rest) ++ front)).packet ≡ Some (block_packet_reported s i high low bytes)
-enhanced_reported s order interfaces i number high low bytes rest front back w f b fh fl found link_type e =
+-- a packet that begins is reported, and still while its bytes come
+gives_reported : (s m : Scan) (h8 h : List ℕ) (size room : ℕ) (time : Option ℕ) (bytes front back : List ℕ) → s.fault ≡ None → m.packets ≡ s.packets → m.next ≡ place (s.next + 8) → m.fault ≡ None
+    → run s h8 ≡ m → run m h ≡ give_packet m size room time (length bytes) → bytes ≡ front ++ back
+    → (run s ((h8 ++ h) ++ front)).packet ≡ Some (record { number = place (s.packets + 1); at = place s.next; time = time; length = length bytes })
+gives_reported s m h8 h size room time bytes front back u same next fine to_m to_packet e =
+    let p = give_packet m size room time (length bytes) in
+    let q = length-append front back in
+    let z = ap length e in
+    let gives = run_gives p front fine refl (omega (arith, q, z)) in
+    ap (λ (v : Scan). v.packet) (ap (run s) (append_assoc h8 h front) ∙ run-append s h8 (h ++ front) ∙ ap (λ (v : Scan). run v (h ++ front)) to_m ∙ run-append m h front ∙ ap (λ (v : Scan). run v front) to_packet ∙ gives.0)
+    ∙ ap (λ (v : ℕ). Some (record { number = place (v + 1); at = place (m.next + 2 ^ 64 - 8); time = time; length = length bytes })) same
+    ∙ ap (λ (v : ℕ). Some (record { number = place (s.packets + 1); at = place (v + 2 ^ 64 - 8); time = time; length = length bytes })) next
+    ∙ ap (λ (v : ℕ). Some (record { number = place (s.packets + 1); at = v; time = time; length = length bytes })) (back_eight s.next)
+
+packet_reported : (s : Scan) (order : ByteOrder) (interfaces : List Interface) (kind : ℕ) (stage : Stage) (i : Interface) (first : List ℕ) (four : length first ≡ 4) (high low : ℕ) (bytes rest front back : List ℕ)
+    → let h = packet_head order first four high low (length bytes) in
+    IsPacketBlock kind stage order interfaces h i → InSection s order interfaces → length bytes < 2 ^ 32 → padded (length bytes) ≤ length bytes + length rest
+    → FitsBody (h ++ (bytes ++ rest)) → high < 2 ^ 32 → low < 2 ^ 32 → i.link_type ≡ 231 → bytes ≡ front ++ back
+    → (run s (((u32_bytes order kind ++ u32_bytes order (12 + length (h ++ (bytes ++ rest)))) ++ h) ++ front)).packet
+    ≡ Some (record { number = place (s.packets + 1); at = place s.next; time = time_of i (high * 2 ^ 32 + low); length = length bytes })
+packet_reported s order interfaces kind stage i first four high low bytes rest front back p w fits low_room b fh fl link_type e =
     let n = length bytes in
-    let four = u32_size order number in
-    let h = packet_head order (u32_bytes order number) four high low n in
+    let h = packet_head order first four high low n in
     let total = 12 + length (h ++ (bytes ++ rest)) in
     let l = length-append h (bytes ++ rest) in
     let k = length-append bytes rest in
-    let size = head_size order (u32_bytes order number) four high low n in
-    let m : Scan = record s { head = begun stages.Enhanced; next = place (s.next + 8); total = total; rest = total - 20 } in
-    let h8 = u32_bytes order 6 ++ u32_bytes order total in
-    let opened = opens_block s 6 total w.ready (omega arith) b.size (λ z. absurd (omega (arith, z))) in
-    let to_m : run s h8 ≡ m = ap (λ (v : ByteOrder). run s (u32_bytes v 6 ++ u32_bytes v total)) (sym w.order_is) ∙ opened.0 ∙ opens_as s total (stages.Enhanced, 32) b.whole (omega (arith, l, size)) in
-    let law = takes_head m stages.Enhanced h (record { unfaulted = w.ready.unfaulted; head = refl; give = w.ready.give; skip = w.ready.skip }) refl (omega (arith, size)) size in
+    let size = head_size order first four high low n in
+    let m : Scan = record s { head = begun stage; next = place (s.next + 8); total = total; rest = total - 20 } in
+    let h8 = u32_bytes order kind ++ u32_bytes order total in
+    let opened = opens_block s kind total w.ready p.low b.size p.no_section in
+    let to_m : run s h8 ≡ m = ap (λ (v : ByteOrder). run s (u32_bytes v kind ++ u32_bytes v total)) (sym w.order_is) ∙ opened.0 ∙ ap (block_by s total) p.staged ∙ opens_as s total (stage, 32) b.whole (omega (arith, l, size)) in
+    let law = takes_head m stage h (record { unfaulted = w.ready.unfaulted; head = refl; give = w.ready.give; skip = w.ready.skip }) p.filed (omega (arith, size)) (size ∙ sym p.wanted) in
     let time = λ (hi : ℕ) (lo : ℕ). time_of i (hi * 2 ^ 32 + lo) in
-    let low_room = f.2 in
     let room : total - 32 ≡ n + length rest = omega (arith, l, k, size) in
     let to_packet : run m h ≡ give_packet m 20 (total - 32) (time high low) n =
-    law.0 ∙ ap (λ (v : ℕ). enhanced_by m h (slice_get s.interfaces v)) (ap (λ (v : ByteOrder). u32_at v 0 h) w.order_is ∙ u32_after order [] number _ 0 refl f.0)
-    ∙ ap (λ (v : List Interface). enhanced_by m h (slice_get v number)) w.interfaces_are ∙ ap (enhanced_by m h) found
+    law.0 ∙ p.of m w.order_is w.interfaces_are
     ∙ ap (λ (v : ByteOrder). block_packet m 20 12 (total - 32) i.link_type (time (u32_at v 4 h) (u32_at v 8 h)) (u32_at v 12 h) (u32_at v 16 h)) w.order_is
-    ∙ ap (λ (v : ℕ). block_packet m 20 12 (total - 32) i.link_type (time v (u32_at order 8 h)) (u32_at order 12 h) (u32_at order 16 h)) (high_read order (u32_bytes order number) four high low n fh)
-    ∙ ap (λ (v : ℕ). block_packet m 20 12 (total - 32) i.link_type (time high v) (u32_at order 12 h) (u32_at order 16 h)) (low_read order (u32_bytes order number) four high low n fl)
-    ∙ ap (λ (v : ℕ). block_packet m 20 12 (total - 32) i.link_type (time high low) v (u32_at order 16 h)) (captured_read order (u32_bytes order number) four high low n f.1)
-    ∙ ap (λ (v : ℕ). block_packet m 20 12 (total - 32) i.link_type (time high low) n v) (original_read order (u32_bytes order number) four high low n f.1)
+    ∙ ap (λ (v : ℕ). block_packet m 20 12 (total - 32) i.link_type (time v (u32_at order 8 h)) (u32_at order 12 h) (u32_at order 16 h)) (high_read order first four high low n fh)
+    ∙ ap (λ (v : ℕ). block_packet m 20 12 (total - 32) i.link_type (time high v) (u32_at order 12 h) (u32_at order 16 h)) (low_read order first four high low n fl)
+    ∙ ap (λ (v : ℕ). block_packet m 20 12 (total - 32) i.link_type (time high low) v (u32_at order 16 h)) (captured_read order first four high low n fits)
+    ∙ ap (λ (v : ℕ). block_packet m 20 12 (total - 32) i.link_type (time high low) n v) (original_read order first four high low n fits)
     ∙ packet_given m 20 12 (total - 32) i.link_type (time high low) n (omega (arith, low_room, room)) link_type in
-    let p = give_packet m 20 (total - 32) (time high low) n in
-    let q = length-append front back in
-    let z = ap length e in
-    let gives = run_gives p front w.ready.unfaulted refl (omega (arith, q, z)) in
-    ap (λ (v : Scan). v.packet) (ap (run s) (append_assoc h8 h front) ∙ run-append s h8 (h ++ front) ∙ ap (λ (v : Scan). run v (h ++ front)) to_m ∙ run-append m h front ∙ ap (λ (v : Scan). run v front) to_packet ∙ gives.0)
-    ∙ ap (λ (v : ℕ). Some (record { number = place (s.packets + 1); at = v; time = time high low; length = n })) (back_eight s.next)
+    gives_reported s m h8 h 20 (total - 32) (time high low) bytes front back w.ready.unfaulted refl refl w.ready.unfaulted to_m to_packet e
+
+simple_reported : (s : Scan) (order : ByteOrder) (interfaces : List Interface) (i : Interface) (bytes rest front back : List ℕ) → InSection s order interfaces → FitsBlock interfaces (SimpleBlock bytes rest)
+    → FitsBody (block_body order (SimpleBlock bytes rest)) → slice_get interfaces 0 ≡ Some i → i.link_type ≡ 231 → bytes ≡ front ++ back
+    → Reports (run s (block_front order (SimpleBlock bytes rest) ++ front)) (block_packet_reported s i (SimpleBlock bytes rest))
+simple_reported s order interfaces i bytes rest front back w f b found link_type e =
+    let n = length bytes in
+    let h = u32_bytes order n in
+    let total = 12 + length (h ++ (bytes ++ rest)) in
+    let l = length-append h (bytes ++ rest) in
+    let k = length-append bytes rest in
+    let size = u32_size order n in
+    let m : Scan = record s { head = begun stages.Simple; next = place (s.next + 8); total = total; rest = total - 20 } in
+    let h8 = u32_bytes order 3 ++ u32_bytes order total in
+    let opened = opens_block s 3 total w.ready (omega arith) b.size (λ z. absurd (omega (arith, z))) in
+    let to_m : run s h8 ≡ m = ap (λ (v : ByteOrder). run s (u32_bytes v 3 ++ u32_bytes v total)) (sym w.order_is) ∙ opened.0 ∙ opens_as s total (stages.Simple, 16) b.whole (omega (arith, l, size)) in
+    let law = takes_head m stages.Simple h (record { unfaulted = w.ready.unfaulted; head = refl; give = w.ready.give; skip = w.ready.skip }) refl (omega (arith, size)) size in
+    let read : u32_at s.order 0 h ≡ n = ap (λ (v : ByteOrder). u32_at v 0 h) w.order_is ∙ u32_last order [] n 0 refl f.0 in
+    let there = f.2 in
+    let same : there.0 ≡ i = let x = there.1 in cc (x, found) in
+    let uncut : (i.snap_length ≡ 0) ⊎ (n ≤ i.snap_length) = subst (λ (v : Interface). (v.snap_length ≡ 0) ⊎ (n ≤ v.snap_length)) same there.2 in
+    let low_room = f.1 in
+    let room : total - 16 ≡ n + length rest = omega (arith, l, k, size) in
+    let to_packet : run m h ≡ give_packet m 4 (total - 16) None n =
+    law.0 ∙ ap (λ (v : List Interface). simple_by m h (slice_get v 0)) w.interfaces_are ∙ ap (simple_by m h) found
+    ∙ ap (λ (v : ℕ). block_packet m 4 0 (total - 16) i.link_type None (captured_length i.snap_length v) v) read
+    ∙ ap (λ (v : ℕ). block_packet m 4 0 (total - 16) i.link_type None v n) (captured_all i.snap_length n uncut)
+    ∙ packet_given m 4 0 (total - 16) i.link_type None n (omega (arith, low_room, room)) link_type in
+    gives_reported s m h8 h 4 (total - 16) None bytes front back w.ready.unfaulted refl refl w.ready.unfaulted to_m to_packet e
+
+pub block_reported : (s : Scan) (order : ByteOrder) (interfaces : List Interface) (i : Interface) (block : FileBlock) (front back : List ℕ) → InSection s order interfaces
+    → FitsBlock interfaces block → FitsBody (block_body order block) → IsTimed block → slice_get interfaces (interface_of block) ≡ Some i → i.link_type ≡ 231 → packet_bytes block ≡ front ++ back
+    → Reports (run s (block_front order block ++ front)) (block_packet_reported s i block)
+block_reported s order interfaces i (PacketBlock number high low bytes rest) front back w f b t found link_type e =
+    let four = u32_size order number in
+    packet_reported s order interfaces 6 stages.Enhanced i (u32_bytes order number) four high low bytes rest front back (enhanced_is order interfaces i number high low (length bytes) f.0 found) w f.1 f.2 b t.0 t.1 link_type e
+block_reported s order interfaces i (ObsoleteBlock number drops high low bytes rest) front back w f b t found link_type e =
+    packet_reported s order interfaces 2 stages.ObsoletePacket i (u16_bytes order number ++ u16_bytes order drops) (halves_size order number drops) high low bytes rest front back
+    (obsolete_is order interfaces i number drops high low (length bytes) f.0 found) w f.1 f.2 b t.0 t.1 link_type e
+block_reported s order interfaces i (SimpleBlock bytes rest) front back w f b t found link_type e = simple_reported s order interfaces i bytes rest front back w f b found link_type e
+block_reported s order interfaces i (InterfaceBlock a b c d z) front back w f x t found link_type e = absurd t
+block_reported s order interfaces i (OtherBlock kind body) front back w f b t found link_type e = absurd t

@@ -1,5 +1,5 @@
 -- What is reported of a packet.
-use Rattle.std.specs.Prelude.{◌≡◌, ◌+◌, List, length, Some, ℕ, ◌*◌, ◌^◌, ◌++◌}
+use Rattle.std.specs.Prelude.{◌≡◌, ◌+◌, ◌*◌, ◌^◌, ◌<◌, ℕ, List, [], ◌++◌, length, Option, Some, None}
 use Rattle.dbus_capture.specs.declared.packet.Packet.{Packet}
 use Rattle.dbus_capture.specs.Scans.{place}
 use Rattle.dbus_capture.specs.Heads.{record_time}
@@ -7,9 +7,9 @@ use Rattle.dbus_capture.specs.PcapFiles.{PcapHeader, PcapPacket, pcap_bytes}
 use Rattle.dbus_capture.specs.declared.byte_order.ByteOrder.{ByteOrder}
 use Rattle.dbus_capture.specs.declared.interface.Interface.{Interface}
 use Rattle.dbus_capture.specs.declared.scan.Scan.{Scan}
-use Rattle.dbus_capture.specs.Numbers.{u32_bytes}
+use Rattle.dbus_capture.specs.Numbers.{u32_bytes, u16_bytes}
 use Rattle.dbus_capture.specs.Blocks.{time_of}
-use Rattle.dbus_capture.specs.BlockFiles.{FileBlock, InterfaceBlock, PacketBlock, ObsoleteBlock, SimpleBlock, OtherBlock, block_body}
+use Rattle.dbus_capture.specs.BlockFiles.{FileBlock, InterfaceBlock, PacketBlock, ObsoleteBlock, SimpleBlock, OtherBlock, block_kind, block_body}
 
 -- this is reported of the packet that began last
 abbrev pub Reports : Scan → Packet → Type 0
@@ -24,16 +24,51 @@ pcap_packet_reported h packets p = record {
   length = length p.bytes;
 }
 
--- what comes before the bytes of a packet in its block
+-- a block has a packet, and its time, if it has one, is spelled by two numbers
+abbrev pub IsTimed : FileBlock → Type 0
+IsTimed (InterfaceBlock link_type reserved snap_length options end) = ⊥
+IsTimed (PacketBlock number high low bytes rest) = (high < 2 ^ 32) × (low < 2 ^ 32)
+IsTimed (ObsoleteBlock number drops high low bytes rest) = (high < 2 ^ 32) × (low < 2 ^ 32)
+IsTimed (SimpleBlock bytes rest) = Unit {0}
+IsTimed (OtherBlock kind body) = ⊥
+
+-- the number of the interface of a block's packet
+abbrev pub interface_of : FileBlock → ℕ
+interface_of (PacketBlock number high low bytes rest) = number
+interface_of (ObsoleteBlock number drops high low bytes rest) = number
+interface_of block = 0
+
+-- the bytes of a block's packet
+abbrev pub packet_bytes : FileBlock → List ℕ
+packet_bytes (PacketBlock number high low bytes rest) = bytes
+packet_bytes (ObsoleteBlock number drops high low bytes rest) = bytes
+packet_bytes (SimpleBlock bytes rest) = bytes
+packet_bytes block = []
+
+-- its time
+abbrev pub packet_time : Interface → FileBlock → Option ℕ
+packet_time i (PacketBlock number high low bytes rest) = time_of i (high * 2 ^ 32 + low)
+packet_time i (ObsoleteBlock number drops high low bytes rest) = time_of i (high * 2 ^ 32 + low)
+packet_time i block = None
+
+-- what comes before these bytes in the block, after its type and its length
+abbrev pub packet_front : ByteOrder → FileBlock → List ℕ
+packet_front order (PacketBlock number high low bytes rest) =
+    u32_bytes order number ++ (u32_bytes order high ++ (u32_bytes order low ++ (u32_bytes order (length bytes) ++ u32_bytes order (length bytes))))
+packet_front order (ObsoleteBlock number drops high low bytes rest) =
+    (u16_bytes order number ++ u16_bytes order drops) ++ (u32_bytes order high ++ (u32_bytes order low ++ (u32_bytes order (length bytes) ++ u32_bytes order (length bytes))))
+packet_front order (SimpleBlock bytes rest) = u32_bytes order (length bytes)
+packet_front order block = []
+
+-- what comes before them in all
 abbrev pub block_front : ByteOrder → FileBlock → List ℕ
-block_front order (PacketBlock number high low bytes rest) =
-    (u32_bytes order 6 ++ u32_bytes order (12 + length (block_body order (PacketBlock number high low bytes rest))))
-    ++ (u32_bytes order number ++ (u32_bytes order high ++ (u32_bytes order low ++ (u32_bytes order (length bytes) ++ u32_bytes order (length bytes)))))
-block_front order (InterfaceBlock link_type reserved snap_length options end) = u32_bytes order 1
-block_front order (ObsoleteBlock number drops high low bytes rest) = u32_bytes order 2
-block_front order (SimpleBlock bytes rest) = u32_bytes order 3
-block_front order (OtherBlock kind body) = u32_bytes order kind
+block_front order block = (u32_bytes order (block_kind block) ++ u32_bytes order (12 + length (block_body order block))) ++ packet_front order block
 
 -- of a packet whose block begins in this state
-abbrev pub block_packet_reported : Scan → Interface → ℕ → ℕ → List ℕ → Packet
-block_packet_reported s i high low bytes = record { number = place (s.packets + 1); at = place s.next; time = time_of i (high * 2 ^ 32 + low); length = length bytes }
+abbrev pub block_packet_reported : Scan → Interface → FileBlock → Packet
+block_packet_reported s i block = record {
+  number = place (s.packets + 1);
+  at = place s.next;
+  time = packet_time i block;
+  length = length (packet_bytes block);
+}

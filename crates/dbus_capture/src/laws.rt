@@ -4,15 +4,15 @@
 //! `part`.
 //!
 //! [`Source::read`]: dbus_device::Source::read
-ghost use Rattle.std.specs.Prelude.{◌≡◌, ℕ, ◌++◌, List, ◌∷◌, ◌<◌, ◌^◌, Bool, false, Some, slice_get};
+ghost use Rattle.std.specs.Prelude.{◌≡◌, ℕ, ◌++◌, List, ◌∷◌, Bool, false, Some, slice_get};
 ghost use Rattle.dbus_capture.specs.Stages.{first_stage, IsFirstOfStream};
 ghost use Rattle.dbus_capture.specs.Scans.{fresh};
 ghost use Rattle.dbus_capture.specs.Steps.{run, given, ended};
 ghost use Rattle.dbus_capture.specs.Reading.{IsRead, InSection};
 ghost use Rattle.dbus_capture.specs.PcapFiles.{PcapHeader, PcapPacket, FitsHeader, FitsPacket, AllFitPackets, packet_header_bytes, pcap_bytes, payload};
-ghost use Rattle.dbus_capture.specs.BlockFiles.{PacketBlock, FitsBlock, FitsBody, block_body, FileSection, FitsSection, AllFitSections, sections_bytes, sections_payload};
+ghost use Rattle.dbus_capture.specs.BlockFiles.{FileBlock, FitsBlock, FitsBody, block_body, FileSection, FitsSection, AllFitSections, sections_bytes, sections_payload};
 ghost use Rattle.dbus_capture.specs.PcapFaults.{AreBytes, IsPcapOutcome};
-ghost use Rattle.dbus_capture.specs.Packets.{Reports, pcap_packet_reported, block_front, block_packet_reported};
+ghost use Rattle.dbus_capture.specs.Packets.{Reports, IsTimed, interface_of, packet_bytes, pcap_packet_reported, block_front, block_packet_reported};
 ghost use Rattle.dbus_capture.specs.declared.scan.Scan.{Scan};
 ghost use Rattle.dbus_capture.specs.declared.byte_order.ByteOrder.{ByteOrder};
 ghost use Rattle.dbus_capture.specs.declared.interface.Interface.{Interface};
@@ -55,18 +55,16 @@ pub fn pcap_packet_is_reported()
         (pcap_packet_reported header packets packet) }
 {}
 
-/// The same of a packet in an enhanced packet block of a pcapng file, from where its block begins:
-/// its number and its place count on from there.
+/// The same of a packet in a block of a pcapng file, from where its block begins: its number and
+/// its place count on from there. A simple packet block has no time.
 pub fn pcapng_packet_is_reported()
     ensures { (s : Scan) (order : ByteOrder) (interfaces : List Interface) (i : Interface)
-        (number high low : ℕ) (bytes rest front back : List ℕ) →
-        InSection s order interfaces →
-        FitsBlock interfaces (PacketBlock number high low bytes rest) →
-        FitsBody (block_body order (PacketBlock number high low bytes rest)) →
-        high < 2 ^ 32 → low < 2 ^ 32 → slice_get interfaces number ≡ Some i →
-        i.link_type ≡ 231 → bytes ≡ front ++ back →
-        Reports (run s (block_front order (PacketBlock number high low bytes rest) ++ front))
-        (block_packet_reported s i high low bytes) }
+        (block : FileBlock) (front back : List ℕ) →
+        InSection s order interfaces → FitsBlock interfaces block →
+        FitsBody (block_body order block) → IsTimed block →
+        slice_get interfaces (interface_of block) ≡ Some i → i.link_type ≡ 231 →
+        packet_bytes block ≡ front ++ back →
+        Reports (run s (block_front order block ++ front)) (block_packet_reported s i block) }
 {}
 
 /// What begins as a message or a handshake is handed on as it is.
