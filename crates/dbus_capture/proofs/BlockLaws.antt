@@ -13,7 +13,7 @@ use Rattle.dbus_capture.specs.Blocks.{padded, block_stage, block_by, time_of, gi
 use Rattle.dbus_capture.specs.Steps.{run, given}
 use Rattle.dbus_capture.specs.Reading.{InSection}
 use Rattle.dbus_capture.specs.Packets.{Reports, IsTimed, interface_of, packet_bytes, block_front, block_packet_reported}
-use Rattle.dbus_capture.specs.BlockFiles.{FitsBody, framed_bytes, FileBlock, InterfaceBlock, PacketBlock, ObsoleteBlock, SimpleBlock, OtherBlock, block_bytes, block_body, block_payload, bytes_by, FitsBlock}
+use Rattle.dbus_capture.specs.BlockFiles.{FitsBody, framed_bytes, FileBlock, InterfaceBlock, PacketBlock, ObsoleteBlock, SimpleBlock, OtherBlock, block_bytes, block_body, block_payload, bytes_by, HasInterface, IsUncut, FitsBlock}
 use Rattle.dbus_capture.proofs.NumberLaws.{u32_size, u16_size, u32_after, u16_after, u32_last}
 use Rattle.dbus_capture.proofs.StepLaws.{run-append, given-append, run_gives}
 use Rattle.dbus_capture.proofs.PcapOutcomes.{eq_is, eq_not, cases_same}
@@ -81,47 +81,48 @@ other_read s order interfaces kind body i f b =
 
 -- ---- a packet
 
-packet_given : (t : Scan) (size k room link_type : ℕ) (time : Option ℕ) (n : ℕ) → padded n ≤ room → link_type ≡ 231 → block_packet t size k room link_type time n n ≡ give_packet t size room time n
-packet_given t size k room link_type time n h e =
-    when_false _ _ _ (lt_false room (padded n) h) ∙ when_true _ _ _ (eq_is link_type 231 e) ∙ when_false _ _ _ (lt_false n n (omega arith)) ∙ when_false _ _ _ (lt_false n n (omega arith))
+packet_given : (t : Scan) (size k room link_type : ℕ) (time : Option ℕ) (n original : ℕ) → padded n ≤ room → link_type ≡ 231 → original ≡ n → block_packet t size k room link_type time n original ≡ give_packet t size room time n
+packet_given t size k room link_type time n original h e w =
+    when_false _ _ _ (lt_false room (padded n) h) ∙ when_true _ _ _ (eq_is link_type 231 e) ∙ when_false _ _ _ (lt_false original n (omega (arith, w))) ∙ when_false _ _ _ (lt_false n original (omega (arith, w)))
 
-packet_passed : (t : Scan) (size k room link_type : ℕ) (time : Option ℕ) (n : ℕ) → padded n ≤ room → link_type ≢ 231 → block_packet t size k room link_type time n n ≡ pass_packet t size room
-packet_passed t size k room link_type time n h d = when_false _ _ _ (lt_false room (padded n) h) ∙ when_false _ _ _ (eq_not link_type 231 d)
+packet_passed : (t : Scan) (size k room link_type : ℕ) (time : Option ℕ) (n original : ℕ) → padded n ≤ room → link_type ≢ 231 → block_packet t size k room link_type time n original ≡ pass_packet t size room
+packet_passed t size k room link_type time n original h d = when_false _ _ _ (lt_false room (padded n) h) ∙ when_false _ _ _ (eq_not link_type 231 d)
 
 -- what follows the head of a packet's block
-packet_went : (t : Scan) (order : ByteOrder) (interfaces : List Interface) (size k room link_type : ℕ) (time : Option ℕ) (bytes rest : List ℕ) (total : ℕ)
-    → t.fault ≡ None → t.give ≡ 0 → t.skip ≡ 0 → t.total ≡ total → total < 2 ^ 32 → t.order ≡ order → t.interfaces ≡ interfaces → room ≡ length bytes + length rest → padded (length bytes) ≤ room
-    → Went (block_packet t size k room link_type time (length bytes) (length bytes)) ((bytes ++ rest) ++ u32_bytes order total) order interfaces (cond (link_type == 231) bytes [])
-packet_went t order interfaces size k room link_type time bytes rest total u g z e low o f r h =
+packet_went : (t : Scan) (order : ByteOrder) (interfaces : List Interface) (size k room link_type : ℕ) (time : Option ℕ) (original : ℕ) (bytes rest : List ℕ) (total : ℕ)
+    → t.fault ≡ None → t.give ≡ 0 → t.skip ≡ 0 → t.total ≡ total → total < 2 ^ 32 → t.order ≡ order → t.interfaces ≡ interfaces → room ≡ length bytes + length rest → padded (length bytes) ≤ room → (link_type ≡ 231 → original ≡ length bytes)
+    → Went (block_packet t size k room link_type time (length bytes) original) ((bytes ++ rest) ++ u32_bytes order total) order interfaces (cond (link_type == 231) bytes [])
+packet_went t order interfaces size k room link_type time original bytes rest total u g z e low o f r h whole =
     elim (cases_same link_type 231) [
       | inl same ↦
           let x = give_packet t size room time (length bytes) in
           let left : room - length bytes ≡ length rest = omega (arith, r) in
-          subst (λ (v : Scan). Went v ((bytes ++ rest) ++ u32_bytes order total) order interfaces (cond (link_type == 231) bytes [])) (sym (packet_given t size k room link_type time (length bytes) h same))
+          subst (λ (v : Scan). Went v ((bytes ++ rest) ++ u32_bytes order total) order interfaces (cond (link_type == 231) bytes [])) (sym (packet_given t size k room link_type time (length bytes) original h same (whole same)))
           (hands_as x _ order interfaces bytes _ (sym (when_true _ _ _ (eq_is link_type 231 same))) (went x bytes rest total order interfaces u refl refl left e low o f))
       | inr other ↦
           let x = pass_packet t size room in
           let l = length-append bytes rest in
           let left : room ≡ length (bytes ++ rest) = omega (arith, r, l) in
-          subst (λ (v : Scan). Went v ((bytes ++ rest) ++ u32_bytes order total) order interfaces (cond (link_type == 231) bytes [])) (sym (packet_passed t size k room link_type time (length bytes) h other))
+          subst (λ (v : Scan). Went v ((bytes ++ rest) ++ u32_bytes order total) order interfaces (cond (link_type == 231) bytes [])) (sym (packet_passed t size k room link_type time (length bytes) original h other))
           (hands_as x _ order interfaces [] _ (sym (when_false _ _ _ (eq_not link_type 231 other))) (went x [] (bytes ++ rest) total order interfaces u refl g left e low o f))
     ]
 
 -- the head of an enhanced or an obsolete packet block, which begins with four bytes
-module _ (o : ByteOrder) (front : List ℕ) (four : length front ≡ 4) (high low n : ℕ) where
+module _ (o : ByteOrder) (front : List ℕ) (four : length front ≡ 4) (high low n original : ℕ) where
   abbrev packet_head : List ℕ
-  packet_head = front ++ (u32_bytes o high ++ (u32_bytes o low ++ (u32_bytes o n ++ u32_bytes o n)))
+  packet_head = front ++ (u32_bytes o high ++ (u32_bytes o low ++ (u32_bytes o n ++ u32_bytes o original)))
 
   head_size : length packet_head ≡ 20
   head_size =
-      let a = length-append front (u32_bytes o high ++ (u32_bytes o low ++ (u32_bytes o n ++ u32_bytes o n))) in
-      let b = length-append (u32_bytes o high) (u32_bytes o low ++ (u32_bytes o n ++ u32_bytes o n)) in
-      let c = length-append (u32_bytes o low) (u32_bytes o n ++ u32_bytes o n) in
-      let d = length-append (u32_bytes o n) (u32_bytes o n) in
+      let a = length-append front (u32_bytes o high ++ (u32_bytes o low ++ (u32_bytes o n ++ u32_bytes o original))) in
+      let b = length-append (u32_bytes o high) (u32_bytes o low ++ (u32_bytes o n ++ u32_bytes o original)) in
+      let c = length-append (u32_bytes o low) (u32_bytes o n ++ u32_bytes o original) in
+      let d = length-append (u32_bytes o n) (u32_bytes o original) in
       let f = u32_size o high in
       let g = u32_size o low in
       let h = u32_size o n in
-      omega (arith, a, b, c, d, four, f, g, h)
+      let k = u32_size o original in
+      omega (arith, a, b, c, d, four, f, g, h, k)
 
   two_size : length (front ++ u32_bytes o high) ≡ 8
   two_size =
@@ -143,26 +144,26 @@ module _ (o : ByteOrder) (front : List ℕ) (four : length front ≡ 4) (high lo
       let h = u32_size o n in
       omega (arith, a, b, h)
 
-  regroup_three : packet_head ≡ ((front ++ u32_bytes o high) ++ u32_bytes o low) ++ (u32_bytes o n ++ u32_bytes o n)
+  regroup_three : packet_head ≡ ((front ++ u32_bytes o high) ++ u32_bytes o low) ++ (u32_bytes o n ++ u32_bytes o original)
   regroup_three =
-      sym (append_assoc front (u32_bytes o high) (u32_bytes o low ++ (u32_bytes o n ++ u32_bytes o n)))
-      ∙ sym (append_assoc (front ++ u32_bytes o high) (u32_bytes o low) (u32_bytes o n ++ u32_bytes o n))
+      sym (append_assoc front (u32_bytes o high) (u32_bytes o low ++ (u32_bytes o n ++ u32_bytes o original)))
+      ∙ sym (append_assoc (front ++ u32_bytes o high) (u32_bytes o low) (u32_bytes o n ++ u32_bytes o original))
 
   high_read : high < 2 ^ 32 → u32_at o 4 packet_head ≡ high
-  high_read h = u32_after o front high (u32_bytes o low ++ (u32_bytes o n ++ u32_bytes o n)) 4 four h
+  high_read h = u32_after o front high (u32_bytes o low ++ (u32_bytes o n ++ u32_bytes o original)) 4 four h
 
   low_read : low < 2 ^ 32 → u32_at o 8 packet_head ≡ low
   low_read h =
-      ap (u32_at o 8) (sym (append_assoc front (u32_bytes o high) (u32_bytes o low ++ (u32_bytes o n ++ u32_bytes o n))))
-      ∙ u32_after o (front ++ u32_bytes o high) low (u32_bytes o n ++ u32_bytes o n) 8 two_size h
+      ap (u32_at o 8) (sym (append_assoc front (u32_bytes o high) (u32_bytes o low ++ (u32_bytes o n ++ u32_bytes o original))))
+      ∙ u32_after o (front ++ u32_bytes o high) low (u32_bytes o n ++ u32_bytes o original) 8 two_size h
 
   captured_read : n < 2 ^ 32 → u32_at o 12 packet_head ≡ n
-  captured_read h = ap (u32_at o 12) regroup_three ∙ u32_after o ((front ++ u32_bytes o high) ++ u32_bytes o low) n (u32_bytes o n) 12 three_size h
+  captured_read h = ap (u32_at o 12) regroup_three ∙ u32_after o ((front ++ u32_bytes o high) ++ u32_bytes o low) n (u32_bytes o original) 12 three_size h
 
-  original_read : n < 2 ^ 32 → u32_at o 16 packet_head ≡ n
+  original_read : original < 2 ^ 32 → u32_at o 16 packet_head ≡ original
   original_read h =
-      ap (u32_at o 16) (regroup_three ∙ sym (append_assoc ((front ++ u32_bytes o high) ++ u32_bytes o low) (u32_bytes o n) (u32_bytes o n)))
-      ∙ u32_last o (((front ++ u32_bytes o high) ++ u32_bytes o low) ++ u32_bytes o n) n 16 four_size h
+      ap (u32_at o 16) (regroup_three ∙ sym (append_assoc ((front ++ u32_bytes o high) ++ u32_bytes o low) (u32_bytes o n) (u32_bytes o original)))
+      ∙ u32_last o (((front ++ u32_bytes o high) ++ u32_bytes o low) ++ u32_bytes o n) original 16 four_size h
 
 -- how such a block is read, by the type and the head that it has
 record IsPacketBlock (kind : ℕ) (stage : Stage) (order : ByteOrder) (interfaces : List Interface) (head : List ℕ) (i : Interface) : Type 0 where
@@ -173,36 +174,36 @@ record IsPacketBlock (kind : ℕ) (stage : Stage) (order : ByteOrder) (interface
   wanted : want stage ≡ 20
   of : (m : Scan) → m.order ≡ order → m.interfaces ≡ interfaces → decoded_by stage m head ≡ enhanced_by m head (Some i)
 
-packet_read : (s : Scan) (order : ByteOrder) (interfaces : List Interface) (kind : ℕ) (stage : Stage) (i : Interface) (front : List ℕ) (four : length front ≡ 4) (high low : ℕ) (bytes rest : List ℕ)
-    → let h = packet_head order front four high low (length bytes) in
-    IsPacketBlock kind stage order interfaces h i → InSection s order interfaces → length bytes < 2 ^ 32 → padded (length bytes) ≤ length bytes + length rest
+packet_read : (s : Scan) (order : ByteOrder) (interfaces : List Interface) (kind : ℕ) (stage : Stage) (i : Interface) (front : List ℕ) (four : length front ≡ 4) (high low original : ℕ) (bytes rest : List ℕ)
+    → let h = packet_head order front four high low (length bytes) original in
+    IsPacketBlock kind stage order interfaces h i → InSection s order interfaces → length bytes < 2 ^ 32 → padded (length bytes) ≤ length bytes + length rest → original < 2 ^ 32 → IsUncut i original bytes
     → FitsBody (h ++ (bytes ++ rest)) → Went s (framed_bytes order kind (h ++ (bytes ++ rest))) order interfaces (cond (i.link_type == 231) bytes [])
-packet_read s order interfaces kind stage i front four high low bytes rest p w fits low_room b =
+packet_read s order interfaces kind stage i front four high low original bytes rest p w fits low_room fits_original whole b =
     let n = length bytes in
-    let h = packet_head order front four high low n in
+    let h = packet_head order front four high low n original in
     let body = h ++ (bytes ++ rest) in
     let total = 12 + length body in
     let l = length-append h (bytes ++ rest) in
     let k = length-append bytes rest in
-    let size = head_size order front four high low n in
+    let size = head_size order front four high low n original in
     let m : Scan = record s { head = begun stage; next = place (s.next + 8); total = total; rest = total - 20 } in
     let opened = ap (block_by s total) p.staged ∙ opens_as s total (stage, 32) b.whole (omega (arith, l, size)) in
     let law = takes_head m stage h (record { unfaulted = w.ready.unfaulted; head = refl; give = w.ready.give; skip = w.ready.skip }) p.filed (omega (arith, size)) (size ∙ sym p.wanted) in
     let time = time_of i (u32_at s.order 4 h * 2 ^ 32 + u32_at s.order 8 h) in
-    let to : run m h ≡ block_packet m 20 12 (total - 32) i.link_type time n n =
+    let to : run m h ≡ block_packet m 20 12 (total - 32) i.link_type time n original =
     law.0 ∙ p.of m w.order_is w.interfaces_are
-    ∙ ap (λ (v : ℕ). block_packet m 20 12 (total - 32) i.link_type time v (u32_at s.order 16 h)) (ap (λ (v : ByteOrder). u32_at v 12 h) w.order_is ∙ captured_read order front four high low n fits)
-    ∙ ap (λ (v : ℕ). block_packet m 20 12 (total - 32) i.link_type time n v) (ap (λ (v : ByteOrder). u32_at v 16 h) w.order_is ∙ original_read order front four high low n fits) in
+    ∙ ap (λ (v : ℕ). block_packet m 20 12 (total - 32) i.link_type time v (u32_at s.order 16 h)) (ap (λ (v : ByteOrder). u32_at v 12 h) w.order_is ∙ captured_read order front four high low n original fits)
+    ∙ ap (λ (v : ℕ). block_packet m 20 12 (total - 32) i.link_type time n v) (ap (λ (v : ByteOrder). u32_at v 16 h) w.order_is ∙ original_read order front four high low n original fits_original) in
     let room : total - 32 ≡ n + length rest = omega (arith, l, k, size) in
-    let after = packet_went m order interfaces 20 12 (total - 32) i.link_type time bytes rest total w.ready.unfaulted w.ready.give w.ready.skip refl b.size
-    w.order_is w.interfaces_are room (omega (arith, low_room, room)) in
+    let after = packet_went m order interfaces 20 12 (total - 32) i.link_type time original bytes rest total w.ready.unfaulted w.ready.give w.ready.skip refl b.size
+    w.order_is w.interfaces_are room (omega (arith, low_room, room)) whole in
     begins_block s kind total m (body ++ u32_bytes order total) order interfaces interfaces _ w p.low b.size p.no_section opened
     (respell m _ _ order interfaces _ (append_assoc h (bytes ++ rest) (u32_bytes order total)) (goes_on m _ h ((bytes ++ rest) ++ u32_bytes order total) order interfaces _ to law.1 after))
 
-enhanced_is : (order : ByteOrder) (interfaces : List Interface) (i : Interface) (number high low n : ℕ) → number < 2 ^ 32 → slice_get interfaces number ≡ Some i
-    → IsPacketBlock 6 stages.Enhanced order interfaces (packet_head order (u32_bytes order number) (u32_size order number) high low n) i
-enhanced_is order interfaces i number high low n fits found =
-    let h = packet_head order (u32_bytes order number) (u32_size order number) high low n in
+enhanced_is : (order : ByteOrder) (interfaces : List Interface) (i : Interface) (number high low n original : ℕ) → number < 2 ^ 32 → slice_get interfaces number ≡ Some i
+    → IsPacketBlock 6 stages.Enhanced order interfaces (packet_head order (u32_bytes order number) (u32_size order number) high low n original) i
+enhanced_is order interfaces i number high low n original fits found =
+    let h = packet_head order (u32_bytes order number) (u32_size order number) high low n original in
     record {
       low = omega arith;
       no_section = λ e. absurd (omega (arith, e));
@@ -213,12 +214,12 @@ enhanced_is order interfaces i number high low n fits found =
           ∙ ap (λ (v : List Interface). enhanced_by m h (slice_get v number)) j ∙ ap (enhanced_by m h) found;
     }
 
-pub enhanced_read : (s : Scan) (order : ByteOrder) (interfaces : List Interface) (number high low : ℕ) (bytes rest : List ℕ) → InSection s order interfaces → FitsBlock interfaces (PacketBlock number high low bytes rest)
-    → FitsBody (block_body order (PacketBlock number high low bytes rest)) → Went s (block_bytes order (PacketBlock number high low bytes rest)) order interfaces (block_payload interfaces (PacketBlock number high low bytes rest))
-enhanced_read s order interfaces number high low bytes rest i f b =
-    let found = f.3 in
-    hands_as s _ order interfaces _ _ (sym (ap (bytes_by bytes) found.1)) (packet_read s order interfaces 6 stages.Enhanced found.0 (u32_bytes order number) (u32_size order number) high low bytes rest
-    (enhanced_is order interfaces found.0 number high low (length bytes) f.0 found.1) i f.1 f.2 b)
+pub enhanced_read : (s : Scan) (order : ByteOrder) (interfaces : List Interface) (number high low original : ℕ) (bytes rest : List ℕ) → InSection s order interfaces → FitsBlock interfaces (PacketBlock number high low original bytes rest)
+    → FitsBody (block_body order (PacketBlock number high low original bytes rest)) → Went s (block_bytes order (PacketBlock number high low original bytes rest)) order interfaces (block_payload interfaces (PacketBlock number high low original bytes rest))
+enhanced_read s order interfaces number high low original bytes rest i f b =
+    let found = f.4 in
+    hands_as s _ order interfaces _ _ (sym (ap (bytes_by bytes) found.1)) (packet_read s order interfaces 6 stages.Enhanced found.0 (u32_bytes order number) (u32_size order number) high low original bytes rest
+    (enhanced_is order interfaces found.0 number high low (length bytes) original f.0 found.1) i f.1 f.2 f.3 found.2 b)
 
 halves_size : (order : ByteOrder) (number drops : ℕ) → length (u16_bytes order number ++ u16_bytes order drops) ≡ 4
 halves_size order number drops =
@@ -227,11 +228,11 @@ halves_size order number drops =
     let y = u16_size order drops in
     omega (arith, x, y, z)
 
-obsolete_is : (order : ByteOrder) (interfaces : List Interface) (i : Interface) (number drops high low n : ℕ) → number < 2 ^ 16 → slice_get interfaces number ≡ Some i
-    → IsPacketBlock 2 stages.ObsoletePacket order interfaces (packet_head order (u16_bytes order number ++ u16_bytes order drops) (halves_size order number drops) high low n) i
-obsolete_is order interfaces i number drops high low n fits found =
-    let more = u32_bytes order high ++ (u32_bytes order low ++ (u32_bytes order n ++ u32_bytes order n)) in
-    let h = packet_head order (u16_bytes order number ++ u16_bytes order drops) (halves_size order number drops) high low n in
+obsolete_is : (order : ByteOrder) (interfaces : List Interface) (i : Interface) (number drops high low n original : ℕ) → number < 2 ^ 16 → slice_get interfaces number ≡ Some i
+    → IsPacketBlock 2 stages.ObsoletePacket order interfaces (packet_head order (u16_bytes order number ++ u16_bytes order drops) (halves_size order number drops) high low n original) i
+obsolete_is order interfaces i number drops high low n original fits found =
+    let more = u32_bytes order high ++ (u32_bytes order low ++ (u32_bytes order n ++ u32_bytes order original)) in
+    let h = packet_head order (u16_bytes order number ++ u16_bytes order drops) (halves_size order number drops) high low n original in
     let number_read : u16_at order 0 h ≡ number = ap (u16_at order 0) (append_assoc (u16_bytes order number) (u16_bytes order drops) more) ∙ u16_after order [] number (u16_bytes order drops ++ more) 0 refl fits in
     record {
       low = omega arith;
@@ -243,44 +244,36 @@ obsolete_is order interfaces i number drops high low n fits found =
           ∙ ap (λ (v : List Interface). enhanced_by m h (slice_get v number)) j ∙ ap (enhanced_by m h) found;
     }
 
-pub obsolete_read : (s : Scan) (order : ByteOrder) (interfaces : List Interface) (number drops high low : ℕ) (bytes rest : List ℕ) → InSection s order interfaces
-    → FitsBlock interfaces (ObsoleteBlock number drops high low bytes rest) → FitsBody (block_body order (ObsoleteBlock number drops high low bytes rest))
-    → Went s (block_bytes order (ObsoleteBlock number drops high low bytes rest)) order interfaces (block_payload interfaces (ObsoleteBlock number drops high low bytes rest))
-obsolete_read s order interfaces number drops high low bytes rest i f b =
-    let found = f.3 in
+pub obsolete_read : (s : Scan) (order : ByteOrder) (interfaces : List Interface) (number drops high low original : ℕ) (bytes rest : List ℕ) → InSection s order interfaces
+    → FitsBlock interfaces (ObsoleteBlock number drops high low original bytes rest) → FitsBody (block_body order (ObsoleteBlock number drops high low original bytes rest))
+    → Went s (block_bytes order (ObsoleteBlock number drops high low original bytes rest)) order interfaces (block_payload interfaces (ObsoleteBlock number drops high low original bytes rest))
+obsolete_read s order interfaces number drops high low original bytes rest i f b =
+    let found = f.4 in
     hands_as s _ order interfaces _ _ (sym (ap (bytes_by bytes) found.1)) (packet_read s order interfaces 2 stages.ObsoletePacket found.0 (u16_bytes order number ++ u16_bytes order drops) (halves_size order number drops)
-    high low bytes rest (obsolete_is order interfaces found.0 number drops high low (length bytes) f.0 found.1) i f.1 f.2 b)
+    high low original bytes rest (obsolete_is order interfaces found.0 number drops high low (length bytes) original f.0 found.1) i f.1 f.2 f.3 found.2 b)
 
-captured_all : (snap_length n : ℕ) → (snap_length ≡ 0) ⊎ (n ≤ snap_length) → captured_length snap_length n ≡ n
-captured_all snap_length n (inl z) = when_true _ _ _ (ap (λ (v : Bool). v || nat_le n snap_length) (eq_is snap_length 0 z))
-captured_all snap_length n (inr h) = when_true _ _ _ (or_true (snap_length == 0) (nat_le n snap_length) (le_true n snap_length h))
-  where
-    or_true : (a b : Bool) → b ≡ true → (a || b) ≡ true
-    or_true true b p = refl
-    or_true false b p = p
-
-pub simple_read : (s : Scan) (order : ByteOrder) (interfaces : List Interface) (bytes rest : List ℕ) → InSection s order interfaces → FitsBlock interfaces (SimpleBlock bytes rest)
-    → FitsBody (block_body order (SimpleBlock bytes rest)) → Went s (block_bytes order (SimpleBlock bytes rest)) order interfaces (block_payload interfaces (SimpleBlock bytes rest))
-simple_read s order interfaces bytes rest i f b =
+pub simple_read : (s : Scan) (order : ByteOrder) (interfaces : List Interface) (original : ℕ) (bytes rest : List ℕ) → InSection s order interfaces → FitsBlock interfaces (SimpleBlock original bytes rest)
+    → FitsBody (block_body order (SimpleBlock original bytes rest)) → Went s (block_bytes order (SimpleBlock original bytes rest)) order interfaces (block_payload interfaces (SimpleBlock original bytes rest))
+simple_read s order interfaces original bytes rest i f b =
     let n = length bytes in
-    let h = u32_bytes order n in
+    let h = u32_bytes order original in
     let body = h ++ (bytes ++ rest) in
     let total = 12 + length body in
     let l = length-append h (bytes ++ rest) in
     let k = length-append bytes rest in
-    let size = u32_size order n in
+    let size = u32_size order original in
     let m : Scan = record s { head = begun stages.Simple; next = place (s.next + 8); total = total; rest = total - 20 } in
     let opened = opens_as s total (stages.Simple, 16) b.whole (omega (arith, l, size)) in
     let found = f.2 in
     let law = takes_head m stages.Simple h (record { unfaulted = i.ready.unfaulted; head = refl; give = i.ready.give; skip = i.ready.skip }) refl (omega (arith, size)) size in
-    let told : u32_at s.order 0 h ≡ n = ap (λ (v : ByteOrder). u32_at v 0 h) i.order_is ∙ u32_last order [] n 0 refl f.0 in
-    let to : run m h ≡ block_packet m 4 0 (total - 16) found.0.link_type None n n =
+    let told : u32_at s.order 0 h ≡ original = ap (λ (v : ByteOrder). u32_at v 0 h) i.order_is ∙ u32_last order [] original 0 refl f.0 in
+    let to : run m h ≡ block_packet m 4 0 (total - 16) found.0.link_type None n original =
     law.0 ∙ ap (λ (v : List Interface). simple_by m h (slice_get v 0)) i.interfaces_are ∙ ap (simple_by m h) found.1
     ∙ ap (λ (v : ℕ). block_packet m 4 0 (total - 16) found.0.link_type None (captured_length found.0.snap_length v) v) told
-    ∙ ap (λ (v : ℕ). block_packet m 4 0 (total - 16) found.0.link_type None v n) (captured_all found.0.snap_length n found.2) in
+    ∙ ap (λ (v : ℕ). block_packet m 4 0 (total - 16) found.0.link_type None v original) found.2.0 in
     let low_room = f.1 in
     let room : total - 16 ≡ n + length rest = omega (arith, l, k, size) in
-    let after = packet_went m order interfaces 4 0 (total - 16) found.0.link_type None bytes rest total i.ready.unfaulted i.ready.give i.ready.skip refl b.size i.order_is i.interfaces_are room (omega (arith, low_room, room)) in
+    let after = packet_went m order interfaces 4 0 (total - 16) found.0.link_type None original bytes rest total i.ready.unfaulted i.ready.give i.ready.skip refl b.size i.order_is i.interfaces_are room (omega (arith, low_room, room)) found.2.1 in
     hands_as s _ order interfaces _ _ (sym (ap (bytes_by bytes) found.1))
     (begins_block s 3 total m (body ++ u32_bytes order total) order interfaces interfaces _ i (omega arith) b.size (λ e. absurd (omega (arith, e))) opened
     (respell m _ _ order interfaces _ (append_assoc h (bytes ++ rest) (u32_bytes order total)) (goes_on m _ h ((bytes ++ rest) ++ u32_bytes order total) order interfaces _ to law.1 after)))
@@ -304,19 +297,19 @@ gives_reported s m h8 h size room time bytes front back u same next fine to_m to
     ∙ ap (λ (v : ℕ). Some (record { number = place (s.packets + 1); at = place (v + 2 ^ 64 - 8); time = time; length = length bytes })) next
     ∙ ap (λ (v : ℕ). Some (record { number = place (s.packets + 1); at = v; time = time; length = length bytes })) (back_eight s.next)
 
-packet_reported : (s : Scan) (order : ByteOrder) (interfaces : List Interface) (kind : ℕ) (stage : Stage) (i : Interface) (first : List ℕ) (four : length first ≡ 4) (high low : ℕ) (bytes rest front back : List ℕ)
-    → let h = packet_head order first four high low (length bytes) in
-    IsPacketBlock kind stage order interfaces h i → InSection s order interfaces → length bytes < 2 ^ 32 → padded (length bytes) ≤ length bytes + length rest
+packet_reported : (s : Scan) (order : ByteOrder) (interfaces : List Interface) (kind : ℕ) (stage : Stage) (i : Interface) (first : List ℕ) (four : length first ≡ 4) (high low original : ℕ) (bytes rest front back : List ℕ)
+    → let h = packet_head order first four high low (length bytes) original in
+    IsPacketBlock kind stage order interfaces h i → InSection s order interfaces → length bytes < 2 ^ 32 → padded (length bytes) ≤ length bytes + length rest → original < 2 ^ 32 → IsUncut i original bytes
     → FitsBody (h ++ (bytes ++ rest)) → high < 2 ^ 32 → low < 2 ^ 32 → i.link_type ≡ 231 → bytes ≡ front ++ back
     → (run s (((u32_bytes order kind ++ u32_bytes order (12 + length (h ++ (bytes ++ rest)))) ++ h) ++ front)).packet
     ≡ Some (record { number = place (s.packets + 1); at = place s.next; time = time_of i (high * 2 ^ 32 + low); length = length bytes })
-packet_reported s order interfaces kind stage i first four high low bytes rest front back p w fits low_room b fh fl link_type e =
+packet_reported s order interfaces kind stage i first four high low original bytes rest front back p w fits low_room fits_original whole b fh fl link_type e =
     let n = length bytes in
-    let h = packet_head order first four high low n in
+    let h = packet_head order first four high low n original in
     let total = 12 + length (h ++ (bytes ++ rest)) in
     let l = length-append h (bytes ++ rest) in
     let k = length-append bytes rest in
-    let size = head_size order first four high low n in
+    let size = head_size order first four high low n original in
     let m : Scan = record s { head = begun stage; next = place (s.next + 8); total = total; rest = total - 20 } in
     let h8 = u32_bytes order kind ++ u32_bytes order total in
     let opened = opens_block s kind total w.ready p.low b.size p.no_section in
@@ -327,50 +320,56 @@ packet_reported s order interfaces kind stage i first four high low bytes rest f
     let to_packet : run m h ≡ give_packet m 20 (total - 32) (time high low) n =
     law.0 ∙ p.of m w.order_is w.interfaces_are
     ∙ ap (λ (v : ByteOrder). block_packet m 20 12 (total - 32) i.link_type (time (u32_at v 4 h) (u32_at v 8 h)) (u32_at v 12 h) (u32_at v 16 h)) w.order_is
-    ∙ ap (λ (v : ℕ). block_packet m 20 12 (total - 32) i.link_type (time v (u32_at order 8 h)) (u32_at order 12 h) (u32_at order 16 h)) (high_read order first four high low n fh)
-    ∙ ap (λ (v : ℕ). block_packet m 20 12 (total - 32) i.link_type (time high v) (u32_at order 12 h) (u32_at order 16 h)) (low_read order first four high low n fl)
-    ∙ ap (λ (v : ℕ). block_packet m 20 12 (total - 32) i.link_type (time high low) v (u32_at order 16 h)) (captured_read order first four high low n fits)
-    ∙ ap (λ (v : ℕ). block_packet m 20 12 (total - 32) i.link_type (time high low) n v) (original_read order first four high low n fits)
-    ∙ packet_given m 20 12 (total - 32) i.link_type (time high low) n (omega (arith, low_room, room)) link_type in
+    ∙ ap (λ (v : ℕ). block_packet m 20 12 (total - 32) i.link_type (time v (u32_at order 8 h)) (u32_at order 12 h) (u32_at order 16 h)) (high_read order first four high low n original fh)
+    ∙ ap (λ (v : ℕ). block_packet m 20 12 (total - 32) i.link_type (time high v) (u32_at order 12 h) (u32_at order 16 h)) (low_read order first four high low n original fl)
+    ∙ ap (λ (v : ℕ). block_packet m 20 12 (total - 32) i.link_type (time high low) v (u32_at order 16 h)) (captured_read order first four high low n original fits)
+    ∙ ap (λ (v : ℕ). block_packet m 20 12 (total - 32) i.link_type (time high low) n v) (original_read order first four high low n original fits_original)
+    ∙ packet_given m 20 12 (total - 32) i.link_type (time high low) n original (omega (arith, low_room, room)) link_type (whole link_type) in
     gives_reported s m h8 h 20 (total - 32) (time high low) bytes front back w.ready.unfaulted refl refl w.ready.unfaulted to_m to_packet e
 
-simple_reported : (s : Scan) (order : ByteOrder) (interfaces : List Interface) (i : Interface) (bytes rest front back : List ℕ) → InSection s order interfaces → FitsBlock interfaces (SimpleBlock bytes rest)
-    → FitsBody (block_body order (SimpleBlock bytes rest)) → slice_get interfaces 0 ≡ Some i → i.link_type ≡ 231 → bytes ≡ front ++ back
-    → Reports (run s (block_front order (SimpleBlock bytes rest) ++ front)) (block_packet_reported s i (SimpleBlock bytes rest))
-simple_reported s order interfaces i bytes rest front back w f b found link_type e =
+simple_reported : (s : Scan) (order : ByteOrder) (interfaces : List Interface) (i : Interface) (original : ℕ) (bytes rest front back : List ℕ) → InSection s order interfaces → FitsBlock interfaces (SimpleBlock original bytes rest)
+    → FitsBody (block_body order (SimpleBlock original bytes rest)) → slice_get interfaces 0 ≡ Some i → i.link_type ≡ 231 → bytes ≡ front ++ back
+    → Reports (run s (block_front order (SimpleBlock original bytes rest) ++ front)) (block_packet_reported s i (SimpleBlock original bytes rest))
+simple_reported s order interfaces i original bytes rest front back w f b found link_type e =
     let n = length bytes in
-    let h = u32_bytes order n in
+    let h = u32_bytes order original in
     let total = 12 + length (h ++ (bytes ++ rest)) in
     let l = length-append h (bytes ++ rest) in
     let k = length-append bytes rest in
-    let size = u32_size order n in
+    let size = u32_size order original in
     let m : Scan = record s { head = begun stages.Simple; next = place (s.next + 8); total = total; rest = total - 20 } in
     let h8 = u32_bytes order 3 ++ u32_bytes order total in
     let opened = opens_block s 3 total w.ready (omega arith) b.size (λ z. absurd (omega (arith, z))) in
     let to_m : run s h8 ≡ m = ap (λ (v : ByteOrder). run s (u32_bytes v 3 ++ u32_bytes v total)) (sym w.order_is) ∙ opened.0 ∙ opens_as s total (stages.Simple, 16) b.whole (omega (arith, l, size)) in
     let law = takes_head m stages.Simple h (record { unfaulted = w.ready.unfaulted; head = refl; give = w.ready.give; skip = w.ready.skip }) refl (omega (arith, size)) size in
-    let read : u32_at s.order 0 h ≡ n = ap (λ (v : ByteOrder). u32_at v 0 h) w.order_is ∙ u32_last order [] n 0 refl f.0 in
+    let read : u32_at s.order 0 h ≡ original = ap (λ (v : ByteOrder). u32_at v 0 h) w.order_is ∙ u32_last order [] original 0 refl f.0 in
     let there = f.2 in
     let same : there.0 ≡ i = let x = there.1 in cc (x, found) in
-    let uncut : (i.snap_length ≡ 0) ⊎ (n ≤ i.snap_length) = subst (λ (v : Interface). (v.snap_length ≡ 0) ⊎ (n ≤ v.snap_length)) same there.2 in
+    let both = subst (λ (v : Interface). (captured_length v.snap_length original ≡ length bytes) × IsUncut v original bytes) same there.2 in
     let low_room = f.1 in
     let room : total - 16 ≡ n + length rest = omega (arith, l, k, size) in
     let to_packet : run m h ≡ give_packet m 4 (total - 16) None n =
     law.0 ∙ ap (λ (v : List Interface). simple_by m h (slice_get v 0)) w.interfaces_are ∙ ap (simple_by m h) found
     ∙ ap (λ (v : ℕ). block_packet m 4 0 (total - 16) i.link_type None (captured_length i.snap_length v) v) read
-    ∙ ap (λ (v : ℕ). block_packet m 4 0 (total - 16) i.link_type None v n) (captured_all i.snap_length n uncut)
-    ∙ packet_given m 4 0 (total - 16) i.link_type None n (omega (arith, low_room, room)) link_type in
+    ∙ ap (λ (v : ℕ). block_packet m 4 0 (total - 16) i.link_type None v original) both.0
+    ∙ packet_given m 4 0 (total - 16) i.link_type None n original (omega (arith, low_room, room)) link_type (both.1 link_type) in
     gives_reported s m h8 h 4 (total - 16) None bytes front back w.ready.unfaulted refl refl w.ready.unfaulted to_m to_packet e
+
+-- the interface that was found is the one that is there
+uncut_as : (interfaces : List Interface) (number : ℕ) (i : Interface) (original : ℕ) (bytes : List ℕ) → HasInterface interfaces number (λ v. IsUncut v original bytes) → slice_get interfaces number ≡ Some i → IsUncut i original bytes
+uncut_as interfaces number i original bytes there found =
+    let same : there.0 ≡ i = let x = there.1 in cc (x, found) in
+    subst (λ (v : Interface). IsUncut v original bytes) same there.2
 
 pub block_reported : (s : Scan) (order : ByteOrder) (interfaces : List Interface) (i : Interface) (block : FileBlock) (front back : List ℕ) → InSection s order interfaces
     → FitsBlock interfaces block → FitsBody (block_body order block) → IsTimed block → slice_get interfaces (interface_of block) ≡ Some i → i.link_type ≡ 231 → packet_bytes block ≡ front ++ back
     → Reports (run s (block_front order block ++ front)) (block_packet_reported s i block)
-block_reported s order interfaces i (PacketBlock number high low bytes rest) front back w f b t found link_type e =
+block_reported s order interfaces i (PacketBlock number high low original bytes rest) front back w f b t found link_type e =
     let four = u32_size order number in
-    packet_reported s order interfaces 6 stages.Enhanced i (u32_bytes order number) four high low bytes rest front back (enhanced_is order interfaces i number high low (length bytes) f.0 found) w f.1 f.2 b t.0 t.1 link_type e
-block_reported s order interfaces i (ObsoleteBlock number drops high low bytes rest) front back w f b t found link_type e =
-    packet_reported s order interfaces 2 stages.ObsoletePacket i (u16_bytes order number ++ u16_bytes order drops) (halves_size order number drops) high low bytes rest front back
-    (obsolete_is order interfaces i number drops high low (length bytes) f.0 found) w f.1 f.2 b t.0 t.1 link_type e
-block_reported s order interfaces i (SimpleBlock bytes rest) front back w f b t found link_type e = simple_reported s order interfaces i bytes rest front back w f b found link_type e
+    packet_reported s order interfaces 6 stages.Enhanced i (u32_bytes order number) four high low original bytes rest front back (enhanced_is order interfaces i number high low (length bytes) original f.0 found) w f.1 f.2 f.3 (uncut_as interfaces number i original bytes f.4 found) b t.0 t.1 link_type e
+block_reported s order interfaces i (ObsoleteBlock number drops high low original bytes rest) front back w f b t found link_type e =
+    packet_reported s order interfaces 2 stages.ObsoletePacket i (u16_bytes order number ++ u16_bytes order drops) (halves_size order number drops) high low original bytes rest front back
+    (obsolete_is order interfaces i number drops high low (length bytes) original f.0 found) w f.1 f.2 f.3 (uncut_as interfaces number i original bytes f.4 found) b t.0 t.1 link_type e
+block_reported s order interfaces i (SimpleBlock original bytes rest) front back w f b t found link_type e = simple_reported s order interfaces i original bytes rest front back w f b found link_type e
 block_reported s order interfaces i (InterfaceBlock a b c d z) front back w f x t found link_type e = absurd t
 block_reported s order interfaces i (OtherBlock kind body) front back w f b t found link_type e = absurd t

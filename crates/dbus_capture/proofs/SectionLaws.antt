@@ -27,9 +27,9 @@ use Rattle.dbus_capture.proofs.InterfaceLaws.{interface_read}
 block_read : (s : Scan) (order : ByteOrder) (interfaces : List Interface) (block : FileBlock) → InSection s order interfaces → FitsBlock interfaces block → FitsBody (block_body order block)
     → Went s (block_bytes order block) order (interfaces_after interfaces block) (block_payload interfaces block)
 block_read s order interfaces (InterfaceBlock link_type reserved snap_length options end) i f b = interface_read s order interfaces link_type reserved snap_length options end i f b
-block_read s order interfaces (PacketBlock number high low bytes rest) i f b = enhanced_read s order interfaces number high low bytes rest i f b
-block_read s order interfaces (ObsoleteBlock number drops high low bytes rest) i f b = obsolete_read s order interfaces number drops high low bytes rest i f b
-block_read s order interfaces (SimpleBlock bytes rest) i f b = simple_read s order interfaces bytes rest i f b
+block_read s order interfaces (PacketBlock number high low original bytes rest) i f b = enhanced_read s order interfaces number high low original bytes rest i f b
+block_read s order interfaces (ObsoleteBlock number drops high low original bytes rest) i f b = obsolete_read s order interfaces number drops high low original bytes rest i f b
+block_read s order interfaces (SimpleBlock original bytes rest) i f b = simple_read s order interfaces original bytes rest i f b
 block_read s order interfaces (OtherBlock kind body) i f b = other_read s order interfaces kind body i f b
 
 abbrev interfaces_all : List Interface → List FileBlock → List Interface

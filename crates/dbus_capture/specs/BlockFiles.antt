@@ -4,7 +4,7 @@ use Rattle.std.specs.Prelude.{◌≡◌, ◌≢◌, ℕ, ◌+◌, ◌<◌, ◌�
 use Rattle.dbus_capture.specs.declared.byte_order.ByteOrder.{ByteOrder}
 use Rattle.dbus_capture.specs.declared.interface.Interface.{Interface}
 use Rattle.dbus_capture.specs.Numbers.{u32_bytes, u16_bytes}
-use Rattle.dbus_capture.specs.Blocks.{padded}
+use Rattle.dbus_capture.specs.Blocks.{padded, captured_length}
 
 -- a block of a type and a body, whose length is at both of its ends
 abbrev pub framed_bytes : ByteOrder → ℕ → List ℕ → List ℕ
@@ -64,29 +64,30 @@ FitsEnd (Some more) = 2 ≤ length more
 pub data FileBlock : Type 0 where
   -- an interface of this link type and snap length
   InterfaceBlock : ℕ → ℕ → ℕ → List InterfaceOption → Option (List ℕ) → FileBlock
-  -- a packet of an interface, captured whole at a time of two numbers; its padding and its options
-  PacketBlock : ℕ → ℕ → ℕ → List ℕ → List ℕ → FileBlock
+  -- a packet of an interface, at a time of two numbers, which had so many bytes, of which these were
+  -- captured; its padding and its options
+  PacketBlock : ℕ → ℕ → ℕ → ℕ → List ℕ → List ℕ → FileBlock
   -- the same in the obsolete packet block, with a count of drops
-  ObsoleteBlock : ℕ → ℕ → ℕ → ℕ → List ℕ → List ℕ → FileBlock
+  ObsoleteBlock : ℕ → ℕ → ℕ → ℕ → ℕ → List ℕ → List ℕ → FileBlock
   -- the same with no time, of the first interface
-  SimpleBlock : List ℕ → List ℕ → FileBlock
+  SimpleBlock : ℕ → List ℕ → List ℕ → FileBlock
   -- a block of another type
   OtherBlock : ℕ → List ℕ → FileBlock
 
 abbrev pub block_kind : FileBlock → ℕ
 block_kind (InterfaceBlock link_type reserved snap_length options end) = 1
-block_kind (PacketBlock number high low bytes rest) = 6
-block_kind (ObsoleteBlock number drops high low bytes rest) = 2
-block_kind (SimpleBlock bytes rest) = 3
+block_kind (PacketBlock number high low original bytes rest) = 6
+block_kind (ObsoleteBlock number drops high low original bytes rest) = 2
+block_kind (SimpleBlock original bytes rest) = 3
 block_kind (OtherBlock kind body) = kind
 
 abbrev pub block_body : ByteOrder → FileBlock → List ℕ
 block_body order (InterfaceBlock link_type reserved snap_length options end) = (u16_bytes order link_type ++ (u16_bytes order reserved ++ u32_bytes order snap_length)) ++ (options_bytes order options ++ end_bytes order end)
-block_body order (PacketBlock number high low bytes rest) =
-    (u32_bytes order number ++ (u32_bytes order high ++ (u32_bytes order low ++ (u32_bytes order (length bytes) ++ u32_bytes order (length bytes))))) ++ (bytes ++ rest)
-block_body order (ObsoleteBlock number drops high low bytes rest) =
-    ((u16_bytes order number ++ u16_bytes order drops) ++ (u32_bytes order high ++ (u32_bytes order low ++ (u32_bytes order (length bytes) ++ u32_bytes order (length bytes))))) ++ (bytes ++ rest)
-block_body order (SimpleBlock bytes rest) = u32_bytes order (length bytes) ++ (bytes ++ rest)
+block_body order (PacketBlock number high low original bytes rest) =
+    (u32_bytes order number ++ (u32_bytes order high ++ (u32_bytes order low ++ (u32_bytes order (length bytes) ++ u32_bytes order original)))) ++ (bytes ++ rest)
+block_body order (ObsoleteBlock number drops high low original bytes rest) =
+    ((u16_bytes order number ++ u16_bytes order drops) ++ (u32_bytes order high ++ (u32_bytes order low ++ (u32_bytes order (length bytes) ++ u32_bytes order original)))) ++ (bytes ++ rest)
+block_body order (SimpleBlock original bytes rest) = u32_bytes order original ++ (bytes ++ rest)
 block_body order (OtherBlock kind body) = body
 
 abbrev pub block_bytes : ByteOrder → FileBlock → List ℕ
@@ -99,20 +100,25 @@ blocks_bytes order (block ∷ blocks) = block_bytes order block ++ blocks_bytes 
 -- the interfaces after a block
 abbrev pub interfaces_after : List Interface → FileBlock → List Interface
 interfaces_after interfaces (InterfaceBlock link_type reserved snap_length options end) = interfaces ++ with_options (record { link_type = link_type; snap_length = snap_length; resolution = 6; has_offset = false }) options ∷ []
-interfaces_after interfaces (PacketBlock number high low bytes rest) = interfaces
-interfaces_after interfaces (ObsoleteBlock number drops high low bytes rest) = interfaces
-interfaces_after interfaces (SimpleBlock bytes rest) = interfaces
+interfaces_after interfaces (PacketBlock number high low original bytes rest) = interfaces
+interfaces_after interfaces (ObsoleteBlock number drops high low original bytes rest) = interfaces
+interfaces_after interfaces (SimpleBlock original bytes rest) = interfaces
 interfaces_after interfaces (OtherBlock kind body) = interfaces
 
--- a packet's interface is there, and does not cut it
+-- a D-Bus packet was captured whole
+abbrev pub IsUncut : Interface → (original : ℕ) → List ℕ → Type 0
+IsUncut i original bytes = i.link_type ≡ 231 → original ≡ length bytes
+
+-- a packet's interface is there
 abbrev pub HasInterface : List Interface → ℕ → (Interface → Type 0) → Type 0
 HasInterface interfaces number P = (i : Interface) × (slice_get interfaces number ≡ Some i) × P i
 
 abbrev pub FitsBlock : List Interface → FileBlock → Type 0
 FitsBlock interfaces (InterfaceBlock link_type reserved snap_length options end) = (link_type < 2 ^ 16) × (snap_length < 2 ^ 32) × AllFitOptions options × FitsEnd end × (length interfaces < 64)
-FitsBlock interfaces (PacketBlock number high low bytes rest) = (number < 2 ^ 32) × (length bytes < 2 ^ 32) × (padded (length bytes) ≤ length bytes + length rest) × HasInterface interfaces number (λ i. Unit {0})
-FitsBlock interfaces (ObsoleteBlock number drops high low bytes rest) = (number < 2 ^ 16) × (length bytes < 2 ^ 32) × (padded (length bytes) ≤ length bytes + length rest) × HasInterface interfaces number (λ i. Unit {0})
-FitsBlock interfaces (SimpleBlock bytes rest) = (length bytes < 2 ^ 32) × (padded (length bytes) ≤ length bytes + length rest) × HasInterface interfaces 0 (λ i. (i.snap_length ≡ 0) ⊎ (length bytes ≤ i.snap_length))
+FitsBlock interfaces (PacketBlock number high low original bytes rest) = (number < 2 ^ 32) × (length bytes < 2 ^ 32) × (padded (length bytes) ≤ length bytes + length rest) × (original < 2 ^ 32) × HasInterface interfaces number (λ i. IsUncut i original bytes)
+FitsBlock interfaces (ObsoleteBlock number drops high low original bytes rest) = (number < 2 ^ 16) × (length bytes < 2 ^ 32) × (padded (length bytes) ≤ length bytes + length rest) × (original < 2 ^ 32) × HasInterface interfaces number (λ i. IsUncut i original bytes)
+FitsBlock interfaces (SimpleBlock original bytes rest) = (original < 2 ^ 32) × (padded (length bytes) ≤ length bytes + length rest)
+    × HasInterface interfaces 0 (λ i. (captured_length i.snap_length original ≡ length bytes) × IsUncut i original bytes)
 FitsBlock interfaces (OtherBlock kind body) = (kind < 2 ^ 32) × (kind ≢ 1) × (kind ≢ 2) × (kind ≢ 3) × (kind ≢ 6) × (kind ≢ 0x0a0d0d0a)
 
 abbrev pub AllFitBlocks : ByteOrder → List Interface → List FileBlock → Type 0
@@ -126,9 +132,9 @@ bytes_by bytes (Some i) = if i.link_type == 231 then bytes else []
 
 abbrev pub block_payload : List Interface → FileBlock → List ℕ
 block_payload interfaces (InterfaceBlock link_type reserved snap_length options end) = []
-block_payload interfaces (PacketBlock number high low bytes rest) = bytes_by bytes (slice_get interfaces number)
-block_payload interfaces (ObsoleteBlock number drops high low bytes rest) = bytes_by bytes (slice_get interfaces number)
-block_payload interfaces (SimpleBlock bytes rest) = bytes_by bytes (slice_get interfaces 0)
+block_payload interfaces (PacketBlock number high low original bytes rest) = bytes_by bytes (slice_get interfaces number)
+block_payload interfaces (ObsoleteBlock number drops high low original bytes rest) = bytes_by bytes (slice_get interfaces number)
+block_payload interfaces (SimpleBlock original bytes rest) = bytes_by bytes (slice_get interfaces 0)
 block_payload interfaces (OtherBlock kind body) = []
 
 abbrev pub blocks_payload : List Interface → List FileBlock → List ℕ

@@ -27,37 +27,37 @@ pcap_packet_reported h packets p = record {
 -- a block has a packet, and its time, if it has one, is spelled by two numbers
 abbrev pub IsTimed : FileBlock → Type 0
 IsTimed (InterfaceBlock link_type reserved snap_length options end) = ⊥
-IsTimed (PacketBlock number high low bytes rest) = (high < 2 ^ 32) × (low < 2 ^ 32)
-IsTimed (ObsoleteBlock number drops high low bytes rest) = (high < 2 ^ 32) × (low < 2 ^ 32)
-IsTimed (SimpleBlock bytes rest) = Unit {0}
+IsTimed (PacketBlock number high low original bytes rest) = (high < 2 ^ 32) × (low < 2 ^ 32)
+IsTimed (ObsoleteBlock number drops high low original bytes rest) = (high < 2 ^ 32) × (low < 2 ^ 32)
+IsTimed (SimpleBlock original bytes rest) = Unit {0}
 IsTimed (OtherBlock kind body) = ⊥
 
 -- the number of the interface of a block's packet
 abbrev pub interface_of : FileBlock → ℕ
-interface_of (PacketBlock number high low bytes rest) = number
-interface_of (ObsoleteBlock number drops high low bytes rest) = number
+interface_of (PacketBlock number high low original bytes rest) = number
+interface_of (ObsoleteBlock number drops high low original bytes rest) = number
 interface_of block = 0
 
 -- the bytes of a block's packet
 abbrev pub packet_bytes : FileBlock → List ℕ
-packet_bytes (PacketBlock number high low bytes rest) = bytes
-packet_bytes (ObsoleteBlock number drops high low bytes rest) = bytes
-packet_bytes (SimpleBlock bytes rest) = bytes
+packet_bytes (PacketBlock number high low original bytes rest) = bytes
+packet_bytes (ObsoleteBlock number drops high low original bytes rest) = bytes
+packet_bytes (SimpleBlock original bytes rest) = bytes
 packet_bytes block = []
 
 -- its time
 abbrev pub packet_time : Interface → FileBlock → Option ℕ
-packet_time i (PacketBlock number high low bytes rest) = time_of i (high * 2 ^ 32 + low)
-packet_time i (ObsoleteBlock number drops high low bytes rest) = time_of i (high * 2 ^ 32 + low)
+packet_time i (PacketBlock number high low original bytes rest) = time_of i (high * 2 ^ 32 + low)
+packet_time i (ObsoleteBlock number drops high low original bytes rest) = time_of i (high * 2 ^ 32 + low)
 packet_time i block = None
 
 -- what comes before these bytes in the block, after its type and its length
 abbrev pub packet_front : ByteOrder → FileBlock → List ℕ
-packet_front order (PacketBlock number high low bytes rest) =
-    u32_bytes order number ++ (u32_bytes order high ++ (u32_bytes order low ++ (u32_bytes order (length bytes) ++ u32_bytes order (length bytes))))
-packet_front order (ObsoleteBlock number drops high low bytes rest) =
-    (u16_bytes order number ++ u16_bytes order drops) ++ (u32_bytes order high ++ (u32_bytes order low ++ (u32_bytes order (length bytes) ++ u32_bytes order (length bytes))))
-packet_front order (SimpleBlock bytes rest) = u32_bytes order (length bytes)
+packet_front order (PacketBlock number high low original bytes rest) =
+    u32_bytes order number ++ (u32_bytes order high ++ (u32_bytes order low ++ (u32_bytes order (length bytes) ++ u32_bytes order original)))
+packet_front order (ObsoleteBlock number drops high low original bytes rest) =
+    (u16_bytes order number ++ u16_bytes order drops) ++ (u32_bytes order high ++ (u32_bytes order low ++ (u32_bytes order (length bytes) ++ u32_bytes order original)))
+packet_front order (SimpleBlock original bytes rest) = u32_bytes order original
 packet_front order block = []
 
 -- what comes before them in all
