@@ -1,17 +1,19 @@
 -- What a capture takes of its file in several turns.
-use Rattle.std.proofs.Common.{◌≡◌, ◌≢◌, ◌≤◌, ◌<◌, ◌+◌, ◌^◌, ◌-◌, ℕ, true, List, [], ◌++◌, length, take, drop, Option, None, Some, Result, Ok, Err, is_some, inl, inr, refl, sym, ap, ◌∙◌, subst, arith, append_assoc, append-nil, length-append, take-append-drop}
+use Rattle.std.proofs.Common.{◌≡◌, ◌≢◌, ◌≤◌, ◌<◌, ◌+◌, ◌^◌, ◌-◌, ℕ, zero, suc, true, false, List, [], ◌∷◌, ◌++◌, length, take, drop, Option, None, Some, Result, Ok, Err, MatchResult, is_some, inl, inr, refl, sym, ap, ◌∙◌, subst, arith, append_assoc, append-nil, length-append, take-append-drop}
 use Rattle.std.specs.Io.KnownBytes.{Consumes, Keeps, IsAtEnd, ReadConsumes, prepend_known}
 use Rattle.std.proofs.KnownBytes.{Consumes-nil, Consumes-trans}
 use Rattle.std.specs.List.{slice_range}
-use Rattle.std.proofs.lemmas.List.{drop-take, drop-drop, length-take}
+use Rattle.std.proofs.lemmas.List.{drop-take, drop-drop, length-take, length-take-le}
 use Rattle.std.proofs.Math.Nat.{min-le_left}
 use Rattle.dbus_device.specs.Device.{one_more, ReadCounts}
 use Rattle.dbus_device.specs.declared.device_fault.DeviceFault.{DeviceFault}
 use Rattle.dbus_capture.specs.declared.scan.Scan.{Scan}
 use Rattle.dbus_capture.specs.declared.capture.Capture.{Capture}
-use Rattle.dbus_capture.specs.Steps.{run, given, ended, IsPart}
+use Rattle.dbus_capture.specs.Steps.{Turn, turn_of, may_end, run, given, ended, IsPart}
 use Rattle.dbus_capture.specs.Captures.{given_of, source_of, scan_of, kept_of, file_of, left_of, gave_up_of, calls_of, failures_of, HandsOn, Reads, GivesPart, Ends, IsUnfailed, GivesUp, ReadsPart, Waits}
-use Rattle.dbus_capture.proofs.StepLaws.{run-append, given-append, run_stopped}
+use Rattle.dbus_capture.specs.Stages.{is_raw}
+use Rattle.dbus_capture.proofs.BlockTurns.{when_true}
+use Rattle.dbus_capture.proofs.StepLaws.{run-append, given-append, run_stopped, run_raw, none_of, turn_passes}
 
 -- a part that ends where it begins
 pub no_part : (bytes : List ℕ) (start end : ℕ) → end ≤ start → slice_range bytes start end ≡ []
@@ -259,3 +261,85 @@ module _ {R : Type 0} (left : R → Option (List ℕ)) (failures : R → ℕ) wh
     source = ap failures source ∙ p.unfailed.source;
     gave_up = gave_up ∙ ap one_more p.unfailed.gave_up;
   }
+
+-- ---- a stream with no file around it
+
+consumed_below : (a b : Option (List ℕ)) (k l used : List ℕ) → k ≡ [] → l ≡ [] → Consumes a b used → Consumes (prepend_known k a) (prepend_known l b) used
+consumed_below None b k l used p q c = tt
+consumed_below (Some x) None k l used p q c = absurd c
+consumed_below (Some x) (Some y) k l used p q c = ap (λ z. z ++ x) p ∙ c ∙ ap (λ z. used ++ (z ++ y)) (sym q)
+
+consumes_kept : (a b : Option (List ℕ)) → Keeps a b → Consumes a b []
+consumes_kept None b k = tt
+consumes_kept (Some x) None k = absurd k
+consumes_kept (Some x) (Some y) k = sym k
+
+-- it may end anywhere
+ended_raw : (s : Scan) → is_some s.fault ≡ false → is_raw s.head.stage ≡ true → ended s ≡ s
+ended_raw s p q =
+    when_true (may_end (turn_of s) s.head.stage s.head.bytes) s _
+    (ap (λ (t : Turn). may_end t s.head.stage s.head.bytes) (turn_passes s.fault (is_raw s.head.stage) s.give s.skip (none_of s.fault p) q))
+
+-- the source below was called for such a stream, of which no bytes were kept
+pub record PassesOn {R : Type 0} (old new : Capture R) : Type 0 where
+  pub none : kept_of old ≡ []
+  pub empty : kept_of new ≡ []
+  pub scan : scan_of new ≡ scan_of old
+  pub gave_up : gave_up_of new ≡ gave_up_of old
+  pub unfaulted : is_some (scan_of old).fault ≡ false
+  pub raw : is_raw (scan_of old).head.stage ≡ true
+
+module _ {R : Type 0} (left : R → Option (List ℕ)) (failures : R → ℕ) where
+  raw_reads : (old new : Capture R) (used : List ℕ) → PassesOn old new → Consumes (left (source_of old)) (left (source_of new)) used → Reads left old new used
+  raw_reads old new used p c =
+      let r = run_raw (scan_of old) used p.unfaulted p.raw in record {
+        used = used;
+        consumed = consumed_below (left (source_of old)) (left (source_of new)) (kept_of old) (kept_of new) used p.none p.empty c;
+        gave = r.1;
+        ran = p.scan ∙ sym r.0;
+      }
+
+  raw_ends : (old new : Capture R) → PassesOn old new → Consumes (left (source_of old)) (left (source_of new)) [] → IsAtEnd (left (source_of new)) → Ends left old new
+  unfolding raw_reads
+  raw_ends old new p c end =
+      let r = raw_reads old new [] p c in record {
+        used = [];
+        consumed = r.consumed;
+        gave = r.gave;
+        ran = p.scan ∙ sym (ended_raw (scan_of old) p.unfaulted p.raw) ∙ ap ended (sym (run_raw (scan_of old) [] p.unfaulted p.raw).0);
+        nothing = p.empty;
+        at_end = end;
+      }
+
+  raw_gives : (old new : Capture R) (n : ℕ) (buffer : List ℕ) → n ≤ length buffer → PassesOn old new → Consumes (left (source_of old)) (left (source_of new)) (take n buffer)
+      → GivesPart left old new n (take n buffer)
+  unfolding raw_reads run given
+  raw_gives old new n buffer within p c = record {
+    reads = raw_reads old new (take n buffer) p c;
+    one = λ some. record {
+      before = [];
+      last = take n buffer;
+      joined = refl;
+      size = length-take-le n buffer within;
+      nothing = refl;
+      part = inr (ap (λ (s : Scan). is_raw s.head.stage) p.scan ∙ p.raw);
+    };
+  }
+
+  -- what the source below gives is given
+  pub raw_part : (old new : Capture R) (r : Result ℕ DeviceFault) (buffer : List ℕ) → PassesOn old new → MatchResult r (λ n. n ≤ length buffer) (λ e. Unit {0})
+      → ReadConsumes (left (source_of old)) (left (source_of new)) r buffer → ReadCounts (failures (source_of old)) (failures (source_of new)) r
+      → ReadsPart left failures old new r buffer
+  raw_part old new (Err e) buffer p b c f =
+      inl (record { reads = raw_reads old new [] p (consumes_kept (left (source_of old)) (left (source_of new)) c); source = f; gave_up = p.gave_up })
+  raw_part old new (Ok (suc n)) buffer p b c f =
+      (record { source = f; gave_up = p.gave_up }, inl (raw_gives old new (suc n) buffer b p c.0, λ zero room. absurd (omega (arith, zero))))
+  raw_part old new (Ok zero) [] p b c f =
+      (record { source = f; gave_up = p.gave_up }, inl (raw_gives old new 0 [] b p c.0, λ zero room. absurd (omega (arith, room))))
+  raw_part old new (Ok zero) (x ∷ xs) p b c f =
+      (record { source = f; gave_up = p.gave_up }, inr (refl, raw_ends old new p c.0 (c.1 refl (omega arith))))
+
+-- of nothing that is kept nothing is given
+pub none_given : {R : Type 0} (s : Capture R) → kept_of s ≡ [] → given (scan_of s) (kept_of s) ≡ []
+unfolding given
+none_given s none = ap (given (scan_of s)) none

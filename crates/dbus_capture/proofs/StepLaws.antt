@@ -29,7 +29,7 @@ given-append s (x ∷ xs) ys =
 
 -- ---- which turn it is
 
-turn_passes : (f : Option CaptureFault) (raw : Bool) (give skip : ℕ) → f ≡ None → raw ≡ true → turn_by f raw give skip ≡ Passes
+pub turn_passes : (f : Option CaptureFault) (raw : Bool) (give skip : ℕ) → f ≡ None → raw ≡ true → turn_by f raw give skip ≡ Passes
 turn_passes (Some f) raw give skip p q = cc
 turn_passes None true give skip p q = refl
 turn_passes None false give skip p q = cc
@@ -129,7 +129,7 @@ opens_start s piece n p q some more o =
 
 -- ---- many
 
-none_of : (f : Option CaptureFault) → is_some f ≡ false → f ≡ None
+pub none_of : (f : Option CaptureFault) → is_some f ≡ false → f ≡ None
 none_of None p = refl
 none_of (Some f) p = cc
 

@@ -15,7 +15,8 @@ const ROOM: usize = 65_536;
 /// source below. If the first byte is that of no such file, all bytes are handed on as they are: a
 /// message begins with `l` or `B`, and a handshake with the byte 0 or one of the letters ABCDENOR.
 ///
-/// It allocates nothing, and keeps 65,536 bytes and about 1,000 more.
+/// It allocates nothing, and keeps 65,536 bytes and about 1,000 more. What is no file it reads into
+/// the caller's buffer, but for the first 65,536 bytes at most.
 ///
 /// ```rust
 /// use dbus_capture::Capture;
@@ -48,7 +49,8 @@ pub struct Capture<R> {
 }
 
 impl<R: Source> Capture<R> {
-    ghost use Rattle.std.specs.Prelude.{◌<◌, IfOk, is_some, take};
+    ghost use Rattle.std.specs.Prelude.{◌<◌, IfOk, IsTrue, is_some, take, true};
+    ghost use Rattle.dbus_capture.specs.Stages.{is_raw};
     ghost use Rattle.std.specs.Io.KnownBytes.{Consumes};
     ghost use Rattle.dbus_capture.specs.Scans.{fresh};
     ghost use Rattle.dbus_capture.specs.Captures.{source_of, scan_of, kept_of, gave_up_of, calls_of, file_of, HasBytes, HandsOn, ReadsPart, Waits, Stops};
@@ -142,6 +144,15 @@ impl<R: Source> Capture<R> {
         given
     }
 
+    // Whether no bytes are kept of a stream with no file around it.
+    #[tactic(auto, using(crate::proofs::CaptureSteps::no_part))]
+    fn passes_on(&self) -> bool
+        ensures kept { IsTrue result → kept_of self.now ≡ [] }
+        ensures raw { IsTrue result → is_raw (scan_of self.now).head.stage ≡ true }
+    {
+        self.start == self.end && self.scan.head.stage().is_raw()
+    }
+
     // Reads bytes of a packet, in as many turns as that takes.
     fn read_part(&mut self, buffer: &mut [u8]) -> Result<usize, DeviceFault>
         ensures bound { IfOk result (λ n. n ≤ length buffer.new) }
@@ -152,6 +163,9 @@ impl<R: Source> Capture<R> {
     {
         if self.is_stopped() {
             return Ok(0);
+        }
+        if self.passes_on() {
+            return self.source.read(buffer);
         }
         'turns: for turn in 0..u64::MAX {
             if !self.fill()? {

@@ -1,7 +1,7 @@
 use Rattle.std.proofs.Common.{◌≡◌, ◌<◌, ◌∙◌, ◌+◌, ◌^◌, ◌≤◌, ℕ, Bool, true, false, nat_eq, List, [], ◌∷◌, take, length, Ok, inl, inr, refl, sym, ap, subst, arith}
 use Rattle.std.proofs.KnownBytes.{Consumes-nil}
 use Rattle.dbus_capture.specs.Captures.{kept_of, file_of, HandsOn, HasBytes}
-use Rattle.dbus_capture.proofs.CaptureSteps.{reads_nothing, gives_part, passes_nothing, passes_filled, passes_more, none_kept, part_end, part_gives_up}
+use Rattle.dbus_capture.proofs.CaptureSteps.{reads_nothing, gives_part, passes_nothing, passes_filled, passes_more, none_kept, part_end, part_gives_up, PassesOn, raw_part, none_given}
 use Rattle.dbus_capture.proofs.capture.Capture.read_part.Goals.{then-count-gt0-via-then-count-gt0, then-count-gt0-via-else-count-gt0+then-is_empty, then-count-gt0-via-else-count-gt0+else-is_empty+then-is_stopped-2}
 use Rattle.dbus_capture.proofs.capture.Capture.read_part.Goals as goal
 
@@ -13,6 +13,22 @@ returns-then-is_stopped-clause-part g c = (
     λ zero room. sym c.is_stopped.ensures ∙ c.if-is_stopped.true,
   ),
 )
+
+pub returns-then-passes_on-clause-part : goal.returns-then-passes_on-clause-part
+returns-then-passes_on-clause-part g c =
+    let e = c.read.ensures in
+    let p : PassesOn c.args.self.now _ = record {
+      none = c.passes_on.ensures.kept c.if-passes_on.true;
+      empty = c.passes_on.ensures.kept c.if-passes_on.true;
+      scan = refl;
+      gave_up = refl;
+      unfaulted = sym c.is_stopped.ensures ∙ c.if-is_stopped.false;
+      raw = c.passes_on.ensures.raw c.if-passes_on.true;
+    } in
+    raw_part g.R.Source.left g.R.Source.failures c.args.self.now _ c.read.result c.read.new.buffer p e.bound e.bytes e.failed
+
+pub returns-then-passes_on-clause-waits : goal.returns-then-passes_on-clause-waits
+returns-then-passes_on-clause-waits g c some = absurd (some (none_given c.args.self.now (c.passes_on.ensures.kept c.if-passes_on.true)))
 
 pub turns-init : goal.turns-init
 turns-init g c = passes_nothing g.R.Source.left g.R.Source.failures c.args.self.now
