@@ -1,1 +1,2 @@
 pub mod NoWords
+pub mod FileFaults

@@ -1,10 +1,12 @@
 //! `dbus-wire`: reads D-Bus messages from standard input, one after the other, and does with them
 //! what its command line says: `show` writes each as text, `json` as a line of JSON, `swap` in one
 //! byte order, `filter` those that match a rule as they came, and `check` counts them. With
-//! `--handshake` the messages follow the handshake of one side of a connection.
+//! `--handshake` the messages follow the handshake of one side of a connection. Of a pcap or pcapng
+//! file it reads the D-Bus packets.
 //!
 //! Output and help go to standard output. That an input is refused is told on standard error, by
-//! `check` on standard output; why the command line is wrong or a run failed, on standard error.
+//! `check` on standard output; why a file's packets cannot be read on, why the command line is
+//! wrong or a run failed, on standard error.
 //! The exit status is 0 if the whole input is messages, or help or the version was asked for; 1 if
 //! the input is refused; 2 if the command line is wrong; 3 if a read or a write failed, too many
 //! reads were made, or memory ran out.
@@ -17,19 +19,25 @@ ghost use Rattle.dbus_tool.specs.Handshaking.{Shows};
 ghost use Rattle.dbus_tool.specs.Words.{RunsWords};
 ghost use Rattle.dbus_wire.specs.NoWords.{TellsNoWords};
 
+mod file_fault;
+
+use dbus_capture::Capture;
 use dbus_stream::{FromRead, FromWrite, Sink, Source, WrittenOnly, write_all};
 use dbus_tool::{ExitStatus, ReadAhead, run_words};
+use file_fault::tell_fault;
 use std::alloc::Global;
 use std::io::ErrorKind;
 use std::process::ExitCode;
 use std::{env, io};
 
 fn main(rt: HostRuntime) -> ExitCode {
-    let mut reader = ReadAhead::new(FromRead::new(rt.stdin()));
+    let mut capture = Capture::new(FromRead::new(rt.stdin()), false);
+    let mut reader = ReadAhead::new(&mut capture);
     let mut first = FromWrite::new(rt.stdout());
     let mut second = FromWrite::new(rt.stderr());
     let words = words_of(&rt);
     let status = run(rt.alloc(), words, &mut reader, &mut first, &mut second);
+    let status = tell_fault(rt.alloc(), capture.fault(), status, &mut second);
     ExitCode::from(status.code())
 }
 
