@@ -1,6 +1,6 @@
 //! What is said of the fault of a file that holds the messages.
 ghost use Rattle.std.specs.Prelude.{◌≡◌, IfOk, string_bytes};
-ghost use Rattle.dbus_wire.specs.FileFaults.{TellsFault, fault_line};
+ghost use Rattle.dbus_wire.specs.FileFaults.{TellsFault, TellsLine, fault_line};
 
 use crate::tell;
 use cli_report::{Cause, give_up};
@@ -23,12 +23,20 @@ pub(crate) fn tell_fault<E: Sink>(
         return status;
     };
     match status {
+        ExitStatus::Done => refuse_file(alloc, fault, second),
+        ExitStatus::Refused => refuse_file(alloc, fault, second),
         ExitStatus::Usage => ExitStatus::Usage,
         ExitStatus::Failed => ExitStatus::Failed,
-        ExitStatus::Done | ExitStatus::Refused => match fault_line(alloc, fault) {
-            Ok(line) => tell(line.as_str(), ExitStatus::Refused, second),
-            Err(AllocError) => give_up(Cause::Memory, second),
-        },
+    }
+}
+
+// Writes why no more of the file can be read.
+fn refuse_file<E: Sink>(alloc: Global, fault: CaptureFault, second: &mut E) -> ExitStatus
+    ensures { TellsLine E.held E.failures second.old second.new fault result }
+{
+    match fault_line(alloc, fault) {
+        Ok(line) => tell(line.as_str(), ExitStatus::Refused, second),
+        Err(AllocError) => give_up(Cause::Memory, second),
     }
 }
 
