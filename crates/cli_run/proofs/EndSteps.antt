@@ -62,7 +62,7 @@ unread left calls read_failures r held failures w second_held second_failures e0
 
 -- the writers at the end are w2 and e2
 module _ {A W E : Type 0} (held : W → Option (List ℕ)) (failures : W → ℕ) (second_held : E → Option (List ℕ)) (second_failures : E → ℕ) (a b : OutputWriter A W E) (settings : Settings) (command : Command)
-    (own : command_of a.output ≡ command) (carried : a.carried ≡ record { window = settings.window; owners = None; room = None }) (none : gathered_bytes a.gathered ≡ []) {w2 : W} {e2 : E}
+    (own : command_of a.output ≡ command) (carried : a.carried ≡ record { window = settings.window; owners = None }) (none : gathered_bytes a.gathered ≡ []) {w2 : W} {e2 : E}
     (first : b.first.now ≡ w2) (second : b.second.now ≡ e2) where
   abbrev w : Writing W
   w = writing held failures a.first.now w2

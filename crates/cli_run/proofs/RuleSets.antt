@@ -1,5 +1,5 @@
--- Rules in a set: which messages they match, and that they are found.
-use Rattle.std.proofs.Common.{◌≡◌, ℕ, ◌+◌, ◌<◌, ◌≤◌, ◌⊎◌, ◌==◌, Bool, true, false, List, [], ◌∷◌, ◌++◌, None, Some, Ordering, Less, Equal, Greater, cond, length, get_or, drop, inl, inr, ⊎_elim, refl, sym, ap, ◌∙◌, subst, arith, length-append}
+-- Rules in a set: which messages they match.
+use Rattle.std.proofs.Common.{◌≡◌, ℕ, ◌+◌, ◌<◌, ◌⊎◌, Bool, true, false, not, List, [], ◌∷◌, None, Some, Ordering, Less, Equal, Greater, cond, length, get_or, drop, inl, inr, ⊎_elim, refl, sym, ap, ◌∙◌, subst}
 use mathlib.Core.Bool.{beq}
 use Rattle.std.specs.Prelude.{◌↔◌}
 use Rattle.std.specs.Bool.{Decides}
@@ -14,7 +14,7 @@ use Rattle.dbus_rule.proofs.PairChoices.{Either}
 use Rattle.dbus_rule.specs.RuleViews.{rule_pairs}
 use Rattle.dbus_rule.specs.declared.rule.Rule.{Rule}
 use Rattle.dbus_rule_set.specs.Handles.{handle_cmp}
-use Rattle.dbus_rule_set.specs.Held.{Collects, EntryMatches, rule_at, with_rule}
+use Rattle.dbus_rule_set.specs.Held.{EntryMatches, HoldsOfAny, rule_at, with_rule}
 use Rattle.dbus_rule_set.specs.declared.handle.RuleHandle.{RuleHandle}
 use Rattle.cli_options.specs.Selections.{OrInverted, SomeMatches}
 
@@ -67,34 +67,23 @@ module _ (m : MessageTree) (os : List Ownership) where
             t),
       )
 
-  -- ---- what is found
+  -- ---- whether any matches
 
-  longer : (es : Entries) (u v : List RuleHandle) → Collects (EntryMatches m os) es u v → length u ≤ length v
-  longer [] u v c = omega (arith, ap length c)
-  longer (e ∷ es) u v c =
-      ⊎_elim (λ h. let k = longer es (u ++ e.0 ∷ []) v h.1 in omega (arith, k, length-append u (e.0 ∷ []))) (λ h. longer es u v h.1) c
+  met : (es : Entries) → HoldsOfAny (EntryMatches m os) es → Met es
+  met [] h = h
+  met (e ∷ es) h = ⊎_elim (λ a. inl a) (λ b. inr (met es b)) h
 
-  grown : (es : Entries) (u v : List RuleHandle) → Collects (EntryMatches m os) es u v → Met es → length u < length v
-  grown [] u v c s = absurd s
-  grown (e ∷ es) u v c s =
-      ⊎_elim (λ h. let k = longer es (u ++ e.0 ∷ []) v h.1 in omega (arith, k, length-append u (e.0 ∷ [])))
-      (λ h. ⊎_elim (λ a. absurd (h.0 a)) (λ b. grown es u v h.1 b) s) c
+  met_any : (es : Entries) → Met es → HoldsOfAny (EntryMatches m os) es
+  met_any [] s = s
+  met_any (e ∷ es) s = ⊎_elim (λ a. inl a) (λ b. inr (met_any es b)) s
 
-  unchanged : (es : Entries) (u v : List RuleHandle) → Collects (EntryMatches m os) es u v → (Met es → ⊥) → v ≡ u
-  unchanged [] u v c n = c
-  unchanged (e ∷ es) u v c n = ⊎_elim (λ h. absurd (n (inl h.0))) (λ h. unchanged es u v h.1 (λ s. n (inr s))) c
+  pub any_met : (es : Entries) (any : Bool) → Decides any (HoldsOfAny (EntryMatches m os) es) → Decides any (Met es)
+  any_met es any d = (λ t. met es (d.0 t), λ s. d.1 (met_any es s))
 
-  -- nothing is found exactly if none matches
-  pub none_found : (es : Entries) (found : List RuleHandle) → Collects (EntryMatches m os) es [] found → Decides (length found == 0) (Met es → ⊥)
-  none_found es found c = (
-    λ t s. let more = grown es [] found c s in let none : length found ≡ 0 = grind (arith, t) in omega (arith, more, none),
-    λ n. ap (λ (l : List RuleHandle). length l == 0) (unchanged es [] found c n),
-  )
-
--- whether a message is selected, by whether no rule matches it
-pub selected_by : (none inverted : Bool) (P : Type 0) → Either (OrInverted inverted P) → Decides none (P → ⊥) → Decides (beq none inverted) (OrInverted inverted P)
-selected_by false false P (inl p) d = (λ t. p, λ q. refl)
-selected_by false false P (inr n) d = absurd (false≢true (d.1 n))
-selected_by false true P e d = d
-selected_by true false P e d = (λ t. absurd (false≢true t), λ p. absurd (d.0 refl p))
-selected_by true true P e d = d
+-- whether a message is selected, by whether any of the same rules matches it
+pub selected_by : (any inverted : Bool) (P Q : Type 0) → Either (OrInverted inverted P) → Decides any Q → ((P → ⊥) ↔ (Q → ⊥)) → Decides (not (beq any inverted)) (OrInverted inverted P)
+selected_by false false P Q e d k = (λ t. absurd (false≢true t), λ p. absurd (k.1 (λ q. false≢true (d.1 q)) p))
+selected_by false true P Q e d k = (λ t. k.1 (λ q. false≢true (d.1 q)), λ n. refl)
+selected_by true false P Q (inl p) d k = (λ t. p, λ q. refl)
+selected_by true false P Q (inr n) d k = absurd (k.0 n (d.0 refl))
+selected_by true true P Q e d k = (λ t. absurd (false≢true t), λ n. absurd (k.0 n (d.0 refl)))

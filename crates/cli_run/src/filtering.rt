@@ -13,17 +13,15 @@ use crate::place::Lent;
 use crate::selector::Selector;
 use cli_options::Selection;
 use dbus_match::Owner;
-use dbus_rule_set::RuleHandle;
 use dbus_view::MessageView;
 use std::alloc::AllocError;
 
 /// Whether the message is selected by the owners that are known before it. What it tells of owners
-/// is learned then. `room` is kept for the next message.
+/// is learned then.
 pub(crate) fn select(
     selector: &Selector,
     lent: &Lent,
     owners: &mut Option<Vec<Owner>>,
-    room: &mut Option<Vec<RuleHandle>>,
 ) -> Result<bool, AllocError>
     requires { IsValidatedWhole lent.now.limits lent.now.bytes.now lent.now.validated }
     ensures { (order : Order) (m : MessageTree) →
@@ -32,7 +30,7 @@ pub(crate) fn select(
 {
     let view = MessageView::of_validated(lent.bytes, lent.limits, lent.validated);
     let selection = selector.selection;
-    let is_selected = selector.selects(&view, known_owners(selection, owners), room)?;
+    let is_selected = selector.selects(&view, known_owners(selection, owners));
     selection.learn(&view, owners)?;
     Ok(is_selected)
 }

@@ -18,7 +18,6 @@ use crate::window::lets_through;
 use cli_options::Command;
 use cli_report::{Cause, Gathered, put_out};
 use dbus_match::Owner;
-use dbus_rule_set::RuleHandle;
 use dbus_stream::Sink;
 use dbus_value_model::Order;
 use std::alloc::{AllocError, Allocator};
@@ -67,12 +66,7 @@ pub(crate) fn is_check(output: &Output) -> bool
 }
 
 // Whether the command makes a text of the message. It learns from the message after that.
-fn picks(
-    output: &Output,
-    lent: &Lent,
-    owners: &mut Option<Vec<Owner>>,
-    room: &mut Option<Vec<RuleHandle>>,
-) -> Result<bool, AllocError>
+fn picks(output: &Output, lent: &Lent, owners: &mut Option<Vec<Owner>>) -> Result<bool, AllocError>
     requires { IsValidatedWhole lent.now.limits lent.now.bytes.now lent.now.validated }
     ensures { (order : Order) (m : MessageTree) →
         IsWhole lent.now.limits lent.now.bytes.now order m (length lent.now.bytes.now) →
@@ -83,7 +77,7 @@ fn picks(
         Output::Text => Ok(true),
         Output::JsonLine => Ok(true),
         Output::InOrder(_) => Ok(true),
-        Output::Matching(selector) => select(selector, lent, owners, room),
+        Output::Matching(selector) => select(selector, lent, owners),
     }
 }
 
@@ -131,7 +125,7 @@ pub(crate) fn hand_one<A: Allocator + Copy, W: Sink>(
         HandsOne (writing W.held W.failures first.old first.new) (command_of output.now) carried.old carried.new order m
         lent.now.place (gathered_bytes gathered.old) (gathered_bytes gathered.new) result }
 {
-    let Ok(picked) = picks(output, lent, &mut carried.owners, &mut carried.room) else {
+    let Ok(picked) = picks(output, lent, &mut carried.owners) else {
         return Err(Cause::Memory);
     };
     if !picked {

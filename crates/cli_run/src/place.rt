@@ -1,7 +1,6 @@
 //! A message of an input, and which of its messages it is.
 use cli_options::Window;
 use dbus_match::Owner;
-use dbus_rule_set::RuleHandle;
 use dbus_validate::Validated;
 use dbus_value_model::Limits;
 
@@ -21,8 +20,6 @@ pub(crate) struct Carried {
     pub(crate) window: Window,
     /// The owners of names, once a message changed those of the command.
     pub(crate) owners: Option<Vec<Owner>>,
-    /// Room for what is found of the rules that match a message, once they were asked.
-    pub(crate) room: Option<Vec<RuleHandle>>,
 }
 
 /// A message of an input.

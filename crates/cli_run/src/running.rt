@@ -79,9 +79,8 @@ pub fn run_reads<A: Allocator + Copy, R: Source, W: Sink, E: Sink>(
 /// gets no more after a write to it failed.
 ///
 /// The run holds at most the bytes of one message and of one read, what is gathered, for `Swap` room
-/// for the longest message so far that it byteswaps, and for `Filter` its rules once more, in a set,
-/// and room for what is found of them. `Check` builds no message, and allocates nothing for
-/// messages.
+/// for the longest message so far that it byteswaps, and for `Filter` its rules once more, in a set.
+/// `Check` builds no message, and allocates nothing for messages.
 ///
 /// `Done`, `Refused`: all was written, no read and no write failed, and the status says which.
 /// `Failed`: a read failed, a write to either writer failed or took none of its bytes, as many
@@ -161,7 +160,6 @@ pub fn run_with<A: Allocator + Copy, R: Source, W: Sink, E: Sink>(
         carried: Carried {
             window: settings.window,
             owners: None,
-            room: None,
         },
         spare: Vec::new(alloc),
         gathered: Gathered::new(),

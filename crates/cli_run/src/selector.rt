@@ -11,7 +11,7 @@ ghost use Rattle.cli_run.specs.RuleLists.{MatchAlike};
 
 use cli_options::Selection;
 use dbus_match::{Owner, Rule};
-use dbus_rule_set::{RuleHandle, RuleSet};
+use dbus_rule_set::RuleSet;
 use dbus_view::MessageView;
 use std::alloc::{AllocError, Global};
 
@@ -35,27 +35,12 @@ impl<'a> Selector<'a> {
         Ok(Selector { selection, rules })
     }
 
-    /// Whether the message that the view is of is selected if these are the owners of names. What
-    /// is found of the rules is kept in `room` for the next message.
-    ///
-    /// Returns `AllocError` only if more rules match than matched a message before, and there is
-    /// not enough memory for what is found of them.
-    pub(crate) fn selects(
-        &self,
-        view: &MessageView,
-        owners: &[Owner],
-        room: &mut Option<Vec<RuleHandle>>,
-    ) -> Result<bool, AllocError>
+    /// Whether the message that the view is of is selected if these are the owners of names.
+    pub(crate) fn selects(&self, view: &MessageView, owners: &[Owner]) -> bool
         ensures { (order : Order) (m : MessageTree) → Views view.now order m →
-            IfOk result (λ selected. IsTrue selected ↔ SelectsBy self.now.selection.now (ownerships owners.now) m) }
+            IsTrue result ↔ SelectsBy self.now.selection.now (ownerships owners.now) m }
     {
-        let alloc = *self.selection.rules.allocator();
-        let mut found = room.take().unwrap_or(Vec::new(alloc));
-        found.clear();
-        self.rules.matching(view, owners, &mut found)?;
-        let selected = found.is_empty() == self.selection.is_inverted;
-        *room = Some(found);
-        Ok(selected)
+        self.rules.any_matches(view, owners) != self.selection.is_inverted
     }
 }
 

@@ -87,8 +87,8 @@ impl WireHandle {
     }
 
     /// What stands for each rule that matches the message that the view is of, with the owners of
-    /// names that it keeps, as [`dbus_rule_set::RuleSet::matching_by`] says; an error only if
-    /// memory runs out.
+    /// names that it keeps, as [`dbus_rule_set::RuleSet::matching`] says; an error only if memory
+    /// runs out.
     pub fn matching(
         &mut self,
         alloc: Global,
@@ -103,7 +103,7 @@ impl WireHandle {
             return Ok(found);
         };
         let searched = match kept.rules() {
-            Some(own) => own.rules.matching_by(view, &own.owners, &mut found),
+            Some(own) => own.rules.matching(view, &own.owners, &mut found),
             None => Ok(()),
         };
         *self = WireHandle::of(kept);

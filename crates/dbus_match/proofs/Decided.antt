@@ -5,12 +5,13 @@ use Rattle.std.specs.List.{AllByRecursion}
 use Rattle.std.proofs.lemmas.List.{drop_more}
 use Rattle.dbus_message_model.specs.Messages.{MessageTree}
 use Rattle.dbus_message_model.specs.KnownFields.{field_value, body_value}
+use Rattle.dbus_message_model.specs.MessageTypes.{type_name}
 use Rattle.dbus_rule.specs.declared.key.Key.{Key}
 use Rattle.dbus_rule.specs.declared.key.Key.TheVariants.{MessageType, Sender, Interface, Member, Path, PathNamespace, Destination, Arg, ArgPath, Arg0Namespace, Eavesdrop}
 use Rattle.dbus_rule.specs.Rules.{Pair, condition_pair, condition_pairs}
 use Rattle.dbus_rule.proofs.PairChoices.{Either, both, one_of, same}
 use Rattle.dbus_rule.specs.declared.condition.Condition.{Condition}
-use Rattle.dbus_match.specs.Matching.{Ownership, BeginsWith, EndsInSlash, PathsMeet, IsWithin, IsInNamespace, IsThere, HasField, IsOwned, HoldsAt, Matches, string_of, string_or_path_of, text_of, type_name, ownerships}
+use Rattle.dbus_match.specs.Matching.{Ownership, BeginsWith, EndsInSlash, PathsMeet, IsWithin, IsInNamespace, IsThere, HasField, IsOwned, HoldsAt, Matches, string_of, string_or_path_of, text_of, ownerships}
 use Rattle.dbus_match.specs.declared.owner.Owner.{Owner}
 
 -- ---- one text begins another, or ends in a slash

@@ -1,3 +1,3 @@
 pub mod Decided
 pub mod Noted
-pub mod Alike
+pub mod Sent

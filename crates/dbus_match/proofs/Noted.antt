@@ -1,5 +1,5 @@
 -- The first values of a body, noted one after another, and one of them found by its number.
-use Rattle.std.proofs.Common.{◌≡◌, ℕ, zero, suc, ◌<◌, List, [], ◌∷◌, ◌++◌, length, get_or, Some, sym, subst, arith, append_assoc, append-nil, ◌&&◌, nat_eq, ap, string_bytes, ⊎_elim, inl, inr}
+use Rattle.std.proofs.Common.{◌≡◌, ℕ, zero, suc, ◌<◌, List, [], ◌∷◌, ◌++◌, length, get_or, Some, sym, subst, arith, append_assoc, append-nil, ◌&&◌, nat_eq, ap, string_bytes}
 use Rattle.std.proofs.lemmas.Bool.Decides.{Decides-and}
 use Rattle.std.specs.Bool.{Decides}
 use Rattle.std.specs.Cmp.Lexicographic.{pointwise, bytes_decides}
@@ -9,7 +9,7 @@ use Rattle.dbus_values.specs.States.{ValuesState, AreLeft}
 use Rattle.dbus_match.specs.Arguments.{AreArguments, IsArgument}
 use Rattle.dbus_match.specs.declared.argument.Argument.{Argument}
 use Rattle.dbus_match.specs.declared.owner.Owner.{Owner}
-use Rattle.dbus_match.specs.Matching.{ownership, IsOwned, Ownership, ownerships, OwnsAlike}
+use Rattle.dbus_match.specs.Matching.{ownership}
 
 -- so many are noted, and the others are left
 pub record AreSoFar (xs : ValueTrees) (noted : List Argument) (left : ValuesState) : Type 0 where
@@ -54,19 +54,3 @@ owners_equal o p =
     let uniques = bytes_decides (string_bytes o.unique) (string_bytes p.unique) in
     let both = Decides-and (pointwise nat_eq (string_bytes o.name) (string_bytes p.name)) (pointwise nat_eq (string_bytes o.unique) (string_bytes p.unique)) names uniques in
     (λ t. λ i. record { name = (both.0 t).0 i; unique = (both.0 t).1 i }, λ h. both.1 (ap (λ r. r.name) h, ap (λ r. r.unique) h))
-
--- Owners of one unique name in a part of a list.
-
-module _ {A : Type 0} (o : Owner A) (unique : List ℕ) (other : string_bytes o.unique ≡ unique → ⊥) where
-  more_owned : (os : List (Owner A)) (name : List ℕ) → IsOwned (ownerships os) name unique → IsOwned (ownerships (os ++ o ∷ [])) name unique
-  more_owned [] name owned = absurd owned
-  more_owned (p ∷ os) name owned = ⊎_elim (λ is. inl is) (λ is. inr (more_owned os name is)) owned
-
-  fewer_owned : (os : List (Owner A)) (name : List ℕ) → IsOwned (ownerships (os ++ o ∷ [])) name unique → IsOwned (ownerships os) name unique
-  fewer_owned [] name owned = ⊎_elim (λ is. absurd (other is.1)) (λ is. is) owned
-  fewer_owned (p ∷ os) name owned = ⊎_elim (λ is. inl is) (λ is. inr (fewer_owned os name is)) owned
-
-pub without_last : {A : Type 0} (span os : List (Owner A)) (o : Owner A) (unique : List ℕ) (all : List Ownership) → span ≡ os ++ o ∷ [] → (string_bytes o.unique ≡ unique → ⊥) → OwnsAlike unique (ownerships span) all → OwnsAlike unique (ownerships os) all
-without_last span os o unique all is other alike name =
-    let here = subst (λ (us : List (Owner _)). OwnsAlike unique (ownerships us) all) is alike name in
-    (λ owned. here.0 (more_owned o unique other os name owned), λ owned. fewer_owned o unique other os name (here.1 owned))

@@ -1,19 +1,17 @@
 -- When a rule matches a message: each of its keys holds. D-Bus Specification, "Match Rules"; the
 -- owners of well-known names are a list that the caller hands in.
-use Rattle.std.specs.Prelude.{◌≡◌, ℕ, ◌⊎◌, Option, Some, None, List, [], ◌∷◌, ◌++◌, map, string_bytes, ◌==◌, if◌then◌else◌, codes, ◌↔◌}
+use Rattle.std.specs.Prelude.{◌≡◌, ℕ, ◌⊎◌, Option, Some, None, List, [], ◌∷◌, ◌++◌, map, string_bytes, ◌↔◌}
 use Rattle.std.specs.List.{AllByRecursion}
 use Rattle.dbus_texts.specs.Characters.{slash, dot}
 use Rattle.dbus_texts.specs.Types.{STRING, OBJECT_PATH}
 use Rattle.dbus_value_model.specs.Values.{ValueTree, TextValue}
 use Rattle.dbus_message_model.specs.Messages.{MessageTree}
 use Rattle.dbus_message_model.specs.KnownFields.{field_value, body_value}
+use Rattle.dbus_message_model.specs.MessageTypes.{type_name}
 use Rattle.dbus_message_model.specs.declared.field_code.TheConstants as field
-use Rattle.dbus_message_model.specs.declared.message_type.TheConstants as message
 use Rattle.dbus_rule.specs.declared.key.Key.{Key}
 use Rattle.dbus_rule.specs.declared.key.Key.TheVariants.{MessageType, Sender, Interface, Member, Path, PathNamespace, Destination, Arg, ArgPath, Arg0Namespace, Eavesdrop}
 use Rattle.dbus_rule.specs.Rules.{Pair}
-use Rattle.dbus_value_model.specs.declared.order.Order.{Order}
-use Rattle.dbus_view.specs.Views.{Views, ViewState}
 use Rattle.dbus_match.specs.declared.owner.Owner.{Owner}
 
 -- a well-known name and the unique name of its owner
@@ -74,13 +72,6 @@ IsThere (Some w) P = P w
 abbrev pub HasField : ℕ → MessageTree → (List ℕ → Type 0) → Type 0
 HasField code m P = IsThere (text_of (field_value code m.fields)) P
 
--- the names of the message types
-abbrev pub type_name : ℕ → Option (List ℕ)
-type_name n =
-    if n == message.METHOD_CALL then Some (codes "method_call")
-    else (if n == message.METHOD_RETURN then Some (codes "method_return")
-    else (if n == message.ERROR then Some (codes "error") else (if n == message.SIGNAL then Some (codes "signal") else None)))
-
 -- some owner has the name v and the unique name w
 abbrev pub IsOwned : List Ownership → List ℕ → List ℕ → Type 0
 IsOwned [] v w = ⊥
@@ -104,23 +95,25 @@ HoldsAt Eavesdrop v m os = Unit {0}
 abbrev pub Matches : List Pair → MessageTree → List Ownership → Type 0
 Matches ps m os = AllByRecursion (λ p. HoldsAt p.key p.value m os) ps
 
--- What a matcher is of, and the owners of names that matter for one message.
--- D-Bus Specification, "Match Rules".
+-- ---- the sender, and the other keys
 
--- the view of the message, and the owners of names
-pub record MatcherState : Type 0 where
-  pub view : ViewState
-  pub owners : List Ownership
+-- a key holds if it is not `sender`: none but that asks for owners
+abbrev pub OtherHolds : Key → List ℕ → MessageTree → Type 0
+OtherHolds Sender v m = Unit {0}
+OtherHolds k v m = HoldsAt k v m []
+
+-- each key but `sender` holds
+abbrev pub OthersHold : List Pair → MessageTree → Type 0
+OthersHold ps m = AllByRecursion (λ p. OtherHolds p.key p.value m) ps
+
+-- the message is of the sender that a rule asks for, if it asks for one
+abbrev pub IsSent : Option (List ℕ) → MessageTree → List Ownership → Type 0
+IsSent None m os = Unit {0}
+IsSent (Some v) m os = HoldsAt Sender v m os
 
 -- by both lists the unique name owns the same names
 abbrev pub OwnsAlike : (unique : List ℕ) → List Ownership → List Ownership → Type 0
 OwnsAlike unique os us = (name : List ℕ) → IsOwned os name unique ↔ IsOwned us name unique
-
--- the same of SENDER
-abbrev pub SenderOwnsAlike : ViewState → List Ownership → List Ownership → Type 0
-SenderOwnsAlike v os us =
-    (order : Order) (m : MessageTree) (unique : List ℕ) → Views v order m → text_of (field_value field.SENDER m.fields) ≡ Some unique
-    → OwnsAlike unique os us
 
 -- The law of matching: of each message it is decided whether a rule matches it. D-Bus
 -- Specification, "Match Rules".

@@ -2,24 +2,22 @@
 #![tactic(auto)]
 
 ghost use Rattle.std.specs.Prelude.{◌≡◌, ◌⊎◌, ◌↔◌, Some, IsTrue, MatchOption, string_bytes};
-ghost use Rattle.dbus_match.specs.Matching.{IsInNamespace, IsOwned, IsWithin, PathsMeet, ownerships, type_name, OwnsAlike};
+ghost use Rattle.dbus_message_model.specs.MessageTypes.{type_name};
+ghost use Rattle.dbus_match.specs.Matching.{IsInNamespace, IsOwned, IsWithin, PathsMeet, ownerships};
 
 use crate::compare::paths_meet;
 use crate::owner::Owner;
 use crate::within::{is_in_namespace, is_within};
-use dbus_message_model::message_type::{ERROR, METHOD_CALL, METHOD_RETURN, SIGNAL};
+use dbus_message_model::message_type::type_name;
 use std::alloc::Allocator;
 
 /// Whether the message type is the one of this name.
 pub(crate) fn is_type(kind: u8, name: &str) -> bool
     ensures { IsTrue result ↔ (type_name kind ≡ Some name.now) }
 {
-    match kind {
-        METHOD_CALL => name == "method_call",
-        METHOD_RETURN => name == "method_return",
-        ERROR => name == "error",
-        SIGNAL => name == "signal",
-        _ => false,
+    match type_name(kind) {
+        Some(text) => text == name,
+        None => false,
     }
 }
 
@@ -42,26 +40,6 @@ fn is_owned<A: Allocator>(owners: &[Owner<A>], name: &str, unique: &str) -> bool
         }
     }
     false
-}
-
-/// The owners from the first of the unique name to the last.
-pub(crate) fn span_of<'a, A: Allocator>(owners: &'a [Owner<A>], unique: &str) -> &'a [Owner<A>]
-    ensures { OwnsAlike unique.now (ownerships result.now) (ownerships owners.now) }
-{
-    let mut span = owners;
-    while let Some((first, rest)) = span.split_first() {
-        if first.unique.as_str() == unique {
-            break;
-        }
-        span = rest;
-    }
-    while let Some((last, rest)) = span.split_last() {
-        if last.unique.as_str() == unique {
-            break;
-        }
-        span = rest;
-    }
-    span
 }
 
 /// Whether the text is there and is the value.

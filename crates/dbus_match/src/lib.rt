@@ -3,9 +3,9 @@
 //!
 //! [`matches`] asks whether a rule matches a decoded message, and [`matches_view`] asks the same of
 //! a view, and allocates nothing. Both take the [`Owner`]s of well-known names, which a rule's
-//! `sender` needs. A [`Matcher`] asks many rules of one message, and for many rules at once there
-//! is the crate `dbus_rule_set`. docs/MATCH-RULES.md has the rules in our words, and where they
-//! differ from the specification. Examples are at [`parse_rule`] and [`matches`].
+//! `sender` needs. For many rules at once there is the crate `dbus_rule_set`. docs/MATCH-RULES.md
+//! has the rules in our words, and where they differ from the specification. Examples are at
+//! [`parse_rule`] and [`matches`].
 #![tactic(auto)]
 
 mod argument;
@@ -13,7 +13,6 @@ mod asked;
 mod compare;
 mod copies;
 pub mod laws;
-mod matcher;
 mod matching;
 mod owner;
 mod texts;
@@ -21,7 +20,6 @@ mod view_matching;
 mod within;
 
 pub use dbus_rule::{Rule, RuleFault, RuleReason, parse_rule, rule_text};
-pub use matcher::Matcher;
 pub use matching::matches;
 pub use owner::Owner;
-pub use view_matching::matches_view;
+pub use view_matching::{matches_view, other_keys_hold, string_arg, string_or_path_arg};

@@ -1,14 +1,14 @@
 //! When a rule matches the message that a view is of.
 #![tactic(auto)]
 
-ghost use Rattle.std.specs.Prelude.{◌≡◌, ◌↔◌, Some, None, IsTrue, MatchOption, string_bytes};
+ghost use Rattle.std.specs.Prelude.{◌≡◌, ◌↔◌, Some, None, IsTrue, MatchOption, option_map, string_bytes};
 ghost use Rattle.dbus_value_model.specs.declared.order.Order.{Order};
 ghost use Rattle.dbus_message_model.specs.KnownFields.{body_value};
 ghost use Rattle.dbus_message_model.specs.Messages.{MessageTree};
 ghost use Rattle.dbus_view.specs.Views.{Views};
 ghost use Rattle.dbus_rule.specs.RuleViews.{rule_pairs};
 ghost use Rattle.dbus_match.specs.Arguments.{AreNoted};
-ghost use Rattle.dbus_match.specs.Matching.{HoldsAt, Matches, ownerships, string_of, string_or_path_of};
+ghost use Rattle.dbus_match.specs.Matching.{IsSent, Matches, OtherHolds, OthersHold, ownerships, string_of, string_or_path_of};
 
 use crate::argument::{Argument, arguments_of, seen};
 use crate::asked::{is_name_in, is_path_in, is_sender, is_text, is_type, meets_path};
@@ -47,22 +47,39 @@ fn string_or_path_seen<'a>(view: &MessageView<'a>, noted: &[Argument<'a>], n: u8
     }
 }
 
-/// Whether the condition holds of the message.
-fn holds<'a, A: Allocator>(
+/// The text of value `n` of the body, if that is a STRING. D-Bus Specification, "Match Rules".
+pub fn string_arg<'a>(view: &MessageView<'a>, n: u8) -> Option<&'a str>
+    ensures { (order : Order) (m : MessageTree) → Views view.now order m →
+        MatchOption result (string_of (body_value n m.body) ≡ None) (λ s.
+        string_of (body_value n m.body) ≡ Some s.now) }
+{
+    string_seen(view, &[], n)
+}
+
+/// The text of value `n` of the body, if that is a STRING or an OBJECT_PATH. D-Bus Specification,
+/// "Match Rules".
+pub fn string_or_path_arg<'a>(view: &MessageView<'a>, n: u8) -> Option<&'a str>
+    ensures { (order : Order) (m : MessageTree) → Views view.now order m →
+        MatchOption result (string_or_path_of (body_value n m.body) ≡ None) (λ s.
+        string_or_path_of (body_value n m.body) ≡ Some s.now) }
+{
+    string_or_path_seen(view, &[], n)
+}
+
+/// Whether the condition holds of the message, if its key is not `sender`.
+fn other_holds<'a, A: Allocator>(
     condition: &Condition<A>,
     view: &MessageView<'a>,
     noted: &[Argument<'a>],
-    owners: &[Owner<A>],
 ) -> bool
     requires { AreNoted view.now noted.now }
     ensures { (order : Order) (m : MessageTree) → Views view.now order m →
-        IsTrue result ↔
-        HoldsAt condition.now.key (string_bytes condition.now.value) m (ownerships owners.now) }
+        IsTrue result ↔ OtherHolds condition.now.key (string_bytes condition.now.value) m }
 {
     let value = condition.value.as_str();
     match condition.key {
         Key::MessageType => is_type(view.kind(), value),
-        Key::Sender => is_sender(view.sender(), value, owners),
+        Key::Sender => true,
         Key::Interface => is_text(view.interface(), value),
         Key::Member => is_text(view.member(), value),
         Key::Path => is_text(view.path(), value),
@@ -75,20 +92,19 @@ fn holds<'a, A: Allocator>(
     }
 }
 
-/// Whether each key of the rule holds of the message, of which these values are noted.
-fn matches_by<'a, A: Allocator>(
+/// Whether each key of the rule but `sender` holds of the message, of which these values are noted.
+fn others_hold<'a, A: Allocator>(
     rule: &Rule<A>,
     view: &MessageView<'a>,
     noted: &[Argument<'a>],
-    owners: &[Owner<A>],
 ) -> bool
     requires { AreNoted view.now noted.now }
     ensures { (order : Order) (m : MessageTree) → Views view.now order m →
-        IsTrue result ↔ Matches (rule_pairs rule.now) m (ownerships owners.now) }
+        IsTrue result ↔ OthersHold (rule_pairs rule.now) m }
 {
     let conditions = rule.conditions();
     for condition in conditions {
-        if !holds(condition, view, noted, owners) {
+        if !other_holds(condition, view, noted) {
             return false;
         }
     }
@@ -96,16 +112,50 @@ fn matches_by<'a, A: Allocator>(
 }
 
 /// The same, with the values of the body noted first.
-fn matches_noted<A: Allocator>(rule: &Rule<A>, view: &MessageView, owners: &[Owner<A>]) -> bool
+fn others_hold_noted<A: Allocator>(rule: &Rule<A>, view: &MessageView) -> bool
     ensures { (order : Order) (m : MessageTree) → Views view.now order m →
-        IsTrue result ↔ Matches (rule_pairs rule.now) m (ownerships owners.now) }
+        IsTrue result ↔ OthersHold (rule_pairs rule.now) m }
 {
     let noted = arguments_of(view);
-    matches_by(rule, view, noted.as_slice(), owners)
+    others_hold(rule, view, noted.as_slice())
+}
+
+/// Whether each key of the rule but `sender` holds of the message that the view is of. A rule that
+/// has no `sender` matches it then; else the owners of names decide. D-Bus Specification, "Match
+/// Rules".
+///
+/// ```rust
+/// use dbus_match::{other_keys_hold, parse_rule};
+/// use dbus_message::MessageView;
+///
+/// let rule = parse_rule(alloc, "sender='org.example.Clock',member='Tick'")?;
+/// println!(rt; "{}", other_keys_hold(&rule, &MessageView::of(bytes)?))?;
+/// ```
+pub fn other_keys_hold<A: Allocator>(rule: &Rule<A>, view: &MessageView) -> bool
+    ensures { (order : Order) (m : MessageTree) → Views view.now order m →
+        IsTrue result ↔ OthersHold (rule_pairs rule.now) m }
+{
+    if rule.conditions().len() > FEW_KEYS {
+        others_hold_noted(rule, view)
+    } else {
+        others_hold(rule, view, &[])
+    }
+}
+
+/// Whether the message is of this sender, if there is one.
+fn is_sent<A: Allocator>(sender: Option<&str>, view: &MessageView, owners: &[Owner<A>]) -> bool
+    ensures { (order : Order) (m : MessageTree) → Views view.now order m →
+        IsTrue result ↔ IsSent (option_map (λ s. s.now) sender.entry) m (ownerships owners.now) }
+{
+    match sender {
+        Some(sender) => is_sender(view.sender(), sender, owners),
+        None => true,
+    }
 }
 
 /// Whether each key of the rule holds of the message that the view is of, as [`crate::matches`]
-/// says of a message. D-Bus Specification, "Match Rules".
+/// says of a message. The owners are looked at if all other keys hold. D-Bus Specification, "Match
+/// Rules".
 ///
 /// ```rust
 /// use dbus_match::{matches_view, parse_rule};
@@ -118,9 +168,5 @@ pub fn matches_view<A: Allocator>(rule: &Rule<A>, view: &MessageView, owners: &[
     ensures { (order : Order) (m : MessageTree) → Views view.now order m →
         IsTrue result ↔ Matches (rule_pairs rule.now) m (ownerships owners.now) }
 {
-    if rule.conditions().len() > FEW_KEYS {
-        matches_noted(rule, view, owners)
-    } else {
-        matches_by(rule, view, &[], owners)
-    }
+    other_keys_hold(rule, view) && is_sent(rule.sender(), view, owners)
 }

@@ -13,7 +13,7 @@ pub among_new : (x : ℕ) (xs : List ℕ) → IsAmong x (xs ++ x ∷ [])
 among_new x [] = inl refl
 among_new x (y ∷ ys) = inr (among_new x ys)
 
-among_split : (h x : ℕ) (xs : List ℕ) → IsAmong h (xs ++ x ∷ []) → IsAmong h xs ⊎ (h ≡ x)
+pub among_split : (h x : ℕ) (xs : List ℕ) → IsAmong h (xs ++ x ∷ []) → IsAmong h xs ⊎ (h ≡ x)
 among_split h x [] i = ⊎_elim (λ e. inr e) (λ j. absurd j) i
 among_split h x (y ∷ ys) i = ⊎_elim (λ e. inl (inl e)) (λ j. ⊎_elim (λ k. inl (inr k)) (λ e. inr e) (among_split h x ys j)) i
 

@@ -1,5 +1,6 @@
 -- What is collected of a list: of parts of it, and of all.
-use Rattle.std.proofs.Common.{◌≡◌, ◌⊎◌, ⊎_elim, inl, inr, Bool, true, List, [], ◌∷◌, ◌++◌, refl, ◌∙◌, subst}
+use Rattle.std.proofs.Common.{◌≡◌, ◌⊎◌, ⊎_elim, inl, inr, Bool, true, List, [], ◌∷◌, ◌++◌, Result, Ok, Err, refl, ◌∙◌, subst}
+use Rattle.std.specs.Prelude.{OnOk}
 use Rattle.std.specs.List.{AllByRecursion, filter}
 use Rattle.std.proofs.lemmas.Bool.{cond-true, cond-false, cases_Bool, both_ways}
 use Rattle.dbus_rule.specs.declared.rule.Rule.{Rule}
@@ -44,3 +45,7 @@ joined L M C (e ∷ es) u v w k c d =
     (λ b. inr (λ q. ⊎_elim a.0 b.0 (k.2 q), joined L M C es u v w k.5 a.1 b.1))
     d)
     c
+
+pub on_ok : {T E P Q : Type 0} (r : Result T E) → (P → Q) → OnOk r P → OnOk r Q
+on_ok (Ok x) f p = f p
+on_ok (Err e) f p = tt

@@ -10,4 +10,4 @@ pub mod Parted
 pub mod Placed
 pub mod OwnersLeft
 pub mod Grouped
-pub mod OfSender
+pub mod Somewhere

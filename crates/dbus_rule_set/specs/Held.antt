@@ -44,3 +44,8 @@ EntryMatches m os e = Matches (rule_pairs e.1) m os
 abbrev pub Collects : {A : Type 0} → (RuleHandle × Rule A → Type 0) → List (RuleHandle × Rule A) → List RuleHandle → List RuleHandle → Type 0
 Collects P [] from to = to ≡ from
 Collects P (e ∷ es) from to = (P e × Collects P es (from ++ e.0 ∷ []) to) ⊎ ((P e → ⊥) × Collects P es from to)
+
+-- P holds of an entry, or of several
+abbrev pub HoldsOfAny : {A : Type 0} → (RuleHandle × Rule A → Type 0) → List (RuleHandle × Rule A) → Type 0
+HoldsOfAny P [] = ⊥
+HoldsOfAny P (e ∷ es) = P e ⊎ HoldsOfAny P es

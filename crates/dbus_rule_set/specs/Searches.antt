@@ -23,6 +23,10 @@ IsUpTo k h l i = (k < l) ⊎ ((k ≡ l) × (h ≤ i))
 abbrev pub IsUnder : ℕ → ℕ → RuleHandle → Type 0
 IsUnder k h q = (q.kind < k) ⊎ ((q.kind ≡ k) × (q.hash < h))
 
+-- the handle is of a kind and of a hash
+abbrev pub IsAt : ℕ → ℕ → RuleHandle → Type 0
+IsAt k h q = (q.kind ≡ k) × (q.hash ≡ h)
+
 -- after those of the kinds below, those of the kind come to the end of a list
 abbrev pub Searches : {A : Type 0} → (RuleHandle × Rule A → Type 0) → List (RuleHandle × Rule A) → ℕ → List RuleHandle → List RuleHandle → Type 0
 Searches P es kind from to =

@@ -7,6 +7,9 @@ ghost use Rattle.dbus_rule.specs.Keys.{IsKey, rank};
 
 use dbus_rule::Key;
 
+/// The kind of rules that stand under their `sender`.
+pub(crate) const SENDER: u8 = 1;
+
 /// The kind of rules that stand under none of their keys.
 pub(crate) const OTHERS: u8 = 136;
 
@@ -27,7 +30,7 @@ pub(crate) fn kind_of(key: Key) -> Option<u8>
 {
     match key {
         Key::MessageType => Some(0),
-        Key::Sender => Some(1),
+        Key::Sender => Some(SENDER),
         Key::Interface => Some(2),
         Key::Member => Some(3),
         Key::Path => Some(4),
@@ -47,7 +50,7 @@ pub(crate) fn key_of(kind: u8) -> Key
 {
     match kind {
         0 => Key::MessageType,
-        1 => Key::Sender,
+        SENDER => Key::Sender,
         2 => Key::Interface,
         3 => Key::Member,
         4 => Key::Path,

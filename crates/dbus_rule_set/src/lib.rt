@@ -2,16 +2,19 @@
 //! Specification, "Match Rules".
 //!
 //! [`RuleSet::add`] keeps a rule and returns its [`RuleHandle`], [`RuleSet::matching`] gives the
-//! handles of the rules that match a message, and [`RuleSet::remove`] removes one. A rule matches
-//! exactly if `dbus_match::matches_view` says so. An example is at [`RuleSet`].
+//! handles of the rules that match a message, [`RuleSet::any_matches`] says whether there is one, and
+//! [`RuleSet::remove`] removes a rule. A rule matches exactly if `dbus_match::matches_view` says so.
+//! An example is at [`RuleSet`].
 //!
 //! [`Owners`] keeps the owners of well-known names from message to message, for
-//! [`RuleSet::matching_by`].
+//! [`RuleSet::matching`].
 #![tactic(auto)]
 
+mod any;
 mod groups;
 mod handle;
 mod kinds;
+mod matching;
 mod met;
 mod numbers;
 mod owners;

@@ -1,24 +1,23 @@
 //! Under which hashes the rules of one kind stand that may match a message.
 #![tactic(auto)]
 
-ghost use Rattle.std.specs.Prelude.{◌≡◌, ◌≢◌, ◌⊎◌, ℕ, List, Some, None, IsTrue, OnSome, IfSome, MatchOption, option_map};
+ghost use Rattle.std.specs.Prelude.{◌≡◌, ◌≢◌, ◌⊎◌, ℕ, List, IsTrue, OnSome, IfSome, option_map};
 ghost use Rattle.dbus_value_model.specs.declared.order.Order.{Order};
-ghost use Rattle.dbus_message_model.specs.KnownFields.{body_value};
 ghost use Rattle.dbus_message_model.specs.Messages.{MessageTree};
 ghost use Rattle.dbus_view.specs.Views.{Views};
 ghost use Rattle.dbus_rule.specs.declared.key.Key.TheVariants.{Eavesdrop};
-ghost use Rattle.dbus_match.specs.Matching.{HoldsAt, IsOwned, PathsMeet, ownerships, string_of, string_or_path_of, type_name};
+ghost use Rattle.dbus_match.specs.Matching.{HoldsAt, IsOwned, OtherHolds, PathsMeet};
 ghost use Rattle.dbus_rule_set.specs.Places.{Covers, IsAmong, IsFront, place_hash, trimmed};
 ghost use Rattle.dbus_rule_set.specs.TextNumbers.{text_hash};
 
 use crate::numbers::{START, and_byte, hash_of, text_hash};
+use crate::owners::Owners;
 use crate::slashes::ends_in_slash;
 use arrayvec::ArrayVec;
-use dbus_match::Owner;
-use dbus_message_model::message_type::{ERROR, METHOD_CALL, METHOD_RETURN, SIGNAL};
+use dbus_match::{string_arg, string_or_path_arg};
+use dbus_message_model::message_type::type_name;
 use dbus_rule::Key;
-use dbus_view::{ArgView, MessageView};
-use std::alloc::Allocator;
+use dbus_view::MessageView;
 
 /// The most hashes that are looked up for one kind.
 const HASHES: usize = 64;
@@ -97,73 +96,33 @@ fn paths(text: Option<&str>) -> Option<Hashes>
 }
 
 /// The hashes of the sender and of the names that it owns; `None` if they are too many.
-fn senders<A: Allocator>(text: Option<&str>, owners: &[Owner<A>]) -> Option<Hashes>
+fn senders(text: Option<&str>, owners: &Owners) -> Option<Hashes>
     ensures { IfSome result (λ hashes.
         Covers (option_map (λ s. s.now) text.entry) (λ v w.
-        (v ≡ w) ⊎ IsOwned (ownerships owners.now) v w) (λ v. v) hashes.items) }
+        (v ≡ w) ⊎ IsOwned owners.now v w) (λ v. v) hashes.items) }
 {
     let mut hashes = only(text);
     let Some(unique) = text else {
         return Some(hashes);
     };
-    for owner in owners {
-        if owner.unique.as_str() != unique {
-            continue;
-        }
+    let names = owners.of(unique);
+    for owner in names {
         note(&mut hashes, true, text_hash(owner.name.as_str().as_bytes()))?;
     }
     Some(hashes)
 }
 
-/// The name of the message type.
-fn type_name(kind: u8) -> Option<&'static str>
-    ensures { option_map (λ s. s.now) result ≡ type_name kind }
-{
-    match kind {
-        METHOD_CALL => Some("method_call"),
-        METHOD_RETURN => Some("method_return"),
-        ERROR => Some("error"),
-        SIGNAL => Some("signal"),
-        _ => None,
-    }
-}
-
-/// Value `n` of the body, if it is a STRING.
-fn string_arg<'a>(view: &MessageView<'a>, n: u8) -> Option<&'a str>
-    ensures { (order : Order) (m : MessageTree) → Views view.now order m →
-        MatchOption result (string_of (body_value n m.body) ≡ None) (λ s.
-        string_of (body_value n m.body) ≡ Some s.now) }
-{
-    match view.arg(usize::from(n)) {
-        Some(ArgView::Str(text)) => Some(text),
-        _ => None,
-    }
-}
-
-/// Value `n` of the body, if it is a STRING or an OBJECT_PATH.
-fn string_or_path_arg<'a>(view: &MessageView<'a>, n: u8) -> Option<&'a str>
-    ensures { (order : Order) (m : MessageTree) → Views view.now order m →
-        MatchOption result (string_or_path_of (body_value n m.body) ≡ None) (λ s.
-        string_or_path_of (body_value n m.body) ≡ Some s.now) }
-{
-    match view.arg(usize::from(n)) {
-        Some(ArgView::Str(text)) => Some(text),
-        Some(ArgView::Path(text)) => Some(text),
-        _ => None,
-    }
-}
-
-/// The hashes under which rules with the key stand that may match the message, with these owners of
-/// names; `None` if any of these rules may match.
-pub(crate) fn met<A: Allocator>(key: Key, view: &MessageView, owners: &[Owner<A>]) -> Option<Hashes>
+/// The hashes under which rules with the key stand that may match the message; `None` if any of
+/// these rules may match. It knows nothing of senders.
+pub(crate) fn other_met(key: Key, view: &MessageView) -> Option<Hashes>
     ensures met { (order : Order) (m : MessageTree) → Views view.now order m →
         IfSome result (λ hashes. (v : List ℕ) →
-        HoldsAt key v m (ownerships owners.now) → IsAmong (place_hash key v) hashes.items) }
+        OtherHolds key v m → IsAmong (place_hash key v) hashes.items) }
     ensures all { OnSome result (key ≢ Eavesdrop) }
 {
     match key {
         Key::MessageType => Some(only(type_name(view.kind()))),
-        Key::Sender => senders(view.sender(), owners),
+        Key::Sender => None,
         Key::Interface => Some(only(view.interface())),
         Key::Member => Some(only(view.member())),
         Key::Path => Some(only(view.path())),
@@ -173,5 +132,18 @@ pub(crate) fn met<A: Allocator>(key: Key, view: &MessageView, owners: &[Owner<A>
         Key::ArgPath(n) => paths(string_or_path_arg(view, n)),
         Key::Arg0Namespace => fronts_of(b'.', string_arg(view, 0)),
         Key::Eavesdrop => None,
+    }
+}
+
+/// The same of all keys, with these owners of names.
+pub(crate) fn met(key: Key, view: &MessageView, owners: &Owners) -> Option<Hashes>
+    ensures met { (order : Order) (m : MessageTree) → Views view.now order m →
+        IfSome result (λ hashes. (v : List ℕ) →
+        HoldsAt key v m owners.now → IsAmong (place_hash key v) hashes.items) }
+    ensures all { OnSome result (key ≢ Eavesdrop) }
+{
+    match key {
+        Key::Sender => senders(view.sender(), owners),
+        _ => other_met(key, view),
     }
 }

@@ -54,8 +54,8 @@ impl Model for Owners {
 }
 
 impl Owners {
-    ghost use Rattle.std.specs.Prelude.{◌≡◌, [], None, Some, OnErr, OnOk};
-    ghost use Rattle.dbus_match.specs.Matching.{ownerships, OwnsAlike};
+    ghost use Rattle.std.specs.Prelude.{◌≡◌, ◌↔◌, [], None, Some, IsTrue, OnErr, OnOk};
+    ghost use Rattle.dbus_match.specs.Matching.{IsOwned, ownerships, OwnsAlike};
     ghost use Rattle.dbus_rule_set.specs.Owners.{AreOf, GivesOwner, HaveEachNameOnce, HaveOneOwner};
 
     /// No name has an owner. It allocates nothing.
@@ -112,6 +112,13 @@ impl Owners {
         ensures once { HaveOneOwner self.now }
     {
         group_of(&self.by_unique, unique)
+    }
+
+    /// Whether the name has this owner.
+    pub(crate) fn has(&self, name: &str, unique: &str) -> bool
+        ensures { IsTrue result ↔ IsOwned self.now name.now unique.now }
+    {
+        is_owner(&self.by_name, name, unique)
     }
 }
 

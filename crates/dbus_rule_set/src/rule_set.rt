@@ -9,10 +9,11 @@ ghost use Rattle.std.proofs.Props.{props};
 ghost use Rattle.dbus_value_model.specs.declared.order.Order.{Order};
 ghost use Rattle.dbus_message_model.specs.Messages.{MessageTree};
 ghost use Rattle.dbus_view.specs.Views.{Views};
-ghost use Rattle.dbus_match.specs.Matching.{SenderOwnsAlike, ownerships};
+ghost use Rattle.dbus_match.specs.Matching.{ownerships};
 ghost use Rattle.dbus_rule_set.specs.Handles.{handle_cmp};
 ghost use Rattle.dbus_rule_set.specs.Places.{IsIndexed, IsKept};
 
+use crate::any::any_matches;
 use crate::handle::RuleHandle;
 use crate::kinds::Kinds;
 use crate::owners::Owners;
@@ -32,19 +33,20 @@ use std::collections::BTreeMap;
 /// are looked at one by one for each message: rules with no key, or with `eavesdrop` alone.
 ///
 /// Of the rules that stand under one key, each is looked at if the message has more than 64 such
-/// texts; and of those under `argNpath` also if argument N ends in `/`.
+/// texts; and of those under `argNpath` also if argument N ends in `/`. In a set of at most eight
+/// rules each is looked at.
 ///
 /// This keeps a rule, and asks whether it is among those that match a message:
 ///
 /// ```rust
 /// use dbus_match::parse_rule;
 /// use dbus_message::MessageView;
-/// use dbus_rule_set::RuleSet;
+/// use dbus_rule_set::{Owners, RuleSet};
 ///
 /// let mut rules = RuleSet::new(alloc);
 /// let handle = rules.add(parse_rule(alloc, "type='signal',member='NameAcquired'")?)?;
 /// let mut found = Vec::new(alloc);
-/// rules.matching(&MessageView::of(bytes)?, &[], &mut found)?;
+/// rules.matching(&MessageView::of(bytes)?, &Owners::new(alloc), &mut found)?;
 /// println!(rt; "{}", found.contains(&handle))?;
 /// rules.remove(handle);
 /// ```
@@ -61,7 +63,7 @@ pub struct RuleSet<A: Allocator = Global> {
 }
 
 impl<A: Allocator> RuleSet<A> {
-    ghost use Rattle.dbus_rule_set.specs.Held.{held, given, rule_at, with_rule, without, AreApart, Collects, EntryMatches};
+    ghost use Rattle.dbus_rule_set.specs.Held.{held, given, rule_at, with_rule, without, AreApart, Collects, EntryMatches, HoldsOfAny};
 
     /// A set with no rules. It allocates nothing.
     pub fn new(alloc: A) -> Self
@@ -175,25 +177,25 @@ impl<A: Allocator> RuleSet<A> {
     /// was.
     ///
     /// ```rust
-    /// use dbus_match::{Owner, parse_rule};
+    /// use dbus_match::parse_rule;
     /// use dbus_message::MessageView;
-    /// use dbus_rule_set::RuleSet;
+    /// use dbus_rule_set::{Owners, RuleSet};
     ///
     /// let mut rules = RuleSet::new(alloc);
     /// rules.add(parse_rule(alloc, "sender='org.example.Clock'")?)?;
-    /// let name = String::from_str(alloc, "org.example.Clock")?;
-    /// let owners = [Owner { name, unique: String::from_str(alloc, ":1.7")? }];
+    /// let mut owners = Owners::new(alloc);
+    /// owners.set("org.example.Clock", ":1.7")?;
     /// let mut found = Vec::new(alloc);
     /// rules.matching(&MessageView::of(bytes)?, &owners, &mut found)?;
     /// ```
     pub fn matching(
         &self,
         view: &MessageView,
-        owners: &[Owner<A>],
+        owners: &Owners,
         found: &mut Vec<RuleHandle, A>,
     ) -> Result<(), AllocError>
         ensures found { (order : Order) (m : MessageTree) → Views view.now order m →
-            OnOk result (Collects (EntryMatches m (ownerships owners.now)) (held self.now) found.old.items found.new.items) }
+            OnOk result (Collects (EntryMatches m owners.now) (held self.now) found.old.items found.new.items) }
         ensures once { AreApart (held self.now) }
         ensures unchanged { OnErr result (found.new.items ≡ found.old.items) }
     {
@@ -206,47 +208,26 @@ impl<A: Allocator> RuleSet<A> {
             }
         }
     }
-}
 
-impl RuleSet {
-    ghost use Rattle.dbus_rule_set.specs.Held.{held, AreApart, Collects, EntryMatches};
-
-    /// As [`RuleSet::matching`], with the owners of names that are kept. Only those of the names
-    /// that the message's SENDER owns are looked at.
+    /// Whether any rule matches the message, as [`dbus_match::matches_view`] says, with these owners
+    /// of well-known names, of which a name may have several. It stops at the first rule that
+    /// matches, and allocates nothing.
     ///
     /// ```rust
-    /// use dbus_match::parse_rule;
+    /// use dbus_match::{Owner, parse_rule};
     /// use dbus_message::MessageView;
-    /// use dbus_rule_set::{Owners, RuleSet};
+    /// use dbus_rule_set::RuleSet;
     ///
     /// let mut rules = RuleSet::new(alloc);
     /// rules.add(parse_rule(alloc, "sender='org.example.Clock'")?)?;
-    /// let mut owners = Owners::new(alloc);
-    /// owners.set("org.example.Clock", ":1.7")?;
-    /// let mut found = Vec::new(alloc);
-    /// rules.matching_by(&MessageView::of(bytes)?, &owners, &mut found)?;
+    /// let name = String::from_str(alloc, "org.example.Clock")?;
+    /// let owners = [Owner { name, unique: String::from_str(alloc, ":1.7")? }];
+    /// println!(rt; "{}", rules.any_matches(&MessageView::of(bytes)?, &owners))?;
     /// ```
-    pub fn matching_by(
-        &self,
-        view: &MessageView,
-        owners: &Owners,
-        found: &mut Vec<RuleHandle>,
-    ) -> Result<(), AllocError>
-        ensures found { (order : Order) (m : MessageTree) → Views view.now order m →
-            OnOk result (Collects (EntryMatches m owners.now) (held self.now) found.old.items found.new.items) }
-        ensures once { AreApart (held self.now) }
-        ensures unchanged { OnErr result (found.new.items ≡ found.old.items) }
+    pub fn any_matches(&self, view: &MessageView, owners: &[Owner<A>]) -> bool
+        ensures { (order : Order) (m : MessageTree) → Views view.now order m →
+            IsTrue result ↔ HoldsOfAny (EntryMatches m (ownerships owners.now)) (held self.now) }
     {
-        self.matching(view, owners_of_sender(view, owners), found)
-    }
-}
-
-// The owners of names, as far as they own what the message's SENDER does.
-fn owners_of_sender<'a>(view: &MessageView, owners: &'a Owners) -> &'a [Owner]
-    ensures { SenderOwnsAlike view.now (ownerships result.now) owners.now }
-{
-    match view.sender() {
-        Some(unique) => owners.of(unique),
-        None => &[],
+        any_matches(&self.rules, &self.kinds, view, owners)
     }
 }

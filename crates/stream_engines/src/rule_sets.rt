@@ -1,8 +1,8 @@
 //! Sets of match rules.
 
 use case_questions::{Memory, Question, Reply};
-use dbus_match::{Owner, Rule, parse_rule};
-use dbus_rule_set::{RuleHandle, RuleSet};
+use dbus_match::{Rule, parse_rule};
+use dbus_rule_set::{Owners, RuleHandle, RuleSet};
 use dbus_view::MessageView;
 use std::alloc::Allocator;
 
@@ -38,7 +38,7 @@ fn add_all<A: Allocator + Copy>(
 fn find<A: Allocator + Copy>(
     rules: &RuleSet<A>,
     view: &MessageView,
-    owners: &[Owner<A>],
+    owners: &Owners,
     found: &mut Vec<RuleHandle, A>,
 ) -> bool {
     rules.matching(view, owners, found).is_ok()
@@ -56,7 +56,7 @@ pub(crate) fn say_found<A: Allocator + Copy>(
     let view = MessageView::of(&bytes).ok()?;
     let mut rules = RuleSet::new(memory.heap);
     let handles = add_all(&mut rules, memory.spare, question)?;
-    let owners = Vec::new(memory.spare);
+    let owners = Owners::new(reply.alloc());
     let mut found = Vec::new(memory.heap);
     if !find(&rules, &view, &owners, &mut found) {
         reply.fail();

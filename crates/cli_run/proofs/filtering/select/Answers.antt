@@ -10,6 +10,6 @@ returns c = λ order m whole.
     let views = views_it c.args.lent.now.limits c.args.lent.now.bytes.now c.of_validated-view.result order m c.of_validated-view.ensures.viewed whole in
     let owners = c.known_owners.ensures in
     record {
-      picks = subst (λ (os : List Ownership). Decides c.in_ok-is_selected.is_selected (SelectsBy c.args.selector.now.selection.now os m)) owners (c.in_ok-is_selected.ensures order m views);
+      picks = subst (λ (os : List Ownership). Decides c.selects-is_selected.result (SelectsBy c.args.selector.now.selection.now os m)) owners (c.selects-is_selected.ensures order m views);
       owners = c.in_ok-learn.ensures.learns order m views;
     }

@@ -8,4 +8,4 @@ pub returns-clause-found : goal.returns-clause-found
 returns-clause-found g c = λ order m v.
     let found = c.loop-handle.found.items in
     let none : c.loop-handle.handle-iterator ≡ [] = rest_all deref_pair c.loop-handle.handle-iterator c.next.new.self c.next.result c.in-None.is c.next.ensures.steps in
-    c.loop-handle.invariant.found order m v found (subst (λ es. Collects (EntryMatches m c.args.matcher.now.owners) es found found) (sym none) refl)
+    c.loop-handle.invariant.found order m v found (subst (λ es. Collects (EntryMatches m c.args.owners.now) es found found) (sym none) refl)

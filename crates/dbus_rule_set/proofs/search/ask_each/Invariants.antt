@@ -10,7 +10,6 @@ use Rattle.dbus_rule_set.proofs.search.ask_each.Given as goal
 abbrev pub invariant-loop-handle : goal.invariant-loop-handle
 invariant-loop-handle g l =
     record {
-      found : (order : Order) (m : MessageTree) → Views l.fn.matcher.view order m → (end : List RuleHandle) → Collects (EntryMatches m l.fn.matcher.owners) l.handle-iterator l.found.items end → Collects (EntryMatches m l.fn.matcher.owners) l.fn.rules l.fn.found.items end;
+      found : (order : Order) (m : MessageTree) → Views l.view order m → (end : List RuleHandle) → Collects (EntryMatches m l.owners) l.handle-iterator l.found.items end → Collects (EntryMatches m l.owners) l.fn.rules l.fn.found.items end;
       kept : take (length l.fn.found.items) l.found.items ≡ l.fn.found.items;
-      same : l.matcher ≡ l.fn.matcher;
     }

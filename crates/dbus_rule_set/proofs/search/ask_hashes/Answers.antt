@@ -1,8 +1,6 @@
-use Rattle.std.proofs.Common.{◌+◌, Some, None, inr, refl, sym, ◌∙◌, subst, arith}
+use Rattle.std.proofs.Common.{◌+◌, Some, None, inr, refl, sym, subst, arith}
 use Rattle.std.proofs.lemmas.List.{take_all}
-use Rattle.dbus_match.specs.Matching.{MatcherState}
-use Rattle.dbus_view.specs.Views.{Views}
-use Rattle.dbus_rule_set.specs.Held.{Collects, EntryMatches}
+use Rattle.dbus_rule_set.specs.Held.{EntryMatches}
 use Rattle.dbus_rule_set.specs.Places.{IsNext}
 use Rattle.dbus_rule_set.proofs.Begins.{begins_on}
 use Rattle.dbus_rule_set.proofs.Parted.{more_found, skipped_to, skipped_past}
@@ -13,7 +11,6 @@ loop-hash-init g c =
     record {
       found = λ order m v all first before. before;
       kept = take_all _ _ (omega arith);
-      same = refl;
       bound = omega arith;
     }
 
@@ -28,14 +25,12 @@ loop-hash-preserved g c =
     let next : IsNext l.from (Some hash) c.args.hashes.now = subst (λ n. IsNext l.from (Some n) c.args.hashes.now) (sym c.from-first.ensures) told in
     record {
       found = λ order m v all first before.
-          let P = EntryMatches m c.args.matcher.now.owners in
+          let P = EntryMatches m c.args.owners.now in
           let es = c.args.rules.now.entries in
-          let asked = subst (λ (s : MatcherState). Views s.view order m → Collects (EntryMatches m s.owners) c.rules_between-there.result l.found.items c.ask_each.new.found.items) l.invariant.same (c.in_ok-ask_each.ensures.found order m) in
           more_found P c.args.kind hash c.args.kind (hash + 1) es c.rules_between-there.result first l.found.items c.ask_each.new.found.items (inr (refl, omega arith))
           c.rules_between-there.ensures.ordered c.rules_between-there.ensures.between
-          (skipped_to P c.args.kind l.from hash c.args.hashes.now es first l.found.items next all (l.invariant.found order m v all first before)) (asked v);
+          (skipped_to P c.args.kind l.from hash c.args.hashes.now es first l.found.items next all (l.invariant.found order m v all first before)) (c.in_ok-ask_each.ensures.found order m v);
       kept = begins_on c.args.found.now.items l.found.items c.ask_each.new.found.items l.invariant.kept c.ask_each.ensures.kept;
-      same = c.ask_each.ensures.same ∙ l.invariant.same;
       bound = omega arith;
     }
 
@@ -43,4 +38,4 @@ pub returns-clause-found : goal.returns-clause-found
 returns-clause-found g c = λ order m v all first before.
     let l = c.loop-hash in
     let last : IsNext l.from None c.args.hashes.now = subst (λ o. IsNext l.from o c.args.hashes.now) c.in_default.is c.next_of.ensures in
-    skipped_past (EntryMatches m c.args.matcher.now.owners) c.args.kind l.from c.args.hashes.now c.args.rules.now.entries first l.found.items last all (l.invariant.found order m v all first before)
+    skipped_past (EntryMatches m c.args.owners.now) c.args.kind l.from c.args.hashes.now c.args.rules.now.entries first l.found.items last all (l.invariant.found order m v all first before)

@@ -11,10 +11,9 @@ use Rattle.dbus_rule_set.proofs.search.ask_hashes.Given as goal
 abbrev pub invariant-loop-hash : goal.invariant-loop-hash
 invariant-loop-hash g l =
     record {
-      found : (order : Order) (m : MessageTree) → Views l.fn.matcher.view order m → HaveHashes (EntryMatches m l.fn.matcher.owners) l.kind l.hashes l.rules.entries
-          → (first : List RuleHandle) → Collects (Below (EntryMatches m l.fn.matcher.owners) l.kind 0) l.rules.entries first l.fn.found.items → Collects (Below (EntryMatches m l.fn.matcher.owners) l.kind l.from) l.rules.entries first l.found.items;
+      found : (order : Order) (m : MessageTree) → Views l.view order m → HaveHashes (EntryMatches m l.owners) l.kind l.hashes l.rules.entries
+          → (first : List RuleHandle) → Collects (Below (EntryMatches m l.owners) l.kind 0) l.rules.entries first l.fn.found.items → Collects (Below (EntryMatches m l.owners) l.kind l.from) l.rules.entries first l.found.items;
       kept : take (length l.fn.found.items) l.found.items ≡ l.fn.found.items;
-      same : l.matcher ≡ l.fn.matcher;
       bound : l.from ≤ 4294967296;
     }
 
