@@ -7,7 +7,8 @@ ghost use Rattle.dbus_count.specs.NameOrder.{name_order};
 
 use crate::count::Count;
 use crate::name::Name;
-use dbus_show::{Draft, StringDraft, kind_name, write_kind};
+use dbus_message_model::message_type::type_name;
+use dbus_show::{Draft, StringDraft, write_kind};
 use dbus_view::MessageView;
 use std::alloc::{AllocError, Global};
 use std::collections::BTreeMap;
@@ -80,7 +81,7 @@ impl Counts {
         ensures failed { OnErr result
             (CountsFirst (named (codes "type ") (Some (kind_text kind))) size (counting_of self.old) (counting_of self.new)) }
     {
-        if let Some(name) = kind_name(kind) {
+        if let Some(name) = type_name(kind) {
             return self.count_name("type ", Some(name), size);
         }
         let mut name = StringDraft::new(&mut self.spare.0);

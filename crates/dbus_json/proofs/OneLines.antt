@@ -1,5 +1,5 @@
 -- The JSON of a message has no line feed but its last byte.
-use Rattle.std.proofs.Common.{◌≡◌, ◌≢◌, ℕ, ◌<◌, ◌&&◌, ◌⊎◌, inl, inr, Bool, true, false, List, [], ◌∷◌, ◌++◌, length, nat_lt, codes, decimal, from_bits, refl, sym, subst, arith, ap, ◌∙◌, append-nil, append_assoc}
+use Rattle.std.proofs.Common.{◌≡◌, ◌≢◌, ℕ, ◌<◌, ◌⊎◌, inl, inr, Bool, true, false, List, [], ◌∷◌, ◌++◌, length, Option, Some, None, IfSome, option_map, codes, decimal, from_bits, refl, sym, subst, arith, ap, ◌∙◌, append-nil, append_assoc}
 use Rattle.std.specs.Char.{digit_value}
 use Rattle.std.specs.Float.{binary64, float_is_finite}
 use Rattle.std.specs.Float.Numeral.{exponent_text, text_of}
@@ -15,10 +15,11 @@ use Rattle.dbus_value_model.specs.declared.order.Order.TheVariants.{Big}
 use Rattle.dbus_value_model.specs.Bytes.{num}
 use Rattle.dbus_value_model.specs.Values.{ValueTree, ValueTrees, NumberValue, TextValue, VariantValue, ArrayValue, StructValue, EntryValue, NoValues, MoreValues, type_of}
 use Rattle.dbus_message_model.specs.Messages.{FieldTree, order_byte, message_bytes, is_known, MessageTree}
-use Rattle.dbus_show.specs.ShownMessages.{line_feeds, field_name, kind_text}
+use Rattle.dbus_message_model.specs.MessageTypes.{type_name}
+use Rattle.dbus_show.specs.ShownMessages.{line_feeds, field_name}
 use Rattle.dbus_show.specs.ShownValues.{bytes_in}
 use Rattle.dbus_show.proofs.LineFeeds.{IsOneLine, AreLines, line_literal, line_append, line_cons, line_either, line_decimal, line_hex, line_number, line_quoted, line_sig, between}
-use Rattle.dbus_show.proofs.FieldTexts.{name_line, kind_line, order_line}
+use Rattle.dbus_show.proofs.FieldTexts.{name_line, line_or, type_name_line, order_line}
 use Rattle.dbus_value_model.specs.declared.order.Order.{Order}
 use Rattle.dbus_validate.specs.declared.validating.Validated.{Validated}
 use Rattle.dbus_value_text.specs.Forms.{led}
@@ -131,8 +132,12 @@ fields_line [] (t ∷ texts) are = absurd are
 fields_line (f ∷ fs) [] are = absurd are
 fields_line (f ∷ fs) (t ∷ texts) are = (field_line f.code f.value t are.0, fields_line fs texts are.1)
 
+plain_name : (name : Option (List ℕ)) → IfSome name IsOneLine → IfSome (option_map plain name) IsOneLine
+plain_name (Some text) h = plain_line text h
+plain_name None h = tt
+
 type_line : (kind : ℕ) → IsOneLine (type_text kind)
-type_line kind = line_either (nat_lt 0 kind && nat_lt kind 5) (plain (kind_text kind)) (decimal kind) (plain_line (kind_text kind) (kind_line kind)) (line_decimal kind)
+type_line kind = line_or (option_map plain (type_name kind)) (decimal kind) (plain_name (type_name kind) (type_name_line kind)) (line_decimal kind)
 
 count_line : (name : List ℕ) → line_feeds name ≡ 0 → (n : ℕ) → IsOneLine (member name (decimal n))
 count_line name h n = member_line name (decimal n) (line_literal name h) (line_decimal n)

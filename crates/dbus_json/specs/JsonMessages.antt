@@ -1,19 +1,21 @@
 -- A message as a line of JSON: an object, and a line feed after it.
 -- RFC 8259, of the messages of the D-Bus Specification, "Message Format" and "Header Fields".
-use Rattle.std.specs.Prelude.{◌≡◌, ℕ, List, [], ◌∷◌, ◌++◌, Bool, true, false, ◌&&◌, nat_lt, length, codes, decimal, if◌then◌else◌}
+use Rattle.std.specs.Prelude.{◌≡◌, ℕ, List, [], ◌∷◌, ◌++◌, Bool, true, false, length, option_map, codes, decimal, if◌then◌else◌}
 use Rattle.std.specs.Bool.{beq}
+use Rattle.std.specs.Option.{unwrap_or}
 use Rattle.dbus_texts.specs.Types.{sig}
 use Rattle.dbus_value_model.specs.declared.order.Order.{Order}
 use Rattle.dbus_value_model.specs.Values.{ValueTree, type_of}
 use Rattle.dbus_message_model.specs.Messages.{FieldTree, MessageTree, order_byte, message_bytes, is_known}
-use Rattle.dbus_show.specs.ShownMessages.{kind_text, field_name, line_feeds}
+use Rattle.dbus_message_model.specs.MessageTypes.{type_name}
+use Rattle.dbus_show.specs.ShownMessages.{field_name, line_feeds}
 use Rattle.dbus_value_text.specs.Forms.{AreFieldTexts, taken_fields}
 use Rattle.dbus_validate.specs.declared.validating.Validated.{Validated}
 use Rattle.dbus_json.specs.JsonValues.{plain, array, member, object, IsJson, AreJson, listed}
 
 -- a message type's name, or its number if it has none
 abbrev pub type_text : ℕ → List ℕ
-type_text kind = if nat_lt 0 kind && nat_lt kind 5 then plain (kind_text kind) else decimal kind
+type_text kind = unwrap_or (option_map plain (type_name kind)) (decimal kind)
 
 -- a header field with this code and value: one that is known is a member by its name, and any other
 -- an object of its code and its value with the signature of that

@@ -12,8 +12,9 @@ ghost use Rattle.dbus_json.specs.JsonMessages.{AreFields, IsJsonLine, fields_of,
 
 use crate::fields::{KnownFields, OtherFields};
 use crate::json::Json;
+use dbus_message_model::message_type::type_name;
 use dbus_message_model::order_byte;
-use dbus_show::{Draft, write_integer, write_kind};
+use dbus_show::{Draft, write_integer};
 use dbus_validate::{Validated, Whole};
 use dbus_value_model::Limits;
 use dbus_value_text::{write_body, write_fields};
@@ -22,12 +23,13 @@ use dbus_value_text::{write_body, write_fields};
 fn write_type<D: Draft>(draft: &mut D, kind: u8)
     ensures { D.gains draft.old (type_text kind) draft.new }
 {
-    if kind > 0 && kind < 5 {
-        draft.push_code(b'"');
-        write_kind(draft, kind);
-        draft.push_code(b'"');
-    } else {
-        write_integer(draft, kind);
+    match type_name(kind) {
+        Some(name) => {
+            draft.push_code(b'"');
+            draft.push_str(name);
+            draft.push_code(b'"');
+        }
+        None => write_integer(draft, kind),
     }
 }
 

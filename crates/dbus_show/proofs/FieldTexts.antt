@@ -1,7 +1,8 @@
 -- The header's line of a valid message, and its whole text, have no other line feeds than those at
 -- the ends of lines.
-use Rattle.std.proofs.Common.{◌≡◌, ◌≢◌, ℕ, suc, Bool, true, false, eqb, cond, IsTrue, List, [], ◌∷◌, ◌++◌, ⊎_elim, length, map, codes, decimal, refl, sym, subst, arith, ◌+◌, ◌<◌, get_or, take, ap, ◌∙◌}
+use Rattle.std.proofs.Common.{◌≡◌, ◌≢◌, ℕ, suc, Bool, true, false, eqb, cond, IsTrue, List, [], ◌∷◌, ◌++◌, ⊎_elim, length, map, codes, decimal, Option, Some, None, IfSome, refl, sym, subst, arith, ◌+◌, ◌<◌, get_or, take, ap, ◌∙◌}
 use Rattle.std.specs.List.{flat_map, AllByRecursion}
+use Rattle.std.specs.Option.{unwrap_or}
 use Rattle.std.proofs.lemmas.List.{take_more}
 use Rattle.hex.specs.Hex.{encode_lower}
 use Rattle.dbus_texts.specs.Types.{UINT32, TextCode, STRING, OBJECT_PATH, SIGNATURE, NumberType, TextType}
@@ -13,6 +14,7 @@ use Rattle.dbus_value_model.specs.declared.order.Order.{Order}
 use Rattle.dbus_value_model.specs.declared.order.Order.TheVariants.{Little, Big}
 use Rattle.dbus_value_model.specs.Values.{ValueTree, NumberValue, TextValue, value_trees, IsWellFormed, AreWellFormed}
 use Rattle.dbus_message_model.specs.Messages.{FieldTree, MessageTree, order_byte, is_known, field_struct, Want, OfType, Name, Serial, want, is_particular, Suits, AreFields}
+use Rattle.dbus_message_model.specs.MessageTypes.{type_name}
 use Rattle.dbus_message_model.proofs.Widening.{widest_valid}
 use Rattle.dbus_show.specs.ShownMessages.{line_feeds, OneForEachLine, kind_text, field_name, bare, field_value, field_text, start_text, header_line, body_line}
 use Rattle.dbus_show.specs.ShownValues.{value_text, value_texts}
@@ -119,11 +121,21 @@ name_line code =
     (line_either (eqb code 7) _ _ (line_literal (codes "sender") refl) (line_either (eqb code 8) _ _ (line_literal (codes "signature") refl)
     (line_either (eqb code 9) _ _ (line_literal (codes "unix_fds") refl) (line_append (codes "field") (decimal code) (line_literal (codes "field") refl) (line_decimal code))))))))))
 
-pub kind_line : (kind : ℕ) → IsOneLine (kind_text kind)
-kind_line kind =
-    line_either (eqb kind 1) _ _ (line_literal (codes "method_call") refl) (line_either (eqb kind 2) _ _ (line_literal (codes "method_return") refl)
-    (line_either (eqb kind 3) _ _ (line_literal (codes "error") refl) (line_either (eqb kind 4) _ _ (line_literal (codes "signal") refl)
-    (line_append (codes "kind") (decimal kind) (line_literal (codes "kind") refl) (line_decimal kind)))))
+line_if : (b : Bool) (x y : Option (List ℕ)) → IfSome x IsOneLine → IfSome y IsOneLine → IfSome (cond b x y) IsOneLine
+line_if true x y h k = h
+line_if false x y h k = k
+
+pub type_name_line : (kind : ℕ) → IfSome (type_name kind) IsOneLine
+type_name_line kind =
+    line_if (eqb kind 1) _ _ (line_literal (codes "method_call") refl) (line_if (eqb kind 2) _ _ (line_literal (codes "method_return") refl)
+    (line_if (eqb kind 3) _ _ (line_literal (codes "error") refl) (line_if (eqb kind 4) (Some (codes "signal")) None (line_literal (codes "signal") refl) tt)))
+
+pub line_or : (name : Option (List ℕ)) (other : List ℕ) → IfSome name IsOneLine → IsOneLine other → IsOneLine (unwrap_or name other)
+line_or (Some text) other h k = h
+line_or None other h k = k
+
+kind_line : (kind : ℕ) → IsOneLine (kind_text kind)
+kind_line kind = line_or (type_name kind) _ (type_name_line kind) (line_append (codes "kind") (decimal kind) (line_literal (codes "kind") refl) (line_decimal kind))
 
 fields_line : (before fs : List FieldTree) (inner : ℕ) → AreFields before fs → AreWellFormed (suc (suc inner)) (value_trees (map field_struct fs)) → IsOneLine (flat_map field_text fs)
 fields_line before [] inner are formed = line_literal [] refl

@@ -3,20 +3,19 @@
 -- lower case.
 use Rattle.std.specs.Prelude.{ℕ, List, [], ◌∷◌, ◌++◌, codes, decimal, nat_eq, if◌then◌else◌, ◌≡◌, ◌==◌, ◌+◌, length}
 use Rattle.std.specs.List.{concat, flat_map, count_by}
+use Rattle.std.specs.Option.{unwrap_or}
 use Rattle.hex.specs.Hex.{encode_lower}
 use Rattle.dbus_texts.specs.Types.{UINT32}
 use Rattle.dbus_value_model.specs.declared.order.Order.{Order}
 use Rattle.dbus_value_model.specs.Values.{ValueTree, NumberValue, TextValue}
 use Rattle.dbus_message_model.specs.Messages.{FieldTree, MessageTree, order_byte, is_known, IsValidMessage}
+use Rattle.dbus_message_model.specs.MessageTypes.{type_name}
 use Rattle.dbus_value_model.specs.declared.limits.Limits.{Limits}
 use Rattle.dbus_show.specs.ShownValues.{value_text, value_texts}
 
 -- a message type's name, or `kind` and its number where it has none
 abbrev pub kind_text : ℕ → List ℕ
-kind_text kind =
-    if nat_eq kind 1 then codes "method_call" else if nat_eq kind 2 then codes "method_return"
-    else if nat_eq kind 3 then codes "error" else if nat_eq kind 4 then codes "signal"
-    else codes "kind" ++ decimal kind
+kind_text kind = unwrap_or (type_name kind) (codes "kind" ++ decimal kind)
 
 -- a field's name, or `field` and its code where it has none
 abbrev pub field_name : ℕ → List ℕ

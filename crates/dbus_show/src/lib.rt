@@ -22,5 +22,5 @@ pub use escapes::{write_quoted, write_quoted_by};
 pub use fields::write_field_name;
 pub use hexadecimal::write_hex;
 pub use numbers::write_integer;
-pub use show::{kind_name, write_kind, write_start};
+pub use show::{write_kind, write_start};
 pub use string_draft::StringDraft;

@@ -1,34 +1,20 @@
 //! The line of a message's header as far as its fields.
 #![tactic(auto)]
 
-ghost use Rattle.std.specs.Prelude.{◌≡◌, ◌++◌, IfNone, IfSome, codes, decimal};
 ghost use Rattle.dbus_show.specs.ShownMessages.{kind_text, start_text};
 
 use crate::draft::Draft;
 use crate::hexadecimal::write_hex;
 use crate::numbers::write_integer;
+use dbus_message_model::message_type::type_name;
 use dbus_message_model::order_byte;
 use dbus_value_model::Order;
-
-/// The name of a message type, if it has one. D-Bus Specification, "Message Format".
-pub fn kind_name(kind: u8) -> Option<&'static str>
-    ensures named { IfSome result (λ name. name.now ≡ kind_text kind) }
-    ensures numbered { IfNone result (codes "kind" ++ decimal kind ≡ kind_text kind) }
-{
-    match kind {
-        1 => Some("method_call"),
-        2 => Some("method_return"),
-        3 => Some("error"),
-        4 => Some("signal"),
-        _ => None,
-    }
-}
 
 /// Appends the name of a message type, or `kind` and its number if it has none.
 pub fn write_kind<D: Draft>(draft: &mut D, kind: u8)
     ensures { D.gains draft.old (kind_text kind) draft.new }
 {
-    match kind_name(kind) {
+    match type_name(kind) {
         Some(name) => draft.push_str(name),
         None => {
             draft.push_str("kind");
