@@ -24,9 +24,6 @@ is_false false e = refl
 pub known_field : (code : ℕ) (v : ValueTree) (value : List ℕ) → is_known code ≡ true → IsJson v value → IsField code v (member (field_name code) value)
 known_field code v value known json = record { value = value; json = json; is = rw known refl }
 
-pub known_text : (code : ℕ) (value : List ℕ) → codes "\"" ++ (field_name code ++ (codes "\":" ++ value)) ≡ member (field_name code) value
-known_text code value = ap (λ (s : List ℕ). codes "\"" ++ s) (sym (append_assoc (field_name code) (codes "\"") (codes ":" ++ value)))
-
 abbrev other : ℕ → ValueTree → List ℕ → List ℕ
 other code v value = object (member (codes "code") (decimal code) ∷ member (codes "type") (plain (sig (type_of v))) ∷ member (codes "value") value ∷ [])
 

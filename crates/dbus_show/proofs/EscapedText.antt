@@ -60,6 +60,10 @@ module _ (mark : List ℕ) where
   plain_itself [] = refl
   plain_itself (x ∷ xs) = plain_first (is_escaped x) x (plain_length xs) (1 + plain_length xs) xs (omega arith) refl (plain_itself xs)
 
+  -- no byte is escaped
+  pub all_itself : (xs : List ℕ) → plain_length xs ≡ length xs → flat_map (escape_by mark) xs ≡ xs
+  all_itself xs e = subst (λ (ys : List ℕ). flat_map (escape_by mark) ys ≡ ys) (ap (λ n. take n xs) e ∙ take-length xs) (plain_itself xs)
+
   run_shown : (xs : List ℕ) (start end : ℕ) → IsRun xs start end → flat_map (escape_by mark) (take end xs) ≡ flat_map (escape_by mark) (take start xs) ++ take (end - start) (drop start xs)
   run_shown xs start end r =
       let f = flat_map (escape_by mark) in

@@ -25,7 +25,8 @@ fn write_escape<D: Draft>(draft: &mut D, byte: u8, mark: &str)
 }
 
 /// Appends a text with its escapes, and what is between two of them at once.
-fn write_escaped<D: Draft>(draft: &mut D, text: &str, mark: &str)
+#[inline(never)]
+fn write_runs<D: Draft>(draft: &mut D, text: &str, mark: &str)
     ensures { D.gains draft.old (flat_map (escape_by mark.now) text.now) draft.new }
 {
     let bytes = text.as_bytes();
@@ -40,11 +41,27 @@ fn write_escaped<D: Draft>(draft: &mut D, text: &str, mark: &str)
     draft.push_str(&text[start..]);
 }
 
+/// Appends a text with its escapes, and at once if it has none.
+#[inline(always)]
+fn write_escaped<D: Draft>(draft: &mut D, text: &str, mark: &str)
+    ensures { D.gains draft.old (flat_map (escape_by mark.now) text.now) draft.new }
+{
+    if plain_length(text.as_bytes()) == text.len() {
+        draft.push_str(text);
+    } else {
+        write_runs(draft, text, mark);
+    }
+}
+
 /// Appends a text between quotation marks. A byte below 32, or 127, is written as the mark and two
 /// hexadecimal digits.
 pub fn write_quoted_by<D: Draft>(draft: &mut D, text: &str, mark: &str)
     ensures { D.gains draft.old (quoted_by mark.now text.now) draft.new }
 {
+    if text.is_empty() {
+        draft.push_str("\"\"");
+        return;
+    }
     draft.push_code(b'"');
     write_escaped(draft, text, mark);
     draft.push_code(b'"');

@@ -1,16 +1,16 @@
 //! Header fields as text, from a message's bytes. D-Bus Specification, "Header Fields".
 #![tactic(auto)]
 
-ghost use Rattle.std.specs.Prelude.{◌≡◌, ℕ, List, true};
+ghost use Rattle.std.specs.Prelude.{◌≡◌, ◌++◌, ℕ, List, codes, true};
 ghost use Rattle.dbus_types.specs.SignatureCodes.{AreLengths};
 ghost use Rattle.dbus_value_model.specs.Values.{ValueTree};
 ghost use Rattle.dbus_walk.specs.Standing.{StandsAt, StandsThere, end_of};
-ghost use Rattle.dbus_show.specs.ShownMessages.{bare};
+ghost use Rattle.dbus_show.specs.ShownMessages.{bare, field_name};
 ghost use Rattle.dbus_show_view.specs.Plain.{named};
 
 use crate::plain::Plain;
 use dbus_message_model::field_table::is_known;
-use dbus_show::{Draft, write_field_name, write_integer};
+use dbus_show::{Draft, push_field_name, write_field_name, write_integer};
 use dbus_value_text::{FieldForm, write_value};
 use dbus_walk::{Layout, MessageBytes, Spot, layout, text_in};
 
@@ -33,13 +33,29 @@ impl FieldForm for Named {
         code: u8,
         spot: &Spot<'_>,
     ) -> usize {
-        write_field_name(draft, code);
-        draft.push_code(b'=');
+        write_name(draft, code);
         if is_known(code) {
             return write_bare(draft, source, spot);
         }
         write_value::<Plain, D>(draft, source, spot)
     }
+}
+
+/// Appends the name of a field and `=`.
+#[inline]
+fn write_name<D: Draft>(draft: &mut D, code: u8)
+    ensures { D.gains draft.old (field_name code ++ codes "=") draft.new }
+{
+    push_field_name!(
+        draft,
+        code,
+        "",
+        "=",
+        {
+            write_field_name(draft, code);
+            draft.push_code(b'=');
+        }
+    )
 }
 
 /// Appends a text or a UINT32 alone, and of any other type the text of the value: the offset after

@@ -3,7 +3,7 @@ use Rattle.std.specs.List.{flat_map}
 use Rattle.std.specs.Str.{IsCharBoundary}
 use Rattle.dbus_show.specs.ShownValues.{escape_by}
 use Rattle.dbus_show.proofs.EscapedText.{IsRun}
-use Rattle.dbus_show.proofs.escapes.write_escaped.Given as goal
+use Rattle.dbus_show.proofs.escapes.write_runs.Given as goal
 
 abbrev pub invariant-loop-end : goal.invariant-loop-end
 invariant-loop-end g l = record {
