@@ -1,6 +1,6 @@
 -- A block of a pcapng file that is no section's is read as it is spelled.
-use Rattle.std.proofs.Common.{◌≡◌, ◌≢◌, ◌⊎◌, inl, inr, ℕ, ◌+◌, ◌-◌, ◌*◌, ◌<◌, ◌≤◌, ◌^◌, Bool, true, false, cond, List, [], ◌++◌, length, Option, None, refl, sym, ap, subst, ◌∙◌, arith, append_assoc, length-append, Some}
-use Rattle.std.specs.Prelude.{◌||◌, ◌==◌, nat_le, slice_get}
+use Rattle.std.proofs.Common.{◌≡◌, ◌≢◌, inl, inr, ℕ, ◌+◌, ◌-◌, ◌*◌, ◌<◌, ◌≤◌, ◌^◌, true, cond, List, [], ◌++◌, length, Option, None, refl, sym, ap, subst, ◌∙◌, arith, append_assoc, length-append, Some}
+use Rattle.std.specs.Prelude.{◌==◌, slice_get}
 use Rattle.dbus_capture.specs.declared.byte_order.ByteOrder.{ByteOrder}
 use Rattle.dbus_capture.specs.declared.stage.Stage.{Stage}
 use Rattle.dbus_capture.specs.declared.stage.Stage.TheVariants as stages
@@ -17,7 +17,7 @@ use Rattle.dbus_capture.specs.BlockFiles.{FitsBody, framed_bytes, FileBlock, Int
 use Rattle.dbus_capture.proofs.NumberLaws.{u32_size, u16_size, u32_after, u16_after, u32_last}
 use Rattle.dbus_capture.proofs.StepLaws.{run-append, given-append, run_gives}
 use Rattle.dbus_capture.proofs.PcapOutcomes.{eq_is, eq_not, cases_same}
-use Rattle.dbus_capture.proofs.BlockTurns.{when_true, when_false, le_true, lt_false, length_ok, takes_head, ends_block, opens_block, opens_as}
+use Rattle.dbus_capture.proofs.BlockTurns.{when_true, when_false, lt_false, length_ok, takes_head, ends_block, opens_block, opens_as}
 
 -- bytes were taken up to the end of a block
 pub record Went (s : Scan) (bytes : List ℕ) (order : ByteOrder) (interfaces : List Interface) (out : List ℕ) : Type 0 where
