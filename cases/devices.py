@@ -9,7 +9,7 @@ from growths import ask_refused, growths_of, is_refused
 from questions import Question, hexed, words_of
 from read_cases import read_parts, read_words
 from runs import ended, spelled
-from streams import READERS, reader_of, runs_of, stream_of
+from streams import READERS, answers_of, reader_of, runs_of, stream_of
 
 FAILED = "the device failed"
 # How often a call of a reader is made, its name, and what each answers.
@@ -25,12 +25,11 @@ SIZES = (1, 7, 25, 1000)
 def ask_reader(case, folder):
     """Calls of a reader in turn, over a device as the settings say."""
     _, column, device, reader, script, counts = case
-    calls, told = [], []
+    data, calls = read_parts(column, folder), []
     for times, call, answer in (CALL.fullmatch(it).groups() for it in script.split(", ")):
-        calls += [call] * int(times or 1)
-        told += [answer] * int(times or 1)
-    words = words_of("read", hexed(read_parts(column, folder)), device, reader_of(reader, calls))
-    usual = words_of(*told, counts)
+        calls += [(call, answer)] * int(times or 1)
+    words = words_of("read", hexed(data), device, reader_of(reader, calls))
+    usual = words_of(*answers_of(reader, calls, data), counts)
     yield Question("reader", words, usual)
     counted = GROWTHS.search(device)
     least, most = (int(counted[1]), None if counted[2] else int(counted[1])) if counted else (0, None)
@@ -45,43 +44,40 @@ def ask_failing_reads(stream):
     for (reader, call), n in itertools.product(READERS.items(), range(1, reads + 1)):
         # How many messages came before that read.
         at = bisect.bisect(stream.ends, n - 1) - 1
-        told = [(call, it) for it in (*lengths[:at], FAILED, *lengths[at:], rest, rest)]
+        calls = [(call, it) for it in (*lengths[:at], FAILED, *lengths[at:], rest, rest)]
         if reader != "lengths":
-            told.insert(at + 1, ("kept", "none"))
-            told.append(("kept", "none" if rest == "done" else rest))
-        calls, answers = zip(*told)
-        wanted = words_of(*answers, str(stream.ends[-1]), str(reads + 1), "1")
-        yield stream.ask(f"reader of {reader} whose read {n} fails", "read", wanted, reader_of(reader, calls), f"size=1 fails={n}")
+            calls.insert(at + 1, ("kept", "none"))
+            calls.append(("kept", "none" if rest == "done" else rest))
+        wanted = lambda _: f"{stream.ends[-1]} {reads + 1} 1"
+        yield stream.ask_reader(f"reader of {reader} whose read {n} fails", reader, calls, wanted, f"size=1 fails={n}")
 
 
 def ask_refused_readers(stream, least):
     """Each growth of the readers is refused. That of messages asks for so many at least, one that copies for some, and the others for none if a message
     lies in their buffer."""
-    for (reader, call), size in itertools.product(READERS.items(), SIZES):
-        usual = f"{stream.outcome()} {stream.rest} {stream.ends[-1]} {stream.reads({}, size)} 0"
-        calls = [call] * (len(stream.messages) + 2)
-        words = stream.ask("", "read", None, reader_of(reader, calls), f"size={size}").words
+    for question, (reader, size) in zip(stream.ask_readers(READERS, SIZES), itertools.product(READERS, SIZES)):
+        usual = question.wanted({})
         some = {"messages": least, "raw": len(stream.messages)}.get(reader, 0)
         lies = size > len(stream.data) and stream.rest != "partial"
         none = 0 if reader == "lengths" or (reader == "lent" and lies) else None
-        yield ask_refused(f"reader of {reader} by {size}", words, usual, least=some, most=none)
+        yield ask_refused(question.engine, question.words, usual, least=some, most=none)
 
 
 def ask_refused_pieces(stream, least):
     """Each growth of cutters is refused, in pieces of each size, and in two pieces. A piece that ends within a message takes one growth at most, the one
     that ends the first message so many at least, and a fault none."""
-    data, outcome = stream.data, lambda place: stream.outcome(place, len(stream.data))
+    data, cut = stream.data, lambda place: stream.cut(place, len(stream.data))
     for size in range(1, len(data) + 1):
         places = range(0, len(data) + size, size)
         words = words_of("cut", hexed(data), f"to={places[-1]} step={size}")
-        yield ask_refused(f"Cutter by {size}", words, runs_of((place, outcome(place)) for place in places), least=least)
+        yield ask_refused(f"Cutter by {size}", words, runs_of((place, cut(place)) for place in places), least=least)
     end = stream.ends[1] if stream.messages else len(data)
     for n in range(end):
         both = lambda size, n=n: words_of("cut-in-two", hexed(data[:size]), f"from={n} to={n}")
-        front = ask_refused(f"Cutter of the first {n}", both(n), f"{n} {outcome(n)} then {outcome(n)}", most=1)
+        front = ask_refused(f"Cutter of the first {n}", both(n), f"{n} {cut(n)} then {cut(n)}", most=1)
         more = lambda answers, front=front, count=1: growths_of(answers[front.engine]) + count
         yield front
-        told = lambda size, n=n: f"{n} {outcome(n)} then {outcome(size)}"
+        told = lambda size, n=n: f"{n} {cut(n)} then {cut(size)}"
         yield ask_refused(f"Cutter at {n} within a message", both(end - 1), told(end - 1), most=more)
         if stream.messages:
             ends = lambda answers, more=more: more(answers, count=least)
@@ -96,8 +92,9 @@ def ask_sent(message):
     size = len(message)
     words = f"send {hexed(message)} size=1"
     for n in range(1, size + 1):
-        yield Question(f"write {n} fails", f"{words} fails={n}", f"failed {n - 1} {hexed(message[: n - 1])} {n} 1")
-    usual = f"sent {hexed(message)} {size} 0"
+        told = f"the device failed after {n - 1} bytes {hexed(message[: n - 1])} {n} 1"
+        yield Question(f"write {n} fails", f"{words} fails={n}", told)
+    usual = f"accepted {hexed(message)} {size} 0"
     yield Question("no write fails", f"{words} fails={size + 1}", usual)
     yield ask_refused("write", words, usual, least=1, most=1)
 
@@ -123,20 +120,27 @@ def ask_passing(case, folder):
     lines, size = map(int, re.search(rb"ok (\d+) lines (\d+) bytes", read_parts(first, folder)).groups())
     # The first byte after a server's lines says that no more of them come.
     reads = size + (side == "server")
-    words = f"pass {side} {hexed(data)} size=1"
-    yield Question("pass", words, f"passed {reads}")
+    words = f"{side}-pass {hexed(data)} size=1"
+    yield Question("pass", words, f"accepted {reads}")
     for n in range(1, reads + 1):
         yield Question(f"read {n} fails", f"{words} fails={n}", f"{FAILED} {n}")
-    yield ask_refused("pass", words, f"passed {reads}", is_refused, least=lines)
+    yield ask_refused("pass", words, f"accepted {reads}", is_refused, least=lines)
 
 
 def ask_device(case, folder):
     """A run over devices as the settings say."""
     _, words, column, settings, status, first, second, told = case
-    data, asked = read_parts(column, folder), told.split(" ")[0]
-    words = words_of("run", hexed(data), spelled(read_words(words)), settings, f"told={asked}")
+    data = read_parts(column, folder)
+    words = words_of("run", hexed(data), spelled(read_words(words)), settings, "told=all")
     read = ended(status, read_parts(first, folder), read_parts(second, folder), "unread" if told.startswith("reads 0 ") else "read")
-    yield Question("run", words, words_of(read, told.removeprefix(f"{asked} ")))
+
+    def wanted(answers):
+        answer = answers["run"]
+        # The column has one of the two counts.
+        is_right = answer.startswith(f"{read} reads ") and (answer.endswith(f" {told}") or answer.startswith(f"{read} {told} written "))
+        return answer if is_right else words_of(read, told)
+
+    yield Question("run", words, wanted)
 
 
 class Run:

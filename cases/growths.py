@@ -12,7 +12,7 @@ from streams import runs_of
 
 OUT_OF_MEMORY = "out of memory"
 # Words of questions on what is changed by calls: if memory runs out the same call is made again, and goes on as if nothing had been.
-AGAIN = {"value-written", "encode-into", "by=validated", "cut-lines", "machine", "end", "end-in-two", "handshake", "found"}
+AGAIN = {"value-written", "encode-into", "by=validated", "cut-lines", "client-end", "server-end", "client-machine", "server-machine", "found"}
 # Words of questions whose answers have the texts of errors where a column has their names.
 SAYING_FAULTS = {"made", "spelled", "text-parse", "value-written"}
 # What a column of numbers of growths has: a number, the least or the greatest.

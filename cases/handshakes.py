@@ -17,6 +17,8 @@ LINE = re.compile(rb"[\x01-\x09\x0b\x0c\x0e-\x7f]{0,16382}")
 OF_SERVER = re.compile("guid=[0-9a-f]{32}|user=[0-9]+|anonymous=yes")
 # Bytes that are as many are only split near their ends.
 LONG = 1000
+# The settings that say in which pieces bytes are handed over: in one; byte by byte; and so that an empty piece comes after each byte.
+WAYS = {"whole": "", "bytes": "size=1", "empty": "size=1 empty=yes"}
 
 
 def meaning_of(column):
@@ -31,16 +33,17 @@ def meaning_of(column):
 def asker_of_lines(sender):
     def ask_line(case, _):
         _, line, meaning, written = case
-        meaning = meaning_of(meaning)
+        meaning = re.sub("^auth (.*) response", r"auth-by \1", meaning_of(meaning))
         if line != "none":
-            yield Question("read", f"line {sender} {hexed(read_bytes(line))}", meaning)
+            yield Question("read", f"{sender}-line {hexed(read_bytes(line))}", meaning)
         if written == "unspellable":
-            yield Question("write", f"written {sender} {meaning}", written)
+            yield Question("write", f"{sender}-written {meaning}", "no line spells this")
             return
         spelled = read_bytes(written)
-        yield Question("write", f"written {sender} {meaning}", hexed(spelled + CRLF))
-        yield Question("cut what is written", f"cut-lines by-bytes {hexed(spelled + CRLF)}", f"line {len(spelled)} partial 0")
-        yield Question("read what is written", f"line {sender} {hexed(spelled)}", meaning)
+        yield Question("write", f"{sender}-written {meaning}", hexed(spelled + CRLF))
+        words = f"cut-lines {hexed(spelled + CRLF)} {WAYS['empty']}"
+        yield Question("cut what is written", words, f"0 line {hexed(spelled)} partial 0")
+        yield Question("read what is written", f"{sender}-line {hexed(spelled)}", meaning)
 
     return ask_line
 
@@ -50,20 +53,31 @@ def splits_of(data):
     return [(0, len(data))] if len(data) < LONG else [(0, 2), (len(data) - 4, len(data))]
 
 
+def cut_of(data, lines):
+    """What a cutter says that gives these lines of bytes, and then what a column says."""
+    at = 0
+    for word, _, count in (it.rpartition(" ") for it in lines.split(", ")):
+        if word == "line":
+            yield f"line {hexed(data[at : at + int(count)])}"
+            at += int(count) + len(CRLF)
+        else:
+            faults = {"too": "the line has more than 16,384 bytes", "bad byte": f"a byte that a line may not have, at offset {count}"}
+            yield faults.get(word, f"{word} {count}")
+
+
 def ask_cuts(case, _):
     _, column, lines = case
-    data, told = read_bytes(column), lines.replace(",", "")
+    data = read_bytes(column)
+    told = " ".join(cut_of(data, lines))
     for first, last in splits_of(data):
-        words = f"cut-lines in-two {hexed(data)} from={first} to={last}"
+        words = f"cut-lines {hexed(data)} from={first} to={last}"
         yield Question(f"in two from {first} on", words, f"{first} {told}")
-    yield Question("byte by byte, and nothing between", f"cut-lines by-bytes {hexed(data)}", told)
+    yield Question("byte by byte, and nothing between", f"cut-lines {hexed(data)} {WAYS['empty']}", f"0 {told}")
 
 
 def mechanism_of(word):
     """A mechanism of a client: `external`, `external=USER` or `anonymous=TRACE`."""
     name, _, text = word.partition("=")
-    if not text:
-        return name
     return f"{name}:{text}" if name == "external" else f"{name}:{read_bytes(text).hex()}"
 
 
@@ -84,32 +98,53 @@ def lines_in(side, data):
     return [*itertools.takewhile(LINE.fullmatch, lines)]
 
 
+def acts_of(side, sent, status):
+    """What a machine says that it does, whose end sends these bytes in all."""
+    lines = sent.removeprefix(b"\0").split(CRLF)[:-1]
+    if side == "client" and status == "begun":
+        assert lines.pop() == b"BEGIN"
+    acts = {"begun": ["begin"], "closed": ["disconnect"]}
+    return [*(hexed(line + CRLF) for line in lines), *acts.get(status, [])]
+
+
+def standing(side, state):
+    """The status of an end or the state of a machine as it says it, in one word, and of a client with the server's GUID."""
+    state, _, guid = state.partition(" ") if state.startswith("begun") else (state, "", "")
+    word = "".join(map(str.capitalize, state.split(" ")))
+    return f"{word} {guid or 'none'}" if side == "client" else word
+
+
 def ask_dialogue(case, _):
     _, end, column, sent, takes, status, state = case
     side, data, settings = end.split(" ")[0], read_bytes(column), settings_of(end)
-    sent, (state, _, guid) = hexed(read_bytes(sent)), state.partition(" ") if state.startswith("begun") else (state, "", "")
-    about = words_of(side, hexed(data), settings)
-    yield Question("in one piece", f"end {about}", words_of(sent, takes.replace(" + ", " "), status, guid))
+    sent, guid = read_bytes(sent), state.removeprefix("begun") if state.startswith("begun") else ""
+    about = words_of(f"{side}-end", hexed(data), settings)
+    did = f"{hexed(sent)} {standing(side, status + guid)}"
+    each = "" if takes == "0" else takes.replace(" + ", " ")
+    yield Question("in one piece", f"{about} taken=each", f"0 {did} {each}")
     # A line with a fault closes an end, and its machine does not hear of it.
     is_faulty = status == "closed" and state != "closed"
-    told = "taken=untold" if is_faulty else "taken=all"
-    did = words_of(sent, "" if is_faulty else str(sum(map(int, takes.split(" + ")))), status, guid)
+    taken = "" if is_faulty else "taken=all"
+    did = words_of(did, "" if is_faulty else str(sum(map(int, takes.split(" + ")))))
     for way in ("bytes", "empty"):
-        yield Question(f"by {way}", f"end {about} way={way} {told}", did)
+        yield Question(f"by {way}", words_of(about, WAYS[way], taken), f"0 {did}")
     for first, last in splits_of(data):
-        yield Question(f"in two from {first} on", f"end-in-two {about} {told} from={first} to={last}", f"{first} {did}")
+        yield Question(f"in two from {first} on", words_of(about, taken, f"from={first} to={last}"), f"{first} {did}")
     lines = ",".join(line.hex() for line in lines_in(side, data))
-    words = words_of("machine", side, settings, "taken=untold", f"lines={lines}" if lines_in(side, data) else "")
-    yield Question("machine", words, words_of(sent, "talking" if is_faulty else status, guid, state))
+    words = words_of(f"{side}-machine", settings, f"lines={lines}" if lines_in(side, data) else "")
+    acts = acts_of(side, sent, "talking" if is_faulty else status)
+    yield Question("machine", words, words_of(*acts, standing(side, state)))
 
 
 def ask_handshake(case, _):
     _, client, server, by_client, by_server, client_ends, server_ends = case
-    left = lambda ends: hexed(MESSAGE if ends.startswith("begun") else b"")
+    by_client, by_server = read_bytes(by_client), read_bytes(by_server)
+    # Each takes what the other one sends before its message.
+    sent = lambda data, ends: hexed(data + (MESSAGE if ends.startswith("begun") else b""))
     wanted = words_of(
-        *(hexed(read_bytes(by_client)), client_ends, left(server_ends)),
-        *(hexed(read_bytes(by_server)), server_ends, left(client_ends)),
+        *(sent(by_client, client_ends), standing("client", client_ends), str(len(by_server))),
+        *(sent(by_server, server_ends), standing("server", server_ends), str(len(by_client))),
     )
-    for way in ("whole", "bytes", "empty"):
-        words = words_of("handshake both", hexed(MESSAGE), settings_of(client), settings_of(server), f"way={way}", "taken=untold")
+    for way, pieces in WAYS.items():
+        words = words_of("handshake", f"message={MESSAGE.hex()}", settings_of(client), settings_of(server), pieces, "taken=all")
         yield Question(f"by {way}", words, wanted)

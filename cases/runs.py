@@ -5,7 +5,7 @@ import re
 from questions import Question, hexed, words_of
 from read_cases import read_bytes, read_parts, read_words
 from streams import SIZES as STREAM_SIZES
-from streams import stream_of
+from streams import fault_of, stream_of
 
 # The program's path, of which texts of usage say the name alone.
 PROGRAM = "/usr/bin/dbus-wire"
@@ -26,11 +26,15 @@ def spelled(words):
     return ",".join(word.encode().hex() for word in (PROGRAM, *words))
 
 
-def ask_run(name, data, words, sizes, wanted, before=()):
-    """Asks for runs of these words over an input; or over what other words make of it before."""
-    first = f"before={spelled(before)}" if before else ""
+def ask_run(name, data, words, sizes, wanted):
+    """Asks for runs of these words over an input."""
     for size in sizes:
-        yield Question(f"{name} by {size}", words_of("run", hexed(data), spelled(words), f"size={size}", first), wanted)
+        yield Question(f"{name} by {size}", f"run {hexed(data)} {spelled(words)} size={size}", wanted)
+
+
+def ask_second(name, data, first, words, wanted):
+    """Asks for a run of these words over what the first words make of an input, and wants how both runs end."""
+    yield Question(name, f"run {hexed(data)} {spelled(first)};{spelled(words)} size={STREAM_SIZES[-1]}", wanted)
 
 
 def ask_tool(case, folder):
@@ -75,10 +79,12 @@ def ask_commands(stream, line):
         swapped = lambda answers, order=order: end(joined(answers, order))
         yield from ask_run(f"swap to {order}", data, swap, STREAM_SIZES, swapped)
         if is_whole:
-            yield from ask_run(f"check of swap to {order}", data, ("check", *options), STREAM_SIZES[-1:], checked, swap)
+            both = lambda answers, swapped=swapped: f"{swapped(answers)} {checked}"
+            yield from ask_second(f"check of swap to {order}", data, swap, ("check", *options), both)
         if is_whole and len({message[0] for message in stream.messages}) == 1:
             back = ("swap", "--to", chr(data[0]), *options)
-            yield from ask_run(f"swap of swap to {order}", data, back, STREAM_SIZES[-1:], ended(0, data), swap)
+            both = lambda answers, swapped=swapped: f"{swapped(answers)} {ended(0, data)}"
+            yield from ask_second(f"swap of swap to {order}", data, swap, back, both)
 
 
 def ask_printed(case, _):
@@ -94,12 +100,12 @@ def ask_rule(case, _):
     word, _, told = answer.partition(" ")
     if word == "accepted":
         canonical = hexed(read_bytes(told))
-        yield Question("parse_rule", f"rule {hexed(text)}", f"accepted {canonical}")
-        yield Question("parse_rule of the canonical text", f"rule {canonical}", f"accepted {canonical}")
+        yield Question("parse_rule", f"rule {hexed(text)} {canonical}", f"{canonical} same")
+        yield Question("parse_rule of the canonical text", f"rule {canonical} {hexed(text)}", f"{canonical} same")
         wanted = ended(0)
     else:
         at, reason = told.split(" ")
-        yield Question("parse_rule", f"rule {hexed(text)}", answer)
+        yield Question("parse_rule", f"rule {hexed(text)}", fault_of(answer))
         wanted = ended(2, second=f"rule refused at {at}: {reason}\n".encode(), read="unread")
     yield from ask_run("filter", b"", ("filter", "--", text.decode()), STREAM_SIZES[:1], wanted)
 
@@ -109,9 +115,8 @@ def ask_match(case, _):
     rule = read_bytes(rule)
     named = [word for owner in owners.split() for word in ("--owner", owner)]
     for order, data in zip(ORDERS, map(read_bytes, (little, big))):
-        for engine in ("match", "match-view"):
-            words = words_of(engine, hexed(rule), hexed(data), owners)
-            yield Question(f"{engine} in {order} endian", words, answer)
+        words = words_of("matches", hexed(data), hexed(rule), owners)
+        yield Question(f"matches, matches_view in {order} endian", words, "true true" if answer == "yes" else "false false")
         for inverted, kept in (((), "yes"), (("--invert",), "no")):
             words = ("filter", *inverted, *named, "--", rule.decode())
             wanted = ended(0, data if answer == kept else b"")

@@ -12,11 +12,46 @@ SIZES = (1, 7, 24, 4096)
 READERS = {"messages": "next", "lengths": "next", "raw": "next", "lent": "advance"}
 # Of a longer stream only some splits in two are tried.
 LONGEST = 600
+# Calls after which a reader of raw messages is asked what it lends.
+LENDING = ("advance", "kept")
+
+
+def fault_of(told):
+    """Why bytes are refused, as `REASON at offset PLACE`."""
+    _, place, reason = told.split(" ")
+    return f"{reason} at offset {place}"
 
 
 def reader_of(reader, calls):
-    """The settings that say a reader and its calls."""
-    return f"reader={reader.replace('lent', 'raw')} calls={','.join(calls)}"
+    """The settings that say a reader and its calls, each with what it answers. After a call that lends a message comes what is lent, after one that passed
+    a message over how many bytes are done, and so in the end."""
+    reader = reader.replace("lent", "raw")
+    after = lambda call, answer: [call, "lent"] if reader == "raw" and call in LENDING else [call, "done"] if answer.startswith("passed") else [call]
+    names = [*itertools.chain.from_iterable(itertools.starmap(after, calls)), "done"]
+    return f"reader={reader} calls={','.join(names)}"
+
+
+def answers_of(reader, calls, data):
+    """What a reader says of these bytes in calls, each with what it answers: the length of the message that it gives, or why there is none. Of a message
+    come its bytes, from readers that have them."""
+    at, reader = 0, reader.replace("lent", "raw")
+    for call, answer in calls:
+        is_lending = reader == "raw" and call in LENDING
+        if answer.isdigit():
+            message = data[at : at + int(answer)]
+            at += len(message)
+            yield answer if reader == "lengths" else f"{answer} {hexed(message)}" if is_lending else hexed(message)
+            continue
+        if answer.startswith("passed "):
+            at += int(answer.removeprefix("passed "))
+            answer = f"passed {at}"
+        elif answer in ("done", "none"):
+            answer = "none"
+        elif answer == "partial":
+            answer = f"the bytes are no message: Truncated at offset {len(data) - at}"
+        elif answer.startswith("refused "):
+            answer = f"the bytes are no message: {fault_of(answer)}"
+        yield f"{answer} -" if is_lending else answer
 
 
 def runs_of(told):
@@ -41,16 +76,29 @@ class Stream:
         self.least = least
         # Where each message ends, and what is told of it and those before it.
         self.ends = [0, *itertools.accumulate(map(len, messages))]
-        self.told = ["", *itertools.accumulate(f"{len(message)} " for message in messages)]
+        self.told = ["", *itertools.accumulate(f"{hexed(message)} " for message in messages)]
 
-    def outcome(self, place=None, least=0):
-        """What is made of the bytes up to a place, if this many decide a fault."""
+    def given(self, place=None, least=0):
+        """How many messages the bytes up to a place give, and what comes after them, if this many bytes decide a fault."""
         place = len(self.data) if place is None else min(place, len(self.data))
         given = bisect.bisect(self.ends, place) - 1
-        rest = "done" if self.ends[given] == place else "partial"
         if self.rest.startswith("refused") and given == len(self.messages) and place >= least:
-            rest = self.rest
-        return f"{self.told[given]}{rest}"
+            return given, self.rest
+        return given, "done" if self.ends[given] == place else "partial"
+
+    def outcome(self, place=None, least=0):
+        """What the bytes up to a place are decoded to."""
+        given, rest = self.given(place, least)
+        return f"{self.told[given]}{fault_of(rest) if rest.startswith('refused') else rest}"
+
+    def cut(self, place=None, least=0):
+        """What a cutter says that was handed the bytes up to a place: what it gave, what the last call answered, and whether the input may end there."""
+        given, rest = self.given(place, least)
+        if rest.startswith("refused"):
+            said = f"the bytes are no message: {fault_of(rest)} {fault_of(rest)}"
+        else:
+            said = f"accepted accepted {self.ends[given]}" if rest == "done" else f"accepted partial {self.ends[given]} {self.ends[given]}"
+        return f"gave {self.told[given]}{said}"
 
     def decided(self, answers):
         """How many bytes decide a fault: as decoding says, if nothing else does."""
@@ -76,9 +124,9 @@ class Stream:
         """Asks what decoding makes of each front, and cutters of pieces."""
         yield self.ask_places("decode", "decode", 1, self.outcome)
         for size in sizes:
-            yield self.ask_places(f"Cutter by {size}", "cut", size, self.outcome)
+            yield self.ask_places(f"Cutter by {size}", "cut", size, self.cut)
         stride = 1 if len(self.data) <= LONGEST else len(self.data) // 40 + 1
-        both = lambda place, least: f"{self.outcome(place, least)} then {self.outcome()}"
+        both = lambda place, least: f"{self.cut(place, least)} then {self.cut()}"
         yield self.ask_places("Cutter in two pieces", "cut-in-two", stride, both)
 
     def reads(self, answers, size):
@@ -87,15 +135,21 @@ class Stream:
         count = self.decided(answers) if is_refused else len(self.data)
         return -(-count // size) + (0 if is_refused else 1)
 
+    def calls_of(self, reader):
+        """The calls that give each message, and what comes after them twice, each with what it answers."""
+        return [(READERS[reader], it) for it in (*map(str, map(len, self.messages)), self.rest, self.rest)]
+
+    def ask_reader(self, engine, reader, calls, wanted, *settings):
+        """Asks what a reader gives in calls, each with what it answers; then come, as wanted, how many bytes it says that it gave, how many reads it made,
+        and how many of these failed."""
+        told = " ".join(answers_of(reader, calls, self.data))
+        return self.ask(engine, "read", lambda answers: f"{told} {wanted(answers)}", reader_of(reader, calls), *settings)
+
     def ask_readers(self, readers=READERS, sizes=SIZES):
-        """Asks what readers give, also once more, how many bytes they say that they gave, how many reads they made, and how many of these failed."""
+        """Asks what readers give, also once more."""
         for reader, size in itertools.product(readers, sizes):
-
-            def wanted(answers, size=size):
-                return f"{self.outcome()} {self.rest} {self.ends[-1]} {self.reads(answers, size)} 0"
-
-            calls = [READERS[reader]] * (len(self.messages) + 2)
-            yield self.ask(f"reader of {reader} by {size}", "read", wanted, reader_of(reader, calls), f"size={size}")
+            wanted = lambda answers, size=size: f"{self.ends[-1]} {self.reads(answers, size)} 0"
+            yield self.ask_reader(f"reader of {reader} by {size}", reader, self.calls_of(reader), wanted, f"size={size}")
 
 
 def messages_in(data, end):

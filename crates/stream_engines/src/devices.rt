@@ -1,4 +1,4 @@
-//! A reader and a writer in memory, which move a few bytes a call, and fail once if they have to.
+//! A device in memory, which moves a few bytes a call, and fails once if it has to.
 ghost use Rattle.std.specs.Prelude.{None};
 
 use case_questions::{Question, Reply};
@@ -6,55 +6,41 @@ use dbus_device::{DeviceFault, Sink, Source};
 use std::alloc::Global;
 use std::cell::Cell;
 
-/// How a device behaves.
-#[derive(Clone, Copy)]
-pub(crate) struct Manner {
-    /// How many bytes it moves a call at most.
-    pub(crate) size: usize,
-    /// Which of its calls fails, from 1; 0 for none.
-    pub(crate) fails_at: u64,
-}
-
-impl Manner {
-    /// The manner that `size=` and `fails=` say.
-    pub(crate) fn of_question(question: Question) -> Manner {
-        Manner::named(question, "size", "fails")
-    }
-
-    /// The manner that settings of these names say. Without a size it is that of `size=`.
-    pub(crate) fn named(question: Question, size: &str, fails: &str) -> Manner {
-        Manner {
-            size: question.count(size, question.count("size", 1)),
-            fails_at: question.number(fails).unwrap_or(0),
-        }
-    }
-}
-
-/// Gives bytes in its manner.
+/// A source of some bytes, or a sink.
 #[derive(Drop)]
-pub(crate) struct Giver<'a, 'b> {
+pub(crate) struct Device<'a, 'b> {
     left: &'a [u8],
-    manner: Manner,
-    /// How many reads were made, and how many of them failed.
+    /// The bytes that it took.
+    pub(crate) held: Vec<u8>,
+    // How many bytes it moves a call at most.
+    size: usize,
+    // Which of its calls fails, from 1; 0 for none.
+    fails_at: u64,
+    /// How many calls were made; and how many of them failed, or took none of their bytes.
     pub(crate) calls: u64,
     pub(crate) failures: u64,
-    // How many bytes a writer has taken.
+    // How many bytes a sink took, and at each read of this source had taken.
     taken: &'b Cell<u64>,
-    /// How many bytes the writer had taken at each read.
+    /// The latter.
     pub(crate) seen: Reply,
 }
 
-impl<'a, 'b> Giver<'a, 'b> {
-    /// A reader that gives these bytes, and sees how many a writer takes.
+impl<'a, 'b> Device<'a, 'b> {
+    /// A device that gives these bytes, and behaves as the settings of these names say. Without a
+    /// size it is that of `size=`.
     pub(crate) fn new(
         alloc: Global,
         bytes: &'a [u8],
-        manner: Manner,
+        question: Question<'_>,
+        size: &str,
+        fails: &str,
         taken: &'b Cell<u64>,
     ) -> Self {
-        Giver {
+        Device {
             left: bytes,
-            manner,
+            held: Vec::new(alloc),
+            size: question.count(size, question.count("size", 1)),
+            fails_at: question.number(fails).unwrap_or(0),
             calls: 0,
             failures: 0,
             taken,
@@ -63,7 +49,7 @@ impl<'a, 'b> Giver<'a, 'b> {
     }
 }
 
-impl Source for Giver<'_, '_> {
+impl Source for Device<'_, '_> {
     ghost left = { λ s. None };
 
     ghost failures = { λ s. s.failures };
@@ -75,11 +61,11 @@ impl Source for Giver<'_, '_> {
     fn read(&mut self, buffer: &mut [u8]) -> Result<usize, DeviceFault> {
         self.calls = self.calls.wrapping_add(1);
         self.seen.number(self.taken.get());
-        if self.calls == self.manner.fails_at {
+        if self.calls == self.fails_at {
             self.failures = self.failures.wrapping_add(1);
             return Err(DeviceFault);
         }
-        let count = self.manner.size.min(self.left.len()).min(buffer.len());
+        let count = self.size.min(self.left.len()).min(buffer.len());
         let (piece, left) = self.left.split_at(count);
         buffer[..count].copy_from_slice(piece);
         self.left = left;
@@ -87,33 +73,7 @@ impl Source for Giver<'_, '_> {
     }
 }
 
-/// Takes bytes in its manner.
-#[derive(Drop)]
-pub(crate) struct Taker<'a> {
-    /// The bytes that it took.
-    pub(crate) held: Vec<u8>,
-    manner: Manner,
-    /// How many writes were made; and how many of them failed, or took none of their bytes.
-    pub(crate) calls: u64,
-    pub(crate) failures: u64,
-    // How many bytes it took.
-    taken: &'a Cell<u64>,
-}
-
-impl<'a> Taker<'a> {
-    /// A writer that took nothing yet, and tells how many bytes it takes.
-    pub(crate) fn new(alloc: Global, manner: Manner, taken: &'a Cell<u64>) -> Self {
-        Taker {
-            held: Vec::new(alloc),
-            manner,
-            calls: 0,
-            failures: 0,
-            taken,
-        }
-    }
-}
-
-impl Sink for Taker<'_> {
+impl Sink for Device<'_, '_> {
     ghost held = { λ s. None };
 
     ghost failures = { λ s. s.failures };
@@ -122,8 +82,8 @@ impl Sink for Taker<'_> {
 
     fn write(&mut self, bytes: &[u8]) -> Result<usize, DeviceFault> {
         self.calls = self.calls.wrapping_add(1);
-        let (piece, left) = bytes.split_at(self.manner.size.min(bytes.len()));
-        if self.calls == self.manner.fails_at || self.held.extend_from_slice(piece).is_err() {
+        let (piece, left) = bytes.split_at(self.size.min(bytes.len()));
+        if self.calls == self.fails_at || self.held.extend_from_slice(piece).is_err() {
             self.failures = self.failures.wrapping_add(1);
             return Err(DeviceFault);
         }

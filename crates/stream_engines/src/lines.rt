@@ -1,97 +1,135 @@
 //! Lines of the handshake: what they mean, and how that is written.
 
-use case_questions::{Memory, Question, Reply, bytes_of};
+use case_questions::{Memory, Question, Reply, bytes_of, named};
 use dbus_auth_lines::{
-    ClientLine, Guid, ServerLine, TextFault, client_text, read_client, read_server, server_text,
+    ClientLine, Guid, ServerLine, client_text, read_client, read_server, server_text,
 };
+use dbus_handshake_input::Side;
 use hex::FromHex;
-use std::alloc::{AllocError, Allocator};
+use std::alloc::Allocator;
 
-/// Adds what a client's line means to a server.
-pub(crate) fn say_client_line<A: Allocator + Copy>(
-    reply: &mut Reply,
-    memory: Memory<A>,
-    line: &[u8],
-) {
-    match read_client(memory.heap, line) {
-        Ok(ClientLine::Auth) => reply.word("auth"),
-        Ok(ClientLine::AuthBy { mech, response }) => {
-            reply.spelled("auth", &mech);
-            reply.spelled("response", &response);
+// The first word of a meaning.
+#[derive(Clone, Copy)]
+enum Meaning {
+    Auth,
+    AuthBy,
+    Cancel,
+    Begin,
+    Negotiate,
+    Rejected,
+    Accepted,
+    Agree,
+    Data,
+    Error,
+}
+
+const MEANINGS: &[(&str, Meaning)] = &[
+    ("auth", Meaning::Auth),
+    ("auth-by", Meaning::AuthBy),
+    ("cancel", Meaning::Cancel),
+    ("begin", Meaning::Begin),
+    ("negotiate", Meaning::Negotiate),
+    ("rejected", Meaning::Rejected),
+    ("ok", Meaning::Accepted),
+    ("agree", Meaning::Agree),
+    ("data", Meaning::Data),
+    ("error", Meaning::Error),
+];
+
+fn say_client_line<A: Allocator>(reply: &mut Reply, line: &ClientLine<A>) {
+    match line {
+        ClientLine::Auth => reply.word("auth"),
+        ClientLine::AuthBy { mech, response } => {
+            reply.spelled("auth-by", mech);
+            reply.bytes(response);
         }
-        Ok(ClientLine::Cancel) => reply.word("cancel"),
-        Ok(ClientLine::Begin) => reply.word("begin"),
-        Ok(ClientLine::DataOf(bytes)) => reply.spelled("data", &bytes),
-        Ok(ClientLine::Error(text)) => reply.spelled("error", &text),
-        Ok(ClientLine::Negotiate) => reply.word("negotiate"),
-        Ok(ClientLine::Other) => reply.word("other"),
-        Err(AllocError) => reply.fail(),
+        ClientLine::Cancel => reply.word("cancel"),
+        ClientLine::Begin => reply.word("begin"),
+        ClientLine::DataOf(bytes) => reply.spelled("data", bytes),
+        ClientLine::Error(text) => reply.spelled("error", text),
+        ClientLine::Negotiate => reply.word("negotiate"),
+        ClientLine::Other => reply.word("other"),
     }
 }
 
-/// Adds what a server's line means to a client.
-pub(crate) fn say_server_line<A: Allocator + Copy>(
-    reply: &mut Reply,
-    memory: Memory<A>,
-    line: &[u8],
-) {
-    match read_server(memory.heap, line) {
-        Ok(ServerLine::Rejected(words)) => {
+fn say_server_line<A: Allocator>(reply: &mut Reply, line: &ServerLine<A>) {
+    match line {
+        ServerLine::Rejected(words) => {
             reply.word("rejected");
-            for word in &words {
+            for word in words {
                 reply.bytes(word);
             }
         }
-        Ok(ServerLine::Accepted(guid)) => reply.spelled("ok", &guid.0),
-        Ok(ServerLine::DataOf(bytes)) => reply.spelled("data", &bytes),
-        Ok(ServerLine::Error(text)) => reply.spelled("error", &text),
-        Ok(ServerLine::Agree) => reply.word("agree"),
-        Ok(ServerLine::Other) => reply.word("other"),
-        Err(AllocError) => reply.fail(),
+        ServerLine::Accepted(guid) => reply.spelled("ok", &guid.0),
+        ServerLine::DataOf(bytes) => reply.spelled("data", bytes),
+        ServerLine::Error(text) => reply.spelled("error", text),
+        ServerLine::Agree => reply.word("agree"),
+        ServerLine::Other => reply.word("other"),
     }
 }
 
-// The client's line that the words from the second on mean.
-fn client_line<A: Allocator + Copy>(alloc: A, question: Question) -> Option<ClientLine<A>> {
-    match question.word(2) {
-        "auth" if question.word(3).is_empty() => Some(ClientLine::Auth),
-        "auth" => Some(ClientLine::AuthBy {
-            mech: bytes_of(alloc, question.word(3)),
-            response: bytes_of(alloc, question.word(5)),
-        }),
-        "cancel" => Some(ClientLine::Cancel),
-        "begin" => Some(ClientLine::Begin),
-        "data" => Some(ClientLine::DataOf(bytes_of(alloc, question.word(3)))),
-        "error" => Some(ClientLine::Error(bytes_of(alloc, question.word(3)))),
-        "negotiate" => Some(ClientLine::Negotiate),
-        "other" => Some(ClientLine::Other),
-        _ => None,
+/// Adds what a line of a side means to the other one.
+pub(crate) fn say_meaning<A: Allocator + Copy>(
+    reply: &mut Reply,
+    memory: Memory<A>,
+    question: Question<'_>,
+    side: Side,
+) -> Option<()> {
+    let line = question.bytes(reply.alloc(), 1);
+    match side {
+        Side::Client => match read_client(memory.heap, &line) {
+            Ok(line) => say_client_line(reply, &line),
+            Err(fault) => reply.told(&fault),
+        },
+        Side::Server => match read_server(memory.heap, &line) {
+            Ok(line) => say_server_line(reply, &line),
+            Err(fault) => reply.told(&fault),
+        },
+    }
+    Some(())
+}
+
+// The client's line that the words mean.
+fn client_line<A: Allocator + Copy>(alloc: A, question: Question<'_>) -> ClientLine<A> {
+    let bytes = question.bytes(alloc, 2);
+    match named(MEANINGS, question.word(1)) {
+        Some(Meaning::Auth) => ClientLine::Auth,
+        Some(Meaning::AuthBy) => ClientLine::AuthBy {
+            mech: bytes,
+            response: question.bytes(alloc, 3),
+        },
+        Some(Meaning::Cancel) => ClientLine::Cancel,
+        Some(Meaning::Begin) => ClientLine::Begin,
+        Some(Meaning::Data) => ClientLine::DataOf(bytes),
+        Some(Meaning::Error) => ClientLine::Error(bytes),
+        Some(Meaning::Negotiate) => ClientLine::Negotiate,
+        _ => ClientLine::Other,
     }
 }
 
 // The server's line that they mean.
-fn server_line<A: Allocator + Copy>(alloc: A, question: Question) -> Option<ServerLine<A>> {
-    match question.word(2) {
-        "rejected" => Some(ServerLine::Rejected(mechanisms_of(alloc, question)?)),
-        "ok" => Some(ServerLine::Accepted(guid_of(question.word(3))?)),
-        "data" => Some(ServerLine::DataOf(bytes_of(alloc, question.word(3)))),
-        "error" => Some(ServerLine::Error(bytes_of(alloc, question.word(3)))),
-        "agree" => Some(ServerLine::Agree),
-        "other" => Some(ServerLine::Other),
-        _ => None,
-    }
+fn server_line<A: Allocator + Copy>(alloc: A, question: Question<'_>) -> Option<ServerLine<A>> {
+    let bytes = question.bytes(alloc, 2);
+    Some(match named(MEANINGS, question.word(1)) {
+        Some(Meaning::Rejected) => ServerLine::Rejected(words_of(alloc, question)?),
+        Some(Meaning::Accepted) => ServerLine::Accepted(guid_of(question.word(2))?),
+        Some(Meaning::Data) => ServerLine::DataOf(bytes),
+        Some(Meaning::Error) => ServerLine::Error(bytes),
+        Some(Meaning::Agree) => ServerLine::Agree,
+        _ => ServerLine::Other,
+    })
 }
 
-// The mechanisms that the words from the third on spell.
-fn mechanisms_of<A: Allocator + Copy>(alloc: A, question: Question) -> Option<Vec<Vec<u8, A>, A>> {
-    let mut mechanisms = Vec::new(alloc);
-    for n in 3..usize::MAX {
+// The bytes that the words from the second on spell.
+fn words_of<A: Allocator + Copy>(alloc: A, question: Question<'_>) -> Option<Vec<Vec<u8, A>, A>> {
+    let mut words = Vec::new(alloc);
+    for n in 2..usize::MAX {
         if question.word(n).is_empty() {
             break;
         }
-        mechanisms.push(bytes_of(alloc, question.word(n))).ok()?;
+        words.push(bytes_of(alloc, question.word(n))).ok()?;
     }
-    Some(mechanisms)
+    Some(words)
 }
 
 /// The GUID of hexadecimal digits.
@@ -106,17 +144,18 @@ pub(crate) fn guid_of(digits: &str) -> Option<Guid> {
 pub(crate) fn say_written<A: Allocator + Copy>(
     reply: &mut Reply,
     memory: Memory<A>,
-    question: Question,
+    question: Question<'_>,
+    side: Side,
 ) -> Option<()> {
-    let written = match question.word(1) {
-        "client" => client_text(memory.heap, &client_line(memory.spare, question)?),
-        "server" => server_text(memory.heap, &server_line(memory.spare, question)?),
-        _ => return None,
-    };
-    match written {
-        Ok(line) => reply.bytes(&line),
-        Err(TextFault::Unspellable) => reply.word("unspellable"),
-        Err(TextFault::Memory) => reply.fail(),
+    match side {
+        Side::Client => {
+            let line = client_line(memory.spare, question);
+            reply.made(client_text(memory.heap, &line));
+        }
+        Side::Server => {
+            let line = server_line(memory.spare, question)?;
+            reply.made(server_text(memory.heap, &line));
+        }
     }
     Some(())
 }

@@ -2,36 +2,28 @@
 //! program dbus-wire, of which `cases/run.py` has the right answers.
 //!
 //! Each line of its input is a question (`case_questions`), and each line that it prints the answer
-//! to one. cases/README.md says which questions any implementation can answer.
+//! to one, in the words of what the calls of the libraries return.
 //!
 //! What a question asks for takes its memory from the heap of the question, where a growth may be
-//! refused. A call that was refused memory is made again if it keeps anything from call to call,
-//! and the answer then has the words `out of memory` beside what it has without them.
+//! refused. A call that was refused memory is made again if it keeps anything from call to call.
 #![tactic(auto)]
 
-mod answering;
-mod cutting;
-mod decoding;
 mod devices;
-mod dialogues;
 mod ends;
-mod handshakes;
 mod line_cutting;
 mod lines;
 mod machines;
 mod messages;
-mod outcome;
-mod passing;
+mod pieces;
+mod questions;
 mod reading;
-mod rule_sets;
 mod rules;
 mod running;
 mod setups;
-mod stream;
-mod trail;
+mod streams;
 
-use answering::Engines;
 use case_questions::reply_to;
+use questions::Engines;
 use std::io;
 
 fn main(rt: HostRuntime) -> io::Result<()> {

@@ -1,68 +1,132 @@
-//! The readers of streams, over a source of a few bytes a read.
-//!
-//! Each is asked in the ways that a question says, also once it has said that no message is left or
-//! why there is none. Then come how many bytes it says that the messages have, how many reads it
-//! made, and how many of them failed.
+//! What takes a stream out of a source: readers of messages, and of the handshake before them.
 
 ghost use Rattle.std.specs.Prelude.{◌≤◌, ◌^◌};
 
-use crate::devices::{Giver, Manner};
-use crate::stream::Stream;
-use crate::trail::{OUT_OF_MEMORY, Rest, Trail};
-use case_questions::{Question, Reply};
+use crate::devices::Device;
+use crate::streams::OUT_OF_MEMORY;
+use case_questions::{Memory, Question, Reply, named};
+use dbus_device::Source;
+use dbus_handshake_input::{ReadAhead, Side, pass_handshake};
+use dbus_message::encode;
 use dbus_stream::{CheckReader, MOST_READS, MessageReader, RawReader, ReadFault};
-use dbus_validate::Validated;
-use dbus_value::{Fault, Reason};
 use std::alloc::Allocator;
 use std::cell::Cell;
 
-// A reader over such a source.
-trait Reader<A: Allocator + Copy> {
-    // Makes the call of this name, and notes what it gives. A fault is to be noted yet.
-    fn call(&mut self, name: &str, trail: &mut Trail<A>) -> Result<(), ReadFault>;
-
-    // How many bytes the messages have that it gave, how many reads it made, and how many failed.
-    fn end(self) -> [u64; 3];
+// A call of a reader.
+#[derive(Clone, Copy)]
+enum Call {
+    Next,
+    Advance,
+    Kept,
+    Pass,
+    // What is lent, and how many bytes the messages have that it gave.
+    Lent,
+    Done,
 }
 
-/// Adds what a reader gives that `reader=` says, in the calls of `calls=`, over a source of `size=`
-/// bytes a read, whose read of the number `fails=` fails; it may make `reads=` reads.
-pub(crate) fn say_read<A: Allocator + Copy>(
-    reply: &mut Reply,
-    stream: &Stream<A>,
-    question: Question,
-) {
-    let taken = Cell::new(0);
-    let manner = Manner::of_question(question);
-    let source = Giver::new(stream.alloc, stream.bytes, manner, &taken);
-    let reads = reads_of(question);
-    let (heap, limits) = (stream.memory.heap, stream.limits);
-    match question.setting("reader") {
-        Some("messages") => {
-            ask(
-                reply,
-                MessageReader::within(heap, source, reads, limits),
-                stream,
-                question,
-            )
+const CALLS: &[(&str, Call)] = &[
+    ("next", Call::Next),
+    ("advance", Call::Advance),
+    ("kept", Call::Kept),
+    ("pass", Call::Pass),
+    ("lent", Call::Lent),
+    ("done", Call::Done),
+];
+
+trait Reader<A: Allocator + Copy> {
+    // Makes a call, and adds what it gives.
+    fn call(&mut self, reply: &mut Reply, spare: A, call: Call) -> Result<(), ReadFault>;
+}
+
+impl<A: Allocator + Copy, S: Source> Reader<A> for MessageReader<S, A> {
+    fn call(&mut self, reply: &mut Reply, spare: A, call: Call) -> Result<(), ReadFault> {
+        let given = match call {
+            Call::Done => {
+                reply.number(self.done());
+                return Ok(());
+            }
+            Call::Kept => self.next_kept()?,
+            _ => self.next()?,
+        };
+        match given {
+            Some((order, message)) => reply.made(encode(spare, &message, order)),
+            None => reply.word("none"),
         }
-        Some("lengths") => ask(
-            reply,
-            CheckReader::within(source, reads, limits),
-            stream,
-            question,
-        ),
-        _ => ask(
-            reply,
-            RawReader::within(heap, source, reads, limits),
-            stream,
-            question,
-        ),
+        Ok(())
     }
 }
 
+impl<A: Allocator + Copy, S: Source> Reader<A> for CheckReader<S> {
+    fn call(&mut self, reply: &mut Reply, _spare: A, call: Call) -> Result<(), ReadFault> {
+        match call {
+            Call::Done => reply.number(self.done()),
+            _ => reply.found(self.next()?),
+        }
+        Ok(())
+    }
+}
+
+impl<A: Allocator + Copy, S: Source> Reader<A> for RawReader<S, A> {
+    fn call(&mut self, reply: &mut Reply, _spare: A, call: Call) -> Result<(), ReadFault> {
+        let lent = match call {
+            Call::Done => {
+                reply.number(self.done());
+                return Ok(());
+            }
+            Call::Lent => {
+                reply.bytes(self.message());
+                return Ok(());
+            }
+            Call::Pass => {
+                let is_passed = self.pass_over()?;
+                reply.word(if is_passed {
+                    "passed"
+                } else {
+                    "nothing passed"
+                });
+                return Ok(());
+            }
+            Call::Next => {
+                match self.next()? {
+                    Some(bytes) => reply.bytes(&bytes),
+                    None => reply.word("none"),
+                }
+                return Ok(());
+            }
+            Call::Kept => self.advance_kept()?,
+            Call::Advance => self.advance()?,
+        };
+        match lent {
+            Some(validated) => reply.number(validated.length as u64),
+            None => reply.word("none"),
+        }
+        Ok(())
+    }
+}
+
+// Makes the calls of `calls=`. A call that was refused memory is made again.
+fn ask<A: Allocator + Copy, R: Reader<A>>(
+    reply: &mut Reply,
+    spare: A,
+    question: Question<'_>,
+    reader: &mut R,
+) -> Option<()> {
+    for name in question.setting("calls")?.split(',') {
+        let call = named(CALLS, name)?;
+        let mut given = reader.call(reply, spare, call);
+        if given == Err(ReadFault::Memory) {
+            reply.word(OUT_OF_MEMORY);
+            given = reader.call(reply, spare, call);
+        }
+        if let Err(fault) = given {
+            reply.told(&fault);
+        }
+    }
+    Some(())
+}
+
 /// How many reads may be made, as `reads=` says.
-pub(crate) fn reads_of(question: Question) -> u64
+pub(crate) fn reads_of(question: Question<'_>) -> u64
     ensures { result ≤ 2 ^ 32 }
 {
     question
@@ -71,149 +135,51 @@ pub(crate) fn reads_of(question: Question) -> u64
         .min(MOST_READS)
 }
 
-// Adds what a reader gives. A call that was refused memory is made again.
-fn ask<A: Allocator + Copy, R: Reader<A>>(
+/// Adds what a reader gives that `reader=` says, in the calls of `calls=`, over a source of `size=`
+/// bytes a read, whose read of the number `fails=` fails; it may make `reads=` reads. Then come how
+/// many reads it made, and how many of them failed.
+pub(crate) fn say_read<A: Allocator + Copy>(
     reply: &mut Reply,
-    reader: R,
-    stream: &Stream<A>,
-    question: Question,
-) {
-    let mut reader = reader;
-    let mut trail = Trail::new(stream, stream.bytes);
-    for name in question.setting("calls").unwrap_or("next").split(',') {
-        let mut given = reader.call(name, &mut trail);
-        if given == Err(ReadFault::Memory) {
-            trail.note_word(OUT_OF_MEMORY);
-            given = reader.call(name, &mut trail);
+    memory: Memory<A>,
+    question: Question<'_>,
+) -> Option<()> {
+    let bytes = question.bytes(reply.alloc(), 1);
+    let taken = Cell::new(0);
+    let mut source = Device::new(reply.alloc(), &bytes, question, "size", "fails", &taken);
+    let Memory { heap, spare } = memory;
+    let (reads, limits) = (reads_of(question), question.limits());
+    match question.setting("reader")? {
+        "messages" => {
+            let mut reader = MessageReader::within(heap, &mut source, reads, limits);
+            ask(reply, spare, question, &mut reader)?;
         }
-        if let Err(fault) = given {
-            note_fault(&mut trail, fault);
+        "lengths" => {
+            let mut reader = CheckReader::within(&mut source, reads, limits);
+            ask(reply, spare, question, &mut reader)?;
+        }
+        _ => {
+            let mut reader = RawReader::within(heap, &mut source, reads, limits);
+            ask(reply, spare, question, &mut reader)?;
         }
     }
-    trail.say(reply);
-    for count in reader.end() {
-        reply.number(count);
-    }
+    reply.number(source.calls);
+    reply.number(source.failures);
+    Some(())
 }
 
-// Notes why a reader gives no message.
-fn note_fault<A: Allocator + Copy>(trail: &mut Trail<A>, fault: ReadFault) {
-    let left = trail.left.len() as u64;
-    trail.note_rest(match fault {
-        ReadFault::Format(
-            Fault {
-                at,
-                reason: Reason::Truncated,
-            },
-        ) if at == left => Rest::Partial,
-        ReadFault::Format(fault) => Rest::Refused(fault),
-        ReadFault::Memory => Rest::Wrong(OUT_OF_MEMORY),
-        ReadFault::Device => Rest::Wrong("the device failed"),
-        ReadFault::TooManyReads => Rest::Wrong("too many reads"),
-    });
-}
-
-// Notes that a call of this name gives no message.
-fn note_none<A: Allocator + Copy>(trail: &mut Trail<A>, name: &str) {
-    trail.note_word(if name == "kept" { "none" } else { "done" });
-}
-
-impl<A: Allocator + Copy> Reader<A> for MessageReader<Giver<'_, '_>, A> {
-    fn call(&mut self, name: &str, trail: &mut Trail<A>) -> Result<(), ReadFault> {
-        let given = match name {
-            "kept" => self.next_kept()?,
-            _ => self.next()?,
-        };
-        match given {
-            Some((order, message)) => trail.note(order, &message),
-            None => note_none(trail, name),
-        }
-        Ok(())
-    }
-
-    fn end(self) -> [u64; 3] {
-        let done = self.done();
-        let source = self.into_source();
-        [done, source.calls, source.failures]
-    }
-}
-
-impl<A: Allocator + Copy> Reader<A> for CheckReader<Giver<'_, '_>> {
-    fn call(&mut self, name: &str, trail: &mut Trail<A>) -> Result<(), ReadFault> {
-        match self.next()? {
-            Some(length) => trail.note_length(usize::try_from(length).unwrap_or(0)),
-            None => note_none(trail, name),
-        }
-        Ok(())
-    }
-
-    fn end(self) -> [u64; 3] {
-        let done = self.done();
-        let source = self.into_source();
-        [done, source.calls, source.failures]
-    }
-}
-
-impl<A: Allocator + Copy> Reader<A> for RawReader<Giver<'_, '_>, A> {
-    fn call(&mut self, name: &str, trail: &mut Trail<A>) -> Result<(), ReadFault> {
-        match name {
-            "pass" => note_passed(self, trail)?,
-            "kept" => {
-                let lent = self.advance_kept();
-                note_lent(self, trail, name, lent)?;
-            }
-            "advance" => {
-                let lent = self.advance();
-                note_lent(self, trail, name, lent)?;
-            }
-            _ => match self.next()? {
-                Some(bytes) => trail.note_bytes(&bytes),
-                None => note_none(trail, name),
-            },
-        }
-        Ok(())
-    }
-
-    fn end(self) -> [u64; 3] {
-        let done = self.done();
-        let source = self.into_source();
-        [done, source.calls, source.failures]
-    }
-}
-
-// Notes what a call of this name lends: the bytes of a message, or none.
-fn note_lent<A: Allocator + Copy>(
-    reader: &RawReader<Giver, A>,
-    trail: &mut Trail<A>,
-    name: &str,
-    lent: Result<Option<Validated>, ReadFault>,
-) -> Result<(), ReadFault> {
-    let bytes = reader.message();
-    let length = match &lent {
-        Ok(Some(validated)) => validated.length,
-        _ => 0,
-    };
-    if bytes.len() != length {
-        trail.note_word("other bytes are lent");
-    }
-    match lent? {
-        Some(_) => trail.note_bytes(bytes),
-        None => note_none(trail, name),
-    }
-    Ok(())
-}
-
-// Passes over a message that is refused, and notes how many bytes it says that this has.
-fn note_passed<A: Allocator + Copy>(
-    reader: &mut RawReader<Giver, A>,
-    trail: &mut Trail<A>,
-) -> Result<(), ReadFault> {
-    if !reader.pass_over()? {
-        trail.note_word("nothing passed");
-        return Ok(());
-    }
-    let done = usize::try_from(reader.done()).unwrap_or(0);
-    trail.note_word("passed");
-    trail.note_length(done.saturating_sub(trail.done));
-    Ok(())
+/// Adds what comes of taking the handshake of a side out of such a source, and how many reads were
+/// made.
+pub(crate) fn say_passed<A: Allocator + Copy>(
+    reply: &mut Reply,
+    memory: Memory<A>,
+    question: Question<'_>,
+    side: Side,
+) -> Option<()> {
+    let bytes = question.bytes(reply.alloc(), 1);
+    let taken = Cell::new(0);
+    let mut source = Device::new(reply.alloc(), &bytes, question, "size", "fails", &taken);
+    let mut ahead = ReadAhead::new(&mut source);
+    reply.checked(pass_handshake(memory.heap, side, &mut ahead));
+    reply.number(source.calls);
+    Some(())
 }

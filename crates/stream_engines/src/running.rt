@@ -1,137 +1,143 @@
 //! Runs of the program over the words of its command line.
 
-use crate::devices::{Giver, Manner, Taker};
+use crate::devices::Device;
 use crate::reading::reads_of;
-use case_questions::{Memory, Question, Reply};
-use dbus_device::{Sink, Source};
+use crate::rules::text_of;
+use case_questions::{Memory, Question, Reply, named};
 use dbus_tool::{
-    Asked, Command, ExitStatus, ReadAhead, Settings, command_of, run, run_reads, run_with,
-    run_within, run_words,
+    Asked, ExitStatus, ReadAhead, command_of, run, run_reads, run_with, run_within, run_words,
 };
 use std::alloc::{Allocator, Global};
 use std::cell::Cell;
 
-// How a run ended: its status, how often it read, what it wrote on each writer, how often each
-// device failed, and how much the first writer had at each read and in the end.
+// The call that runs a command.
+#[derive(Clone, Copy)]
+enum Call {
+    Run,
+    Reads,
+    Within,
+    With,
+}
+
+const CALLS: &[(&str, Call)] = &[
+    ("run", Call::Run),
+    ("run_reads", Call::Reads),
+    ("run_within", Call::Within),
+    ("run_with", Call::With),
+];
+
+// What a run reads from and writes to.
 #[derive(Drop)]
-struct End {
-    status: u8,
-    reads: u64,
-    first: Vec<u8>,
-    second: Vec<u8>,
-    failures: [u64; 3],
-    seen: Reply,
+struct Devices<'a, 'b> {
+    reader: Device<'a, 'b>,
+    first: Device<'a, 'b>,
+    second: Device<'a, 'b>,
 }
 
-// How the program ends for these words over an input, with devices as the settings of a question
-// say. Nothing if the words name no command where one is wanted.
-fn end_of<A: Allocator + Copy>(
+// How the program ends for words; or how the command that they name ends by the call of `by=`,
+// which may make `reads=` reads, if they name one over messages.
+fn status_of<A: Allocator + Copy>(
     alloc: Global,
-    memory: Memory<A>,
-    words: &[String],
-    input: &[u8],
-    question: Question,
-) -> Option<End> {
-    let (taken, other) = (Cell::new(0), Cell::new(0));
-    let manner = Manner::named(question, "reader-size", "reader-fails");
-    let mut reader = Giver::new(alloc, input, manner, &taken);
-    let manner = Manner::named(question, "first-size", "first-fails");
-    let mut first = Taker::new(alloc, manner, &taken);
-    let manner = Manner::named(question, "second-size", "second-fails");
-    let mut second = Taker::new(alloc, manner, &other);
-    let mut ahead = ReadAhead::new(&mut reader);
-    let status = match question.setting("by") {
-        Some(_) => {
-            let Ok(Asked::Messages(command, settings)) = command_of(alloc, words) else {
-                return None;
-            };
-            let asked = (command, settings);
-            call(
-                memory.heap,
-                asked,
-                question,
-                &mut ahead,
-                &mut first,
-                &mut second,
-            )
-        }
-        None => run_words(alloc, words, &mut ahead, &mut first, &mut second),
-    };
-    let mut seen = reader.seen;
-    seen.number(taken.get());
-    Some(End {
-        status: status.code(),
-        reads: reader.calls,
-        first: first.held,
-        second: second.held,
-        failures: [reader.failures, first.failures, second.failures],
-        seen,
-    })
-}
-
-// How a command ends by the call that `by=` says, which may make `reads=` reads.
-fn call<A: Allocator + Copy, R: Source, W: Sink, E: Sink>(
     heap: A,
-    asked: (Command, Settings),
-    question: Question,
-    reader: &mut R,
-    first: &mut W,
-    second: &mut E,
-) -> ExitStatus {
-    let (command, settings) = asked;
+    words: &[String],
+    question: Question<'_>,
+    devices: &mut Devices<'_, '_>,
+) -> Option<ExitStatus> {
+    let Devices {
+        reader,
+        first,
+        second,
+    } = devices;
+    let Some(name) = question.setting("by") else {
+        let mut ahead = ReadAhead::new(reader);
+        return Some(run_words(alloc, words, &mut ahead, first, second));
+    };
+    let call = named(CALLS, name)?;
+    let Ok(Asked::Messages(command, settings)) = command_of(alloc, words) else {
+        return None;
+    };
     let (limits, reads) = (settings.limits, reads_of(question));
-    match question.setting("by") {
-        Some("run") => run(heap, command, reader, first, second),
-        Some("run_reads") => run_reads(heap, command, reads, reader, first, second),
-        Some("run_within") => run_within(heap, command, limits, reads, reader, first, second),
-        _ => run_with(heap, command, settings, reads, reader, first, second),
-    }
+    Some(match call {
+        Call::Run => run(heap, command, reader, first, second),
+        Call::Reads => run_reads(heap, command, reads, reader, first, second),
+        Call::Within => run_within(heap, command, limits, reads, reader, first, second),
+        Call::With => run_with(heap, command, settings, reads, reader, first, second),
+    })
 }
 
 // The words that hexadecimal digits spell, with a comma between any two.
 fn words_of(alloc: Global, digits: &str) -> Option<Vec<String>> {
     let mut words = Vec::new(alloc);
     for digits in digits.split(',') {
-        let word = String::from_utf8(hex::decode(alloc, digits).ok()?).ok()?;
-        words.push(word).ok()?;
+        words.push(text_of(alloc, digits)).ok()?;
     }
     Some(words)
 }
 
-/// Adds how the program ends for the words of a question over an input; or over what it makes of
-/// that for the words of `before=`. With `told=reads` comes how often it read, and how often its
-/// reader and both writers failed; with `told=written` how much the first writer had at each read
-/// and in the end.
-pub(crate) fn say_run<A: Allocator + Copy>(
+// Adds how a run ends over an input: its status, whether it read, and what it wrote; and with
+// `told=all` how often it read, how often its reader and both writers failed, and how much the
+// first writer had at each read and in the end. Returns what that has.
+fn say_run<A: Allocator + Copy>(
+    reply: &mut Reply,
+    heap: A,
+    question: Question<'_>,
+    words: &str,
+    input: &[u8],
+) -> Option<Vec<u8>> {
+    let alloc = reply.alloc();
+    let (taken, other) = (Cell::new(0), Cell::new(0));
+    let mut devices = Devices {
+        reader: Device::new(
+            alloc,
+            input,
+            question,
+            "reader-size",
+            "reader-fails",
+            &taken,
+        ),
+        first: Device::new(alloc, b"", question, "first-size", "first-fails", &taken),
+        second: Device::new(alloc, b"", question, "second-size", "second-fails", &other),
+    };
+    let words = words_of(alloc, words)?;
+    let status = status_of(alloc, heap, &words, question, &mut devices)?;
+    let Devices {
+        reader,
+        first,
+        second,
+    } = devices;
+    reply.number(u64::from(status.code()));
+    reply.word(if reader.calls > 0 { "read" } else { "unread" });
+    reply.bytes(&first.held);
+    reply.bytes(&second.held);
+    if question.setting("told").is_some() {
+        reply.counted("reads", reader.calls);
+        reply.counted("failures", reader.failures);
+        reply.number(first.failures);
+        reply.number(second.failures);
+        reply.word("written");
+        reply.word(reader.seen.line());
+        reply.number(taken.get());
+    }
+    Some(first.held)
+}
+
+/// Adds how the program ends for the words of a question over an input; and if there are two lists
+/// of words, with a semicolon between, for the second over what the first made.
+pub(crate) fn say_runs<A: Allocator + Copy>(
     reply: &mut Reply,
     memory: Memory<A>,
-    input: &[u8],
-    question: Question,
+    question: Question<'_>,
 ) -> Option<()> {
-    let alloc = reply.alloc();
-    let words = words_of(alloc, question.word(2))?;
-    let end = match question.setting("before") {
-        Some(before) => {
-            let before = words_of(alloc, before)?;
-            let before = end_of(alloc, memory, &before, input, question)?;
-            end_of(alloc, memory, &words, &before.first, question)?
+    let bytes = question.bytes(reply.alloc(), 1);
+    let heap = memory.heap;
+    match question.word(2).split_once(';') {
+        Some((first, second)) => {
+            let made = say_run(reply, heap, question, first, &bytes)?;
+            say_run(reply, heap, question, second, &made)?;
         }
-        None => end_of(alloc, memory, &words, input, question)?,
-    };
-    reply.number(u64::from(end.status));
-    reply.word(if end.reads > 0 { "read" } else { "unread" });
-    reply.bytes(&end.first);
-    reply.bytes(&end.second);
-    match question.setting("told") {
-        Some("reads") => {
-            reply.number(end.reads);
-            reply.word("failures");
-            for count in end.failures {
-                reply.number(count);
-            }
+        None => {
+            say_run(reply, heap, question, question.word(2), &bytes)?;
         }
-        Some(_) => reply.word(end.seen.line()),
-        None => {}
     }
     Some(())
 }
