@@ -3,7 +3,7 @@
 
 ghost use Rattle.std.specs.Prelude.{◌≤◌, IfOk};
 
-use dbus_stream::{DeviceFault, FromRead, FromWrite, Sink, Source};
+use dbus_device::{DeviceFault, FromRead, FromWrite, Sink, Source};
 use std::io::{self, Read, Write};
 
 // Moves one byte a call. The call of this number fails, counted from 1, and each flush.

@@ -1,8 +1,7 @@
 //! Checkers that begin again: after a message, and after a fault.
-#![tactic(auto)]
 
 use dbus_check::{Check, Checker};
-use dbus_value::{Fault, Reason};
+use dbus_value_model::{Fault, Reason};
 
 // A reply of 24 bytes, and the first 5 bytes of another after it.
 const REPLY_AND_FRONT: &[u8] =

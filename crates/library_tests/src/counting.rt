@@ -1,5 +1,4 @@
 //! Counts of messages by their names.
-#![tactic(auto)]
 
 use dbus_count::{Counts, Form};
 use dbus_view::MessageView;

@@ -2,7 +2,7 @@
 
 use dbus_explain::{Refused, explain_message};
 use dbus_show::StringDraft;
-use dbus_value::{Fault, Reason};
+use dbus_value_model::{Fault, Reason};
 use std::alloc::{AllocError, Global};
 use std::test::Fail;
 

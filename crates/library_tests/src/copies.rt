@@ -1,9 +1,10 @@
 //! Copies, where memory is there: each says the same as what it was made of, and other values do
 //! not.
 
+use cli_options::{Asked, Command, command_of};
 use dbus_auth::{EndStep, Mechanism, Status};
 use dbus_auth_lines::{ClientLine, ServerLine};
-use dbus_match::{RuleFault, parse_rule};
+use dbus_rule::{RuleFault, parse_rule};
 use std::alloc::{AllocError, Global};
 use std::test::Fail;
 
@@ -48,6 +49,17 @@ fn rules(alloc: Global) -> Result<bool, RuleFault> {
     Ok(is_copied(&rule, &other)?)
 }
 
+fn commands(alloc: Global) -> Result<bool, AllocError> {
+    let mut words = Vec::new(alloc);
+    for word in ["dbus-wire", "filter", "member='X'"] {
+        words.push(String::from_str(alloc, word)?)?;
+    }
+    match command_of(alloc, words.as_slice()) {
+        Ok(Asked::Messages(command, _)) => is_copied(&command, &Command::Check),
+        _ => Ok(false),
+    }
+}
+
 #[test]
 fn copied(rt: HostRuntime) -> Result<(), Fail> {
     let alloc = rt.alloc();
@@ -56,5 +68,6 @@ fn copied(rt: HostRuntime) -> Result<(), Fail> {
     assert!(rt; mechanisms(alloc)?);
     assert!(rt; steps(alloc)?);
     assert!(rt; rules(alloc)?);
+    assert!(rt; commands(alloc)?);
     Ok(())
 }

@@ -1,14 +1,19 @@
 //! The texts of faults, as people read them, and of a GUID.
 
 use dbus_auth_lines::{Guid, LineFault, TextFault};
-use dbus_match::{RuleFault, RuleReason};
-use dbus_message::BuildFault;
+use dbus_body::PutFault;
+use dbus_build::BuildFault;
+use dbus_handshake_input::{HandshakeFault, HandshakeReason};
+use dbus_rule::{RuleFault, RuleReason};
+use dbus_stream::{ReadFault, StreamFault, WriteFault};
 use dbus_types::{NameFault, SigFault};
-use dbus_value::{Fault, Reason, Refusal, StringFault, ValueFault};
+use dbus_value_model::{Fault, Reason, Refusal, StringFault, ValueFault};
 use std::alloc::Global;
 use std::fmt::Display;
 use std::process::Abort;
 use std::test::Fail;
+
+const NO_MEMORY: &str = "allocation failed";
 
 const NAME_FAULTS: &[(NameFault, &str)] = &[
     (NameFault::TooLong, "the name has more than 255 bytes"),
@@ -23,7 +28,7 @@ const NAME_FAULTS: &[(NameFault, &str)] = &[
 ];
 
 const SIGNATURE_FAULTS: &[(SigFault, &str)] = &[
-    (SigFault::Memory, "allocation failed"),
+    (SigFault::Memory, NO_MEMORY),
     (SigFault::TooLong, "the signature has more than 255 bytes"),
     (
         SigFault::Bad { at: 255 },
@@ -32,7 +37,7 @@ const SIGNATURE_FAULTS: &[(SigFault, &str)] = &[
 ];
 
 const STRING_FAULTS: &[(StringFault, &str)] = &[
-    (StringFault::Memory, "allocation failed"),
+    (StringFault::Memory, NO_MEMORY),
     (
         StringFault::Bad { at: 3 },
         "no STRING: U+0000 stands at offset 3",
@@ -40,7 +45,7 @@ const STRING_FAULTS: &[(StringFault, &str)] = &[
 ];
 
 const VALUE_FAULTS: &[(ValueFault, &str)] = &[
-    (ValueFault::Memory, "allocation failed"),
+    (ValueFault::Memory, NO_MEMORY),
     (
         ValueFault::TooDeep,
         "more containers are open at once than the limit on depth",
@@ -107,12 +112,12 @@ const FAULTS: &[(Fault, &str)] = &[
 ];
 
 const REFUSALS: &[(Refusal, &str)] = &[
-    (Refusal::Memory, "allocation failed"),
+    (Refusal::Memory, NO_MEMORY),
     (Refusal::Format(PADDING), "Padding at offset 23"),
 ];
 
 const BUILD_FAULTS: &[(BuildFault, &str)] = &[
-    (BuildFault::Memory, "allocation failed"),
+    (BuildFault::Memory, NO_MEMORY),
     (BuildFault::Kind, "the message type is 0"),
     (
         BuildFault::ZeroSerial,
@@ -170,7 +175,7 @@ const RULE_REASONS: &[(RuleReason, &str)] = &[
 ];
 
 const RULE_FAULTS: &[(RuleFault, &str)] = &[
-    (RuleFault::Memory, "allocation failed"),
+    (RuleFault::Memory, NO_MEMORY),
     (
         RuleFault::Bad {
             at: 14,
@@ -181,7 +186,7 @@ const RULE_FAULTS: &[(RuleFault, &str)] = &[
 ];
 
 const LINE_FAULTS: &[(LineFault, &str)] = &[
-    (LineFault::Memory, "allocation failed"),
+    (LineFault::Memory, NO_MEMORY),
     (LineFault::TooLong, "the line has more than 16,384 bytes"),
     (
         LineFault::BadByte { at: 7 },
@@ -190,7 +195,7 @@ const LINE_FAULTS: &[(LineFault, &str)] = &[
 ];
 
 const TEXT_FAULTS: &[(TextFault, &str)] = &[
-    (TextFault::Memory, "allocation failed"),
+    (TextFault::Memory, NO_MEMORY),
     (TextFault::Unspellable, "no line spells this"),
 ];
 
@@ -200,6 +205,51 @@ const GUIDS: &[(Guid, &str)] = &[(
     ]),
     "0123456789abcdef0123456789abcdef",
 )];
+
+const TRUNCATED: Fault = Fault {
+    at: 1000,
+    reason: Reason::Truncated,
+};
+
+const NO_MESSAGE: &str = "the bytes are no message: Truncated at offset 1000";
+
+const STREAM_FAULTS: &[(StreamFault, &str)] = &[
+    (StreamFault::Memory, NO_MEMORY),
+    (StreamFault::Format(TRUNCATED), NO_MESSAGE),
+];
+
+const READ_FAULTS: &[(ReadFault, &str)] = &[
+    (ReadFault::Memory, NO_MEMORY),
+    (ReadFault::Format(TRUNCATED), NO_MESSAGE),
+    (ReadFault::Device, "the device failed"),
+    (ReadFault::TooManyReads, "too many reads"),
+];
+
+const WRITE_FAULTS: &[(WriteFault, &str)] = &[
+    (WriteFault::Memory, NO_MEMORY),
+    (
+        WriteFault::Device { written: 24 },
+        "the device failed after 24 bytes",
+    ),
+];
+
+const HANDSHAKE_FAULTS: &[(HandshakeFault, &str)] = &[
+    (HandshakeFault::Memory, NO_MEMORY),
+    (HandshakeFault::Device, "the device failed"),
+    (
+        HandshakeFault::Refused {
+            at: 7,
+            reason: HandshakeReason::NoCommand,
+        },
+        "the bytes begin with no handshake: NoCommand at offset 7",
+    ),
+];
+
+const PUT_FAULTS: &[(PutFault, &str)] = &[
+    (PutFault::Memory, NO_MEMORY),
+    (PutFault::TooLong, "too many bytes for their length"),
+    (PutFault::NotOpen, "no array is open at this place"),
+];
 
 // Each has its text.
 fn are_told<T: Display>(rt: &impl Abort, alloc: Global, rows: &[(T, &str)]) -> Result<(), Fail> {
@@ -244,4 +294,13 @@ fn lines_of_the_handshake(rt: HostRuntime) -> Result<(), Fail> {
 #[test]
 fn guids(rt: HostRuntime) -> Result<(), Fail> {
     are_told(&rt, rt.alloc(), GUIDS)
+}
+
+#[test]
+fn faults_of_streams(rt: HostRuntime) -> Result<(), Fail> {
+    are_told(&rt, rt.alloc(), STREAM_FAULTS)?;
+    are_told(&rt, rt.alloc(), READ_FAULTS)?;
+    are_told(&rt, rt.alloc(), WRITE_FAULTS)?;
+    are_told(&rt, rt.alloc(), HANDSHAKE_FAULTS)?;
+    are_told(&rt, rt.alloc(), PUT_FAULTS)
 }

@@ -8,7 +8,7 @@ ghost use Rattle.dbus_value_model.specs.ValueViews.{value_tree};
 use dbus_marshal::{measure, measure_all, measure_header_field, size_after};
 use dbus_types::SigType;
 use dbus_value_model::{Limits, Value, ValueFault};
-use std::alloc::{AllocError, Allocator, Global};
+use std::alloc::{AllocError, Global};
 use std::test::*;
 
 // Where 67,108,864 bytes begin, the most that an array may have, and where they end. Past the limit
@@ -29,7 +29,7 @@ const LIMIT: u64 = 134_217_728;
 const OFFSETS: u64 = LIMIT + 16;
 
 // Whether the measure of a value is `end`, and its size too: past the limit of messages it is none.
-fn ends_at<A: Allocator>(value: &Value<A>, at: u64, end: u64) -> bool
+fn ends_at(value: &Value, at: u64, end: u64) -> bool
     requires { HasShortSignatures (value_tree value.now) }
 {
     let size = if end > LIMIT {
@@ -60,32 +60,15 @@ fn values_past_the_limit(rt: HostRuntime) {
     assert!(rt; measure_all(&values, 134_217_740, Limits::specification()) == Some(134_217_737));
 }
 
-// 67,108,864 bytes, and one more where that is asked for.
-fn long_bytes<A: Allocator>(alloc: A, one_more: bool) -> Result<Value<A>, AllocError>
+// An array of this many bytes.
+fn bytes(alloc: Global, count: usize) -> Result<Value, AllocError>
     ensures { IfOk result (λ v. HasShortSignatures (value_tree v)) }
 {
-    let block = [0; 4096];
-    let mut bytes = Vec::new(alloc);
-    for _ in 0..16384 {
-        bytes.extend_from_slice(&block)?;
-    }
-    if one_more {
-        bytes.push(0)?;
-    }
-    Ok(Value::Bytes(bytes))
-}
-
-#[test]
-fn the_longest_array(rt: HostRuntime) -> Result<(), Fail> {
-    let longest = long_bytes(rt.alloc(), false)?;
-    for (at, end) in LONGEST {
-        assert!(rt; ends_at(&longest, *at, *end), "from {at}");
-    }
-    Ok(())
+    Ok(Value::Bytes(vec![in alloc; 0; count]?))
 }
 
 // Whether no measure and no size is answered, wherever the value begins.
-fn has_no_end<A: Allocator>(value: &Value<A>) -> bool
+fn has_no_end(value: &Value) -> bool
     requires { HasShortSignatures (value_tree value.now) }
 {
     measure(value, 0, Limits::specification()).is_none()
@@ -94,8 +77,11 @@ fn has_no_end<A: Allocator>(value: &Value<A>) -> bool
 }
 
 #[test]
-fn an_array_of_a_byte_more(rt: HostRuntime) -> Result<(), Fail> {
-    let longer = long_bytes(rt.alloc(), true)?;
-    assert!(rt; has_no_end(&longer));
+fn the_longest_array_and_one_of_a_byte_more(rt: HostRuntime) -> Result<(), Fail> {
+    let longest = bytes(rt.alloc(), 67_108_864)?;
+    for (at, end) in LONGEST {
+        assert!(rt; ends_at(&longest, *at, *end), "from {at}");
+    }
+    assert!(rt; has_no_end(&bytes(rt.alloc(), 67_108_865)?));
     Ok(())
 }
