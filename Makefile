@@ -26,7 +26,7 @@
 # make tarball     packs both, and a checksum, in out/
 # make wrong-bodies prints the wrong bodies that the prover refuses, and what refuses each; bench/wrong_bodies.py tries those that are due, some or all
 # make instructions prints the instructions per byte of each command, by valgrind, and of libdbus if its headers are there
-# make bench       MB/s of each command on several streams, by user and system time, and of the calls of the libraries
+# make bench       MB/s of each command on several streams, by user and system time, and of decoding and encoding
 # make bench-c     nanoseconds of calls of the library for C, and of a set of 100,000 match rules; MB/s of a checker of pieces
 
 PREFIX ?= /usr/local
@@ -133,7 +133,7 @@ instructions: build
 
 bench: build
 	bench/commands.sh $(PROGRAM)
-	cd crates/dbus_bench && rt run -- 64 < ../../samples/session.dbus
+	cd crates/examples && rt run -- speed 64 < ../../samples/session.dbus
 
 bench-c: library
 	$(CC) -std=c99 -D_GNU_SOURCE -O2 -Iinclude -o out/calls bench/calls.c $(ARCHIVE)

@@ -43,12 +43,8 @@ fn tell(rt: &HostRuntime, reply: &Message) -> Result<()> {
     Ok(())
 }
 
-/// Lists the names on the bus on standard input and output, for this user.
-pub(crate) fn run(rt: &HostRuntime, user: Option<u32>) -> Result<()> {
-    let alloc = rt.alloc();
-    let mut bytes = Vec::new(alloc);
-    let mut session = Session::start(alloc, mechanisms(alloc, user)?, &mut bytes)?;
-    send(rt, &bytes)?;
+// Hands on what comes until the reply to `ListNames` has come.
+fn reply(rt: &HostRuntime, session: &mut Session, bytes: &mut Vec<u8>) -> Result<Message> {
     let mut buffer = [0; 4096];
     for _ in 0..u64::MAX {
         let count = rt.stdin().read(&mut buffer)?;
@@ -56,11 +52,20 @@ pub(crate) fn run(rt: &HostRuntime, user: Option<u32>) -> Result<()> {
             break;
         }
         bytes.clear();
-        let reply = session.take(&buffer[..count], &mut bytes)?;
-        send(rt, &bytes)?;
+        let reply = session.take(&buffer[..count], bytes)?;
+        send(rt, bytes)?;
         if let Some(reply) = reply {
-            return tell(rt, &reply);
+            return Ok(reply);
         }
     }
     bail!("the bus left before it answered")
+}
+
+/// Lists the names on the bus on standard input and output, for this user.
+pub(crate) fn run(rt: &HostRuntime, user: Option<u32>) -> Result<()> {
+    let alloc = rt.alloc();
+    let mut bytes = Vec::new(alloc);
+    let mut session = Session::start(alloc, mechanisms(alloc, user)?, &mut bytes)?;
+    send(rt, &bytes)?;
+    tell(rt, &reply(rt, &mut session, &mut bytes)?)
 }

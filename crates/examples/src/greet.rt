@@ -4,28 +4,36 @@
 //! message's member as its argument, and in the message's byte order. If there is none to be made,
 //! standard error says why, and the exit status is 1.
 
-use anyhow::{Context, Result, bail};
+use anyhow::{Result, bail};
 use dbus_message::{Answer, Compose, Message, decode, encode};
+use dbus_value::Order;
 use std::io::{Read, Write};
 
-/// Greets the sender of the message on standard input.
-pub(crate) fn run(rt: &HostRuntime) -> Result<()> {
-    let alloc = rt.alloc();
-    let mut bytes = Vec::new(alloc);
-    rt.stdin().read_to_end(&mut bytes)?;
-    let Answer::Whole { order, message, .. } = decode(alloc, &bytes)? else {
-        bail!("the input ends within a message");
+// Greets the sender of a message that has this byte order.
+fn greet(rt: &HostRuntime, order: Order, message: &Message) -> Result<()> {
+    let (Some(path), Some(member), Some(sender)) = (
+        message.path(),
+        message.member(),
+        message.sender(),
+    ) else {
+        bail!("the message has no path, no member or no sender");
     };
-    let path = message.path().context("the message has no path")?;
-    let member = message.member().context("the message has no member")?;
-    let sender = message.sender().context("the message has no sender")?;
     eprintln!(rt; "{sender} called {member} of {path}")?;
-
-    let call = Message::call(alloc, path, "Greet")
+    let call = Message::call(rt.alloc(), path, "Greet")
         .interface("org.example.Greeter")
         .destination(sender)
         .text(member)
         .build()?;
-    rt.stdout().write_all(&encode(alloc, &call, order)?)?;
+    rt.stdout().write_all(&encode(rt.alloc(), &call, order)?)?;
     Ok(())
+}
+
+/// Greets the sender of the message on standard input.
+pub(crate) fn run(rt: &HostRuntime) -> Result<()> {
+    let mut bytes = Vec::new(rt.alloc());
+    rt.stdin().read_to_end(&mut bytes)?;
+    match decode(rt.alloc(), &bytes)? {
+        Answer::Whole { order, message, .. } => greet(rt, order, &message),
+        Answer::Partial => bail!("the input ends within a message"),
+    }
 }

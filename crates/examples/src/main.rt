@@ -1,33 +1,44 @@
-//! `examples WORD [USER]`: four programs that use the libraries as another program would, each in a
-//! file of its own.
+//! `examples WORD [NUMBER]`: five programs that use the libraries as another program would, each in
+//! a file of its own.
 //!
-//! The word is `greet`, `values`, `service` or `client`; these files say what each does. The user
-//! of a service or a client is the number of one.
+//! The word is `greet`, `values`, `service`, `client` or `speed`; these files say what each does. A
+//! service or a client takes the number of a user, and `speed` one of MB.
 #![tactic(auto)]
 
 mod client;
 mod connection;
 mod greet;
-mod methods;
 mod replies;
 mod service;
 mod session;
+mod signal;
+mod speed;
 mod values;
 
 use anyhow::{Result, bail};
 use std::env;
 
-fn main(rt: HostRuntime) -> Result<()> {
-    let words: Vec<String> = env::args(&rt)?.collect(rt.alloc())?;
-    let user = match words.get(2) {
+// Runs the program that the words after the first name.
+fn run(rt: &HostRuntime, words: &[String]) -> Result<()> {
+    let number = match words.get(2) {
         Some(word) => Some(word.as_str().parse()?),
         None => None,
     };
-    match words.get(1).map(|word| word.as_str()) {
-        Some("greet") => greet::run(&rt),
-        Some("values") => values::run(&rt),
-        Some("service") => service::run(&rt, user),
-        Some("client") => client::run(&rt, user),
-        _ => bail!("which: greet, values, service or client?"),
+    let word = match words.get(1) {
+        Some(word) => word.as_str(),
+        None => "",
+    };
+    match word {
+        "greet" => greet::run(rt),
+        "values" => values::run(rt),
+        "service" => service::run(rt, number),
+        "client" => client::run(rt, number),
+        "speed" => speed::run(rt, number),
+        _ => bail!("which: greet, values, service, client or speed?"),
     }
+}
+
+fn main(rt: HostRuntime) -> Result<()> {
+    let words: Vec<String> = env::args(&rt)?.collect(rt.alloc())?;
+    run(&rt, &words)
 }

@@ -89,25 +89,27 @@ impl Session {
     }
 
     // Takes at most one message, and says how many bytes that were. It gives the message if it is
-    // the reply to `ListNames`, which is called after the reply to `Hello`. Others, as the signal
-    // that the client has a name, are ignored.
+    // the reply to `ListNames`.
     fn take_message(
         &mut self,
         bytes: &[u8],
         send: &mut Vec<u8>,
     ) -> Result<(usize, Option<Message>)> {
         let (taken, given) = self.cutter.take(bytes)?;
-        let Some((_, message)) = given else {
-            return Ok((taken, None));
-        };
-        match call_of(&message)? {
-            Some(HELLO) => {
-                self.append_call(LIST_NAMES, "ListNames", send)?;
-                Ok((taken, None))
-            }
-            Some(LIST_NAMES) => Ok((taken, Some(message))),
+        match given {
+            Some((_, message)) if self.is_last(&message, send)? => Ok((taken, Some(message))),
             _ => Ok((taken, None)),
         }
+    }
+
+    // Whether a message is the reply to `ListNames`, which is called after the reply to `Hello`.
+    // Others, as the signal that the client has a name, are ignored.
+    fn is_last(&self, message: &Message, send: &mut Vec<u8>) -> Result<bool> {
+        let call = call_of(message)?;
+        if call == Some(HELLO) {
+            self.append_call(LIST_NAMES, "ListNames", send)?;
+        }
+        Ok(call == Some(LIST_NAMES))
     }
 
     // Appends a call of a method of the bus, which takes nothing. D-Bus Specification, "Message Bus

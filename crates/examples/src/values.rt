@@ -10,10 +10,10 @@ use dbus_message::{
 };
 use dbus_value::Value;
 use std::alloc::Global;
-use std::io::Read;
+use std::io::{self, Read};
 
 // A name, its old owner and its new one: an empty text is no owner.
-fn print_owners(rt: &HostRuntime, view: &MessageView) -> Result<()> {
+fn print_owners(rt: &HostRuntime, view: &MessageView) -> io::Result<()> {
     for value in view.body() {
         if let ValueView::Str(text) = value {
             println!(rt; "owner {text}")?;
@@ -23,19 +23,18 @@ fn print_owners(rt: &HostRuntime, view: &MessageView) -> Result<()> {
 }
 
 // A property's value that is no container.
-fn print_plain(rt: &HostRuntime, name: &str, value: &ValueView) -> Result<()> {
+fn print_plain(rt: &HostRuntime, name: &str, value: &ValueView) -> io::Result<()> {
     match value {
-        ValueView::Str(text) => println!(rt; "{name} is {text}")?,
-        ValueView::Bool(is_so) => println!(rt; "{name} is {is_so}")?,
-        ValueView::U32(number) => println!(rt; "{name} is {number}")?,
-        _ => println!(rt; "{name} is of another type")?,
+        ValueView::Str(text) => println!(rt; "{name} is {text}"),
+        ValueView::Bool(is_so) => println!(rt; "{name} is {is_so}"),
+        ValueView::U32(number) => println!(rt; "{name} is {number}"),
+        _ => println!(rt; "{name} is of another type"),
     }
-    Ok(())
 }
 
 // A property's value, as a variant holds it. A struct is copied, as to keep it when the bytes are
 // gone.
-fn print_property(rt: &HostRuntime, alloc: Global, name: &str, held: Values) -> Result<()> {
+fn print_property(rt: &HostRuntime, alloc: Global, name: &str, held: Values) -> io::Result<()> {
     if held.first_code() == Some(b'(') {
         if let Some(Value::Struct(fields)) = copy_value(alloc, &held)? {
             println!(rt; "{name} has {} fields", fields.len())?;
@@ -78,7 +77,7 @@ fn print_changes(rt: &HostRuntime, alloc: Global, view: &MessageView) -> Result<
 }
 
 // Numbers of 4 bytes, as a slice of their bytes in the message's order.
-fn print_numbers(rt: &HostRuntime, elements: &Elements) -> Result<()> {
+fn print_numbers(rt: &HostRuntime, elements: &Elements) -> io::Result<()> {
     let order = elements.order();
     for number in elements.number_bytes().unwrap_or(&[]).chunks_exact(4) {
         println!(rt; "number {}", order.u32_at(number, 0))?;
@@ -86,7 +85,7 @@ fn print_numbers(rt: &HostRuntime, elements: &Elements) -> Result<()> {
     Ok(())
 }
 
-fn print_arrays(rt: &HostRuntime, view: &MessageView) -> Result<()> {
+fn print_arrays(rt: &HostRuntime, view: &MessageView) -> io::Result<()> {
     for value in view.body() {
         if let ValueView::Array(elements) = value {
             if elements.types() == b"u".as_slice() {
@@ -99,18 +98,15 @@ fn print_arrays(rt: &HostRuntime, view: &MessageView) -> Result<()> {
 
 fn print_message(rt: &HostRuntime, alloc: Global, view: &MessageView) -> Result<()> {
     match view.member() {
-        Some("NameOwnerChanged") => print_owners(rt, view),
-        Some("PropertiesChanged") => print_changes(rt, alloc, view),
-        _ => print_arrays(rt, view),
+        Some("NameOwnerChanged") => print_owners(rt, view)?,
+        Some("PropertiesChanged") => print_changes(rt, alloc, view)?,
+        _ => print_arrays(rt, view)?,
     }
+    Ok(())
 }
 
-/// Prints the values of the messages on standard input.
-pub(crate) fn run(rt: &HostRuntime) -> Result<()> {
-    let alloc = rt.alloc();
-    let mut bytes = Vec::new(alloc);
-    rt.stdin().read_to_end(&mut bytes)?;
-    let mut rest = bytes.as_slice();
+fn print_all(rt: &HostRuntime, bytes: &[u8]) -> Result<()> {
+    let mut rest = bytes;
     // Each round takes a message at least.
     for _ in 0..bytes.len() {
         if rest.is_empty() {
@@ -122,8 +118,15 @@ pub(crate) fn run(rt: &HostRuntime) -> Result<()> {
         let Some((message, more)) = rest.split_at_checked(length as usize) else {
             bail!("the input ends within a message");
         };
-        print_message(rt, alloc, &MessageView::of(message)?)?;
+        print_message(rt, rt.alloc(), &MessageView::of(message)?)?;
         rest = more;
     }
     Ok(())
+}
+
+/// Prints the values of the messages on standard input.
+pub(crate) fn run(rt: &HostRuntime) -> Result<()> {
+    let mut bytes = Vec::new(rt.alloc());
+    rt.stdin().read_to_end(&mut bytes)?;
+    print_all(rt, &bytes)
 }
