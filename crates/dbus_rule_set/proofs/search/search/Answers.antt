@@ -29,7 +29,7 @@ loop-kind-init g c =
 pub ask_kind-requires : goal.ask_kind-requires
 ask_kind-requires g c =
     record {
-      small = c.loop-kind-test.true;
+      small = omega (arith, c.loop-kind-test.true);
       placed = standing c.args.kinds.now c.args.rules.now.entries c.requires.indexed;
     }
 
