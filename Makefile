@@ -24,7 +24,7 @@
 #                  compilers need. install-python installs the module for Python in PYTHONDIR
 # make deb         packages both for Debian, by dpkg-deb, in out/
 # make tarball     packs both, and a checksum, in out/
-# make wrong-bodies prints the wrong bodies that the prover refuses, and what refuses each; bench/wrong_bodies.py tries those that are due, some or all
+# make wrong-bodies prints the wrong bodies that the prover refuses, and what refuses each; bench/wrong_bodies.py tries those that are due, or all
 # make instructions prints the instructions per byte of each command, by valgrind, and of libdbus if its headers are there
 # make bench       MB/s of each command on several streams, by user and system time, and of decoding and encoding
 # make bench-c     nanoseconds of calls of the library for C, and of a set of 100,000 match rules; MB/s of a checker of pieces

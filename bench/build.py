@@ -19,11 +19,10 @@ import subprocess
 import sys
 import time
 
-from crate_list import ROOT, folder_of, lanes, libraries_below, read_crates, read_lines
+from crate_list import PARTS, ROOT, copy_parts, folder_of, lanes, libraries_below, read_crates, read_lines
 
 # More jobs than that seldom shorten one check.
 MOST_JOBS = 4
-PARTS = ("src", "specs", "proofs")
 
 Running = collections.namedtuple("Running", "name jobs began")
 
@@ -46,21 +45,15 @@ def locked(name):
         os.close(held)
 
 
-def link_parts(name, parts, to):
-    for part in parts:
-        if (folder_of(name) / part).is_dir():
-            shutil.copytree(folder_of(name) / part, to / "crates" / name / part, symlinks=True, copy_function=os.link)
-
-
 def build_apart(name, libraries, jobs):
     """The status of `rt lib` of a library in a folder of its own, and what it said."""
     apart = ROOT / "out" / "building" / name
     with locked(name):
         shutil.rmtree(apart, ignore_errors=True)
-        for library in libraries:
-            link_parts(library, (*PARTS, "out/rlib"), apart)
         (folder_of(name) / "out").mkdir(exist_ok=True)
-        link_parts(name, (*PARTS, "out"), apart)
+        for it in (*libraries, name):
+            parts = (*PARTS, "out" if it == name else "out/rlib")
+            copy_parts(it, apart / "crates" / it, parts, symlinks=True, copy_function=os.link)
         lines = read_lines()
         (apart / "crates.txt").write_text("".join(f"{lines[it]}\n" for it in (*libraries, name)))
         try:

@@ -2,10 +2,13 @@
 
 import os
 import pathlib
+import shutil
 
 ROOT = pathlib.Path(__file__).resolve().parent.parent
 # About the memory that a check takes.
 GIGABYTES_A_CHECK = 2
+# The folders of a crate that a check reads.
+PARTS = ("src", "specs", "proofs")
 
 
 def read_lines():
@@ -32,6 +35,13 @@ def asked_programs():
 
 def folder_of(name):
     return ROOT / "crates" / name
+
+
+def copy_parts(name, to, parts=PARTS, **how):
+    """Copies what a check of the crate reads, or other folders of it, into a folder."""
+    for part in parts:
+        if (folder_of(name) / part).is_dir():
+            shutil.copytree(folder_of(name) / part, to / part, **how)
 
 
 def lanes():

@@ -1,4 +1,4 @@
-"""The wrong bodies: files crates/NAME/wrong/*.edit and crates/NAME/must-fail/*.edit, each with one mistake that the prover has to refuse.
+"""The wrong bodies: files crates/NAME/wrong/*.edit, each with one mistake that the prover has to refuse.
 
 The lines of such a file:
 
@@ -9,6 +9,7 @@ The lines of such a file:
     old:     a text that stands once in that file
     new:     what stands there in its place
     both:    why one mistake takes two changes, if it does
+    always:  why each run of the gate tries it, if each does
 """
 
 import collections
@@ -17,10 +18,10 @@ import re
 from crate_list import ROOT, folder_of, read_crates
 
 # `name` is CRATE/FILE without the ending.
-Edit = collections.namedtuple("Edit", "crate name path calls clause left changes both")
+Edit = collections.namedtuple("Edit", "crate name path calls clause left changes both always")
 Change = collections.namedtuple("Change", "file old new")
 
-FUNCTION = re.compile(r"\bfn (\w+)")
+FUNCTION = re.compile(r"( *).*?\bfn (\w+)")
 
 
 def read_edit(path):
@@ -32,27 +33,31 @@ def read_edit(path):
             changes.append(Change(said.get("file"), said.pop("old", ""), said["new"]))
     crate = path.parent.parent.name
     calls = [it for it in said.get("calls", "").split(", ") if it]
-    words = (said.get(it, "") for it in ("clause", "left"))
-    return Edit(crate, f"{crate}/{path.stem}", path, calls, *words, changes, said.get("both", ""))
+    clause, left, both, always = (said.get(it, "") for it in ("clause", "left", "both", "always"))
+    return Edit(crate, f"{crate}/{path.stem}", path, calls, clause, left, changes, both, always)
 
 
-def edits_in(crate, *folders):
-    """The edits of a crate in its folders `wrong`, `must-fail` or both, by their names."""
-    files = [path for folder in folders for path in (folder_of(crate) / folder).glob("*.edit")]
-    return [read_edit(path) for path in sorted(files, key=lambda it: it.name)]
+def edits_in(crate):
+    """The edits of a crate, by their names."""
+    return [read_edit(path) for path in sorted((folder_of(crate) / "wrong").glob("*.edit"))]
 
 
 def all_edits():
-    return [edit for crate in read_crates() for edit in edits_in(crate, "wrong", "must-fail")]
+    return [edit for crate in read_crates() for edit in edits_in(crate)]
 
 
-def edited(edit):
-    """The texts of the files that the edit changes, as it leaves them, or None for one that it cannot change."""
+def text_of(edit, file):
+    path = folder_of(edit.crate) / str(file)
+    return path.read_text() if path.is_file() else ""
+
+
+def edited(edit, before=None):
+    """The texts of the files that the edit changes, as it leaves them, or None for one that it cannot change. `before` has the texts of those that
+    other edits changed already."""
     texts = {}
     for file, old, new in edit.changes:
-        path = folder_of(edit.crate) / str(file)
-        text = texts[file] if file in texts else path.read_text() if path.is_file() else None
         # A later pair changes what an earlier one left.
+        text = texts[file] if file in texts else (before or {}).get(file) or text_of(edit, file)
         texts[file] = text.replace(old, new) if text and old and text.count(old) == 1 else None
     return texts
 
@@ -89,8 +94,18 @@ def function_at(text, line):
     # A function begins with its attributes.
     while line < len(lines) and lines[line - 1].lstrip().startswith("#["):
         line += 1
-    above = (FUNCTION.search(it) for it in reversed(lines[:line]))
-    return next((it[1] for it in above if it), "")
+    for begin in range(line, 0, -1):
+        if found := FUNCTION.match(lines[begin - 1]):
+            is_over = found[1] + "}" in lines[begin : line - 1]
+            return "" if is_over else found[2]
+    return ""
+
+
+def functions_changed(edit):
+    """The names of the functions that the edit changes, and nothing for what it changes outside of them."""
+    for file, old, _ in edit.changes:
+        before, _, _ = text_of(edit, file).partition(old)
+        yield function_at(text_of(edit, file), before.count("\n") + 1)
 
 
 def relative(edit):

@@ -14,6 +14,7 @@ import threading
 import time
 
 from crate_list import ROOT, read_crates
+from trying import ROOM
 
 STEPS = ("proof", "tests", "edits")
 TICKS = os.sysconf("SC_CLK_TCK")
@@ -46,8 +47,8 @@ def read_step(pid):
     crate = words[words.index("--crate-name") + 1]
     if "--test" in words:
         return crate, "tests"
-    # An edit is tried on a copy of the crate.
-    return crate, "edits" if "/rt-edit" in folder else "proof"
+    # Wrong bodies are tried on a copy of the crate.
+    return crate, "edits" if f"/{ROOM}" in folder else "proof"
 
 
 def descends_from(pid, root, processes):
@@ -95,11 +96,11 @@ def print_table(minutes, runs, total, began):
 
 
 def waits_of(steps):
-    """What each step waits for: a crate's proof and tests for the proofs below it, its edits for its own proof."""
+    """What each step waits for: a crate's proof and tests for the proofs below it, its edits for all proofs and tests."""
     uses = read_crates()
     # A proof that was kept is no step.
     return {
-        (crate, step): [(it, "proof") for it in ([crate] if step == "edits" else uses.get(crate, [])) if (it, "proof") in steps]
+        (crate, step): [it for it in steps if (it[1] != "edits" if step == "edits" else it[1] == "proof" and it[0] in uses.get(crate, []))]
         for crate, step in steps
     }
 

@@ -20,7 +20,6 @@ import time
 from pathlib import Path
 
 from crate_list import ROOT, asked_programs, folder_of, lanes, read_crates
-from trying import head
 
 sys.dont_write_bytecode = True
 sys.path.insert(0, str(ROOT / "cases"))
@@ -106,7 +105,8 @@ def count_questions(shares):
 def try_questions(folder, is_whole):
     """Whether the program gave right answers on the cases, or on some of them, and what is to be said. Each share of them is an input of its own."""
     asked = [*asked_of(folder.name)]
-    random.Random(head()).shuffle(asked)
+    head = subprocess.run(["git", "-C", str(ROOT), "rev-parse", "HEAD"], capture_output=True, text=True).stdout
+    random.Random(head.strip()).shuffle(asked)
     every = shares_of(asked)
     shares = every if is_whole else every[:SHARES_DRAWN]
     with tempfile.TemporaryDirectory() as room:

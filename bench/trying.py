@@ -1,148 +1,164 @@
-"""Tries wrong bodies: lays them into the must-fail/ of a copy of the repository, lets the prover try them there, and holds what it says against
-the line `left:` of each."""
+"""Tries wrong bodies in rounds. A round is one check of a copy of a crate with at most one wrong body of each function. A function is proved by its
+own body and the contracts of what it calls, so a wrong body leaves goals open in its own function alone, and the check names all of them. It is
+refused if the goal that its line `left:` names is among them. One of which a round does not show that is tried once more, alone."""
 
 import collections
-import contextlib
-import os
+import concurrent.futures as futures
+import functools
 import pathlib
-import random
 import re
-import shutil
 import subprocess
 import tempfile
 
-from crate_list import ROOT, folder_of, read_crates
-from edits import all_edits, edited, edits_in, function_at
+from crate_list import copy_parts, folder_of, lanes, libraries_below, read_crates, read_lines
+from edits import all_edits, edited, edits_in, function_at, functions_changed
 from interfaces import checksums
 
-NOT_COPIED = shutil.ignore_patterns(".git", "out", "target", "__pycache__")
-
-# What the prover says of a wrong body that it refuses.
-REFUSED = re.compile(r"rt: must-fail (\S+)\.edit: refused, as it must be(?:: )?(.*)")
-# A goal that it left open, by its place in a source file; and an answer or a lemma that no longer holds.
-OPEN = re.compile(r"note: src/(\w+)\.rt:(\d+):\d+: .*?\(`([^`]*)(`?)")
-ANSWER = re.compile(r"\./proofs/(\S*?)(?:/Answers|/Invariants|/Proof)?\.antt:\d+:\d+: error: `([^`]*)(`?)")
+# How the name of a folder begins in which a round is checked. bench/gate_times.py knows rounds by it.
+ROOM = "wrong-bodies-"
+# A goal that is left open, by its place in a source file; and an answer or a lemma that no longer holds.
+OPEN = re.compile(r"note: src/(\w+)\.rt:(\d+):\d+: .*?\(`([^`]*)`")
+ANSWER = re.compile(r"\./proofs/(\S*?)(?:/Answers|/Invariants|/Proof)?\.antt:\d+:\d+: error: `([^`]*)`(.*)")
+# What is said of an answer that names what is gone, or what rests on an answer that no longer holds.
+NAMES = re.compile(r"has no field|is not in scope|has no `|was not admitted")
+# The last line of a check that came to its end and did not prove all.
+ENDED = re.compile(r"logic=not-proved|only=\d+ proved=\d+")
+# How much is told of what a check says.
+MOST_TOLD = 400
 
 
 def tried_file(crate):
     return folder_of(crate) / "wrong" / "TRIED"
 
 
-def due_crates():
-    """The crates that differ from what their wrong bodies were last tried on: first those that changed themselves, then those of which only what
-    they see of the libraries below has, each lowest first."""
-    found = ([], [])
-    for crate in (it for it in read_crates() if edits_in(it, "wrong")):
-        own, seen = checksums(crate)
-        tried = tried_file(crate).read_text().split() if tried_file(crate).exists() else ["", ""]
-        if tried[:2] != [own, seen]:
-            found[tried[0] == own].append(crate)
-    return found[0] + found[1]
+def is_due(crate):
+    """Whether the crate, or what it sees of the libraries below, differs from what its wrong bodies were last tried on."""
+    tried = tried_file(crate)
+    return not tried.exists() or tried.read_text().split()[:2] != checksums(crate)
 
 
 def due_edits():
-    return [edit for crate in due_crates() for edit in edits_in(crate, "wrong")]
+    """Those of the crates that are due, and those that are always tried."""
+    due = {crate for crate in read_crates() if edits_in(crate) and is_due(crate)}
+    return [it for it in all_edits() if it.crate in due or it.always]
 
 
-def head():
-    """The commit's hash, by which what is not always tried is drawn."""
-    words = ["git", "-C", str(ROOT), "rev-parse", "HEAD"]
-    return subprocess.run(words, capture_output=True, text=True).stdout.strip()
+@functools.cache
+def kit():
+    """The folder of the kit."""
+    said = subprocess.run(["rt", "doc"], capture_output=True, text=True, check=True).stdout
+    return pathlib.Path(said.strip()).parent
 
 
-def drawn_edits(number):
-    """At most so many of those that are not always tried, as the commit's hash draws them: of one crate, since the first wrong body of a crate
-    costs the crate's proof. Each crate is as likely as it has wrong bodies."""
-    edits = [it for it in all_edits() if it.path.parent.name == "wrong"]
-    random.Random(head()).shuffle(edits)
-    return [it for it in edits if it.crate == edits[0].crate][:number]
+def check_words(crate, crates):
+    """A check of the crate as rt calls it, over the libraries that were built in the folder `crates`, and over what checks there kept."""
+    built = {it: crates / it / "out" / "rlib" / f"{it}.rlib" for it in libraries_below(crate, read_crates())}
+    root = next(it for it in ("main", "lib") if (folder_of(crate) / "src" / f"{it}.rt").exists())
+    kind, _, uses = read_lines()[crate].partition(":")
+    words = [kit() / "bin/rattle", "check", f"src/{root}.rt", "--crate-name", crate, "-L", f"dependency={kit()}/rlibs"]
+    for name in ("std", *uses.split()):
+        words += ["--extern", f"{name}={built.get(name, kit() / 'rlibs' / f'{name}.rlib')}"]
+    for rlib in built.values():
+        words += ["-L", f"dependency={rlib.parent}"]
+    if "staticlib" in kind:
+        words += ["--crate-type", "staticlib"]
+    words += ["--antt-project", kit() / "rattle/logic/antt-project.json", "--logic-built", kit() / "logic_built"]
+    return [*words, "--incremental", crates / crate / "out" / "incremental"]
 
 
-@contextlib.contextmanager
-def copy_with(edits):
-    """A copy of the repository, in a folder of its own, in which these edits are in must-fail/ too."""
-    with tempfile.TemporaryDirectory(prefix="dbus-wire-") as room:
-        copy = pathlib.Path(room) / "repository"
-        shutil.copytree(ROOT, copy, ignore=NOT_COPIED)
-        for edit in edits:
-            to = copy / "crates" / edit.crate / "must-fail"
-            to.mkdir(exist_ok=True)
-            shutil.copy(edit.path, to)
-        yield copy
+def modules_of(edits):
+    """The modules that a round checks, with what they call; none if it checks the whole crate."""
+    modules = {it.left.partition("::")[0] for it in edits}
+    return modules if all((folder_of(edits[0].crate) / "src" / f"{it}.rt").exists() and it not in ("lib", "main") for it in modules) else []
 
 
-def link_libraries(copy):
-    """Hands the copy the libraries that are built, so that they need not be built again."""
-    for crate in read_crates():
-        built = folder_of(crate) / "out" / "rlib"
-        if built.is_dir():
-            shutil.copytree(built, copy / "crates" / crate / "out" / "rlib", copy_function=os.link)
+def goals_in(room, lines):
+    """The goals that a check says it leaves open, as a line `left:` has them."""
+    for line in lines:
+        if found := OPEN.match(line):
+            file, number, goal = found.groups()
+            yield f"{file}::{function_at((room / 'src' / f'{file}.rt').read_text(), int(number))} {goal}"
+        elif (found := ANSWER.match(line)) and not NAMES.search(found[3]):
+            file, *inside = found[1].split("/")
+            yield f"{'::'.join([file, *inside[-1:]])} {found[2]}"
 
 
-def run_in(copy, *words):
-    """Runs a command there, prints what it says as it comes, and returns its status and its lines."""
-    # What the prover writes to the other stream comes between, as when it is run by itself.
-    how = {"cwd": copy, "stdin": subprocess.DEVNULL, "stdout": subprocess.PIPE, "stderr": subprocess.STDOUT}
-    lines = []
-    with subprocess.Popen(words, text=True, errors="replace", **how) as ran:
-        for line in ran.stdout:
-            lines.append(line.rstrip("\n"))
-            if not is_count(lines[-1]):
-                print(line, end="", flush=True)
-    return ran.returncode, lines
-
-
-def is_count(line):
-    return re.fullmatch(r"(\d+) passed, (\d+) failed", line)
-
-
-def left_of(edit, said):
-    """What the prover says that it left open, as a line `left:` has it, and whether it says all of it."""
-    if found := OPEN.match(said):
-        file, line, goal, end = found.groups()
-        text = edited(edit).get(f"src/{file}.rt") or (folder_of(edit.crate) / "src" / f"{file}.rt").read_text()
-        return f"{file}::{function_at(text, int(line))} {goal}", bool(end)
-    if found := ANSWER.match(said):
-        path, goal, end = found.groups()
-        parts = path.split("/")
-        return f"{parts[0]}::{parts[-1]} {goal}" if len(parts) > 1 else f"{parts[0]} {goal}", bool(end)
-    return "", True
-
-
-def is_refused_there(edit, said):
-    """Whether the prover refused the edit at the goal that it names. Of a long goal it prints only the first part, and that is compared."""
-    left, is_whole = left_of(edit, said)
-    return bool(left) and (left == edit.left or (not is_whole and edit.left.startswith(left)))
-
-
-def refusals_in(lines):
-    """What the prover said of each edit that it refused."""
-    return {found[1]: found[2] for line in lines if (found := REFUSED.match(line))}
-
-
-def hold(edits, refusals):
-    """The edits that were refused elsewhere than at the goal that they name, or not at all, each with what was said."""
-    said = {edit.name: refusals.get(edit.name) for edit in edits}
-    return {edit.name: said[edit.name] for edit in edits if said[edit.name] is None or not is_refused_there(edit, said[edit.name])}
-
-
-def note_tried(edits, faults):
-    """Notes for each crate whose wrong bodies were all tried and refused, at the goals that they name, on what."""
-    refused = collections.defaultdict(set)
+def texts_with(edits):
+    """The texts of the files that the edits change, in turn."""
+    texts = {}
     for edit in edits:
-        if edit.name not in faults:
-            refused[edit.crate].add(edit.name)
-    for crate, names in refused.items():
-        wanted = {it.name for it in edits_in(crate, "wrong")}
-        if wanted and wanted <= names:
-            tried_file(crate).write_text(f"{' '.join(checksums(crate))} {len(wanted)}\n")
+        texts |= edited(edit, texts)
+    return texts
 
 
-def tell(edits, faults):
+def check(edits, crates):
+    """Checks a copy of the crate with these edits. Returns the goals that it leaves open, and what it says."""
+    words = check_words(edits[0].crate, crates)
+    for module in modules_of(edits):
+        words += ["--only", module]
+    with tempfile.TemporaryDirectory(prefix=ROOM) as name:
+        room = pathlib.Path(name)
+        copy_parts(edits[0].crate, room)
+        for file, text in texts_with(edits).items():
+            (room / file).write_text(text)
+        how = {"cwd": room, "stdin": subprocess.DEVNULL, "stdout": subprocess.PIPE, "stderr": subprocess.STDOUT}
+        lines = subprocess.run(words, text=True, errors="replace", **how).stdout.splitlines()
+        return set(goals_in(room, lines)) if lines and ENDED.match(lines[-1]) else set(), lines
+
+
+def function_of(edit):
+    """The function that the edit leaves open, or the cycle of calls that is proved with it."""
+    return edit.left.split()[0]
+
+
+def is_apart(edit):
+    """Whether the edit changes only the body of the function that it leaves open, so that it touches no other function's goals."""
+    changed, function = set(functions_changed(edit)), function_of(edit)
+    return changed == {function.split("::")[-1]} or "+" in function and "" not in changed
+
+
+def rounds_of(edits):
+    """The edits in rounds, in each of which a check can tell them from each other."""
+    rounds = []
     for edit in edits:
-        if edit.name in faults:
-            said = faults[edit.name]
-            why = "not refused" if said is None else f"refused elsewhere than at `{edit.left}`: {said}"
-            print(f"{edit.name}: {why}", flush=True)
-    crates = len({it.crate for it in edits})
-    print(f"{len(edits) - len(faults)} wrong bodies of {crates} crates refused where they should be, {len(faults)} not", flush=True)
+        fitting = (it for it in rounds if function_of(edit) not in map(function_of, it) and all(map(is_apart, [edit, *it])))
+        fitting = (it for it in fitting if None not in texts_with([*it, edit]).values())
+        if one := next(fitting, None):
+            one.append(edit)
+        else:
+            rounds.append([edit])
+    return rounds
+
+
+def missed_in(edits, crates):
+    """Those of the edits of a round that are not refused where they should be, each with what is left open or else with what the check says."""
+    goals, lines = check(edits, crates)
+    elsewhere = {it.split()[0] for it in goals} - {function_of(it) for it in edits}
+    told = sorted(goals) or [it for it in lines if "error" in it] or lines
+    return [(it, "; ".join(told)[:MOST_TOLD]) for it in edits if it.left not in goals or elsewhere and len(edits) > 1]
+
+
+def try_crate(edits, crates):
+    """Tries edits of one crate, and returns those that are not refused where they should be."""
+    faults, rounds = [], rounds_of(edits)
+    # They become more meanwhile.
+    for tried in rounds:
+        missed = missed_in(tried, crates)
+        if len(tried) > 1:
+            rounds += [[it] for it, _ in missed]
+        else:
+            faults += [f"{it.name}: not refused where it should be; left open: {told}" for it, told in missed]
+    print(*faults, f"{edits[0].crate}: {len(edits) - len(faults)} of {len(edits)} wrong bodies refused where they should be", sep="\n", flush=True)
+    if not faults and len(edits) == len(edits_in(edits[0].crate)):
+        tried_file(edits[0].crate).write_text(f"{' '.join(checksums(edits[0].crate))} {len(edits)}\n")
+    return faults
+
+
+def try_edits(edits, crates):
+    """Tries edits over the libraries that were built in the folder `crates`, those of several crates side by side, notes on what all of a crate were
+    refused, and returns the number of those that were not refused where they should be."""
+    of_crates = collections.defaultdict(list)
+    for edit in edits:
+        of_crates[edit.crate].append(edit)
+    with futures.ThreadPoolExecutor(lanes()) as pool:
+        return sum(map(len, pool.map(lambda it: try_crate(it, crates), sorted(of_crates.values(), key=len, reverse=True))))

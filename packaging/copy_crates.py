@@ -9,9 +9,7 @@ import shutil
 import sys
 
 sys.path.insert(0, str(pathlib.Path(__file__).resolve().parent.parent / "bench"))
-from crate_list import folder_of, libraries_below, read_crates, read_lines
-
-PARTS = ("src", "specs", "proofs")
+from crate_list import copy_parts, libraries_below, read_crates, read_lines
 
 
 def main(*words):
@@ -22,9 +20,7 @@ def main(*words):
     lines = file.read_text().splitlines() if file.exists() else []
     for name in wanted:
         shutil.rmtree(pathlib.Path(to) / "crates" / name, ignore_errors=True)
-        for part in PARTS:
-            if (folder_of(name) / part).is_dir():
-                shutil.copytree(folder_of(name) / part, pathlib.Path(to) / "crates" / name / part)
+        copy_parts(name, pathlib.Path(to) / "crates" / name)
     kept = [it for it in lines if it.split(":")[0].split()[:1] not in [[name] for name in wanted]]
     file.write_text("\n".join([*kept, *(read_lines()[name] for name in wanted)]) + "\n")
     print(f"copied {len(wanted)} crates: {' '.join(wanted)}")
