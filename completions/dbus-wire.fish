@@ -18,7 +18,7 @@ complete -c dbus-wire -n '__fish_seen_subcommand_from swap' -l to -x -a 'l B' -d
 complete -c dbus-wire -n '__fish_seen_subcommand_from handshake' -l side -x -a 'client server' -d 'Whose lines they are'
 complete -c dbus-wire -n '__fish_seen_subcommand_from filter' -l invert -f -d 'Write the messages that match no rule'
 complete -c dbus-wire -n '__fish_seen_subcommand_from filter' -l owner -x -d 'The owner of a well-known name, NAME=UNIQUE'
-complete -c dbus-wire -n '__fish_seen_subcommand_from filter' -l learn-owners -f -d 'Owners are also those that the bus tells'
+complete -c dbus-wire -n '__fish_seen_subcommand_from filter' -l learn-owners -f -d 'Learn owners from signals of the bus'
 complete -c dbus-wire -n '__fish_seen_subcommand_from filter' -f -a 'type= sender= interface= member= path= path_namespace= destination='
 complete -c dbus-wire -n '__fish_seen_subcommand_from show json filter' -l skip -x -d 'Messages to skip first'
 complete -c dbus-wire -n '__fish_seen_subcommand_from show json filter' -l limit -x -d 'Most messages to write'

@@ -1,6 +1,6 @@
 //! The texts of help.
 
-// What stands after the help of a command: what it reads, what it writes, how it ends, and an
+// What follows the help of a command: what it reads, what it writes, how it ends, and an
 // example. With `going` it is of one that takes `--keep-going`.
 macro_rules! more {
     (going $output:literal, $example:literal) => {
@@ -18,11 +18,12 @@ macro_rules! more {
     ($output:literal, $going:literal, $example:literal) => {
         concat!(
             "Input:
-  Raw messages on standard input, one after the other, as
-  `dbus-monitor --binary` writes them. A message over one of the limits, which
-  the options of a command lower, is refused. With --handshake they follow what
-  that side of a connection sent before its messages; offsets count from the
-  first message.
+  Standard input: raw messages, one after the other, as `dbus-monitor --binary`
+  writes them; or a pcap or pcapng file, as `dbus-monitor --pcap` and
+  `busctl capture` write it, of which the D-Bus packets are read. With
+  --handshake the messages follow what that side of a connection sent before
+  them. Offsets count the bytes of messages, from the first one. A message over
+  one of the limits, which the options of a command lower, is refused.
 
 Output:",
             $output,
@@ -30,12 +31,14 @@ Output:",
             "
 
   With --explain three lines after a refusal say where the fault is, and what
-  has to be there.
+  has to be there. If a pcap or pcapng file cannot be read to its end, the last
+  line on standard error is `capture refused at P: NAME`, with the place in the
+  file.
 
 Exit status:
   0  the whole input is messages, or help was asked for
   1  the input is refused: it has bytes that are no message, or ends within one,
-     or does not begin with the handshake
+     or does not begin with the handshake; or its file cannot be read to the end
   2  the command line is wrong, or a limit is out of its range
   3  a read or a write failed, too many reads were made, or memory ran out
 
@@ -52,13 +55,13 @@ pub(crate) const VERSION: &str = "0.1.0";
 pub(crate) const PROGRAM: &str =
     "Reads D-Bus messages from standard input, and shows, checks, counts, swaps or filters them";
 
-/// What stands after the program's help.
+/// What follows the program's help.
 pub(crate) const PROGRAM_MORE: &str = more!(
     "
-  What the command makes of the messages, on standard output. If the input is
-  refused, `refused at P: NAME` gives the place, in bytes from its start, and the
-  reason. check writes that line to standard output; the others write it to
-  standard error, and what they wrote of the messages before that place stays.",
+  What the command writes of each message, on standard output. If the input is
+  refused, `refused at P: NAME` gives the place and the reason. check writes it
+  to standard output; the others write it to standard error, and what they wrote
+  of the messages before that place stays.",
     "",
     "
   dbus-monitor --session --binary > capture
@@ -68,7 +71,7 @@ pub(crate) const PROGRAM_MORE: &str = more!(
 /// What `show` does.
 pub(crate) const SHOW: &str = "Writes each message as text";
 
-/// What stands after the help of `show`.
+/// What follows the help of `show`.
 pub(crate) const SHOW_MORE: &str = more!(
     going "
   For each message a line on standard output with its number from 1, byte order,
@@ -81,14 +84,14 @@ pub(crate) const SHOW_MORE: &str = more!(
 /// What `json` does.
 pub(crate) const JSON: &str = "Writes each message as a line of JSON";
 
-/// What stands after the help of `json`.
+/// What follows the help of `json`.
 pub(crate) const JSON_MORE: &str = more!(
     going "
   For each message one line on standard output, an object: its number from 1,
-  its offset, in bytes from the start of the input, its length, order, type,
-  flags and serial, each header field by its name, fields of other codes in
-  `fields`, and the values of its body in `body`. If the input is refused,
-  `refused at P: NAME` on standard error.
+  its offset and its length in bytes, order, type, flags and serial, each header
+  field by its name, fields of other codes in `fields`, and the values of its
+  body in `body`. If the input is refused, `refused at P: NAME` on standard
+  error.
 
   JSON nests as deep as the message does, which can be over 128 levels: some
   parsers refuse that. Integers of 64 bits are written exactly; JavaScript
@@ -100,11 +103,11 @@ pub(crate) const JSON_MORE: &str = more!(
 /// What `check` does.
 pub(crate) const CHECK: &str = "Checks that the input is messages, and counts them";
 
-/// What stands after the help of `check`.
+/// What follows the help of `check`.
 pub(crate) const CHECK_MORE: &str = more!(
     going "
   One line on standard output: `ok N messages B bytes`, or `refused at P: NAME`
-  with the place, in bytes from the start of the input, and the reason.",
+  with the place and the reason.",
     "
   dbus-wire check < capture"
 );
@@ -112,7 +115,7 @@ pub(crate) const CHECK_MORE: &str = more!(
 /// What `count` does.
 pub(crate) const COUNT: &str = "Counts the messages of each type, sender, member and so on";
 
-/// What stands after the help of `count`.
+/// What follows the help of `count`.
 pub(crate) const COUNT_MORE: &str = more!(
     going "
   Tables on standard output: for each type, sender, destination, interface,
@@ -120,7 +123,7 @@ pub(crate) const COUNT_MORE: &str = more!(
   messages first. With --json each line is an object: the name behind its word,
   `messages` and `bytes`. If the input is refused, `refused at P: NAME` on
   standard error, and the tables are those of the messages before. Memory is
-  taken for each name, and not for each message.",
+  allocated for each name, and not for each message.",
     "
   dbus-wire count < capture | grep ' member '"
 );
@@ -131,7 +134,7 @@ pub(crate) const COUNT_JSON: &str = "Writes each line of the tables as JSON";
 /// What `swap` does.
 pub(crate) const SWAP: &str = "Writes each message in one byte order";
 
-/// What stands after the help of `swap`.
+/// What follows the help of `swap`.
 pub(crate) const SWAP_MORE: &str = more!(
     "
   The raw messages on standard output, each in the byte order that is named.
@@ -147,7 +150,7 @@ pub(crate) const ORDER: &str = "The byte order: l is little-endian, B is big-end
 /// What `filter` does.
 pub(crate) const FILTER: &str = "Writes the messages that match a rule, as they came";
 
-/// What stands after the help of `filter`.
+/// What follows the help of `filter`.
 pub(crate) const FILTER_MORE: &str = more!(
     going "
   The raw messages that match one of the rules, or with --invert none of them,
@@ -158,8 +161,8 @@ pub(crate) const FILTER_MORE: &str = more!(
   Who owns a well-known name is not known, so sender='org.a.B' matches only a
   message that has that name itself. With --owner org.a.B=:1.7 it also matches
   what :1.7 sent: `busctl --user list` prints unique names, and GetNameOwner of
-  the bus returns them. With --learn-owners the signals NameOwnerChanged of the
-  bus in the input tell the owners, each for the messages after it.",
+  the bus returns them. With --learn-owners the owners are also learned from the
+  signals NameOwnerChanged of the bus in the input, for the messages after each.",
     "
   dbus-wire filter \"type='signal',member='NameLost'\" < capture | dbus-wire show"
 );
@@ -174,7 +177,7 @@ pub(crate) const INVERT: &str = "Writes the messages that match none of the rule
 pub(crate) const OWNER: &str = "The owner of a name, as org.a.B=:1.7; any number";
 
 /// What `--learn-owners` of `filter` does.
-pub(crate) const LEARN_OWNERS: &str = "Owners are also those that the bus tells, from then on";
+pub(crate) const LEARN_OWNERS: &str = "Learns owners from the bus's signals, from then on";
 
 /// What `--explain` does.
 pub(crate) const EXPLAIN: &str = "Explains what is refused, in three more lines";
@@ -206,7 +209,7 @@ pub(crate) const HANDSHAKE: &str = "Whose handshake comes first: client or serve
 /// What `handshake` does.
 pub(crate) const HANDSHAKES: &str = "Lists the lines before the messages, and what each says";
 
-/// What stands after the help of `handshake`.
+/// What follows the help of `handshake`.
 pub(crate) const HANDSHAKES_MORE: &str = "Input:
   What one side of a connection sent, on standard input: a client the byte 0 and
   its lines up to BEGIN, a server its lines, of which one is OK, up to its first
