@@ -3,7 +3,7 @@
 # make quick-test  the tests, the cases and the examples of doc comments, without proofs: some minutes
 #                  It also holds the manual page and the completions against the texts of help
 # make api         prints docs/API.md, the calls of the libraries, out of the sources; make quick-test checks that it is current
-# make graph       writes which crate stands on which into docs/ARCHITECTURE.md; make definitions-check, and quick-test, check it
+# make graph       writes which crate uses which into docs/ARCHITECTURE.md; make definitions-check, and quick-test, check it
 # make definitions writes the tables of docs/DEFINITIONS.md and docs/WORKED-EXAMPLES.md out of the definitions and their examples; make definitions-check, and quick-test,
 # check them
 # make doc-examples builds and runs the examples of doc comments, without proofs: a minute. make quick-test does it too

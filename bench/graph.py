@@ -1,7 +1,7 @@
 #!/usr/bin/env python3
-"""graph.py [--check]: writes into docs/ARCHITECTURE.md which crate of the product stands on which, by the headings of crates.txt.
+"""graph.py [--check]: writes into docs/ARCHITECTURE.md which crate of the product uses which, by the headings of crates.txt.
 
-A library that another one on the line stands on is left out: what is written says all the rest. With --check nothing is written, and the exit
+A library that another one on the line uses is left out: the other line has it. With --check nothing is written, and the exit
 status is 1 if the page is not current.
 """
 
@@ -11,7 +11,7 @@ import sys
 from crate_list import ROOT, libraries_below, read_crates
 
 PAGE = ROOT / "docs" / "ARCHITECTURE.md"
-PICTURE = re.compile(r"(## Which crate stands on which\n(?:.*\n)*?```text\n)(?:.*\n)*?(```\n)")
+PICTURE = re.compile(r"(## Which crate uses which\n(?:.*\n)*?```text\n)(?:.*\n)*?(```\n)")
 # What comes after this heading is no part of the product.
 TESTS = "Tests"
 WIDTH = 22
@@ -30,7 +30,7 @@ def read_layers():
 
 
 def direct(crate, uses):
-    """The libraries that the crate uses and that none of its others stands on."""
+    """The libraries that the crate uses and that none of its others uses."""
     reached = {below for it in uses[crate] for below in libraries_below(it, uses)}
     return [it for it in dict.fromkeys(uses[crate]) if it not in reached]
 
@@ -49,7 +49,7 @@ def main(*words):
     if words != ("--check",):
         PAGE.write_text(new)
     elif new != old:
-        print("docs/ARCHITECTURE.md is not current: make graph writes which crate stands on which", file=sys.stderr)
+        print("docs/ARCHITECTURE.md is not current: make graph writes which crate uses which", file=sys.stderr)
         return 1
     return 0
 
