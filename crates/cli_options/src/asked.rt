@@ -9,7 +9,7 @@ use dbus_handshake_input::Side;
 pub enum Asked {
     /// A command over messages, by its settings.
     Messages(Command, Settings),
-    /// Tables of how many messages have each name, by these settings and in this form.
+    /// Tables of the number of messages with each name, by these settings and in this form.
     Count(Settings, CountForm),
     /// A list of the lines of this side's handshake.
     Handshake(Side),

@@ -24,10 +24,10 @@ struct Change<'a> {
 }
 
 impl Selection {
-    /// Learns what the message tells of the owner of a name that a rule's `sender` is, if the
-    /// selection learns: a signal `NameOwnerChanged` of the bus. `learned` are the owners that it
-    /// has known since it learned some; at first it is `None`, which stands for its own. D-Bus
-    /// Specification, "Message Bus Messages".
+    /// If the selection learns, learns the owner of a name that a rule's `sender` is from a signal
+    /// `NameOwnerChanged` of the bus. `learned` are the owners that it has known since it learned
+    /// some. At first it is `None`, and the owners are those of the selection. D-Bus Specification,
+    /// "Message Bus Messages".
     ///
     /// `AllocError`: an allocation failed. Then `learned` is `None`.
     pub fn learn(

@@ -15,8 +15,7 @@ pub struct Selection {
     pub is_inverted: bool,
     /// The owners of well-known names: `sender` with such a name also matches what its owner sent.
     pub owners: Vec<Owner>,
-    /// Whether the owners that the bus tells by its signals count from then on, in place of the old
-    /// ones.
+    /// Whether a signal of the bus that names an owner replaces the old ones from then on.
     pub learns: bool,
 }
 

@@ -1,11 +1,11 @@
 //! Which of the messages that a command selects it writes.
 
-/// Of the messages that a command selects, the first are skipped, and at most so many after these
-/// are written.
+/// Which of the messages that a command selects are written: `limit` at most, after the first
+/// `skip`.
 #[derive(Clone, Copy, PartialEq, Eq, Debug)]
 pub struct Window {
-    /// How many are skipped.
+    /// The number of messages that are skipped.
     pub skip: u32,
-    /// How many after these are written at most. Without it all are.
+    /// The most messages that are written after these. Without it all are.
     pub limit: Option<u32>,
 }

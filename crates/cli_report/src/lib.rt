@@ -1,8 +1,8 @@
 //! What a program over messages says on its writers, and how it ends.
 //!
 //! [`Gathered`] holds bytes until there are enough to write: [`put_out`] and [`write_out`] are its
-//! calls, and a [`Page`] is a text that goes there as it comes. [`refusal_text`] is what is told of
-//! a message that is refused, [`give_up`] tells why a run failed, and [`ExitStatus`] is how it
+//! calls, and a [`Page`] is a text that goes there as it comes. [`refusal_text`] is the report of a
+//! message that is refused, [`give_up`] reports why a run failed, and [`ExitStatus`] is how it
 //! ends.
 #![tactic(auto)]
 

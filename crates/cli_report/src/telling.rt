@@ -1,4 +1,4 @@
-//! What is told of a message that is refused.
+//! The report of a message that is refused.
 ghost use Rattle.std.specs.Prelude.{◌≡◌, IfOk, OnOk, string_bytes};
 ghost use Rattle.dbus_explain.specs.Explained.{IsExplained};
 ghost use Rattle.dbus_stream.specs.RawReading.{kept};
@@ -16,15 +16,14 @@ use std::alloc::{AllocError, Allocator};
 pub struct RefusedMessage {
     /// Its number among the messages of its input, from 1.
     pub number: u64,
-    /// Where it begins, in bytes from the start of the input.
+    /// The place of its first byte, in bytes from the start of the input.
     pub offset: u64,
     /// Its fault, whose place counts from its first byte.
     pub fault: Fault,
 }
 
-/// What is told of a message that is refused: its line, which says which one it is if the run goes
-/// on after it, and, if that is wanted, the lines that explain it by the bytes that the reader
-/// keeps.
+/// The report of a message that is refused: its line, which has its number if the run goes on after
+/// it, and, if that is wanted, the lines that explain it by the bytes that the reader keeps.
 ///
 /// `AllocError`: an allocation failed.
 pub fn refusal_text<R: Source, A: Allocator + Copy>(

@@ -59,8 +59,7 @@ pub struct ClientTurn<A: Allocator> {
 ///
 /// "Next" is: it asks for its next mechanism by AUTH, and without one left it is closed. EXTERNAL
 /// as a user sends the user in decimal and waits for OK; EXTERNAL without one sends no response and
-/// waits for DATA; ANONYMOUS sends its trace and waits for OK. The words of REJECTED are not looked
-/// at.
+/// waits for DATA; ANONYMOUS sends its trace and waits for OK. It ignores the words of REJECTED.
 ///
 /// | state | line | it does |
 /// | --- | --- | --- |
@@ -87,7 +86,7 @@ pub struct Client<A: Allocator = Global> {
 impl<A: Allocator + Copy> Client<A> {
     /// A client that has not started. It tries the mechanisms in their order.
     ///
-    /// They are handed back if a trace has over 255 bytes.
+    /// If a trace has over 255 bytes, the error returns them.
     pub fn new(mechanisms: Vec<Mechanism<A>, A>) -> Result<Self, Vec<Mechanism<A>, A>>
         ensures made { IfOk result (λ c. client_machine c ≡ fresh_client mechanisms.items) }
         // its mechanisms are those of the laws
@@ -317,7 +316,7 @@ fn auth_line_of<A: Allocator + Copy>(
     }
 }
 
-/// Where a client waits for the answer to a mechanism.
+/// The stage in which a client waits for the answer to a mechanism.
 fn stage_of<A: Allocator>(mechanism: &Mechanism<A>) -> ClientStage
     ensures { result ≡ stage_after (client_mechanism mechanism.now) }
 {

@@ -29,7 +29,7 @@ impl<A: Allocator + Copy> Machine<A> for Client<A> {
     }
 }
 
-/// What an act sends, and where the end stands then.
+/// What an act sends, and the status of the end after it.
 fn reply_to<A: Allocator + Copy>(alloc: A, act: &ClientAct<A>) -> Result<Reply<A>, AllocError>
     ensures { IfOk result (λ r.
         IsReply r (client_sends (client_action act.now)) (status_after (client_action act.now))) }
@@ -84,8 +84,7 @@ impl<A: Allocator + Copy> ClientEnd<A> {
     /// The first bytes to be sent: the byte 0 and the line that asks for the first mechanism. If
     /// there is no mechanism, no bytes, and the end is closed. The end must not have started.
     ///
-    /// Returns `AllocError` if an allocation failed. The end is unchanged then, and is to be
-    /// started again.
+    /// Returns `AllocError` if an allocation failed. The end is unchanged then: start it again.
     #[tactic(auto, unfolding(crate::specs::Ends::client_starts))]
     pub fn start(&mut self) -> Result<Vec<u8, A>, AllocError>
         requires { (client_end_state self.old).started ≡ false }
@@ -104,14 +103,14 @@ impl<A: Allocator + Copy> ClientEnd<A> {
         Ok(send)
     }
 
-    /// Takes at most one line of the piece, and answers it. If the piece holds more, the rest is
-    /// to be handed in again. The end must have started.
+    /// Takes at most one line of the piece, and answers it. If the piece holds more, pass the rest
+    /// again. The end must have started.
     ///
     /// A line with a fault closes the end: nothing is taken and nothing sent. An end that has begun
     /// or is closed takes and sends nothing, so nothing after the line of OK is taken.
     ///
-    /// Returns `AllocError` if an allocation failed. The end is unchanged then, and the same piece
-    /// is to be handed in again whole.
+    /// Returns `AllocError` if an allocation failed. The end is unchanged then: pass the same piece
+    /// again.
     ///
     /// ```rust
     /// use dbus_auth::{Client, ClientEnd, Mechanism, Status};

@@ -52,7 +52,7 @@ impl<M: Machine<A>, A: Allocator + Copy> End<M, A> {
     ghost use Rattle.dbus_auth.specs.Ends.{not_started, cuts, takes};
     ghost use Rattle.dbus_auth.specs.EndStepViews.{end_state, DidStep};
 
-    /// An end that was handed nothing. It allocates nothing yet.
+    /// An end that took nothing. It allocates nothing yet.
     #[tactic(auto, using(dbus_auth_lines::proofs::Scans::cut_empty))]
     pub(crate) fn new(alloc: A, machine: M) -> Self
         ensures { end_state M.shown result ≡ not_started (M.shown machine) }

@@ -9,7 +9,7 @@ pub enum Status {
     Talking,
     /// The handshake succeeded: the bytes that are not taken are messages.
     Begun,
-    /// The handshake failed: the connection is to be closed.
+    /// The handshake failed: close the connection.
     Closed,
 }
 
@@ -17,9 +17,9 @@ pub enum Status {
 #[derive(Debug, Drop)]
 #[derive_where(PartialEq, Eq)]
 pub struct EndStep<A: Allocator = Global> {
-    /// The number of bytes of the piece that were taken. The others are to be handed in again.
+    /// The number of bytes of the piece that were taken. Pass the others again.
     pub taken: usize,
-    /// The bytes that are to be sent to the peer, which may be none.
+    /// The bytes to send to the peer, which may be none.
     pub send: Vec<u8, A>,
     /// The end's status now.
     pub status: Status,

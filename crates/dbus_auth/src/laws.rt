@@ -19,9 +19,9 @@ use crate::server::ServerAct;
 pub use dbus_auth_lines::laws::{first_line_law, line_meaning_law, written_line_law};
 use std::alloc::Allocator;
 
-/// The two ends agree, in whatever order they are called, in whatever pieces their bytes are handed
-/// over, and whatever their callers send once they have begun. Of every server of `Server::new`,
-/// every client of `Client::new` and every list of events it says:
+/// The two ends agree, in whatever order they are called, in whatever pieces they get their bytes,
+/// and whatever their callers send once they have begun. Of every server of `Server::new`, every
+/// client of `Client::new` and every list of events it says:
 ///
 /// - a server that has begun has a client that has begun;
 /// - a client that has begun has the server's GUID, and the server waits for BEGIN or has begun;
@@ -40,7 +40,7 @@ pub fn handshake_law()
 
 /// Whoever its peer is and whatever it sends, a server's end that has begun sent OK as its last
 /// line other than ERROR. And the lines that it sends and its last status do not depend on how the
-/// bytes are cut, if what a call leaves is handed in again; some way to cut them comes to an end.
+/// bytes are cut, if what a call leaves is passed again; some way to cut them comes to an end.
 pub fn any_peer_law()
     ensures last_ok { (s : ServerMachine) (bytes ns : List ℕ) →
         (run_server (server_at_first s) bytes ns).after.status ≡ status.Begun →

@@ -10,15 +10,15 @@
 //!
 //! # What a caller owes
 //!
-//! **The user that is handed to [`Server::new`] has to be the one that the transport reports**, as
-//! `SO_PEERCRED` does for a Unix socket, and not the one that the caller would like to see. `AUTH
-//! EXTERNAL` with an empty identity means "the user that you see", and the server lets it in. So a
-//! server made with a user that it did not learn from the transport lets anybody in as that user. A
-//! server whose transport reports no user is made with `None`, and then offers no EXTERNAL.
+//! **The user that [`Server::new`] gets has to be the one that the transport reports**, as
+//! `SO_PEERCRED` does for a Unix socket, and not the one that the caller expects. `AUTH EXTERNAL`
+//! with an empty identity means "the user that you see", and the server lets it in. So a server
+//! made with a user that it did not learn from the transport lets anybody in as that user. A server
+//! whose transport reports no user is made with `None`, and then offers no EXTERNAL.
 //!
 //! # This profile
 //!
-//! EXTERNAL and ANONYMOUS are the mechanisms. NEGOTIATE_UNIX_FD is answered by ERROR, since no
+//! EXTERNAL and ANONYMOUS are the mechanisms. A server answers NEGOTIATE_UNIX_FD by ERROR, since no
 //! descriptors are passed. A line has at most 16,384 bytes with its CR LF.
 //!
 //! All is from the D-Bus Specification, section "Authentication Protocol".

@@ -29,7 +29,7 @@ impl<A: Allocator + Copy> Machine<A> for Server {
     }
 }
 
-/// What an act sends, and where the end stands then.
+/// What an act sends, and the status of the end after it.
 fn reply_to<A: Allocator + Copy>(alloc: A, act: &ServerAct<A>) -> Result<Reply<A>, AllocError>
     ensures { IfOk result (λ r.
         IsReply r (server_sends (server_action act.now)) (status_after (server_action act.now))) }
@@ -64,14 +64,14 @@ impl<A: Allocator + Copy> ServerEnd<A> {
     }
 
     /// Takes at most one line of the piece, with the byte 0 before the first line, and answers it.
-    /// If the piece holds more, the rest is to be handed in again.
+    /// If the piece holds more, pass the rest again.
     ///
     /// A first byte other than 0 and a line with a fault close the end: nothing is taken and
     /// nothing sent. An end that has begun or is closed takes and sends nothing, so nothing after
     /// BEGIN is taken.
     ///
-    /// Returns `AllocError` if an allocation failed. The end is unchanged then, and the same piece
-    /// is to be handed in again whole.
+    /// Returns `AllocError` if an allocation failed. The end is unchanged then: pass the same piece
+    /// again.
     ///
     /// ```rust
     /// use dbus_auth::{Guid, Server, ServerEnd, Status};

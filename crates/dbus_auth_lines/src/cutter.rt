@@ -76,11 +76,11 @@ impl<A: Allocator + Copy> LineCutter<A> {
 
     /// Takes the bytes of the piece up to the end of the line, and gives the line without its CR
     /// LF, with the number of bytes taken. If no line ends in the piece, takes all of it and gives
-    /// `None`. The rest of a piece is to be handed in again.
+    /// `None`. Pass the rest of the piece again.
     ///
-    /// If a byte has a fault before any line ends, returns the first one's and takes nothing. That
-    /// answer stays from then on. Returns `Memory` if an allocation failed: the cutter is unchanged
-    /// then, and the same piece is to be handed in again.
+    /// If a byte has a fault before any line ends, returns the first such fault and takes nothing;
+    /// each later call returns it too. Returns `Memory` if an allocation failed: the cutter is
+    /// unchanged then, so pass the same piece again.
     #[tactic(auto, using(crate::proofs::Cuts::takes_as))]
     pub fn take(&mut self, piece: &[u8]) -> Result<(usize, Option<Vec<u8, A>>), LineFault>
         ensures taken { (cutter_state self.old).fault ≡ None → (b : Beginning) →

@@ -7,8 +7,8 @@
 //! line that bytes begin with, and [`client_words`] and [`server_words`] say what it means, by
 //! places in it.
 //!
-//! [`scanning`] and [`writing`] hold what an end of a connection works with beside these: where the
-//! first line ends of bytes that it keeps itself, and a line's bytes.
+//! [`scanning`] and [`writing`] have what an end of a connection needs beside these: the end of the
+//! first line in bytes that it keeps itself, and a line's bytes.
 //!
 //! All is from the D-Bus Specification, section "Authentication Protocol".
 #![tactic(auto)]

@@ -1,4 +1,4 @@
-//! What a line means, by the places of its words. It takes no memory. D-Bus Specification,
+//! What a line means, by the places of its words. It allocates nothing. D-Bus Specification,
 //! "Authentication Protocol", "Protocol Overview" and the sections of each command.
 
 ghost use Rattle.std.specs.Prelude.{◌≡◌, ℕ, ◌≤◌, length, drop, List, codes, bytes_eq};
@@ -20,7 +20,7 @@ pub enum ClientWords {
     AuthBy {
         /// The mechanism's name.
         mech: WordPlace,
-        /// The response's hexadecimal digits, or no bytes where the mechanism ends.
+        /// The response's hexadecimal digits, or no bytes at the mechanism's end.
         response: WordPlace,
     },
     /// `CANCEL`, which gives the mechanism up.
@@ -56,7 +56,7 @@ pub enum ServerWords {
 }
 
 /// What a line of a client means, given without its CR LF, as [`crate::read_client`] says, without
-/// memory for its words: each is told by its own place, also if another has the same bytes.
+/// memory for its words: each is returned by its own place, also if another has the same bytes.
 pub fn client_words(line: &[u8]) -> ClientWords
     ensures says { SaysToServer line.now result (client_meaning line.now) }
     ensures places { AreClientPlaces line.now (length (command_name line.now)) result }
@@ -72,7 +72,7 @@ pub fn client_words(line: &[u8]) -> ClientWords
 }
 
 /// What a line of a server means, given without its CR LF, as [`crate::read_server`] says, without
-/// memory for its words, which are told by their places as [`client_words`] tells them.
+/// memory for its words, which are returned by their places as by [`client_words`].
 pub fn server_words(line: &[u8]) -> ServerWords
     ensures says { SaysToClient line.now result (server_meaning line.now) }
     ensures places { AreServerPlaces line.now (length (command_name line.now)) result }

@@ -1,5 +1,5 @@
-//! Where the first line of some bytes ends, for an end of a connection that keeps the bytes of an
-//! unfinished line, and for who has all bytes.
+//! The end of the first line of some bytes: for an end of a connection that keeps the bytes of an
+//! unfinished line, and for a caller that has all bytes.
 
 ghost use Rattle.std.specs.Prelude.{◌≡◌, ◌++◌, ◌-◌, ◌≤◌, ℕ, length, take, false, IfOk, MatchOption, MatchResult};
 ghost use Rattle.dbus_auth_lines.specs.Cut.{passes_limit, is_bad, scan_from, cut, Ends, More, Beginning, BeginsAs, Faulty, Unfinished, WholeLine};
@@ -30,7 +30,7 @@ pub enum Found {
     More,
 }
 
-/// Where the line ends that the bytes kept and the piece begin with, or the first fault. In the
+/// The end of the line that the bytes kept and the piece begin with, or the first fault. In the
 /// bytes kept no line ends, and none has a fault.
 #[tactic(auto, using(crate::proofs::Cuts::kept_within, crate::proofs::Cuts::resumes, crate::proofs::Cuts::is_within))]
 pub fn find(kept: &[u8], piece: &[u8]) -> Found
@@ -43,7 +43,7 @@ pub fn find(kept: &[u8], piece: &[u8]) -> Found
 
 /// The line that the bytes begin with, without its CR LF; `None` if more bytes are wanted, since
 /// they are a prefix of a line and not all of it. Returns the first fault if one comes before any
-/// line ends. It takes no memory.
+/// line ends. It allocates nothing.
 #[tactic(auto, using(crate::proofs::Scans::cut_empty, crate::proofs::Cuts::whole_line, crate::proofs::Cuts::faulty_line, crate::proofs::Cuts::no_line))]
 pub fn first_line(bytes: &[u8]) -> Result<Option<&[u8]>, BadLine>
     ensures { (b : Beginning) → BeginsAs bytes.now b →

@@ -5,7 +5,7 @@ ghost use Rattle.std.specs.Prelude.{◌≡◌, ◌≢◌, ℕ, ◌+◌, ◌<◌,
 ghost use Rattle.dbus_auth_lines.specs.Lines.{alone, command_name, words, at_word_end};
 ghost use Rattle.dbus_auth_lines.specs.WordPlaces.{AreNextWords, AreSpaces, IsNextWord, IsWithin, IsWordOrNone, one_word, text_at};
 
-/// Where a text stands in a line. If there is no such text, it has no bytes.
+/// The place of a text in a line. If there is no such text, it has no bytes.
 #[derive(Clone, Copy, PartialEq, Eq, Debug, Drop)]
 pub struct WordPlace {
     /// Its offset, in bytes from the line's first.

@@ -13,15 +13,15 @@ use std::alloc::{AllocError, Allocator};
 /// The place of an array whose elements are still to come.
 #[derive(Clone, Copy, PartialEq, Eq, Debug, Drop)]
 pub struct OpenArray {
-    /// Where the four bytes of its length are, in bytes from the first.
+    /// The offset of the four bytes of its length.
     pub length_at: usize,
-    /// Where its elements begin.
+    /// The offset of its first element.
     pub start: usize,
 }
 
-/// Appends what stands before the elements of an array: padding, four zero bytes for the length,
-/// and the padding before an element of this alignment, also if there is none. The alignment is 1,
-/// 2, 4 or 8, that of the elements' type.
+/// Appends what comes before the elements of an array: padding, four zero bytes for the length, and
+/// the padding before an element of this alignment, also if there is none. The alignment is 1, 2, 4
+/// or 8, that of the elements' type.
 ///
 /// The error is that an allocation failed, only if the capacity was too small; then the bytes are
 /// as they were. D-Bus Specification, "Marshaling (Wire Format)".
@@ -60,11 +60,11 @@ pub fn open_array<A: Allocator>(
     })
 }
 
-/// Writes the length of the array that was opened at this place: the number of bytes from where its
-/// elements begin up to the end.
+/// Writes the length of the array that was opened at this place: the number of bytes from its first
+/// element to the end.
 ///
 /// `TooLong` if these are 4,294,967,296 bytes or more. `NotOpen` if the place does not lie within
-/// the bytes. After an error the bytes are as they were. It takes no memory. D-Bus Specification,
+/// the bytes. After an error the bytes are as they were. It allocates nothing. D-Bus Specification,
 /// "Marshaling (Wire Format)".
 pub fn close_array(out: &mut [u8], order: Order, array: OpenArray) -> Result<(), PutFault>
     ensures closed { OnOk result (out.new ≡ closed order array out.old) }

@@ -2,12 +2,12 @@
 //! Specification, "Marshaling (Wire Format)".
 //!
 //! [`put_number`], [`put_text`] and [`put_signature`] append a basic value, in the byte order that
-//! is named. [`open_array`] and [`close_array`] stand around the elements of an array,
+//! is named. Call [`open_array`] before the elements of an array and [`close_array`] after them,
 //! [`begin_struct`] before the fields of a struct or dict entry, and [`put_signature`] before the
 //! value in a variant. The bytes begin at a multiple of 8, as a body does, so their length is the
 //! offset.
 //!
-//! What stands within what is the caller's: the calls do not compare it with a signature. Validate
+//! The caller sees to what is within what: the calls do not compare it with a signature. Validate
 //! what is spelled, or build a message of it by `dbus_c_build::build`, which does. The laws say
 //! what each row of calls spells.
 #![tactic(auto)]

@@ -32,7 +32,7 @@ pub(crate) fn put_padding<A: Allocator>(
 
 /// Appends a number of `width` bytes, which is its alignment too, after its padding. `bits` are the
 /// bytes of a signed number or a DOUBLE as those of an unsigned one, and 0 or 1 stand for a
-/// BOOLEAN; what has no place in the width is left out.
+/// BOOLEAN; higher bits are left out.
 ///
 /// The width is 1, 2, 4 or 8, that of the type. The error is that an allocation failed, only if the
 /// capacity was too small; then the bytes are as they were. D-Bus Specification, "Marshaling (Wire
@@ -60,7 +60,7 @@ pub fn put_number<A: Allocator>(
 }
 
 /// Appends a STRING or an OBJECT_PATH: padding, the length of the text in four bytes, the text and
-/// a zero byte. Whether the text is one is not looked at.
+/// a zero byte. It does not check the text.
 ///
 /// `TooLong` exactly if the text has 4,294,967,296 bytes or more. `Memory` if an allocation failed,
 /// only if the capacity was too small. After an error the bytes are as they were. D-Bus
@@ -88,9 +88,9 @@ pub fn put_text<A: Allocator>(
     Ok(())
 }
 
-/// Appends a SIGNATURE, or what stands before the value in a variant: the length of the text in one
-/// byte, the text and a zero byte, which are the same in either byte order. Whether the text is a
-/// signature is not looked at.
+/// Appends a SIGNATURE, or what comes before the value in a variant: the length of the text in one
+/// byte, the text and a zero byte, which are the same in either byte order. It does not check the
+/// text.
 ///
 /// `TooLong` exactly if the text has more than 255 bytes. `Memory` if an allocation failed, only if
 /// the capacity was too small. After an error the bytes are as they were. D-Bus Specification,

@@ -1,10 +1,10 @@
 //! The same calls over the caller's bytes, which do not grow. D-Bus Specification, "Marshaling
 //! (Wire Format)".
 //!
-//! What is spelled stands in `out` from its first byte up to `at`. Each call gives where it ends
-//! then; the bytes after that may have changed. If `at` or that end is past the end of `out`, it
-//! gives nothing, and `out` stays as it was. [`crate::close_array`] closes an array, of the bytes
-//! up to where its elements end.
+//! What is spelled is in `out` from its first byte up to `at`. Each call returns the new end; the
+//! bytes after that may have changed. If `at` or that end is past the end of `out`, it returns
+//! nothing, and `out` stays as it was. [`crate::close_array`] closes an array, in the bytes up to
+//! the end of its elements.
 #![tactic(auto, using(dbus_marshal::proofs::Written::lengths, dbus_value_model::proofs::Periods::gap_below))]
 
 ghost use Rattle.std.specs.Prelude.{◌≡◌, ◌+◌, ◌<◌, ◌≤◌, ◌^◌, ◌++◌, List, ℕ, length, take, Some, None, MatchOption, IsTrue, IsFalse};
@@ -73,8 +73,8 @@ pub fn struct_in(out: &mut [u8], at: usize) -> Option<usize>
     Some(write_padding(out, at, 8))
 }
 
-/// Puts what stands before the elements of an array, as [`crate::open_array`] does, and gives its
-/// place: where its elements begin, these bytes end.
+/// Puts what comes before the elements of an array, as [`crate::open_array`] does, and returns its
+/// place: its elements begin at the end of these bytes.
 pub fn array_in(out: &mut [u8], at: usize, alignment: u8) -> Option<OpenArray>
     requires { 0 < alignment }
     ensures { MatchOption result (Puts (opened alignment) at out.old None out.new)

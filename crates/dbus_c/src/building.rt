@@ -1,5 +1,4 @@
-//! A message built of parts in numbers, which are those that are told of one that is taken apart,
-//! or changed by them.
+//! A message built from parts in numbers, as `dbus_wire_parts_of` writes them, or changed by them.
 #![tactic(auto)]
 
 ghost use Rattle.std.specs.Prelude.{◌≡◌, ◌<◌, ◌≤◌, ◌++◌, length, drop, nat_eq, if◌then◌else◌, MatchOption, MatchResult};
@@ -31,14 +30,14 @@ use std::alloc::Global;
 /// these in the order of their codes, and no UNIX_FDS of 0.
 ///
 /// [`WHOLE`] if it is written; `told` has its length and order. [`NO_ROOM`] if `out` has fewer
-/// bytes than the message, with the same told. [`REFUSED`] if no message within the limits has
+/// bytes than the message, with the same in `told`. [`REFUSED`] if no message within the limits has
 /// these parts. Then `told` has the reason and the field: what [`crate::dbus_wire_check`] finds in
 /// the bytes that the parts spell; or `Overrun` if a place is outside `bytes`, or a number over 255
 /// stands for a byte; `MessageTooLong` or `Signature` if a text is too long for any message;
-/// `ByteOrder` if no order is named. Of several the first is told: the order, the numbers, the
-/// body, each field in the order of the codes, all fields, the bytes. [`NO_MEMORY`] if memory runs
-/// out, of which it takes one block for a header of up to 512 bytes. In these three cases `out`
-/// stays as it was. D-Bus Specification, "Message Format" and "Header Fields".
+/// `ByteOrder` if no order is named. Of several faults the first is reported: the order, the
+/// numbers, the body, each field in the order of the codes, all fields, the bytes. [`NO_MEMORY`] if
+/// memory runs out, of which it takes one block for a header of up to 512 bytes. In these three
+/// cases `out` stays as it was. D-Bus Specification, "Message Format" and "Header Fields".
 #[unsafe(no_mangle)]
 pub extern "C" fn dbus_wire_build(
     alloc: Global,
@@ -64,10 +63,10 @@ pub extern "C" fn dbus_wire_build(
 /// have, in the order of their codes. The parts of the message, as [`crate::dbus_wire_parts_of`]
 /// writes them, leave it as it is, byte for byte.
 ///
-/// It answers as [`dbus_wire_build`], but takes the byte order of the message alone: `ByteOrder` is
-/// told of any other. A UNIX_FDS of 0 stays if the parts have 0. If the bytes begin with no message
-/// within the limits, it answers as [`crate::dbus_wire_check`], and `out` stays as it was. D-Bus
-/// Specification, "Message Format" and "Header Fields".
+/// It returns what [`dbus_wire_build`] does, but takes the byte order of the message alone: for any
+/// other it reports `ByteOrder`. A UNIX_FDS of 0 stays if the parts have 0. If the bytes begin with
+/// no message within the limits, it returns what [`crate::dbus_wire_check`] does, and `out` stays
+/// as it was. D-Bus Specification, "Message Format" and "Header Fields".
 #[unsafe(no_mangle)]
 pub extern "C" fn dbus_wire_rebuild(
     alloc: Global,

@@ -12,11 +12,12 @@ use dbus_c_handle::WireHandle;
 use dbus_check::Check;
 use std::alloc::Global;
 
-/// What is told of a piece beside the answer. A number that the answer does not speak of is 0.
+/// What is reported of a piece beside the answer. Fields that do not apply are 0.
 #[repr(C)]
 #[derive(Drop)]
 pub struct Taken {
-    /// How many bytes of the piece were taken: those up to the end of the message, else all.
+    /// The number of bytes of the piece that were taken: those up to the end of the message, else
+    /// all.
     pub count: u64,
     /// Of a fault: its offset, in bytes from the first of the message.
     pub offset: u64,
@@ -26,7 +27,7 @@ pub struct Taken {
     pub field: u32,
 }
 
-/// Makes a checker that was handed nothing, and takes messages within the limits: [`WHOLE`], or
+/// Makes a checker that took nothing yet, and takes messages within the limits: [`WHOLE`], or
 /// [`NO_MEMORY`] if memory runs out; then there is none. It takes two blocks of memory, of some
 /// 40,000 bytes and a few. What the handle kept is not freed.
 #[unsafe(no_mangle)]
@@ -47,9 +48,9 @@ pub extern "C" fn dbus_wire_checker_new(
 ///
 /// Of all bytes that it took since it was made or began again, and the piece: [`WHOLE`] if they
 /// begin with a message within its limits, [`REFUSED`] with the fault, [`PARTIAL`] if more bytes
-/// are needed. After [`WHOLE`] it takes nothing, and after [`REFUSED`] it tells the same fault,
-/// until [`dbus_wire_checker_restart`]. [`NO_CHECKER`] if there is none; then nothing is told. It
-/// allocates nothing. D-Bus Specification, "Message Protocol".
+/// are needed. After [`WHOLE`] it takes nothing, and after [`REFUSED`] it reports the same fault,
+/// until [`dbus_wire_checker_restart`]. [`NO_CHECKER`] if there is none; then nothing is written.
+/// It allocates nothing. D-Bus Specification, "Message Protocol".
 #[unsafe(no_mangle)]
 pub extern "C" fn dbus_wire_checker_take(
     alloc: Global,
@@ -68,8 +69,8 @@ pub extern "C" fn dbus_wire_checker_take(
     }
 }
 
-/// Begins again, under the same limits: nothing was handed. [`WHOLE`]; [`NO_CHECKER`] if there is
-/// none.
+/// Begins again, under the same limits, as if it took nothing yet. [`WHOLE`]; [`NO_CHECKER`] if
+/// there is none.
 #[unsafe(no_mangle)]
 pub extern "C" fn dbus_wire_checker_restart(alloc: Global, checker: &mut WireHandle) -> u32
     ensures { TellsRestart checker.old.state checker.new.state result }

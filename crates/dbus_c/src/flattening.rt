@@ -31,13 +31,13 @@ pub(crate) enum Part {
 /// Writes items of the body of the message within the limits that the bytes begin with: a row of
 /// one for each value and all its parts, each container before its parts. Those from place `first`
 /// of the row on, which begins at 0, go to the start of `items`, as many as it has room for; what
-/// stands after them stays. Writes to `count` how many the whole row has.
+/// is after them stays as it was. Writes to `count` the number of items of the whole row.
 ///
 /// [`WHOLE`] if there is room for all from `first` on, else [`NO_ROOM`]: the same call at a place
 /// after those written goes on. If the bytes begin with no message, [`crate::PARTIAL`] or
 /// [`crate::REFUSED`], as [`crate::dbus_wire_check`], which reports why; then `items` and `count`
-/// stay as they are. Each call goes over all of the message twice, to validate it and for the
-/// items, whatever room there is, and allocates nothing. D-Bus Specification, "Message Format".
+/// stay as they are. Whatever room there is, each call validates the whole message and then walks
+/// it once. It allocates nothing. D-Bus Specification, "Message Format".
 #[unsafe(no_mangle)]
 pub extern "C" fn dbus_wire_flatten(
     bytes: &[u8],
@@ -58,7 +58,7 @@ pub extern "C" fn dbus_wire_flatten(
 /// Writes the items of the array of the header fields of the message within the limits that the
 /// bytes begin with, as [`dbus_wire_flatten`] does those of its body: the first is that of the
 /// array, and then comes each field, a struct, with its code and the variant of its value. It
-/// answers as [`dbus_wire_flatten`] does. D-Bus Specification, "Header Fields".
+/// returns what [`dbus_wire_flatten`] does. D-Bus Specification, "Header Fields".
 #[unsafe(no_mangle)]
 pub extern "C" fn dbus_wire_flatten_fields(
     bytes: &[u8],

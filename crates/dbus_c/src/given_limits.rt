@@ -1,4 +1,4 @@
-//! The limits that a caller in C hands in.
+//! The limits that a caller in C passes.
 #![tactic(auto)]
 
 ghost use Rattle.std.specs.Prelude.{◌≡◌, min};

@@ -16,9 +16,9 @@ use std::alloc::{AllocError, Global};
 #[repr(C)]
 #[derive(Drop)]
 pub struct HandshakeStep {
-    /// How many bytes of the piece were taken. The others are to be handed in again.
+    /// The number of bytes of the piece that were taken. Pass the others again.
     pub count: u64,
-    /// How many bytes were written, which are to be sent to the peer.
+    /// The number of bytes that were written: send them to the peer.
     pub reply: u64,
 }
 
@@ -63,8 +63,8 @@ pub extern "C" fn dbus_wire_client_new(
 /// failed; from then on nothing is taken and nothing sent, so what follows `BEGIN`, or the line of
 /// `OK`, is left. The first call on a client takes nothing and writes the byte 0 and its first
 /// line. [`NO_ROOM`] if `reply` has less room than [`dbus_c_auth::REPLY_ROOM`], [`NO_MEMORY`] if
-/// memory runs out, [`NO_HANDSHAKE`] if there is no end: then nothing is changed, and nothing told.
-/// D-Bus Specification, "Authentication Protocol".
+/// memory runs out, [`NO_HANDSHAKE`] if there is no end: then nothing is changed or written. D-Bus
+/// Specification, "Authentication Protocol".
 #[unsafe(no_mangle)]
 pub extern "C" fn dbus_wire_handshake_take(
     alloc: Global,

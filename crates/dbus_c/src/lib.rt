@@ -1,11 +1,11 @@
 //! The wire format for C: calls that a static library exports, over numbers and the caller's bytes.
 //! D-Bus Specification, "Message Protocol", "Match Rules" and "Authentication Protocol".
 //!
-//! [`dbus_wire_check`] checks bytes, [`dbus_wire_wanted`] says how many to read,
+//! [`dbus_wire_check`] checks bytes, [`dbus_wire_wanted`] returns how many to read,
 //! [`dbus_wire_parts_of`] gives a message's parts, and [`dbus_wire_swap`] byteswaps.
 //! [`dbus_wire_flatten`] gives all values of its body as one row of items, and
 //! [`dbus_wire_flatten_fields`] those of its header fields. [`dbus_wire_checker_new`] makes a
-//! checker that is handed one piece after another, and [`dbus_wire_rules_add`] keeps match rules,
+//! checker that takes one piece after another, and [`dbus_wire_rules_add`] keeps match rules,
 //! [`dbus_wire_rules_owner`] the owners of names that their senders may be;
 //! [`dbus_wire_server_new`] and [`dbus_wire_client_new`] make an end of a handshake;
 //! [`dbus_wire_client_line`] and [`dbus_wire_server_line`] give the lines of one between others,

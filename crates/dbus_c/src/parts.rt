@@ -19,7 +19,7 @@ use dbus_message_model::field_code::{
 use dbus_validate::FieldPlaces;
 use dbus_value_model::Order;
 
-/// Where a text, as that of a header field, is among the bytes that were handed in.
+/// The place of a text, such as that of a header field, in the caller's bytes.
 #[repr(C)]
 #[derive(Drop)]
 pub struct TextPlace {
@@ -37,8 +37,8 @@ pub struct TextPlace {
 pub struct WireParts {
     /// The number of bytes that it has.
     pub length: u64,
-    /// The offset of its body, which begins after the header and its padding, and ends where the
-    /// message does: also where it is empty.
+    /// The offset of its body, which begins after the header and its padding, also if it is empty,
+    /// and ends at the end of the message.
     pub body: u64,
     /// Its first byte, `l` or `B`, which names its byte order.
     pub order: u32,

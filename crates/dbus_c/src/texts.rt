@@ -13,7 +13,7 @@ use dbus_texts::{TextKind, text_break};
 #[repr(C)]
 #[derive(Drop)]
 pub struct TextChecked {
-    /// Of a text that is refused and not too long: where it breaks, in bytes from the first.
+    /// Of a text that is refused and not too long: its break, in bytes from the first.
     pub offset: u64,
     /// 1 if the text has more bytes than its kind allows; else 0.
     pub is_too_long: u32,
@@ -26,8 +26,8 @@ pub struct TextChecked {
 ///
 /// A text is too long if it has more than 255 bytes and is not a STRING or an object path; this
 /// comes first. Else it breaks at the length of its longest prefix with which some text of the kind
-/// begins, limits on length lifted. [`NO_KIND`] if there is no kind of this number; `out` then
-/// stays as it is. It allocates nothing.
+/// begins, limits on length aside. [`NO_KIND`] if there is no kind of this number; `out` then stays
+/// as it is. It allocates nothing.
 ///
 /// D-Bus Specification, "Basic types", "Valid Object Paths", "Valid Names", "Valid Signatures".
 #[unsafe(no_mangle)]

@@ -20,7 +20,7 @@ use dbus_body::{OpenArray, close_array};
 #[repr(C)]
 #[derive(Drop)]
 pub struct Writer {
-    /// How many bytes are spelled, from the first on.
+    /// The number of bytes that are spelled, from the first on.
     pub length: u64,
     /// The byte order: big if it is `B`, else little.
     pub order: u32,
@@ -32,9 +32,9 @@ pub struct Writer {
 #[repr(C)]
 #[derive(Drop)]
 pub struct WireArray {
-    /// Where the four bytes of its length are, in bytes from the first.
+    /// The offset of the four bytes of its length.
     pub length_at: u64,
-    /// Where its elements begin.
+    /// The offset of its first element.
     pub start: u64,
 }
 
@@ -67,7 +67,7 @@ fn width_named(number: u32) -> Option<u8>
 
 /// Puts a number of `width` bytes, 1, 2, 4 or 8, after what is spelled, with the padding before it.
 /// `bits` are the bytes of a signed number or a DOUBLE as those of an unsigned one, and 0 or 1
-/// stand for a BOOLEAN; what has no place in the width is left out.
+/// stand for a BOOLEAN; higher bits are left out.
 ///
 /// [`WHOLE`] if it is put. [`NO_ROOM`] if `out` has fewer bytes than what would be spelled, and
 /// [`NO_KIND`] if no number has this width; in these two cases all stays. The bytes of `out` after
@@ -95,7 +95,7 @@ pub extern "C" fn dbus_wire_put_number(
 }
 
 /// Puts a STRING or an OBJECT_PATH after what is spelled: padding, the length of the text in four
-/// bytes, the text and a zero byte. Whether the text is one is not looked at.
+/// bytes, the text and a zero byte. It does not check the text.
 ///
 /// [`WHOLE`] if it is put. [`NO_ROOM`] if `out` has fewer bytes than what would be spelled, and
 /// [`REFUSED`] if the text has 4,294,967,296 bytes or more; in these two cases all stays. The bytes
@@ -117,9 +117,8 @@ pub extern "C" fn dbus_wire_put_text(out: &mut [u8], writer: &mut Writer, text: 
     put_to(writer, end)
 }
 
-/// Puts a SIGNATURE after what is spelled, or what stands before the value in a variant: the length
-/// of the text in one byte, the text and a zero byte. Whether the text is a signature is not looked
-/// at.
+/// Puts a SIGNATURE after what is spelled, or what comes before the value in a variant: the length
+/// of the text in one byte, the text and a zero byte. It does not check the text.
 ///
 /// [`WHOLE`] if it is put. [`NO_ROOM`] if `out` has fewer bytes than what would be spelled, and
 /// [`REFUSED`] if the text has more than 255 bytes; in these two cases all stays. The bytes of
@@ -153,7 +152,7 @@ pub extern "C" fn dbus_wire_begin_struct(out: &mut [u8], writer: &mut Writer) ->
     put_to(writer, end)
 }
 
-/// Puts what stands before the elements of an array after what is spelled, and writes its place:
+/// Puts what comes before the elements of an array after what is spelled, and writes its place:
 /// padding, four bytes for the length, and the padding before an element of this alignment, 1, 2, 4
 /// or 8, also if there is none.
 ///
@@ -192,8 +191,8 @@ pub extern "C" fn dbus_wire_open_array(
     }
 }
 
-/// Writes the length of the array that was opened at this place: the number of bytes from where its
-/// elements begin up to the end of what is spelled.
+/// Writes the length of the array that was opened at this place: the number of bytes from its first
+/// element to the end of what is spelled.
 ///
 /// [`WHOLE`] if it is written. [`REFUSED`] if the place does not lie within what is spelled, this
 /// not within `out`, or the elements have 4,294,967,296 bytes or more; then all stays. It allocates

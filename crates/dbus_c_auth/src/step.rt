@@ -1,4 +1,4 @@
-//! What a call of an end does: how many bytes it took, and what it wrote.
+//! What a call of an end does: the number of bytes that it took, and what it wrote.
 #![tactic(auto)]
 
 ghost use Rattle.std.specs.Prelude.{◌≡◌, ◌≤◌, ◌++◌, ℕ, drop, length};
@@ -34,9 +34,9 @@ impl From<AllocError> for TakeFault {
 /// What a call did with its piece and its room.
 #[derive(Clone, Copy, Drop)]
 pub struct Step {
-    /// The number of bytes of the piece that were taken. The others are to be handed in again.
+    /// The number of bytes of the piece that were taken. Pass the others again.
     pub count: usize,
-    /// The number of bytes that were written, which are to be sent to the peer.
+    /// The number of bytes that were written: send them to the peer.
     pub written: usize,
     /// The end's status now.
     pub status: Status,

@@ -12,11 +12,11 @@ use dbus_device::{DeviceFault, Source};
 const ROOM: usize = 65_536;
 
 /// A source of the bytes of the D-Bus packets of a file, pcap or pcapng, which it reads from the
-/// source below. If the first byte is that of no such file, all bytes are handed on as they are: a
+/// source below. If the first byte is that of no such file, it gives all bytes as they are: a
 /// message begins with `l` or `B`, and a handshake with the byte 0 or one of the letters ABCDENOR.
 ///
-/// It allocates nothing, and keeps 65,536 bytes and about 1,000 more. What is no file it reads into
-/// the caller's buffer, but for the first 65,536 bytes at most.
+/// It allocates nothing, and has a size of about 66,500 bytes. If the input is no such file, only
+/// the first read, of at most 65,536 bytes, goes through its own buffer.
 ///
 /// ```rust
 /// use dbus_capture::Capture;
@@ -84,15 +84,15 @@ impl<R: Source> Capture<R> {
         self.scan.packet
     }
 
-    /// The fault of the file, if it was met. Nothing is read after it.
+    /// The fault of the file, if the reading came to it. Nothing is read after it.
     pub fn fault(&self) -> Option<CaptureFault>
         ensures { result ≡ (scan_of self.now).fault }
     {
         self.scan.fault
     }
 
-    /// How many packets were passed over, modulo 2^64: those of other link types, and those that
-    /// were cut.
+    /// The number of packets that were passed over, modulo 2^64: those of other link types, and
+    /// those that were cut.
     pub fn passed_over(&self) -> u64
         ensures { result ≡ (scan_of self.now).passed_over }
     {

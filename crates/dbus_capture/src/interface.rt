@@ -9,7 +9,7 @@ use std::marker::Model;
 pub struct Interface {
     /// The link type of its packets.
     pub link_type: u16,
-    /// How many bytes of a packet were captured at most, or 0 for no limit.
+    /// The most bytes of a packet that were captured, or 0 for no limit.
     pub snap_length: u32,
     /// Its option `if_tsresol`: the unit of times is this power of 1/10 of a second; or, if it is
     /// 128 or more, the power of 1/2 that the number without its highest bit is.

@@ -1,7 +1,7 @@
 //! What the contracts come to, for whole files. Each function does nothing when it runs: its
-//! contract is the law. `given` are the bytes that are handed on of an input, and `run` is what is
-//! kept after it; both are as [`Source::read`] of a capture gives them in any pieces, by its clause
-//! `part`.
+//! contract is the law. `given` are the bytes that a capture gives of an input, and `run` is what
+//! it keeps after it; both are as [`Source::read`] of a capture gives them in any pieces, by its
+//! clause `part`.
 //!
 //! [`Source::read`]: dbus_device::Source::read
 ghost use Rattle.std.specs.Prelude.{◌≡◌, ℕ, ◌++◌, List, ◌∷◌, Bool, false, Some, slice_get};
@@ -18,17 +18,17 @@ ghost use Rattle.dbus_capture.specs.declared.byte_order.ByteOrder.{ByteOrder};
 ghost use Rattle.dbus_capture.specs.declared.interface.Interface.{Interface};
 ghost use Rattle.dbus_capture.specs.declared.stage.Stage.TheVariants as stages;
 
-/// A pcap file of link type 231, all of whose packets were captured whole, is read whole: the bytes
-/// of its packets are handed on, and it has no fault.
+/// A pcap file of link type 231, all of whose packets were captured whole, is read whole: the
+/// capture gives the bytes of its packets, and there is no fault.
 pub fn pcap_is_read()
     ensures { (passes_cut : Bool) (header : PcapHeader) (packets : List PcapPacket) →
         FitsHeader header → AllFitPackets packets →
         IsRead passes_cut (pcap_bytes header packets) (payload packets) }
 {}
 
-/// Bytes that begin as a pcap file are such a file, whose packets' bytes are handed on; or they
-/// have one fault, at one place and for one reason, and the bytes of the packets before it are
-/// handed on, with those of the packet that it ends within, if it does.
+/// Bytes that begin as a pcap file are such a file, and the capture gives the bytes of its packets.
+/// Or they have one fault, at one place and for one reason, and the capture gives the bytes of the
+/// packets before it, with those of the packet in which the bytes end, if they do.
 pub fn pcap_outcome()
     ensures { (x : ℕ) (xs : List ℕ) → AreBytes (x ∷ xs) → first_stage x ≡ stages.FileHeader →
         IsPcapOutcome (x ∷ xs) (given (fresh false stages.Start) (x ∷ xs))
@@ -36,15 +36,15 @@ pub fn pcap_outcome()
 {}
 
 /// A pcapng file of one section or more, all of whose packets were captured whole, is read whole:
-/// the bytes of its packets of link type 231 are handed on, and it has no fault.
+/// the capture gives the bytes of its packets of link type 231, and there is no fault.
 pub fn pcapng_is_read()
     ensures { (passes_cut : Bool) (x : FileSection) (sections : List FileSection) →
         FitsSection x → AllFitSections sections →
         IsRead passes_cut (sections_bytes (x ∷ sections)) (sections_payload (x ∷ sections)) }
 {}
 
-/// While the bytes of a packet of a pcap file are handed on, its number, place, time and length are
-/// reported.
+/// While a capture gives the bytes of a packet of a pcap file, it reports its number, place, time
+/// and length.
 pub fn pcap_packet_is_reported()
     ensures { (passes_cut : Bool) (header : PcapHeader) (packets : List PcapPacket)
         (packet : PcapPacket) (front back : List ℕ) →
@@ -55,7 +55,7 @@ pub fn pcap_packet_is_reported()
         (pcap_packet_reported header packets packet) }
 {}
 
-/// The same of a packet in a block of a pcapng file, from where its block begins: its number and
+/// The same of a packet in a block of a pcapng file, from the start of its block: its number and
 /// its place count on from there. A simple packet block has no time.
 pub fn pcapng_packet_is_reported()
     ensures { (s : Scan) (order : ByteOrder) (interfaces : List Interface) (i : Interface)
@@ -67,7 +67,7 @@ pub fn pcapng_packet_is_reported()
         Reports (run s (block_front order block ++ front)) (block_packet_reported s i block) }
 {}
 
-/// What begins as a message or a handshake is handed on as it is.
+/// A capture gives what begins as a message or a handshake as it is.
 pub fn streams_are_no_files()
     ensures { (first : ℕ) → IsFirstOfStream first → first_stage first ≡ stages.Raw }
 {}

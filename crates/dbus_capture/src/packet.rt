@@ -12,6 +12,6 @@ pub struct Packet {
     /// simple packet block, nor if the interface counts from another time, or in units that are
     /// not a power of ten, or shorter than a nanosecond, nor past 2^64 - 1.
     pub time: Option<u64>,
-    /// How many bytes it has.
+    /// The number of its bytes.
     pub length: u32,
 }

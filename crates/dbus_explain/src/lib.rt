@@ -1,10 +1,10 @@
-//! Why a message or a match rule is refused, explained for a reader: where it is at fault, what is
-//! there, and what has to be.
+//! Why a message or a match rule is refused, explained for a reader: the place of the fault, what
+//! is there, and what has to be there.
 //!
-//! [`explain_message`] writes of a fault of [`Refused`] bytes where in the message it is, the bytes
-//! there, and the rule that they break with its section of the D-Bus Specification.
-//! [`explain_rule`] writes of a rule's fault the rule, a mark below the place, and what may be
-//! there. What they write to is a `Draft`.
+//! For a fault of [`Refused`] bytes [`explain_message`] writes its place in the message, the bytes
+//! there, and the rule that they break with its section of the D-Bus Specification. For a fault of
+//! a match rule [`explain_rule`] writes the rule, a mark below the place, and what may be there.
+//! They write to a `Draft`.
 #![tactic(auto)]
 
 mod message;

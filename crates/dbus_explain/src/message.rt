@@ -31,7 +31,7 @@ pub struct Refused<'a> {
 /// its name: a part of the header, a header field, or the path to a value, such as
 /// `body[1][3].key`, in which arrays and structs count from 0. The second has the bytes around the
 /// place in hexadecimal, and the one there between brackets, which are empty at the end of what was
-/// read. The third says what has to be there, and where the D-Bus Specification says so.
+/// read. The third says what has to be there, and names the section of the D-Bus Specification.
 ///
 /// ```text
 ///   message 2 at 96, byte 72: body[1][3].key
@@ -40,8 +40,8 @@ pub struct Refused<'a> {
 /// ```
 ///
 /// Of a place past the bytes, their end is named and shown. Any bytes and any fault are safe, and
-/// only the draft allocates. That a path goes as far as it can, and which rule is said, are not
-/// proved. D-Bus Specification, "Message Protocol".
+/// only the draft allocates. Not proved: that a path goes as far as it can, and which rule it
+/// names. D-Bus Specification, "Message Protocol".
 pub fn explain_message<D: Draft>(draft: &mut D, refused: &Refused)
     ensures { (text : List ℕ) × IsExplained refused.now text × D.gains draft.old text draft.new }
 {

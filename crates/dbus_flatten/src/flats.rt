@@ -13,11 +13,11 @@ use dbus_walk::{MessageBytes, Spot, walk_values};
 
 /// Writes items of the values that follow one another at a spot: a row of one for each value and
 /// all its parts, each container before its parts. Those from place `first` of the row on, which
-/// begins at 0, go to the start of `out`, as many as it has room for; what stands after them stays.
-/// Returns how many the whole row has.
+/// begins at 0, go to the start of `out`, as many as it has room for; what is after them stays as
+/// it was. Returns the number of items of the whole row.
 ///
-/// An array of numbers is one item, and so is one without elements. Nothing is validated anew, and
-/// the time is linear in the bytes, whatever `first` is. D-Bus Specification, "Marshaling (Wire
+/// An array of numbers is one item, and so is one without elements. It validates nothing again, and
+/// its time is linear in the bytes, whatever `first` is. D-Bus Specification, "Marshaling (Wire
 /// Format)".
 pub fn flatten(
     source: &MessageBytes<'_>,

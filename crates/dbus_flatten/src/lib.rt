@@ -2,7 +2,7 @@
 //! keep no borrow of the bytes. D-Bus Specification, "Marshaling (Wire Format)".
 //!
 //! [`flatten`] writes a [`FlatItem`] of each value that was validated, and of all its parts, in one
-//! walk: all of them, or a piece of the row. No memory is taken.
+//! walk: all of them, or a piece of the row. It allocates nothing.
 #![tactic(auto)]
 
 mod flat_item;

@@ -64,7 +64,7 @@ impl<A: Allocator + Copy> Cutter<A> {
 
     /// Takes the bytes of the piece up to the end of the message under way and returns that
     /// message; or the whole piece, if the end is not there yet. Also returns the number of bytes
-    /// of the piece that it took: hand in the others again.
+    /// of the piece that it took: pass the others again.
     ///
     /// `Format`: the bytes that are held and the piece begin with no message within its limits; it
     /// stays for good. `Memory`: an allocation failed. A call that returns an error takes nothing.

@@ -6,16 +6,16 @@ ghost use Rattle.dbus_stream.specs.Headline.{Headline};
 use std::alloc::Allocator;
 
 /// Bytes are accepted exactly if they begin with a message that the marshalling relation spells
-/// within the limits; that message comes out, encoding it in its order gives those bytes back, and
-/// in either order decoding an encoding gives the message; however the input is cut, the same
-/// messages come and no byte past each is taken; a refusal carries the fault table's one place and
-/// reason.
+/// within the limits. That message comes out. Encoding it in its order gives those bytes back, and
+/// in either order decoding an encoding gives the message. However the input is split, the same
+/// messages come out, and no byte after a message is consumed. A refusal has the one place and
+/// reason of the fault table.
 ///
-/// The limits are any that are handed in, and every message is every valid one within them.
+/// It holds for all limits, and for every valid message within them.
 ///
 /// It speaks of `decode_within` by `Decodes`, of `encode` by the bytes that it gives, and of a
-/// cutter by `Feeds`: any pieces are handed to `Cutter::take` one after another, and what a call
-/// leaves of one is handed in again. Each of them may answer out of memory, which takes nothing.
+/// cutter by `Feeds`: `Cutter::take` gets any pieces one after another, and what a call leaves of
+/// one is passed again. Each call may be out of memory, and then takes nothing.
 pub fn headline<A: Allocator>()
     ensures { (limits : Limits) → Headline limits A }
 {}

@@ -6,9 +6,9 @@
 //! only its length, without memory. They read from a [`Source`], which [`FromRead`] makes of a
 //! reader of std's. [`write_message`] writes one to a [`Sink`].
 //!
-//! Whatever the pieces, the messages are the same, and no byte past each is taken: `laws` states
-//! it. Examples are at [`Cutter::take`] and [`MessageReader::next`]; `crates/examples` uses a
-//! cutter behind a socket.
+//! However the input is split, the messages are the same, and no byte after a message is consumed:
+//! `laws` states it. Examples are at [`Cutter::take`] and [`MessageReader::next`];
+//! `crates/examples` uses a cutter behind a socket.
 #![tactic(auto)]
 
 mod buffer;

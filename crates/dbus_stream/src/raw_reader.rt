@@ -18,10 +18,10 @@ use std::alloc::{Allocator, Global};
 /// lends or copies their bytes.
 ///
 /// It accepts and rejects what a [`crate::MessageReader`] does, and builds no message. A message
-/// that lies whole in the buffer is validated there, and lent where it lies; any other is checked
-/// as it comes, and its bytes are gathered. It keeps the bytes that it read and did not give yet:
-/// at most those of one message and one buffer. The limits of its messages, and how many reads it
-/// makes at most in its life, are those that it was made with.
+/// that lies whole in the buffer is validated and lent there; any other is checked as it comes, and
+/// its bytes are gathered. It keeps the bytes that it read and did not give yet: at most those of
+/// one message and one buffer. The limits of its messages, and the most reads that it makes in its
+/// life, are those that it was made with.
 #[derive(Drop)]
 pub struct RawReader<R, A: Allocator = Global> {
     alloc: A,

@@ -9,7 +9,7 @@ use dbus_count::laws::one_table;
 /// with the same status, and their writers got the same bytes. The words name something, with or
 /// without a handshake. Left out are `json`, which may write a DOUBLE by other digits; `--explain`,
 /// which shows bytes of a refused message as far as they happened to be read; and words in which
-/// clap finds a fault, since it may tell any of several.
+/// clap finds a fault, since it may report any of several.
 pub fn one_program<R, S, W, V, E, F>()
     ensures { OneProgram R S W V E F }
 {

@@ -12,8 +12,8 @@ use dbus_show_handshake::{ShownLines, write_size};
 use dbus_stream::{Sink, Source};
 use std::alloc::Global;
 
-/// Reads the handshake of a side, and writes a line for each of its lines, and at its end one that
-/// says how many they are.
+/// Reads the handshake of a side, and writes a line for each of its lines, and at its end one with
+/// their number.
 #[tactic(auto, using(crate::proofs::SameAsked::written_out))]
 pub(crate) fn write_lines<R: Source, W: Sink>(
     alloc: Global,

@@ -37,9 +37,9 @@ const OWNER_NOTE: &str =
 /// of that side, `handshake refused at P: NAME` and LF go to the second writer, with the place from
 /// the start of the input and the name of the reason.
 ///
-/// If they name `count`, the second writer is told of what is refused as by [`run_with`], and then
-/// the first gets the tables of how many messages have each name, as [`dbus_count::Counts::tables`]
-/// says.
+/// If they name `count`, the second writer gets the report of what is refused as from [`run_with`],
+/// and then the first gets the tables of the number of messages with each name, as
+/// [`dbus_count::Counts::tables`] says.
 ///
 /// If they name `handshake` with a side, the first writer gets a line for each line of the side's
 /// handshake, its offset, the line and what it says, and then `ok N lines B bytes`; or, if the
@@ -47,10 +47,10 @@ const OWNER_NOTE: &str =
 /// All goes out before the status is given, and no more than 16,384 bytes are gathered. No byte
 /// after the handshake is looked at.
 ///
-/// `Done`, `Refused`, `Failed`: as [`run_with`] says. `Done` also where help was written, and
-/// `Refused` where a handshake was refused. `Usage`: the words name no command, or a rule is
-/// refused, and that was reported. `Failed` also if such a text was not written, of help with
-/// `write failed` on the second writer; and if an allocation failed, with `out of memory` there.
+/// `Done`, `Refused`, `Failed`: as [`run_with`] says. `Done` also if help was written, and
+/// `Refused` if a handshake was refused. `Usage`: the words name no command, or a rule is refused,
+/// and that was reported. `Failed` also if such a text was not written, of help with `write failed`
+/// on the second writer; and if an allocation failed, with `out of memory` there.
 pub fn run_words<R: Source, W: Sink, E: Sink>(
     alloc: Global,
     words: &[String],

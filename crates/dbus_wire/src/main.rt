@@ -1,15 +1,14 @@
 //! `dbus-wire`: reads D-Bus messages from standard input, one after the other, and does with them
 //! what its command line says: `show` writes each as text, `json` as a line of JSON, `swap` in one
-//! byte order, `filter` those that match a rule as they came, and `check` counts them. With
-//! `--handshake` the messages follow the handshake of one side of a connection. Of a pcap or pcapng
-//! file it reads the D-Bus packets.
+//! byte order, `filter` those that match a rule as they came, `check` counts them, and `count` by
+//! names. `handshake` lists the lines before them. With `--handshake` the messages follow the
+//! handshake of one side of a connection. From a pcap or pcapng file it reads the D-Bus packets.
 //!
-//! Output and help go to standard output. That an input is refused is told on standard error, by
-//! `check` on standard output; why a file's packets cannot be read on, why the command line is
-//! wrong or a run failed, on standard error.
-//! The exit status is 0 if the whole input is messages, or help or the version was asked for; 1 if
-//! the input is refused; 2 if the command line is wrong; 3 if a read or a write failed, too many
-//! reads were made, or memory ran out.
+//! Output and help go to standard output. A line on standard error, of `check` on standard output,
+//! reports that the input is refused. Standard error also has why a file's packets cannot be read
+//! on, why the command line is wrong, and why a run failed. The exit status is 0 if the whole input
+//! is messages, or help or the version was asked for; 1 if the input is refused; 2 if the command
+//! line is wrong; 3 if a read or a write failed, too many reads were made, or memory ran out.
 #![tactic(auto)]
 
 ghost use Rattle.std.specs.Prelude.{◌≡◌, map, string_bytes, IfErr, IfOk};
