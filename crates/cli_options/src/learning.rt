@@ -25,9 +25,9 @@ struct Change<'a> {
 
 impl Selection {
     /// If the selection learns, learns the owner of a name that a rule's `sender` is from a signal
-    /// `NameOwnerChanged` of the bus. `learned` are the owners that it has known since it learned
-    /// some. At first it is `None`, and the owners are those of the selection. D-Bus Specification,
-    /// "Message Bus Messages".
+    /// `NameOwnerChanged` of the bus. `learned` are the owners once some were learned. Before it is
+    /// `None`, and the owners are those of the selection. D-Bus Specification, "Message Bus
+    /// Messages".
     ///
     /// `AllocError`: an allocation failed. Then `learned` is `None`.
     pub fn learn(

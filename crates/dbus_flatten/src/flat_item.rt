@@ -15,7 +15,7 @@ pub struct FlatItem {
     pub offset: u64,
     /// The number of these bytes, but of a struct and of a dict entry 0.
     pub length: u64,
-    /// The first code of its type, as `a` of an array.
+    /// The first code of its type, such as `a` for an array.
     pub code: u32,
     /// Of an array the first code of its elements' type; else 0.
     pub element: u32,

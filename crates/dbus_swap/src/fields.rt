@@ -25,6 +25,7 @@ pub(crate) fn byteswap_fields(
         Replaces 12 (spelling source.now.order 12 (field_array fs)) (spelling (other source.now.order) 12 (field_array fs)) out.old out.new }
 {
     let end = fields_end(source);
+    // The fields' length is at 12.
     byteswap_4(out, 12);
     let mut place = FIELDS_START;
     while place < end {
