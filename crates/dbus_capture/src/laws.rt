@@ -26,8 +26,8 @@ pub fn pcap_is_read()
         IsRead passes_cut (pcap_bytes header packets) (payload packets) }
 {}
 
-/// Bytes that begin as a pcap file are such a file, and the capture gives the bytes of its packets.
-/// Or they have one fault, at one place and for one reason, and the capture gives the bytes of the
+/// Bytes that begin as a pcap file are such a file, and the capture gives the bytes of its packets;
+/// or they have one fault, at one place and for one reason, and the capture gives the bytes of the
 /// packets before it, with those of the packet in which the bytes end, if they do.
 pub fn pcap_outcome()
     ensures { (x : ℕ) (xs : List ℕ) → AreBytes (x ∷ xs) → first_stage x ≡ stages.FileHeader →

@@ -5,11 +5,12 @@ ghost use Rattle.dbus_stream.specs.Headline.{Headline};
 
 use std::alloc::Allocator;
 
-/// Bytes are accepted exactly if they begin with a message that the marshalling relation spells
-/// within the limits. That message comes out. Encoding it in its order gives those bytes back, and
-/// in either order decoding an encoding gives the message. However the input is split, the same
-/// messages come out, and no byte after a message is consumed. A refusal has the one place and
-/// reason of the fault table.
+/// What reading and writing promise of bytes, messages and streams, as README says: bytes are
+/// accepted exactly if they begin with a message that the marshalling relation spells within the
+/// limits; that message comes out, encoding it in its order gives those bytes back, and in either
+/// order decoding an encoding gives the message; however the input is split, the same messages come
+/// out, and no byte after a message is consumed; a refusal has the one place and reason of the
+/// fault table.
 ///
 /// It holds for all limits, and for every valid message within them.
 ///
