@@ -44,7 +44,7 @@ pub extern "C" fn dbus_wire_checker_new(
     }
 }
 
-/// Hands the checker a piece of a message, which it takes up to the message's end.
+/// Passes the checker a piece of a message, which it takes up to the message's end.
 ///
 /// Of all bytes that it took since it was made or began again, and the piece: [`WHOLE`] if they
 /// begin with a message within its limits, [`REFUSED`] with the fault, [`PARTIAL`] if more bytes

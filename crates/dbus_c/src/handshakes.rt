@@ -22,9 +22,9 @@ pub struct HandshakeStep {
     pub reply: u64,
 }
 
-/// Makes the end of a server that offers these mechanisms, of the GUID whose text of 32 hexadecimal
-/// digits is given: [`WHOLE`]. Else there is none: [`REFUSED`] if the text is another one,
-/// [`NO_MEMORY`] if memory runs out. What the handle kept is not freed.
+/// Makes the end of a server that offers these mechanisms, with the GUID that a text of 32
+/// hexadecimal digits spells: [`WHOLE`]. Else there is none: [`REFUSED`] if the text is another
+/// one, [`NO_MEMORY`] if memory runs out. What the handle kept is not freed.
 ///
 /// **The user in `mechanisms` has to be the one that the transport reports.** D-Bus Specification,
 /// "Authentication Protocol".
@@ -56,8 +56,8 @@ pub extern "C" fn dbus_wire_client_new(
     made_told(handshake.make_client(alloc, mechanisms, trace))
 }
 
-/// Hands the end a piece of what its peer sent, of which it takes at most one line, and writes what
-/// it sends to the start of `reply`.
+/// Passes the end a piece of what its peer sent. The end takes at most one line of it, and writes
+/// what it sends to the start of `reply`.
 ///
 /// [`PARTIAL`] while the handshake goes on, [`WHOLE`] once it succeeded, [`REFUSED`] once it
 /// failed; from then on nothing is taken and nothing sent, so what follows `BEGIN`, or the line of

@@ -32,12 +32,12 @@ pub struct RuleRefused {
     pub reserved: u32,
 }
 
-/// Adds the match rule that the text spells to the rules, and writes to `id` what stands for it,
-/// which stands for none before: [`WHOLE`]. Else what is kept stays: [`REFUSED`] with the text's
-/// one fault, as [`dbus_match::parse_rule`] finds it, or that it is not UTF-8, which comes first;
-/// [`NO_MEMORY`] if memory runs out, or 2^64 - 1 rules were added. `id` changes in the first case
-/// alone, and `out` in the second. To rules that are shared it adds none, whatever the text is:
-/// [`SHARED`], and nothing changes. D-Bus Specification, "Match Rules".
+/// Adds the match rule that the text spells to the rules, and writes its id to `id`, which no rule
+/// had before: [`WHOLE`]. Else what is kept stays: [`REFUSED`] with the text's one fault, as
+/// [`dbus_match::parse_rule`] finds it, or that it is not UTF-8, which comes first; [`NO_MEMORY`]
+/// if memory runs out, or 2^64 - 1 rules were added. `id` changes in the first case alone, and
+/// `out` in the second. To rules that are shared it adds none, whatever the text is: [`SHARED`],
+/// and nothing changes. D-Bus Specification, "Match Rules".
 #[unsafe(no_mangle)]
 pub extern "C" fn dbus_wire_rules_add(
     alloc: Global,
@@ -100,7 +100,7 @@ pub extern "C" fn dbus_wire_rules_remove(
 /// Notes that the name has this owner, in place of the one that it had, for the rules: [`WHOLE`].
 /// With an empty owner, it has none from then on. Else what is kept stays: [`REFUSED`] if the name
 /// is no bus name, or the owner is neither a bus name nor empty; [`NO_MEMORY`] if memory runs out.
-/// For rules that are shared it notes none, whatever the texts are: [`SHARED`]. D-Bus
+/// For rules that are shared it notes nothing, whatever the texts are: [`SHARED`]. D-Bus
 /// Specification, "Bus names".
 #[unsafe(no_mangle)]
 pub extern "C" fn dbus_wire_rules_owner(
@@ -142,8 +142,8 @@ pub extern "C" fn dbus_wire_rules_share(
     }
 }
 
-/// Writes what stands for each rule that matches the message within the limits that the bytes begin
-/// with at the start of `ids`: [`WHOLE`]. [`NO_ROOM`] if `ids` is too short for them, and then it
+/// Writes the id of each rule that matches the message within the limits that the bytes begin with,
+/// from the start of `ids` on: [`WHOLE`]. [`NO_ROOM`] if `ids` is too short for them, and then it
 /// stays as it is. In both cases `count` is their number. [`crate::PARTIAL`] and [`REFUSED`] as
 /// [`crate::dbus_wire_check`]. Of a message, [`NO_MEMORY`] if memory runs out. In these three cases
 /// `ids` and `count` stay as they are.

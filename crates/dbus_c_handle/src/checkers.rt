@@ -11,7 +11,7 @@ impl WireHandle {
     ghost use Rattle.std.specs.Prelude.{◌≡◌, None, MatchResult};
     ghost use Rattle.dbus_c_handle.specs.Checkers.{Handed, IsFresh, Restarted, checker_of};
 
-    /// Keeps a new checker, which was handed nothing and takes messages that keep these limits. An
+    /// Keeps a new checker, which took nothing yet and takes messages that keep these limits. An
     /// error if memory runs out: then the handle keeps nothing. What it kept before is not freed.
     pub fn make_checker(&mut self, alloc: Global, limits: Limits) -> Result<(), AllocError>
         ensures { MatchResult result (λ _. IsFresh limits (checker_of self.new.state)) (λ _. self.new.state ≡ None) }
@@ -22,7 +22,7 @@ impl WireHandle {
         Ok(())
     }
 
-    /// Hands the checker a piece, and returns what [`Checker::take`] answers; `None` if the handle
+    /// Passes the checker a piece, and returns what [`Checker::take`] does; `None` if the handle
     /// keeps no checker, and then it stays as it is.
     pub fn take(&mut self, alloc: Global, piece: &[u8]) -> Option<Check>
         ensures { Handed (checker_of self.old.state) self.old.state self.new.state piece.now result }

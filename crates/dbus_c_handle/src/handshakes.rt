@@ -15,7 +15,7 @@ impl WireHandle {
     /// Keeps the end of a new server, of the GUID that the text spells, which offers these
     /// mechanisms. Whether the text spells one; if not, the handle keeps nothing. An error if
     /// memory runs out: then it keeps nothing either. What it kept before is not freed, since C may
-    /// hand in a handle that was never set.
+    /// pass a handle that was never set.
     pub fn make_server(
         &mut self,
         alloc: Global,
@@ -65,7 +65,7 @@ impl WireHandle {
         }
     }
 
-    /// Hands the end a piece, and writes what it sends to the room, as [`Handshake::take`] does;
+    /// Passes the end a piece, and writes what it sends to the room, as [`Handshake::take`] does;
     /// `None` if the handle keeps no end, and then it stays as it is.
     pub fn go_on(
         &mut self,

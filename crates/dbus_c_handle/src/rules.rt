@@ -23,9 +23,9 @@ impl WireHandle {
     ghost use Rattle.dbus_c_handle.specs.Rules.{Adds, IsWritten, KeepsAll, SetsOwner, given_of, is_shared, owners_of, rules_of};
 
     /// Keeps the rule that the text spells, as [`parse_rule`] reads it, beside the rules that it
-    /// keeps, and returns what stands for the rule. Its fault if there is one, or `Memory` if
-    /// memory runs out or 2^64 - 1 rules were added: then it keeps all that it kept. Else a handle
-    /// that keeps something else frees that. The rules must not be shared:
+    /// keeps, and returns its handle in the set. The fault of the text if there is one, or `Memory`
+    /// if memory runs out or 2^64 - 1 rules were added: then it keeps all that it kept. Else a
+    /// handle that keeps something else frees that. The rules must not be shared:
     /// [`WireHandle::are_shared`] says whether they are.
     pub fn add_rule(&mut self, alloc: Global, text: &str) -> Result<RuleHandle, RuleFault>
         requires { is_shared self.old.state ≡ false }
@@ -51,7 +51,8 @@ impl WireHandle {
         }
     }
 
-    /// Removes the rule that this stands for. Whether there was one. The rules must not be shared.
+    /// Removes the rule of this handle in the set. Whether there was one. The rules must not be
+    /// shared.
     pub fn remove_rule(&mut self, alloc: Global, handle: RuleHandle) -> bool
         requires { is_shared self.old.state ≡ false }
         ensures was { result ≡ is_some (rule_at handle (rules_of self.old.state)) }
@@ -86,9 +87,9 @@ impl WireHandle {
         set
     }
 
-    /// What stands for each rule that matches the message that the view is of, with the owners of
-    /// names that it keeps, as [`dbus_rule_set::RuleSet::matching`] says; an error only if memory
-    /// runs out.
+    /// The handle in the set of each rule that matches the message that the view is of, with the
+    /// owners of names that it keeps, as [`dbus_rule_set::RuleSet::matching`] says; an error only
+    /// if memory runs out.
     pub fn matching(
         &mut self,
         alloc: Global,
@@ -111,8 +112,8 @@ impl WireHandle {
         Ok(found)
     }
 
-    /// The canonical text of the rule that this stands for, as [`rule_text`] writes it, or that
-    /// memory ran out; `None` if it stands for none.
+    /// The canonical text of the rule of this handle in the set, as [`rule_text`] writes it, or
+    /// that memory ran out; `None` if there is no such rule.
     pub fn canonical_text(
         &mut self,
         alloc: Global,

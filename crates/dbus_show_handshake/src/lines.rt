@@ -51,7 +51,8 @@ fn write_line_start<D: Draft>(draft: &mut D, offset: usize, line: &[u8])
     draft.push_str(": ");
 }
 
-/// Appends how many lines and bytes a handshake has, as a line of text: `ok 3 lines 54 bytes`.
+/// Appends the number of lines and of bytes of a handshake, as a line of text: `ok 3 lines 54
+/// bytes`.
 pub fn write_size<D: Draft>(draft: &mut D, size: HandshakeSize)
     ensures { D.gains draft.old (size_line size) draft.new }
 {
