@@ -85,7 +85,7 @@ def faults_of(edit):
 
 def find_faults(edits):
     """The edits whose files are not as they have to be, each with why."""
-    return [f"{relative(edit)}: {fault}" for edit in edits for fault in faults_of(edit)]
+    return [f"{edit.path.relative_to(ROOT)}: {fault}" for edit in edits for fault in faults_of(edit)]
 
 
 def function_at(text, line):
@@ -106,7 +106,3 @@ def functions_changed(edit):
     for file, old, _ in edit.changes:
         before, _, _ = text_of(edit, file).partition(old)
         yield function_at(text_of(edit, file), before.count("\n") + 1)
-
-
-def relative(edit):
-    return edit.path.relative_to(ROOT)

@@ -20,8 +20,6 @@ from stored_runs import is_right, stored_runs
 from trying import due_edits, try_edits
 
 NOT_COPIED = shutil.ignore_patterns(".git", "out", "target", "__pycache__")
-# What `rt ci` adds to a program's name, as each compiler builds it.
-BUILDS = ("", ".by-rattle")
 COUNT = re.compile(r"(\d+) passed, (\d+) failed")
 
 
@@ -48,8 +46,8 @@ def run_in(copy, *words):
 
 
 def built(copy, name):
-    """The program as each compiler built it."""
-    return [copy / "crates" / name / "out" / f"{name}{ending}" for ending in BUILDS]
+    """The program as each compiler built it, by the names that `rt ci` gives them."""
+    return [copy / "crates" / name / "out" / it for it in (name, f"{name}.by-rattle")]
 
 
 def ask(copy, name, program):

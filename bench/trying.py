@@ -4,14 +4,13 @@ refused if the goal that its line `left:` names is among them. One of which a ro
 
 import collections
 import concurrent.futures as futures
-import functools
 import pathlib
 import re
 import subprocess
 import tempfile
 
 from crate_list import copy_parts, folder_of, lanes, libraries_below, read_crates, read_lines
-from edits import all_edits, edited, edits_in, function_at, functions_changed
+from edits import all_edits, edited, edits_in, function_at, functions_changed, text_of
 from interfaces import checksums
 
 # How the name of a folder begins in which a round is checked. bench/gate_times.py knows rounds by it.
@@ -27,13 +26,9 @@ ENDED = re.compile(r"logic=not-proved|only=\d+ proved=\d+")
 MOST_TOLD = 400
 
 
-def tried_file(crate):
-    return folder_of(crate) / "wrong" / "TRIED"
-
-
 def is_due(crate):
     """Whether the crate, or what it sees of the libraries below, differs from what its wrong bodies were last tried on."""
-    tried = tried_file(crate)
+    tried = folder_of(crate) / "wrong" / "TRIED"
     return not tried.exists() or tried.read_text().split()[:2] != checksums(crate)
 
 
@@ -43,33 +38,39 @@ def due_edits():
     return [it for it in all_edits() if it.crate in due or it.always]
 
 
-@functools.cache
-def kit():
-    """The folder of the kit."""
-    said = subprocess.run(["rt", "doc"], capture_output=True, text=True, check=True).stdout
-    return pathlib.Path(said.strip()).parent
-
-
 def check_words(crate, crates):
     """A check of the crate as rt calls it, over the libraries that were built in the folder `crates`, and over what checks there kept."""
+    kit = pathlib.Path(subprocess.run(["rt", "doc"], capture_output=True, text=True, check=True).stdout.strip()).parent
     built = {it: crates / it / "out" / "rlib" / f"{it}.rlib" for it in libraries_below(crate, read_crates())}
     root = next(it for it in ("main", "lib") if (folder_of(crate) / "src" / f"{it}.rt").exists())
     kind, _, uses = read_lines()[crate].partition(":")
-    words = [kit() / "bin/rattle", "check", f"src/{root}.rt", "--crate-name", crate, "-L", f"dependency={kit()}/rlibs"]
+    words = [kit / "bin/rattle", "check", f"src/{root}.rt", "--crate-name", crate, "-L", f"dependency={kit}/rlibs"]
     for name in ("std", *uses.split()):
-        words += ["--extern", f"{name}={built.get(name, kit() / 'rlibs' / f'{name}.rlib')}"]
+        words += ["--extern", f"{name}={built.get(name, kit / 'rlibs' / f'{name}.rlib')}"]
     for rlib in built.values():
         words += ["-L", f"dependency={rlib.parent}"]
     if "staticlib" in kind:
         words += ["--crate-type", "staticlib"]
-    words += ["--antt-project", kit() / "rattle/logic/antt-project.json", "--logic-built", kit() / "logic_built"]
+    words += ["--antt-project", kit / "rattle/logic/antt-project.json", "--logic-built", kit / "logic_built"]
     return [*words, "--incremental", crates / crate / "out" / "incremental"]
 
 
-def modules_of(edits):
-    """The modules that a round checks, with what they call; none if it checks the whole crate."""
-    modules = {it.left.partition("::")[0] for it in edits}
-    return modules if all((folder_of(edits[0].crate) / "src" / f"{it}.rt").exists() and it not in ("lib", "main") for it in modules) else []
+def function_of(edit):
+    """The function that the edit leaves open, or the cycle of calls that is proved with it."""
+    return edit.left.split()[0]
+
+
+def paths_of(edits):
+    """What a round checks, with what that calls: the functions that its edits leave open, or the modules of methods; nothing for the whole crate."""
+    paths = set()
+    for edit in edits:
+        file, _, function = function_of(edit).partition("::")
+        text = text_of(edit, f"src/{file}.rt")
+        if file in ("lib", "main") or not text:
+            return []
+        is_free = re.search(rf"^(\S.*)?\bfn {re.escape(function)}\b", text, re.M)
+        paths.add(f"{file}::{function}" if is_free else file)
+    return paths
 
 
 def goals_in(room, lines):
@@ -94,8 +95,8 @@ def texts_with(edits):
 def check(edits, crates):
     """Checks a copy of the crate with these edits. Returns the goals that it leaves open, and what it says."""
     words = check_words(edits[0].crate, crates)
-    for module in modules_of(edits):
-        words += ["--only", module]
+    for path in paths_of(edits):
+        words += ["--only", path]
     with tempfile.TemporaryDirectory(prefix=ROOM) as name:
         room = pathlib.Path(name)
         copy_parts(edits[0].crate, room)
@@ -106,24 +107,27 @@ def check(edits, crates):
         return set(goals_in(room, lines)) if lines and ENDED.match(lines[-1]) else set(), lines
 
 
-def function_of(edit):
-    """The function that the edit leaves open, or the cycle of calls that is proved with it."""
-    return edit.left.split()[0]
+def functions_of(edit):
+    """The names of the functions that the edit leaves open and changes, nothing for what it changes outside of functions."""
+    return {function_of(edit).split("::")[-1], *functions_changed(edit)}
 
 
 def is_apart(edit):
     """Whether the edit changes only the body of the function that it leaves open, so that it touches no other function's goals."""
-    changed, function = set(functions_changed(edit)), function_of(edit)
-    return changed == {function.split("::")[-1]} or "+" in function and "" not in changed
+    return len(functions_of(edit)) == 1 or "+" in function_of(edit) and "" not in functions_of(edit)
+
+
+def fits(edit, others):
+    """Whether a check can tell the edit from these."""
+    is_another = function_of(edit) not in map(function_of, others) and all(map(is_apart, [edit, *others]))
+    return is_another and None not in texts_with([*others, edit]).values()
 
 
 def rounds_of(edits):
     """The edits in rounds, in each of which a check can tell them from each other."""
     rounds = []
     for edit in edits:
-        fitting = (it for it in rounds if function_of(edit) not in map(function_of, it) and all(map(is_apart, [edit, *it])))
-        fitting = (it for it in fitting if None not in texts_with([*it, edit]).values())
-        if one := next(fitting, None):
+        if one := next((it for it in rounds if fits(edit, it)), None):
             one.append(edit)
         else:
             rounds.append([edit])
@@ -133,14 +137,14 @@ def rounds_of(edits):
 def missed_in(edits, crates):
     """Those of the edits of a round that are not refused where they should be, each with what is left open or else with what the check says."""
     goals, lines = check(edits, crates)
-    elsewhere = {it.split()[0] for it in goals} - {function_of(it) for it in edits}
-    told = sorted(goals) or [it for it in lines if "error" in it] or lines
+    elsewhere = {re.split("::| ", it)[-2] for it in goals} - {name for it in edits for name in functions_of(it)}
+    told = sorted(goals) or [it for it in lines if "error" in it] or lines[-1:]
     return [(it, "; ".join(told)[:MOST_TOLD]) for it in edits if it.left not in goals or elsewhere and len(edits) > 1]
 
 
 def try_crate(edits, crates):
     """Tries edits of one crate, and returns those that are not refused where they should be."""
-    faults, rounds = [], rounds_of(edits)
+    crate, faults, rounds = edits[0].crate, [], rounds_of(edits)
     # They become more meanwhile.
     for tried in rounds:
         missed = missed_in(tried, crates)
@@ -148,9 +152,9 @@ def try_crate(edits, crates):
             rounds += [[it] for it, _ in missed]
         else:
             faults += [f"{it.name}: not refused where it should be; left open: {told}" for it, told in missed]
-    print(*faults, f"{edits[0].crate}: {len(edits) - len(faults)} of {len(edits)} wrong bodies refused where they should be", sep="\n", flush=True)
-    if not faults and len(edits) == len(edits_in(edits[0].crate)):
-        tried_file(edits[0].crate).write_text(f"{' '.join(checksums(edits[0].crate))} {len(edits)}\n")
+    print(*faults, f"{crate}: {len(edits) - len(faults)} of {len(edits)} wrong bodies refused where they should be", sep="\n", flush=True)
+    if not faults and len(edits) == len(edits_in(crate)):
+        (folder_of(crate) / "wrong" / "TRIED").write_text(f"{' '.join(checksums(crate))} {len(edits)}\n")
     return faults
 
 

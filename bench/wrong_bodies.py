@@ -37,14 +37,13 @@ def main():
     faults = find_faults(edits)
     for fault in faults:
         print(fault, file=sys.stderr)
-    if not (given.due or given.all):
-        for edit in edits:
-            print(f"{edit.name}\n{textwrap.indent(edit.path.read_text(), '    ')}")
-        print(f"{len(edits)} wrong bodies")
-        return 1 if faults else 0
-    if faults or not build_below({it.crate for it in edits}):
-        return 1
-    return 1 if try_edits(edits, ROOT / "crates") else 0
+    if given.due or given.all:
+        is_well = not faults and build_below({it.crate for it in edits}) and not try_edits(edits, ROOT / "crates")
+        return 0 if is_well else 1
+    for edit in edits:
+        print(f"{edit.name}\n{textwrap.indent(edit.path.read_text(), '    ')}")
+    print(f"{len(edits)} wrong bodies")
+    return 1 if faults else 0
 
 
 if __name__ == "__main__":
