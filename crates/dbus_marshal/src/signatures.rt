@@ -16,7 +16,6 @@ use std::alloc::Allocator;
 
 /// The length of a type's signature.
 #[cycle(type_length)]
-#[tactic(auto, using(dbus_value_model::proofs::TypeRows::type_lengths))]
 pub fn type_length<A: Allocator>(ty: &SigType<A>) -> usize
     requires { length (sig (type_tree ty.now)) < 256 }
     ensures { result ≡ length (sig (type_tree ty.now)) }
@@ -31,7 +30,6 @@ pub fn type_length<A: Allocator>(ty: &SigType<A>) -> usize
 
 /// The number of bytes of the types' signature.
 #[cycle(type_length)]
-#[tactic(auto, using(dbus_value_model::proofs::TypeRows::type_lengths))]
 fn types_length<A: Allocator>(types: &[SigType<A>]) -> usize
     requires { length (sigs (type_trees_of types.now)) < 256 }
     ensures { result ≡ length (sigs (type_trees_of types.now)) }
@@ -45,7 +43,6 @@ fn types_length<A: Allocator>(types: &[SigType<A>]) -> usize
 
 /// The length of the signature of a value's type.
 #[cycle(signature_length)]
-#[tactic(auto, using(dbus_value_model::proofs::TypeRows::value_lengths))]
 pub fn signature_length<A: Allocator>(value: &Value<A>) -> usize
     requires { length (sig (type_of (value_tree value.now))) < 256 }
     ensures { result ≡ length (sig (type_of (value_tree value.now))) }
@@ -61,7 +58,6 @@ pub fn signature_length<A: Allocator>(value: &Value<A>) -> usize
 
 /// The number of bytes of the signature of the values.
 #[cycle(signature_length)]
-#[tactic(auto, using(dbus_value_model::proofs::TypeRows::value_lengths))]
 fn signatures_length<A: Allocator>(values: &[Value<A>]) -> usize
     requires { length (sigs (types_of (value_trees_of values.now))) < 256 }
     ensures { result ≡ length (sigs (types_of (value_trees_of values.now))) }
@@ -75,7 +71,6 @@ fn signatures_length<A: Allocator>(values: &[Value<A>]) -> usize
 
 /// Writes a type's signature.
 #[cycle(write_type)]
-#[tactic(auto, using(dbus_value_model::proofs::TypeRows::type_lengths))]
 pub fn write_type<A: Allocator>(out: &mut [u8], at: usize, ty: &SigType<A>) -> usize
     requires space { at + length (sig (type_tree ty.now)) ≤ length out.old }
     ensures written { take result out.new ≡ take at out.old ++ sig (type_tree ty.now) }
@@ -103,7 +98,6 @@ pub fn write_type<A: Allocator>(out: &mut [u8], at: usize, ty: &SigType<A>) -> u
 
 /// Writes the types' signature at `at`, and returns the offset after it.
 #[cycle(write_type)]
-#[tactic(auto, using(dbus_value_model::proofs::TypeRows::type_lengths))]
 fn write_types<A: Allocator>(out: &mut [u8], at: usize, types: &[SigType<A>]) -> usize
     requires space { at + length (sigs (type_trees_of types.now)) ≤ length out.old }
     ensures written { take result out.new ≡ take at out.old ++ sigs (type_trees_of types.now) }
@@ -118,7 +112,6 @@ fn write_types<A: Allocator>(out: &mut [u8], at: usize, types: &[SigType<A>]) ->
 
 /// Writes the signature of a value's type.
 #[cycle(write_type_of)]
-#[tactic(auto, using(dbus_value_model::proofs::TypeRows::value_lengths))]
 pub fn write_type_of<A: Allocator>(out: &mut [u8], at: usize, value: &Value<A>) -> usize
     requires space { at + length (sig (type_of (value_tree value.now))) ≤ length out.old }
     ensures written { take result out.new ≡ take at out.old ++ sig (type_of (value_tree value.now)) }
@@ -150,7 +143,6 @@ pub fn write_type_of<A: Allocator>(out: &mut [u8], at: usize, value: &Value<A>) 
 
 /// Writes the signature of the values at `at`, and returns the offset after it.
 #[cycle(write_type_of)]
-#[tactic(auto, using(dbus_value_model::proofs::TypeRows::value_lengths))]
 fn write_types_of<A: Allocator>(out: &mut [u8], at: usize, values: &[Value<A>]) -> usize
     requires space { at + length (sigs (types_of (value_trees_of values.now))) ≤ length out.old }
     ensures written { take result out.new ≡

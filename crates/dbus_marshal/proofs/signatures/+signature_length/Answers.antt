@@ -58,3 +58,32 @@ signatures_length-returns g t c =
 
 pub signature_length-returns-in-Array : goal.signature_length-returns-in-Array
 signature_length-returns-in-Array g t c = rw c.in-Array.is (omega (arith, c.type_length.ensures, value_length-Array c.in-Array.element c.in-Array.field-1))
+
+pub signature_length-overflow_add-result : goal.signature_length-overflow_add-result
+signature_length-overflow_add-result g t c =
+    let short = rw c.in-Array.is at c.requires in
+    omega (arith, short, c.type_length.ensures, value_length-Array c.in-Array.element c.in-Array.field-1)
+
+pub signature_length-signature_length-requires : goal.signature_length-signature_length-requires
+signature_length-signature_length-requires g t c κs within =
+    let is = c.in-Entry.is in
+    let measure = rw is at c.decreases in
+    let short = rw is at c.requires in
+    (rw (c.deref-in-Entry.ensures, ← measure) (search (rules, the_lemmas)), (within, rw c.deref-in-Entry.ensures (omega (arith, short, value_length-Entry c.in-Entry.entry))))
+
+pub signature_length-signature_length-requires-in-Entry : goal.signature_length-signature_length-requires-in-Entry
+signature_length-signature_length-requires-in-Entry g t c κs within =
+    let is = c.in-Entry.is in
+    let measure = rw is at c.decreases in
+    let short = rw is at c.requires in
+    (rw (c.deref-in-Entry-2.ensures, ← measure) (search (rules, the_lemmas)), (within, rw c.deref-in-Entry-2.ensures (omega (arith, short, value_length-Entry c.in-Entry.entry))))
+
+pub signatures_length-overflow_add-len : goal.signatures_length-overflow_add-len
+signatures_length-overflow_add-len g t c =
+    let more = value_length_more c.args.values.now c.loop-value.value-index c.value-item.result c.loop-value-test.true c.value-item.is in
+    omega (arith, c.requires, c.loop-value.invariant, more, c.signature_length-len.ensures)
+
+pub signature_length-type_length-requires : goal.signature_length-type_length-requires
+signature_length-type_length-requires g t c =
+    let short = rw c.in-Array.is at c.requires in
+    omega (arith, short, value_length-Array c.in-Array.element c.in-Array.field-1)
