@@ -1,6 +1,7 @@
 -- The signature of a type and of a value's type, level by level, and the types of several values.
 use Rattle.std.proofs.Common.{◌≡◌, ℕ, ◌+◌, ◌<◌, ◌≤◌, List, [], ◌∷◌, ◌++◌, length, get_or, drop, map, Vec, Box, refl, ap, ◌∙◌, sym, arith, Bool, true, false, length-append, subst, zero, suc, rules, ◌↔◌, IsTrue}
 use Rattle.std.specs.declared.sync.Arc.{Arc}
+use Rattle.std.proofs.lemmas.Bool.{false≢true}
 use Rattle.std.proofs.lemmas.List.{at_drop_more, at_drop_all, drop_more}
 use Rattle.dbus_texts.specs.Types.{TypeTree, StructType, EntryType, MoreTypes, type_trees, sig, sigs, TypeTrees, NumberType, TextType, VariantType, ArrayType, NoTypes, IsBasic, IsComplete, AreComplete, IsSingleType}
 use Rattle.dbus_types.specs.SigTypes.{type_tree, type_trees_of}
@@ -227,6 +228,28 @@ module _ {X Y : Type 0} (F : X → TypeTree) (G : Y → TypeTree) where
 pub structs_same : (t u : TypeTree) (a b : TypeTrees) (r : Bool) → t ≡ StructType a → u ≡ StructType b → (IsTrue r ↔ (a ≡ b)) → IsTrue r ↔ (t ≡ u)
 structs_same t u a b r first second h = (λ e. let inner = h.0 e in cc, λ e. h.1 cc)
 
--- no other type is that of a dict entry
-pub entry_told : {A : Type 0} (k v : Arc (SigType A) A) (o : SigType A) → ((x y : Arc (SigType A) A) → o ≡ Entry x y → ⊥) → type_tree {A = A} (Entry k v) ≡ type_tree o → ⊥
-entry_told k v o n e = search (rules, the_lemmas)
+-- types of arrays, by their elements
+pub arrays_same : (t u a b : TypeTree) (r : Bool) → t ≡ ArrayType a → u ≡ ArrayType b → (IsTrue r ↔ (a ≡ b)) → IsTrue r ↔ (t ≡ u)
+arrays_same t u a b r first second h = (λ e. let inner = h.0 e in cc, λ e. h.1 cc)
+
+-- types of dict entries, by their values' types if those of the keys are the same
+module _ (t u k l v w : TypeTree) (r : Bool) (first : t ≡ EntryType k v) (second : u ≡ EntryType l w) where
+  pub entries_same : k ≡ l → (IsTrue r ↔ (v ≡ w)) → IsTrue r ↔ (t ≡ u)
+  entries_same key h = (λ e. let inner = h.0 e in cc, λ e. h.1 cc)
+
+  pub entries_differ : r ≡ false → (IsTrue r ↔ (k ≡ l)) → IsTrue r ↔ (t ≡ u)
+  entries_differ is_false h = (λ e. absurd (false≢true (sym is_false ∙ e)), λ e. absurd (false≢true (sym is_false ∙ h.1 cc)))
+
+-- no other type is that of an array, of a struct or of a dict entry
+module _ {A : Type 0} (o : SigType A) where
+  pub array_told : ((x : Arc (SigType A) A) → o ≡ Array x → ⊥) → (t : TypeTree) → ArrayType t ≡ type_tree o → ⊥
+  array_told n t e = search (rules, the_lemmas)
+
+  pub struct_told : ((x : Arc (Vec (SigType A) A) A) → o ≡ Struct x → ⊥) → (ts : TypeTrees) → StructType ts ≡ type_tree o → ⊥
+  struct_told n ts e = search (rules, the_lemmas)
+
+  pub entry_told : ((x y : Arc (SigType A) A) → o ≡ Entry x y → ⊥) → (k v : TypeTree) → EntryType k v ≡ type_tree o → ⊥
+  entry_told n k v e = search (rules, the_lemmas)
+
+pub told_apart : (t u : TypeTree) → (t ≡ u → ⊥) → IsTrue false ↔ (t ≡ u)
+told_apart t u n = (λ e. absurd (false≢true e), λ e. absurd (n e))

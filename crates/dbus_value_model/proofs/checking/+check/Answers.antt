@@ -1,6 +1,22 @@
-use Rattle.std.proofs.Common.{arith}
+use Rattle.std.proofs.Common.{arith, rules}
+use Rattle.dbus_value_model.specs.declared.value.Value.{the_lemmas}
+use Rattle.dbus_value_model.proofs.Formed.{below_most}
 use Rattle.dbus_value_model.proofs.Verdicts.{found_more, array_found, struct_found, variant_found, bytes_found}
 use Rattle.dbus_value_model.proofs.checking.+check.Goals as goal
+
+pub check_parts-check_all-requires : goal.check_parts-check_all-requires
+check_parts-check_all-requires g t c κs within =
+    let measure = rw c.in-Array.is at c.decreases in
+    (rw (c.deref-in-Array-2.ensures.value, ← measure) (search (rules, the_lemmas)), within)
+
+pub check_parts-check_all-requires-in-Struct : goal.check_parts-check_all-requires-in-Struct
+check_parts-check_all-requires-in-Struct g t c κs within =
+    let measure = rw c.in-Struct.is at c.decreases in
+    (rw (c.deref-in-Struct.ensures.value, ← measure) (search (rules, the_lemmas)), within)
+
+pub check_all-check_parts-requires : goal.check_all-check_parts-requires
+check_all-check_parts-requires g t c κs within =
+    (rw (← c.decreases) (below_most _ c.args.values.now c.loop-value.value-index c.value-item.result c.loop-value-test.true c.value-item.is), within)
 
 pub check_parts-returns-else-depth_left-eq0 : goal.check_parts-returns-else-depth_left-eq0
 check_parts-returns-else-depth_left-eq0 g t c = rw c.in-Bytes.is (bytes_found c.args.depth_left c.in-Bytes.bytes (omega (arith, c.if-depth_left-eq0.false)) (rw c.deref.ensures.value at c.bytes_in_range.ensures))

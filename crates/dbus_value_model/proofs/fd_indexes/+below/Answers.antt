@@ -1,10 +1,26 @@
-use Rattle.std.proofs.Common.{Some, refl, sym, subst}
+use Rattle.std.proofs.Common.{Some, refl, sym, subst, rules}
 use Rattle.std.proofs.lemmas.Bool.{false≢true}
 use Rattle.dbus_value_model.specs.FdIndexes.{AreIndexesBelow, AreAllBelow}
 use Rattle.dbus_value_model.specs.ValueViews.{value_tree, value_trees_of}
+use Rattle.dbus_value_model.specs.declared.value.Value.{the_lemmas}
+use Rattle.dbus_value_model.proofs.Formed.{below_most}
 use Rattle.dbus_value_model.proofs.ValueRows.{tree-Array, tree-Struct, tree-Bytes, item_of, items_from}
 use Rattle.dbus_value_model.proofs.Indexes.{bytes_below}
 use Rattle.dbus_value_model.proofs.fd_indexes.+below.Goals as goal
+
+pub is_below-are_below-requires : goal.is_below-are_below-requires
+is_below-are_below-requires g t c κs within =
+    let measure = rw c.in-Array.is at c.decreases in
+    (rw (c.deref.ensures.value, ← measure) (search (rules, the_lemmas)), within)
+
+pub is_below-are_below-requires-in-Struct : goal.is_below-are_below-requires-in-Struct
+is_below-are_below-requires-in-Struct g t c κs within =
+    let measure = rw c.in-Struct.is at c.decreases in
+    (rw (c.deref-in-Struct.ensures.value, ← measure) (search (rules, the_lemmas)), within)
+
+pub are_below-is_below-requires : goal.are_below-is_below-requires
+are_below-is_below-requires g t c κs within =
+    (rw (← c.decreases) (below_most _ c.args.values.now c.loop-value.value-index c.value-item.result c.loop-value-test.true c.value-item.is), within)
 
 pub is_below-returns-in-Array : goal.is_below-returns-in-Array
 is_below-returns-in-Array g t c =
