@@ -1,15 +1,16 @@
 -- Going over a list of header fields.
-use Rattle.std.proofs.Common.{◌≡◌, ℕ, ◌+◌, ◌<◌, ◌≤◌, List, [], ◌∷◌, length, get_or, drop, true, false, Some, IsTrue, refl, sym, ap, ◌∙◌, map, subst, ◌++◌, reverse, Bool, ◌||◌, eqb, arith}
+use Rattle.std.proofs.Common.{◌≡◌, ℕ, ◌+◌, ◌<◌, ◌≤◌, List, [], ◌∷◌, length, get_or, drop, true, false, cond, None, Some, IsTrue, refl, sym, ap, ◌∙◌, map, subst, ◌++◌, reverse, Bool, ◌||◌, eqb, arith}
 use Rattle.std.proofs.lemmas.Bool.{and_parts, eq-eqb, ne_eqb}
 use Rattle.std.proofs.lemmas.List.{drop_more, drop_all, reverse-append, length-append}
 use Rattle.dbus_value_model.specs.PackedBytes.{keeps_bytes, keep_bytes}
 use Rattle.dbus_value_model.specs.ValueViews.{value_tree}
+use Rattle.dbus_value_model.specs.declared.fault.Reason.TheVariants.{FieldMissing}
 use Rattle.dbus_value_model.proofs.ValueRows.{item_of}
 use Rattle.dbus_value_model.specs.Sizes.{HasShortSignatures, HaveShortSignatures}
 use Rattle.dbus_value_model.specs.Values.{ValueTrees, MoreValues, value_trees}
 use Rattle.dbus_texts.specs.Types.{TypeTrees, NoTypes, MoreTypes, AreComplete, sig, sigs}
 use Rattle.dbus_message_model.specs.KnownFields.{field_value}
-use Rattle.dbus_message_model.specs.Messages.{has_code, text_in, body_signature, number_in, fd_count, FieldTree, field_struct}
+use Rattle.dbus_message_model.specs.Messages.{has_code, lacks, text_in, body_signature, number_in, fd_count, FieldTree, field_struct}
 use Rattle.dbus_message_model.specs.PackedParts.{field_values}
 use Rattle.dbus_message_model.specs.PartsViews.{field_tree, field_trees}
 use Rattle.dbus_message_model.specs.declared.header_field.HeaderField.{HeaderField}
@@ -49,6 +50,20 @@ module _ {A : Type 0} (fields : List (HeaderField A)) (i : ℕ) where
   -- the first field of a code stands at i
   pub value_here : (c : ℕ) (f : HeaderField A) → i < length fields → f ≡ get_or fields i f → f.code ≡ c → field_value c (field_trees (drop i fields)) ≡ Some (value_tree f.value)
   value_here c f h is e = rw (fields_from f h is, eq-eqb f.code c e) refl
+
+-- the first code that is missing stands at i, or after it
+module _ (fs : List FieldTree) (codes : List ℕ) (i : ℕ) where
+  lacks_from : i < length codes → lacks (drop i codes) fs ≡ cond (has_code (get_or codes i 0) fs) (lacks (drop (i + 1) codes) fs) (Some (FieldMissing (get_or codes i 0)))
+  lacks_from h = ap (λ cs. lacks cs fs) (drop_more codes i 0 h)
+
+  pub lacks_here : i < length codes → has_code (get_or codes i 0) fs ≡ false → lacks (drop i codes) fs ≡ Some (FieldMissing (get_or codes i 0))
+  lacks_here h none = lacks_from h ∙ ap (λ b. cond b (lacks (drop (i + 1) codes) fs) (Some (FieldMissing (get_or codes i 0)))) none
+
+  pub lacks_later : i < length codes → has_code (get_or codes i 0) fs ≡ true → lacks (drop i codes) fs ≡ lacks (drop (i + 1) codes) fs
+  lacks_later h there = lacks_from h ∙ ap (λ b. cond b (lacks (drop (i + 1) codes) fs) (Some (FieldMissing (get_or codes i 0)))) there
+
+  pub lacks_no_more : length codes ≤ i → lacks (drop i codes) fs ≡ None
+  lacks_no_more h = ap (λ cs. lacks cs fs) (drop_all i codes h)
 
 pub field_kept : {A : Type 0} (fields : List (HeaderField A)) (i : ℕ) (f : HeaderField A) → i < length fields → f ≡ get_or fields i f → IsTrue (keep_bytes (field_values fields)) → IsTrue (keeps_bytes f.value)
 field_kept fields i f h is kept = item_of (λ fs. IsTrue (keep_bytes (field_values fs))) (λ u. IsTrue (keeps_bytes u.value)) (λ u fs k. and_parts _ _ k) fields i f h is kept

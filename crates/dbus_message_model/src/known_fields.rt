@@ -15,7 +15,6 @@ use dbus_value_model::Value;
 use std::alloc::Allocator;
 
 /// Whether a field of the code is there.
-#[tactic(auto, using(crate::proofs::FieldLists::has_here, crate::proofs::FieldLists::has_later, crate::proofs::FieldLists::has_no_more))]
 pub fn has_field<A: Allocator>(fields: &[HeaderField<A>], code: u8) -> bool
     ensures { result ≡ has_code code (field_trees fields.now) }
 {
@@ -51,7 +50,15 @@ pub fn required(kind: u8) -> &'static [u8]
 pub fn missing_field<A: Allocator>(kind: u8, fields: &[HeaderField<A>]) -> Option<u8>
     ensures { IsMissing (lacks (required kind) (field_trees fields.now)) result }
 {
-    for code in required(kind) {
+    first_missing(required(kind), fields)
+}
+
+/// The first of these codes that is missing.
+#[tactic(auto, using(crate::proofs::FieldLists::lacks_here, crate::proofs::FieldLists::lacks_later, crate::proofs::FieldLists::lacks_no_more))]
+fn first_missing<A: Allocator>(codes: &[u8], fields: &[HeaderField<A>]) -> Option<u8>
+    ensures { IsMissing (lacks codes.now (field_trees fields.now)) result }
+{
+    for code in codes {
         if !has_field(fields, *code) {
             return Some(*code);
         }
@@ -70,7 +77,6 @@ pub fn text_in<A: Allocator>(value: &Value<A>) -> &[u8]
 }
 
 /// The signature of the body: the text of the first SIGNATURE field, or nothing.
-#[tactic(auto, using(crate::proofs::FieldLists::signature_here, crate::proofs::FieldLists::signature_later))]
 pub fn body_signature<A: Allocator>(fields: &[HeaderField<A>]) -> &[u8]
     ensures { result.now ≡ body_signature (field_trees fields.now) }
 {
@@ -94,7 +100,6 @@ fn number_in<A: Allocator>(value: &Value<A>) -> u32
 
 /// The number of descriptors that come with the message: the number of the first UNIX_FDS field, or
 /// 0. D-Bus Specification, "Header Fields".
-#[tactic(auto, using(crate::proofs::FieldLists::count_here, crate::proofs::FieldLists::count_later))]
 pub fn fd_count<A: Allocator>(fields: &[HeaderField<A>]) -> u32
     ensures { result ≡ fd_count (field_trees fields.now) }
 {
