@@ -39,6 +39,14 @@ pub(crate) fn push_part<A: Allocator>(
     push_growing(values, made)
 }
 
+/// Puts what is gathered by now in the place of what was gathered before.
+#[inline(always)]
+fn put<A: Allocator>(gathered: &mut Gathered<A>, next: Gathered<A>)
+    ensures { gathered.new ≡ next }
+{
+    *gathered = next;
+}
+
 /// Places a value among the parts of a container, after those that are gathered.
 #[inline(always)]
 pub(crate) fn place<A: Allocator + Copy>(
@@ -52,17 +60,18 @@ pub(crate) fn place<A: Allocator + Copy>(
         Gathered::Fields(_, values) => push_part(values, made),
         Gathered::Elements(_, values) => push_part(values, made),
         Gathered::Variant(_) => {
-            *gathered = Gathered::Held(made);
+            put(gathered, Gathered::Held(made));
             Ok(())
         }
         Gathered::Entry(_, value) => {
             let value = mem::replace(value, SigType::Byte);
-            *gathered = Gathered::Key(value, made);
+            put(gathered, Gathered::Key(value, made));
             Ok(())
         }
         Gathered::Key(_, key) => {
             let key = mem::replace(key, Value::Byte(0));
-            *gathered = Gathered::Both(Box::new(alloc, DictEntry { key, value: made })?);
+            let entry = Box::new(alloc, DictEntry { key, value: made })?;
+            put(gathered, Gathered::Both(entry));
             Ok(())
         }
         // A variant has no second part, and a dict entry no third.
