@@ -137,6 +137,11 @@ module _ {R : Type 0} (left : R → Option (List ℕ)) (calls : R → ℕ) where
   went true (Err e) old new t = t
   went false (Err e) old new t = t
 
+  -- each call gave a byte, whatever is answered
+  pub took_either : (said : Bool) (old new : ReadAhead R) → Took left calls 0 old new [] → Took left calls (idle_unless false (Ok said)) old new []
+  took_either true old new t = took_at_last old new [] t
+  took_either false old new t = t
+
   pub took_more : {idle : ℕ} (old mid new : ReadAhead R) (xs ys : List ℕ) → Took left calls 0 old mid xs → Took left calls idle mid new ys
       → Took left calls idle old new (xs ++ ys)
   took_more {idle = idle} old mid new xs ys a b = record {

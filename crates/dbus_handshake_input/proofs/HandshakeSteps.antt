@@ -1,13 +1,14 @@
 -- The lines of a side that were read so far, and what is answered after them.
-use Rattle.std.proofs.Common.{◌≡◌, ◌≢◌, inl, inr, ◌<◌, ◌≤◌, ◌+◌, ◌*◌, ℕ, Bool, true, false, List, [], ◌∷◌, ◌++◌, length, get_or, Option, Ok, Err, refl, sym, ap, ◌∙◌, subst, arith, lit≤, append_assoc, append-nil, length-append}
+use Rattle.std.proofs.Common.{◌≡◌, ◌≢◌, inl, inr, ◌<◌, ◌≤◌, ◌+◌, ◌*◌, ℕ, Bool, true, false, eqb, List, [], ◌∷◌, ◌++◌, length, get_or, Option, Ok, Err, refl, sym, ap, ◌∙◌, subst, arith, lit≤, append_assoc, append-nil, length-append}
 use Rattle.std.specs.Prelude.{◌↔◌, ◌||◌}
 use Rattle.std.specs.List.{AllByRecursion, flat_map}
 use Rattle.std.specs.Io.KnownBytes.{IsAtEnd}
+use Rattle.std.proofs.lemmas.Bool.{eq-eqb, eqb-true, false≢true}
 use Rattle.std.proofs.lemmas.List.{flat_map_more}
 use Rattle.dbus_auth_lines.specs.Cut.{IsLine}
 use Rattle.dbus_auth_lines.specs.Lines.{ended}
 use Rattle.dbus_handshake_input.specs.Ahead.{source_of, kept_of, Took}
-use Rattle.dbus_handshake_input.specs.Handshakes.{greeting, sent, GoesOn, IsCommand, IsBegin, IsOk, HasOk, IsNoLine, BeginsNoMessage, begun, accepted, BreaksAfter, first_byte, no_line, too_many}
+use Rattle.dbus_handshake_input.specs.Handshakes.{greeting, sent, GoesOn, IsCommand, IsBegin, IsOk, HasOk, IsNoLine, BeginsNoMessage, MessagesFollow, begun, accepted, BreaksAfter, first_byte, no_line, too_many}
 use Rattle.dbus_handshake_input.specs.Heard.{HeardLine, HearsSome, Reads, heard, heard_from, heard_line, ReadsLine, Says}
 use Rattle.dbus_handshake_input.specs.Passing.{Greets, Passes, SeesMessages, placed}
 use Rattle.dbus_handshake_input.specs.declared.fault.HandshakeFault.{HandshakeFault}
@@ -280,3 +281,20 @@ refuses_first {R = R} left calls side old new kept fault is e took same other = 
     by_kept : (k : List ℕ) → k ≡ kept_of new → get_or k 0 0 ≢ 0 → BreaksAfter side [] (kept_of new) (IsAtEnd (left (source_of new))) 0 reason.FirstByte
     by_kept [] s o = absurd (o refl)
     by_kept (b ∷ more) s o = first_byte b more is refl (sym s) o refl refl
+
+-- the next byte begins a message, or a line
+module _ {R : Type 0} (left : R → Option (List ℕ)) (is_ok : Bool) (new : ReadAhead R) (kept : List ℕ) (after_ok : is_ok ≡ true) (same : kept ≡ kept_of new) where
+  pub sees_little : get_or kept 0 0 ≡ 108 → SeesMessages left is_ok new (Ok (eqb (get_or kept 0 0) 108))
+  sees_little first = subst (λ b. SeesMessages left is_ok new (Ok b)) (sym (eq-eqb (get_or kept 0 0) 108 first)) (by_kept kept same first)
+    where
+      by_kept : (k : List ℕ) → k ≡ kept_of new → get_or k 0 0 ≡ 108 → SeesMessages left is_ok new (Ok true)
+      by_kept [] s e = absurd (omega (arith, e))
+      by_kept (b ∷ more) s e = (after_ok, subst (λ (l : List ℕ). MessagesFollow l (IsAtEnd (left (source_of new)))) s (inl e))
+
+  pub sees_other : get_or kept 0 0 ≢ 108 → kept_of new ≢ [] → SeesMessages left is_ok new (Ok (eqb (get_or kept 0 0) 66))
+  sees_other other some = by_kept kept same other (eqb (get_or kept 0 0) 66) refl
+    where
+      by_kept : (k : List ℕ) → k ≡ kept_of new → get_or k 0 0 ≢ 108 → (said : Bool) → eqb (get_or k 0 0) 66 ≡ said → SeesMessages left is_ok new (Ok said)
+      by_kept [] s o said is = absurd (some (sym s))
+      by_kept (b ∷ more) s o true is = (after_ok, subst (λ (l : List ℕ). MessagesFollow l (IsAtEnd (left (source_of new)))) s (inr (eqb-true b 66 is)))
+      by_kept (b ∷ more) s o false is = inr (record { next = b; more = more; kept_is = sym s; not_little = o; not_big = λ e. false≢true (sym is ∙ eq-eqb b 66 e) })

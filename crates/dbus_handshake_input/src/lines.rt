@@ -14,7 +14,7 @@ use dbus_device::{DeviceFault, Source};
 use std::alloc::{AllocError, Allocator};
 
 // What a line says of the handshake.
-#[derive(Clone, Copy, Debug)]
+#[derive(Clone, Copy)]
 pub(crate) enum Said {
     // It is the client's last one.
     Begin,
