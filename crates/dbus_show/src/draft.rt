@@ -15,6 +15,16 @@ pub trait Draft {
     fn push_str(&mut self, text: &str)
         ensures { gains self.old text.now self.new };
 
+    /// Appends a text between two others.
+    #[inline]
+    fn push_between(&mut self, before: &str, text: &str, after: &str)
+        ensures { gains self.old (before.now ++ (text.now ++ after.now)) self.new }
+    {
+        self.push_str(before);
+        self.push_str(text);
+        self.push_str(after);
+    }
+
     /// Appends the ASCII character that has this code.
     #[inline]
     fn push_code(&mut self, code: u8)

@@ -6,7 +6,7 @@ ghost use Rattle.std.specs.List.{flat_map};
 ghost use Rattle.dbus_show.specs.ShownValues.{escape_by, is_escaped, quoted, quoted_by};
 
 use crate::draft::Draft;
-use crate::hexadecimal::write_hex;
+use crate::hexadecimal::write_byte;
 use crate::runs::plain_length;
 
 /// Appends what stands for a byte that is not shown as itself.
@@ -19,7 +19,7 @@ fn write_escape<D: Draft>(draft: &mut D, byte: u8, mark: &str)
         b'\\' => draft.push_str("\\\\"),
         _ => {
             draft.push_str(mark);
-            write_hex(draft, &[byte]);
+            write_byte(draft, byte);
         }
     }
 }
@@ -41,29 +41,17 @@ fn write_runs<D: Draft>(draft: &mut D, text: &str, mark: &str)
     draft.push_str(&text[start..]);
 }
 
-/// Appends a text with its escapes, and at once if it has none.
-#[inline(always)]
-fn write_escaped<D: Draft>(draft: &mut D, text: &str, mark: &str)
-    ensures { D.gains draft.old (flat_map (escape_by mark.now) text.now) draft.new }
-{
-    if plain_length(text.as_bytes()) == text.len() {
-        draft.push_str(text);
-    } else {
-        write_runs(draft, text, mark);
-    }
-}
-
 /// Appends a text between quotation marks. A byte below 32, or 127, is written as the mark and two
 /// hexadecimal digits.
 pub fn write_quoted_by<D: Draft>(draft: &mut D, text: &str, mark: &str)
     ensures { D.gains draft.old (quoted_by mark.now text.now) draft.new }
 {
-    if text.is_empty() {
-        draft.push_str("\"\"");
+    if plain_length(text.as_bytes()) == text.len() {
+        draft.push_between("\"", text, "\"");
         return;
     }
     draft.push_code(b'"');
-    write_escaped(draft, text, mark);
+    write_runs(draft, text, mark);
     draft.push_code(b'"');
 }
 

@@ -7,6 +7,7 @@
 //! Specification, "Message Format" and "Header Fields".
 #![tactic(auto)]
 
+mod copying;
 mod draft;
 mod escapes;
 mod fields;
@@ -17,6 +18,7 @@ mod runs;
 mod show;
 mod string_draft;
 
+pub use copying::copy_bytes;
 pub use draft::Draft;
 pub use escapes::{write_quoted, write_quoted_by};
 pub use fields::write_field_name;

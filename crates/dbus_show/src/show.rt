@@ -4,7 +4,7 @@
 ghost use Rattle.dbus_show.specs.ShownMessages.{kind_text, start_text};
 
 use crate::draft::Draft;
-use crate::hexadecimal::write_hex;
+use crate::hexadecimal::write_byte;
 use crate::numbers::write_integer;
 use dbus_message_model::message_type::type_name;
 use dbus_message_model::order_byte;
@@ -47,5 +47,5 @@ pub fn write_start<D: Draft>(
     draft.push_str(" serial=");
     write_integer(draft, serial);
     draft.push_str(" flags=");
-    write_hex(draft, &[flags]);
+    write_byte(draft, flags);
 }

@@ -9,10 +9,10 @@ loop-start-init g c = record { inside = omega arith; so_far = subst (λ s. g.D.D
 pub loop-start-preserved : goal.loop-start-preserved
 loop-start-preserved g c =
     let i = c.loop-start.start in
-    let n : (i + 32) - i ≡ 32 = omega arith in
+    let n : (i + 16) - i ≡ 16 = omega arith in
     record {
       inside = omega arith;
-      so_far = subst (λ s. g.D.Draft.gains c.args.draft.now s c.write_block.new.draft) (block_more c.args.bytes.now i 32 ((i + 32) - i) n) (then g.D.Draft.gains g.met.D.Draft.joins c.loop-start.invariant.so_far c.write_block.ensures);
+      so_far = subst (λ s. g.D.Draft.gains c.args.draft.now s c.write_block.new.draft) (block_more c.args.bytes.now i 16 ((i + 16) - i) n) (then g.D.Draft.gains g.met.D.Draft.joins c.loop-start.invariant.so_far c.write_block.ensures);
     }
 
 pub returns : goal.returns
