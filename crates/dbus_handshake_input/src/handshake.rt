@@ -61,10 +61,8 @@ pub fn pass_handshake<A: Allocator + Copy, R: Source>(
     ensures same_reference { R.reference (source_of input.new) ≡
         R.reference (source_of input.old) }
 {
-    match read_handshake(alloc, side, input, &mut Unheard) {
-        Ok(_) => Ok(()),
-        Err(fault) => Err(fault),
-    }
+    read_handshake(alloc, side, input, &mut Unheard)?;
+    Ok(())
 }
 
 /// Takes the handshake of a side from the source, as [`pass_handshake`] does, hands each line of it
