@@ -10,4 +10,3 @@ pub mod Parted
 pub mod Placed
 pub mod OwnersLeft
 pub mod Grouped
-pub mod Somewhere

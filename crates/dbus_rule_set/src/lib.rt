@@ -10,7 +10,6 @@
 //! [`RuleSet::matching`].
 #![tactic(auto)]
 
-mod any;
 mod groups;
 mod handle;
 mod kinds;
@@ -23,6 +22,7 @@ mod rule_set;
 mod search;
 mod slashes;
 mod standing;
+mod visitor;
 
 pub use handle::RuleHandle;
 pub use owners::Owners;

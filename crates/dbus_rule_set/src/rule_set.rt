@@ -13,12 +13,12 @@ ghost use Rattle.dbus_match.specs.Matching.{ownerships};
 ghost use Rattle.dbus_rule_set.specs.Handles.{handle_cmp};
 ghost use Rattle.dbus_rule_set.specs.Places.{IsIndexed, IsKept};
 
-use crate::any::any_matches;
 use crate::handle::RuleHandle;
 use crate::kinds::Kinds;
 use crate::owners::Owners;
 use crate::search::search;
 use crate::standing::handle_of;
+use crate::visitor::{FirstOnly, Listed};
 use dbus_match::{Owner, Rule};
 use dbus_view::MessageView;
 use std::alloc::{AllocError, AllocFailed, Allocator, Global};
@@ -228,6 +228,7 @@ impl<A: Allocator> RuleSet<A> {
         ensures { (order : Order) (m : MessageTree) → Views view.now order m →
             IsTrue result ↔ HoldsOfAny (EntryMatches m (ownerships owners.now)) (held self.now) }
     {
-        any_matches(&self.rules, &self.kinds, view, owners)
+        let owners = Listed { owners };
+        search(&self.rules, &self.kinds, view, &owners, &mut FirstOnly).is_err()
     }
 }

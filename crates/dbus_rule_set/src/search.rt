@@ -1,46 +1,46 @@
-//! The rules of a set that match a message, by the index.
+//! The search of a set for the rules that match a message, by the index.
 #![tactic(auto)]
 
-ghost use Rattle.std.specs.Prelude.{◌≡◌, ◌<◌, ◌∷◌, ◌++◌, [], ℕ, List, length, take, OnOk};
+ghost use Rattle.std.specs.Prelude.{◌≡◌, ◌<◌, ◌∷◌, ◌++◌, [], ℕ, List, length, take, OnErr, OnOk};
 ghost use Rattle.std.specs.List.{AllByRecursion};
-ghost use Rattle.std.specs.Vec.{vec_len};
 ghost use Rattle.dbus_value_model.specs.declared.order.Order.{Order};
 ghost use Rattle.dbus_message_model.specs.Messages.{MessageTree};
 ghost use Rattle.dbus_view.specs.Views.{Views};
 ghost use Rattle.dbus_rule_set.specs.Places.{IsAmong, IsIndexed, IsNext, Stands};
-ghost use Rattle.dbus_rule_set.specs.Held.{Collects, EntryMatches};
+ghost use Rattle.dbus_rule_set.specs.Held.{Collects, EntryMatches, HoldsOfAny};
 ghost use Rattle.dbus_rule_set.specs.Searches.{Searches};
 
 use crate::handle::RuleHandle;
 use crate::kinds::{KINDS, Kinds, key_of};
-use crate::matching::matches;
 use crate::met::met;
-use crate::owners::Owners;
 use crate::places::rules_between;
+use crate::visitor::{NameOwners, RuleVisitor};
 use dbus_match::Rule;
 use dbus_view::MessageView;
-use std::alloc::{AllocError, Allocator};
+use std::alloc::Allocator;
 use std::collections::BTreeMap;
 use std::collections::btree_map::Range;
 
 /// The most rules that are asked one by one without the index, which costs more than they do.
-pub(crate) const FEW: usize = 8;
+const FEW: usize = 8;
 
-/// Puts the handles of those of the rules that match at the end of `found`.
-#[tactic(auto, using(crate::proofs::Begins::begins_push))]
-fn ask_each<A: Allocator>(
+/// Hands over those of the rules that match.
+#[tactic(auto, using(crate::proofs::Begins::begins_on))]
+fn ask_each<A: Allocator, O: NameOwners<A>, V: RuleVisitor>(
     rules: Range<'_, RuleHandle, Rule<A>>,
     view: &MessageView,
-    owners: &Owners,
-    found: &mut Vec<RuleHandle, A>,
-) -> Result<(), AllocError>
+    owners: &O,
+    visitor: &mut V,
+) -> Result<(), V::Stop>
     ensures found { (order : Order) (m : MessageTree) → Views view.now order m →
-        OnOk result (Collects (EntryMatches m owners.now) rules.entry found.old.items found.new.items) }
-    ensures kept { take (length found.old.items) found.new.items ≡ found.old.items }
+        OnOk result (Collects (EntryMatches m (O.owners owners.now)) rules.entry (V.gathered visitor.old) (V.gathered visitor.new)) }
+    ensures stopped { (order : Order) (m : MessageTree) → Views view.now order m →
+        OnErr result (HoldsOfAny (EntryMatches m (O.owners owners.now)) rules.entry) }
+    ensures kept { take (length (V.gathered visitor.old)) (V.gathered visitor.new) ≡ V.gathered visitor.old }
 {
     for (handle, rule) in rules {
-        if matches(rule, view, owners) {
-            found.push(*handle)?;
+        if owners.rule_matches(rule, view) {
+            visitor.visit(*handle)?;
         }
     }
     Ok(())
@@ -70,79 +70,86 @@ fn next_of(hashes: &[u32], from: u64) -> Option<u32>
     next
 }
 
-/// Puts the handles of the rules of the kind that match at the end of `found`, if these have the
-/// hashes.
+/// Hands over the rules of the kind that match, if these have the hashes.
 #[tactic(auto, using(crate::proofs::Begins::begins_on))]
-fn ask_hashes<A: Allocator>(
+fn ask_hashes<A: Allocator, O: NameOwners<A>, V: RuleVisitor>(
     rules: &BTreeMap<RuleHandle, Rule<A>, A>,
     kind: u8,
     hashes: &[u32],
     view: &MessageView,
-    owners: &Owners,
-    found: &mut Vec<RuleHandle, A>,
-) -> Result<(), AllocError>
+    owners: &O,
+    visitor: &mut V,
+) -> Result<(), V::Stop>
     ensures found { (order : Order) (m : MessageTree) → Views view.now order m →
-        AllByRecursion (λ e. EntryMatches m owners.now e → e.0.kind ≡ kind → IsAmong e.0.hash hashes.now) rules.now.entries →
-        OnOk result (Searches (EntryMatches m owners.now) rules.now.entries kind found.old.items found.new.items) }
-    ensures kept { take (length found.old.items) found.new.items ≡ found.old.items }
+        AllByRecursion (λ e. EntryMatches m (O.owners owners.now) e → e.0.kind ≡ kind → IsAmong e.0.hash hashes.now) rules.now.entries →
+        OnOk result (Searches (EntryMatches m (O.owners owners.now)) rules.now.entries kind (V.gathered visitor.old) (V.gathered visitor.new)) }
+    ensures stopped { (order : Order) (m : MessageTree) → Views view.now order m →
+        OnErr result (HoldsOfAny (EntryMatches m (O.owners owners.now)) rules.now.entries) }
+    ensures kept { take (length (V.gathered visitor.old)) (V.gathered visitor.new) ≡ V.gathered visitor.old }
 {
     let mut from = 0;
     while let Some(hash) = next_of(hashes, from) {
         let first = u64::from(hash);
         let there = rules_between(rules, kind, first, kind, first + 1);
-        ask_each(there, view, owners, found)?;
+        ask_each(there, view, owners, visitor)?;
         from = first + 1;
     }
     Ok(())
 }
 
-/// Puts the handles of the rules of the kind that match the message at the end of `found`.
-fn ask_kind<A: Allocator>(
+/// Hands over the rules of the kind that match the message.
+fn ask_kind<A: Allocator, O: NameOwners<A>, V: RuleVisitor>(
     rules: &BTreeMap<RuleHandle, Rule<A>, A>,
     kind: u8,
     view: &MessageView,
-    owners: &Owners,
-    found: &mut Vec<RuleHandle, A>,
-) -> Result<(), AllocError>
+    owners: &O,
+    visitor: &mut V,
+) -> Result<(), V::Stop>
     requires small { kind < 137 }
     requires placed { AllByRecursion Stands rules.now.entries }
     ensures found { (order : Order) (m : MessageTree) → Views view.now order m →
-        OnOk result (Searches (EntryMatches m owners.now) rules.now.entries kind found.old.items found.new.items) }
-    ensures kept { take (length found.old.items) found.new.items ≡ found.old.items }
+        OnOk result (Searches (EntryMatches m (O.owners owners.now)) rules.now.entries kind (V.gathered visitor.old) (V.gathered visitor.new)) }
+    ensures stopped { (order : Order) (m : MessageTree) → Views view.now order m →
+        OnErr result (HoldsOfAny (EntryMatches m (O.owners owners.now)) rules.now.entries) }
+    ensures kept { take (length (V.gathered visitor.old)) (V.gathered visitor.new) ≡ V.gathered visitor.old }
 {
     match met(key_of(kind), view, owners) {
-        Some(hashes) => ask_hashes(rules, kind, hashes.as_slice(), view, owners, found),
+        Some(hashes) => ask_hashes(rules, kind, hashes.as_slice(), view, owners, visitor),
         None => ask_each(
             rules_between(rules, kind, 0, kind + 1, 0),
             view,
             owners,
-            found,
+            visitor,
         ),
     }
 }
 
-/// Puts the handles of the rules that match at the end of `found`. The rules are of these kinds.
+/// Hands over the rules that match, in the order of their handles. The rules are of these kinds.
+///
+/// It stops at an error of the visitor, which then was handed a rule that matches.
 #[tactic(auto, using(crate::proofs::Begins::begins_on))]
-pub(crate) fn search<A: Allocator>(
+pub(crate) fn search<A: Allocator, O: NameOwners<A>, V: RuleVisitor>(
     rules: &BTreeMap<RuleHandle, Rule<A>, A>,
     kinds: &Kinds,
     view: &MessageView,
-    owners: &Owners,
-    found: &mut Vec<RuleHandle, A>,
-) -> Result<(), AllocError>
+    owners: &O,
+    visitor: &mut V,
+) -> Result<(), V::Stop>
     requires indexed { AllByRecursion (IsIndexed kinds.now) rules.now.entries }
     ensures found { (order : Order) (m : MessageTree) → Views view.now order m →
-        OnOk result (Collects (EntryMatches m owners.now) rules.now.entries found.old.items found.new.items) }
-    ensures kept { take (vec_len found.old) found.new.items ≡ found.old.items }
+        OnOk result (Collects (EntryMatches m (O.owners owners.now)) rules.now.entries (V.gathered visitor.old) (V.gathered visitor.new)) }
+    ensures stopped { (order : Order) (m : MessageTree) → Views view.now order m →
+        OnErr result (HoldsOfAny (EntryMatches m (O.owners owners.now)) rules.now.entries) }
+    ensures kept { take (length (V.gathered visitor.old)) (V.gathered visitor.new) ≡ V.gathered visitor.old }
 {
     if rules.len() <= FEW {
-        return ask_each(rules_between(rules, 0, 0, KINDS, 0), view, owners, found);
+        return ask_each(rules_between(rules, 0, 0, KINDS, 0), view, owners, visitor);
     }
     for kind in 0..KINDS {
         if !kinds.has(kind) {
             continue;
         }
-        ask_kind(rules, kind, view, owners, found)?;
+        ask_kind(rules, kind, view, owners, visitor)?;
     }
     Ok(())
 }

@@ -6,6 +6,9 @@ use Rattle.dbus_rule_set.proofs.search.ask_each.Goals as goal
 
 pub returns-clause-found : goal.returns-clause-found
 returns-clause-found g c = λ order m v.
-    let found = c.loop-handle.found.items in
-    let none : c.loop-handle.handle-iterator ≡ [] = rest_all deref_pair c.loop-handle.handle-iterator c.next.new.self c.next.result c.in-None.is c.next.ensures.steps in
-    c.loop-handle.invariant.found order m v found (subst (λ es. Collects (EntryMatches m c.args.owners.now) es found found) (sym none) refl)
+    let l = c.loop-handle in
+    let P = EntryMatches m (g.O.NameOwners.owners c.args.owners.now) in
+    let found = g.V.RuleVisitor.gathered l.visitor in
+    let none : l.handle-iterator ≡ [] =
+    rest_all deref_pair l.handle-iterator c.next.new.self c.next.result c.in-None.is c.next.ensures.steps in
+    l.invariant.found order m v found (subst (λ es. Collects P es found found) (sym none) refl)

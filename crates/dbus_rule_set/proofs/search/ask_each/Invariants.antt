@@ -3,13 +3,19 @@ use Rattle.dbus_value_model.specs.declared.order.Order.{Order}
 use Rattle.dbus_message_model.specs.Messages.{MessageTree}
 use Rattle.dbus_view.specs.Views.{Views}
 use Rattle.dbus_rule_set.specs.declared.handle.RuleHandle.{RuleHandle}
-use Rattle.dbus_rule_set.specs.Held.{Collects, EntryMatches}
+use Rattle.dbus_rule_set.specs.Held.{Collects, EntryMatches, HoldsOfAny}
 use Rattle.dbus_rule_set.proofs.search.ask_each.Given as goal
 
--- what those left bring to the end comes of all
+-- what those left bring to the end comes of all, and what holds of one of them holds of one of all
 abbrev pub invariant-loop-handle : goal.invariant-loop-handle
 invariant-loop-handle g l =
+    let gathered = g.V.RuleVisitor.gathered in
+    let os = g.O.NameOwners.owners l.owners in
     record {
-      found : (order : Order) (m : MessageTree) → Views l.view order m → (end : List RuleHandle) → Collects (EntryMatches m l.owners) l.handle-iterator l.found.items end → Collects (EntryMatches m l.owners) l.fn.rules l.fn.found.items end;
-      kept : take (length l.fn.found.items) l.found.items ≡ l.fn.found.items;
+      found : (order : Order) (m : MessageTree) → Views l.view order m → (end : List RuleHandle)
+          → Collects (EntryMatches m os) l.handle-iterator (gathered l.visitor) end
+          → Collects (EntryMatches m os) l.fn.rules (gathered l.fn.visitor) end;
+      left : (order : Order) (m : MessageTree) → Views l.view order m
+          → HoldsOfAny (EntryMatches m os) l.handle-iterator → HoldsOfAny (EntryMatches m os) l.fn.rules;
+      kept : take (length (gathered l.fn.visitor)) (gathered l.visitor) ≡ gathered l.fn.visitor;
     }

@@ -10,10 +10,14 @@ use Rattle.dbus_rule_set.proofs.search.ask_hashes.Given as goal
 -- those of hashes below the number are found
 abbrev pub invariant-loop-hash : goal.invariant-loop-hash
 invariant-loop-hash g l =
+    let gathered = g.V.RuleVisitor.gathered in
+    let os = g.O.NameOwners.owners l.owners in
+    let es = l.rules.entries in
     record {
-      found : (order : Order) (m : MessageTree) → Views l.view order m → HaveHashes (EntryMatches m l.owners) l.kind l.hashes l.rules.entries
-          → (first : List RuleHandle) → Collects (Below (EntryMatches m l.owners) l.kind 0) l.rules.entries first l.fn.found.items → Collects (Below (EntryMatches m l.owners) l.kind l.from) l.rules.entries first l.found.items;
-      kept : take (length l.fn.found.items) l.found.items ≡ l.fn.found.items;
+      found : (order : Order) (m : MessageTree) → Views l.view order m → HaveHashes (EntryMatches m os) l.kind l.hashes es
+          → (first : List RuleHandle) → Collects (Below (EntryMatches m os) l.kind 0) es first (gathered l.fn.visitor)
+          → Collects (Below (EntryMatches m os) l.kind l.from) es first (gathered l.visitor);
+      kept : take (length (gathered l.fn.visitor)) (gathered l.visitor) ≡ gathered l.fn.visitor;
       bound : l.from ≤ 4294967296;
     }
 

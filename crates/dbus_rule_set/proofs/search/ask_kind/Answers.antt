@@ -1,7 +1,8 @@
 use Rattle.std.proofs.Common.{◌+◌, inl, sym, subst, arith}
 use Rattle.dbus_rule_set.specs.Held.{EntryMatches}
 use Rattle.dbus_rule_set.specs.Places.{IsAmong, place_hash}
-use Rattle.dbus_rule_set.proofs.Collected.{on_ok}
+use Rattle.dbus_rule_set.specs.Searches.{within}
+use Rattle.dbus_rule_set.proofs.Collected.{any_between, on_ok}
 use Rattle.dbus_rule_set.proofs.Parted.{more_found}
 use Rattle.dbus_rule_set.proofs.Placed.{have_met}
 use Rattle.dbus_rule_set.proofs.search.ask_kind.Goals as goal
@@ -11,17 +12,29 @@ rules_between-requires g c = inl (omega arith)
 
 pub returns-in-Some-clause-found : goal.returns-in-Some-clause-found
 returns-in-Some-clause-found g c = λ order m v.
+    let os = g.O.NameOwners.owners c.args.owners.now in
+    let key = c.key_of.result in
     let hs = c.as_slice.result.now in
     c.ask_hashes.ensures.found order m v
-    (have_met m c.args.owners.now c.key_of.result c.args.kind (λ h. IsAmong h hs) c.key_of.ensures.keyed (λ e. c.in-Some.ensures.all (c.key_of.ensures.others e))
-    (λ value holds. subst (IsAmong (place_hash c.key_of.result value)) (sym c.as_slice.ensures.value) (c.in-Some.ensures.met order m v value holds)) c.args.rules.now.entries c.requires.placed)
+    (have_met m os key c.args.kind (λ h. IsAmong h hs) c.key_of.ensures.keyed
+    (λ e. c.in-Some.ensures.all (c.key_of.ensures.others e))
+    (λ value holds. subst (IsAmong (place_hash key value)) (sym c.as_slice.ensures.value)
+    (c.in-Some.ensures.met order m v value holds))
+    c.args.rules.now.entries c.requires.placed)
 
 pub returns-in-None-clause-found : goal.returns-in-None-clause-found
 returns-in-None-clause-found g c = λ order m v.
-    let P = EntryMatches m c.args.owners.now in
-    let es = c.args.rules.now.entries in
-    let from = c.args.found.now.items in
-    let to = c.ask_each.new.found.items in
+    let P = EntryMatches m (g.O.NameOwners.owners c.args.owners.now) in
+    let gathered = g.V.RuleVisitor.gathered in
+    let between = c.rules_between in
     on_ok c.ask_each.result
-    (λ some first before. more_found P c.args.kind 0 (c.args.kind + 1) 0 es c.rules_between.result first from to (inl (omega arith)) c.rules_between.ensures.ordered c.rules_between.ensures.between before some)
+    (λ some first before. more_found P c.args.kind 0 (c.args.kind + 1) 0 c.args.rules.now.entries between.result first
+    (gathered c.args.visitor.now) (gathered c.ask_each.new.visitor) (inl (omega arith))
+    between.ensures.ordered between.ensures.between before some)
     (c.ask_each.ensures.found order m v)
+
+pub returns-in-None-clause-stopped : goal.returns-in-None-clause-stopped
+returns-in-None-clause-stopped g c = λ order m v.
+    let P = EntryMatches m (g.O.NameOwners.owners c.args.owners.now) in
+    any_between P (λ e. within c.args.kind 0 (c.args.kind + 1) 0 e.0) c.args.rules.now.entries c.rules_between.result
+    c.ask_each.result c.rules_between.ensures.between (c.ask_each.ensures.stopped order m v)

@@ -9,7 +9,10 @@ use Rattle.dbus_rule_set.proofs.search.search.Given as goal
 -- those of the kinds so far are found
 abbrev pub invariant-loop-kind : goal.invariant-loop-kind
 invariant-loop-kind g l =
+    let gathered = g.V.RuleVisitor.gathered in
+    let os = g.O.NameOwners.owners l.owners in
     record {
-      found : (order : Order) (m : MessageTree) → Views l.view order m → Collects (Below (EntryMatches m l.owners) l.kind 0) l.rules.entries l.fn.found.items l.found.items;
-      kept : take (length l.fn.found.items) l.found.items ≡ l.fn.found.items;
+      found : (order : Order) (m : MessageTree) → Views l.view order m
+          → Collects (Below (EntryMatches m os) l.kind 0) l.rules.entries (gathered l.fn.visitor) (gathered l.visitor);
+      kept : take (length (gathered l.fn.visitor)) (gathered l.visitor) ≡ gathered l.fn.visitor;
     }
