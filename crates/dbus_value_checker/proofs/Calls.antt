@@ -60,7 +60,7 @@ over_last x answer h over c = over_at x x.doing answer h over c
   where
     over_at : (x : ValueChecker) (d : Doing) (answer : Answer) → denotes d x answer → (IsLive d → ⊥) → (c : List ℕ) → answer.last (offset_of x) c ≡ answer.to c
     over_at x (doing.Wanted pos stop) answer h over c = absurd (over tt)
-    over_at x (doing.Text code left) answer h over c = absurd (over tt)
+    over_at x (doing.Text kind left) answer h over c = absurd (over tt)
     over_at x (doing.Numbers w) answer h over c = absurd (over tt)
     over_at x doing.Nul answer h over c = absurd (over tt)
     over_at x doing.Over answer h over c = h.2 c

@@ -1,7 +1,7 @@
 -- A value whose padding is there.
 use Rattle.std.proofs.Common.{◌≡◌, ℕ, suc, ◌+◌, ◌-◌, ◌*◌, ◌<◌, ◌≤◌, List, [], ◌∷◌, ◌++◌, length, reverse, take, get_or, true, false, Ok, Err, refl, sym, ap, subst, ◌∙◌, arith, inl, inr, Result}
 use Rattle.std.specs.Prelude.{◌⊎◌}
-use Rattle.dbus_texts.specs.Types.{NumberCode, TextCode, TypeTree, NumberType, TextType, VariantType, ArrayType, StructType, EntryType, TypeTrees, NoTypes, MoreTypes, number_code, text_code, sig, sigs, IsShaped, AreShaped}
+use Rattle.dbus_texts.specs.Types.{NumberCode, TextCode, STRING, OBJECT_PATH, SIGNATURE, TypeTree, NumberType, TextType, VariantType, ArrayType, StructType, EntryType, TypeTrees, NoTypes, MoreTypes, number_code, text_code, sig, sigs, IsShaped, AreShaped}
 use Rattle.dbus_types.specs.Alignments.{width, length_width, alignment_of}
 use Rattle.dbus_texts.specs.declared.scan.TextScan.{TextScan}
 use Rattle.dbus_texts.specs.Scans.{Stands}
@@ -19,7 +19,7 @@ use Rattle.dbus_value_checker.specs.declared.values.Frame.{Frame}
 use Rattle.dbus_types.specs.SignatureCodes.{first_code}
 use Rattle.dbus_types.proofs.TypeCodes.{begins, after_code, variant_is}
 use Rattle.dbus_value_checker.specs.Fronts.{IsNumberCode, Fronts}
-use Rattle.dbus_value_checker.specs.Suspended.{On, onward, done, Work, Parts, Elements, elements, work, works, TextItem, AString, AHeld, item_code, item_kind, item_width, item_on, head, ALength, own, own_of, opened_by}
+use Rattle.dbus_value_checker.specs.Suspended.{On, onward, done, Work, Parts, Elements, elements, work, works, TextItem, AText, AHeld, item_kind, item_width, item_on, head, ALength, own, own_of, opened_by}
 use Rattle.dbus_value_checker.specs.Denotations.{slice, Framed, extra, Answer, rest_of, HasFrames, Goes, Wants, Ready, IsKept, Texts, after_piece}
 use Rattle.dbus_texts.specs.declared.text_kind.TextKind.{TextKind}
 use Rattle.dbus_texts.specs.declared.text_kind.TextKind.TheVariants as kinds
@@ -289,6 +289,11 @@ module _ (x : ValueChecker) (pos stop n : ℕ) (answer : Answer) (r : Ready x po
 
   -- ---- a text, or the signature of a variant
 
+  not_single : (k : TextCode) → kind_of k ≡ Of kinds.Single → ⊥
+  not_single STRING e = cc
+  not_single OBJECT_PATH e = cc
+  not_single SIGNATURE e = cc
+
   module _ (i : TextItem) (begun : (c : List ℕ) → head x.bounds x.order x.inner.end (ALength i) (rest_of answer x r.wants.ws) (x.offset + n) c ≡ answer.to c) (s : List ℕ) where
     abbrev sized : Reader ℕ
     sized = number x.order (item_width i) x.inner.end (text_row x.inner.end)
@@ -300,9 +305,9 @@ module _ (x : ValueChecker) (pos stop n : ℕ) (answer : Answer) (r : Ready x po
     item_stops e h = front_stops (λ (m : ℕ × ℕ). m) (x.offset + n) s sized lettered answer.to begun x answer.last e h
 
     item_starts : (size k : ℕ) → Fronts (λ (m : ℕ × ℕ). m) (x.offset + n) s (Ok (size, k)) sized → 0 < k → x.offset + n + k + size + 1 ≤ x.inner.end
-        → (scan : TextScan) (held : ArrayVec ℕ) → Of (scans.kind_of scan) ≡ item_kind i → Stands scan [] → IsKept i held.items x.inner.depth_left size []
-        → Texts (record x { offset = x.offset + n + k; scan = scan; held = held }) (item_code i) size (after_piece answer (take k s))
-    item_starts size k gives some fits scan held scans_is stands kept = record {
+        → (scan : TextScan) (held : ArrayVec ℕ) (kind : TextKind) → item_kind i ≡ Of kind → scans.kind_of scan ≡ kind → Stands scan [] → IsKept i held.items x.inner.depth_left size []
+        → Texts (record x { offset = x.offset + n + k; scan = scan; held = held }) kind size (after_piece answer (take k s))
+    item_starts size k gives some fits scan held kind kind_is scans_is stands kept = record {
       ws = r.wants.ws;
       item = i;
       size = size;
@@ -310,7 +315,7 @@ module _ (x : ValueChecker) (pos stop n : ℕ) (answer : Answer) (r : Ready x po
       bytes = [];
       frames = further (x.offset + n + k) (omega arith) (omega arith);
       noted = r.wants.noted;
-      code_is = refl;
+      kind_is = kind_is;
       kept = kept;
       scans = scans_is;
       stands = stands;
@@ -333,13 +338,12 @@ module _ (x : ValueChecker) (pos stop n : ℕ) (answer : Answer) (r : Ready x po
       Counts e = (k : TextCode) → text_code k ≡ code → Fronts (λ (m : ℕ × ℕ). m) (x.offset + n) s e (number x.order (length_width k) x.inner.end (text_row x.inner.end))
 
       pub text_stops : (e : Stop) → Counts (Err e) → Moves x s (Err e) x answer
-      text_stops e h = item_stops (AString ready_text.0) (ready_at (TextType ready_text.0) x.inner.depth_left ready_text.1 refl) s e (h ready_text.0 text_is)
+      text_stops e h = item_stops (AText (kind_of ready_text.0) (length_width ready_text.0)) (ready_at (TextType ready_text.0) x.inner.depth_left ready_text.1 refl) s e (h ready_text.0 text_is)
 
       module _ (size k : ℕ) (gives : Counts (Ok (size, k))) (some : 0 < k) (fits : x.offset + n + k + size + 1 ≤ x.inner.end) (kind : TextKind) (kind_is : (k : TextCode) → text_code k ≡ code → Of kind ≡ kind_of k) where
-        pub text_starts : (scan : TextScan) → scans.kind_of scan ≡ kind → Stands scan [] → Texts (record x { offset = x.offset + n + k; scan = scan }) code size (after_piece answer (take k s))
+        pub text_starts : (scan : TextScan) → scans.kind_of scan ≡ kind → Stands scan [] → Texts (record x { offset = x.offset + n + k; scan = scan }) kind size (after_piece answer (take k s))
         text_starts scan scans_is stands =
-            subst (λ (d : ℕ). Texts (record x { offset = x.offset + n + k; scan = scan }) d size (after_piece answer (take k s))) text_is
-            (item_starts (AString ready_text.0) (ready_at (TextType ready_text.0) x.inner.depth_left ready_text.1 refl) s size k (gives ready_text.0 text_is) some fits scan x.held (ap Of scans_is ∙ kind_is ready_text.0 text_is) stands tt)
+            item_starts (AText (kind_of ready_text.0) (length_width ready_text.0)) (ready_at (TextType ready_text.0) x.inner.depth_left ready_text.1 refl) s size k (gives ready_text.0 text_is) some fits scan x.held kind (sym (kind_is ready_text.0 text_is)) scans_is stands (not_single ready_text.0)
 
   module _ (is : code ≡ 118) where
     ready_variant : r.wants.type ≡ VariantType
@@ -357,6 +361,6 @@ module _ (x : ValueChecker) (pos stop n : ℕ) (answer : Answer) (r : Ready x po
 
       pub variant_starts : (size : ℕ) → Fronts (λ (n : ℕ). (n, 1)) (x.offset + n) s (Ok size) counts → size < 256 → x.offset + n + 1 + size + 1 ≤ x.inner.end
           → (scan : TextScan) (held : ArrayVec ℕ) → scans.kind_of scan ≡ kinds.Single → Stands scan [] → held.items ≡ []
-          → Texts (record x { offset = x.offset + n + 1; scan = scan; held = held }) 118 size (after_piece answer (take 1 s))
+          → Texts (record x { offset = x.offset + n + 1; scan = scan; held = held }) kinds.Single size (after_piece answer (take 1 s))
       variant_starts size gives few fits scan held scans_is stands none =
-          item_starts (AHeld inner) (ready_at VariantType (suc inner) ready_variant depth_left) s size 1 gives (omega arith) fits scan held (ap Of scans_is) stands (none, omega arith, depth_left)
+          item_starts (AHeld inner) (ready_at VariantType (suc inner) ready_variant depth_left) s size 1 gives (omega arith) fits scan held kinds.Single refl scans_is stands (none, omega arith, depth_left)

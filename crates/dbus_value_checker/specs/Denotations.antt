@@ -5,13 +5,14 @@ use Rattle.dbus_types.specs.Alignments.{width}
 use Rattle.dbus_texts.specs.Scans.{Stands}
 use Rattle.dbus_texts.specs.Scans as scans
 use Rattle.dbus_texts.specs.Kinds.{IsKind}
+use Rattle.dbus_texts.specs.declared.text_kind.TextKind.{TextKind}
 use Rattle.dbus_texts.specs.declared.text_kind.TextKind.TheVariants as kinds
 use Rattle.dbus_value_model.specs.WantedTexts.{Of}
 use Rattle.dbus_value_model.specs.Bytes.{gap_to}
 use Rattle.dbus_value_model.specs.ValueItems.{number_row}
 use Rattle.dbus_value_model.specs.Reading.{Outcome, after, text, nul, value}
 use Rattle.dbus_value_checker.specs.declared.values.Frame.{Frame}
-use Rattle.dbus_value_checker.specs.Suspended.{Work, Parts, Elements, On, onward, works, TextItem, AString, AHeld, item_code, item_kind, item_on, own, own_of, opened_by}
+use Rattle.dbus_value_checker.specs.Suspended.{Work, Parts, Elements, On, onward, works, TextItem, AText, AHeld, item_kind, item_on, own, own_of, opened_by}
 use Rattle.dbus_value_checker.specs.declared.values.ValueChecker.{ValueChecker}
 use Rattle.dbus_value_checker.specs.declared.values.Doing.{Doing}
 use Rattle.dbus_value_checker.specs.declared.values.Doing.TheVariants as doing
@@ -128,11 +129,11 @@ pub record Ready (x : ValueChecker) (pos stop n : ℕ) (answer : Answer) : Type 
 
 -- what is kept of a text of so many bytes, of which these were taken: of a variant's signature all
 abbrev pub IsKept : TextItem → (held : List ℕ) → (depth_left size : ℕ) → (bytes : List ℕ) → Type 0
-IsKept (AString k) held depth_left size bytes = Unit {0}
+IsKept (AText k width) held depth_left size bytes = k ≡ Of kinds.Single → ⊥
 IsKept (AHeld inner) held depth_left size bytes = (held ≡ bytes) × (size ≤ 255) × (depth_left ≡ suc inner)
 
--- so many bytes of a text are wanted, of the type that has this code, or of a variant's signature
-pub record Texts (x : ValueChecker) (code left : ℕ) (answer : Answer) : Type 0 where
+-- so many bytes of a text of a kind are wanted
+pub record Texts (x : ValueChecker) (kind : TextKind) (left : ℕ) (answer : Answer) : Type 0 where
   pub ws : List Work
   pub item : TextItem
   pub size : ℕ
@@ -140,9 +141,9 @@ pub record Texts (x : ValueChecker) (code left : ℕ) (answer : Answer) : Type 0
   pub bytes : List ℕ
   pub frames : HasFrames x.offset x ws
   pub noted : HasNotes x
-  pub code_is : item_code item ≡ code
+  pub kind_is : item_kind item ≡ Of kind
   pub kept : IsKept item x.held.items x.inner.depth_left size bytes
-  pub scans : Of (scans.kind_of x.scan) ≡ item_kind item
+  pub scans : scans.kind_of x.scan ≡ kind
   pub stands : Stands x.scan bytes
   pub offset : start + length bytes ≡ x.offset
   pub left_is : length bytes + left ≡ size
@@ -192,7 +193,7 @@ pub record Numbers (x : ValueChecker) (left : ℕ) (answer : Answer) : Type 0 wh
 
 abbrev pub denotes : Doing → ValueChecker → Answer → Type 0
 denotes (doing.Wanted pos stop) x answer = Wants x pos stop answer
-denotes (doing.Text code left) x answer = (0 < left) × Texts x code left answer
+denotes (doing.Text kind left) x answer = (0 < left) × Texts x kind left answer
 denotes (doing.Numbers left) x answer = (0 < left) × Numbers x left answer
 denotes doing.Nul x answer = Nuls x answer
 denotes doing.Over x answer = (x.offset ≤ x.end) × (x.end < 18446744073709551616) × ((c : List ℕ) → answer.last x.offset c ≡ answer.to c)

@@ -12,7 +12,9 @@ use Rattle.dbus_value_checker.specs.declared.values.Frame.{Frame}
 use Rattle.dbus_value_checker.specs.declared.values.Doing.{Doing}
 use Rattle.dbus_value_checker.specs.declared.values.Doing.TheVariants as doing
 use Rattle.dbus_types.specs.SignatureCodes.{IsTypeEnd}
-use Rattle.dbus_value_checker.specs.Suspended.{On, onward}
+use Rattle.dbus_texts.specs.declared.text_kind.TextKind.{TextKind}
+use Rattle.dbus_value_model.specs.WantedTexts.{Of}
+use Rattle.dbus_value_checker.specs.Suspended.{On, onward, ended_text}
 use Rattle.dbus_value_checker.specs.Denotations.{Answer, after_piece, Wants, Denotes}
 
 -- a call that was handed the bytes s: it took so many; or they end within what is wanted, and
@@ -49,7 +51,7 @@ Enters x pos stop n depth_left answer =
 -- something is wanted still
 abbrev pub IsLive : Doing → Type 0
 IsLive (doing.Wanted pos stop) = Unit {0}
-IsLive (doing.Text code left) = Unit {0}
+IsLive (doing.Text kind left) = Unit {0}
 IsLive (doing.Numbers left) = Unit {0}
 IsLive doing.Nul = Unit {0}
 IsLive doing.Over = ⊥
@@ -57,6 +59,10 @@ IsLive doing.Over = ⊥
 -- values of these types, from an offset on, and then the last
 abbrev pub values_on : Bounds → Order → (depth_left end : ℕ) → TypeTrees → On → ℕ → Answer
 values_on bounds order depth_left end ts last offset = record { last = last; to = onward (fields (value bounds order depth_left end) ts) last offset }
+
+-- a text of a kind, of so many bytes, and the zero after it, from an offset on, and then the last
+abbrev pub text_on : TextKind → (size : ℕ) → On → ℕ → Answer
+text_on kind size last offset = record { last = last; to = onward (ended_text (Of kind) size) last offset }
 
 -- nothing is wanted, and then the last
 abbrev pub nothing_on : On → ℕ → Answer
@@ -69,7 +75,7 @@ offset_of x = x.offset
 -- how many bytes the wanted type has
 abbrev pub wide : Doing → ℕ
 wide (doing.Wanted pos stop) = stop - pos
-wide (doing.Text code left) = 0
+wide (doing.Text kind left) = 0
 wide (doing.Numbers left) = 0
 wide doing.Nul = 0
 wide doing.Over = 0

@@ -1,7 +1,7 @@
 -- A reading that is suspended: what is wanted from here on, and what it answers to the bytes that
 -- come. D-Bus Specification, "Marshaling (Wire Format)".
 use Rattle.std.specs.Prelude.{ℕ, zero, suc, ◌+◌, List, [], ◌∷◌, Option, nat_lt, nat_eq, if◌then◌else◌}
-use Rattle.dbus_texts.specs.Types.{NumberCode, TextCode, text_code, TypeTree, NumberType, TextType, VariantType, ArrayType, StructType, EntryType, TypeTrees, NoTypes, MoreTypes}
+use Rattle.dbus_texts.specs.Types.{NumberCode, TypeTree, NumberType, TextType, VariantType, ArrayType, StructType, EntryType, TypeTrees, NoTypes, MoreTypes}
 use Rattle.dbus_types.specs.Alignments.{width, length_width, alignment_of}
 use Rattle.dbus_texts.specs.ComputedKinds.{type_spelled}
 use Rattle.dbus_texts.specs.declared.text_kind.TextKind.TheVariants as kinds
@@ -51,29 +51,24 @@ works bounds order last (w ∷ ws) = work bounds order w (works bounds order las
 
 -- ---- items
 
--- a text with its length before it: a value; or the signature of a variant's value, in which so
--- many containers may be opened
+-- a text after which no more of it is read, whose length has so many bytes; or the signature of a
+-- variant's value, in which so many containers may be opened
 pub data TextItem : Type 0 where
-  AString : TextCode → TextItem
+  AText : WantedText → (width : ℕ) → TextItem
   AHeld : (inner : ℕ) → TextItem
 
--- the code of its type
-abbrev pub item_code : TextItem → ℕ
-item_code (AString k) = text_code k
-item_code (AHeld inner) = 118
-
 abbrev pub item_kind : TextItem → WantedText
-item_kind (AString k) = kind_of k
+item_kind (AText k width) = k
 item_kind (AHeld inner) = Of kinds.Single
 
 -- how many bytes its length has
 abbrev pub item_width : TextItem → ℕ
-item_width (AString k) = length_width k
+item_width (AText k width) = width
 item_width (AHeld inner) = 1
 
 -- what is read after the text t and the zero that ends it
 abbrev pub item_on : Bounds → Order → ℕ → TextItem → On → List ℕ → On
-item_on bounds order end (AString k) next t = next
+item_on bounds order end (AText k width) next t = next
 item_on bounds order end (AHeld inner) next t = onward (value bounds order inner end (type_spelled t)) next
 
 -- an item that begins with a number; inner is the room within the container that it opens
@@ -128,7 +123,7 @@ own bounds order end Closed next = λ o s. Faulty (fault o reasons.TooDeep)
 -- a value's
 abbrev pub own_of : TypeTree → ℕ → Own
 own_of (NumberType k) depth_left = AHead (ANumber k)
-own_of (TextType k) depth_left = AHead (ALength (AString k))
+own_of (TextType k) depth_left = AHead (ALength (AText (kind_of k) (length_width k)))
 own_of VariantType zero = Closed
 own_of VariantType (suc inner) = AHead (ALength (AHeld inner))
 own_of (ArrayType t) zero = Closed

@@ -2,7 +2,8 @@
 //! Specification, "Variant".
 #![tactic(auto)]
 
-ghost use Rattle.std.specs.Prelude.{◌≡◌, ◌+◌, ◌<◌, ◌≤◌, ◌++◌, length, slice_index, IfOk, IfErr};
+ghost use Rattle.std.specs.Prelude.{◌≡◌, ◌+◌, ◌<◌, ◌≤◌, ◌++◌, ◌↔◌, length, slice_index, IfOk, IfErr, IsTrue};
+ghost use Rattle.dbus_texts.specs.declared.text_kind.TextKind.TheVariants.{Single};
 
 use crate::fronts::short_length_front;
 use crate::signatures::sign;
@@ -11,12 +12,19 @@ use arrayvec::ArrayVec;
 use dbus_types::{TextKind, TextScan};
 use dbus_value_model::{Reason, Stop, refuse};
 
+/// Whether the texts of a kind are the signatures of variants.
+pub(crate) fn is_held(kind: TextKind) -> bool
+    ensures { IsTrue result ↔ (kind ≡ Single) }
+{
+    matches!(kind, TextKind::Single)
+}
+
 /// Keeps more bytes of a text if it is the signature of a variant.
-pub(crate) fn keep(held: &mut ArrayVec<u8, 255>, code: u8, more: &[u8])
-    ensures { code ≡ 118 → length held.old.items + length more.now ≤ 255 →
+pub(crate) fn keep(held: &mut ArrayVec<u8, 255>, kind: TextKind, more: &[u8])
+    ensures { kind ≡ Single → length held.old.items + length more.now ≤ 255 →
         held.new.items ≡ held.old.items ++ more.now }
 {
-    if code != b'v' {
+    if !is_held(kind) {
         return;
     }
     match held.try_extend_from_slice(more) {
@@ -56,7 +64,7 @@ impl ValueChecker {
                 self.offset = at + 1;
                 self.scan = TextScan::new(TextKind::Single);
                 self.held.clear();
-                match self.text_on(b'v', size) {
+                match self.text_on(TextKind::Single, size) {
                     Ok(()) => Ok(1),
                     Err(stop) => Err(stop),
                 }

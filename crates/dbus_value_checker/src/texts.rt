@@ -1,4 +1,5 @@
-//! Texts, whose bytes may come in pieces: values, and the signatures of variants.
+//! Texts, whose bytes may come in pieces: values, the signatures of variants, and the texts of a
+//! header's fields.
 #![tactic(auto)]
 
 ghost use Rattle.std.specs.Prelude.{◌≡◌, ◌≢◌, ◌<◌, length, slice_index, IfOk, IfErr, ◌⊎◌};
@@ -6,10 +7,9 @@ ghost use Rattle.dbus_texts.specs.Types.{TextCode, text_code};
 ghost use Rattle.dbus_value_model.specs.WantedTexts.{Of};
 ghost use Rattle.dbus_value_model.specs.WantedTexts as wanted;
 ghost use Rattle.dbus_value_model.specs.Items.{text_reason};
-ghost use Rattle.dbus_value_checker.specs.Suspended.{TextItem, item_code, item_kind};
 
 use crate::fronts::{front, length_front, nul_front};
-use crate::holding::keep;
+use crate::holding::{is_held, keep};
 use crate::values::{Doing, ValueChecker};
 use dbus_types::{TextKind, TextScan};
 use dbus_value_model::{Reason, Stop, refuse};
@@ -25,14 +25,18 @@ pub fn kind_of_code(code: u8) -> TextKind
     }
 }
 
-/// What is wrong with a text that is none of the type that has this code.
-pub fn reason_of_code(code: u8) -> Reason
-    ensures { (i : TextItem) → item_code i ≡ code → text_reason (item_kind i) ≡ result }
+/// What is wrong with a text that is not of this kind.
+fn reason_of_kind(kind: TextKind) -> Reason
+    ensures { text_reason (Of kind) ≡ result }
 {
-    match code {
-        b's' => Reason::Text,
-        b'o' => Reason::Path,
-        _ => Reason::Signature,
+    match kind {
+        TextKind::Text => Reason::Text,
+        TextKind::Path => Reason::Path,
+        TextKind::Interface => Reason::Interface,
+        TextKind::Member => Reason::Member,
+        TextKind::ErrorName => Reason::ErrorName,
+        TextKind::BusName => Reason::BusName,
+        TextKind::Signature | TextKind::Single => Reason::Signature,
     }
 }
 
@@ -43,25 +47,25 @@ impl ValueChecker {
 
     /// The number of bytes of a text that are still wanted. If none are, the text is validated
     /// whole.
-    pub(crate) fn text_on(&mut self, code: u8, left: usize) -> Result<(), Stop>
-        requires valid { (answer : Answer) × Texts self.old code left answer }
-        ensures opens { (answer : Answer) → Texts self.old code left answer →
+    pub(crate) fn text_on(&mut self, kind: TextKind, left: usize) -> Result<(), Stop>
+        requires valid { (answer : Answer) × Texts self.old kind left answer }
+        ensures opens { (answer : Answer) → Texts self.old kind left answer →
             Opens result self.new answer }
         ensures decided { IfErr result (λ e. e ≢ Partial) }
     {
         if left > 0 {
-            self.doing = Doing::Text(code, left);
+            self.doing = Doing::Text(kind, left);
             return Ok(());
         }
         if self.scan.end() {
-            if code == b'v' {
+            if is_held(kind) {
                 self.hold();
                 return Ok(());
             }
             self.doing = Doing::Nul;
             return Ok(());
         }
-        refuse(self.offset, reason_of_code(code))
+        refuse(self.offset, reason_of_kind(kind))
     }
 
     /// A text, whose padding of n bytes is there: its length.
@@ -85,8 +89,9 @@ impl ValueChecker {
         match length_front(code, bytes, at, self.inner.end, self.order) {
             Ok((size, width)) => {
                 self.offset = at + width;
-                self.scan = TextScan::new(kind_of_code(code));
-                match self.text_on(code, size) {
+                let kind = kind_of_code(code);
+                self.scan = TextScan::new(kind);
+                match self.text_on(kind, size) {
                     Ok(()) => Ok(width),
                     Err(stop) => Err(stop),
                 }
@@ -96,10 +101,10 @@ impl ValueChecker {
     }
 
     /// More bytes of a text.
-    pub(crate) fn text(&mut self, code: u8, left: usize, bytes: &[u8]) -> Result<usize, Stop>
-        requires valid { (answer : Answer) × Texts self.old code left answer }
+    pub(crate) fn text(&mut self, kind: TextKind, left: usize, bytes: &[u8]) -> Result<usize, Stop>
+        requires valid { (answer : Answer) × Texts self.old kind left answer }
         requires more { 0 < left }
-        ensures moves { (answer : Answer) → Texts self.old code left answer →
+        ensures moves { (answer : Answer) → Texts self.old kind left answer →
             Moves self.old bytes.now result self.new answer }
         ensures some { IfOk result (λ n. 0 < n) }
         ensures short { IfErr result (λ e. e ≡ Partial → length bytes.now < 1) }
@@ -110,11 +115,11 @@ impl ValueChecker {
         let given = front(bytes, left);
         let taken = self.scan.take(given);
         if taken < given.len() {
-            return refuse(self.offset + taken, reason_of_code(code));
+            return refuse(self.offset + taken, reason_of_kind(kind));
         }
         self.offset += taken;
-        keep(&mut self.held, code, given);
-        match self.text_on(code, left - taken) {
+        keep(&mut self.held, kind, given);
+        match self.text_on(kind, left - taken) {
             Ok(()) => Ok(taken),
             Err(stop) => Err(stop),
         }

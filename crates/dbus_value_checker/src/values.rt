@@ -1,7 +1,7 @@
 //! Values that are wanted: what is noted of them between pieces.
 #![tactic(auto)]
 
-ghost use Rattle.std.specs.Prelude.{◌≡◌, ◌+◌, ◌*◌, ◌<◌, ◌≤◌, ◌^◌, ℕ, length, drop, true, false, Ok, IfOk, IfErr, ◌⊎◌, ◌↔◌, IsTrue};
+ghost use Rattle.std.specs.Prelude.{◌≡◌, ◌≢◌, ◌+◌, ◌*◌, ◌<◌, ◌≤◌, ◌^◌, ℕ, length, drop, true, false, Ok, IfOk, IfErr, ◌⊎◌, ◌↔◌, IsTrue};
 
 use crate::signatures::sign;
 use arrayvec::ArrayVec;
@@ -33,8 +33,8 @@ pub(crate) enum Doing {
     /// Bytes of an array's numbers, any of which are valid there: their number, to the end of the
     /// last whole one.
     Numbers(usize),
-    /// Bytes of a text of the type that has this code, or of a variant's signature: their number.
-    Text(u8, usize),
+    /// Bytes of a text of this kind: their number.
+    Text(TextKind, usize),
     /// The zero after a text.
     Nul,
     /// No more values.
@@ -45,8 +45,9 @@ pub(crate) enum Doing {
 /// bytes, allocates nothing, and holds no byte of what it took but signatures of variants: of those
 /// that are open and, until the next variant begins, of some that are over.
 ///
-/// [`ValueChecker::begin`] says which values are wanted, [`ValueChecker::run`] takes their bytes in
-/// pieces of any length, and [`ValueChecker::is_live`] says whether more of them are wanted.
+/// [`ValueChecker::begin`] says which values are wanted, or [`ValueChecker::begin_text`] which text;
+/// [`ValueChecker::run`] takes their bytes in pieces of any length, and [`ValueChecker::is_live`]
+/// says whether more of them are wanted.
 #[derive(Drop)]
 pub struct ValueChecker {
     pub(crate) bounds: Bounds,
@@ -74,7 +75,8 @@ pub struct ValueChecker {
 
 impl ValueChecker {
     ghost use Rattle.dbus_value_checker.specs.Denotations.{Answer, Denotes};
-    ghost use Rattle.dbus_value_checker.specs.Moves.{Moves, Runs, IsLive, offset_of, wide, values_on, nothing_on};
+    ghost use Rattle.dbus_value_checker.specs.Moves.{Moves, Opens, Runs, IsLive, offset_of, wide, values_on, text_on, nothing_on};
+    ghost use Rattle.dbus_texts.specs.declared.text_kind.TextKind.TheVariants.{Single};
     ghost use Rattle.dbus_value_model.specs.declared.stop.Stop.TheVariants.{Partial};
     ghost use Rattle.dbus_value_checker.specs.Suspended.{On};
     ghost use Rattle.dbus_texts.specs.Types.{TypeTrees, sigs, AreShaped};
@@ -135,6 +137,39 @@ impl ValueChecker {
         self.next();
     }
 
+    /// Wants a text of a kind, of `size` bytes, and the zero after it, from an offset of a message
+    /// up to an end. Whatever was wanted before is forgotten.
+    ///
+    /// Refused at `offset` if the text is empty and may not be.
+    pub fn begin_text(
+        &mut self,
+        kind: TextKind,
+        offset: usize,
+        size: usize,
+        end: usize,
+    ) -> Result<(), Stop>
+        requires fits { offset + size + 1 ≤ end }
+        requires kind { kind ≢ Single }
+        ensures opens { (last : On) → Opens result self.new (text_on kind size last offset) }
+        ensures decided { IfErr result (λ e. e ≢ Partial) }
+    {
+        self.offset = offset;
+        self.end = end;
+        self.frames.clear();
+        self.text.clear();
+        self.lengths.clear();
+        self.inner = Frame {
+            array: false,
+            pos: 0,
+            stop: 0,
+            top: 0,
+            end,
+            depth_left: 0,
+        };
+        self.scan = TextScan::new(kind);
+        self.text_on(kind, size)
+    }
+
     /// What is wanted next, if all of it is there.
     pub(crate) fn step(&mut self, bytes: &[u8]) -> Result<usize, Stop>
         requires valid { (answer : Answer) × Denotes self.old answer }
@@ -146,7 +181,7 @@ impl ValueChecker {
     {
         match self.doing {
             Doing::Wanted(pos, stop) => self.value(pos, stop, bytes),
-            Doing::Text(code, left) => self.text(code, left, bytes),
+            Doing::Text(kind, left) => self.text(kind, left, bytes),
             Doing::Numbers(left) => self.numbers(left, bytes),
             Doing::Nul => self.nul(bytes),
             Doing::Over => Ok(0),
