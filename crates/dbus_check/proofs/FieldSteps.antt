@@ -22,7 +22,7 @@ use Rattle.dbus_value_checker.proofs.Suspension.{halts_same, fronts_same, first_
 use Rattle.dbus_value_model.specs.ComputedTexts.{break_at}
 use Rattle.dbus_value_laws.proofs.KindLaws.{break_le, break_is}
 use Rattle.dbus_value_checker.proofs.FrontSteps.{text_breaks_at, text_waits_at, text_unlike_at, text_there_at}
-use Rattle.dbus_check.specs.Heading.{has, seen_row, field_code, name_text, padded_number, uint32_row, Kept, kept_of, field_on, fields_on}
+use Rattle.dbus_check.specs.Heading.{has, seen_row, field_code, padded_number, uint32_row, Kept, kept_of, field_on, fields_on}
 use Rattle.dbus_check.specs.Progress.{To, WantsFields, Coded}
 use Rattle.dbus_check.specs.declared.progress.Progress.{Progress}
 use Rattle.dbus_check.proofs.FieldLaws.{field_begins}
@@ -132,36 +132,6 @@ module _ (limits : Limits) (order : Order) (end : ℕ) (codes : List ℕ) (o : �
 module _ (order : Order) (end : ℕ) (o : ℕ) (s : List ℕ) where
   abbrev padded : ℕ → Unit {0} × ℕ
   padded n = (tt, n)
-
-  module _ (k : WantedText) where
-    abbrev name : Reader (List ℕ)
-    name = counted_text order end 4 (name_row end) k
-
-    name_halts : (e : Stop) → Halts o s e (λ p u. after (padding 4 end p u) (λ _. name)) → Halts o s e (onward (name_text order end k) done)
-    unfolding name_text
-    name_halts e h = first_err o s (name_text order end k) (λ _. done) e h
-
-    pub name_padding_stops : (e : Stop) → Halts o s e (padding 4 end) → Halts o s e (onward (name_text order end k) done)
-    name_padding_stops e h = name_halts e (first_err o s (padding 4 end) (λ _. name) e h)
-
-    module _ (n : ℕ) (first : Fronts padded o s (Ok n) (padding 4 end)) (rest : List ℕ) (rest_is : rest ≡ drop n s) where
-      name_stops : (e : Stop) → Halts (o + n) rest e (counted_text order end 4 (name_row end) k) → Halts o s e (onward (name_text order end k) done)
-      name_stops e h = name_halts e (then_err padded o s (padding 4 end) (λ _. name) n first rest rest_is e h)
-
-      pub name_length_stops : (e : Stop) → Halts (o + n) rest e (number order 4 end (name_row end)) → Halts o s e (onward (name_text order end k) done)
-      name_length_stops e h = name_stops e (first_err (o + n) rest (number order 4 end (name_row end)) (ended_text k) e h)
-
-      -- the name and the zero after it
-      module _ (m : ℕ) (second : Fronts (λ (m : ℕ). (m, 4)) (o + n) rest (Ok m) (number order 4 end (name_row end))) (last : List ℕ) (last_is : last ≡ drop 4 rest) where
-        pub name_text_stops : (e : Stop) → Halts (o + n + 4) last e (ended_text k m) → Halts o s e (onward (name_text order end k) done)
-        name_text_stops e h = name_stops e (then_err (λ (m : ℕ). (m, 4)) (o + n) rest (number order 4 end (name_row end)) (ended_text k) m second last last_is e h)
-
-        pub name_there : Fronts (λ (x : Unit {0}). (take m last, m + 1)) (o + n + 4) last (Ok tt) (ended_text k m) → Fronts padded o s (Ok (n + (m + 5))) (onward (name_text order end k) done)
-        unfolding name_text
-        name_there h =
-            let v : ℕ → List ℕ × ℕ = λ z. (take m last, z) in
-            forgotten v o s (name_text order end k) (Ok (n + (m + 5))) (then_ok padded o s (padding 4 end) (λ _. name) n first rest rest_is v v (m + 5)
-            (then_ok (λ (m : ℕ). (m, 4)) (o + n) rest (number order 4 end (name_row end)) (ended_text k) m second last last_is (λ (x : Unit {0}). (take m last, m + 1)) v tt h (m + 5) refl (omega arith)) (n + (m + 5)) refl refl)
 
   module _ (row : ℕ → ℕ → Option Reason) where
     pub padded_stops : (e : Stop) → Halts o s e (padding 4 end) → Halts o s e (padded_number order end row)

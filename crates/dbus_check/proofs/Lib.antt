@@ -1,7 +1,9 @@
 pub mod Heading
 pub mod CheckSteps
 pub mod Outcomes
+pub mod Texts
 pub mod FieldLaws
+pub mod FieldTexts
 pub mod FieldSteps
 pub mod Stages
 pub mod PassedFields

@@ -2,11 +2,14 @@
 use Rattle.std.proofs.Common.{◌≡◌, ℕ, ◌+◌, List, [], ◌∷◌, ◌++◌, take, Bool, true, false, ◌||◌, ◌&&◌, cond, eqb, Result, Ok, Err, refl, sym, ap, subst, ◌∙◌, ◌≤◌, arith}
 use Rattle.std.proofs.lemmas.Bool.{eq-eqb, ne_eqb, eqb-true}
 use Rattle.dbus_texts.specs.Types.{UINT32, SIGNATURE, NumberType, TextType}
+use Rattle.dbus_texts.specs.declared.text_kind.TextKind.{TextKind}
+use Rattle.dbus_texts.specs.declared.text_kind.TextKind.TheVariants as kinds
+use Rattle.dbus_value_model.specs.WantedTexts.{Of}
 use Rattle.dbus_value_model.specs.declared.stop.Stop.{Stop}
 use Rattle.dbus_value_model.specs.declared.stop.Stop.TheVariants as stops
 use Rattle.dbus_value_model.specs.Values.{ValueTree}
 use Rattle.dbus_value_model.specs.Reading.{Reader, Outcome, after, pure}
-use Rattle.dbus_message_model.specs.Messages.{Want, OfType, want, is_known, text_in, number_in}
+use Rattle.dbus_message_model.specs.Messages.{Want, Name, OfType, want, is_known, text_in, number_in}
 use Rattle.dbus_value_laws.proofs.ReadSteps.{after_after, same_after}
 use Rattle.dbus_value_checker.specs.Fronts.{Fronts}
 use Rattle.dbus_value_checker.specs.Suspended.{On}
@@ -51,6 +54,16 @@ count_code code h = find h
         chosen P (eqb code 1) _ _ (λ b e. absurd cc) (λ n. chosen P (eqb code 2) _ _ (λ b e. absurd cc) (λ n. chosen P (eqb code 3) _ _ (λ b e. absurd cc) (λ n. chosen P (eqb code 4) _ _ (λ b e. absurd cc)
         (λ n. chosen P (eqb code 5) _ _ (λ b e. absurd cc) (λ n. chosen P (eqb code 6) _ _ (λ b e. absurd cc) (λ n. chosen P (eqb code 7) _ _ (λ b e. absurd cc)
         (λ n. chosen P (eqb code 8) _ _ (λ b e. absurd cc) (λ n. chosen P (eqb code 9) _ _ (λ b e. eqb-true code 9 b) (λ n e. absurd cc)))))))))
+
+-- no name is the signature of a variant
+pub name_code : (k : TextKind) (code : ℕ) → Name (Of k) ≡ want code → k ≡ kinds.Single → ⊥
+name_code k code h single = find h
+  where
+    find : Name (Of k) ≡ want code → ⊥
+    find = let P : Want → Type 0 = λ w. Name (Of k) ≡ w → ⊥ in
+        chosen P (eqb code 1) _ _ (λ b e. absurd cc) (λ n. chosen P (eqb code 2) _ _ (λ b e. absurd cc) (λ n. chosen P (eqb code 3) _ _ (λ b e. absurd cc) (λ n. chosen P (eqb code 4) _ _ (λ b e. absurd cc)
+        (λ n. chosen P (eqb code 5) _ _ (λ b e. absurd cc) (λ n. chosen P (eqb code 6) _ _ (λ b e. absurd cc) (λ n. chosen P (eqb code 7) _ _ (λ b e. absurd cc)
+        (λ n. chosen P (eqb code 8) _ _ (λ b e. absurd cc) (λ n. chosen P (eqb code 9) _ _ (λ b e. absurd cc) (λ n e. absurd cc)))))))))
 
 -- neither of these codes
 pub plain_code : (u : Want) (code : ℕ) → u ≡ want code → (u ≡ OfType (TextType SIGNATURE) → ⊥) → (u ≡ OfType (NumberType UINT32) → ⊥) → (code ≡ 8 → ⊥) × (code ≡ 9 → ⊥)

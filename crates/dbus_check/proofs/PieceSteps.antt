@@ -25,6 +25,7 @@ live_or_not : (s : Stage) → IsLive s ⊎ (IsLive s → ⊥)
 live_or_not stage.Header = inl tt
 live_or_not stage.Fields = inl tt
 live_or_not stage.Value = inl tt
+live_or_not stage.Types = inl tt
 live_or_not stage.Padding = inl tt
 live_or_not stage.Body = inl tt
 live_or_not stage.Done = inr (λ h. h)
@@ -36,6 +37,7 @@ over_ends x to over h = at x.stage over h
     at stage.Header over h c = absurd (over tt)
     at stage.Fields over h c = absurd (over tt)
     at stage.Value over h c = absurd (over tt)
+    at stage.Types over h c = absurd (over tt)
     at stage.Padding over h c = absurd (over tt)
     at stage.Body over h c = absurd (over tt)
     at stage.Done over h c = h c
@@ -54,7 +56,7 @@ whole_answers x to over h c =
 
 -- ---- after the bytes that are kept
 
-module _ (x : Pieces) (to : To) (h : Holds x to) (piece : List ℕ) (room : ℕ) (room_is : length x.kept.items + room ≡ 288) (p : Progress) where
+module _ (x : Pieces) (to : To) (h : Holds x to) (piece : List ℕ) (room : ℕ) (room_is : length x.kept.items + room ≡ 20) (p : Progress) where
   abbrev given : List ℕ
   given = take room piece
 
@@ -89,7 +91,7 @@ module _ (x : Pieces) (to : To) (h : Holds x to) (piece : List ℕ) (room : ℕ)
       )
 
   -- they were not: the item goes on after them
-  pub join_stays : (k : ℕ) → Ran (Ok k) → (IsLive p.stage → length both < k + 288) → k < before → (y : Pieces) → y.progress ≡ p → y.kept.items ≡ drop k both → Joined piece (Ok (length given)) y to
+  pub join_stays : (k : ℕ) → Ran (Ok k) → (IsLive p.stage → length both < k + 20) → k < before → (y : Pieces) → y.progress ≡ p → y.kept.items ≡ drop k both → Joined piece (Ok (length given)) y to
   join_stays k runs short lt y y_is rest =
       let r = runs h.from h.denotes in
       let l = length-take room piece in
@@ -138,7 +140,7 @@ module _ (x : Pieces) (to : To) (h : Holds x to) (none : x.kept.items ≡ []) (p
   law c = ap (λ (t : List ℕ). h.from (t ++ c)) (sym none) ∙ h.same c
 
   -- the rest is kept
-  pub read_kept : (k : ℕ) → RanAlone (Ok k) → IsLive p.stage → (IsLive p.stage → length piece < k + 288) → (y : Pieces) → y.progress ≡ p → y.kept.items ≡ x.kept.items ++ drop k piece → Fed piece (Ok (length piece)) y to
+  pub read_kept : (k : ℕ) → RanAlone (Ok k) → IsLive p.stage → (IsLive p.stage → length piece < k + 20) → (y : Pieces) → y.progress ≡ p → y.kept.items ≡ x.kept.items ++ drop k piece → Fed piece (Ok (length piece)) y to
   read_kept k runs live short y y_is kept_is =
       let r = runs h.from h.denotes in
       let some = r.0 in

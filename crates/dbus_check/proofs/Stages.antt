@@ -92,30 +92,6 @@ module _ (limits : Limits) (order : Order) (kind body : ℕ) (kept : Kept) where
   pub padding_taken : (o : ℕ) (s : List ℕ) (n : ℕ) → Fronts (λ (n : ℕ). (tt, n)) o s (Ok n) (padding 8 (o + 8)) → (c : List ℕ) → onward (padding 8 (o + 8)) (body_on limits order body kept) o (take n s ++ c) ≡ body_on limits order body kept (o + n) c
   padding_taken o s n h c = ap (λ (r : Outcome (Unit {0})). after r (λ _. body_on limits order body kept)) (h.1 c)
 
--- ---- the body
-
-module _ (limits : Limits) (order : Order) (body : ℕ) (kept : Kept) (bounds : Bounds) (end o : ℕ) (bounds_is : bounds ≡ bounds_with limits (index_limit limits.fds kept.count)) (end_is : end ≡ o + body) where
-  body_begins : (c : List ℕ) → onward (fields (value bounds order limits.depth end) (types_spelled kept.text)) (onward (ends end) done) o c ≡ body_on limits order body kept o c
-  body_begins c =
-      ap (λ (b : Bounds). onward (fields (value b order limits.depth end) (types_spelled kept.text)) (onward (ends end) done) o c) bounds_is
-      ∙ ap (λ (e : ℕ). onward (fields (value (bounds_with limits (index_limit limits.fds kept.count)) order limits.depth e) (types_spelled kept.text)) (onward (ends e) done) o c) end_is
-
-  pub body_flows : (x : ValueChecker) (text : List ℕ) (to : To) → text ≡ kept.text → IsKind kinds.Signature kept.text
-      → ((ts : TypeTrees) (last : On) → text ≡ sigs ts → AreShaped ts → values.Denotes x (values_on bounds order limits.depth end ts last o))
-      → ((c : List ℕ) → body_on limits order body kept o c ≡ to c) → Flows x bounds order limits.depth end (onward (ends end) done) to
-  body_flows x text to text_is signature begun same =
-      let w = signature_text kept.text signature in
-      record {
-        types = types_spelled kept.text;
-        start = o;
-        given = [];
-        complete = w.0;
-        bytes = tt;
-        low = omega (arith, end_is);
-        value = λ next. begun (types_spelled kept.text) next (text_is ∙ sym w.1) w.0;
-        same = λ c. body_begins c ∙ same c;
-      }
-
 -- Values under way, in a field or in the body, and what a run makes of them.
 
 module _ (bounds : Bounds) (order : Order) (room end : ℕ) where
@@ -144,13 +120,50 @@ module _ (bounds : Bounds) (order : Order) (room end : ℕ) where
       let l = ap length b in
       (omega (arith, place, long, one, a, l), omega (arith, two, a))
 
+  pub values_within : (ts : TypeTrees) (start : ℕ) → AreShaped ts → start ≤ end → (s : List ℕ) (q : ℕ) → IsBytes s → onward (fields (value bounds order room end) ts) done start s ≡ Done tt q [] → (start ≤ q) × (q ≤ end)
+  values_within ts start shaped low s q are e =
+      let d = after_done (fields (value bounds order room end) ts start s) (λ x. done) tt q [] e in
+      let read = fields_advance ts start s d.0 d.1 d.2 shaped are low d.3 in
+      let ended = d.4 in
+      let a : d.1 ≡ q = cc in
+      let b : d.2 ≡ [] = cc in
+      let l : length d.2 ≡ 0 = ap length b in
+      let one = read.0 in
+      let two = read.1 in
+      (omega (arith, one, a, l), omega (arith, two, a))
+
+-- ---- the body
+
+module _ (limits : Limits) (order : Order) (body : ℕ) (kept : Kept) (bounds : Bounds) (end o : ℕ) (bounds_is : bounds ≡ bounds_with limits (index_limit limits.fds kept.count)) (end_is : end ≡ o + body) where
+  body_begins : (c : List ℕ) → onward (fields (value bounds order limits.depth end) (types_spelled kept.text)) (onward (ends end) done) o c ≡ body_on limits order body kept o c
+  body_begins c =
+      ap (λ (b : Bounds). onward (fields (value b order limits.depth end) (types_spelled kept.text)) (onward (ends end) done) o c) bounds_is
+      ∙ ap (λ (e : ℕ). onward (fields (value (bounds_with limits (index_limit limits.fds kept.count)) order limits.depth e) (types_spelled kept.text)) (onward (ends e) done) o c) end_is
+
+  pub body_flows : (x : ValueChecker) (text : List ℕ) (to : To) → text ≡ kept.text → IsKind kinds.Signature kept.text
+      → ((ts : TypeTrees) (last : On) → text ≡ sigs ts → AreShaped ts → values.Denotes x (values_on bounds order limits.depth end ts last o))
+      → ((c : List ℕ) → body_on limits order body kept o c ≡ to c) → Flows x end (onward (ends end) done) to
+  body_flows x text to text_is signature begun same =
+      let w = signature_text kept.text signature in
+      record {
+        run = onward (fields (value bounds order limits.depth end) (types_spelled kept.text));
+        start = o;
+        given = [];
+        bytes = tt;
+        within = values_within bounds order limits.depth end (types_spelled kept.text) o w.0 (omega (arith, end_is));
+        value = λ next. begun (types_spelled kept.text) next (text_is ∙ sym w.1) w.0;
+        same = λ c. body_begins c ∙ same c;
+      }
+
+-- ---- what a run makes of them
+
 -- what a run promises
 abbrev pub Ran : ValueChecker → List ℕ → Result ℕ Fault → ValueChecker → Type 0
 Ran old s r new = (answer : Answer) → Denotes old answer → Runs s r new answer
 
-module _ (bounds : Bounds) (order : Order) (room end : ℕ) (last : On) (to : To) (x : ValueChecker) (w : Flows x bounds order room end last to) where
+module _ (end : ℕ) (last : On) (to : To) (x : ValueChecker) (w : Flows x end last to) where
   abbrev run : On → On
-  run next = onward (fields (value bounds order room end) w.types) next
+  run next = w.run next
 
   abbrev answer : On → Answer
   answer next = record { last = next; to = λ c. run next w.start (w.given ++ c) }
@@ -166,14 +179,13 @@ module _ (bounds : Bounds) (order : Order) (room end : ℕ) (last : On) (to : To
     pub flows_wait : IsLive v.doing → to s ≡ Partial
     flows_wait live = sym (w.same s) ∙ (runs (answer last) (w.value last)).2 live
 
-    abbrev pub flows_on : IsBytes s → Flows v bounds order room end last (after_bytes to (take n s))
+    abbrev pub flows_on : IsBytes s → Flows v end last (after_bytes to (take n s))
     flows_on are = record {
-      types = w.types;
+      run = w.run;
       start = w.start;
       given = w.given ++ take n s;
-      complete = w.complete;
       bytes = IsBytes-append w.given (take n s) w.bytes (IsBytes-front s (take n s) _ (sym (take-append-drop n s)) are);
-      low = w.low;
+      within = w.within;
       value = λ next. denotes_same v next (λ c. run next w.start (w.given ++ (take n s ++ c))) (λ c. run next w.start ((w.given ++ take n s) ++ c))
           (λ c. ap (run next w.start) (sym (append_assoc w.given (take n s) c))) (runs (answer next) (w.value next)).1;
       same = λ c. ap (run last w.start) (append_assoc w.given (take n s) c) ∙ w.same (take n s ++ c);
@@ -184,12 +196,5 @@ module _ (bounds : Bounds) (order : Order) (room end : ℕ) (last : On) (to : To
   flows_over over =
       let law : (next : On) (c : List ℕ) → next (offset_of x) c ≡ run next w.start (w.given ++ c) = λ next c. over_last x (answer next) (w.value next) over c in
       let whole : run done w.start w.given ≡ Done tt (offset_of x) [] = sym (law done [] ∙ ap (run done w.start) (append-nil w.given)) in
-      let d = after_done (fields (value bounds order room end) w.types w.start w.given) (λ x. done) tt (offset_of x) [] whole in
-      let read = fields_advance bounds order room end w.types w.start w.given d.0 d.1 d.2 w.complete w.bytes w.low d.3 in
-      let ended = d.4 in
-      let a : d.1 ≡ offset_of x = cc in
-      let b : d.2 ≡ [] = cc in
-      let l : length d.2 ≡ 0 = ap length b in
-      let one = read.0 in
-      let two = read.1 in
-      (omega (arith, one, a, l), omega (arith, two, a), λ c. law last c ∙ w.same c)
+      let fits = w.within w.given (offset_of x) w.bytes whole in
+      (fits.0, fits.1, λ c. law last c ∙ w.same c)

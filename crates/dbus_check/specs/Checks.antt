@@ -23,7 +23,7 @@ pub record Holds (x : Pieces) (to : To) : Type 0 where
   pub from : To
   pub denotes : Denotes x.progress from
   pub same : (c : List ℕ) → from (x.kept.items ++ c) ≡ to c
-  pub few : length x.kept.items < 288
+  pub few : length x.kept.items < 20
   pub waits : 0 < length x.kept.items → from x.kept.items ≡ Partial
 
 -- something is wanted still

@@ -12,11 +12,10 @@ use Rattle.dbus_value_model.specs.Values.{ValueTree}
 use Rattle.dbus_value_model.specs.Reading.{Partial, after, padding, number, validate, fields, value, ends, Reader, ◌>>=◌, ◌>>◌, pure}
 use Rattle.dbus_message_model.specs.Messages.{want, is_known, required, text_in, number_in, Want, OfType, Serial}
 use Rattle.dbus_header.specs.HeaderReading.{opening, wanted_value, message_read}
-use Rattle.dbus_value_checker.specs.Suspended.{On, onward, done, counted_text}
+use Rattle.dbus_value_checker.specs.Suspended.{On, onward, done}
 use Rattle.dbus_texts.specs.Types.{UINT32, NumberType}
 use Rattle.dbus_value_model.specs.ValueItems.{number_row}
-use Rattle.dbus_value_model.specs.WantedTexts.{WantedText}
-use Rattle.dbus_header.specs.MessageItems.{name_row, not_zero_row}
+use Rattle.dbus_header.specs.MessageItems.{not_zero_row}
 
 -- whether a code stands among those seen
 abbrev pub has : ℕ → List ℕ → Bool
@@ -94,12 +93,6 @@ field_code limits order end codes = do
   opening (limits.depth - 2)
   pure code
 
--- a name
-unfoldable pub name_text : Order → ℕ → WantedText → Reader (List ℕ)
-name_text order end k = do
-  padding 4 end
-  counted_text order end 4 (name_row end) k
-
 -- a number of four bytes
 unfoldable pub padded_number : Order → ℕ → (ℕ → ℕ → Option Reason) → Reader ℕ
 padded_number order end row = do
@@ -119,7 +112,3 @@ uint32_wanted false = OfType (NumberType UINT32)
 -- what was read is seen in another light
 abbrev pub seen_as : {A B : Type 0} → (A → B) → Reader A → Reader B
 seen_as g run o s = after (run o s) (λ a. pure (g a))
-
--- it is forgotten
-abbrev pub nothing_of : {A : Type 0} → A → Unit {0}
-nothing_of a = tt

@@ -2,17 +2,16 @@
 -- D-Bus Specification, "Message Format".
 use Rattle.std.specs.Prelude.{◌≡◌, ℕ, ◌<◌, List, false, slice_index_or, ◌+◌, ◌-◌, ◌≤◌, [], ◌∷◌, length, take, ◌++◌, ◌&&◌, Result, Ok, Err}
 use Rattle.dbus_texts.specs.Kinds.{IsKind}
-use Rattle.dbus_texts.specs.Types.{TypeTree, TypeTrees, AreShaped}
+use Rattle.dbus_texts.specs.Types.{TypeTree}
 use Rattle.dbus_texts.specs.declared.text_kind.TextKind.TheVariants as kinds
 use Rattle.dbus_value_model.specs.ByteNumbers.{IsBytes}
 use Rattle.dbus_value_model.specs.Bounds.{bounds_of}
-use Rattle.dbus_value_model.specs.declared.limits.Bounds.{Bounds}
 use Rattle.dbus_value_model.specs.declared.fault.Fault.{Fault}
-use Rattle.dbus_value_model.specs.declared.order.Order.{Order}
+use Rattle.dbus_value_model.specs.WantedTexts.{Of}
 use Rattle.dbus_value_model.specs.declared.stop.Stop.{Stop}
 use Rattle.dbus_value_model.specs.declared.stop.Stop.TheVariants as stops
-use Rattle.dbus_value_model.specs.Reading.{Outcome, Done, Faulty, Partial, after, padding, ends, fields, value}
-use Rattle.dbus_value_checker.specs.Suspended.{On, onward, done}
+use Rattle.dbus_value_model.specs.Reading.{Outcome, Done, Faulty, Partial, after, padding, ends, value}
+use Rattle.dbus_value_checker.specs.Suspended.{On, onward, done, ended_text}
 use Rattle.dbus_value_checker.specs.Denotations as values
 use Rattle.dbus_value_checker.specs.declared.values.ValueChecker.{ValueChecker}
 use Rattle.dbus_header.specs.HeaderReading.{wanted_value}
@@ -60,36 +59,52 @@ pub record WantsPadding (x : Progress) (to : To) : Type 0 where
   pub near : x.offset + 8 + x.body < 4294967296
   pub same : (c : List ℕ) → onward (padding 8 (x.offset + 8)) (body_on x.limits x.order x.body kept) x.offset c ≡ to c
 
--- Values are under way, and last is read after them: they are of these types and began at the
--- offset start, and these bytes of them were taken.
-pub record Flows (x : ValueChecker) (bounds : Bounds) (order : Order) (room end : ℕ) (last : On) (to : To) : Type 0 where
-  pub types : TypeTrees
+-- Values or a text are under way, and last is read after them: they began at the offset start and
+-- end at end or earlier, and these bytes of them were taken.
+pub record Flows (x : ValueChecker) (end : ℕ) (last : On) (to : To) : Type 0 where
+  pub run : On → On
   pub start : ℕ
   pub given : List ℕ
-  pub complete : AreShaped types
   pub bytes : IsBytes given
-  pub low : start ≤ end
-  pub same : (c : List ℕ) → onward (fields (value bounds order room end) types) last start (given ++ c) ≡ to c
-  pub value : (next : On) → values.Denotes x (record { last = next; to = λ c. onward (fields (value bounds order room end) types) next start (given ++ c) })
+  pub within : (s : List ℕ) (q : ℕ) → IsBytes s → run done start s ≡ Done tt q [] → (start ≤ q) × (q ≤ end)
+  pub same : (c : List ℕ) → run last start (given ++ c) ≡ to c
+  pub value : (next : On) → values.Denotes x (record { last = next; to = λ c. run next start (given ++ c) })
 
 -- a field's value is under way; after it come fields
 pub record WantsMore (x : Progress) (to : To) : Type 0 where
   pub kept : Kept
   pub turns : ℕ
   pub keeps : Keeps x kept
-  pub flows : Flows x.values (bounds_of x.limits) x.order (x.limits.depth - 3) x.end (fields_on x.limits x.order x.kind x.body turns x.end kept) to
+  pub flows : Flows x.values x.end (fields_on x.limits x.order x.kind x.body turns x.end kept) to
   pub turns_is : x.end ≤ flows.start + turns
   pub near : x.end + 8 + x.body < 4294967296
 
+-- The body's signature is under way, of so many bytes from the offset start on: those that were
+-- taken are noted. After it and its zero come fields.
+pub record WantsTypes (x : Progress) (to : To) : Type 0 where
+  pub kept : Kept
+  pub turns : ℕ
+  pub size : ℕ
+  pub start : ℕ
+  pub sees : Sees x.seen (8 ∷ kept.codes)
+  pub count : x.fds ≡ kept.count
+  pub no_count : has 9 kept.codes ≡ false → kept.count ≡ 0
+  pub few : size ≤ 255
+  pub fits : start + size + 1 ≤ x.end
+  pub turns_is : x.end ≤ start + turns
+  pub near : x.end + 8 + x.body < 4294967296
+  pub same : (c : List ℕ) → after (ended_text (Of kinds.Signature) size start (x.signature.items ++ c)) (λ t. fields_on x.limits x.order x.kind x.body turns x.end (record { codes = 8 ∷ kept.codes; text = t; count = kept.count })) ≡ to c
+  pub value : (next : On) → values.Denotes x.values (record { last = next; to = λ c. onward (ended_text (Of kinds.Signature) size) next start (x.signature.items ++ c) })
+
 -- the body is under way
 pub record WantsBody (x : Progress) (to : To) : Type 0 where
-  pub bounds : Bounds
-  pub flows : Flows x.values bounds x.order x.limits.depth x.end (onward (ends x.end) done) to
+  pub flows : Flows x.values x.end (onward (ends x.end) done) to
 
 abbrev pub denotes : Stage → Progress → To → Type 0
 denotes stage.Header x to = (c : List ℕ) → message_on x.limits 0 c ≡ to c
 denotes stage.Fields x to = WantsFields x to
 denotes stage.Value x to = WantsMore x to
+denotes stage.Types x to = WantsTypes x to
 denotes stage.Padding x to = WantsPadding x to
 denotes stage.Body x to = WantsBody x to
 denotes stage.Done x to = (c : List ℕ) → to c ≡ Done tt x.end c
@@ -127,6 +142,7 @@ abbrev pub IsLive : Stage → Type 0
 IsLive stage.Header = Unit {0}
 IsLive stage.Fields = Unit {0}
 IsLive stage.Value = Unit {0}
+IsLive stage.Types = Unit {0}
 IsLive stage.Padding = Unit {0}
 IsLive stage.Body = Unit {0}
 IsLive stage.Done = ⊥
@@ -135,6 +151,7 @@ IsLive stage.Done = ⊥
 abbrev pub rank : Stage → ℕ
 rank stage.Header = 5
 rank stage.Value = 4
+rank stage.Types = 4
 rank stage.Fields = 3
 rank stage.Padding = 2
 rank stage.Body = 1
@@ -169,12 +186,13 @@ Coded x s (Ok y) to = (y.1 ≤ length s) × WantsValue x y.0 y.1 (after_bytes to
 Coded x s (Err stops.Partial) to = to s ≡ Partial
 Coded x s (Err (stops.Refused f)) to = (c : List ℕ) → to (s ++ c) ≡ Faulty f
 
--- a value of a type is wanted, n bytes further, whose field has this code
-pub record WantsHeld (x : Progress) (code n : ℕ) (t : TypeTree) (to : To) : Type 0 where
+-- a value of a type is wanted, n bytes further, whose field has this code; so many containers may
+-- be opened in it
+pub record WantsHeld (x : Progress) (code n depth_left : ℕ) (t : TypeTree) (to : To) : Type 0 where
   pub kept : Kept
   pub turns : ℕ
   pub keeps : Keeps x kept
   pub low : x.offset + n ≤ x.end
   pub turns_is : x.end ≤ x.offset + n + turns
   pub near : x.end + 8 + x.body < 4294967296
-  pub same : (c : List ℕ) → onward (value (bounds_of x.limits) x.order (x.limits.depth - 3) x.end t) (fields_on x.limits x.order x.kind x.body turns x.end (record { codes = code ∷ kept.codes; text = kept.text; count = kept.count })) (x.offset + n) c ≡ to c
+  pub same : (c : List ℕ) → onward (value (bounds_of x.limits) x.order depth_left x.end t) (fields_on x.limits x.order x.kind x.body turns x.end (record { codes = code ∷ kept.codes; text = kept.text; count = kept.count })) (x.offset + n) c ≡ to c

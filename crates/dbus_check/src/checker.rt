@@ -11,7 +11,7 @@ use std::marker::Model;
 
 /// A checker of one message after another, whose bytes come in pieces of any length. It has a fixed
 /// size, about 40,000 bytes, allocates nothing, and holds no byte of a message but the signatures
-/// of its body and of the variants that are open, and fewer than 288 bytes of an item that is not
+/// of its body and of the variants that are open, and fewer than 20 bytes of an item that is not
 /// whole. The limits of its messages are those that it was made with.
 ///
 /// After each piece its answer is that of decoding all bytes that it took since it was made or

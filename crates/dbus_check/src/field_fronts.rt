@@ -6,26 +6,21 @@
 #![tactic(auto)]
 
 ghost use Rattle.std.specs.Prelude.{◌&&◌, false, ◌≡◌, ◌+◌, ◌<◌, ◌≤◌, [], ◌∷◌, ℕ, List, length, take, drop, IfOk, IfErr};
-ghost use Rattle.dbus_texts.specs.Kinds.{IsKind};
 ghost use Rattle.dbus_value_model.specs.declared.fault.Reason.TheVariants as reasons;
 ghost use Rattle.dbus_value_model.specs.declared.order.Order.{Order};
 ghost use Rattle.dbus_value_model.specs.declared.stop.Stop.TheVariants.{Partial};
-ghost use Rattle.dbus_value_model.specs.Items.{text_reason};
 ghost use Rattle.dbus_value_model.specs.Reading.{number, text};
-ghost use Rattle.dbus_value_model.specs.ValueItems.{text_row};
-ghost use Rattle.dbus_value_model.specs.WantedTexts.{Of, Only};
+ghost use Rattle.dbus_header.specs.MessageItems.{name_row};
+ghost use Rattle.dbus_value_model.specs.WantedTexts.{Only};
 ghost use Rattle.dbus_message_model.specs.Messages.{is_known};
 ghost use Rattle.dbus_value_checker.specs.Fronts.{Fronts};
-ghost use Rattle.dbus_value_checker.specs.Suspended.{onward, done, short_text};
-ghost use Rattle.dbus_check.specs.Heading.{field_code, name_text, padded_number, uint32_row, has};
+ghost use Rattle.dbus_value_checker.specs.Suspended.{short_text};
+ghost use Rattle.dbus_check.specs.Heading.{field_code, padded_number, uint32_row, has};
 ghost use Rattle.dbus_check.specs.Progress.{Sees};
 
 use crate::seen::Seen;
 use dbus_header::NAME_LIMIT;
-use dbus_types::TextKind;
-use dbus_value_checker::{
-    byte, ended_front, front, nul_front, padding, rest_after, short_length_front, word,
-};
+use dbus_value_checker::{byte, front, nul_front, padding, rest_after, short_length_front, word};
 use dbus_value_model::{Limits, Order, Reason, Stop, refuse};
 
 /// A field's padding and code.
@@ -115,43 +110,27 @@ pub fn only_front(wanted: u8, bytes: &[u8], offset: usize, end: usize) -> Result
     Ok(())
 }
 
-/// The reason of a text that is not of the kind that is wanted.
-fn text_reason(kind: TextKind) -> Reason
-    ensures { result ≡ text_reason (Of kind) }
-{
-    match kind {
-        TextKind::Text => Reason::Text,
-        TextKind::Path => Reason::Path,
-        TextKind::Interface => Reason::Interface,
-        TextKind::Member => Reason::Member,
-        TextKind::ErrorName => Reason::ErrorName,
-        TextKind::BusName => Reason::BusName,
-        TextKind::Signature | TextKind::Single => Reason::Signature,
-    }
-}
-
-/// A name of a kind: how many bytes it has, with its padding, its length and the zero after it.
+/// The length of a name, and how many bytes it has with its padding.
 ///
 /// The faults of the padding; `NameTooLong` at the length if it is over 255; else `Overrun` there
-/// if the name and the zero after it end past the end; then those of the name and the zero.
-pub fn name_front(
-    kind: TextKind,
+/// if the name and the zero after it end past the end.
+pub fn name_length_front(
     bytes: &[u8],
     offset: usize,
     end: usize,
     order: Order,
-) -> Result<usize, Stop>
+) -> Result<(usize, usize), Stop>
     requires at_most { offset ≤ end }
     requires near { end < 4294967296 }
-    ensures gives { Fronts (λ n. (tt, n)) offset bytes.now result
-        (onward (name_text order end (Of kind)) done) }
-    ensures moves { IfOk result (λ n. (n ≤ length bytes.now) × (offset + n ≤ end)) }
-    ensures short { IfErr result (λ e. e ≡ Partial → length bytes.now < 267) }
+    ensures gives { Fronts (λ x.
+        x) offset bytes.now result (padded_number order end (name_row end)) }
+    ensures moves { IfOk result (λ x.
+        (x.1 ≤ length bytes.now) × (offset + x.1 + x.0 + 1 ≤ end)) }
+    ensures short { IfErr result (λ e. e ≡ Partial → length bytes.now < 8) }
 {
     let zeros = padding(bytes, offset, end, 4)?;
     let at = offset + zeros;
-    let rest = rest_after(bytes, zeros);
-    let n = word(rest, at, end, order)?;
+    let n = word(rest_after(bytes, zeros), at, end, order)?;
     if n > NAME_LIMIT {
         return refuse(at, Reason::NameTooLong);
     }
@@ -159,8 +138,7 @@ pub fn name_front(
     if end - (at + 4) <= n {
         return refuse(at, Reason::Overrun);
     }
-    ended_front(kind, n, rest_after(rest, 4), at + 4, text_reason(kind))?;
-    Ok(zeros + (n + 5))
+    Ok((n, zeros + 4))
 }
 
 /// A UINT32, and how many bytes it has with its padding. `ZeroSerial` at the number if it is to be

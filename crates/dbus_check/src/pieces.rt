@@ -13,8 +13,8 @@ use dbus_value_model::{Fault, Limits};
 pub(crate) struct Pieces {
     /// The message, up to where whole items were read.
     pub(crate) progress: Progress,
-    /// The bytes after these: fewer than 288, the front of an item.
-    pub(crate) kept: ArrayVec<u8, 288>,
+    /// The bytes after these: fewer than 20, the front of an item.
+    pub(crate) kept: ArrayVec<u8, 20>,
 }
 
 impl Pieces {
@@ -58,7 +58,7 @@ impl Pieces {
             length self.new.kept.items < 2 * n + length self.old.kept.items) }
     {
         let before = self.kept.len();
-        let room = 288 - before;
+        let room = 20 - before;
         let given = front(piece, room);
         match self.kept.try_extend_from_slice(given) {
             Ok(()) => {}

@@ -19,6 +19,8 @@ pub(crate) enum Stage {
     Fields,
     /// The value of a field.
     Value,
+    /// The body's signature, which is the value of one.
+    Types,
     /// The padding before the body.
     Padding,
     /// The body's values.
@@ -48,8 +50,8 @@ pub(crate) struct Progress {
     pub(crate) fds: u32,
     /// The known fields that were seen.
     pub(crate) seen: Seen,
-    /// The body's signature.
-    pub(crate) signature: ArrayVec<u8, 255>,
+    /// The body's signature, and while it is under way the zero after it.
+    pub(crate) signature: ArrayVec<u8, 256>,
     /// The values that are under way.
     pub(crate) values: ValueChecker,
 }

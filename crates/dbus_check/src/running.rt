@@ -24,7 +24,7 @@ impl Progress {
         requires live { IsLive self.old.stage }
         ensures steps { (to : To) → Denotes self.old to → Steps bytes.now result self.new to }
         ensures further { IfOk result (λ n. (0 < n) ⊎ (rank self.new.stage < rank self.old.stage)) }
-        ensures short { IfErr result (λ e. e ≡ Partial → length bytes.now < 288) }
+        ensures short { IfErr result (λ e. e ≡ Partial → length bytes.now < 20) }
     {
         match self.stage {
             Stage::Header => self.header(bytes),
@@ -36,6 +36,7 @@ impl Progress {
                 Ok(0)
             }
             Stage::Value => self.more(bytes),
+            Stage::Types => self.more_types(bytes),
             Stage::Padding => self.padding(bytes),
             Stage::Body => self.body(bytes),
             Stage::Done => Ok(0),
@@ -59,7 +60,7 @@ impl Progress {
     }
 
     /// Takes what is wanted as far as it is there whole: how many bytes. If something is still
-    /// wanted, what is left of the bytes, fewer than 288, is the front of an item: they are to be
+    /// wanted, what is left of the bytes, fewer than 20, is the front of an item: they are to be
     /// handed again, with more after them.
     ///
     /// A fault comes as soon as the bytes show it, whatever bytes follow; then the message is to
@@ -67,7 +68,7 @@ impl Progress {
     pub(crate) fn run(&mut self, bytes: &[u8]) -> Result<usize, Fault>
         requires valid { (to : To) × Denotes self.old to }
         ensures runs { (to : To) → Denotes self.old to → Runs bytes.now result self.new to }
-        ensures short { IfOk result (λ n. IsLive self.new.stage → length bytes.now < n + 288) }
+        ensures short { IfOk result (λ n. IsLive self.new.stage → length bytes.now < n + 20) }
     {
         let mut n = 0;
         while self.is_live() {

@@ -1,16 +1,30 @@
-//! The stages of a message under way whose values may have any length: the value of a field, and
-//! the body.
+//! The stages of a message under way whose values may have any length: the value of a field, the
+//! body's signature, and the body.
 #![tactic(auto)]
 
-ghost use Rattle.std.specs.Prelude.{◌≡◌, ◌<◌, length, IfOk, IfErr, ◌⊎◌};
+ghost use Rattle.std.specs.Prelude.{◌≡◌, ◌+◌, ◌<◌, ◌≤◌, ◌++◌, length, IfOk, IfErr, ◌⊎◌};
 ghost use Rattle.dbus_value_model.specs.declared.stop.Stop.TheVariants.{Partial};
 
 use crate::progress::{Progress, Stage};
+use arrayvec::ArrayVec;
+use dbus_value_checker::front;
 use dbus_value_model::{Reason, Stop, refuse};
 
+/// Notes more bytes of a signature.
+fn note(signature: &mut ArrayVec<u8, 256>, more: &[u8])
+    requires room { length signature.old.items + length more.now ≤ 256 }
+    ensures { signature.new.items ≡ signature.old.items ++ more.now }
+{
+    match signature.try_extend_from_slice(more) {
+        Ok(()) => {}
+        // There is room for them.
+        Err(_) => {}
+    }
+}
+
 impl Progress {
-    ghost use Rattle.dbus_check.specs.declared.progress.Stage.TheVariants.{Value, Body};
-    ghost use Rattle.dbus_check.specs.Progress.{To, WantsMore, WantsBody, Steps, rank};
+    ghost use Rattle.dbus_check.specs.declared.progress.Stage.TheVariants.{Value, Types, Body};
+    ghost use Rattle.dbus_check.specs.Progress.{To, WantsMore, WantsTypes, WantsBody, Steps, rank};
 
     /// More of a field's value. After it the next field is wanted.
     pub(crate) fn more(&mut self, bytes: &[u8]) -> Result<usize, Stop>
@@ -18,11 +32,38 @@ impl Progress {
         requires stage { self.old.stage ≡ Value }
         ensures steps { (to : To) → WantsMore self.old to → Steps bytes.now result self.new to }
         ensures further { IfOk result (λ n. (0 < n) ⊎ (rank self.new.stage < rank Value)) }
-        ensures short { IfErr result (λ e. e ≡ Partial → length bytes.now < 288) }
+        ensures short { IfErr result (λ e. e ≡ Partial → length bytes.now < 20) }
     {
         match self.values.run(bytes) {
             Ok(n) => {
                 if !self.values.is_live() {
+                    self.offset = self.values.offset();
+                    self.stage = Stage::Fields;
+                    return Ok(n);
+                }
+                if n == 0 {
+                    return Err(Stop::Partial);
+                }
+                Ok(n)
+            }
+            Err(fault) => Err(Stop::Refused(fault)),
+        }
+    }
+
+    /// More of the body's signature, which is noted. After it the next field is wanted.
+    pub(crate) fn more_types(&mut self, bytes: &[u8]) -> Result<usize, Stop>
+        requires valid { (to : To) × WantsTypes self.old to }
+        requires stage { self.old.stage ≡ Types }
+        ensures steps { (to : To) → WantsTypes self.old to → Steps bytes.now result self.new to }
+        ensures further { IfOk result (λ n. (0 < n) ⊎ (rank self.new.stage < rank Types)) }
+        ensures short { IfErr result (λ e. e ≡ Partial → length bytes.now < 20) }
+    {
+        match self.values.run(bytes) {
+            Ok(n) => {
+                note(&mut self.signature, front(bytes, n));
+                if !self.values.is_live() {
+                    // The zero after it.
+                    self.signature.pop();
                     self.offset = self.values.offset();
                     self.stage = Stage::Fields;
                     return Ok(n);
@@ -42,7 +83,7 @@ impl Progress {
         requires stage { self.old.stage ≡ Body }
         ensures steps { (to : To) → WantsBody self.old to → Steps bytes.now result self.new to }
         ensures further { IfOk result (λ n. (0 < n) ⊎ (rank self.new.stage < rank Body)) }
-        ensures short { IfErr result (λ e. e ≡ Partial → length bytes.now < 288) }
+        ensures short { IfErr result (λ e. e ≡ Partial → length bytes.now < 20) }
     {
         match self.values.run(bytes) {
             Ok(n) => {

@@ -1,9 +1,12 @@
-use Rattle.std.proofs.Common.{refl, ◌+◌, ◌-◌, [], ◌∷◌, subst, ◌∙◌}
+use Rattle.std.proofs.Common.{refl, ◌+◌, [], ◌∷◌, subst, ◌∙◌}
 use Rattle.dbus_texts.specs.Types.{NoTypes, MoreTypes}
 use Rattle.dbus_value_model.specs.Bounds.{bounds_of}
 use Rattle.dbus_value_model.specs.declared.limits.Bounds.{Bounds}
 use Rattle.dbus_value_checker.specs.Denotations as values
 use Rattle.dbus_value_checker.specs.Moves.{values_on}
+use Rattle.dbus_value_checker.specs.Suspended.{onward}
+use Rattle.dbus_value_model.specs.Reading.{fields, value}
+use Rattle.dbus_check.proofs.Stages.{values_within}
 use Rattle.dbus_check.specs.Heading.{fields_on}
 use Rattle.dbus_check.proofs.PassedFields.{the_kept, keeps_plain}
 use Rattle.dbus_value_checker.proofs.Suspension.{parts_more}
@@ -21,18 +24,17 @@ returns c = λ to t w is single.
     let held = held_types t c.args.types.now is single in
     let kept = the_kept (c.args.code ∷ w.kept.codes) w.kept.text w.kept.count in
     let last = fields_on x.limits x.order x.kind x.body w.turns x.end kept in
-    let room = x.limits.depth - 3 in
+    let room = c.args.depth_left in
     record {
       kept = kept;
       turns = w.turns;
       keeps = keeps_plain x _ w.kept c.args.code w.keeps (c.note.ensures w.kept.codes w.keeps.sees) refl refl;
       flows = record {
-        types = MoreTypes t NoTypes;
+        run = onward (fields (value (bounds_of x.limits) x.order room x.end) (MoreTypes t NoTypes));
         start = x.offset + c.args.n;
         given = [];
-        complete = held.1;
         bytes = tt;
-        low = w.low;
+        within = values_within (bounds_of x.limits) x.order room x.end (MoreTypes t NoTypes) (x.offset + c.args.n) held.1 w.low;
         value = λ next.
             subst (λ (b : Bounds). values.Denotes c.begin.new.self (values_on b x.order room x.end (MoreTypes t NoTypes) next (x.offset + c.args.n))) c.bounds.ensures
             (c.begin.ensures (MoreTypes t NoTypes) next held.0 held.1);

@@ -20,7 +20,6 @@ returns-clause-moves c = λ to w.
     let o = x.offset + n in (
       c.in_ok-zeros.ensures.moves.2,
       record {
-        bounds = c.bounds_with.result;
         flows = body_flows x.limits x.order x.body w.kept c.bounds_with.result (o + x.body) o bounds_is refl c.begin.new.self c.as_slice.result.now _ (c.as_slice.ensures.value ∙ w.keeps.text) w.keeps.signature c.begin.ensures
             (λ t. sym (padding_taken x.limits x.order x.kind x.body w.kept x.offset s n c.in_ok-zeros.ensures.gives t) ∙ w.same (_));
       },

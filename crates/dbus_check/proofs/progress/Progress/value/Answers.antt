@@ -1,39 +1,32 @@
 use Rattle.std.proofs.Common.{ℕ, ◌+◌, ◌∷◌, Ok, Err, refl, ◌∙◌, arith}
 use Rattle.std.proofs.lemmas.Result.{err_from_is_err_and}
-use Rattle.dbus_texts.specs.Types.{UINT32, NumberType}
-use Rattle.dbus_value_model.specs.WantedTexts.{Of}
-use Rattle.dbus_message_model.specs.Messages.{Name, OfType, Serial, number_in}
-use Rattle.dbus_check.specs.Heading.{nothing_of}
+use Rattle.dbus_texts.specs.Types.{UINT32, NumberType, VariantType}
+use Rattle.dbus_message_model.specs.Messages.{OfType, Serial, number_in}
 use Rattle.dbus_check.specs.declared.progress.Progress.{Progress}
 use Rattle.dbus_check.proofs.PassedFields.{plain_passed, plain_stops, plain_code, field_passed, field_stops, count_code, the_kept, kept_count, not_before}
-use Rattle.dbus_check.proofs.FieldLaws.{passed_moves}
+use Rattle.dbus_check.proofs.FieldLaws.{passed_moves, any_held}
 use Rattle.dbus_check.proofs.progress.Progress.value.Goals as goal
 
-pub returns-in-Signature-clause-moves : goal.returns-in-Signature-clause-moves
-returns-in-Signature-clause-moves c = λ to w. passed_moves c.args.self.now c.types.new.self c.args.bytes.now c.types.result to (c.types.ensures.stage ∙ c.requires.stage) (c.types.ensures.passes to w)
+pub hold-requires-clause-valid : goal.hold-requires-clause-valid
+hold-requires-clause-valid c =
+    let a = c.args in let v = c.requires.valid in
+    (_, VariantType, (any_held a.self.now a.code a.n v.0 v.1 c.in-Anything.ensures _ refl, refl, (tt, omega arith)))
 
-pub returns-in_ok-size-in-Name-clause-moves : goal.returns-in_ok-size-in-Name-clause-moves
-returns-in_ok-size-in-Name-clause-moves c = λ to w.
-    let a = c.args in let x = a.self.now in let fits = c.in_ok-size-in-Name.ensures.moves.1 in
-    let y : Progress = record x { seen = c.note.new.self; offset = x.offset + (a.n + c.in_ok-size-in-Name.size) } in
-    passed_moves x y a.bytes.now (Ok c.in_ok-size-in-Name.size) to c.requires.stage (plain_passed x a.code a.n to w (Name (Of c.in-Name.kind)) c.in-Name.ensures a.bytes.now (plain_code (Name (Of c.in-Name.kind)) a.code c.in-Name.ensures (λ e. cc) (λ e. cc)) nothing_of (λ (m : ℕ). (tt, m)) y c.in_ok-size-in-Name.size (c.in_ok-size-in-Name.ensures.gives x.limits)
-    (record { limits = refl; order = refl; kind = refl; body = refl; end = refl; offset = omega arith }) (omega arith) (c.note.ensures w.kept.codes w.keeps.sees) refl refl)
-
-pub returns-in_err-size-in-Name-clause-moves : goal.returns-in_err-size-in-Name-clause-moves
-returns-in_err-size-in-Name-clause-moves c = let p = err_from_is_err_and c.from_residual.result c.from_residual.ensures.1 in rw (p.1, p.2) (λ to w.
-    let a = c.args in let x = a.self.now in
-    passed_moves x x a.bytes.now (Err c.in_err-size-in-Name.field-0.0) to c.requires.stage (plain_stops x a.code a.n to w (Name (Of c.in-Name.kind)) c.in-Name.ensures a.bytes.now (plain_code (Name (Of c.in-Name.kind)) a.code c.in-Name.ensures (λ e. cc) (λ e. cc)) nothing_of (λ (m : ℕ). (tt, m)) c.in_err-size-in-Name.field-0.0 (c.in_err-size-in-Name.ensures.gives x.limits)))
+pub returns-in-Anything-clause-moves : goal.returns-in-Anything-clause-moves
+returns-in-Anything-clause-moves c = λ to w.
+    let a = c.args in
+    (omega arith, c.hold.ensures to VariantType (any_held a.self.now a.code a.n to w c.in-Anything.ensures _ refl) refl (tt, omega arith))
 
 pub returns-in_ok-taken-in-Serial-clause-moves : goal.returns-in_ok-taken-in-Serial-clause-moves
 returns-in_ok-taken-in-Serial-clause-moves c = λ to w.
     let a = c.args in let x = a.self.now in let fits = c.in_ok-taken-in-Serial.ensures.moves.1 in
     let taken = c.in_ok-taken-in-Serial.taken in
-    let y : Progress = record x { seen = c.note-in-Serial.new.self; offset = x.offset + (a.n + taken.1) } in
+    let y : Progress = record x { seen = c.note.new.self; offset = x.offset + (a.n + taken.1) } in
     passed_moves x y a.bytes.now (Ok taken.1) to c.requires.stage (plain_passed x a.code a.n to w Serial c.in-Serial.ensures a.bytes.now (plain_code Serial a.code c.in-Serial.ensures (λ e. cc) (λ e. cc)) number_in (λ (x : ℕ × ℕ). x) y taken (c.in_ok-taken-in-Serial.ensures.gives x.limits)
-    (record { limits = refl; order = refl; kind = refl; body = refl; end = refl; offset = omega arith }) (omega arith) (c.note-in-Serial.ensures w.kept.codes w.keeps.sees) refl refl)
+    (record { limits = refl; order = refl; kind = refl; body = refl; end = refl; offset = omega arith }) (omega arith) (c.note.ensures w.kept.codes w.keeps.sees) refl refl)
 
 pub returns-in_err-taken-in-Serial-clause-moves : goal.returns-in_err-taken-in-Serial-clause-moves
-returns-in_err-taken-in-Serial-clause-moves c = let p = err_from_is_err_and c.from_residual-in_err-taken-in-Serial.result c.from_residual-in_err-taken-in-Serial.ensures.1 in rw (p.1, p.2) (λ to w.
+returns-in_err-taken-in-Serial-clause-moves c = let p = err_from_is_err_and c.from_residual.result c.from_residual.ensures.1 in rw (p.1, p.2) (λ to w.
     let a = c.args in let x = a.self.now in
     passed_moves x x a.bytes.now (Err c.in_err-taken-in-Serial.field-0.0) to c.requires.stage (plain_stops x a.code a.n to w Serial c.in-Serial.ensures a.bytes.now (plain_code Serial a.code c.in-Serial.ensures (λ e. cc) (λ e. cc)) number_in (λ (x : ℕ × ℕ). x) c.in_err-taken-in-Serial.field-0.0 (c.in_err-taken-in-Serial.ensures.gives x.limits)))
 
