@@ -1,5 +1,5 @@
 -- What a call makes of `ValueChecker`.
-use Rattle.std.specs.Prelude.{◌≡◌, ℕ, ◌+◌, ◌-◌, ◌≤◌, List, [], ◌∷◌, ◌++◌, length, take, false, Result, Ok, Err}
+use Rattle.std.specs.Prelude.{◌≡◌, ℕ, ◌+◌, ◌-◌, ◌≤◌, List, [], ◌∷◌, ◌++◌, ◌⊎◌, length, take, false, Result, Ok, Err}
 use Rattle.dbus_texts.specs.Types.{TypeTrees}
 use Rattle.dbus_value_model.specs.declared.limits.Bounds.{Bounds}
 use Rattle.dbus_value_model.specs.declared.order.Order.{Order}
@@ -40,6 +40,10 @@ pub record Pushed (x y : ValueChecker) (f : Frame) : Type 0 where
   pub lengths : y.lengths.items ≡ x.lengths.items
   pub inner : y.inner ≡ f
   pub frames : y.frames.items ≡ x.frames.items ++ x.inner ∷ []
+
+-- the innermost frame is put after those around it, unless it is over
+abbrev pub Aside : Frame → (old new : List Frame) → Type 0
+Aside f old new = (new ≡ old ++ f ∷ []) ⊎ ((f.array ≡ false) × (f.stop ≤ f.pos) × (new ≡ old))
 
 -- once a frame is pushed for what stands within the brackets at pos, n bytes further, its first
 -- part is wanted

@@ -11,7 +11,7 @@ use dbus_value_model::{Reason, Stop, gap, refuse};
 impl ValueChecker {
     ghost use Rattle.dbus_types.specs.SignatureCodes.{IsTypeEnd};
     ghost use Rattle.dbus_value_checker.specs.Denotations.{Answer, Denotes, Goes, HasNotes, Ready, denotes, IsNoted};
-    ghost use Rattle.dbus_value_checker.specs.Moves.{Opens, Enters, wide};
+    ghost use Rattle.dbus_value_checker.specs.Moves.{Aside, Opens, Enters, wide};
     ghost use Rattle.dbus_value_model.specs.declared.stop.Stop.TheVariants.{Partial};
 
     /// Passes over the next type, and returns the place after it.
@@ -78,6 +78,18 @@ impl ValueChecker {
         }
     }
 
+    /// Keeps the innermost container, which another one within it is to take the place of, unless
+    /// it is over: then nothing is left to come back to.
+    fn set_aside(&mut self)
+        requires few { length self.old.frames.items < 128 }
+        ensures aside { Aside self.old.inner self.old.frames.items self.new.frames.items }
+        ensures rest { self.new ≡ record self.old { frames = self.new.frames } }
+    {
+        if self.inner.array || self.inner.pos < self.inner.stop {
+            self.frames.push(self.inner);
+        }
+    }
+
     /// Enters the struct or dict entry whose type is at `pos`, n bytes on.
     pub(crate) fn inside(&mut self, pos: usize, stop: usize, n: usize, depth_left: u8)
         requires near { self.old.offset + n < 2 ^ 64 }
@@ -91,13 +103,14 @@ impl ValueChecker {
         ensures narrower { wide self.new.doing < stop - pos }
     {
         self.offset += n;
-        self.frames.push(self.inner);
+        let outer = self.inner;
+        self.set_aside();
         self.inner = Frame {
             array: false,
             pos: pos + 1,
             stop: stop - 1,
-            top: self.inner.top,
-            end: self.inner.end,
+            top: outer.top,
+            end: outer.end,
             depth_left,
         };
         let first = self.inner.pos;

@@ -58,8 +58,8 @@ pub struct ValueChecker {
     pub(crate) offset: usize,
     /// The innermost container, or the values themselves.
     pub(crate) inner: Frame,
-    /// Those around it, the outermost first: 64 containers, and in each array a dict entry, which
-    /// takes no room.
+    /// Those around it, the outermost first, but structs and dict entries whose last part is open:
+    /// at most 64 containers, and in each array a dict entry, which takes no room.
     pub(crate) frames: ArrayVec<Frame, 128>,
     /// The signatures: that of the values, then those of the variants that are open, each at most
     /// 255 bytes. After them may be what is left of variants that are over.
