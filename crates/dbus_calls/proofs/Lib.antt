@@ -1,0 +1,2 @@
+mod Callers
+mod Passes
