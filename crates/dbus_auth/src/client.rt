@@ -36,7 +36,7 @@ pub enum ClientAct<A: Allocator = Global> {
 }
 
 /// The client's state, with the server's GUID once it has begun.
-#[derive(Clone, Copy, Debug, Drop)]
+#[derive(Clone, Copy, Drop)]
 pub enum ClientStage {
     Fresh,
     WaitingForData,

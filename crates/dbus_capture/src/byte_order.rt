@@ -3,7 +3,7 @@ ghost use Rattle.std.specs.Prelude.{◌≡◌, ◌≤◌, ◌+◌, length};
 ghost use Rattle.dbus_capture.specs.Numbers.{u32_of, u16_of, u32_at, u16_at};
 
 /// The byte order of the numbers of a file or a section: that of the machine that wrote it.
-#[derive(Clone, Copy, Debug, PartialEq, Eq)]
+#[derive(Clone, Copy)]
 pub enum ByteOrder {
     /// The lowest byte comes first.
     Little,

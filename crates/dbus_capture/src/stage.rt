@@ -4,7 +4,7 @@ ghost use Rattle.dbus_capture.specs.Stages.{want, is_raw, first_stage};
 
 /// Which head comes next in a file, after the bytes of the packet under way and those that are
 /// passed over.
-#[derive(Clone, Copy, Debug, PartialEq, Eq)]
+#[derive(Clone, Copy)]
 pub enum Stage {
     // The first byte, which tells the format.
     Start,

@@ -8,7 +8,7 @@ ghost use Rattle.dbus_texts.specs.NameScans.{begins, goes_on, separator, name_ne
 use crate::byte_scan::ByteScan;
 
 /// Which bytes an element may have.
-#[derive(Clone, Copy, PartialEq, Eq, Debug)]
+#[derive(Clone, Copy)]
 pub enum Letters {
     /// `[A-Za-z0-9_]`: elements of an object path, between `/`.
     Word,
@@ -21,7 +21,7 @@ pub enum Letters {
 }
 
 /// How many elements may follow the one under way.
-#[derive(Clone, Copy, PartialEq, Eq, Debug)]
+#[derive(Clone, Copy, PartialEq, Eq)]
 pub enum Tail {
     /// None.
     Alone,
@@ -32,7 +32,7 @@ pub enum Tail {
 }
 
 /// Where in a name the scan is.
-#[derive(Clone, Copy, PartialEq, Eq, Debug)]
+#[derive(Clone, Copy)]
 pub enum Place {
     /// Before an object path.
     PathStart,
@@ -47,7 +47,7 @@ pub enum Place {
 }
 
 /// What is wanted of a name from here on.
-#[derive(Clone, Copy, PartialEq, Eq, Debug)]
+#[derive(Clone, Copy)]
 pub struct NameScan {
     pub place: Place,
     pub letters: Letters,

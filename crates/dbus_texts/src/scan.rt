@@ -13,7 +13,7 @@ use crate::text_kind::TextKind;
 use crate::utf8::Utf8Place;
 
 /// What is wanted of a text from here on.
-#[derive(Debug, Drop)]
+#[derive(Drop)]
 pub enum ScanState {
     InText(Utf8Place),
     InName(NameScan),
@@ -95,7 +95,7 @@ impl ScanState {
 ///
 /// It holds no byte of the text. D-Bus Specification, "Basic types", "Valid Object Paths", "Valid
 /// Names" and "Valid Signatures".
-#[derive(Debug, Drop)]
+#[derive(Drop)]
 pub struct TextScan {
     kind: TextKind,
     state: ScanState,

@@ -9,7 +9,7 @@ use crate::type_codes::{is_basic_code, is_type_code};
 use arrayvec::ArrayVec;
 
 /// Where in a signature the scan is.
-#[derive(Clone, Copy, PartialEq, Eq, Debug)]
+#[derive(Clone, Copy, PartialEq, Eq)]
 pub enum SigPlace {
     /// After a complete type, or before a signature.
     After,
@@ -22,7 +22,7 @@ pub enum SigPlace {
 }
 
 /// A struct or a dict entry that is open, and how many arrays and structs are open within it.
-#[derive(Clone, Copy, Default, PartialEq, Eq, Debug)]
+#[derive(Clone, Copy, Default)]
 pub struct Frame {
     /// Whether it is a dict entry.
     pub entry: bool,
@@ -33,7 +33,7 @@ pub struct Frame {
 }
 
 /// What is wanted of a signature from here on.
-#[derive(Debug, Drop)]
+#[derive(Drop)]
 pub struct SigScan {
     /// Whether exactly one complete type is wanted.
     pub single: bool,

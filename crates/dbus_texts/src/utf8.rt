@@ -10,7 +10,7 @@ use crate::byte_scan::ByteScan;
 use std::str;
 
 /// Where in a character the scan is.
-#[derive(Clone, Copy, PartialEq, Eq, Debug)]
+#[derive(Clone, Copy, PartialEq, Eq)]
 pub enum Utf8Place {
     /// Between characters.
     Free,
