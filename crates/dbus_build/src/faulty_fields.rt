@@ -74,7 +74,6 @@ pub fn first_zero_reply<A: Allocator>(fields: &[HeaderField<A>]) -> Option<u8>
 }
 
 /// The code of the first known field that comes after one of its code.
-#[tactic(auto, using(crate::proofs::Finding::twice_here, crate::proofs::Finding::twice_later))]
 pub fn first_twice<A: Allocator>(fields: &[HeaderField<A>]) -> Option<u8>
     ensures { result ≡ twice [] (field_trees fields.now) }
 {
@@ -87,7 +86,6 @@ pub fn first_twice<A: Allocator>(fields: &[HeaderField<A>]) -> Option<u8>
 }
 
 /// The code of the first known field of another type than its own.
-#[tactic(auto, using(crate::proofs::Finding::first_here, crate::proofs::Finding::first_later, crate::proofs::Finding::first_none))]
 pub fn first_mistyped<A: Allocator>(fields: &[HeaderField<A>]) -> Option<u8>
     ensures { IsFirstWithout HasOwnType (field_trees fields.now) result }
 {
@@ -100,7 +98,6 @@ pub fn first_mistyped<A: Allocator>(fields: &[HeaderField<A>]) -> Option<u8>
 }
 
 /// The code of the first known field whose text is not of its kind.
-#[tactic(auto, using(crate::proofs::Finding::first_here, crate::proofs::Finding::first_later, crate::proofs::Finding::first_none))]
 pub fn first_misnamed<A: Allocator>(fields: &[HeaderField<A>]) -> Option<u8>
     ensures { IsFirstWithout HasOwnKind (field_trees fields.now) result }
 {

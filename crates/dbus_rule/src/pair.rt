@@ -65,7 +65,6 @@ fn clash<A: Allocator>(conditions: &[Condition<A>], key: Key) -> Option<RuleReas
 }
 
 /// The key at `from`, and the place where its value's text begins.
-#[tactic(auto, using(crate::proofs::NameReadings::left_over, crate::proofs::NameReadings::no_equals_fault, crate::proofs::NameReadings::unknown_fault, crate::proofs::NameReadings::clash_fault, crate::proofs::NameReadings::key_at))]
 fn read_key<A: Allocator>(
     text: &[u8],
     from: usize,
