@@ -124,7 +124,7 @@ fn check_indexes<A: Allocator>(parts: &Parts<A>, limits: Limits) -> Result<(), B
 
 /// The message of these parts, or the parts and the first case of [`BuildFault`] that holds of them
 /// under the limits.
-#[tactic(auto, using(crate::proofs::Accepting::no_fault, crate::proofs::Built::only_memory, crate::proofs::Accepting::parts_packed))]
+#[tactic(auto, using(crate::proofs::Accepting::parts_packed))]
 pub(crate) fn build_within<A: Allocator>(
     parts: Parts<A>,
     limits: Limits,
