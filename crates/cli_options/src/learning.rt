@@ -1,16 +1,15 @@
 //! The owners of names that a stream itself tells.
 ghost use Rattle.std.specs.Prelude.{◌≡◌, None, Some, IfOk, OnErr, option_map};
 ghost use Rattle.dbus_value_model.specs.declared.order.Order.{Order};
-ghost use Rattle.dbus_message_model.specs.KnownFields.{body_value};
 ghost use Rattle.dbus_message_model.specs.Messages.{MessageTree};
 ghost use Rattle.dbus_view.specs.Views.{Views};
-ghost use Rattle.dbus_match.specs.Matching.{ownerships, string_of};
+ghost use Rattle.dbus_match.specs.Matching.{ownerships};
 ghost use Rattle.cli_options.specs.Owners.{ask_sender, change_of, changed, is_change, is_text, known, known_after, others};
 
 use crate::selection::Selection;
-use dbus_match::{Owner, Rule};
+use dbus_match::{Owner, Rule, string_arg};
 use dbus_message_model::message_type::SIGNAL;
-use dbus_view::{ArgView, MessageView};
+use dbus_view::MessageView;
 use std::alloc::AllocError;
 
 // The name of the bus itself, and of its interface.
@@ -100,9 +99,9 @@ fn change_told<'a>(view: &MessageView<'a>) -> Option<Change<'a>>
     if !is_change(view) {
         return None;
     }
-    let name = string_seen(view, 0)?;
-    string_seen(view, 1)?;
-    let unique = string_seen(view, 2)?;
+    let name = string_arg(view, 0)?;
+    string_arg(view, 1)?;
+    let unique = string_arg(view, 2)?;
     if view.arg(3).is_some() {
         return None;
     }
@@ -114,17 +113,6 @@ fn ask_sender(rules: &[Rule], name: &str) -> bool
     ensures { result ≡ ask_sender rules.now name.now }
 {
     rules.iter().any(|rule| is_text(rule.sender(), name))
-}
-
-// The text of argument `n`, if that is a STRING.
-fn string_seen<'a>(view: &MessageView<'a>, n: usize) -> Option<&'a str>
-    ensures { (order : Order) (m : MessageTree) → Views view.now order m →
-        option_map (λ s. s.now) result ≡ string_of (body_value n m.body) }
-{
-    match view.arg(n) {
-        Some(ArgView::Str(text)) => Some(text),
-        _ => None,
-    }
 }
 
 // Whether it is the signal by which the bus tells that a name has another owner.
