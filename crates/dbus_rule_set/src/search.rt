@@ -33,7 +33,8 @@ fn ask_each<A: Allocator, O: NameOwners<A>, V: RuleVisitor>(
     visitor: &mut V,
 ) -> Result<(), V::Stop>
     ensures found { (order : Order) (m : MessageTree) → Views view.now order m →
-        OnOk result (Collects (EntryMatches m (O.owners owners.now)) rules.entry (V.gathered visitor.old) (V.gathered visitor.new)) }
+        OnOk result (Collects (EntryMatches m (O.owners owners.now)) rules.entry
+        (V.gathered visitor.old) (V.gathered visitor.new)) }
     ensures stopped { (order : Order) (m : MessageTree) → Views view.now order m →
         OnErr result (HoldsOfAny (EntryMatches m (O.owners owners.now)) rules.entry) }
     ensures kept { take (length (V.gathered visitor.old)) (V.gathered visitor.new) ≡ V.gathered visitor.old }
@@ -81,8 +82,10 @@ fn ask_hashes<A: Allocator, O: NameOwners<A>, V: RuleVisitor>(
     visitor: &mut V,
 ) -> Result<(), V::Stop>
     ensures found { (order : Order) (m : MessageTree) → Views view.now order m →
-        AllByRecursion (λ e. EntryMatches m (O.owners owners.now) e → e.0.kind ≡ kind → IsAmong e.0.hash hashes.now) rules.now.entries →
-        OnOk result (Searches (EntryMatches m (O.owners owners.now)) rules.now.entries kind (V.gathered visitor.old) (V.gathered visitor.new)) }
+        AllByRecursion (λ e. EntryMatches m (O.owners owners.now) e → e.0.kind ≡ kind → IsAmong e.0.hash hashes.now)
+        rules.now.entries →
+        OnOk result (Searches (EntryMatches m (O.owners owners.now)) rules.now.entries kind
+        (V.gathered visitor.old) (V.gathered visitor.new)) }
     ensures stopped { (order : Order) (m : MessageTree) → Views view.now order m →
         OnErr result (HoldsOfAny (EntryMatches m (O.owners owners.now)) rules.now.entries) }
     ensures kept { take (length (V.gathered visitor.old)) (V.gathered visitor.new) ≡ V.gathered visitor.old }
@@ -108,7 +111,8 @@ fn ask_kind<A: Allocator, O: NameOwners<A>, V: RuleVisitor>(
     requires small { kind < 137 }
     requires placed { AllByRecursion Stands rules.now.entries }
     ensures found { (order : Order) (m : MessageTree) → Views view.now order m →
-        OnOk result (Searches (EntryMatches m (O.owners owners.now)) rules.now.entries kind (V.gathered visitor.old) (V.gathered visitor.new)) }
+        OnOk result (Searches (EntryMatches m (O.owners owners.now)) rules.now.entries kind
+        (V.gathered visitor.old) (V.gathered visitor.new)) }
     ensures stopped { (order : Order) (m : MessageTree) → Views view.now order m →
         OnErr result (HoldsOfAny (EntryMatches m (O.owners owners.now)) rules.now.entries) }
     ensures kept { take (length (V.gathered visitor.old)) (V.gathered visitor.new) ≡ V.gathered visitor.old }
@@ -137,7 +141,8 @@ pub(crate) fn search<A: Allocator, O: NameOwners<A>, V: RuleVisitor>(
 ) -> Result<(), V::Stop>
     requires indexed { AllByRecursion (IsIndexed kinds.now) rules.now.entries }
     ensures found { (order : Order) (m : MessageTree) → Views view.now order m →
-        OnOk result (Collects (EntryMatches m (O.owners owners.now)) rules.now.entries (V.gathered visitor.old) (V.gathered visitor.new)) }
+        OnOk result (Collects (EntryMatches m (O.owners owners.now)) rules.now.entries
+        (V.gathered visitor.old) (V.gathered visitor.new)) }
     ensures stopped { (order : Order) (m : MessageTree) → Views view.now order m →
         OnErr result (HoldsOfAny (EntryMatches m (O.owners owners.now)) rules.now.entries) }
     ensures kept { take (length (V.gathered visitor.old)) (V.gathered visitor.new) ≡ V.gathered visitor.old }
