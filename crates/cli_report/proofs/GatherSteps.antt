@@ -1,11 +1,9 @@
 -- The steps in which bytes are gathered and written.
-use Rattle.std.proofs.Common.{◌≡◌, ℕ, List, [], ◌++◌, Option, Result, Ok, Err, take, drop, sym, ap, ◌∙◌, subst, append_assoc, append-nil, take-append-drop}
+use Rattle.std.proofs.Common.{◌≡◌, ℕ, List, [], ◌++◌, Option, take, drop, sym, ap, ◌∙◌, subst, append_assoc, append-nil, take-append-drop}
 use Rattle.std.specs.Io.KnownBytes.{Appends}
 use Rattle.dbus_device.specs.Device.{Wrote, Stopped}
-use Rattle.cli_report.specs.Gathering.{Passes, Breaks, GathersOrNot}
+use Rattle.cli_report.specs.Gathering.{Passes, Breaks}
 use Rattle.cli_report.specs.PageLaws.{passes_both, breaks_after}
-use Rattle.cli_report.specs.declared.ending.Cause.{Cause}
-use Rattle.cli_report.specs.declared.ending.Cause.TheVariants.{Memory, ReadFailed, WriteFailed, TooManyReads}
 
 module _ {W : Type 0} (held : W → Option (List ℕ)) (failures : W → ℕ) where
   -- of what is gathered a prefix was written

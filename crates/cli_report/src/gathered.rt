@@ -3,6 +3,8 @@
 
 ghost use Rattle.std.specs.Prelude.{◌≤◌};
 
+use dbus_show::copy_bytes;
+
 /// What is gathered: up to 16,384 bytes, in the value itself. An `ArrayVec` blanks what it gives
 /// up, which costs as much as writing it.
 #[derive(Drop)]
@@ -37,7 +39,32 @@ impl Gathered {
             return false;
         }
         let end = self.len + bytes.len();
-        self.bytes[self.len..end].copy_from_slice(bytes);
+        copy_bytes(&mut self.bytes[self.len..end], bytes);
+        self.len = end;
+        true
+    }
+
+    /// Appends the bytes between others if there is room for all, and says whether there was.
+    #[inline]
+    pub(crate) fn push_between(&mut self, before: &[u8], bytes: &[u8], after: &[u8]) -> bool
+        ensures took { result ≡ true → gathered_bytes self.new ≡
+            gathered_bytes self.old ++ (before.now ++ (bytes.now ++ after.now)) }
+        ensures full { result ≡ false → self.new ≡ self.old }
+    {
+        let start = self.len;
+        let room = 16_384 - start;
+        if bytes.len() > room
+            || before.len() > room - bytes.len()
+            || after.len() > room - bytes.len() - before.len()
+        {
+            return false;
+        }
+        let first = start + before.len();
+        let last = first + bytes.len();
+        let end = last + after.len();
+        copy_bytes(&mut self.bytes[start..first], before);
+        copy_bytes(&mut self.bytes[first..last], bytes);
+        copy_bytes(&mut self.bytes[last..end], after);
         self.len = end;
         true
     }

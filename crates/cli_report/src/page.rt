@@ -1,6 +1,7 @@
 //! A text that is gathered and written as it comes.
 #![tactic(auto)]
 
+ghost use Rattle.std.specs.Prelude.{◌++◌};
 ghost use Rattle.cli_report.specs.Gathering.{Goes};
 ghost use Rattle.cli_report.specs.PageLaws as laws;
 
@@ -31,6 +32,16 @@ impl<W: Sink> Page<'_, W> {
             self.failed = write_after(text.as_bytes(), self.gathered, self.first).is_err();
         }
     }
+
+    /// Appends three texts, which have no room together.
+    #[inline(never)]
+    fn push_each(&mut self, before: &str, text: &str, after: &str)
+        ensures { Goes W.held W.failures self.old (before.now ++ (text.now ++ after.now)) self.new }
+    {
+        self.push_str(before);
+        self.push_str(text);
+        self.push_str(after);
+    }
 }
 
 impl<W: Sink> Draft for Page<'_, W> {
@@ -40,6 +51,14 @@ impl<W: Sink> Draft for Page<'_, W> {
     fn push_str(&mut self, text: &str) {
         if !self.gathered.push(text.as_bytes()) {
             self.push_past(text);
+        }
+    }
+
+    #[inline]
+    fn push_between(&mut self, before: &str, text: &str, after: &str) {
+        let (first, bytes, last) = (before.as_bytes(), text.as_bytes(), after.as_bytes());
+        if !self.gathered.push_between(first, bytes, last) {
+            self.push_each(before, text, after);
         }
     }
 
