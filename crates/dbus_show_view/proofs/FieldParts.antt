@@ -82,14 +82,14 @@ led_each : (lead : List ℕ) (texts : List (List ℕ)) → led lead lead texts �
 led_each lead [] = refl
 led_each lead (t ∷ texts) = sym (append_assoc lead t (flat_map (λ (text : List ℕ). lead ++ text) texts))
 
--- the fields, each after a space
+-- the fields
 fields_are : (fs : List FieldTree) (texts : List (List ℕ)) → AreFieldTexts (λ code v text. text ≡ named code v) (taken_fields (λ _. true) fs) texts
-    → flat_map (λ (text : List ℕ). codes " " ++ text) texts ≡ flat_map field_text fs
+    → led [] [] texts ≡ flat_map field_text fs
 fields_are [] [] h = refl
 fields_are [] (t ∷ texts) h = absurd h
 fields_are (f ∷ fs) [] h = absurd h
 fields_are (f ∷ fs) (t ∷ texts) h =
-    ap (λ (s : List ℕ). (codes " " ++ s) ++ flat_map (λ (text : List ℕ). codes " " ++ text) texts) h.0 ∙ ap (λ (s : List ℕ). field_text f ++ s) (fields_are fs texts h.1)
+    ap (λ (s : List ℕ). s ++ flat_map (λ (text : List ℕ). text) texts) h.0 ∙ ap (λ (s : List ℕ). field_text f ++ s) (sym (led_each [] texts) ∙ fields_are fs texts h.1)
 
 -- the values, each in a line that begins after a line feed: the line feed of the line before it
 lines_are : (texts : List (List ℕ)) → flat_map (λ (text : List ℕ). codes "\n  " ++ text) texts ++ codes "\n" ≡ codes "\n" ++ flat_map body_line texts
@@ -100,10 +100,10 @@ lines_are (t ∷ texts) =
 
 pub whole_message : (order : Order) (m : MessageTree) (number : ℕ) (fields values : List (List ℕ))
     → AreFieldTexts (λ code v text. text ≡ named code v) (taken_fields (λ _. true) m.fields) fields → AreTexts (λ v text. text ≡ value_text v) m.body values
-    → start_text order m.kind m.serial m.flags number ++ (led (codes " ") (codes " ") fields ++ (led (codes "\n  ") (codes "\n  ") values ++ codes "\n")) ≡ message_text order m number
+    → start_text order m.kind m.serial m.flags number ++ (led [] [] fields ++ (led (codes "\n  ") (codes "\n  ") values ++ codes "\n")) ≡ message_text order m number
 whole_message order m number fields values fielded valued =
     let start = start_text order m.kind m.serial m.flags number in
-    let named_fields : led (codes " ") (codes " ") fields ≡ flat_map field_text m.fields = led_each (codes " ") fields ∙ fields_are m.fields fields fielded in
+    let named_fields = fields_are m.fields fields fielded in
     let lines : led (codes "\n  ") (codes "\n  ") values ++ codes "\n" ≡ codes "\n" ++ flat_map body_line (value_texts m.body) =
     ap (λ (s : List ℕ). s ++ codes "\n") (led_each (codes "\n  ") values) ∙ lines_are values ∙ ap (λ (ts : List (List ℕ)). codes "\n" ++ flat_map body_line ts) (texts_are m.body values valued) in
     ap (λ (s : List ℕ). start ++ (s ++ (led (codes "\n  ") (codes "\n  ") values ++ codes "\n"))) named_fields

@@ -23,6 +23,6 @@ close_text (ArrayValue t xs) = codes "]"
 close_text (StructValue xs) = codes ")"
 close_text (EntryValue x y) = codes "}"
 
--- a header field with this code and value
+-- a header field with this code and value, after a space
 abbrev pub named : ℕ → ValueTree → List ℕ
-named code v = field_name code ++ (codes "=" ++ (if is_known code then bare v else value_text v))
+named code v = codes " " ++ (field_name code ++ (codes "=" ++ (if is_known code then bare v else value_text v)))

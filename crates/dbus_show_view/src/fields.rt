@@ -14,7 +14,7 @@ use dbus_show::{Draft, push_field_name, write_field_name, write_integer};
 use dbus_value_text::{FieldForm, write_value};
 use dbus_walk::{Layout, MessageBytes, Spot, layout, text_in};
 
-/// All fields, each after its name.
+/// All fields, each after a space and its name.
 pub(crate) struct Named;
 
 impl FieldForm for Named {
@@ -41,17 +41,18 @@ impl FieldForm for Named {
     }
 }
 
-/// Appends the name of a field and `=`.
+/// Appends a space, the name of a field and `=`.
 #[inline]
 fn write_name<D: Draft>(draft: &mut D, code: u8)
-    ensures { D.gains draft.old (field_name code ++ codes "=") draft.new }
+    ensures { D.gains draft.old (codes " " ++ (field_name code ++ codes "=")) draft.new }
 {
     push_field_name!(
         draft,
         code,
-        "",
+        " ",
         "=",
         {
+            draft.push_code(b' ');
             write_field_name(draft, code);
             draft.push_code(b'=');
         }

@@ -10,8 +10,8 @@ returns-then-is_known g c = record {
       let w = c.write_bare.ensures.shown v rest s in
       let known = sym c.if-is_known.true ∙ c.is_known.ensures in
       let gained = then g.D.Draft.gains g.met.D.Draft.joins c.write_name.ensures w.0 in
-      let together = append_assoc (field_name c.args.code) (codes "=") (bare v) in
-      ((_, together ∙ ap (λ (b : Bool). field_name c.args.code ++ (codes "=" ++ cond b (bare v) (value_text v))) known, gained), w.1);
+      let together = ap (λ (s : List ℕ). codes " " ++ s) (append_assoc (field_name c.args.code) (codes "=") (bare v)) in
+      ((_, together ∙ ap (λ (b : Bool). codes " " ++ (field_name c.args.code ++ (codes "=" ++ cond b (bare v) (value_text v)))) known, gained), w.1);
 }
 
 pub returns : goal.returns
@@ -21,6 +21,6 @@ returns g c = record {
       let known = sym c.if-is_known.false ∙ c.is_known.ensures in
       let held = subst (λ (text : List ℕ). g.D.Draft.gains c.write_name.new.draft text c.write_value.new.draft) w.0.1 w.0.2 in
       let gained = then g.D.Draft.gains g.met.D.Draft.joins c.write_name.ensures held in
-      let together = append_assoc (field_name c.args.code) (codes "=") (value_text v) in
-      ((_, together ∙ ap (λ (b : Bool). field_name c.args.code ++ (codes "=" ++ cond b (bare v) (value_text v))) known, gained), w.1);
+      let together = ap (λ (s : List ℕ). codes " " ++ s) (append_assoc (field_name c.args.code) (codes "=") (value_text v)) in
+      ((_, together ∙ ap (λ (b : Bool). codes " " ++ (field_name c.args.code ++ (codes "=" ++ cond b (bare v) (value_text v)))) known, gained), w.1);
 }
