@@ -12,7 +12,7 @@ use Rattle.dbus_value_model.specs.declared.stop.Stop.{Stop}
 use Rattle.dbus_value_model.specs.Items.{fault}
 use Rattle.dbus_value_model.specs.ValueItems.{number_row, text_row}
 use Rattle.dbus_value_model.specs.ValueReaders.{array_frame}
-use Rattle.dbus_value_model.specs.Reading.{Reader, Faulty, after, padding, number, text, nul, value}
+use Rattle.dbus_value_model.specs.Reading.{Reader, Done, Faulty, after, padding, number, text, nul, value}
 use Rattle.arrayvec.specs.ArrayVec.{ArrayVec}
 use Rattle.dbus_value_checker.specs.declared.values.ValueChecker.{ValueChecker}
 use Rattle.dbus_value_checker.specs.declared.values.Frame.{Frame}
@@ -28,6 +28,8 @@ use Rattle.dbus_value_checker.proofs.Suspension.{works_as, value_begins, after_a
 use Rattle.dbus_value_checker.proofs.FrontSteps.{front_taken, front_stops, array_of, struct_of, entry_of, text_of, number_type, array_complete, struct_complete, entry_complete, entry_text, sigs_some}
 use Rattle.dbus_value_checker.proofs.Slices.{slice_head, slice_room, slice_after, slice_inner}
 use Rattle.dbus_value_checker.proofs.FrameLaws.{frames_at, frame_within, pushed_frames, inner_of}
+use Rattle.dbus_value_laws.proofs.ReadSteps.{padding_is}
+use Rattle.dbus_value_model.specs.Bytes.{gap_to}
 use Rattle.dbus_value_checker.proofs.NextValues.{next_part_at}
 use Rattle.dbus_value_checker.proofs.Notes.{part_noted, pushed_notes}
 
@@ -66,6 +68,13 @@ module _ (x : ValueChecker) (pos stop : ℕ) (answer : Answer) (w : Wants x pos 
           there = there;
           same = front_taken (λ (n : ℕ). (tt, n)) x.offset s (padding a x.inner.end) begun answer.to padded_same n h;
         }
+
+    -- no padding is before it
+    pub wants_here : gap_to a x.offset ≡ 0 → Ready x pos stop 0 answer
+    wants_here none =
+        let low = wants_low in
+        let same : x.offset + 0 ≡ x.offset = omega arith in
+        wants_ready [] 0 (omega arith, λ c. padding_is a x.inner.end x.offset 0 c none (omega arith) ∙ ap (λ (p : ℕ). Done tt p c) (sym same)) (omega arith)
 
     pub wants_stops : (s : List ℕ) (e : Stop) → Fronts (λ (n : ℕ). (tt, n)) x.offset s (Err e) (padding a x.inner.end) → Moves x s (Err e) x answer
     wants_stops s e h = front_stops (λ (n : ℕ). (tt, n)) x.offset s (padding a x.inner.end) begun answer.to padded_same x answer.last e h

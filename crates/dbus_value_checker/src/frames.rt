@@ -2,10 +2,10 @@
 //! left.
 #![tactic(auto)]
 
-ghost use Rattle.std.specs.Prelude.{◌≡◌, ◌≢◌, ◌+◌, ◌-◌, ◌<◌, ◌≤◌, ◌^◌, length, take, slice_index, true, IfOk, IfErr};
+ghost use Rattle.std.specs.Prelude.{◌≡◌, ◌≢◌, ◌+◌, ◌-◌, ◌<◌, ◌≤◌, ◌^◌, length, take, slice_index, true, IfOk, IfErr, IfSome};
 
 use crate::values::{Doing, Frame, ValueChecker};
-use dbus_types::free_width;
+use dbus_types::{boundary, free_width};
 use dbus_value_model::{Reason, Stop, gap, refuse};
 
 impl ValueChecker {
@@ -133,6 +133,52 @@ impl ValueChecker {
         }
         self.inside(pos, stop, n, depth_left - 1);
         Ok(())
+    }
+
+    /// Where the type of the wanted value is, if it is a struct that begins at once.
+    fn struct_here(&self) -> Option<(usize, usize)>
+        requires valid { (answer : Answer) × Denotes self.now answer }
+        ensures ready { IfSome result (λ p. (answer : Answer) → Denotes self.now answer →
+            Ready self.now p.0 p.1 0 answer) }
+        ensures code { IfSome result (λ p. slice_index self.now.text.items p.0 ≡ 40) }
+        ensures wanted { IfSome result (λ p. wide self.now.doing ≡ p.1 - p.0) }
+    {
+        let Doing::Wanted(pos, stop) = self.doing else {
+            return None;
+        };
+        let code = self.text.as_slice()[pos];
+        if code != b'(' || gap(boundary(code), self.offset) > 0 {
+            return None;
+        }
+        Some((pos, stop))
+    }
+
+    /// A struct, whose padding of n bytes is there, and those within it that begin where it does.
+    pub(crate) fn open_structs(&mut self, pos: usize, stop: usize, n: usize) -> Result<(), Stop>
+        requires valid { (answer : Answer) × Ready self.old pos stop n answer }
+        requires code { slice_index self.old.text.items pos ≡ 40 }
+        ensures opens { (answer : Answer) → Ready self.old pos stop n answer →
+            Opens result self.new answer }
+        ensures decided { IfErr result (λ e. e ≢ Partial) }
+        ensures narrower { IfOk result (λ _. wide self.new.doing < stop - pos) }
+    {
+        let mut at = pos;
+        let mut until = stop;
+        let mut zeros = n;
+        loop {
+            match self.open_struct(at, until, zeros) {
+                Ok(()) => {}
+                Err(stop) => return Err(stop),
+            }
+            match self.struct_here() {
+                Some((first, last)) => {
+                    at = first;
+                    until = last;
+                    zeros = 0;
+                }
+                None => return Ok(()),
+            }
+        }
     }
 
     /// A dict entry, whose padding of n bytes is there.

@@ -125,7 +125,7 @@ impl ValueChecker {
             return Ok(0);
         }
         if code == b'(' {
-            return match self.open_struct(pos, stop, n) {
+            return match self.open_structs(pos, stop, n) {
                 Ok(()) => Ok(0),
                 Err(stop) => Err(stop),
             };

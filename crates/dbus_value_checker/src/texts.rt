@@ -26,7 +26,7 @@ pub fn kind_of_code(code: u8) -> TextKind
 }
 
 /// What is wrong with a text that is not of this kind.
-fn reason_of_kind(kind: TextKind) -> Reason
+pub fn reason_of_kind(kind: TextKind) -> Reason
     ensures { text_reason (Of kind) ≡ result }
 {
     match kind {
