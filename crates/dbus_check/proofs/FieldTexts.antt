@@ -1,5 +1,7 @@
 -- Fields whose texts are under way once their lengths are read.
 use Rattle.std.proofs.Common.{◌≡◌, ℕ, ◌+◌, ◌-◌, ◌≤◌, List, [], ◌∷◌, ◌++◌, length, take, drop, Result, Ok, Err, refl, sym, ap, subst, ◌∙◌, arith}
+use Rattle.std.proofs.lemmas.List.{length-drop, drop-drop}
+use Rattle.dbus_value_checker.proofs.Suspension.{take-both}
 use Rattle.arrayvec.specs.ArrayVec.{ArrayVec}
 use Rattle.dbus_texts.specs.Types.{STRING, SIGNATURE, TextType}
 use Rattle.dbus_texts.specs.ComputedKinds.{type_spelled}
@@ -11,7 +13,7 @@ use Rattle.dbus_value_model.specs.declared.stop.Stop.{Stop}
 use Rattle.dbus_value_model.specs.declared.stop.Stop.TheVariants as stops
 use Rattle.dbus_value_model.specs.Values.{ValueTree, TextValue}
 use Rattle.dbus_value_model.specs.ValueItems.{text_row}
-use Rattle.dbus_value_model.specs.Reading.{Reader, Faulty, after, number}
+use Rattle.dbus_value_model.specs.Reading.{Reader, Outcome, Faulty, after, number}
 use Rattle.dbus_message_model.specs.Messages.{Name, OfType, want}
 use Rattle.dbus_header.specs.MessageItems.{name_row}
 use Rattle.dbus_header.specs.HeaderReading.{value_wanted}
@@ -22,7 +24,7 @@ use Rattle.dbus_value_checker.specs.Fronts.{Fronts}
 use Rattle.dbus_value_checker.specs.Moves.{Opens, text_on}
 use Rattle.dbus_value_checker.specs.declared.values.ValueChecker.{ValueChecker}
 use Rattle.dbus_check.specs.Heading.{Kept, kept_of, padded_number, fields_on}
-use Rattle.dbus_check.specs.Progress.{To, Sees, Moves, WantsValue, WantsMore, WantsTypes, after_bytes}
+use Rattle.dbus_check.specs.Progress.{To, Sees, Moves, Passes, WantsValue, WantsMore, WantsTypes, after_bytes}
 use Rattle.dbus_check.specs.declared.progress.Progress.{Progress}
 use Rattle.dbus_check.specs.declared.progress.Stage.TheVariants as stage
 use Rattle.dbus_check.specs.declared.seen.Seen.{Seen}
@@ -52,6 +54,35 @@ module _ (x : Progress) (code n : ℕ) (to : To) (w : WantsValue x code n to) (s
     module _ (size taken : ℕ) (second : Sized (Ok (size, taken))) (o : ℕ) (o_is : o ≡ x.offset + n + 3 + taken) where
       pub name_there : 3 + taken ≤ length s
       name_there = length_there x code n to w (Name (Of kind)) wanted s 115 refl first rest rest_is sized (Of kind) (TextValue STRING) begins (λ (z : ℕ × ℕ). z) (size, taken) second
+
+      -- all of it is there
+      pub name_passes : (seen : Seen) → Sees seen (code ∷ w.kept.codes) → (u : List ℕ) → u ≡ drop taken rest → Fronts (λ (z : Unit {0}). (take size u, size + 1)) o u (Ok tt) (ended_text (Of kind) size) → o + (size + 1) ≤ x.end
+          → Passes x s (Ok (3 + taken + (size + 1))) (record x { seen = seen; offset = o + (size + 1) }) to
+      name_passes seen sees u u_is third fits =
+          let plain = plain_code (Name (Of kind)) code wanted (λ e. cc) (λ e. cc) in
+          let kept = plain_kept x code n to w plain in
+          let turns_is = w.turns_is in
+          let all : u ≡ drop (3 + taken) s = u_is ∙ ap (drop taken) rest_is ∙ drop-drop taken 3 s in
+          let l = ap length all ∙ length-drop (3 + taken) s in
+          let there = name_there in
+          let long = third.0 in (
+            omega (arith, l, there, long),
+            record {
+              kept = kept;
+              turns = w.turns;
+              keeps = keeps_plain x (record x { seen = seen; offset = o + (size + 1) }) w.kept code w.keeps sees refl refl;
+              low = fits;
+              turns_is = omega (arith, turns_is, o_is);
+              near = w.near;
+              same = λ c.
+                  plain_same x code n to w plain (TextValue STRING (take size u)) (o + (size + 1)) c
+                  ∙ sym (ap (λ (r : Outcome (List ℕ)). after r (λ t. more (kept_of w.kept code (TextValue STRING t)))) (third.1 c))
+                  ∙ ap (λ (p : ℕ). after (ended_text (Of kind) size p (take (size + 1) u ++ c)) (λ t. more (kept_of w.kept code (TextValue STRING t)))) o_is
+                  ∙ length_same x code n to w (Name (Of kind)) wanted s 115 refl first rest rest_is sized (Of kind) (TextValue STRING) begins (λ (z : ℕ × ℕ). z) (size, taken) second (take (size + 1) u ++ c)
+                  ∙ ap (λ (v : List ℕ). to (take (3 + taken) s ++ (take (size + 1) v ++ c))) all
+                  ∙ ap to (sym (take-both (3 + taken) (size + 1) s c there));
+            },
+          )
 
       pub name_broken : (e : Stop) (v : ValueChecker) (y : Progress) → ((last : On) → Opens (Err e) v (text_on kind size last o)) → Moves x s (Err e) y to
       name_broken stops.Partial v y h = absurd (h done)

@@ -13,7 +13,7 @@ use crate::progress::{Progress, Stage};
 use dbus_header::FIELD_DEPTH;
 use dbus_message_model::field_table::{Wanted, want};
 use dbus_types::TextKind;
-use dbus_value_checker::{rest_after, short_length_front};
+use dbus_value_checker::{ended_front, reason_of_kind, rest_after, short_length_front};
 use dbus_value_model::Stop;
 
 impl Progress {
@@ -70,7 +70,8 @@ impl Progress {
         Ok(3)
     }
 
-    /// A name of a kind, n bytes further: what comes before its text, which is wanted next.
+    /// A name of a kind, n bytes further: all of it, or what comes before its text, which is wanted
+    /// next.
     pub(crate) fn name(
         &mut self,
         kind: TextKind,
@@ -80,6 +81,7 @@ impl Progress {
     ) -> Result<usize, Stop>
         requires valid { (to : To) × WantsValue self.old code n to }
         requires wanted { Name (Of kind) ≡ want code }
+        requires stage { self.old.stage ≡ Fields }
         ensures moves { (to : To) → WantsValue self.old code n to →
             Moves self.old bytes.now result self.new to }
         ensures few { IfOk result (λ m. m < 4294967296) }
@@ -91,6 +93,12 @@ impl Progress {
         let (size, taken) = name_length_front(rest, at + 3, self.end, self.order)?;
         self.seen.note(code);
         self.offset = at + (3 + taken);
+        let text = rest_after(rest, taken);
+        // Most are there whole.
+        if let Ok(()) = ended_front(kind, size, text, self.offset, reason_of_kind(kind)) {
+            self.offset += size + 1;
+            return Ok(3 + taken + (size + 1));
+        }
         self.values.begin_text(kind, self.offset, size, self.end)?;
         self.stage = Stage::Value;
         Ok(3 + taken)
