@@ -1,6 +1,6 @@
 -- The owners of names that the words `--owner NAME=UNIQUE` give.
 -- D-Bus Specification, "Valid Names" ("Bus names").
-use Rattle.std.specs.Prelude.{◌≡◌, ℕ, List, ◌∷◌, ◌++◌, ◌==◌, Bool, false, ◌&&◌, not, if◌then◌else◌, [], Option, None, Some, Vec, codes, string_bytes}
+use Rattle.std.specs.Prelude.{◌≡◌, ℕ, List, ◌∷◌, ◌++◌, Bool, false, ◌&&◌, not, if◌then◌else◌, [], Option, None, Some, Vec, string_bytes}
 use Rattle.std.specs.List.{AllZip, filter, list_any}
 use Rattle.std.specs.declared.alloc.Global.{Global}
 use Rattle.std.specs.Str.{bytes_eq}
@@ -9,12 +9,10 @@ use Rattle.dbus_texts.specs.Characters.{colon}
 use Rattle.dbus_texts.specs.Kinds.{IsKind}
 use Rattle.dbus_texts.specs.declared.text_kind.TextKind.TheVariants.{BusName}
 use Rattle.dbus_match.specs.declared.owner.Owner.{Owner}
-use Rattle.dbus_match.specs.Matching.{Ownership, ownership, ownerships, string_of, text_of}
-use Rattle.dbus_value_model.specs.Values.{ValueTree}
+use Rattle.dbus_match.specs.Matching.{Ownership, ownership, ownerships}
+use Rattle.dbus_calls.specs.Answering.{is_ownable}
+use Rattle.dbus_calls.specs.OwnerChanges.{change_of, is_text}
 use Rattle.dbus_message_model.specs.Messages.{MessageTree}
-use Rattle.dbus_message_model.specs.KnownFields.{field_value, body_value}
-use Rattle.dbus_message_model.specs.declared.field_code.TheConstants as field
-use Rattle.dbus_message_model.specs.declared.message_type.TheConstants as message
 use Rattle.dbus_rule.specs.declared.rule.Rule.{Rule}
 use Rattle.dbus_rule.specs.Rules.{sender_of}
 use Rattle.dbus_rule.specs.RuleViews.{rule_pairs}
@@ -48,32 +46,6 @@ AreOwnersOf words owners = AllZip (λ word owner. IsOwnerWord word (ownership ow
 -- each message. D-Bus Specification, "Message Bus Messages"
 -- ("org.freedesktop.DBus.NameOwnerChanged").
 
--- the text is there, and it is this
-abbrev pub is_text : Option (List ℕ) → List ℕ → Bool
-is_text None v = false
-is_text (Some w) v = bytes_eq w v
-
-abbrev pub has_text : ℕ → MessageTree → List ℕ → Bool
-has_text code m v = is_text (text_of (field_value code m.fields)) v
-
--- the name of the bus itself, and of its interface
-abbrev pub bus : List ℕ
-bus = codes "org.freedesktop.DBus"
-
--- the signal by which the bus tells that a name has another owner
-abbrev pub is_change : MessageTree → Bool
-is_change m = (m.kind == message.SIGNAL) && (has_text field.SENDER m bus && (has_text field.INTERFACE m bus && has_text field.MEMBER m (codes "NameOwnerChanged")))
-
--- of three STRINGs the first is the name, the second its old owner and the third its new one, which
--- is empty if it has none
-abbrev pub told : (name old new : Option (List ℕ)) (more : Option ValueTree) → Option Ownership
-told (Some name) (Some old) (Some new) None = Some (record { name = name; unique = new })
-told a b c d = None
-
--- the name whose owner a message changes, and its new owner
-abbrev pub change_of : MessageTree → Option Ownership
-change_of m = if is_change m then told (string_of (body_value 0 m.body)) (string_of (body_value 1 m.body)) (string_of (body_value 2 m.body)) (body_value 3 m.body) else None
-
 -- some rule asks for messages from this name
 abbrev pub ask_sender : List (Rule Global) → List ℕ → Bool
 ask_sender rules name = list_any (λ rule. is_text (sender_of (rule_pairs rule)) name) rules
@@ -105,16 +77,12 @@ known_after selection os m = if selection.learns then changed (wanted selection.
 -- D-Bus Specification, "Message Bus Names": a bus names each sender by its unique name, and itself
 -- by its own.
 
-abbrev pub is_unique : List ℕ → Bool
-is_unique [] = false
-is_unique (c ∷ cs) = c == colon
-
 abbrev pub some_owns : List (Owner Global) → List ℕ → Bool
 some_owns owners name = list_any (λ o. bytes_eq (string_bytes o.name) name) owners
 
 -- the name is well-known, not the bus's own, and none of these owns it
 abbrev pub is_unowned : List (Owner Global) → List ℕ → Bool
-is_unowned owners name = not (is_unique name) && (not (bytes_eq name bus) && not (some_owns owners name))
+is_unowned owners name = is_ownable name && not (some_owns owners name)
 
 -- the sender that a rule asks for is such a name
 abbrev pub needs_owner : List (Owner Global) → Option (List ℕ) → Bool

@@ -4,23 +4,14 @@ ghost use Rattle.dbus_value_model.specs.declared.order.Order.{Order};
 ghost use Rattle.dbus_message_model.specs.Messages.{MessageTree};
 ghost use Rattle.dbus_view.specs.Views.{Views};
 ghost use Rattle.dbus_match.specs.Matching.{ownerships};
-ghost use Rattle.cli_options.specs.Owners.{ask_sender, change_of, changed, is_change, is_text, known, known_after, others};
+ghost use Rattle.dbus_calls.specs.OwnerChanges.{is_text};
+ghost use Rattle.cli_options.specs.Owners.{ask_sender, changed, known, known_after, others};
 
 use crate::selection::Selection;
-use dbus_match::{Owner, Rule, string_arg};
-use dbus_message_model::message_type::SIGNAL;
+use dbus_calls::owner_change;
+use dbus_match::{Owner, Rule};
 use dbus_view::MessageView;
 use std::alloc::AllocError;
-
-// The name of the bus itself, and of its interface.
-pub(crate) const BUS: &str = "org.freedesktop.DBus";
-
-// A name, and the unique name of its owner from now on, which is empty if it has none.
-#[derive(Clone, Copy)]
-struct Change<'a> {
-    name: &'a str,
-    unique: &'a str,
-}
 
 impl Selection {
     /// If the selection learns, learns the owner of a name that a rule's `sender` is from a signal
@@ -41,7 +32,7 @@ impl Selection {
         if !self.learns {
             return Ok(());
         }
-        let Some(change) = change_told(view) else {
+        let Some(change) = owner_change(view) else {
             return Ok(());
         };
         // So no more names are kept than the rules have.
@@ -91,38 +82,11 @@ fn forget(owners: &mut Vec<Owner>, name: &str)
     owners.retain(|owner| owner.name.as_str() != name);
 }
 
-// The change that the message tells, if it tells one.
-fn change_told<'a>(view: &MessageView<'a>) -> Option<Change<'a>>
-    ensures { (order : Order) (m : MessageTree) → Views view.now order m →
-        option_map (λ c. record { name = c.name.now; unique = c.unique.now }) result ≡ change_of m }
-{
-    if !is_change(view) {
-        return None;
-    }
-    let name = string_arg(view, 0)?;
-    string_arg(view, 1)?;
-    let unique = string_arg(view, 2)?;
-    if view.arg(3).is_some() {
-        return None;
-    }
-    Some(Change { name, unique })
-}
-
 // Whether one of the rules asks for messages from this name.
 fn ask_sender(rules: &[Rule], name: &str) -> bool
     ensures { result ≡ ask_sender rules.now name.now }
 {
     rules.iter().any(|rule| is_text(rule.sender(), name))
-}
-
-// Whether it is the signal by which the bus tells that a name has another owner.
-fn is_change(view: &MessageView) -> bool
-    ensures { (order : Order) (m : MessageTree) → Views view.now order m → result ≡ is_change m }
-{
-    view.kind() == SIGNAL
-        && is_text(view.sender(), BUS)
-        && is_text(view.interface(), BUS)
-        && is_text(view.member(), "NameOwnerChanged")
 }
 
 // Whether the text is there, and it is this.

@@ -2,11 +2,11 @@
 #![tactic(auto)]
 
 ghost use Rattle.std.specs.Prelude.{◌≡◌, option_map};
-ghost use Rattle.cli_options.specs.Owners.{is_unique, is_unowned, lacks_owner, needs_owner, selection_lacks_owner, some_needs_owner, some_owns};
+ghost use Rattle.cli_options.specs.Owners.{is_unowned, lacks_owner, needs_owner, selection_lacks_owner, some_needs_owner, some_owns};
 
 use crate::command::Command;
-use crate::learning::BUS;
 use crate::selection::Selection;
+use dbus_calls::is_ownable;
 use dbus_match::{Owner, Rule};
 
 impl Command {
@@ -54,7 +54,7 @@ fn needs_owner(sender: Option<&str>, owners: &[Owner]) -> bool
 fn is_unowned(name: &str, owners: &[Owner]) -> bool
     ensures { result ≡ is_unowned owners.now name.now }
 {
-    !is_unique(name.as_bytes()) && name != BUS && !some_owns(owners, name)
+    is_ownable(name) && !some_owns(owners, name)
 }
 
 // Whether one of them owns the name.
@@ -62,11 +62,4 @@ fn some_owns(owners: &[Owner], name: &str) -> bool
     ensures { result ≡ some_owns owners.now name.now }
 {
     owners.iter().any(|owner| owner.name.as_str() == name)
-}
-
-// Whether a bus name is unique.
-fn is_unique(name: &[u8]) -> bool
-    ensures { result ≡ is_unique name.now }
-{
-    matches!(name, [b':', ..])
 }

@@ -10,7 +10,8 @@ use Rattle.dbus_rule.specs.declared.rule.Rule.{Rule}
 use Rattle.dbus_match.specs.Matching.{Matches, Ownership}
 use Rattle.dbus_rule.specs.Rules.{sender_of, Pair}
 use Rattle.dbus_rule.specs.RuleViews.{rule_pairs}
-use Rattle.cli_options.specs.Owners.{ask_sender, change_of, is_text, known_after, wanted}
+use Rattle.dbus_calls.specs.OwnerChanges.{change_of, is_text}
+use Rattle.cli_options.specs.Owners.{ask_sender, known_after, wanted}
 use Rattle.cli_options.specs.Selections.{AreSameCommand, AreSameSelection, OrInverted, SelectsBy, SomeMatches}
 use Rattle.cli_options.specs.declared.command.Command.{Command}
 use Rattle.cli_options.specs.declared.command.Command.TheVariants.{Show, Json, Check, Swap, Filter}

@@ -23,8 +23,9 @@ pub fn may_answer(destination: Option<&str>, sender: Option<&str>) -> bool
     }
 }
 
-// Whether some connection may have this name: it is well-known, and not the bus's own.
-fn is_ownable(name: &str) -> bool
+/// Whether a connection may have this bus name beside its unique one: it is well-known, and not the
+/// bus's own. D-Bus Specification, "Message Bus Names".
+pub fn is_ownable(name: &str) -> bool
     ensures { result ≡ is_ownable name.now }
 {
     !is_unique(name.as_bytes()) && name != BUS

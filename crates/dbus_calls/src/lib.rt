@@ -13,7 +13,7 @@ pub mod laws;
 mod open_calls;
 mod sent;
 
-pub use answering::may_answer;
+pub use answering::{is_ownable, may_answer};
 pub use changes::{OwnerChange, owner_change};
 pub use event::{CallSeen, Event, ReplySeen, event_of};
 pub use open_calls::OpenCalls;
