@@ -66,7 +66,7 @@ def ask_commands(stream, line):
     end = lambda first: ended(0, first) if is_whole else ended(1, first, line)
     checked = ended(0 if is_whole else 1, line)
     for n, message in enumerate(stream.messages, 1):
-        yield Question(f"show of message {n}", f"show {hexed(message)} number={n}", None)
+        yield Question(f"show of message {n}", f"show {hexed(message)} by=message number={n}", None)
         for order in ORDERS:
             yield Question(f"{order} of message {n}", f"encode {hexed(message)} order={order}", None)
     shown = lambda answers: end(joined(answers, "show"))

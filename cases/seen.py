@@ -1,4 +1,4 @@
-"""What is seen of a whole message in its bytes, as the program `message_engines` says it. It reads the message by itself. D-Bus Specification,
+"""What is seen of a whole message in its bytes, as the program `case_engines` says it. It reads the message by itself. D-Bus Specification,
 "Marshaling (Wire Format)" and "Message Format"."""
 
 from questions import hexed

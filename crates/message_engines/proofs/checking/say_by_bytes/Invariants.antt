@@ -1,5 +1,0 @@
-use Rattle.message_engines.specs.Checkers.{IsUnderWay}
-use Rattle.message_engines.proofs.checking.say_by_bytes.Given as goal
-
-abbrev pub invariant-loop-end : goal.invariant-loop-end
-invariant-loop-end l = IsUnderWay l.values
