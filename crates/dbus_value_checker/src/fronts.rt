@@ -337,30 +337,3 @@ pub fn ended_front(
         Err(stop) => Err(stop),
     }
 }
-
-/// A signature of a kind, with its length and the zero after it: how many bytes its text has.
-pub fn signature_front(
-    kind: TextKind,
-    bytes: &[u8],
-    offset: usize,
-    end: usize,
-) -> Result<usize, Stop>
-    requires at_most { offset ≤ end }
-    requires kind { text_reason (Of kind) ≡ reasons.Signature }
-    ensures gives { (order : Order) →
-        Fronts (λ n. (take n (drop 1 bytes.now), n + 2)) offset bytes.now result
-        (short_text order end (Of kind)) }
-    ensures moves { IfOk result (λ n.
-        (n < 256) × (n + 2 ≤ length bytes.now) × (offset + n + 2 ≤ end) ×
-        IsKind kind (take n (drop 1 bytes.now))) }
-    ensures short { IfErr result (λ e. e ≡ Partial → length bytes.now < 257) }
-{
-    let n = match short_length_front(bytes, offset, end) {
-        Ok(n) => n,
-        Err(stop) => return Err(stop),
-    };
-    match ended_front(kind, n, rest_after(bytes, 1), offset + 1, Reason::Signature) {
-        Ok(()) => Ok(n),
-        Err(stop) => Err(stop),
-    }
-}

@@ -17,7 +17,7 @@ mod whole;
 
 pub use fronts::{
     array_front, byte, ended_front, fixed, front, length_front, nul_front, number_front, padding,
-    rest_after, short_length_front, signature_front, text_front, word,
+    rest_after, short_length_front, text_front, word,
 };
 pub use texts::reason_of_kind;
 pub use values::ValueChecker;
