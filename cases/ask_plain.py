@@ -1,27 +1,79 @@
-"""What any implementation can be asked (README.md, "Questions"). An answer may be the first words alone of the right one, or `?` if the implementation
-does not know the question."""
+"""What any implementation can be asked (README.md, "Questions"). An answer may be the first words alone of the right one, `yes` or `no`, or `?` if the
+implementation does not know the question."""
 
 from handshakes import meaning_of
 from questions import Question, hexed, words_of
 from read_cases import read_bytes
+from rewritten import MESSAGES, ORDERS, VALUES, order_of, rewritten_of
 from run import UNKNOWN
+from streams import stated_length
+
+# The first words of answers that are also `yes`.
+YES = ("whole", "accepted", "unique", "well-known", "yes")
 
 
-def question(engine, words, wanted):
-    """A question of which the first words of the right answer suffice."""
+def is_right(wanted, answer):
+    """Whether an answer is the right one, its first words, or says yes or no to it, maybe with words of its own after a colon."""
+    plain = answer.partition(":")[0]
+    if plain in ("yes", "no"):
+        return (wanted.split(" ")[0] in YES) == (plain == "yes")
+    return f"{wanted} ".startswith(f"{answer} ")
+
+
+def question(engine, words, wanted, is_cut=False):
+    """A question of which the first words of the right answer suffice. What waits for more of bytes that are refused and cut is not compared."""
 
     def first_words(answers):
         answer = answers[engine]
-        return answer if answer == UNKNOWN or f"{wanted} ".startswith(f"{answer} ") else wanted
+        if answer in (UNKNOWN, "") or is_cut and answer == "partial":
+            return None
+        return answer if is_right(wanted, answer) else wanted
 
     return Question(engine, words, first_words)
 
 
-def ask_message(case, _):
-    _, limits, little, big, answer = case
-    for order, data in (("little", read_bytes(little)), ("big", read_bytes(big))):
-        if data:
-            yield question(f"message in {order} endian", words_of("message", hexed(data), limits), answer)
+def ask_bytes(engine, data, limits, answer):
+    is_cut = answer.startswith("refused") and (len(data) < 16 or len(data) < stated_length(data))
+    return question(engine, words_of("message", hexed(data), limits), answer, is_cut)
+
+
+def body_of(data):
+    """The bytes of a message's body, by the length that it states, and their order."""
+    order = order_of(data)
+    length = int.from_bytes(data[4:8], order)
+    return order, data[len(data) - length :]
+
+
+def ask_again(order, columns):
+    """A whole message is to be encoded again in either order, so that its body is that of the one or the other."""
+    engine = f"again in {order} endian"
+    bodies = [body_of(data) for data in columns.values()]
+
+    def same_body(answers):
+        answer = answers[engine]
+        if answer in (UNKNOWN, "") or answer.startswith("no"):
+            return None
+        return answer if answer != "-" and body_of(bytes.fromhex(answer)) in bodies else " or ".join(hexed(body) for _, body in bodies)
+
+    return Question(engine, f"again {hexed(columns[order])}", same_body)
+
+
+def asker_of(file):
+    """The messages of a file as they are and rewritten."""
+
+    def ask_message(case, _):
+        columns = {}
+        for order, column, it in rewritten_of(file, case):
+            data = None if file == VALUES else read_bytes(column)
+            if data is not None:
+                yield ask_bytes(f"message in {order} endian", data, case[1], case[4])
+            if not isinstance(it, str) and it.data != data:
+                yield ask_bytes(f"message in {order} endian, rewritten,", it.data, "", it.answer)
+            if not isinstance(it, str) and it.answer.startswith("whole"):
+                columns[order] = it.data
+        yield from (ask_again(order, columns) for order in columns)
+
+    return ask_message
 
 
 def ask_signature(case, _):
@@ -56,10 +108,7 @@ def asker_of_lines(sender):
 
 
 FILES = {
-    "messages.txt": ask_message,
-    "faults.txt": ask_message,
-    "limits.txt": ask_message,
-    "descriptors.txt": ask_message,
+    **{file: asker_of(file) for file in (*MESSAGES, VALUES)},
     "signatures.txt": ask_signature,
     "names.txt": ask_name,
     "rules.txt": ask_rule,

@@ -3,8 +3,9 @@
 
 The program reads a question a line, and writes an answer a line. A set of questions is a module ask_SET.py beside this one: `plain`, which any
 implementation can answer (README.md), or the name of a program of this repository that answers more. Without files all of the set's are asked.
-A line is printed for each answer that differs, and last how many cases, questions that were answered and differences there are. The exit status is
-1 if there is a difference, or if the program ends early.
+A line is printed for each answer that differs, and last how many cases there are, and how many answers agree, differ and were skipped; of another set
+than `plain` how many cases, questions that were answered and differences there are. The exit status is 1 if there is a difference, or if the program
+ends early.
 """
 
 import collections
@@ -24,6 +25,8 @@ UNKNOWN = "?"
 MOST_SHOWN = 300
 
 Asked = collections.namedtuple("Asked", "file name questions")
+# An answer to a question of a case, and which is wanted: None if it is not compared. There is no answer if the program ended before.
+Answered = collections.namedtuple("Answered", "case question answer wanted")
 
 
 def asked_of(name, paths=()):
@@ -42,30 +45,54 @@ def shown(text):
     return text if len(text) <= MOST_SHOWN else f"{text[:MOST_SHOWN]}.. ({len(text)} characters)"
 
 
-def differences(asked, answers):
-    """A line for each answer that is another than is wanted. The answers come in the order of the questions."""
+def answered(asked, answers):
+    """Each question with its answer, up to the first that has none. The answers come in the order of the questions."""
     answers = iter(answers)
     for it in asked:
         found = {}
-        for engine, words, wanted in it.questions:
+        for question in it.questions:
             answer = next(answers, None)
             if answer is None:
-                yield f"{it.file} {it.name} {engine}: no answer to `{shown(words)}`"
+                yield Answered(it, question, None, "")
                 return
-            found[engine] = answer
-            wanted = wanted(found) if callable(wanted) else wanted
-            if wanted not in (None, answer):
-                yield f"{it.file} {it.name} {engine}: wanted {shown(wanted)}, found {shown(answer)}"
+            found[question.engine] = answer
+            wanted = question.wanted
+            yield Answered(it, question, answer, wanted(found) if callable(wanted) else wanted)
+
+
+def difference(it):
+    """A line for an answer that is another than is wanted, or None."""
+    if it.wanted in (None, it.answer):
+        return None
+    start = f"{it.case.file} {it.case.name} {it.question.engine}"
+    if it.answer is None:
+        return f"{start}: no answer to `{shown(it.question.words)}`"
+    return f"{start}: wanted {shown(it.wanted)}, found {shown(it.answer)}"
+
+
+def differences(asked, answers):
+    """A line for each answer that is another than is wanted."""
+    return (line for line in map(difference, answered(asked, answers)) if line)
+
+
+def answers_of(command, asked):
+    """Each question with what the program answers, and its exit status."""
+    ran = subprocess.run(command, input=lines_of(asked), stdout=subprocess.PIPE, text=True, errors="replace")
+    return answered(asked, ran.stdout.split("\n")[:-1]), ran.returncode
 
 
 def ask(command, asked):
-    """How many questions the program answered, and the differences."""
-    ran = subprocess.run(command, input=lines_of(asked), stdout=subprocess.PIPE, text=True)
-    answers = ran.stdout.split("\n")[:-1]
-    told = [*differences(asked, answers)]
-    if ran.returncode:
-        told.append(f"the program ended with status {ran.returncode}")
-    return sum(answer != UNKNOWN for answer in answers), told
+    """How many questions the program answered, how many of these answers are not compared, and the differences."""
+    said, status = answers_of(command, asked)
+    count, skipped, told = 0, 0, []
+    for it in said:
+        count += it.answer not in (None, UNKNOWN)
+        skipped += it.wanted is None or it.answer == UNKNOWN
+        line = difference(it)
+        told += [line] if line else []
+    if status:
+        told.append(f"the program ended with status {status}")
+    return count, skipped, told
 
 
 def ask_side_by_side(command, asked):
@@ -73,7 +100,8 @@ def ask_side_by_side(command, asked):
     jobs = len(os.sched_getaffinity(0))
     with futures.ThreadPoolExecutor(jobs) as pool:
         shares = [*pool.map(lambda n: ask(command, asked[n::jobs]), range(jobs))]
-    return sum(count for count, _ in shares), [line for _, told in shares for line in told]
+    counts, skipped, told = zip(*shares)
+    return sum(counts), sum(skipped), [line for lines in told for line in lines]
 
 
 def main(*words):
@@ -86,8 +114,11 @@ def main(*words):
     if named[:1] == ("--ask",):
         _, name, *named = named
     asked = [*asked_of(name, [pathlib.Path(it) for it in named])]
-    count, told = ask_side_by_side(command, asked)
-    print(*told, f"{len(asked)} cases, {count} questions, {len(told)} differ", sep="\n")
+    count, skipped, told = ask_side_by_side(command, asked)
+    last = f"{len(asked)} cases, {count} questions, {len(told)} differ"
+    if name == "plain":
+        last = f"{len(asked)} cases: {sum(len(it.questions) for it in asked) - skipped - len(told)} agree, {len(told)} differ, {skipped} skipped"
+    print(*told, last, sep="\n")
     return 1 if told else 0
 
 

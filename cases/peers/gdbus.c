@@ -3,28 +3,26 @@
 
 #include "peer.h"
 
-/* What g_dbus_message_bytes_needed asks for. */
-static const size_t FIXED_HEADER = 16;
+static GDBusMessage *read_message(const unsigned char *bytes, size_t size, size_t *length, GError **fault) {
+    /* g_dbus_message_bytes_needed asks for 16 bytes. */
+    gssize needed = size < 16 ? 16 : g_dbus_message_bytes_needed((guchar *)bytes, size, fault);
+    *length = (size_t)needed;
+    if (needed < 0 || (size_t)needed > size)
+        return NULL;
+    return g_dbus_message_new_from_blob((guchar *)bytes, *length, G_DBUS_CAPABILITY_FLAGS_UNIX_FD_PASSING, fault);
+}
 
 enum answer judge(const unsigned char *bytes, size_t size, struct said *said) {
     GError *fault = NULL;
-    GDBusMessage *message;
-    gssize needed;
-    if (size < FIXED_HEADER)
-        return PARTIAL;
-    needed = g_dbus_message_bytes_needed((guchar *)bytes, size, &fault);
-    if (needed < 0) {
+    GDBusMessage *message = read_message(bytes, size, &said->length, &fault);
+    if (fault)
         g_strlcpy(said->why, fault->message, sizeof said->why);
-        return REFUSED;
-    }
-    if ((size_t)needed > size)
-        return PARTIAL;
-    message = g_dbus_message_new_from_blob((guchar *)bytes, (gsize)needed, G_DBUS_CAPABILITY_FLAGS_UNIX_FD_PASSING, &fault);
-    if (!message) {
-        g_strlcpy(said->why, fault->message, sizeof said->why);
-        return REFUSED;
-    }
-    g_object_unref(message);
-    said->length = (size_t)needed;
-    return WHOLE;
+    if (message)
+        g_object_unref(message);
+    return message ? WHOLE : fault ? REFUSED : PARTIAL;
+}
+
+unsigned char *again(const unsigned char *bytes, size_t size, size_t *length) {
+    GDBusMessage *message = read_message(bytes, size, length, NULL);
+    return message ? g_dbus_message_to_blob(message, length, G_DBUS_CAPABILITY_FLAGS_UNIX_FD_PASSING, NULL) : NULL;
 }

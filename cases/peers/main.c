@@ -1,5 +1,5 @@
-/* Reads lines `NAME HEX` and writes what the peer says of the bytes: `NAME whole LENGTH`, `NAME partial` or `NAME refused` and the
- * peer's own words. Each line is judged in a process of its own: if that is stopped, the line is `NAME aborted`. */
+/* Answers on each line what the peer says to the question on that line (cases/README.md), of those that it knows: `message BYTES`
+ * and `again BYTES`. Each is answered in a process of its own: if that is stopped, the answer is `aborted`. */
 #define _GNU_SOURCE
 #include <stdio.h>
 #include <stdlib.h>
@@ -21,20 +21,30 @@ static size_t read_digits(char *text) {
     return size;
 }
 
-static void answer(const char *name, const unsigned char *bytes, size_t size) {
+static void write_again(const unsigned char *bytes, size_t size) {
+    size_t length = 0;
+    unsigned char *data = again ? again(bytes, size, &length) : NULL;
+    for (size_t at = 0; at < length; at++)
+        printf("%02x", data[at]);
+    puts(data ? "" : "?");
+}
+
+static void answer(const char *kind, const unsigned char *bytes, size_t size) {
     struct said said = {0, ""};
+    enum answer is;
     alarm(SECONDS);
-    switch (judge(bytes, size, &said)) {
-    case WHOLE:
-        printf("%s whole %zu\n", name, said.length);
-        break;
-    case PARTIAL:
-        printf("%s partial\n", name);
-        break;
-    case REFUSED:
-        said.why[strcspn(said.why, "\n")] = 0;
-        printf("%s refused %s\n", name, said.why);
+    if (!strcmp(kind, "again")) {
+        write_again(bytes, size);
+        return;
     }
+    is = judge(bytes, size, &said);
+    said.why[strcspn(said.why, "\n")] = 0;
+    if (is == WHOLE)
+        printf("whole %zu\n", said.length);
+    else if (is == PARTIAL)
+        puts("partial");
+    else
+        printf("no: %s\n", said.why);
 }
 
 int main(void) {
@@ -42,12 +52,15 @@ int main(void) {
     size_t room = 0;
     while (getline(&line, &room, stdin) > 0) {
         char *digits = strchr(line, ' ');
-        int status;
+        int status = 0;
         pid_t child;
-        if (!digits)
-            return 1;
-        *digits++ = 0;
-        digits[strcspn(digits, "\n")] = 0;
+        line[strcspn(line, "\n")] = 0;
+        if (digits)
+            *digits++ = 0;
+        if (!digits || strchr(digits, ' ') || (strcmp(line, "message") && strcmp(line, "again"))) {
+            puts("?");
+            continue;
+        }
         fflush(stdout);
         child = fork();
         if (child < 0)
@@ -59,7 +72,7 @@ int main(void) {
             _exit(0);
         }
         if (waitpid(child, &status, 0) < 0 || !WIFEXITED(status))
-            printf("%s aborted\n", line);
+            puts("aborted");
     }
     free(line);
     return 0;

@@ -16,4 +16,7 @@ struct said {
 /* What the peer says of the bytes. */
 enum answer judge(const unsigned char *bytes, size_t size, struct said *said);
 
+/* The whole message, decoded and encoded again, and its length; or NULL. A peer need not have it. */
+unsigned char *again(const unsigned char *bytes, size_t size, size_t *length) __attribute__((weak));
+
 #endif

@@ -1,0 +1,16 @@
+#!/usr/bin/env python3
+"""dbus-fast answers what it makes of messages."""
+
+import io
+
+from answer import answer_lines
+from dbus_fast._private.unmarshaller import Unmarshaller
+
+
+def read(data):
+    stream = io.BytesIO(data)
+    message = Unmarshaller(stream).unmarshall()
+    return message and (stream.tell(), lambda: message._marshall(negotiate_unix_fd=True))
+
+
+answer_lines(read)
