@@ -1,6 +1,8 @@
 """What any implementation can be asked (README.md, "Questions"). An answer may be the first words alone of the right one, `yes` or `no`, or `?` if the
 implementation does not know the question."""
 
+import re
+
 from handshakes import meaning_of
 from questions import Question, hexed, words_of
 from read_cases import read_bytes
@@ -8,6 +10,7 @@ from rewritten import MESSAGES, ORDERS, VALUES, order_of, rewritten_of
 from run import UNKNOWN
 from streams import stated_length
 
+HEX = re.compile("([0-9a-f]{2})+")
 # The first words of answers that are also `yes`.
 YES = ("whole", "accepted", "unique", "well-known", "yes")
 
@@ -53,7 +56,8 @@ def ask_again(order, columns):
         answer = answers[engine]
         if answer in (UNKNOWN, "") or answer.startswith("no"):
             return None
-        return answer if answer != "-" and body_of(bytes.fromhex(answer)) in bodies else " or ".join(hexed(body) for _, body in bodies)
+        is_same = HEX.fullmatch(answer) and body_of(bytes.fromhex(answer)) in bodies
+        return answer if is_same else "a message of the body " + " or ".join(hexed(body) for _, body in bodies)
 
     return Question(engine, f"again {hexed(columns[order])}", same_body)
 
@@ -69,7 +73,8 @@ def asker_of(file):
                 yield ask_bytes(f"message in {order} endian", data, case[1], case[4])
             if not isinstance(it, str) and it.data != data:
                 yield ask_bytes(f"message in {order} endian, rewritten,", it.data, "", it.answer)
-            if not isinstance(it, str) and it.answer.startswith("whole"):
+            # Descriptors do not come with bytes.
+            if not isinstance(it, str) and it.answer.startswith("whole") and file != "descriptors.txt":
                 columns[order] = it.data
         yield from (ask_again(order, columns) for order in columns)
 

@@ -1,145 +1,159 @@
 #!/usr/bin/env python3
-"""compare.py: builds the programs of this folder, holds libdbus, GDBus and sd-bus against the cases of messages, and writes docs/PEERS.md."""
+"""compare.py: asks the programs of this folder about messages and values (cases/README.md), and writes docs/PEERS.md of how they answer."""
 
 import collections
 import pathlib
+import re
 import subprocess
 import sys
 
 HERE = pathlib.Path(__file__).resolve().parent
 ROOT = HERE.parent.parent
-CASES = HERE.parent / "data"
 sys.dont_write_bytecode = True
 sys.path.insert(0, str(HERE.parent))
 
-from read_cases import read_bytes, read_cases  # noqa: E402
+from read_cases import DATA, read_cases  # noqa: E402
+from rewritten import MESSAGES, VALUES, rewritten_of  # noqa: E402
+from run import answers_of, asked_of  # noqa: E402
 
-PEERS = (("libdbus", "libdbus", "dbus-1"), ("GDBus", "gdbus", "gio-2.0"), ("sd-bus", "sdbus", "libsystemd"))
-FILES = ("messages.txt", "faults.txt", "limits.txt", "descriptors.txt")
+# The name of each peer, and its program and package: of C, or of Python.
+IN_C = (("libdbus", "libdbus", "dbus-1"), ("GDBus", "gdbus", "gio-2.0"), ("sd-bus", "sdbus", "libsystemd"))
+IN_PYTHON = (("jeepney", "with_jeepney", "jeepney"), ("dbus-next", "with_dbus_next", "dbus_next"), ("dbus-fast", "with_dbus_fast", "dbus_fast"))
 FLAGS = "-std=c11 -O2 -Wall -Wextra".split()
-MOST_FILLED = 1 << 16
-TAILS = 4
+PYTHONS = (sys.executable, "/usr/bin/python3")
+# What the specification leaves open: reasons, and cases.
+CHOSEN_REASONS = ("FieldTwice", "ZeroSerial of a field")
+CHOSEN_CASES = re.compile("dict_entries_are_no_open_containers|dict_that_repeats_a_key|dict_with_a_repeated_key|dict_of_variants_with_62_open|dict_with_63_open")
+MOST_NAMES = 3
 
-Case = collections.namedtuple("Case", "file name order bytes answer")
-
-
-def read_inputs():
-    """Each case under the specification's limits, in each of its byte orders."""
-    for file in FILES:
-        for name, limits, little, big, answer in read_cases(CASES / file):
-            for order, column in (("l", little), ("B", big)):
-                if column and not limits:
-                    yield Case(file, name, order, read_bytes(column), answer)
+# An answer that differs: the case, the question's first word, whether it is as it was, and as rewritten, which was wanted and which was found.
+Differs = collections.namedtuple("Differs", "name kind was is_now wanted found")
 
 
-def number(data, at):
-    return int.from_bytes(data[at : at + 4], "big" if data[:1] == b"B" else "little")
-
-
-def stated_length(data):
-    return (16 + number(data, 12) + 7) // 8 * 8 + number(data, 4)
-
-
-def shared(one, other):
-    """How many bytes the two begin with alike."""
-    return next((at for at, (a, b) in enumerate(zip(one, other)) if a != b), min(len(one), len(other)))
-
-
-def filled(data, order, wholes):
-    """Refused bytes as they are; and filled up, if more are stated: by zeros, and by the rests of the messages that are most like them."""
-    ways = {data: None}
-    if len(data) < 16 or len(data) < stated_length(data) <= MOST_FILLED:
-        if len(data) >= 16:
-            ways[data + bytes(stated_length(data) - len(data))] = None
-        lengths = [at for at in (4, 12) if len(data) >= at + 4]
-        like = [it for it in wholes if it.order == order and len(it.bytes) > len(data)]
-        like = [it.bytes for it in like if all(it.bytes[at : at + 4] == data[at : at + 4] for at in lengths)]
-        for message in sorted(like, key=lambda it: -shared(it, data))[:TAILS]:
-            ways[data + message[len(data) :]] = None
-    return list(ways)
+def output_of(*words):
+    return subprocess.run(words, check=True, capture_output=True, text=True).stdout.strip()
 
 
 def build(program, package):
-    words = subprocess.run(["pkg-config", "--cflags", "--libs", package], check=True, capture_output=True, text=True).stdout.split()
-    (ROOT / "out" / "peers").mkdir(parents=True, exist_ok=True)
     built = ROOT / "out" / "peers" / program
-    subprocess.run(["cc", *FLAGS, "-o", built, HERE / f"{program}.c", HERE / "main.c", *words], check=True)
-    return built
+    built.parent.mkdir(parents=True, exist_ok=True)
+    sources = (HERE / f"{program}.c", HERE / "main.c")
+    subprocess.run(["cc", *FLAGS, "-o", built, *sources, *output_of("pkg-config", "--cflags", "--libs", package).split()], check=True)
+    return [str(built)]
 
 
-def ask(built, inputs):
-    """What the peer says of each of the ways to put each case."""
-    lines = "".join(f"{number} {data.hex()}\n" for number, (_, ways) in enumerate(inputs) for data in ways)
-    ran = subprocess.run([built], input=lines.encode(), stdout=subprocess.PIPE, stderr=subprocess.DEVNULL, check=True)
-    said = collections.defaultdict(list)
-    for line in ran.stdout.decode(errors="replace").splitlines():
-        name, _, answer = line.partition(" ")
-        said[int(name)].append(answer)
-    return [said[number] for number in range(len(inputs))]
+def python_with(package):
+    """A Python that has the package."""
+    return next(it for it in PYTHONS if subprocess.run([it, "-c", f"import {package}"], capture_output=True).returncode == 0)
 
 
-def verdict(case, answers):
-    """What is to be said of the peer's answers to a case: a word for the table, and why."""
-    if any(it == "aborted" for it in answers):
-        return "aborts", ""
-    if not case.answer.startswith("refused"):
-        return ("agrees", "") if answers[0] == case.answer else ("differs", answers[0])
-    if any(it.startswith("whole") for it in answers):
-        return "takes", case.answer.split(" ")[2].partition("(")[0]
-    return ("refuses", "") if any(it.startswith("refused") for it in answers) else ("waits", "")
+def peers():
+    """The name, the version and the command line of each."""
+    for name, program, package in IN_C:
+        yield name, output_of("pkg-config", "--modversion", package), build(program, package)
+    for name, program, package in IN_PYTHON:
+        python = python_with(package)
+        version = output_of(python, "-c", f"from importlib.metadata import version; print(version('{name}'))")
+        yield name, version, [python, str(HERE / f"{program}.py")]
 
 
-def counted(results, wanted, word):
-    return sum(case.answer.startswith(wanted) and how == word for case, how, _ in results)
+def judge(command, asked):
+    """What differs, and how many refused inputs the peer waits behind, as they were and as rewritten."""
+    said, status = answers_of(command, asked)
+    if status:
+        sys.exit(f"{command}: status {status}")
+    told, waits = [], [0, 0]
+    for case, question, answer, wanted in said:
+        was = not question.engine.endswith("rewritten,")
+        is_now = not was or f"{question.engine}, rewritten," not in [it.engine for it in case.questions]
+        if wanted is None and answer == "partial":
+            waits = [waits[0] + was, waits[1] + is_now]
+        if wanted not in (None, answer):
+            told.append(Differs(case.name, question.words.split(" ")[0], was, is_now, wanted, answer))
+    return told, waits
 
 
-def groups(results, word):
-    """The cases of the word, by why, each with how many and some of their names."""
-    found = collections.defaultdict(list)
-    for case, how, why in results:
-        if how == word:
-            found[why].append(f"`{case.name}`")
-    for why, names in sorted(found.items()):
-        yield why, len(names), list(dict.fromkeys(names))
+def taken(told):
+    return [it for it in told if it.kind == "message" and it.wanted.startswith("refused") and it.found.startswith(("whole", "yes"))]
 
 
-def row(name, version, results):
-    counts = [counted(results, *it) for it in (("whole", "agrees"), ("whole", "differs"), ("partial", "agrees"), ("partial", "differs"))]
-    counts += [counted(results, "refused", it) for it in ("refuses", "takes", "waits")]
-    counts.append(sum(how == "aborts" for _, how, _ in results))
+def missed(told):
+    """Whole messages and fronts that are refused, as rewritten."""
+    return [it for it in told if it.kind == "message" and it.is_now and not it.wanted.startswith("refused")]
+
+
+def row(name, version, told, waits):
+    counts = [sum(it.was for it in taken(told)), waits[0], sum(it.is_now for it in taken(told)), waits[1], len(missed(told))]
+    counts += [sum(it.kind == "again" for it in told), sum(it.found == "aborted" for it in told)]
     return f"| {name} {version} | " + " | ".join(map(str, counts)) + " |"
 
 
-def taken(peers):
-    """A line for each reason for which the cases refuse what a peer takes: how many inputs of each peer, and one of them."""
-    found = {name: {why: (count, names) for why, count, names in groups(results, "takes")} for name, results in peers.items()}
-    for why in sorted({it for reasons in found.values() for it in reasons}):
-        counts = [str(found[name][why][0]) if why in found[name] else "" for name in peers]
-        names = next(found[name][why][1] for name in peers if why in found[name])
-        yield f"| {why} | {' | '.join(counts)} | {names[0]} |"
+def names_of(found):
+    names = list(dict.fromkeys(f"`{it.name}`" for it in found))
+    return ", ".join(names[:MOST_NAMES]) + (f" and {len(names) - MOST_NAMES} more" if len(names) > MOST_NAMES else "")
 
 
-def refused(peers):
-    """A line for each way in which a peer refuses what the cases have as whole or partial."""
-    for name, results in peers.items():
-        yield from (f"| {name} | {why.partition(' ')[2]} | {count} | {', '.join(names)} |" for why, count, names in groups(results, "differs"))
+def reason_of(it):
+    _, place, reason = it.wanted.split(" ")
+    reason = reason.partition("(")[0]
+    return "ZeroSerial of a field" if reason == "ZeroSerial" and int(place) > 8 else reason
+
+
+def taken_rows(results, is_chosen):
+    """A line for each reason: how many inputs each peer takes that are refused for it, as rewritten, and one of them."""
+    found = collections.defaultdict(lambda: {name: [] for name in results})
+    for name, told in results.items():
+        for it in taken(told):
+            if it.is_now and (reason_of(it) in CHOSEN_REASONS) == is_chosen:
+                found[reason_of(it)][name].append(it)
+    for why, by_peer in sorted(found.items()):
+        first = next(its[0] for its in by_peer.values() if its)
+        yield f"| {why} | {' | '.join(str(len(its) or '') for its in by_peer.values())} | `{first.name}` |"
+
+
+def missed_rows(results, is_chosen):
+    """A line for each way in which a peer refuses what is whole, or a front."""
+    for name, told in results.items():
+        found = collections.defaultdict(list)
+        for it in missed(told):
+            if bool(CHOSEN_CASES.match(it.name)) == is_chosen:
+                words = it.found.partition(":")[2].strip() or it.found
+                found[re.sub(r"\d+", "N", words).replace("|", "\\|")].append(it)
+        yield from (f"| {name} | {words} | {len(its)} | {names_of(its)} |" for words, its in found.items())
+
+
+def lost_rows(results, is_chosen):
+    """A line for each peer that encodes messages again with other bodies."""
+    for name, told in results.items():
+        found = [it for it in told if it.kind == "again" and bool(CHOSEN_CASES.match(it.name)) == is_chosen]
+        if found:
+            yield f"| {name} | encodes another body | {len(found)} | {names_of(found)} |"
+
+
+def refused_inputs():
+    """How many inputs are refused, as they were and as rewritten."""
+    was = now = 0
+    for file in (*MESSAGES, VALUES):
+        for case in read_cases(DATA / file):
+            for *_, it in rewritten_of(file, case):
+                is_refused = not isinstance(it, str) and it.answer.startswith("refused")
+                was, now = was + (is_refused and file != VALUES), now + is_refused
+    return was, now
 
 
 def main():
-    cases = list(read_inputs())
-    wholes = [it for it in cases if it.answer.startswith("whole")]
-    inputs = [(it, filled(it.bytes, it.order, wholes) if it.answer.startswith("refused") else [it.bytes]) for it in cases]
-    rows, peers = [], {}
-    for name, program, package in PEERS:
-        version = subprocess.run(["pkg-config", "--modversion", package], check=True, capture_output=True, text=True).stdout.strip()
-        answers = ask(build(program, package), inputs)
-        results = [(case, *verdict(case, said)) for case, said in zip(cases, answers)]
-        rows.append(row(name, version, results))
-        peers[name] = results
+    asked = [*asked_of("plain", [DATA / file for file in (*MESSAGES, VALUES)])]
+    rows, results = [], {}
+    for name, version, command in peers():
+        told, waits = judge(command, asked)
+        results[name] = told
+        rows.append(row(name, version, told, waits))
         print(rows[-1], flush=True)
-    kinds = collections.Counter(it.answer.split(" ")[0] for it in cases)
-    tables = {"rows": rows, "taken_rows": taken(peers), "refused_rows": refused(peers)}
-    page = (HERE / "page.md").read_text().format(all=len(cases), **kinds, **{name: "\n".join(lines) for name, lines in tables.items()})
+    was, now = refused_inputs()
+    tables = {"rows": rows, "faults": taken_rows(results, False), "choices": taken_rows(results, True)}
+    tables["missed"] = [*missed_rows(results, False), *lost_rows(results, False)]
+    tables["missed_choices"] = [*missed_rows(results, True), *lost_rows(results, True)]
+    page = (HERE / "page.md").read_text().format(was=was, now=now, **{name: "\n".join(lines) for name, lines in tables.items()})
     (ROOT / "docs" / "PEERS.md").write_text(page)
 
 

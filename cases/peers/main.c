@@ -24,7 +24,7 @@ static size_t read_digits(char *text) {
 static void write_again(const unsigned char *bytes, size_t size) {
     size_t length = 0;
     unsigned char *data = again ? again(bytes, size, &length) : NULL;
-    for (size_t at = 0; at < length; at++)
+    for (size_t at = 0; data && at < length; at++)
         printf("%02x", data[at]);
     puts(data ? "" : "?");
 }
