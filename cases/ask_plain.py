@@ -23,16 +23,35 @@ def is_right(wanted, answer):
     return f"{wanted} ".startswith(f"{answer} ")
 
 
-def question(engine, words, wanted, is_cut=False):
-    """A question of which the first words of the right answer suffice. What waits for more of bytes that are refused and cut is not compared."""
+class FirstWords:
+    """What is wanted of an engine: the first words of the right answer. What waits for more of bytes that are refused and cut is not compared."""
 
-    def first_words(answers):
-        answer = answers[engine]
-        if answer in (UNKNOWN, "") or is_cut and answer == "partial":
+    def __init__(self, engine, right, is_cut=False):
+        self.engine, self.right, self.is_cut = engine, right, is_cut
+
+    def __call__(self, answers):
+        answer = answers[self.engine]
+        if answer in (UNKNOWN, "") or self.is_cut and answer == "partial":
             return None
-        return answer if is_right(wanted, answer) else wanted
+        return answer if is_right(self.right, answer) else self.right
 
-    return Question(engine, words, first_words)
+
+class SameBody:
+    """What is wanted of an engine that encodes a whole message again: the body that it has in the one order or the other."""
+
+    def __init__(self, engine, bodies):
+        self.engine, self.bodies = engine, bodies
+        self.right = "a message of the body " + " or ".join(hexed(body) for _, body in bodies)
+
+    def __call__(self, answers):
+        answer = answers[self.engine]
+        if answer in (UNKNOWN, "") or answer.startswith("no"):
+            return None
+        return answer if HEX.fullmatch(answer) and body_of(bytes.fromhex(answer)) in self.bodies else self.right
+
+
+def question(engine, words, right, is_cut=False):
+    return Question(engine, words, FirstWords(engine, right, is_cut))
 
 
 def ask_bytes(engine, data, limits, answer):
@@ -48,18 +67,8 @@ def body_of(data):
 
 
 def ask_again(order, columns):
-    """A whole message is to be encoded again in either order, so that its body is that of the one or the other."""
     engine = f"again in {order} endian"
-    bodies = [body_of(data) for data in columns.values()]
-
-    def same_body(answers):
-        answer = answers[engine]
-        if answer in (UNKNOWN, "") or answer.startswith("no"):
-            return None
-        is_same = HEX.fullmatch(answer) and body_of(bytes.fromhex(answer)) in bodies
-        return answer if is_same else "a message of the body " + " or ".join(hexed(body) for _, body in bodies)
-
-    return Question(engine, f"again {hexed(columns[order])}", same_body)
+    return Question(engine, f"again {hexed(columns[order])}", SameBody(engine, [body_of(data) for data in columns.values()]))
 
 
 def asker_of(file):

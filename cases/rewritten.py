@@ -144,9 +144,9 @@ class Draft:
         return end
 
     def fit(self, place, start, length):
-        """The end of the part that starts there and is stated at a place to be so long, once all of it was read that is given. If that is at
-        fault for another reason than lengths, the stated one becomes what was read."""
-        if self.is_fitted or self.at < start + length:
+        """Ends the part that starts there and is stated at a place to be so long, once all of it was read that is given. Its length becomes what
+        was read; but no greater, if its fault is of lengths, and only if something was put in, since what comes next may be at fault."""
+        if self.is_fitted or self.given < self.at < start + length:
             length = self.at - start
             self.state(place, length)
         del self.data[start + length :]
