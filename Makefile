@@ -13,7 +13,9 @@
 # make test        the gate: every proof, the wrong bodies that are due, the tests and the programs' stored runs
 # make gate-times  the gate, and the processor minutes of each of its steps
 # make library     proves and builds the library for C, static and shared
-# make peers       compares the message cases with libdbus, GDBus and sd-bus, and writes docs/PEERS.md
+# make peers       compares the cases of messages and values with libdbus, GDBus, sd-bus, jeepney, dbus-next and dbus-fast, and writes
+#                  docs/PEERS.md
+# make export-cases writes the cases for other implementations to out/, as lines of JSON and as an archive
 # make test-c      builds the examples for C over it, tests the Rust crate, and compares what both write with dbus-wire check
 # make test-python compares what the module for Python makes of messages by it with what dbus-wire writes, and with what jeepney and
 #                  dbus-fast make of them, if these are there
@@ -60,7 +62,7 @@ ARGS = check
 FILE = samples/session.dbus
 
 .PHONY: kit run quick-test build library test test-c test-python test-memory gate-times wrong-bodies api graph definitions definitions-check \
-	doc-examples readme-test peers instructions bench bench-c install install-program install-c install-shared install-dev install-python install-notices uninstall deb tarball
+	doc-examples readme-test peers export-cases instructions bench bench-c install install-program install-c install-shared install-dev install-python install-notices uninstall deb tarball
 
 run: kit
 	@echo "dbus-wire without its proofs (make build proves it), which takes at most 64 MiB in and gives 1 MiB out:" >&2
@@ -127,6 +129,9 @@ readme-test: kit
 
 peers:
 	cases/peers/compare.py
+
+export-cases:
+	cases/export.py
 
 instructions: build
 	bench/instructions.sh $(PROGRAM)

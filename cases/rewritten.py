@@ -181,15 +181,23 @@ def filled(data, reason):
     return (whole + bytes(stated))[:stated] if is_short and len(data) <= stated <= MOST else data, draft.codes
 
 
-def as_reply(data, codes):
-    """The message as a reply, and by how many bytes its places move: a REPLY_SERIAL is put first, unless it has one, or is no longer than its
-    first 16 bytes and states that more follow, or is at a limit."""
+def place_of(answer):
+    """The place of what is refused, or -1."""
+    return int(answer.split(" ")[1]) if answer.startswith("refused") else -1
+
+
+def as_reply(data, codes, place):
+    """The message as a reply, and by how many bytes its places move: a REPLY_SERIAL is put first, unless it has one. If that would take it over a
+    limit, or no more than its first 16 bytes are there, only the type changes, or nothing if a field that is missing would be seen before the place."""
     order = order_of(data)
     fields, length = int.from_bytes(data[12:16], order), stated_length(data) if len(data) >= 16 else 0
-    data = data[:1] + bytes([METHOD_RETURN]) + data[2:]
-    if REPLY_SERIAL in codes or len(data) < 16 or len(data) == 16 < length or fields + 8 > LONGEST_FIELDS or length + 8 > LONGEST:
+    reply = data[:1] + bytes([METHOD_RETURN]) + data[2:]
+    is_short = len(data) < 16 or len(data) == 16 < length
+    if REPLY_SERIAL in codes or place < 16 and is_short:
+        return reply, 0
+    if is_short or fields + 8 > LONGEST_FIELDS or length + 8 > LONGEST:
         return data, 0
-    return data[:12] + (fields + 8).to_bytes(4, order) + reply_field(order) + data[16:], 8
+    return reply[:12] + (fields + 8).to_bytes(4, order) + reply_field(order) + reply[16:], 8
 
 
 def moved(answer, by):
@@ -206,7 +214,7 @@ def rewritten(data, answer):
         data = whole
     by = 0
     if data[1:2] != b"\0" and len(data) > 1 and not reason.startswith("FieldMissing") and not REQUIRED.get(data[1], {0}) <= codes:
-        data, by = as_reply(data, codes)
+        data, by = as_reply(data, codes, place_of(answer))
     is_cut = word == "refused" and len(data) < stated_length(data)
     return Rewritten(order_of(data), data, moved(answer, by), "it states over 64 KiB" if is_cut else "")
 
@@ -287,10 +295,6 @@ def differences(program, asked):
     for (name, it), answer in zip(stream + one_by_one, said):
         if answer != it.answer:
             yield f"{name}: wanted {it.answer}, found {answer}: {it.data.hex()[:300]}"
-
-
-def place_of(answer):
-    return int(answer.split(" ")[1]) if answer.startswith("refused") else -1
 
 
 def main(*words):
