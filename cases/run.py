@@ -75,9 +75,9 @@ def differences(asked, answers):
     return (line for line in map(difference, answered(asked, answers)) if line)
 
 
-def answers_of(command, asked):
+def answers_of(command, asked, **how):
     """Each question with what the program answers, and its exit status."""
-    ran = subprocess.run(command, input=lines_of(asked), stdout=subprocess.PIPE, text=True, errors="replace")
+    ran = subprocess.run(command, input=lines_of(asked), stdout=subprocess.PIPE, text=True, errors="replace", **how)
     return answered(asked, ran.stdout.split("\n")[:-1]), ran.returncode
 
 

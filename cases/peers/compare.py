@@ -59,7 +59,7 @@ def peers():
 
 def judge(command, asked):
     """What differs, and how many refused inputs the peer waits behind, as they were and as rewritten."""
-    said, status = answers_of(command, asked)
+    said, status = answers_of(command, asked, stderr=subprocess.DEVNULL)
     if status:
         sys.exit(f"{command}: status {status}")
     told, waits = [], [0, 0]

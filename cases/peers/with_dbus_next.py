@@ -10,7 +10,7 @@ from dbus_next._private.unmarshaller import Unmarshaller
 def read(data):
     stream = io.BytesIO(data)
     message = Unmarshaller(stream).unmarshall()
-    return message and (stream.tell(), lambda: message._marshall(negotiate_unix_fd=True))
+    return message and (stream.tell(), lambda: message._marshall(True))
 
 
 answer_lines(read)
