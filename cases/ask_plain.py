@@ -11,15 +11,15 @@ from run import UNKNOWN
 from streams import stated_length
 
 HEX = re.compile("([0-9a-f]{2})+")
-# The first words of answers that are also `yes`.
-YES = ("whole", "accepted", "unique", "well-known", "yes")
+# The first words of answers that are also `yes`, or `no`.
+VERDICTS = {"yes": ("whole", "accepted", "unique", "well-known", "yes"), "no": ("refused", "bad", "too", "partial", "no")}
 
 
 def is_right(wanted, answer):
     """Whether an answer is the right one, its first words, or says yes or no to it, maybe with words of its own after a colon."""
     plain = answer.partition(":")[0]
-    if plain in ("yes", "no"):
-        return (wanted.split(" ")[0] in YES) == (plain == "yes")
+    if plain in VERDICTS:
+        return wanted.split(" ")[0] in VERDICTS[plain]
     return f"{wanted} ".startswith(f"{answer} ")
 
 

@@ -21,7 +21,9 @@ VERSION = 1
 NAME = f"dbus-cases-{VERSION}"
 CASES = DATA.parent
 ROOT = CASES.parent
-SCRIPTS = ("README.md", "run.py", "ask_plain.py", "questions.py", "read_cases.py", "read_cases.pl", "rewritten.py", "handshakes.py", "seen.py", "streams.py")
+READERS = ("read_cases.py", "read_cases.pl", "rewritten.py")
+SCRIPTS = ("README.md", "run.py", "ask_plain.py", "questions.py", "handshakes.py", "seen.py", "streams.py", *READERS)
+PEERS = (".c", ".h", ".py")
 
 
 def sections_of(path):
@@ -51,7 +53,8 @@ def files(cases):
     yield "LICENSE", (ROOT / "LICENSE").read_bytes()
     yield "VERSION", f"{VERSION}\n".encode()
     yield "cases.jsonl", cases
-    names = [*SCRIPTS, *(f"data/{name}" for name in FILES), *(f"peers/{it.name}" for it in (CASES / "peers").iterdir() if it.suffix in (".c", ".h", ".py"))]
+    names = [*SCRIPTS, *(f"data/{name}" for name in FILES)]
+    names += [f"peers/{it.name}" for it in (CASES / "peers").iterdir() if it.suffix in PEERS]
     yield from ((name, (CASES / name).read_bytes()) for name in sorted(names))
 
 

@@ -82,17 +82,18 @@ def answers_of(command, asked, **how):
 
 
 def ask(command, asked):
-    """How many questions the program answered, how many of these answers are not compared, and the differences."""
+    """How many questions the program answered, how many answers agree and how many are not compared, and the differences."""
     said, status = answers_of(command, asked)
-    count, skipped, told = 0, 0, []
+    count, agree, skipped, told = 0, 0, 0, []
     for it in said:
-        count += it.answer not in (None, UNKNOWN)
-        skipped += it.wanted is None or it.answer == UNKNOWN
         line = difference(it)
+        count += it.answer not in (None, UNKNOWN)
+        skipped += it.wanted is None
+        agree += it.wanted is not None and not line
         told += [line] if line else []
     if status:
         told.append(f"the program ended with status {status}")
-    return count, skipped, told
+    return count, agree, skipped, told
 
 
 def ask_side_by_side(command, asked):
@@ -100,8 +101,8 @@ def ask_side_by_side(command, asked):
     jobs = len(os.sched_getaffinity(0))
     with futures.ThreadPoolExecutor(jobs) as pool:
         shares = [*pool.map(lambda n: ask(command, asked[n::jobs]), range(jobs))]
-    counts, skipped, told = zip(*shares)
-    return sum(counts), sum(skipped), [line for lines in told for line in lines]
+    counts, agree, skipped, told = zip(*shares)
+    return sum(counts), sum(agree), sum(skipped), [line for lines in told for line in lines]
 
 
 def main(*words):
@@ -114,10 +115,10 @@ def main(*words):
     if named[:1] == ("--ask",):
         _, name, *named = named
     asked = [*asked_of(name, [pathlib.Path(it) for it in named])]
-    count, skipped, told = ask_side_by_side(command, asked)
+    count, agree, skipped, told = ask_side_by_side(command, asked)
     last = f"{len(asked)} cases, {count} questions, {len(told)} differ"
     if name == "plain":
-        last = f"{len(asked)} cases: {sum(len(it.questions) for it in asked) - skipped - len(told)} agree, {len(told)} differ, {skipped} skipped"
+        last = f"{len(asked)} cases: {agree} agree, {len(told)} differ, {skipped} skipped"
     print(*told, last, sep="\n")
     return 1 if told else 0
 

@@ -18,7 +18,11 @@ from run import answers_of, asked_of  # noqa: E402
 
 # The name of each peer, and its program and package: of C, or of Python.
 IN_C = (("libdbus", "libdbus", "dbus-1"), ("GDBus", "gdbus", "gio-2.0"), ("sd-bus", "sdbus", "libsystemd"))
-IN_PYTHON = (("jeepney", "with_jeepney", "jeepney"), ("dbus-next", "with_dbus_next", "dbus_next"), ("dbus-fast", "with_dbus_fast", "dbus_fast"))
+IN_PYTHON = (
+    ("jeepney", "with_jeepney", "jeepney"),
+    ("dbus-next", "with_dbus_next", "dbus_next"),
+    ("dbus-fast", "with_dbus_fast", "dbus_fast"),
+)
 FLAGS = "-std=c11 -O2 -Wall -Wextra".split()
 PYTHONS = (sys.executable, "/usr/bin/python3")
 # What the specification leaves open: reasons, and cases.
