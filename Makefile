@@ -49,6 +49,9 @@ SHARED = out/$(SONAME)
 HEAP_OBJECT = heap.pic.o
 HEAP = $(dir $(firstword $(shell rt doc)))c/liblibc_c.a
 VERSION = $(shell sed -n 's/.*VERSION: &str = "\(.*\)";/\1/p' crates/cli_options/src/help.rt)
+# The licences of the kit's crates that are linked in. They come from the kit, and what is installed needs no kit.
+NOTICES = out/NOTICES
+WRITE_NOTICES = mkdir -p out && packaging/notices.py $(NOTICES)
 # The kit that everything was proved with, as README says.
 KIT = $(shell sed -n 's/.*Proved with\*\* \([^ ,]*\),.*/\1/p' README.md)
 
@@ -80,9 +83,11 @@ quick-test: kit definitions-check
 
 build: kit
 	bench/build.py dbus_wire
+	$(WRITE_NOTICES)
 
 library: kit
 	bench/build.py dbus_c
+	$(WRITE_NOTICES)
 	cp crates/dbus_c/out/libdbus_c.a $(ARCHIVE)
 	cd out && ar x $(HEAP) $(HEAP_OBJECT) && ar r $(notdir $(ARCHIVE)) $(HEAP_OBJECT) && rm $(HEAP_OBJECT)
 	$(CC) -shared -o $(SHARED) -Wl,-soname,$(SONAME) -Wl,--whole-archive $(ARCHIVE) -Wl,--no-whole-archive \
@@ -178,17 +183,17 @@ install-python:
 	install -D -m 644 LICENSE $(DESTDIR)$(DOCDIR)/LICENSE
 	install -D -m 644 -t $(DESTDIR)$(PYTHONDIR)/dbus_wire $(wildcard python/dbus_wire/*.py) python/dbus_wire/py.typed
 
-# The licences of the kit's crates that are linked in come from the kit, so this needs it.
-install-notices: kit
+install-notices:
+	@test -f $(NOTICES) || { echo "there is no $(NOTICES): run make build or make library" >&2; exit 1; }
 	install -D -m 644 LICENSE $(DESTDIR)$(DOCDIR)/LICENSE
-	packaging/notices.py > $(DESTDIR)$(DOCDIR)/NOTICES
+	install -D -m 644 $(NOTICES) $(DESTDIR)$(DOCDIR)/NOTICES
 
 uninstall:
 	rm -f $(addprefix $(DESTDIR),$(INSTALLED))
 	rm -rf $(DESTDIR)$(PYTHONDIR)/dbus_wire
 
-deb: kit
+deb:
 	packaging/deb.sh $(VERSION)
 
-tarball: kit
+tarball:
 	packaging/tarball.sh $(VERSION)

@@ -1,5 +1,6 @@
 #!/usr/bin/env python3
-"""Prints the licences of what is linked into dbus-wire and its library: of the kit's crates that their crates use, as the kit has them."""
+"""notices.py FILE: writes the licences of what is linked into dbus-wire and its library: of the kit's crates that their crates use, as the kit has
+them."""
 
 import pathlib
 import subprocess
@@ -28,13 +29,15 @@ def kit_crates(names):
     return sorted(found)
 
 
-def main():
+def notices():
+    """The licences, each below the name of its crate and its file."""
     for name in kit_crates(["dbus_wire", "dbus_c"]):
         licences = sorted((kit_folder() / name).glob("LICENSE*"))
         if not licences:
             sys.exit(f"{name} of the kit has no licence file")
         for licence in licences:
-            print(f"{name}, {licence.name}\n\n{licence.read_text().strip()}\n")
+            yield f"{name}, {licence.name}\n\n{licence.read_text().strip()}\n\n"
 
 
-main()
+if __name__ == "__main__":
+    pathlib.Path(sys.argv[1]).write_text("".join(notices()))
