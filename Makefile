@@ -21,10 +21,10 @@
 #                  dbus-fast make of them, if these are there
 # make test-memory runs dbus-wire failing each of its allocations in turn
 # make install     installs what make build and make library proved and built: the program with its manual page and completions, and the
-#                  library for C. PREFIX, BINDIR, LIBDIR, INCLUDEDIR, DATADIR, MANDIR and DESTDIR say where. install-program and
+#                  library for C with the pages of its calls. PREFIX, BINDIR, LIBDIR, INCLUDEDIR, DATADIR, MANDIR, ZSHDIR and DESTDIR say where. install-program and
 #                  install-c install one of the two; of the latter install-shared what programs need to run, install-dev what
 #                  compilers need. install-python installs the module for Python in PYTHONDIR
-# make deb         packages both for Debian, by dpkg-deb, in out/
+# make deb         packages both for Debian, by debhelper, in out/
 # make tarball     packs both, and a checksum, in out/
 # make wrong-bodies prints the wrong bodies that the prover refuses, and what refuses each; bench/wrong_bodies.py tries those that are due, or all
 # make instructions prints the instructions per byte of each command, by valgrind, and of libdbus if its headers are there
@@ -38,6 +38,7 @@ INCLUDEDIR ?= $(PREFIX)/include
 DATADIR ?= $(PREFIX)/share
 MANDIR ?= $(DATADIR)/man
 DOCDIR ?= $(DATADIR)/doc/dbus-wire
+ZSHDIR ?= $(DATADIR)/zsh/site-functions
 PYTHONDIR ?= $(PREFIX)/lib/python3/dist-packages
 
 PROGRAM = crates/dbus_wire/out/dbus_wire
@@ -55,8 +56,9 @@ WRITE_NOTICES = mkdir -p out && packaging/notices.py $(NOTICES)
 # The kit that everything was proved with, as README says.
 KIT = $(shell sed -n 's/.*Proved with\*\* \([^ ,]*\),.*/\1/p' README.md)
 
-COMPLETIONS = bash-completion/completions/dbus-wire zsh/site-functions/_dbus-wire fish/vendor_completions.d/dbus-wire.fish
-INSTALLED = $(BINDIR)/dbus-wire $(MANDIR)/man1/dbus-wire.1 $(addprefix $(DATADIR)/,$(COMPLETIONS)) $(DOCDIR)/LICENSE $(DOCDIR)/NOTICES \
+COMPLETIONS = bash-completion/completions/dbus-wire fish/vendor_completions.d/dbus-wire.fish
+INSTALLED = $(BINDIR)/dbus-wire $(MANDIR)/man1/dbus-wire.1 $(addprefix $(DATADIR)/,$(COMPLETIONS)) $(ZSHDIR)/_dbus-wire \
+	$(DOCDIR)/LICENSE $(DOCDIR)/NOTICES $(MANDIR)/man3/dbus_wire*.3 \
 	$(INCLUDEDIR)/dbus_wire.h $(addprefix $(LIBDIR)/,libdbus_wire.a libdbus_wire.so $(SONAME) libdbus_wire.so.$(VERSION)) \
 	$(LIBDIR)/pkgconfig/dbus-wire.pc
 
@@ -159,7 +161,7 @@ install-program: install-notices
 	install -D -m 755 $(PROGRAM) $(DESTDIR)$(BINDIR)/dbus-wire
 	install -D -m 644 man/dbus-wire.1 $(DESTDIR)$(MANDIR)/man1/dbus-wire.1
 	install -D -m 644 completions/dbus-wire.bash $(DESTDIR)$(DATADIR)/bash-completion/completions/dbus-wire
-	install -D -m 644 completions/_dbus-wire $(DESTDIR)$(DATADIR)/zsh/site-functions/_dbus-wire
+	install -D -m 644 completions/_dbus-wire $(DESTDIR)$(ZSHDIR)/_dbus-wire
 	install -D -m 644 completions/dbus-wire.fish $(DESTDIR)$(DATADIR)/fish/vendor_completions.d/dbus-wire.fish
 
 install-c: install-shared install-dev
@@ -177,6 +179,9 @@ install-dev: install-notices
 	install -d $(DESTDIR)$(LIBDIR)/pkgconfig
 	sed 's|@INCLUDEDIR@|$(INCLUDEDIR)|; s|@LIBDIR@|$(LIBDIR)|; s|@VERSION@|$(VERSION)|' include/dbus-wire.pc.in \
 		> $(DESTDIR)$(LIBDIR)/pkgconfig/dbus-wire.pc
+	install -d $(DESTDIR)$(MANDIR)/man3
+	packaging/manual.py > $(DESTDIR)$(MANDIR)/man3/dbus_wire.3
+	for call in $$(packaging/manual.py --calls); do ln -sf dbus_wire.3 $(DESTDIR)$(MANDIR)/man3/$$call.3; done
 
 # The module needs the shared library, which install-shared installs.
 install-python:
