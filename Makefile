@@ -19,6 +19,10 @@
 # make test-c      builds the examples for C over it, tests the Rust crate, and compares what both write with dbus-wire check
 # make test-python compares what the module for Python makes of messages by it with what dbus-wire writes, and with what jeepney and
 #                  dbus-fast make of them, if these are there
+# make wheel       makes a wheel of the module for Python, with the library in it, in out/; `pip install ./python` does too
+# make test-wheel  installs that in a fresh environment, without a network, and runs the tests of the module there
+# make crate       packs the crate for Rust, and builds what it packed, in out/; CARGO_PACKAGE_FLAGS=--allow-dirty if not all is committed
+# make test-crate  runs the tests that are packed with it, from a folder of their own
 # make test-memory runs dbus-wire failing each of its allocations in turn
 # make install     installs what make build and make library proved and built: the program with its manual page and completions, and the
 #                  library for C with the pages of its calls. PREFIX, BINDIR, LIBDIR, INCLUDEDIR, DATADIR, MANDIR, ZSHDIR and DESTDIR say where. install-program and
@@ -67,7 +71,7 @@ ARGS = check
 FILE = samples/session.dbus
 
 .PHONY: kit run quick-test build library test test-c test-python test-memory gate-times wrong-bodies api graph definitions definitions-check \
-	doc-examples readme-test peers export-cases instructions bench bench-c install install-program install-c install-shared install-dev install-python install-notices uninstall deb tarball
+	doc-examples readme-test peers export-cases instructions bench bench-c install install-program install-c install-shared install-dev install-python install-notices uninstall deb tarball wheel test-wheel crate test-crate
 
 run: kit
 	@echo "dbus-wire without its proofs (make build proves it), which takes at most 64 MiB in and gives 1 MiB out:" >&2
@@ -99,10 +103,39 @@ test: kit
 	.ci/run
 
 test-c: build library
-	examples/test.sh $(PROGRAM) $(ARCHIVE) $(SHARED)
+	DBUS_WIRE_LIB_DIR=$(CURDIR)/out/examples examples/test.sh $(PROGRAM) $(ARCHIVE) $(SHARED)
+
+# Cargo builds what it packs, but not its tests.
+crate:
+	@test -f $(ARCHIVE) || { echo "there is no $(ARCHIVE): run make library" >&2; exit 1; }
+	cd rust && DBUS_WIRE_LIB_DIR=$(CURDIR)/out CARGO_TARGET_DIR=$(CURDIR)/out/rust cargo package --offline $(CARGO_PACKAGE_FLAGS)
+	cp out/rust/package/dbus-wire-$(VERSION).crate out/
+
+test-crate: crate
+	rm -rf out/crate
+	mkdir out/crate
+	tar -xf out/dbus-wire-$(VERSION).crate -C out/crate
+	cd out/crate/* && DBUS_WIRE_LIB_DIR=$(CURDIR)/out CARGO_TARGET_DIR=$(CURDIR)/out/rust cargo test --quiet --offline
+	rm -rf out/crate
 
 test-python: build library
-	DBUS_WIRE_LIBRARY=$(SHARED) DBUS_WIRE_PROGRAM=$(PROGRAM) python3 -W error -m unittest discover python
+	DBUS_WIRE_LIBRARY=$(SHARED) DBUS_WIRE_PROGRAM=$(PROGRAM) python3 -W error -m unittest discover python/tests
+
+wheel:
+	@test -f $(SHARED) || { echo "there is no $(SHARED): run make library" >&2; exit 1; }
+	SOURCE_DATE_EPOCH=$${SOURCE_DATE_EPOCH:-$$(git log -1 --format=%ct)} python3 python/wheel_of_module.py out
+
+# The module is that of the environment, and its library that of the wheel.
+IS_INSTALLED = import dbus_wire, sys; from dbus_wire import _library; \
+	assert _library._path().startswith(sys.prefix), _library._path()
+
+test-wheel: wheel
+	rm -rf out/venv
+	python3 -m venv out/venv
+	out/venv/bin/pip install --quiet --no-index out/dbus_wire-$(VERSION)-*.whl
+	env -u DBUS_WIRE_LIBRARY out/venv/bin/python -I -c "$(IS_INSTALLED)"
+	env -u DBUS_WIRE_LIBRARY DBUS_WIRE_PROGRAM=$(PROGRAM) out/venv/bin/python -W error -m unittest discover python/tests
+	rm -rf out/venv
 
 test-memory: build
 	bench/refused_memory.py $(PROGRAM) samples/big-endian.dbus

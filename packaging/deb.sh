@@ -6,7 +6,7 @@ for tool in dpkg-buildpackage dh dh_python3; do
     command -v $tool > /dev/null || { echo "there is no $tool: apt-get install dpkg-dev debhelper dh-python" >&2; exit 1; }
 done
 named=$(dpkg-parsechangelog -l packaging/debian/changelog -S Version)
-[ "$named" = "$version" ] || { echo "packaging/debian/changelog is of the version $named, and not of $version" >&2; exit 1; }
+[ "${named%-*}" = "$version" ] || { echo "packaging/debian/changelog is of the version $named, and not of $version" >&2; exit 1; }
 rm -rf out/deb
 tree=out/deb/dbus-wire-$version
 mkdir -p "$tree"

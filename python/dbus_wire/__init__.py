@@ -3,7 +3,8 @@ byteswapped, and matched by rules; and both ends of the handshake before them, a
 
 The module finds no place and no number in the bytes itself: each is what a call of
 include/dbus_wire.h returns. The library is the file that the environment variable DBUS_WIRE_LIBRARY
-names, or else libdbus_wire.so.0 as the dynamic linker finds it.
+names, or else libdbus_wire.so.0: the one beside the module, as in a wheel, or else as the dynamic
+linker finds it.
 
     from dbus_wire import messages
 

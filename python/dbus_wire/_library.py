@@ -184,5 +184,12 @@ def _load(path: str) -> ctypes.CDLL:
     return library
 
 
-library = _load(os.environ.get("DBUS_WIRE_LIBRARY") or SONAME)
+def _path() -> str:
+    """The library that DBUS_WIRE_LIBRARY names, or that is beside the module, as in a wheel, or
+    that the dynamic linker finds."""
+    beside = os.path.join(os.path.dirname(__file__), SONAME)
+    return os.environ.get("DBUS_WIRE_LIBRARY") or (beside if os.path.exists(beside) else SONAME)
+
+
+library = _load(_path())
 LIBRARY_VERSION = _version_of(library.dbus_wire_version())

@@ -166,7 +166,7 @@ mod tests {
     use super::{Reason, RuleReason};
     use crate::sys;
 
-    const HEADER: &str = include_str!("../../include/dbus_wire.h");
+    const HEADER: &str = include_str!("../include/dbus_wire.h");
 
     // What one of the two calls writes of a number.
     fn name(call: unsafe extern "C" fn(u32, *mut u8, usize) -> usize, number: u32) -> String {

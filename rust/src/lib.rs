@@ -37,11 +37,9 @@
 //!
 //! # Linking
 //!
-//! The crate links `-ldbus_wire`. If the linker does not find it by itself, the environment
-//! variable `DBUS_WIRE_LIBRARY` of `cargo build` names the folder of `libdbus_wire.a` or
-//! `libdbus_wire.so`, for instance what `pkg-config --variable=libdir dbus-wire` prints. The
-//! library runs on Linux, on x86-64 processors of level v2. The crate needs no other, and is tried
-//! with rustc 1.95.
+//! The crate links `-ldbus_wire`, which `pkg-config dbus-wire` finds, or which is in the folder
+//! that the environment variable `DBUS_WIRE_LIB_DIR` of `cargo build` names. The library runs on
+//! Linux, on x86-64 processors of level v2. The crate needs no other, and is tried with rustc 1.95.
 //!
 //! # Stack
 //!

@@ -9,7 +9,7 @@ use dbus_wire::{
     Values,
 };
 
-const CAPTURES: [&[u8]; 2] = [include_bytes!("../../samples/session.dbus"), include_bytes!("../../samples/big-endian.dbus")];
+const CAPTURES: [&[u8]; 2] = [include_bytes!("data/session.dbus"), include_bytes!("data/big-endian.dbus")];
 
 fn align(bytes: &mut Vec<u8>, boundary: usize) {
     bytes.resize(bytes.len().next_multiple_of(boundary), 0);

@@ -1,6 +1,6 @@
 //! The declarations of `sys` and the sentences of reasons are those of `include/dbus_wire.h`.
 
-const HEADER: &str = include_str!("../../include/dbus_wire.h");
+const HEADER: &str = include_str!("../include/dbus_wire.h");
 const SYS: &str = include_str!("../src/sys.rs");
 
 // What is between the two texts, the first time.

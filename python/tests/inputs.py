@@ -3,8 +3,10 @@
 import pathlib
 import sys
 
-ROOT = pathlib.Path(__file__).resolve().parent.parent
-sys.path[:0] = [str(ROOT / "cases"), str(ROOT / "python")]
+ROOT = pathlib.Path(__file__).resolve().parent.parent.parent
+sys.path.insert(0, str(ROOT / "cases"))
+# The module that is installed, if one is, and else that of the repository.
+sys.path.append(str(ROOT / "python"))
 from read_cases import read_bytes, read_cases  # noqa: E402
 
 from dbus_wire import Limits, messages  # noqa: E402

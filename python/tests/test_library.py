@@ -2,7 +2,6 @@
 loads only such a library: `make test-python` runs them."""
 
 import ctypes
-import os
 import re
 import unittest
 from unittest import mock
@@ -61,10 +60,9 @@ class Loading(unittest.TestCase):
         self.assertRaises(ImportError, _library._load, "libc.so.6")
 
     def test_a_library_of_another_version(self):
-        path = os.environ.get("DBUS_WIRE_LIBRARY") or _library.SONAME
         for version in ((1, 1, 0), (0, 0, 0), (0, 2, 0), (0, 1, 1)):
             with mock.patch.object(_library, "WRITTEN_FOR", version):
-                self.assertRaises(ImportError, _library._load, path)
+                self.assertRaises(ImportError, _library._load, _library._path())
 
 
 if __name__ == "__main__":
