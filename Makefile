@@ -23,6 +23,7 @@
 # make test-wheel  installs that in a fresh environment, without a network, and runs the tests of the module there
 # make crate       packs the crate for Rust, and builds what it packed, in out/; CARGO_PACKAGE_FLAGS=--allow-dirty if not all is committed
 # make test-crate  runs the tests that are packed with it, from a folder of their own
+# make test-completions loads the completions in bash, zsh and fish, and compares what each completes with the texts of help
 # make test-memory runs dbus-wire failing each of its allocations in turn
 # make install     installs what make build and make library proved and built: the program with its manual page and completions, and the
 #                  library for C with the pages of its calls. PREFIX, BINDIR, LIBDIR, INCLUDEDIR, DATADIR, MANDIR, ZSHDIR and DESTDIR say where. install-program and
@@ -71,7 +72,7 @@ ARGS = check
 FILE = samples/session.dbus
 
 .PHONY: kit run quick-test build library test test-c test-python test-memory gate-times wrong-bodies api graph definitions definitions-check \
-	doc-examples readme-test peers export-cases instructions bench bench-c install install-program install-c install-shared install-dev install-python install-notices uninstall deb tarball wheel test-wheel crate test-crate
+	doc-examples readme-test peers export-cases instructions bench bench-c install install-program install-c install-shared install-dev install-python install-notices uninstall deb tarball wheel test-wheel crate test-crate test-completions
 
 run: kit
 	@echo "dbus-wire without its proofs (make build proves it), which takes at most 64 MiB in and gives 1 MiB out:" >&2
@@ -136,6 +137,9 @@ test-wheel: wheel
 	env -u DBUS_WIRE_LIBRARY out/venv/bin/python -I -c "$(IS_INSTALLED)"
 	env -u DBUS_WIRE_LIBRARY DBUS_WIRE_PROGRAM=$(PROGRAM) out/venv/bin/python -W error -m unittest discover python/tests
 	rm -rf out/venv
+
+test-completions:
+	completions/test.py
 
 test-memory: build
 	bench/refused_memory.py $(PROGRAM) samples/big-endian.dbus
