@@ -31,6 +31,9 @@
 #                  compilers need. install-python installs the module for Python in PYTHONDIR
 # make deb         packages both for Debian, by debhelper, in out/
 # make tarball     packs both, and a checksum, in out/
+# make release     makes all files of a release of the commit in out/release: sources, tarball, packages, wheel, crate, documents, checksums
+# make test-release makes it once more in another clone, and compares the bytes
+# make test-packages checks the packages for Debian by lintian, and builds and runs the examples from them alone
 # make wrong-bodies prints the wrong bodies that the prover refuses, and what refuses each; bench/wrong_bodies.py tries those that are due, or all
 # make instructions prints the instructions per byte of each command, by valgrind, and of libdbus if its headers are there
 # make bench       MB/s of each command on several streams, by user and system time, and of decoding and encoding
@@ -72,7 +75,7 @@ ARGS = check
 FILE = samples/session.dbus
 
 .PHONY: kit run quick-test build library test test-c test-python test-memory gate-times wrong-bodies api graph definitions definitions-check \
-	doc-examples readme-test peers export-cases instructions bench bench-c install install-program install-c install-shared install-dev install-python install-notices uninstall deb tarball wheel test-wheel crate test-crate test-completions
+	doc-examples readme-test peers export-cases instructions bench bench-c install install-program install-c install-shared install-dev install-python install-notices uninstall deb tarball wheel test-wheel crate test-crate test-completions release test-release test-packages
 
 run: kit
 	@echo "dbus-wire without its proofs (make build proves it), which takes at most 64 MiB in and gives 1 MiB out:" >&2
@@ -239,3 +242,13 @@ deb:
 
 tarball:
 	packaging/tarball.sh $(VERSION)
+
+release:
+	packaging/release.sh $(VERSION)
+
+test-release: release
+	packaging/release_test.sh $(VERSION)
+
+test-packages: deb
+	lintian --fail-on error,warning out/*.deb
+	packaging/installed_test.sh out/*.deb

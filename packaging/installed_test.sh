@@ -1,0 +1,65 @@
+#!/usr/bin/env bash
+# packaging/installed_test.sh DEB..: unpacks the packages in a folder of their own, and uses what is there alone: builds the examples for C over the
+# shared and over the static library and runs them, and the program, the module for Python, the manual pages and the completions. What they say
+# of a message that an example makes is compared.
+set -euo pipefail
+here=$(cd "$(dirname "$0")" && pwd)
+root=$(mktemp -d)
+trap 'rm -rf "$root"' EXIT
+for package in "$@"; do
+    dpkg-deb --extract "$package" "$root"
+done
+libraries=$root/usr/lib/$(dpkg-architecture -qDEB_HOST_MULTIARCH)
+export LD_LIBRARY_PATH=$libraries PKG_CONFIG_SYSROOT_DIR=$root PKG_CONFIG_LIBDIR=$libraries/pkgconfig PYTHONPATH=$root/usr/lib/python3/dist-packages
+export PYTHONDONTWRITEBYTECODE=1 PATH=$root/usr/bin:/usr/bin:/bin
+unset DBUS_WIRE_LIBRARY
+
+# must TEXT WORD..: ends if the command does not write the text.
+must() {
+    local wanted=$1 written
+    shift
+    written=$("$@") || { echo "failed: $*" >&2; exit 1; }
+    [ "$written" = "$wanted" ] || { printf '%s writes\n%s\nand not\n%s\n' "$*" "$written" "$wanted" >&2; exit 1; }
+}
+
+build() {
+    local to=$1
+    shift
+    mkdir "$to"
+    for example in "$root"/usr/share/doc/libdbus-wire-dev/examples/*.c; do
+        "${CC:-cc}" -std=c99 -D_GNU_SOURCE -O2 -Wall -Werror -pthread $(pkg-config --cflags dbus-wire) -o "$to/$(basename "$example" .c)" "$example" "$@"
+    done
+}
+build "$root/shared" $(pkg-config --libs dbus-wire)
+build "$root/static" "$libraries/libdbus_wire.a"
+ldd "$root/shared/check" | grep -q "=> $libraries/libdbus_wire.so.0"
+
+cd "$root"
+for built in shared static; do
+    bin=$root/$built
+    "$bin/signal" Name "a b" Number 7 > one
+    cat one one > two
+    "$bin/swap" B < two > swapped
+    must "ok 2 messages $(stat -c %s two) bytes" "$bin/check" < two
+    must "$(dbus-wire check < two)" "$bin/check" < two
+    must "$(dbus-wire check < two)" "$bin/pieces" 7 < two
+    must "$(dbus-wire show < two)" "$bin/list" < two
+    dbus-wire swap --to B < two | cmp - swapped
+    "$bin/build" again < swapped | cmp - swapped
+    "$bin/rules" "member='PropertiesChanged'" < two | cmp - two
+    "$bin/rules" "member='Other'" < two | cmp - /dev/null
+    for words in room threads "sharing type='signal'" habits "handshake pieces 7"; do
+        "$bin/"$words < two > said
+    done
+    must "accepted" "$bin/texts" <<< "1 6162"
+    printf '\0AUTH EXTERNAL 31303030\r\nBEGIN\r\nl' | "$bin/lines" client | grep -q '^24 \|AUTH'
+done
+must "dbus-wire $(pkg-config --modversion dbus-wire)" dbus-wire --version
+dbus-wire json < one | grep -q '"a b"'
+must "['a b']" /usr/bin/python3 -c 'import dbus_wire, sys; print([it.value for _, it in next(dbus_wire.messages(open("one", "rb"))).body[1] if it.value == "a b"])'
+for page in dbus-wire.1 dbus_wire.3 dbus_wire_check.3; do
+    MANPATH=$root/usr/share/man man --warnings "${page#*.}" "${page%.*}" 2> said > page
+    test -s page && test ! -s said
+done
+env PATH="/usr/bin:/bin" "$here/../completions/test.py" "$root"
+echo "the packages do what they should in a folder of their own"
