@@ -107,7 +107,7 @@ test: kit
 	.ci/run
 
 test-c: build library
-	DBUS_WIRE_LIB_DIR=$(CURDIR)/out/examples examples/test.sh $(PROGRAM) $(ARCHIVE) $(SHARED)
+	examples/test.sh $(PROGRAM) $(ARCHIVE) $(SHARED)
 
 # Cargo builds what it packs, but not its tests.
 crate:

@@ -143,7 +143,7 @@ fi
 listers=$built/list swappers=$built/swap filters=$built/rules
 set -- "$built/check" "$built/check_sanitized" "$built/check_shared" "$built/plain_pieces"
 if command -v cargo > /dev/null; then
-	export DBUS_WIRE_LIBRARY="$built" CARGO_TARGET_DIR="$built/rust"
+	export DBUS_WIRE_LIB_DIR="$built" CARGO_TARGET_DIR="$built/rust"
 	cargo test --quiet --offline --manifest-path "$here/../rust/Cargo.toml"
 	cargo build --quiet --offline --release --examples --manifest-path "$here/../rust/Cargo.toml"
 	rust=$built/rust/release/examples
