@@ -1,7 +1,7 @@
 #!/usr/bin/env python3
-"""gate.py [--all]: the gate. Runs `rt ci` over a copy of the repository. Over what that built it then asks the programs that answer questions on the
-cases, makes the runs that are stored in runs/ of programs, as each of two compilers built these (cases/README.md), and tries the wrong bodies of the
-crates that are due and those that are always tried; with --all, all of them (bench/trying.py).
+"""gate.py [--all]: the gate. Runs `rt ci` over a copy of the repository. Over what that builds it meanwhile tries the wrong bodies of the crates that
+are due and those that are always tried; with --all, all of them (bench/trying.py). Then it asks the programs that answer questions on the cases, and makes
+the runs that are stored in runs/ of programs, as each of two compilers built these (cases/README.md).
 
 The last line says how many crates, programs of questions, stored runs and wrong bodies passed, and how many failed; the exit status is 1 if one did.
 """
@@ -17,7 +17,7 @@ import tempfile
 from crate_list import ROOT, asked_programs
 from edits import all_edits, find_faults
 from stored_runs import is_right, stored_runs
-from trying import due_edits, try_edits
+from trying import Rounds, due_edits
 
 NOT_COPIED = shutil.ignore_patterns(".git", "out", "target", "__pycache__")
 COUNT = re.compile(r"(\d+) passed, (\d+) failed")
@@ -32,13 +32,14 @@ def copied():
         yield copy
 
 
-def run_in(copy, *words):
-    """Runs a command there, prints what it says as it comes, and returns its status and what it counts last."""
+def run_in(copy, *words, note=lambda line: None):
+    """Runs a command there, prints and notes what it says as it comes, and returns its status and what it counts last."""
     # What the prover writes to the other stream comes between, as when it is run by itself.
     how = {"cwd": copy, "stdin": subprocess.DEVNULL, "stdout": subprocess.PIPE, "stderr": subprocess.STDOUT}
     counted = None
     with subprocess.Popen(words, text=True, errors="replace", **how) as ran:
         for line in ran.stdout:
+            note(line)
             counted = COUNT.fullmatch(line.rstrip("\n"))
             if not counted:
                 print(line, end="", flush=True)
@@ -73,11 +74,11 @@ def main(*words):
         return 1
     edits = all_edits() if words else due_edits()
     with copied() as copy:
-        status, (passed, failed) = run_in(copy, "rt", "ci")
+        rounds = Rounds(edits, copy / "crates")
+        status, (passed, failed) = run_in(copy, "rt", "ci", note=rounds.note)
         answered = [ask(copy, name, program) for name in asked_programs() for program in built(copy, name)]
         answered += [make(program, run) for name, run in stored_runs() for program in built(copy, name)]
-        # Wrong bodies of what is not proved say nothing.
-        missed = len(edits) if status else try_edits(edits, copy / "crates")
+        missed = rounds.missed()
     passed += answered.count(True) + len(edits) - missed
     failed += answered.count(False) + missed
     print(f"{passed} passed, {failed} failed")

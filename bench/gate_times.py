@@ -96,13 +96,14 @@ def print_table(minutes, runs, total, began):
 
 
 def waits_of(steps):
-    """What each step waits for: a crate's proof and tests for the proofs below it, its edits for all proofs and tests."""
+    """What each step waits for: a crate's proof and tests for the proofs below it, its edits for its own too."""
     uses = read_crates()
+
+    def needed(crate, step):
+        return [*uses.get(crate, []), *([crate] if step == "edits" else [])]
+
     # A proof that was kept is no step.
-    return {
-        (crate, step): [it for it in steps if (it[1] != "edits" if step == "edits" else it[1] == "proof" and it[0] in uses.get(crate, []))]
-        for crate, step in steps
-    }
+    return {(crate, step): [it for it in steps if it[1] == "proof" and it[0] in needed(crate, step)] for crate, step in steps}
 
 
 def simulate(minutes, processors):

@@ -8,6 +8,7 @@ import pathlib
 import re
 import subprocess
 import tempfile
+import threading
 
 from crate_list import copy_parts, folder_of, lanes, libraries_below, read_crates, read_lines
 from edits import all_edits, edited, edits_in, function_at, functions_changed, text_of
@@ -22,6 +23,8 @@ ANSWER = re.compile(r"\./proofs/(\S*?)(?:/Answers|/Invariants|/Proof)?\.antt:\d+
 NAMES = re.compile(r"has no field|is not in scope|has no `|was not admitted")
 # The last line of a check that came to its end and did not prove all.
 ENDED = re.compile(r"logic=not-proved|only=\d+ proved=\d+")
+# What `rt ci` says of a crate that is proved.
+PROVED = re.compile(r"rt: (\w+) (?:proved|is kept)\b")
 # How much is told of what a check says.
 MOST_TOLD = 400
 
@@ -44,7 +47,7 @@ def check_words(crate, crates):
     built = {it: crates / it / "out" / "rlib" / f"{it}.rlib" for it in libraries_below(crate, read_crates())}
     root = next(it for it in ("main", "lib") if (folder_of(crate) / "src" / f"{it}.rt").exists())
     kind, _, uses = read_lines()[crate].partition(":")
-    words = [kit / "bin/rattle", "check", f"src/{root}.rt", "--crate-name", crate, "-L", f"dependency={kit}/rlibs"]
+    words = ["nice", kit / "bin/rattle", "check", f"src/{root}.rt", "--crate-name", crate, "-L", f"dependency={kit}/rlibs"]
     for name in ("std", *uses.split()):
         words += ["--extern", f"{name}={built.get(name, kit / 'rlibs' / f'{name}.rlib')}"]
     for rlib in built.values():
@@ -158,11 +161,42 @@ def try_crate(edits, crates):
     return faults
 
 
+def of_crates(edits):
+    """The edits of each crate."""
+    found = collections.defaultdict(list)
+    for edit in edits:
+        found[edit.crate].append(edit)
+    return found
+
+
 def try_edits(edits, crates):
     """Tries edits over the libraries that were built in the folder `crates`, those of several crates side by side, notes on what all of a crate were
     refused, and returns the number of those that were not refused where they should be."""
-    of_crates = collections.defaultdict(list)
-    for edit in edits:
-        of_crates[edit.crate].append(edit)
     with futures.ThreadPoolExecutor(lanes()) as pool:
-        return sum(map(len, pool.map(lambda it: try_crate(it, crates), sorted(of_crates.values(), key=len, reverse=True))))
+        return sum(map(len, pool.map(lambda it: try_crate(it, crates), sorted(of_crates(edits).values(), key=len, reverse=True))))
+
+
+class Rounds:
+    """Edits that are tried while crates are proved in the folder `crates`: those of a crate as soon as it and the libraries below it are. Until all are
+    proved they take half of the processors, and of these what the proofs leave."""
+
+    def __init__(self, edits, crates):
+        self.crates, self.uses = crates, read_crates()
+        self.waiting, self.tried, self.proved = of_crates(edits), [], set()
+        self.pool, self.turns = futures.ThreadPoolExecutor(lanes()), threading.Semaphore(max(1, lanes() // 2))
+
+    def note(self, line):
+        """Notes what `rt ci` says."""
+        if found := PROVED.match(line):
+            self.proved.add(found[1])
+            ready = [it for it in self.waiting if self.proved.issuperset([it, *libraries_below(it, self.uses)])]
+            self.tried += [self.pool.submit(self.try_crate, self.waiting.pop(it)) for it in ready]
+
+    def try_crate(self, edits):
+        with self.turns:
+            return len(try_crate(edits, self.crates))
+
+    def missed(self):
+        """The number of those that were not refused where they should be, once all crates were proved. Those of a crate that was not say nothing."""
+        self.turns.release(lanes())
+        return sum(it.result() for it in self.tried) + sum(map(len, self.waiting.values()))
