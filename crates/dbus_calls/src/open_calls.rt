@@ -1,7 +1,7 @@
 //! The calls that wait for a reply.
 #![tactic(auto)]
 
-ghost use Rattle.std.specs.Prelude.{◌≡◌, ℕ, nat_eq, true, option_map, is_some, List, Option, None, Some, IfOk, OnOk, if◌then◌else◌};
+ghost use Rattle.std.specs.Prelude.{◌≡◌, ℕ, nat_eq, true, option_map, is_some, List, Option, None, Some, IfOk, OnErr, OnOk, if◌then◌else◌};
 ghost use Rattle.std.specs.BTreeMap.{get_by_text};
 ghost use Rattle.dbus_calls.specs.Kept.{call_at};
 
@@ -31,6 +31,7 @@ fn put<T: Drop>(calls: &mut BTreeMap<u32, T>, serial: u32, call: T) -> Result<Op
     ensures put { OnOk result ((s : ℕ) →
         call_at calls.new s ≡ (if nat_eq serial s then Some call else call_at calls.old s)) }
     ensures before { IfOk result (λ before. before ≡ call_at calls.old serial) }
+    ensures unchanged { OnErr result ((s : ℕ) → call_at calls.new s ≡ call_at calls.old s) }
 {
     match calls.insert(serial, call) {
         Ok(before) => Ok(before),
@@ -55,11 +56,12 @@ impl<T: Drop> OpenCalls<T> {
     /// Opens a call, and returns the open one of its caller and serial, whose place it takes: the
     /// serial was used again.
     ///
-    /// `AllocError`: an allocation failed.
+    /// `AllocError`: an allocation failed. Then the open calls are those from before.
     pub fn open(&mut self, caller: &str, serial: u32, call: T) -> Result<Option<T>, AllocError>
         ensures opens { OnOk result ((c : List ℕ) (s : ℕ) →
             waiting self.new c s ≡ with_call caller.now serial call (waiting self.old) c s) }
         ensures before { IfOk result (λ before. before ≡ waiting self.old caller.now serial) }
+        ensures unchanged { OnErr result ((c : List ℕ) (s : ℕ) → waiting self.new c s ≡ waiting self.old c s) }
     {
         match self.callers.get_mut(caller) {
             Some(calls) => {
@@ -76,8 +78,9 @@ impl<T: Drop> OpenCalls<T> {
     // Opens the first call of a caller.
     fn open_first(&mut self, caller: &str, serial: u32, call: T) -> Result<(), AllocError>
         requires { get_by_text self.old.callers caller.now ≡ None }
-        ensures { OnOk result ((c : List ℕ) (s : ℕ) →
+        ensures opens { OnOk result ((c : List ℕ) (s : ℕ) →
             waiting self.new c s ≡ with_call caller.now serial call (waiting self.old) c s) }
+        ensures unchanged { OnErr result ((c : List ℕ) (s : ℕ) → waiting self.new c s ≡ waiting self.old c s) }
     {
         let name = String::from_str(self.alloc, caller)?;
         let mut calls = BTreeMap::new(self.alloc);
@@ -155,7 +158,8 @@ impl<T: Drop> OpenCalls<T> {
     pub fn into_callers(self) -> BTreeMap<String, BTreeMap<u32, T>>
         ensures { (c : List ℕ) (s : ℕ) → call_in (get_by_text result c) s ≡ waiting self c s }
     {
-        self.callers
+        let OpenCalls { callers, .. } = self;
+        callers
     }
 }
 

@@ -14,3 +14,7 @@ returns-in_ok-before-in-Some-clause-before g c = grind (arith, text_keys)
 pub returns-in_ok-open_first-in-None-clause-before : goal.returns-in_ok-open_first-in-None-clause-before
 unfolding waiting
 returns-in_ok-open_first-in-None-clause-before g c = grind (arith, text_keys)
+
+pub returns-in_err-before-in-Some-clause-unchanged : goal.returns-in_err-before-in-Some-clause-unchanged
+unfolding waiting
+returns-in_err-before-in-Some-clause-unchanged g c = grind (arith, text_keys)
