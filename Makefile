@@ -66,7 +66,7 @@ KIT = $(shell sed -n 's/.*Proved with\*\* \([^ ,]*\),.*/\1/p' README.md)
 
 COMPLETIONS = bash-completion/completions/dbus-wire fish/vendor_completions.d/dbus-wire.fish
 INSTALLED = $(BINDIR)/dbus-wire $(MANDIR)/man1/dbus-wire.1 $(addprefix $(DATADIR)/,$(COMPLETIONS)) $(ZSHDIR)/_dbus-wire \
-	$(DOCDIR)/LICENSE $(DOCDIR)/NOTICES $(MANDIR)/man3/dbus_wire*.3 \
+	$(addprefix $(DOCDIR)/,LICENSE NOTICES PROVED.md) $(MANDIR)/man3/dbus_wire*.3 \
 	$(INCLUDEDIR)/dbus_wire.h $(addprefix $(LIBDIR)/,libdbus_wire.a libdbus_wire.so $(SONAME) libdbus_wire.so.$(VERSION)) \
 	$(LIBDIR)/pkgconfig/dbus-wire.pc
 
@@ -230,8 +230,7 @@ install-python:
 
 install-notices:
 	@test -f $(NOTICES) || { echo "there is no $(NOTICES): run make build or make library" >&2; exit 1; }
-	install -D -m 644 LICENSE $(DESTDIR)$(DOCDIR)/LICENSE
-	install -D -m 644 $(NOTICES) $(DESTDIR)$(DOCDIR)/NOTICES
+	install -D -m 644 -t $(DESTDIR)$(DOCDIR) LICENSE docs/PROVED.md $(NOTICES)
 
 uninstall:
 	rm -f $(addprefix $(DESTDIR),$(INSTALLED))

@@ -1,7 +1,7 @@
 #!/usr/bin/env bash
 # packaging/release.sh VERSION: all that a release has, in out/release, of the commit that is checked out and of what was built of it: the
-# sources, what was built for those who have no kit, packages for Debian, a wheel, a crate, the cases, if cases/export.py packs them, the
-# documents as HTML, and the checksums of all. The same commit and the same built files give the same bytes.
+# sources, what was built for those who have no kit, packages for Debian, a wheel, a crate, the cases, the documents as HTML, and the checksums
+# of all. The same commit and the same built files give the same bytes.
 source "$(dirname "$0")/stage.sh" "$@"
 need pandoc pandoc
 need cargo cargo
@@ -19,16 +19,12 @@ packaging/deb.sh "$version"
 make --no-print-directory wheel crate
 mv out/dbus-wire-"$version"-x86_64-linux.tar.gz out/*.deb out/*.whl out/*.crate "$room"
 rm -f out/*.sha256
-if [ -x cases/export.py ]; then
-    cases=out/stage/dbus-wire-cases-$version
-    mkdir -p "$cases"
-    cases/export.py "$cases"
-    packed out/stage "dbus-wire-cases-$version" "$room/dbus-wire-cases-$version.tar.gz"
-fi
+cases/export.py "$room"
 pages=out/stage/dbus-wire-docs-$version
 mkdir -p "$pages"
 for page in README.md CHANGELOG.md docs/*.md; do
-    pandoc --from=gfm --to=html5 --standalone --metadata=pagetitle="$(head -1 "$page" | cut -c3-)" --output="$pages/$(basename "$page" .md).html" "$page"
+    pandoc --from=gfm --to=html5 --standalone --metadata=pagetitle="$(head -1 "$page" | cut -c3-)" --include-after-body=packaging/footer.html \
+        --output="$pages/$(basename "$page" .md).html" "$page"
 done
 packed out/stage "dbus-wire-docs-$version" "$room/dbus-wire-docs-$version.tar.gz"
 rm -rf out/stage
