@@ -34,6 +34,8 @@
 # make release     makes all files of a release of the commit in out/release: sources, tarball, packages, wheel, crate, documents, checksums
 # make test-release makes it once more in another clone, and compares the bytes
 # make test-packages checks the packages for Debian by lintian, and builds and runs the examples from them alone
+# make test-root   installs the release in a fresh Debian, which debootstrap makes, and builds and runs the examples for C, Rust and
+#                  Python there; as root, over the network
 # make wrong-bodies prints the wrong bodies that the prover refuses, and what refuses each; bench/wrong_bodies.py tries those that are due, or all
 # make instructions prints the instructions per byte of each command, by valgrind, and of libdbus if its headers are there
 # make bench       MB/s of each command on several streams, by user and system time, and of decoding and encoding
@@ -75,7 +77,7 @@ ARGS = check
 FILE = samples/session.dbus
 
 .PHONY: kit run quick-test build library test test-c test-python test-memory gate-times wrong-bodies api graph definitions definitions-check \
-	doc-examples readme-test peers export-cases instructions bench bench-c install install-program install-c install-shared install-dev install-python install-notices uninstall deb tarball wheel test-wheel crate test-crate test-completions release test-release test-packages
+	doc-examples readme-test peers export-cases instructions bench bench-c install install-program install-c install-shared install-dev install-python install-notices uninstall deb tarball wheel test-wheel crate test-crate test-completions release test-release test-packages test-root
 
 run: kit
 	@echo "dbus-wire without its proofs (make build proves it), which takes at most 64 MiB in and gives 1 MiB out:" >&2
@@ -101,7 +103,7 @@ library: kit
 	cp crates/dbus_c/out/libdbus_c.a $(ARCHIVE)
 	cd out && ar x $(HEAP) $(HEAP_OBJECT) && ar r $(notdir $(ARCHIVE)) $(HEAP_OBJECT) && rm $(HEAP_OBJECT)
 	$(CC) -shared -o $(SHARED) -Wl,-soname,$(SONAME) -Wl,--whole-archive $(ARCHIVE) -Wl,--no-whole-archive \
-		-Wl,--version-script=include/libdbus_wire.map -Wl,-z,defs -Wl,-z,text
+		-Wl,--version-script=include/libdbus_wire.map -Wl,-z,defs -Wl,-z,text -Wl,-z,now
 
 test: kit
 	.ci/run
@@ -247,6 +249,9 @@ release:
 
 test-release: release
 	packaging/release_test.sh $(VERSION)
+
+test-root: release
+	packaging/root_test.sh $(VERSION)
 
 test-packages: deb
 	lintian --fail-on error,warning out/*.deb

@@ -1,16 +1,19 @@
 #!/usr/bin/env bash
-# packaging/installed_test.sh DEB..: unpacks the packages in a folder of their own, and uses what is there alone: builds the examples for C over the
-# shared and over the static library and runs them, and the program, the module for Python, the manual pages and the completions. What they say
-# of a message that an example makes is compared.
+# packaging/installed_test.sh [DEB..]: unpacks the packages in a folder of their own, and uses what is there alone; without packages, what is
+# installed. It builds the examples for C over the shared and over the static library and runs them, and the program, the module for Python, the
+# manual pages and the completions. What they say of a message that an example makes is compared.
 set -euo pipefail
 here=$(cd "$(dirname "$0")" && pwd)
-root=$(mktemp -d)
-trap 'rm -rf "$root"' EXIT
-for package in "$@"; do
-    dpkg-deb --extract "$package" "$root"
-done
-libraries=$root/usr/lib/$(dpkg-architecture -qDEB_HOST_MULTIARCH)
-export LD_LIBRARY_PATH=$libraries PKG_CONFIG_SYSROOT_DIR=$root PKG_CONFIG_LIBDIR=$libraries/pkgconfig PYTHONPATH=$root/usr/lib/python3/dist-packages
+room=$(mktemp -d) root=
+trap 'rm -rf "$room"' EXIT
+libraries=/usr/lib/$(dpkg-architecture -qDEB_HOST_MULTIARCH)
+if [ $# -gt 0 ]; then
+    root=$room/root libraries=$room/root$libraries
+    for package in "$@"; do
+        dpkg-deb --extract "$package" "$root"
+    done
+    export LD_LIBRARY_PATH=$libraries PKG_CONFIG_SYSROOT_DIR=$root PKG_CONFIG_LIBDIR=$libraries/pkgconfig PYTHONPATH=$root/usr/lib/python3/dist-packages
+fi
 export PYTHONDONTWRITEBYTECODE=1 PATH=$root/usr/bin:/usr/bin:/bin
 unset DBUS_WIRE_LIBRARY
 
@@ -30,13 +33,13 @@ build() {
         "${CC:-cc}" -std=c99 -D_GNU_SOURCE -O2 -Wall -Werror -pthread $(pkg-config --cflags dbus-wire) -o "$to/$(basename "$example" .c)" "$example" "$@"
     done
 }
-build "$root/shared" $(pkg-config --libs dbus-wire)
-build "$root/static" "$libraries/libdbus_wire.a"
-ldd "$root/shared/check" | grep -q "=> $libraries/libdbus_wire.so.0"
+build "$room/shared" $(pkg-config --libs dbus-wire)
+build "$room/static" "$libraries/libdbus_wire.a"
+ldd "$room/shared/check" | grep -q "=> $root/.*/libdbus_wire.so.0"
 
-cd "$root"
+cd "$room"
 for built in shared static; do
-    bin=$root/$built
+    bin=$room/$built
     "$bin/signal" Name "a b" Number 7 > one
     cat one one > two
     "$bin/swap" B < two > swapped
@@ -61,5 +64,5 @@ for page in dbus-wire.1 dbus_wire.3 dbus_wire_check.3; do
     MANPATH=$root/usr/share/man man --warnings "${page#*.}" "${page%.*}" 2> said > page
     test -s page && test ! -s said
 done
-env PATH="/usr/bin:/bin" "$here/../completions/test.py" "$root"
-echo "the packages do what they should in a folder of their own"
+env PATH="/usr/bin:/bin" "$here/../completions/test.py" "$root/"
+echo "the packages do what they should"
