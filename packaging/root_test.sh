@@ -6,6 +6,7 @@ need debootstrap debootstrap
 need cargo cargo
 fresh=$(mktemp -d)
 trap 'rm -rf "$fresh"' EXIT
+chmod 755 "$fresh"
 debootstrap --variant=minbase --include=bash-completion,dpkg-dev,fish,gcc,libc6-dev,man-db,pkg-config,python3-venv,zsh bookworm "$fresh" > /dev/null
 mkdir "$fresh/release"
 cp out/release/* "$fresh/release"
