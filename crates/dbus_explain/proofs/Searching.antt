@@ -1,18 +1,21 @@
 -- What a search passes and enters.
-use Rattle.std.proofs.Common.{◌≡◌, ℕ, zero, suc, ◌+◌, List, false, true, length, take, drop, Option, None, Some, IfSome, refl, sym, ap, ◌∙◌, subst, zero-add, add-one, [], ◌∷◌, ◌++◌, append_assoc, append-nil}
+use Rattle.std.proofs.Common.{◌≡◌, ℕ, zero, suc, ◌+◌, List, false, true, length, take, drop, Option, None, Some, IfSome, refl, sym, ap, ◌∙◌}
+use Rattle.std.proofs.Common.{subst, zero-add, add-one, [], ◌∷◌, ◌++◌, append_assoc, append-nil}
 use Rattle.std.proofs.lemmas.List.{drop_at, take_at}
 use Rattle.std.specs.List.{flat_map}
 use Rattle.std.proofs.lemmas.List.Concat.{flat_map-append}
-use Rattle.dbus_texts.specs.Types.{TypeTree, TypeTrees, VariantType, ArrayType, StructType, EntryType, NoTypes, MoreTypes, IsShaped, AreShaped, sig, sigs}
+use Rattle.dbus_texts.specs.Types.{TypeTree, TypeTrees, VariantType, ArrayType, StructType, EntryType, NoTypes, MoreTypes, IsShaped}
+use Rattle.dbus_texts.specs.Types.{AreShaped, sig, sigs}
 use Rattle.dbus_texts.specs.declared.text_kind.TextKind.TheVariants.{Signature, Single}
 use Rattle.dbus_texts.proofs.KindFacts.{shaped_of, are_shaped_of}
 use Rattle.dbus_types.specs.Alignments.{alignment_of}
 use Rattle.dbus_types.specs.SignatureCodes.{IsTypeEnd}
 use Rattle.dbus_value_model.specs.Bytes.{gap_to}
 use Rattle.dbus_value_laws.proofs.ValueSteps.{shaped_inside}
-use Rattle.dbus_explain.specs.Places.{Leads, AreBodyTypes, Enters, IsAmong, IsIn, IsSignatureField, IsTyped, Pass, Passes, field_type, first_element, IsPath}
-use Rattle.dbus_explain.specs.declared.path.Step.{Step}
-use Rattle.dbus_explain.specs.declared.path.Step.TheVariants.{Key, Value}
+use Rattle.dbus_explain.specs.Places.{Leads, AreBodyTypes, Enters, IsAmong, IsIn, IsSignatureField, IsTyped, Pass, Passes, field_type}
+use Rattle.dbus_explain.specs.Places.{first_element, IsPath}
+use Rattle.dbus_explain.specs.declared.path.PathStep.{PathStep}
+use Rattle.dbus_explain.specs.declared.path.PathStep.TheVariants.{Key, Value}
 use Rattle.dbus_explain.specs.declared.search.ValuePlace.{ValuePlace}
 use Rattle.dbus_explain.specs.Names.{path_text, step_text}
 
@@ -21,11 +24,14 @@ some_map None f h = h
 some_map (Some a) f h = f a h
 
 -- where the first element is
-pub element_at : (t : TypeTree) (p length after first : ℕ) → length ≡ p + gap_to 4 p → after ≡ length + 4 → first ≡ after + gap_to (alignment_of t) after → first ≡ first_element t p
-element_at t p length after first a b c = let e : after ≡ p + gap_to 4 p + 4 = b ∙ ap (λ (n : ℕ). n + 4) a in c ∙ ap (λ (n : ℕ). n + gap_to (alignment_of t) n) e
+pub element_at : (t : TypeTree) (p length after first : ℕ) → length ≡ p + gap_to 4 p → after ≡ length + 4
+    → first ≡ after + gap_to (alignment_of t) after → first ≡ first_element t p
+element_at t p length after first a b c = let e : after ≡ p + gap_to 4 p + 4 = b ∙ ap (λ (n : ℕ). n + 4) a in c
+    ∙ ap (λ (n : ℕ). n + gap_to (alignment_of t) n) e
 
 -- the first of several types, and the others
-pub split_types : (us : TypeTrees) (types front back : List ℕ) (end : ℕ) → sigs us ≡ types → AreShaped us → (length types ≡ 0 → ⊥) → IsTypeEnd types 0 end → front ≡ take end types → back ≡ drop end types
+pub split_types : (us : TypeTrees) (types front back : List ℕ) (end : ℕ) → sigs us ≡ types → AreShaped us → (length types ≡ 0 → ⊥)
+    → IsTypeEnd types 0 end → front ≡ take end types → back ≡ drop end types
     → (u : TypeTree) × (vs : TypeTrees) × (us ≡ MoreTypes u vs) × (sig u ≡ front) × (sigs vs ≡ back) × IsShaped true u × AreShaped vs
 split_types NoTypes types front back end is shaped some ends f b = absurd (some (sym (ap (λ (l : List ℕ). length l) is)))
 split_types (MoreTypes u vs) types front back end is shaped some ends f b =
@@ -42,37 +48,51 @@ split_types (MoreTypes u vs) types front back end is shaped some ends f b =
 module _ (bytes : List ℕ) (at : ℕ) where
   -- one more value is passed
   pub passed_more : (t : TypeTree) (n p q r : ℕ) → Pass bytes at t n p q → Passes bytes at t q r → Pass bytes at t (n + 1) p r
-  passed_more t n p q r h k = let more : Pass bytes at t (suc n) p r = (q, h, k) in subst (λ (m : ℕ). Pass bytes at t m p r) (sym (add-one n)) more
+  passed_more t n p q r h k = let more : Pass bytes at t (suc n) p r = (q, h, k) in
+      subst (λ (m : ℕ). Pass bytes at t m p r) (sym (add-one n)) more
 
   -- the place is in the first of these types, or one is passed
   pub among_first : (us vs : TypeTrees) (u : TypeTree) (p : ℕ) → us ≡ MoreTypes u vs → IsIn bytes at u p → IsAmong bytes at us p 0 u p
   among_first us vs u p is h = subst (λ (xs : TypeTrees). IsAmong bytes at xs p 0 u p) (sym is) (refl, refl, h)
 
-  pub among_later : (us vs : TypeTrees) (u t : TypeTree) (p r n q : ℕ) → us ≡ MoreTypes u vs → Passes bytes at u p r → IsAmong bytes at vs r n t q → IsAmong bytes at us p (suc n) t q
+  pub among_later : (us vs : TypeTrees) (u t : TypeTree) (p r n q : ℕ) → us ≡ MoreTypes u vs → Passes bytes at u p r
+      → IsAmong bytes at vs r n t q → IsAmong bytes at us p (suc n) t q
   among_later us vs u t p r n q is h k = subst (λ (xs : TypeTrees). IsAmong bytes at xs p (suc n) t q) (sym is) (r, h, k)
 
   -- of two types, the second
-  second : (k v u : TypeTree) (p n q : ℕ) → (n ≡ 0 → ⊥) → IsAmong bytes at (MoreTypes k (MoreTypes v NoTypes)) p n u q → IsAmong bytes at (MoreTypes k (MoreTypes v NoTypes)) p 1 u q
+  second : (k v u : TypeTree) (p n q : ℕ) → (n ≡ 0 → ⊥) → IsAmong bytes at (MoreTypes k (MoreTypes v NoTypes)) p n u q
+      → IsAmong bytes at (MoreTypes k (MoreTypes v NoTypes)) p 1 u q
   second k v u p zero q not h = absurd (not refl)
   second k v u p (suc zero) q not h = h
   second k v u p (suc (suc n)) q not h = absurd h.2.2
 
-  pub key_entered : (k v u : TypeTree) (p n q : ℕ) (step : Step) → n ≡ 0 → step ≡ Key → IsAmong bytes at (MoreTypes k (MoreTypes v NoTypes)) (p + gap_to 8 p) n u q → Enters bytes at (EntryType k v) p step u q
+  pub key_entered : (k v u : TypeTree) (p n q : ℕ) (step : PathStep) → n ≡ 0 → step ≡ Key
+      → IsAmong bytes at (MoreTypes k (MoreTypes v NoTypes)) (p + gap_to 8 p) n u q → Enters bytes at (EntryType k v) p step u q
   key_entered k v u p n q step zero_is is h =
-      subst (λ (s : Step). Enters bytes at (EntryType k v) p s u q) (sym is) (subst (λ (m : ℕ). IsAmong bytes at (MoreTypes k (MoreTypes v NoTypes)) (p + gap_to 8 p) m u q) zero_is h)
+      subst (λ (s : PathStep). Enters bytes at (EntryType k v) p s u q) (sym is)
+      (subst (λ (m : ℕ). IsAmong bytes at (MoreTypes k (MoreTypes v NoTypes)) (p + gap_to 8 p) m u q) zero_is h)
 
-  pub value_entered : (k v u : TypeTree) (p n q : ℕ) (step : Step) → (n ≡ 0 → ⊥) → step ≡ Value → IsAmong bytes at (MoreTypes k (MoreTypes v NoTypes)) (p + gap_to 8 p) n u q → Enters bytes at (EntryType k v) p step u q
-  value_entered k v u p n q step not is h = subst (λ (s : Step). Enters bytes at (EntryType k v) p s u q) (sym is) (second k v u (p + gap_to 8 p) n q not h)
+  pub value_entered : (k v u : TypeTree) (p n q : ℕ) (step : PathStep) → (n ≡ 0 → ⊥) → step ≡ Value
+      → IsAmong bytes at (MoreTypes k (MoreTypes v NoTypes)) (p + gap_to 8 p) n u q → Enters bytes at (EntryType k v) p step u q
+  value_entered k v u p n q step not is h = subst (λ (s : PathStep). Enters bytes at (EntryType k v) p s u q) (sym is)
+      (second k v u (p + gap_to 8 p) n q not h)
 
   -- ---- texts of types
 
-  pub single_typed : (p : ℕ) (w : List ℕ) (q : ℕ) → IsTyped bytes at Single p w q → (t : TypeTree) × (sig t ≡ w) × IsShaped true t × IsTyped bytes at Single p (sig t) q
+  pub single_typed : (p : ℕ) (w : List ℕ) (q : ℕ) → IsTyped bytes at Single p w q
+      → (t : TypeTree) × (sig t ≡ w) × IsShaped true t × IsTyped bytes at Single p (sig t) q
   single_typed p w q h =
       let single = h.ended.is_kind.0 in
-      let is : sig single.0 ≡ w = sym (h.text_is ∙ single.2) in
-      (single.0, is, shaped_inside single.0 (shaped_of single.0 false 0 0 single.1), subst (λ (s : List ℕ). IsTyped bytes at Single p s q) (sym is) h)
+      let is : sig single.0 ≡ w = sym (h.text_is ∙ single.2) in (
+        single.0,
+        is,
+        shaped_inside single.0 (shaped_of single.0 false 0 0 single.1),
+        subst (λ (s : List ℕ). IsTyped bytes at Single p s q)
+            (sym is) h,
+      )
 
-  pub body_typed : (n p : ℕ) (w : List ℕ) → Pass bytes at field_type n 16 p → IsSignatureField bytes at p w → (ts : TypeTrees) × (sigs ts ≡ w) × AreShaped ts × AreBodyTypes bytes at ts
+  pub body_typed : (n p : ℕ) (w : List ℕ) → Pass bytes at field_type n 16 p → IsSignatureField bytes at p w
+      → (ts : TypeTrees) × (sigs ts ≡ w) × AreShaped ts × AreBodyTypes bytes at ts
   body_typed n p w before h =
       let signature = h.value.ended.is_kind.0 in
       let is : sigs signature.0 ≡ w = sym (h.value.text_is ∙ signature.2) in (
@@ -84,22 +104,24 @@ module _ (bytes : List ℕ) (at : ℕ) where
 
   -- ---- a step from a type
 
-  module _ (t : TypeTree) (p : ℕ) (step : Step) (spot : ValuePlace) where
+  module _ (t : TypeTree) (p : ℕ) (step : PathStep) (spot : ValuePlace) where
     pub leads_by : (u : TypeTree) → t ≡ u → Leads bytes at u p step spot → Leads bytes at t p step spot
     leads_by u is h = subst (λ (x : TypeTree). Leads bytes at x p step spot) (sym is) h
 
 -- A path grows by a step.
 
-pub text_more : (steps : List Step) (step : Step) → path_text steps ++ step_text step ≡ path_text (steps ++ step ∷ [])
+pub text_more : (steps : List PathStep) (step : PathStep) → path_text steps ++ step_text step ≡ path_text (steps ++ step ∷ [])
 text_more steps step = sym (flat_map-append step_text steps (step ∷ []) ∙ ap (λ s. path_text steps ++ s) (append-nil (step_text step)))
 
 module _ (bytes : List ℕ) (at : ℕ) (t : TypeTree) (p : ℕ) where
   -- steps that lead from a value to one in it, from which others go on
-  abbrev pub GoesOn : (steps : List Step) → TypeTree → ℕ → Type 0
-  GoesOn steps u q = (more : List Step) → IsPath bytes at u q more → IsPath bytes at t p (steps ++ more)
+  abbrev pub GoesOn : (steps : List PathStep) → TypeTree → ℕ → Type 0
+  GoesOn steps u q = (more : List PathStep) → IsPath bytes at u q more → IsPath bytes at t p (steps ++ more)
 
-  pub goes_on : (steps : List Step) (u : TypeTree) (q : ℕ) (step : Step) (v : TypeTree) (r : ℕ) → GoesOn steps u q → Enters bytes at u q step v r → GoesOn (steps ++ step ∷ []) v r
-  goes_on steps u q step v r h enters = λ more path. subst (λ (s : List Step). IsPath bytes at t p s) (sym (append_assoc steps (step ∷ []) more)) (h (step ∷ more) (v, r, enters, path))
+  pub goes_on : (steps : List PathStep) (u : TypeTree) (q : ℕ) (step : PathStep) (v : TypeTree) (r : ℕ) → GoesOn steps u q
+      → Enters bytes at u q step v r → GoesOn (steps ++ step ∷ []) v r
+  goes_on steps u q step v r h enters = λ more path. subst (λ (s : List PathStep). IsPath bytes at t p s)
+      (sym (append_assoc steps (step ∷ []) more)) (h (step ∷ more) (v, r, enters, path))
 
-  pub ends_there : (steps : List Step) (u : TypeTree) (q : ℕ) → GoesOn steps u q → IsPath bytes at t p steps
-  ends_there steps u q h = subst (λ (s : List Step). IsPath bytes at t p s) (append-nil steps) (h [] tt)
+  pub ends_there : (steps : List PathStep) (u : TypeTree) (q : ℕ) → GoesOn steps u q → IsPath bytes at t p steps
+  ends_there steps u q h = subst (λ (s : List PathStep). IsPath bytes at t p s) (append-nil steps) (h [] tt)

@@ -1,5 +1,6 @@
 -- What is told of a fault are three lines.
-use Rattle.std.proofs.Common.{◌≡◌, ℕ, ◌-◌, List, [], ◌∷◌, ◌++◌, ◌||◌, ◌&&◌, nat_eq, nat_lt, take, drop, codes, decimal, refl, sym, ap, ◌∙◌, append_assoc, append-nil, false, ◌≤◌, ◌<◌, ◌+◌, length, get_or, min, ap₂, subst, arith}
+use Rattle.std.proofs.Common.{◌≡◌, ℕ, ◌-◌, List, [], ◌∷◌, ◌++◌, ◌||◌, ◌&&◌, nat_eq, nat_lt, take, drop, codes, decimal, refl, sym, ap, ◌∙◌}
+use Rattle.std.proofs.Common.{append_assoc, append-nil, false, ◌≤◌, ◌<◌, ◌+◌, length, get_or, min, ap₂, subst, arith}
 use Rattle.std.specs.List.{All, flat_map}
 use Rattle.std.proofs.lemmas.List.Elements.{All-nil, All-cons}
 use Rattle.std.proofs.Math.Nat.{min_comm}
@@ -12,11 +13,13 @@ use Rattle.dbus_show.specs.ShownValues.{quoted}
 use Rattle.dbus_show.proofs.LineFeeds.{IsOneLine, line_literal, line_append, line_either, line_flat, line_decimal, line_hex, line_quoted}
 use Rattle.dbus_value_model.specs.declared.fault.Reason.TheVariants.{FieldMissing}
 use Rattle.dbus_show.proofs.FieldTexts.{then}
-use Rattle.dbus_explain.specs.Explained.{bytes_line, place_line, rule_line, blank_of, mark_line, quoted_line, AreLines, byte_text, marked, window}
-use Rattle.dbus_explain.specs.Names.{IsFieldName, in_field, behind_fields, IsValueName, in_value, behind_values, IsNameOf, first, missing, field, padding, value, code_name, first_part, path_text, step_text, is_missing}
+use Rattle.dbus_explain.specs.Explained.{bytes_line, place_line, rule_line, blank_of, mark_line, quoted_line, AreLines, byte_text, marked}
+use Rattle.dbus_explain.specs.Explained.{window}
+use Rattle.dbus_explain.specs.Names.{IsFieldName, in_field, behind_fields, IsValueName, in_value, behind_values, IsNameOf, first, missing}
+use Rattle.dbus_explain.specs.Names.{field, padding, value, code_name, first_part, path_text, step_text, is_missing}
 use Rattle.dbus_explain.specs.declared.message.Refused.{Refused}
-use Rattle.dbus_explain.specs.declared.path.Step.{Step}
-use Rattle.dbus_explain.specs.declared.path.Step.TheVariants.{Number, Key, Value, Variant}
+use Rattle.dbus_explain.specs.declared.path.PathStep.{PathStep}
+use Rattle.dbus_explain.specs.declared.path.PathStep.TheVariants.{Number, Key, Value, Variant}
 
 -- ---- names
 
@@ -26,13 +29,14 @@ literal t h = line_literal t h
 after_literal : (t s : List ℕ) → line_feeds t ≡ 0 → IsOneLine s → IsOneLine (t ++ s)
 after_literal t s h k = line_append t s (literal t h) k
 
-line_step : (step : Step) → IsOneLine (step_text step)
-line_step (Number n) = after_literal (codes "[") (decimal n ++ codes "]") refl (line_append (decimal n) (codes "]") (line_decimal n) (literal (codes "]") refl))
+line_step : (step : PathStep) → IsOneLine (step_text step)
+line_step (Number n) = after_literal (codes "[") (decimal n ++ codes "]") refl
+    (line_append (decimal n) (codes "]") (line_decimal n) (literal (codes "]") refl))
 line_step Key = literal (codes ".key") refl
 line_step Value = literal (codes ".value") refl
 line_step Variant = literal (codes ".variant") refl
 
-line_path : (steps : List Step) → IsOneLine (path_text steps)
+line_path : (steps : List PathStep) → IsOneLine (path_text steps)
 line_path [] = literal [] refl
 line_path (step ∷ steps) = line_append (step_text step) (path_text steps) (line_step step) (line_path steps)
 
@@ -40,18 +44,23 @@ line_field_name : (code : ℕ) → IsOneLine (field_name code)
 line_field_name code =
     line_either (nat_eq code 1) _ _ (literal (codes "path") refl) (line_either (nat_eq code 2) _ _ (literal (codes "interface") refl)
     (line_either (nat_eq code 3) _ _ (literal (codes "member") refl) (line_either (nat_eq code 4) _ _ (literal (codes "error_name") refl)
-    (line_either (nat_eq code 5) _ _ (literal (codes "reply_serial") refl) (line_either (nat_eq code 6) _ _ (literal (codes "destination") refl)
+    (line_either (nat_eq code 5) _ _ (literal (codes "reply_serial") refl)
+    (line_either (nat_eq code 6) _ _ (literal (codes "destination") refl)
     (line_either (nat_eq code 7) _ _ (literal (codes "sender") refl) (line_either (nat_eq code 8) _ _ (literal (codes "signature") refl)
-    (line_either (nat_eq code 9) _ _ (literal (codes "unix_fds") refl) (after_literal (codes "field") (decimal code) refl (line_decimal code))))))))))
+    (line_either (nat_eq code 9) _ _ (literal (codes "unix_fds") refl)
+    (after_literal (codes "field") (decimal code) refl (line_decimal code))))))))))
 
 line_code : (code : ℕ) → IsOneLine (code_name code)
 line_code code = line_either (nat_lt 0 code && nat_lt code 10) (field_name code) (decimal code) (line_field_name code) (line_decimal code)
 
 line_first : (at : ℕ) → IsOneLine (first_part at)
 line_first at =
-    line_either (nat_eq at 0) _ _ (literal (codes "the byte order") refl) (line_either (nat_eq at 1) _ _ (literal (codes "the message type") refl)
-    (line_either (nat_eq at 2) _ _ (literal (codes "the flags") refl) (line_either (nat_eq at 3) _ _ (literal (codes "the protocol version") refl)
-    (line_either (nat_lt at 8) _ _ (literal (codes "the length of the body") refl) (line_either (nat_lt at 12) _ _ (literal (codes "the serial") refl)
+    line_either (nat_eq at 0) _ _ (literal (codes "the byte order") refl)
+    (line_either (nat_eq at 1) _ _ (literal (codes "the message type") refl)
+    (line_either (nat_eq at 2) _ _ (literal (codes "the flags") refl)
+    (line_either (nat_eq at 3) _ _ (literal (codes "the protocol version") refl)
+    (line_either (nat_lt at 8) _ _ (literal (codes "the length of the body") refl)
+    (line_either (nat_lt at 12) _ _ (literal (codes "the serial") refl)
     (literal (codes "the length of the header fields") refl))))))
 
 line_in_fields : (bytes : List ℕ) (at : ℕ) (name : List ℕ) → IsFieldName bytes at name → IsOneLine name
@@ -59,7 +68,8 @@ line_in_fields bytes at name (in_field code is) = after_literal (codes "header f
 line_in_fields bytes at name behind_fields = literal (codes "the header fields") refl
 
 line_in_body : (bytes : List ℕ) (at : ℕ) (name : List ℕ) → IsValueName bytes at name → IsOneLine name
-line_in_body bytes at name (in_value ts number t p steps types among path) = after_literal (codes "body") (path_text (Number number ∷ steps)) refl (line_path (Number number ∷ steps))
+line_in_body bytes at name (in_value ts number t p steps types among path) =
+    after_literal (codes "body") (path_text (Number number ∷ steps)) refl (line_path (Number number ∷ steps))
 line_in_body bytes at name behind_values = literal (codes "the end of the body") refl
 
 line_name : (bytes : List ℕ) (reason : Reason) (at : ℕ) (name : List ℕ) → IsNameOf bytes reason at name → IsOneLine name
@@ -75,7 +85,8 @@ line_bytes : (bytes : List ℕ) (at : ℕ) → IsOneLine (bytes_line bytes at)
 line_bytes bytes at =
     let before = drop (at - 8) (take at bytes) in
     let from = take 8 (drop at bytes) in
-    after_literal (codes " ") (window bytes at) refl (line_append (flat_map byte_text before) (marked from) (line_texts before) (line_marked from))
+    after_literal (codes " ") (window bytes at) refl (line_append (flat_map byte_text before) (marked from) (line_texts before)
+    (line_marked from))
   where
     line_byte : (b : ℕ) → IsOneLine (byte_text b)
     line_byte b = after_literal (codes " ") (encode_lower (b ∷ [])) refl (line_hex (b ∷ []))
@@ -87,47 +98,59 @@ line_bytes bytes at =
     line_marked [] = literal (codes " []") refl
     line_marked (b ∷ bs) =
         after_literal (codes " [") (encode_lower (b ∷ []) ++ (codes "]" ++ flat_map byte_text bs)) refl
-        (line_append (encode_lower (b ∷ [])) (codes "]" ++ flat_map byte_text bs) (line_hex (b ∷ [])) (after_literal (codes "]") (flat_map byte_text bs) refl (line_texts bs)))
+        (line_append (encode_lower (b ∷ [])) (codes "]" ++ flat_map byte_text bs) (line_hex (b ∷ []))
+        (after_literal (codes "]") (flat_map byte_text bs) refl (line_texts bs)))
 
-line_place : (refused : Refused) (bytes : List ℕ) (reason : Reason) (at : ℕ) (name : List ℕ) → IsNameOf bytes reason at name → IsOneLine (place_line refused at name)
+line_place : (refused : Refused) (bytes : List ℕ) (reason : Reason) (at : ℕ) (name : List ℕ) → IsNameOf bytes reason at name
+    → IsOneLine (place_line refused at name)
 line_place refused bytes reason at name is =
     let named = after_literal (codes ": ") name refl (line_name bytes reason at name is) in
     let placed = line_append (decimal at) (codes ": " ++ name) (line_decimal at) named in
     let byte = after_literal (codes ", byte ") (decimal at ++ (codes ": " ++ name)) refl placed in
-    let begun = line_append (decimal refused.offset) (codes ", byte " ++ (decimal at ++ (codes ": " ++ name))) (line_decimal refused.offset) byte in
-    let here = after_literal (codes " at ") (decimal refused.offset ++ (codes ", byte " ++ (decimal at ++ (codes ": " ++ name)))) refl begun in
-    let counted = line_append (decimal refused.number) (codes " at " ++ (decimal refused.offset ++ (codes ", byte " ++ (decimal at ++ (codes ": " ++ name))))) (line_decimal refused.number) here in
-    after_literal (codes "  message ") (decimal refused.number ++ (codes " at " ++ (decimal refused.offset ++ (codes ", byte " ++ (decimal at ++ (codes ": " ++ name)))))) refl counted
+    let begun = line_append (decimal refused.offset) (codes ", byte " ++ (decimal at ++ (codes ": " ++ name))) (line_decimal refused.offset)
+    byte in
+    let here = after_literal (codes " at ") (decimal refused.offset ++ (codes ", byte " ++ (decimal at ++ (codes ": " ++ name)))) refl
+    begun in
+    let counted = line_append (decimal refused.number) (codes " at "
+    ++ (decimal refused.offset ++ (codes ", byte " ++ (decimal at ++ (codes ": " ++ name))))) (line_decimal refused.number) here in
+    after_literal (codes "  message ") (decimal refused.number ++ (codes " at "
+    ++ (decimal refused.offset ++ (codes ", byte " ++ (decimal at ++ (codes ": " ++ name)))))) refl counted
 
 line_rule : (rule : List ℕ) → line_feeds rule ≡ 0 → IsOneLine (rule_line rule)
 line_rule rule h = after_literal (codes "  ") rule refl (literal rule h)
 
 -- ---- three of them
 
-three : (a b c text : List ℕ) → IsOneLine a → IsOneLine b → IsOneLine c → text ≡ (a ++ codes "\n") ++ ((b ++ codes "\n") ++ ((c ++ codes "\n") ++ [])) → AreLines (a ∷ b ∷ c ∷ []) text
+three : (a b c text : List ℕ) → IsOneLine a → IsOneLine b → IsOneLine c
+    → text ≡ (a ++ codes "\n") ++ ((b ++ codes "\n") ++ ((c ++ codes "\n") ++ [])) → AreLines (a ∷ b ∷ c ∷ []) text
 three a b c text ha hb hc is =
     let P : List ℕ → Type 0 = λ line. line_feeds line ≡ 0 in
     record { whole = All-cons P a (b ∷ c ∷ []) ha.none (All-cons P b (c ∷ []) hb.none (All-cons P c [] hc.none (All-nil P))); text_is = is }
 
 -- the ends of two lines come with the beginnings of the next
-message_text : (a b c : List ℕ) → a ++ (codes "\n " ++ (b ++ (codes "\n  " ++ (c ++ codes "\n")))) ≡ (a ++ codes "\n") ++ (((codes " " ++ b) ++ codes "\n") ++ (((codes "  " ++ c) ++ codes "\n") ++ []))
+message_text : (a b c : List ℕ) → a ++ (codes "\n " ++ (b ++ (codes "\n  " ++ (c ++ codes "\n")))) ≡ (a ++ codes "\n")
+    ++ (((codes " " ++ b) ++ codes "\n") ++ (((codes "  " ++ c) ++ codes "\n") ++ []))
 message_text a b c =
     let nl = codes "\n" in
     let last = (codes "  " ++ c) ++ nl in
     sym (append_assoc a nl (((codes " " ++ b) ++ nl) ++ (last ++ []))
     ∙ ap (λ s. a ++ (nl ++ (codes " " ++ s))) (append_assoc b nl (last ++ []) ∙ ap (λ s. b ++ (nl ++ s)) (append-nil last)))
 
-rule_text : (a b c : List ℕ) → codes "  " ++ (a ++ (codes "\n" ++ (b ++ (codes "\n  " ++ (c ++ codes "\n"))))) ≡ ((codes "  " ++ a) ++ codes "\n") ++ ((b ++ codes "\n") ++ (((codes "  " ++ c) ++ codes "\n") ++ []))
+rule_text : (a b c : List ℕ) → codes "  " ++ (a ++ (codes "\n" ++ (b ++ (codes "\n  " ++ (c ++ codes "\n"))))) ≡ ((codes "  " ++ a)
+    ++ codes "\n") ++ ((b ++ codes "\n") ++ (((codes "  " ++ c) ++ codes "\n") ++ []))
 rule_text a b c =
     let nl = codes "\n" in
     let last = (codes "  " ++ c) ++ nl in
     sym (ap (λ s. codes "  " ++ s) (append_assoc a nl ((b ++ nl) ++ (last ++ []))
     ∙ ap (λ s. a ++ (nl ++ s)) (append_assoc b nl (last ++ []) ∙ ap (λ s. b ++ (nl ++ s)) (append-nil last))))
 
-pub message_lines : (refused : Refused) (bytes : List ℕ) (reason : Reason) (at : ℕ) (name rule : List ℕ) → IsNameOf bytes reason at name → line_feeds rule ≡ 0
-    → AreLines (place_line refused at name ∷ bytes_line bytes at ∷ rule_line rule ∷ []) (place_line refused at name ++ (codes "\n " ++ (window bytes at ++ (codes "\n  " ++ (rule ++ codes "\n")))))
+pub message_lines : (refused : Refused) (bytes : List ℕ) (reason : Reason) (at : ℕ) (name rule : List ℕ) → IsNameOf bytes reason at name
+    → line_feeds rule ≡ 0
+    → AreLines (place_line refused at name ∷ bytes_line bytes at ∷ rule_line rule ∷ [])
+    (place_line refused at name ++ (codes "\n " ++ (window bytes at ++ (codes "\n  " ++ (rule ++ codes "\n")))))
 message_lines refused bytes reason at name rule is one =
-    three (place_line refused at name) (bytes_line bytes at) (rule_line rule) _ (line_place refused bytes reason at name is) (line_bytes bytes at) (line_rule rule one) (message_text (place_line refused at name) (window bytes at) rule)
+    three (place_line refused at name) (bytes_line bytes at) (rule_line rule) _ (line_place refused bytes reason at name is)
+    (line_bytes bytes at) (line_rule rule one) (message_text (place_line refused at name) (window bytes at) rule)
 
 line_mark : (text : List ℕ) (at : ℕ) → IsOneLine (mark_line text at)
 line_mark text at =
@@ -136,13 +159,17 @@ line_mark text at =
   where
     line_blank : (b : ℕ) → IsOneLine (blank_of b)
     line_blank b =
-        line_either (nat_eq b 34 || nat_eq b 92) _ _ (literal (codes "  ") refl) (line_either (nat_lt b 32 || nat_eq b 127) _ _ (literal (codes "    ") refl)
+        line_either (nat_eq b 34 || nat_eq b 92) _ _ (literal (codes "  ") refl)
+        (line_either (nat_lt b 32 || nat_eq b 127) _ _ (literal (codes "    ") refl)
         (line_either (nat_lt 127 b && nat_lt b 192) [] (codes " ") (literal [] refl) (literal (codes " ") refl)))
 
 pub rule_lines : (text : List ℕ) (at : ℕ) (allowed : List ℕ) → line_feeds allowed ≡ 0
-    → AreLines (quoted_line text ∷ mark_line text at ∷ rule_line allowed ∷ []) (codes "  " ++ (quoted text ++ (codes "\n" ++ (mark_line text at ++ (codes "\n  " ++ (allowed ++ codes "\n"))))))
+    → AreLines (quoted_line text ∷ mark_line text at ∷ rule_line allowed ∷ [])
+    (codes "  " ++ (quoted text ++ (codes "\n" ++ (mark_line text at ++ (codes "\n  " ++ (allowed ++ codes "\n"))))))
 rule_lines text at allowed one =
-    three (quoted_line text) (mark_line text at) (rule_line allowed) _ (after_literal (codes "  ") (quoted text) refl (line_quoted (codes "\\x") (literal (codes "\\x") refl) text)) (line_mark text at) (line_rule allowed one)
+    three (quoted_line text) (mark_line text at) (rule_line allowed) _
+    (after_literal (codes "  ") (quoted text) refl (line_quoted (codes "\\x") (literal (codes "\\x") refl) text)) (line_mark text at)
+    (line_rule allowed one)
     (rule_text (quoted text) (mark_line text at) allowed)
 
 -- Reasons that are no missing field.
@@ -157,8 +184,10 @@ other_reason r h = refl
 one_last : (text : ℕ → List ℕ) (bs : List ℕ) (b : ℕ) → flat_map text (bs ++ b ∷ []) ≡ flat_map text bs ++ text b
 one_last text bs b = flat_map-append text bs (b ∷ []) ∙ ap (λ s. flat_map text bs ++ s) (append-nil (text b))
 
-module _ {D : Type 0} (gains : D → List ℕ → D → Type 0) (joins : (a b c : D) (s t : List ℕ) → gains a s b → gains b t c → gains a (s ++ t) c) where
-  pub one_more_byte : {a b c : D} (text : ℕ → List ℕ) (bs : List ℕ) (i : ℕ) → i < length bs → gains a (flat_map text (take i bs)) b → gains b (text (get_or bs i 0)) c
+module _ {D : Type 0} (gains : D → List ℕ → D → Type 0) (joins : (a b c : D) (s t : List ℕ) → gains a s b → gains b t c
+    → gains a (s ++ t) c) where
+  pub one_more_byte : {a b c : D} (text : ℕ → List ℕ) (bs : List ℕ) (i : ℕ) → i < length bs → gains a (flat_map text (take i bs)) b
+      → gains b (text (get_or bs i 0)) c
       → gains a (flat_map text (take (i + 1) bs)) c
   one_more_byte {a} {b} {c} text bs i h p q =
       let more = ap (flat_map text) (take_more bs i 0 h) ∙ one_last text (take i bs) (get_or bs i 0) in
@@ -168,14 +197,17 @@ module _ {D : Type 0} (gains : D → List ℕ → D → Type 0) (joins : (a b c 
 pub marked_some : (bs : List ℕ) → 1 ≤ length bs
     → codes " [" ++ (encode_lower (get_or bs 0 0 ∷ []) ++ (codes "]" ++ flat_map byte_text (take (length bs - 1) (drop 1 bs)))) ≡ marked bs
 marked_some [] h = absurd (omega (arith, h))
-marked_some (b ∷ bs) h = ap (λ after. codes " [" ++ (encode_lower (b ∷ []) ++ (codes "]" ++ flat_map byte_text after))) (take_rest (b ∷ bs) 1)
+marked_some (b ∷ bs) h = ap (λ after. codes " [" ++ (encode_lower (b ∷ []) ++ (codes "]" ++ flat_map byte_text after)))
+    (take_rest (b ∷ bs) 1)
 
 -- the last bytes before a place, and the first from there on
-pub window_is : (bytes front back : List ℕ) (at start n : ℕ) → front ≡ take at bytes → back ≡ drop at bytes → start ≡ at - 8 → n ≡ min (length back) 8
+pub window_is : (bytes front back : List ℕ) (at start n : ℕ) → front ≡ take at bytes → back ≡ drop at bytes → start ≡ at - 8
+    → n ≡ min (length back) 8
     → flat_map byte_text (take (length front - start) (drop start front)) ++ marked (take n back) ≡ window bytes at
 window_is bytes front back at start n f b s e =
     let before : take (length front - start) (drop start front) ≡ drop (at - 8) (take at bytes) = take_rest front start ∙ ap₂ drop s f in
-    let from : take n back ≡ take 8 (drop at bytes) = ap (λ k. take k back) (e ∙ min_comm (length back) 8) ∙ (take_min 8 back ∙ ap (take 8) b) in
+    let from : take n back ≡ take 8 (drop at bytes) = ap (λ k. take k back) (e ∙ min_comm (length back) 8)
+    ∙ (take_min 8 back ∙ ap (take 8) b) in
     ap₂ (λ x y. flat_map byte_text x ++ marked y) before from
 
 -- a place past a text's end is marked as the end is

@@ -7,20 +7,20 @@ use Rattle.dbus_value_model.specs.declared.fault.Reason.TheVariants.{FieldMissin
 use Rattle.dbus_show.specs.ShownMessages.{field_name}
 use Rattle.dbus_texts.specs.Types.{TypeTree, TypeTrees}
 use Rattle.dbus_explain.specs.Places.{AreBodyTypes, IsAmong, IsInField, IsPath, body_begin, fields_end}
-use Rattle.dbus_explain.specs.declared.path.Step.{Step}
-use Rattle.dbus_explain.specs.declared.path.Step.TheVariants.{Number, Key, Value, Variant}
+use Rattle.dbus_explain.specs.declared.path.PathStep.{PathStep}
+use Rattle.dbus_explain.specs.declared.path.PathStep.TheVariants.{Number, Key, Value, Variant}
 
 -- ---- paths
 
 -- a step from a value to one in it: to the element or the member of a number, counted from 0, to
 -- the key or the value of a dict entry, or to the value of a variant
-abbrev pub step_text : Step → List ℕ
+abbrev pub step_text : PathStep → List ℕ
 step_text (Number n) = codes "[" ++ (decimal n ++ codes "]")
 step_text Key = codes ".key"
 step_text Value = codes ".value"
 step_text Variant = codes ".variant"
 
-abbrev pub path_text : List Step → List ℕ
+abbrev pub path_text : List PathStep → List ℕ
 path_text steps = flat_map step_text steps
 
 -- ---- the parts of a message
@@ -49,7 +49,8 @@ pub data IsFieldName (bytes : List ℕ) (at : ℕ) : List ℕ → Type 0 where
 -- the name of a place in the body: the path to the value that it is in, by its number among the
 -- values of the body and the steps from there on; or behind the values
 pub data IsValueName (bytes : List ℕ) (at : ℕ) : List ℕ → Type 0 where
-  in_value : (ts : TypeTrees) (number : ℕ) (t : TypeTree) (p : ℕ) (steps : List Step) → AreBodyTypes bytes at ts → IsAmong bytes at ts (body_begin bytes) number t p
+  in_value : (ts : TypeTrees) (number : ℕ) (t : TypeTree) (p : ℕ) (steps : List PathStep) → AreBodyTypes bytes at ts
+      → IsAmong bytes at ts (body_begin bytes) number t p
       → IsPath bytes at t p steps → IsValueName bytes at (codes "body" ++ path_text (Number number ∷ steps))
   behind_values : IsValueName bytes at (codes "the end of the body")
 
@@ -57,7 +58,9 @@ pub data IsValueName (bytes : List ℕ) (at : ℕ) : List ℕ → Type 0 where
 pub data IsNameOf (bytes : List ℕ) (reason : Reason) (at : ℕ) : List ℕ → Type 0 where
   first : at < 16 → IsNameOf bytes reason at (first_part at)
   missing : 16 ≤ at → is_missing reason ≡ true → IsNameOf bytes reason at (codes "the end of the header fields")
-  field : (name : List ℕ) → 16 ≤ at → is_missing reason ≡ false → at < fields_end bytes → IsFieldName bytes at name → IsNameOf bytes reason at name
+  field : (name : List ℕ) → 16 ≤ at → is_missing reason ≡ false → at < fields_end bytes → IsFieldName bytes at name
+      → IsNameOf bytes reason at name
   padding : 16 ≤ at → is_missing reason ≡ false → fields_end bytes ≤ at → at < body_begin bytes
       → IsNameOf bytes reason at (codes "the padding after the header fields")
-  value : (name : List ℕ) → 16 ≤ at → is_missing reason ≡ false → body_begin bytes ≤ at → IsValueName bytes at name → IsNameOf bytes reason at name
+  value : (name : List ℕ) → 16 ≤ at → is_missing reason ≡ false → body_begin bytes ≤ at → IsValueName bytes at name
+      → IsNameOf bytes reason at name

@@ -1,7 +1,8 @@
 -- In which value of a message a place is, by the values before it.
 -- D-Bus Specification, "Marshaling (Wire Format)", "Header Fields".
 use Rattle.std.specs.Prelude.{◌≡◌, ℕ, zero, suc, ◌+◌, ◌<◌, ◌≤◌, List, [], ◌∷◌, length, nat_eq, if◌then◌else◌, slice_index, take, drop, true}
-use Rattle.dbus_texts.specs.Types.{TypeTree, TypeTrees, BYTE, NumberType, VariantType, ArrayType, StructType, EntryType, NoTypes, MoreTypes, sig, sigs, IsShaped}
+use Rattle.dbus_texts.specs.Types.{TypeTree, TypeTrees, BYTE, NumberType, VariantType, ArrayType, StructType, EntryType, NoTypes, MoreTypes}
+use Rattle.dbus_texts.specs.Types.{sig, sigs, IsShaped}
 use Rattle.dbus_texts.specs.declared.text_kind.TextKind.{TextKind}
 use Rattle.dbus_texts.specs.declared.text_kind.TextKind.TheVariants.{Signature, Single}
 use Rattle.dbus_types.specs.Alignments.{alignment_of}
@@ -14,8 +15,8 @@ use Rattle.dbus_value_model.specs.declared.limits.TheConstants.{DEPTH_LIMIT}
 use Rattle.dbus_value_model.specs.declared.order.Order.{Order}
 use Rattle.dbus_value_model.specs.declared.order.Order.TheVariants.{Little, Big}
 use Rattle.dbus_value_validator.specs.Endings.{EndedText, IsNotSpelled, IsSpelledTo}
-use Rattle.dbus_explain.specs.declared.path.Step.{Step}
-use Rattle.dbus_explain.specs.declared.path.Step.TheVariants.{Number, Key, Value, Variant}
+use Rattle.dbus_explain.specs.declared.path.PathStep.{PathStep}
+use Rattle.dbus_explain.specs.declared.path.PathStep.TheVariants.{Number, Key, Value, Variant}
 use Rattle.dbus_explain.specs.declared.search.ValuePlace.{ValuePlace}
 
 -- the order of the bytes, of which the first is l or B, 66
@@ -68,7 +69,7 @@ module _ (bytes : List ℕ) (at : ℕ) where
 
   -- the place is in a value of type t at p, and in it in the value of type u at q, to which the
   -- step leads
-  abbrev pub Enters : TypeTree → (p : ℕ) → Step → (u : TypeTree) → (q : ℕ) → Type 0
+  abbrev pub Enters : TypeTree → (p : ℕ) → PathStep → (u : TypeTree) → (q : ℕ) → Type 0
   Enters (ArrayType t) p (Number n) u q = (u ≡ t) × Pass t n (first_element t p) q × IsIn t q
   Enters (StructType ts) p (Number n) u q = IsAmong ts (p + gap_to 8 p) n u q
   Enters (EntryType k v) p Key u q = IsAmong (MoreTypes k (MoreTypes v NoTypes)) (p + gap_to 8 p) 0 u q
@@ -77,7 +78,7 @@ module _ (bytes : List ℕ) (at : ℕ) where
   Enters t p step u q = ⊥
 
   -- the steps from a value to the one in it that the place is in
-  abbrev pub IsPath : TypeTree → (p : ℕ) → List Step → Type 0
+  abbrev pub IsPath : TypeTree → (p : ℕ) → List PathStep → Type 0
   IsPath t p [] = Unit {0}
   IsPath t p (step ∷ steps) = (u : TypeTree) × (q : ℕ) × Enters t p step u q × IsPath u q steps
 
@@ -110,5 +111,5 @@ module _ (bytes : List ℕ) (at : ℕ) where
 -- Where a search goes in a value.
 
 -- from a value of the type at p to the value in it that the place is in
-abbrev pub Leads : (bytes : List ℕ) (at : ℕ) → TypeTree → (p : ℕ) → Step → ValuePlace → Type 0
+abbrev pub Leads : (bytes : List ℕ) (at : ℕ) → TypeTree → (p : ℕ) → PathStep → ValuePlace → Type 0
 Leads bytes at t p step spot = (u : TypeTree) × (sig u ≡ spot.types.now) × IsShaped true u × Enters bytes at t p step u spot.place

@@ -2,13 +2,13 @@
 #![tactic(auto)]
 
 ghost use Rattle.dbus_explain.specs.Names.{step_text};
-ghost use Rattle.dbus_explain.specs.declared.path.Step.TheVariants.{Number};
+ghost use Rattle.dbus_explain.specs.declared.path.PathStep.TheVariants.{Number};
 
 use dbus_show::{Draft, write_integer};
 
 /// A step of a path, from a value to one in it.
 #[derive(Clone, Copy)]
-pub(crate) enum Step {
+pub(crate) enum PathStep {
     /// To the element of an array or the value of a struct that has this number, from 0.
     Number(usize),
     /// To the key of a dict entry.
@@ -20,14 +20,14 @@ pub(crate) enum Step {
 }
 
 /// Appends a step.
-pub(crate) fn write_step<D: Draft>(draft: &mut D, step: Step)
+pub(crate) fn write_step<D: Draft>(draft: &mut D, step: PathStep)
     ensures { D.gains draft.old (step_text step) draft.new }
 {
     match step {
-        Step::Number(number) => write_number(draft, number),
-        Step::Key => draft.push_str(".key"),
-        Step::Value => draft.push_str(".value"),
-        Step::Variant => draft.push_str(".variant"),
+        PathStep::Number(number) => write_number(draft, number),
+        PathStep::Key => draft.push_str(".key"),
+        PathStep::Value => draft.push_str(".value"),
+        PathStep::Variant => draft.push_str(".variant"),
     }
 }
 

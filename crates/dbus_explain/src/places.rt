@@ -3,11 +3,13 @@
 
 ghost use Rattle.std.specs.Prelude.{◌≡◌, ◌<◌, ◌≤◌, ℕ, List, IfSome, length, true};
 ghost use Rattle.dbus_texts.specs.Types.{TypeTree, TypeTrees, IsShaped, AreShaped, sig, sigs};
-ghost use Rattle.dbus_explain.specs.Names.{IsFieldName, IsNameOf, IsValueName, code_name, first_part, path_text};
-ghost use Rattle.dbus_explain.specs.Places.{AreBodyTypes, IsAmong, IsInField, IsPath, IsSignatureField, body_begin, order_of};
-ghost use Rattle.dbus_explain.specs.declared.path.Step.{Step as StepTo};
+ghost use Rattle.dbus_explain.specs.Names.{IsFieldName, IsNameOf, IsValueName, code_name};
+ghost use Rattle.dbus_explain.specs.Names.{first_part, path_text};
+ghost use Rattle.dbus_explain.specs.Places.{AreBodyTypes, IsAmong, IsInField, IsPath};
+ghost use Rattle.dbus_explain.specs.Places.{IsSignatureField, body_begin, order_of};
+ghost use Rattle.dbus_explain.specs.declared.path.PathStep.{PathStep as StepTo};
 
-use crate::path::{Step, write_step};
+use crate::path::{PathStep, write_step};
 use crate::search::{Search, ValuePlace};
 use dbus_show::{Draft, write_field_name, write_integer};
 use dbus_types::TextKind;
@@ -28,7 +30,8 @@ const MOST_ENTERED: usize = 128;
 /// Appends the name of the place at which the message is at fault.
 pub(crate) fn write_name<D: Draft>(draft: &mut D, bytes: &[u8], reason: Reason, at: usize)
     requires { at ≤ length bytes.now }
-    ensures { (name : List ℕ) × IsNameOf bytes.now reason at name × D.gains draft.old name draft.new }
+    ensures { (name : List ℕ) × IsNameOf bytes.now reason at name ×
+        D.gains draft.old name draft.new }
 {
     if at < FIELDS {
         draft.push_str(first_part(at));
@@ -77,7 +80,8 @@ fn first_part(at: usize) -> &'static str
 // Appends the name of the header field in which the fault is.
 fn write_field<D: Draft>(draft: &mut D, search: &Search)
     requires { 16 ≤ search.now.at }
-    ensures { (name : List ℕ) × IsFieldName search.now.bytes.now search.now.at name × D.gains draft.old name draft.new }
+    ensures { (name : List ℕ) × IsFieldName search.now.bytes.now search.now.at name ×
+        D.gains draft.old name draft.new }
 {
     match field_code(search) {
         Some(code) => {
@@ -120,12 +124,13 @@ fn write_value<D: Draft>(draft: &mut D, search: &Search, body: usize)
     requires begin { body ≡ body_begin search.now.bytes.now }
     requires within { body ≤ search.now.at }
     requires fields { 16 ≤ search.now.at }
-    ensures { (name : List ℕ) × IsValueName search.now.bytes.now search.now.at name × D.gains draft.old name draft.new }
+    ensures { (name : List ℕ) × IsValueName search.now.bytes.now search.now.at name ×
+        D.gains draft.old name draft.new }
 {
     match body_value(search, body) {
         Some((number, value)) => {
             draft.push_str("body");
-            write_step(draft, Step::Number(number));
+            write_step(draft, PathStep::Number(number));
             write_steps(draft, search, value);
         }
         None => draft.push_str("the end of the body"),
@@ -136,7 +141,8 @@ fn write_value<D: Draft>(draft: &mut D, search: &Search, body: usize)
 fn body_value<'a>(search: &Search<'a>, body: usize) -> Option<(usize, ValuePlace<'a>)>
     requires within { body ≤ search.now.at }
     requires fields { 16 ≤ search.now.at }
-    ensures { IfSome result (λ r. (ts : TypeTrees) × (t : TypeTree) × AreBodyTypes search.now.bytes.now search.now.at ts ×
+    ensures { IfSome result (λ r. (ts : TypeTrees) × (t : TypeTree) ×
+        AreBodyTypes search.now.bytes.now search.now.at ts ×
         (sig t ≡ r.1.types.now) × IsShaped true t ×
         IsAmong search.now.bytes.now search.now.at ts body r.0 t r.1.place) }
 {
@@ -146,7 +152,8 @@ fn body_value<'a>(search: &Search<'a>, body: usize) -> Option<(usize, ValuePlace
 
 // Appends the steps from a value to the one in it in which the fault is.
 fn write_steps<'a, D: Draft>(draft: &mut D, search: &Search<'a>, value: ValuePlace<'a>)
-    ensures { (steps : List StepTo) × D.gains draft.old (path_text steps) draft.new × ((t : TypeTree) →
+    ensures { (steps : List StepTo) × D.gains draft.old (path_text steps) draft.new ×
+        ((t : TypeTree) →
         sig t ≡ value.entry.types.now → IsShaped true t →
         IsPath search.now.bytes.now search.now.at t value.entry.place steps) }
 {
@@ -181,7 +188,8 @@ fn body_types<'a>(search: &Search<'a>) -> Option<&'a [u8]>
 
 // The signature in a header field at this place, if that is a SIGNATURE field.
 fn signature_field<'a>(search: &Search<'a>, place: usize) -> Option<&'a [u8]>
-    ensures { IfSome result (λ types. IsSignatureField search.now.bytes.now search.now.at place types.now) }
+    ensures { IfSome result (λ types. IsSignatureField search.now.bytes.now search.now.at place
+        types.now) }
 {
     let code = search.aligned(place, b'(')?;
     if code >= search.bytes.len() || search.bytes[code] != SIGNATURE {

@@ -3,13 +3,15 @@
 #![tactic(auto)]
 
 ghost use Rattle.std.specs.Prelude.{◌≡◌, ℕ, ◌+◌, ◌≤◌, None, IfSome, length, true};
-ghost use Rattle.dbus_texts.specs.Types.{TypeTree, TypeTrees, VariantType, ArrayType, StructType, EntryType, NoTypes, MoreTypes, IsShaped, AreShaped, sig, sigs};
+ghost use Rattle.dbus_texts.specs.Types.{TypeTree, TypeTrees, VariantType, ArrayType, StructType};
+ghost use Rattle.dbus_texts.specs.Types.{EntryType, NoTypes, MoreTypes, IsShaped, AreShaped, sig};
+ghost use Rattle.dbus_texts.specs.Types.{sigs};
 ghost use Rattle.dbus_types.specs.Alignments.{alignment_of};
 ghost use Rattle.dbus_types.specs.SignatureCodes.{first_code};
 ghost use Rattle.dbus_value_model.specs.Bytes.{gap_to};
 ghost use Rattle.dbus_explain.specs.Places.{IsAmong, IsIn, IsTyped, Pass, Passes, order_of, Leads};
 
-use crate::path::Step;
+use crate::path::PathStep;
 use dbus_types::{TextKind, boundary, type_end};
 use dbus_value_model::{DEPTH_LIMIT, Limits, Order, gap};
 use dbus_value_validator::{short_text, validate_value};
@@ -57,9 +59,11 @@ impl<'a> Search<'a> {
     /// The place after a value of the type, if it is valid and ends at or before the fault.
     pub(crate) fn passed(&self, spot: ValuePlace<'a>) -> Option<usize>
         requires { spot.place ≤ self.now.at }
-        ensures some { IfSome result (λ after. (t : TypeTree) → sig t ≡ spot.entry.types.now → IsShaped true t →
+        ensures some { IfSome result (λ after. (t : TypeTree) → sig t ≡ spot.entry.types.now →
+            IsShaped true t →
             Passes self.now.bytes.now self.now.at t spot.entry.place after) }
-        ensures none { result ≡ None → (t : TypeTree) → sig t ≡ spot.entry.types.now → IsShaped true t →
+        ensures none { result ≡ None → (t : TypeTree) → sig t ≡ spot.entry.types.now →
+            IsShaped true t →
             IsIn self.now.bytes.now self.now.at t spot.entry.place }
         ensures within { IfSome result (λ after. after ≤ self.now.at) }
     {
@@ -80,7 +84,8 @@ impl<'a> Search<'a> {
     pub(crate) fn after_values(&self, first: ValuePlace<'a>) -> Option<(usize, ValuePlace<'a>)>
         requires { first.place ≤ self.now.at }
         ensures types { IfSome result (λ r. r.1.types.now ≡ first.entry.types.now) }
-        ensures passed { IfSome result (λ r. (t : TypeTree) → sig t ≡ first.entry.types.now → IsShaped true t →
+        ensures passed { IfSome result (λ r. (t : TypeTree) → sig t ≡ first.entry.types.now →
+            IsShaped true t →
             Pass self.now.bytes.now self.now.at t r.0 first.entry.place r.1.place ×
             IsIn self.now.bytes.now self.now.at t r.1.place) }
         ensures within { IfSome result (λ r. r.1.place ≤ self.now.at) }
@@ -102,7 +107,8 @@ impl<'a> Search<'a> {
     /// number from 0.
     pub(crate) fn among(&self, values: ValuePlace<'a>) -> Option<(usize, ValuePlace<'a>)>
         requires { values.place ≤ self.now.at }
-        ensures found { IfSome result (λ r. (ts : TypeTrees) → sigs ts ≡ values.entry.types.now → AreShaped ts →
+        ensures found { IfSome result (λ r. (ts : TypeTrees) → sigs ts ≡ values.entry.types.now →
+            AreShaped ts →
             (t : TypeTree) × (sig t ≡ r.1.types.now) × IsShaped true t ×
             IsAmong self.now.bytes.now self.now.at ts values.entry.place r.0 t r.1.place) }
         ensures within { IfSome result (λ r. r.1.place ≤ self.now.at) }
@@ -130,7 +136,8 @@ impl<'a> Search<'a> {
     /// The text of this kind whose length is at the place, and the place after it, if it is valid
     /// and ends at or before the fault.
     pub(crate) fn typed(&self, place: usize, kind: TextKind) -> Option<ValuePlace<'a>>
-        ensures typed { IfSome result (λ spot. IsTyped self.now.bytes.now self.now.at kind place spot.types.now spot.place) }
+        ensures typed { IfSome result (λ spot. IsTyped self.now.bytes.now self.now.at kind place
+            spot.types.now spot.place) }
         ensures within { IfSome result (λ spot. spot.place ≤ self.now.at) }
     {
         if place > self.at {
@@ -145,7 +152,7 @@ impl<'a> Search<'a> {
     }
 
     // The element in which the fault is, of an array of this type whose length is at the place.
-    fn element(&self, types: &'a [u8], place: usize) -> Option<(Step, ValuePlace<'a>)>
+    fn element(&self, types: &'a [u8], place: usize) -> Option<(PathStep, ValuePlace<'a>)>
         ensures leads { IfSome result (λ r. (t : TypeTree) → sig t ≡ types.now → IsShaped true t →
             Leads self.now.bytes.now self.now.at (ArrayType t) place r.0 r.1) }
         ensures within { IfSome result (λ r. r.1.place ≤ self.now.at) }
@@ -159,45 +166,52 @@ impl<'a> Search<'a> {
             types,
             place: first,
         })?;
-        Some((Step::Number(index), element))
+        Some((PathStep::Number(index), element))
     }
 
     // The value in which the fault is, of a struct of these types at the place.
-    fn member(&self, types: &'a [u8], place: usize) -> Option<(Step, ValuePlace<'a>)>
+    fn member(&self, types: &'a [u8], place: usize) -> Option<(PathStep, ValuePlace<'a>)>
         ensures leads { IfSome result (λ r. (ts : TypeTrees) → sigs ts ≡ types.now → AreShaped ts →
             Leads self.now.bytes.now self.now.at (StructType ts) place r.0 r.1) }
         ensures within { IfSome result (λ r. r.1.place ≤ self.now.at) }
     {
         let place = self.aligned(place, b'(')?;
         let (index, spot) = self.among(ValuePlace { types, place })?;
-        Some((Step::Number(index), spot))
+        Some((PathStep::Number(index), spot))
     }
 
     // The half in which the fault is, of a dict entry of these two types at the place.
-    fn half(&self, types: &'a [u8], place: usize) -> Option<(Step, ValuePlace<'a>)>
-        ensures leads { IfSome result (λ r. (k v : TypeTree) → sigs (MoreTypes k (MoreTypes v NoTypes)) ≡ types.now →
+    fn half(&self, types: &'a [u8], place: usize) -> Option<(PathStep, ValuePlace<'a>)>
+        ensures leads { IfSome result (λ r. (k v : TypeTree) →
+            sigs (MoreTypes k (MoreTypes v NoTypes)) ≡ types.now →
             AreShaped (MoreTypes k (MoreTypes v NoTypes)) →
             Leads self.now.bytes.now self.now.at (EntryType k v) place r.0 r.1) }
         ensures within { IfSome result (λ r. r.1.place ≤ self.now.at) }
     {
         let place = self.aligned(place, b'{')?;
         let (index, spot) = self.among(ValuePlace { types, place })?;
-        let step = if index == 0 { Step::Key } else { Step::Value };
+        let step = if index == 0 {
+            PathStep::Key
+        } else {
+            PathStep::Value
+        };
         Some((step, spot))
     }
 
     // The value of a variant whose signature's length is at the place.
-    fn inner(&self, place: usize) -> Option<(Step, ValuePlace<'a>)>
-        ensures leads { IfSome result (λ r. Leads self.now.bytes.now self.now.at VariantType place r.0 r.1) }
+    fn inner(&self, place: usize) -> Option<(PathStep, ValuePlace<'a>)>
+        ensures leads { IfSome result (λ r. Leads self.now.bytes.now self.now.at VariantType place
+            r.0 r.1) }
         ensures within { IfSome result (λ r. r.1.place ≤ self.now.at) }
     {
         let spot = self.typed(place, TextKind::Single)?;
-        Some((Step::Variant, spot))
+        Some((PathStep::Variant, spot))
     }
 
     /// The value inside of this one in which the fault is, and the step to it.
-    pub(crate) fn entered(&self, spot: ValuePlace<'a>) -> Option<(Step, ValuePlace<'a>)>
-        ensures leads { IfSome result (λ r. (t : TypeTree) → sig t ≡ spot.entry.types.now → IsShaped true t →
+    pub(crate) fn entered(&self, spot: ValuePlace<'a>) -> Option<(PathStep, ValuePlace<'a>)>
+        ensures leads { IfSome result (λ r. (t : TypeTree) → sig t ≡ spot.entry.types.now →
+            IsShaped true t →
             Leads self.now.bytes.now self.now.at t spot.entry.place r.0 r.1) }
         ensures within { IfSome result (λ r. r.1.place ≤ self.now.at) }
     {

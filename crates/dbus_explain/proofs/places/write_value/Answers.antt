@@ -2,7 +2,7 @@ use Rattle.std.proofs.Common.{ℕ, ◌∷◌, ◌++◌, codes, subst}
 use Rattle.dbus_show.proofs.FieldTexts.{then}
 use Rattle.dbus_explain.specs.Names.{behind_values, in_value, path_text}
 use Rattle.dbus_explain.specs.Places.{IsAmong}
-use Rattle.dbus_explain.specs.declared.path.Step.TheVariants.{Number}
+use Rattle.dbus_explain.specs.declared.path.PathStep.TheVariants.{Number}
 use Rattle.dbus_explain.proofs.places.write_value.Goals as goal
 
 pub returns-in-Some : goal.returns-in-Some
@@ -15,7 +15,8 @@ returns-in-Some g c =
     let among = subst (λ (b : ℕ). IsAmong search.bytes.now search.at found.0 b number found.1 value.place) c.requires.begin found.5 in (
       codes "body" ++ path_text (Number number ∷ steps),
       in_value found.0 number found.1 value.place steps found.2 among (c.write_steps.ensures.2 found.1 found.3 found.4),
-      then g.D.Draft.gains g.met.D.Draft.joins c.push_str.ensures (then g.D.Draft.gains g.met.D.Draft.joins c.write_step.ensures c.write_steps.ensures.1),
+      then g.D.Draft.gains g.met.D.Draft.joins c.push_str.ensures
+          (then g.D.Draft.gains g.met.D.Draft.joins c.write_step.ensures c.write_steps.ensures.1),
     )
 
 pub returns-in-None : goal.returns-in-None
