@@ -1,0 +1,77 @@
+//! The line of a call, as far as the call says it.
+#![tactic(auto)]
+
+ghost use Rattle.std.specs.Prelude.{codes, option_map, ◌++◌};
+ghost use Rattle.dbus_value_model.specs.declared.order.Order.{Order};
+ghost use Rattle.dbus_message_model.specs.Messages.{MessageTree};
+ghost use Rattle.dbus_json.specs.JsonValues.{listed};
+ghost use Rattle.dbus_view.specs.Views.{Views};
+ghost use Rattle.dbus_call_lines.specs.CallLines.{behind_commas, call_members, call_text, front, member_if, member_text};
+
+use crate::form::Form;
+use dbus_json::write_string;
+use dbus_show::{Draft, write_integer};
+use dbus_view::MessageView;
+
+/// Appends the line of the call of the view, which has this number, as far as it says nothing of
+/// what came of the call. It allocates nothing. D-Bus Specification, "Header Fields"; RFC 8259.
+pub fn write_front<D: Draft>(draft: &mut D, form: Form, number: u64, view: &MessageView)
+    ensures { (order : Order) (m : MessageTree) → Views view.now order m →
+        D.gains draft.old (front form number m) draft.new }
+{
+    match form {
+        Form::Text => write_call(draft, number, view),
+        Form::Json => write_members(draft, number, view),
+    }
+}
+
+// Appends the call in words.
+fn write_call<D: Draft>(draft: &mut D, number: u64, view: &MessageView)
+    ensures { (order : Order) (m : MessageTree) → Views view.now order m →
+        D.gains draft.old (call_text number m) draft.new }
+{
+    write_integer(draft, number);
+    draft.push_str(" ");
+    draft.push_str(view.sender().unwrap_or("-"));
+    draft.push_str(" > ");
+    draft.push_str(view.destination().unwrap_or("-"));
+    draft.push_str(" ");
+    write_member(draft, view.interface(), view.member());
+}
+
+// Appends a member, behind its interface if it has one.
+fn write_member<D: Draft>(draft: &mut D, interface: Option<&str>, name: Option<&str>)
+    ensures { D.gains draft.old (member_text (option_map (λ t. t.now) interface.entry) (option_map (λ t. t.now) name.entry)) draft.new }
+{
+    let name = name.unwrap_or("-");
+    match interface {
+        Some(interface) => draft.push_between(interface, ".", name),
+        None => draft.push_str(name),
+    }
+}
+
+// Appends what the call has as the first members of an object.
+fn write_members<D: Draft>(draft: &mut D, number: u64, view: &MessageView)
+    ensures { (order : Order) (m : MessageTree) → Views view.now order m →
+        D.gains draft.old (codes "{" ++ listed (call_members number m)) draft.new }
+{
+    draft.push_str("{\"number\":");
+    write_integer(draft, number);
+    draft.push_str(",\"serial\":");
+    write_integer(draft, view.serial());
+    write_text(draft, "sender", view.sender());
+    write_text(draft, "destination", view.destination());
+    write_text(draft, "path", view.path());
+    write_text(draft, "interface", view.interface());
+    write_text(draft, "member", view.member());
+}
+
+// Appends the member of a text that is there, behind a comma.
+fn write_text<D: Draft>(draft: &mut D, name: &str, text: Option<&str>)
+    ensures { D.gains draft.old (behind_commas (member_if name.now (option_map (λ t. t.now) text.entry))) draft.new }
+{
+    if let Some(text) = text {
+        draft.push_between(",\"", name, "\":");
+        write_string(draft, text);
+    }
+}
