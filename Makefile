@@ -1,5 +1,5 @@
-# make run         builds dbus-wire without its proofs, in 40 seconds, and checks a sample capture; ARGS='show' FILE=my.dbus for
-#                  another command and capture
+# make run         checks a sample capture by what make build made, or else builds dbus-wire without its proofs, in 40 seconds;
+#                  ARGS='show' FILE=my.dbus for another command and capture
 # make quick-test  the tests, the cases and the examples of doc comments, without proofs: some minutes
 #                  It also holds the manual page and the completions against the texts of help
 # make api         prints docs/API.md, the calls of the libraries, out of the sources; make quick-test checks that it is current
@@ -79,9 +79,13 @@ FILE = samples/session.dbus
 .PHONY: kit run quick-test build library test test-c test-python test-memory gate-times wrong-bodies api graph definitions definitions-check \
 	doc-examples readme-test peers export-cases instructions bench bench-c install install-program install-c install-shared install-dev install-python install-notices uninstall deb tarball wheel test-wheel crate test-crate test-completions release test-release test-packages test-root
 
-run: kit
-	@echo "dbus-wire without its proofs (make build proves it), which takes at most 64 MiB in and gives 1 MiB out:" >&2
-	@(cd crates/dbus_wire && rt try -- $(ARGS)) < "$(FILE)"
+# What rt try builds is gone when it ends. What make build made runs at once, and needs no kit.
+IS_BUILT = [ -x $(PROGRAM) ] && [ -z "$$(find crates.txt crates/*/src -newer $(PROGRAM))" ]
+
+run:
+	@if $(IS_BUILT); then exec $(PROGRAM) $(ARGS) < "$(FILE)"; fi; $(MAKE) --no-print-directory kit && \
+		echo "dbus-wire without its proofs (make build proves it), which takes at most 64 MiB in and gives 1 MiB out:" >&2 && \
+		(cd crates/dbus_wire && rt try -- $(ARGS)) < "$(FILE)"
 
 kit:
 	@command -v rt > /dev/null || { echo "rt is missing: the bin folder of the Rattle kit has to be on the PATH" >&2; exit 1; }
