@@ -22,9 +22,11 @@ rm -f out/*.sha256
 cases/export.py "$room"
 pages=out/stage/dbus-wire-docs-$version
 mkdir -p "$pages"
-for page in README.md CHANGELOG.md docs/*.md; do
-    pandoc --from=gfm --to=html5 --standalone --metadata=pagetitle="$(head -1 "$page" | cut -c3-)" --include-after-body=packaging/footer.html \
-        --output="$pages/$(basename "$page" .md).html" "$page"
+how=(--from=gfm --to=html5 --standalone --include-after-body=packaging/footer.html)
+for page in *.md docs/*.md; do
+    # Pages name each other by their files.
+    sed -E 's#`?docs/([A-Z-]+)\.md`?|`([A-Z]+)\.md`#[\1\2](\1\2.html)#g' "$page" |
+        pandoc "${how[@]}" --metadata=pagetitle="$(head -1 "$page" | cut -c3-)" --output="$pages/$(basename "$page" .md).html"
 done
 packed out/stage "dbus-wire-docs-$version" "$room/dbus-wire-docs-$version.tar.gz"
 rm -rf out/stage
