@@ -2,7 +2,7 @@
 use Rattle.std.specs.Prelude.{◌≡◌, ℕ, List, [], ◌++◌, take, Option, Result, Ok, Err, true, false}
 use Rattle.std.specs.Io.KnownBytes.{Appends}
 use Rattle.dbus_device.specs.Device.{one_more}
-use Rattle.cli_report.specs.declared.gathered.Gathered.{Gathered}
+use Rattle.cli_report.specs.declared.output_buffer.OutputBuffer.{OutputBuffer}
 use Rattle.cli_report.specs.declared.gathering.Unwritten.{Unwritten}
 use Rattle.cli_report.specs.declared.ending.Cause.{Cause}
 use Rattle.cli_report.specs.declared.ending.Cause.TheVariants.{Memory, ReadFailed, WriteFailed, TooManyReads}
@@ -13,7 +13,7 @@ abbrev pub IsPrefixTo : List ℕ → List ℕ → Type 0
 IsPrefixTo front all = (more : List ℕ) × (all ≡ front ++ more)
 
 -- the bytes that are gathered
-unfoldable pub gathered_bytes : Gathered → List ℕ
+unfoldable pub gathered_bytes : OutputBuffer → List ℕ
 gathered_bytes g = take g.len g.bytes
 
 module _ {W : Type 0} (held : W → Option (List ℕ)) (failures : W → ℕ) where
@@ -53,10 +53,12 @@ module _ {W : Type 0} (held : W → Option (List ℕ)) (failures : W → ℕ) wh
 -- What becomes of a text that is gathered and written as it comes.
 
 -- the text was gathered or written, or a write failed, now or before
-pub record Goes {W : Type 0} (held : W → Option (List ℕ)) (failures : W → ℕ) (before : Page W) (text : List ℕ) (after : Page W) : Type 0 where
+pub record Goes {W : Type 0} (held : W → Option (List ℕ)) (failures : W → ℕ) (before : Page W) (text : List ℕ)
+    (after : Page W) : Type 0 where
   pub same_gathered : after.gathered.ghost_name ≡ before.gathered.ghost_name
   pub same_first : after.first.ghost_name ≡ before.first.ghost_name
   pub passes : before.failed ≡ false → after.failed ≡ false
       → Passes held failures text (gathered_bytes before.gathered.now) (gathered_bytes after.gathered.now) before.first.now after.first.now
-  pub breaks : before.failed ≡ false → after.failed ≡ true → Breaks held failures text (gathered_bytes before.gathered.now) before.first.now after.first.now
+  pub breaks : before.failed ≡ false → after.failed ≡ true → Breaks held failures text (gathered_bytes before.gathered.now) before.first.now
+      after.first.now
   pub stays : before.failed ≡ true → (after.failed ≡ true) × (after.first.now ≡ before.first.now)

@@ -3,7 +3,7 @@ ghost use Rattle.std.specs.Prelude.{◌≡◌, []};
 ghost use Rattle.cli_report.specs.Gathering.{Gathers, GathersOrNot, gathered_bytes};
 
 use crate::ending::Cause;
-use crate::gathered::Gathered;
+use crate::output_buffer::OutputBuffer;
 use dbus_stream::{Sink, WrittenOnly, write_all};
 
 /// A write failed, or took none of its bytes.
@@ -12,8 +12,13 @@ pub struct Unwritten;
 
 // Gathers the bytes. If there is no room for them, what is gathered is written, and they are after
 // it.
-fn gather<W: Sink>(bytes: &[u8], gathered: &mut Gathered, first: &mut W) -> Result<(), Unwritten>
-    ensures { Gathers W.held W.failures bytes.now (gathered_bytes gathered.old) (gathered_bytes gathered.new) first.old
+fn gather<W: Sink>(
+    bytes: &[u8],
+    gathered: &mut OutputBuffer,
+    first: &mut W,
+) -> Result<(), Unwritten>
+    ensures { Gathers W.held W.failures bytes.now (gathered_bytes gathered.old)
+        (gathered_bytes gathered.new) first.old
         first.new result }
 {
     if gathered.push(bytes) {
@@ -25,8 +30,13 @@ fn gather<W: Sink>(bytes: &[u8], gathered: &mut Gathered, first: &mut W) -> Resu
 /// Gathers the bytes. If there is no room for them, what is gathered is written, and they after it.
 ///
 /// `WriteFailed`: a write failed, or took none of its bytes.
-pub fn put_out<W: Sink>(bytes: &[u8], gathered: &mut Gathered, first: &mut W) -> Result<(), Cause>
-    ensures { GathersOrNot W.held W.failures bytes.now (gathered_bytes gathered.old) (gathered_bytes gathered.new)
+pub fn put_out<W: Sink>(
+    bytes: &[u8],
+    gathered: &mut OutputBuffer,
+    first: &mut W,
+) -> Result<(), Cause>
+    ensures { GathersOrNot W.held W.failures bytes.now (gathered_bytes gathered.old)
+        (gathered_bytes gathered.new)
         first.old first.new result }
 {
     match gather(bytes, gathered, first) {
@@ -38,10 +48,11 @@ pub fn put_out<W: Sink>(bytes: &[u8], gathered: &mut Gathered, first: &mut W) ->
 /// Writes what is gathered, and then these bytes.
 pub(crate) fn write_after<W: Sink>(
     bytes: &[u8],
-    gathered: &mut Gathered,
+    gathered: &mut OutputBuffer,
     first: &mut W,
 ) -> Result<(), Unwritten>
-    ensures { Gathers W.held W.failures bytes.now (gathered_bytes gathered.old) (gathered_bytes gathered.new) first.old
+    ensures { Gathers W.held W.failures bytes.now (gathered_bytes gathered.old)
+        (gathered_bytes gathered.new) first.old
         first.new result }
 {
     match write_out(gathered, first) {
@@ -56,8 +67,9 @@ pub(crate) fn write_after<W: Sink>(
 /// Writes what is gathered, and then nothing is gathered.
 ///
 /// `Unwritten`: a write failed, or took none of its bytes.
-pub fn write_out<W: Sink>(gathered: &mut Gathered, first: &mut W) -> Result<(), Unwritten>
-    ensures gathers { Gathers W.held W.failures [] (gathered_bytes gathered.old) (gathered_bytes gathered.new) first.old
+pub fn write_out<W: Sink>(gathered: &mut OutputBuffer, first: &mut W) -> Result<(), Unwritten>
+    ensures gathers { Gathers W.held W.failures [] (gathered_bytes gathered.old)
+        (gathered_bytes gathered.new) first.old
         first.new result }
     ensures emptied { (gathered_bytes gathered.new) ≡ [] }
 {

@@ -1,23 +1,23 @@
 //! What a program over messages says on its writers, and how it ends.
 //!
-//! [`Gathered`] holds bytes until there are enough to write: [`put_out`] and [`write_out`] are its
-//! calls, and a [`Page`] is a text that goes there as it comes. [`refusal_text`] is the report of a
-//! message that is refused, [`give_up`] reports why a run failed, and [`ExitStatus`] is how it
+//! [`OutputBuffer`] holds bytes until there are enough to write: [`put_out`] and [`write_out`] are
+//! its calls, and a [`Page`] is a text that goes there as it comes. [`refusal_text`] is the report
+//! of a message that is refused, [`give_up`] reports why a run failed, and [`ExitStatus`] is how it
 //! ends.
 #![tactic(auto)]
 
 mod ending;
 mod failing;
-mod gathered;
 mod gathering;
 mod lines;
+mod output_buffer;
 mod page;
 mod telling;
 
 pub use ending::{Cause, ExitStatus};
 pub use failing::give_up;
-pub use gathered::Gathered;
 pub use gathering::{Unwritten, put_out, write_out};
 pub use lines::refused_line;
+pub use output_buffer::OutputBuffer;
 pub use page::Page;
 pub use telling::{RefusedMessage, refusal_text};

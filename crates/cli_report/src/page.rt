@@ -5,8 +5,8 @@ ghost use Rattle.std.specs.Prelude.{◌++◌};
 ghost use Rattle.cli_report.specs.Gathering.{Goes};
 ghost use Rattle.cli_report.specs.PageLaws as laws;
 
-use crate::gathered::Gathered;
 use crate::gathering::write_after;
+use crate::output_buffer::OutputBuffer;
 use dbus_show::Draft;
 use dbus_stream::Sink;
 
@@ -15,7 +15,7 @@ use dbus_stream::Sink;
 #[derive(Drop)]
 pub struct Page<'a, W> {
     /// What is gathered for the writer.
-    pub gathered: &'a mut Gathered,
+    pub gathered: &'a mut OutputBuffer,
     /// The writer.
     pub first: &'a mut W,
     /// Whether a write failed.

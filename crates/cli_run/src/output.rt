@@ -16,7 +16,7 @@ use crate::showing::{show, write_json_line};
 use crate::swapping::swap;
 use crate::window::lets_through;
 use cli_options::Command;
-use cli_report::{Cause, Gathered, put_out};
+use cli_report::{Cause, OutputBuffer, put_out};
 use dbus_match::Owner;
 use dbus_stream::Sink;
 use dbus_value_model::Order;
@@ -87,13 +87,14 @@ fn write_one<A: Allocator + Copy, W: Sink>(
     output: &Output,
     lent: &Lent,
     spare: &mut Vec<u8, A>,
-    gathered: &mut Gathered,
+    gathered: &mut OutputBuffer,
     first: &mut W,
 ) -> Result<(), Cause>
     requires { IsValidatedWhole lent.now.limits lent.now.bytes.now lent.now.validated }
     ensures { (order : Order) (m : MessageTree) →
         IsWhole lent.now.limits lent.now.bytes.now order m (length lent.now.bytes.now) →
-        WritesOne (writing W.held W.failures first.old first.new) (command_of output.now) order m lent.now.place
+        WritesOne (writing W.held W.failures first.old first.new) (command_of output.now) order m
+        lent.now.place
         (gathered_bytes gathered.old) (gathered_bytes gathered.new) result }
 {
     let bytes = lent.bytes;
@@ -116,13 +117,14 @@ pub(crate) fn hand_one<A: Allocator + Copy, W: Sink>(
     lent: &Lent,
     carried: &mut Carried,
     spare: &mut Vec<u8, A>,
-    gathered: &mut Gathered,
+    gathered: &mut OutputBuffer,
     first: &mut W,
 ) -> Result<(), Cause>
     requires { IsValidatedWhole lent.now.limits lent.now.bytes.now lent.now.validated }
     ensures { (order : Order) (m : MessageTree) →
         IsWhole lent.now.limits lent.now.bytes.now order m (length lent.now.bytes.now) →
-        HandsOne (writing W.held W.failures first.old first.new) (command_of output.now) carried.old carried.new order m
+        HandsOne (writing W.held W.failures first.old first.new) (command_of output.now) carried.old
+        carried.new order m
         lent.now.place (gathered_bytes gathered.old) (gathered_bytes gathered.new) result }
 {
     let Ok(picked) = picks(output, lent, &mut carried.owners) else {

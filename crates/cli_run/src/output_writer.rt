@@ -7,7 +7,7 @@ ghost use Rattle.cli_run.specs.VisitorLaws.{output_adds_up};
 use crate::output::{Output, hand_one, is_check};
 use crate::place::{Carried, Lent};
 use crate::visitor::{MessageVisitor, write_text};
-use cli_report::{Cause, Gathered, Unwritten, write_out};
+use cli_report::{Cause, OutputBuffer, Unwritten, write_out};
 use dbus_stream::Sink;
 use std::alloc::Allocator;
 
@@ -21,7 +21,7 @@ pub(crate) struct OutputWriter<'c, 'a, 'b, A: Allocator, W, E> {
     /// Room for a message that is byteswapped.
     pub(crate) spare: Vec<u8, A>,
     /// What is gathered for the first writer.
-    pub(crate) gathered: Gathered,
+    pub(crate) gathered: OutputBuffer,
     /// The writers.
     pub(crate) first: &'a mut W,
     pub(crate) second: &'b mut E,
@@ -92,8 +92,9 @@ impl<A: Allocator + Copy, W: Sink, E: Sink> MessageVisitor for OutputWriter<'_, 
 
 // Why a run fails that fails by this cause. If memory ran out, what is gathered is written first,
 // and if that write fails, the run fails by it.
-fn fail_by<W: Sink>(cause: Cause, gathered: &mut Gathered, first: &mut W) -> Cause
-    ensures { FailsBy W.held W.failures cause (gathered_bytes gathered.old) (gathered_bytes gathered.new)
+fn fail_by<W: Sink>(cause: Cause, gathered: &mut OutputBuffer, first: &mut W) -> Cause
+    ensures { FailsBy W.held W.failures cause (gathered_bytes gathered.old)
+        (gathered_bytes gathered.new)
         first.old first.new result }
 {
     match cause {

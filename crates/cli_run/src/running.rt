@@ -12,7 +12,7 @@ use crate::output::{is_check, output_of};
 use crate::output_writer::OutputWriter;
 use crate::place::Carried;
 use cli_options::{Command, Settings, Window};
-use cli_report::{Cause, ExitStatus, Gathered, give_up};
+use cli_report::{Cause, ExitStatus, OutputBuffer, give_up};
 use dbus_stream::{MOST_READS, Sink, Source};
 use dbus_value_model::Limits;
 use std::alloc::Allocator;
@@ -78,9 +78,9 @@ pub fn run_reads<A: Allocator + Copy, R: Source, W: Sink, E: Sink>(
 /// given, also if memory ran out; if it does not go out then, the line is `write failed`. A writer
 /// gets no more after a write to it failed.
 ///
-/// The run holds at most the bytes of one message and of one read, what is gathered, for `Swap` room
-/// for the longest message so far that it byteswaps, and for `Filter` its rules once more, in a set.
-/// `Check` builds no message, and allocates nothing for messages.
+/// The run holds at most the bytes of one message and of one read, what is gathered, for `Swap`
+/// room for the longest message so far that it byteswaps, and for `Filter` its rules once more, in
+/// a set. `Check` builds no message, and allocates nothing for messages.
 ///
 /// `Done`, `Refused`: all was written, no read and no write failed, and the status says which.
 /// `Failed`: a read failed, a write to either writer failed or took none of its bytes, as many
@@ -162,7 +162,7 @@ pub fn run_with<A: Allocator + Copy, R: Source, W: Sink, E: Sink>(
             owners: None,
         },
         spare: Vec::new(alloc),
-        gathered: Gathered::new(),
+        gathered: OutputBuffer::new(),
         first,
         second: &mut *second,
     };

@@ -10,7 +10,7 @@ ghost use Rattle.cli_report.specs.Gathering.{GathersOrNot, gathered_bytes};
 ghost use Rattle.cli_run.specs.Handing.{WritesJson};
 
 use crate::place::MessagePlace;
-use cli_report::{Cause, Gathered, Page};
+use cli_report::{Cause, OutputBuffer, Page};
 use dbus_json::write_json;
 use dbus_show_view::write_message;
 use dbus_stream::Sink;
@@ -23,7 +23,7 @@ pub(crate) fn show<W: Sink>(
     validated: &Validated,
     limits: Limits,
     number: u64,
-    gathered: &mut Gathered,
+    gathered: &mut OutputBuffer,
     first: &mut W,
 ) -> Result<(), Cause>
     requires { IsValidatedWhole limits bytes.now validated.now }
@@ -51,7 +51,7 @@ pub(crate) fn write_json_line<W: Sink>(
     validated: &Validated,
     limits: Limits,
     place: MessagePlace,
-    gathered: &mut Gathered,
+    gathered: &mut OutputBuffer,
     first: &mut W,
 ) -> Result<(), Cause>
     requires { IsValidatedWhole limits bytes.now validated.now }

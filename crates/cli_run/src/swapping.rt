@@ -7,7 +7,7 @@ ghost use Rattle.dbus_validate.specs.Validating.{IsValidatedWhole};
 ghost use Rattle.dbus_swap.specs.Byteswapping.{other};
 ghost use Rattle.cli_report.specs.Gathering.{GathersOrNot, gathered_bytes};
 
-use cli_report::{Cause, Gathered, put_out};
+use cli_report::{Cause, OutputBuffer, put_out};
 use dbus_stream::Sink;
 use dbus_swap::byteswap;
 use dbus_validate::Validated;
@@ -21,7 +21,7 @@ pub(crate) fn swap<A: Allocator + Copy, W: Sink>(
     validated: &Validated,
     limits: Limits,
     spare: &mut Vec<u8, A>,
-    gathered: &mut Gathered,
+    gathered: &mut OutputBuffer,
     first: &mut W,
 ) -> Result<(), Cause>
     requires { IsValidatedWhole limits bytes.now validated.now }
@@ -43,12 +43,14 @@ fn put_byteswapped<A: Allocator + Copy, W: Sink>(
     validated: &Validated,
     limits: Limits,
     spare: &mut Vec<u8, A>,
-    gathered: &mut Gathered,
+    gathered: &mut OutputBuffer,
     first: &mut W,
 ) -> Result<(), Cause>
     requires { IsValidatedWhole limits bytes.now validated.now }
-    ensures { (m : MessageTree) → IsWhole limits bytes.now validated.now.order m (length bytes.now) →
-        GathersOrNot W.held W.failures (message_bytes (other validated.now.order) m) (gathered_bytes gathered.old)
+    ensures { (m : MessageTree) → IsWhole limits bytes.now validated.now.order m
+        (length bytes.now) →
+        GathersOrNot W.held W.failures (message_bytes (other validated.now.order) m)
+        (gathered_bytes gathered.old)
         (gathered_bytes gathered.new) first.old first.new result }
 {
     spare.clear();

@@ -6,7 +6,7 @@ ghost use Rattle.cli_report.specs.Devices.{writing};
 ghost use Rattle.cli_report.specs.Gathering.{gathered_bytes};
 ghost use Rattle.dbus_tool.specs.Handshaking.{GathersLines, PutsLines, WritesLines};
 
-use cli_report::{Gathered, Page, Unwritten, write_out};
+use cli_report::{OutputBuffer, Page, Unwritten, write_out};
 use dbus_handshake_input::{HandshakeFault, HandshakeSize, ReadAhead, Side, read_handshake};
 use dbus_show_handshake::{ShownLines, write_size};
 use dbus_stream::{Sink, Source};
@@ -21,12 +21,13 @@ pub(crate) fn write_lines<R: Source, W: Sink>(
     reader: &mut ReadAhead<R>,
     first: &mut W,
 ) -> (Result<HandshakeSize, HandshakeFault>, Result<(), Unwritten>)
-    ensures lines { WritesLines R.left R.calls reader.old reader.new (writing W.held W.failures first.old first.new) side result.0
+    ensures lines { WritesLines R.left R.calls reader.old reader.new
+        (writing W.held W.failures first.old first.new) side result.0
         result.1 }
     ensures failed { Counts (R.failures (source_of reader.old)) (R.failures (source_of reader.new))
         result.0 }
 {
-    let mut gathered = Gathered::new();
+    let mut gathered = OutputBuffer::new();
     let (read, put) = gather_lines(alloc, side, reader, &mut gathered, first);
     match put {
         Ok(()) => (read, write_out(&mut gathered, first)),
@@ -39,10 +40,11 @@ fn gather_lines<R: Source, W: Sink>(
     alloc: Global,
     side: Side,
     reader: &mut ReadAhead<R>,
-    gathered: &mut Gathered,
+    gathered: &mut OutputBuffer,
     first: &mut W,
 ) -> (Result<HandshakeSize, HandshakeFault>, Result<(), Unwritten>)
-    ensures lines { GathersLines R.left R.calls reader.old reader.new (writing W.held W.failures first.old first.new) side
+    ensures lines { GathersLines R.left R.calls reader.old reader.new
+        (writing W.held W.failures first.old first.new) side
         (gathered_bytes gathered.old) (gathered_bytes gathered.new) result.0 result.1 }
     ensures failed { Counts (R.failures (source_of reader.old)) (R.failures (source_of reader.new))
         result.0 }
@@ -68,7 +70,8 @@ fn put_lines<R: Source, W: Sink>(
     reader: &mut ReadAhead<R>,
     shown: &mut ShownLines<Page<'_, W>>,
 ) -> Result<HandshakeSize, HandshakeFault>
-    ensures lines { PutsLines R.left R.calls reader.old reader.new W.held W.failures shown.old.0 shown.new.0 side result }
+    ensures lines { PutsLines R.left R.calls reader.old reader.new W.held W.failures shown.old.0
+        shown.new.0 side result }
     ensures failed { Counts (R.failures (source_of reader.old)) (R.failures (source_of reader.new))
         result }
 {

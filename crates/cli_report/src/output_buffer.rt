@@ -8,13 +8,13 @@ use dbus_show::copy_bytes;
 /// What is gathered: up to 16,384 bytes, in the value itself. An `ArrayVec` blanks what it gives
 /// up, which costs as much as writing it.
 #[derive(Drop)]
-pub struct Gathered {
+pub struct OutputBuffer {
     bytes: [u8; 16_384],
     len: usize,
     ghost fits: { len ≤ 16384 },
 }
 
-impl Gathered {
+impl OutputBuffer {
     ghost use Rattle.std.specs.Prelude.{◌≡◌, [], ◌++◌, true, false};
     ghost use Rattle.cli_report.specs.Gathering.{gathered_bytes};
 
@@ -22,7 +22,7 @@ impl Gathered {
     pub fn new() -> Self
         ensures { gathered_bytes result ≡ [] }
     {
-        Gathered {
+        OutputBuffer {
             bytes: [0; 16_384],
             len: 0,
         }
