@@ -1,2 +1,3 @@
 pub mod Outcomes
 pub mod CallLines
+pub mod Listing

@@ -3,9 +3,16 @@
 #![tactic(auto)]
 
 ghost use Rattle.dbus_call_lines.specs.CallLines.{HasTwoParts};
+ghost use Rattle.dbus_call_lines.specs.Listing.{OneLineEach};
 
 /// The line of a call is its front, which says nothing of what came of the call, and its end, which
 /// says that alone.
 pub fn two_parts()
     ensures { HasTwoParts }
+{}
+
+/// Each METHOD_CALL of an input is listed exactly once, and nothing else is: once it is known what
+/// came of it, or at the end.
+pub fn one_line_each()
+    ensures { OneLineEach }
 {}

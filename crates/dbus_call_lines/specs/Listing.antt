@@ -1,0 +1,94 @@
+-- What is listed of the calls in an input: each METHOD_CALL, once it is known what came of it.
+-- D-Bus Specification, "Message Types" ("Method Calls").
+use Rattle.std.specs.Prelude.{◌≡◌, ◌↔◌, ℕ, nat_eq, List, [], ◌∷◌, ◌++◌, Bool, true, not, ◌&&◌, ◌==◌, map, if◌then◌else◌}
+use Rattle.std.specs.List.{Contains, IsDistinct, flat_map}
+use Rattle.std.specs.List.Sorted.{IsStrictlySortedBy}
+use Rattle.std.specs.Ordering.{nat_cmp}
+use Rattle.dbus_message_model.specs.Messages.{MessageTree}
+use Rattle.dbus_message_model.specs.declared.message_type.TheConstants as message
+use Rattle.dbus_calls.specs.Events.{wants_reply}
+use Rattle.dbus_calls.specs.Pairing.{IsOpen, ends}
+use Rattle.dbus_call_lines.specs.CallLines.{line}
+use Rattle.dbus_call_lines.specs.Outcomes.{Outcome, outcome_by}
+use Rattle.dbus_call_lines.specs.Outcomes.Outcome.{Unwanted, Open}
+use Rattle.dbus_call_lines.specs.declared.form.Form.{Form}
+
+-- a message, and its number in the input
+pub record Numbered : Type 0 where
+  pub number : ℕ
+  pub message : MessageTree
+
+abbrev pub message_of : Numbered → MessageTree
+message_of x = x.message
+
+-- a call, and what came of it
+pub record Row : Type 0 where
+  pub call : Numbered
+  pub outcome : Outcome
+
+abbrev pub row : Outcome → Numbered → Row
+row outcome call = record { call = call; outcome = outcome }
+
+-- a METHOD_CALL
+abbrev pub is_call : Numbered → Bool
+is_call x = x.message.kind == message.METHOD_CALL
+
+-- one whose flag NO_REPLY_EXPECTED is set
+abbrev pub is_unwanted : Numbered → Bool
+is_unwanted x = is_call x && not (wants_reply x.message)
+
+-- their numbers rise
+abbrev pub AreRising : List Numbered → Type 0
+AreRising xs = IsStrictlySortedBy (λ a b. nat_cmp a.number b.number) xs
+
+-- these are all of which it holds, in the order of their numbers
+pub record AreThose (Is : Numbered → Type 0) (xs : List Numbered) : Type 0 where
+  pub all : (x : Numbered) → Contains xs x ↔ Is x
+  pub rising : AreRising xs
+
+-- Messages came before, and then this one.
+module _ (before : List Numbered) (x : Numbered) where
+  -- the call was open, and the message ends it
+  abbrev pub IsEnded : Numbered → Type 0
+  IsEnded call = IsOpen message_of before call × (ends call.message x.message ≡ true)
+
+  -- the message itself, if it is a call that wants no reply
+  abbrev pub own_row : List Row
+  own_row = if is_unwanted x then row Unwanted x ∷ [] else []
+
+  -- what is listed then: the calls that it ends, and it itself
+  pub record ListsAfter (rows : List Row) : Type 0 where
+    pub calls : List Numbered
+    pub calls_are : AreThose IsEnded calls
+    pub rows_are : rows ≡ map (row (outcome_by x.number x.message)) calls ++ own_row
+
+-- what is listed at the end: the calls that are open then
+pub record ListsOpen (before : List Numbered) (rows : List Row) : Type 0 where
+  pub calls : List Numbered
+  pub calls_are : AreThose (IsOpen message_of before) calls
+  pub rows_are : rows ≡ map (row Open) calls
+
+-- what is listed of messages, if these came before
+abbrev pub AreListed : (before xs : List Numbered) → List Row → Type 0
+AreListed before [] rows = ListsOpen before rows
+AreListed before (x ∷ xs) rows = (now more : List Row) × ListsAfter before x now × AreListed (before ++ x ∷ []) xs more × (rows ≡ now ++ more)
+
+-- their lines
+abbrev pub rows_text : Form → List Row → List ℕ
+rows_text form rows = flat_map (λ r. line form r.call.number r.call.message r.outcome) rows
+
+-- What holds of what is listed.
+
+abbrev pub calls_of : List Row → List Numbered
+calls_of rows = map (λ r. r.call) rows
+
+abbrev pub same_number : Numbered → Numbered → Bool
+same_number a b = nat_eq a.number b.number
+
+-- Of an input, each METHOD_CALL is listed, and nothing else; and none is listed twice.
+pub record ListsEachOnce (xs : List Numbered) (rows : List Row) : Type 0 where
+  pub each : (x : Numbered) → Contains (calls_of rows) x ↔ (Contains xs x × (is_call x ≡ true))
+  pub once : IsDistinct same_number (calls_of rows)
+
+abbrev pub OneLineEach : Type 0
+OneLineEach = (xs : List Numbered) (rows : List Row) → AreRising xs → AreListed [] xs rows → ListsEachOnce xs rows
