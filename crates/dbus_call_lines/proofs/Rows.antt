@@ -13,7 +13,7 @@ use Rattle.dbus_calls.specs.Events.{Event, caller_of, departed, replied_to, repl
 use Rattle.dbus_calls.specs.Events.Event.{Calls, Replies, Leaves, Passes}
 use Rattle.dbus_calls.specs.OwnerChanges.{change_of}
 use Rattle.dbus_calls.specs.Pairing.{IsOpen, Waits, ends}
-use Rattle.dbus_call_lines.specs.Listing.{AreListed, AreRising, IsEnded, ListsAfter, Numbered, OneLineEach, Row, calls_of, is_call, is_unwanted, message_of, own_row, row, same_number}
+use Rattle.dbus_call_lines.specs.Listing.{AreListed, AreRising, AreThose, IsEnded, ListsAfter, Numbered, OneLineEach, OneList, Row, calls_of, is_call, is_unwanted, message_of, own_row, row, same_number}
 use Rattle.dbus_call_lines.specs.Outcomes.{Outcome, outcome_by}
 use Rattle.dbus_call_lines.specs.Outcomes.Outcome.{Unwanted, Open}
 
@@ -285,3 +285,52 @@ one_line_each xs rows rising h = record {
   each = λ x. (λ k. ⊎_elim (λ none. absurd none) (λ is. is) (from_rows [] xs rows h x k), λ k. to_rows [] xs rows h x (inr k));
   once = distinct [] xs rows rising h;
 }
+
+-- ---- one list
+
+never_both : (a b : ℕ) → nat_cmp a b ≡ Less → nat_cmp b a ≡ Less → ⊥
+never_both a b p q =
+    let less : a < b = ranked a b Less (sym p) in
+    let more : b < a = ranked b a Less (sym q) in
+    omega (arith, less, more)
+
+abbrev AllAbove : Numbered → List Numbered → Type 0
+AllAbove x xs = AllByRecursion (λ y. nat_cmp x.number y.number ≡ Less) xs
+
+module _ (x y : Numbered) (xs ys : List Numbered) (above : AllAbove x xs) where
+  first_is : AllAbove y ys → Contains (y ∷ ys) x → Contains (x ∷ xs) y → x ≡ y
+  first_is others h k = ⊎_elim (λ is. sym is)
+      (λ later. ⊎_elim (λ is. is)
+      (λ also. absurd (never_both y.number x.number (all_at (λ z. nat_cmp y.number z.number ≡ Less) ys x others later) (all_at (λ z. nat_cmp x.number z.number ≡ Less) xs y above also))) (either x xs y k))
+      (either y ys x h)
+
+  others_in : x ≡ y → ((z : Numbered) → Contains (x ∷ xs) z → Contains (y ∷ ys) z) → (z : Numbered) → Contains xs z → Contains ys z
+  others_in is into z k = ⊎_elim
+      (λ (same : y ≡ z). let itself = subst (λ (w : Numbered). nat_cmp w.number z.number ≡ Less) (is ∙ same) (all_at (λ w. nat_cmp x.number w.number ≡ Less) xs z above k) in
+      absurd (never_both z.number z.number itself itself))
+      (λ later. later) (either y ys z (into z (there x xs z k)))
+
+-- what rises and has the same is the same
+same_rising : (xs ys : List Numbered) → AreRising xs → AreRising ys → ((z : Numbered) → Contains xs z → Contains ys z) → ((z : Numbered) → Contains ys z → Contains xs z) → xs ≡ ys
+unfolding IsStrictlySortedBy
+same_rising [] [] p q into back = refl
+same_rising [] (y ∷ ys) p q into back = absurd (none_in y (back y (here y ys)))
+same_rising (x ∷ xs) [] p q into back = absurd (none_in x (into x (here x xs)))
+same_rising (x ∷ xs) (y ∷ ys) p q into back =
+    let first : x ≡ y = first_is x y xs ys p.0 q.0 (into x (here x xs)) (back y (here y ys)) in
+    let others : xs ≡ ys = same_rising xs ys p.1 q.1 (others_in x y xs ys p.0 first into) (others_in y x ys xs q.0 (sym first) back) in
+    λ i. first i ∷ others i
+
+same_those : (Is : Numbered → Type 0) (xs ys : List Numbered) → AreThose Is xs → AreThose Is ys → xs ≡ ys
+same_those Is xs ys a b = same_rising xs ys a.rising b.rising (λ z h. (b.all z).1 ((a.all z).0 h)) (λ z h. (a.all z).1 ((b.all z).0 h))
+
+same_rows : (before xs : List Numbered) (rows others : List Row) → AreListed before xs rows → AreListed before xs others → rows ≡ others
+same_rows before [] rows others h k = h.rows_are ∙ (ap (map (row Open)) (same_those (WasOpen before) h.calls k.calls h.calls_are k.calls_are) ∙ sym k.rows_are)
+same_rows before (x ∷ xs) rows others h k =
+    let calls = same_those (IsEnded before x) h.2.calls k.2.calls h.2.calls_are k.2.calls_are in
+    let now : h.0 ≡ k.0 = h.2.rows_are ∙ (ap (λ l. map (row (outcome_by x.number x.message)) l ++ own_row before x) calls ∙ sym k.2.rows_are) in
+    let more : h.1 ≡ k.1 = same_rows (before ++ x ∷ []) xs h.1 k.1 h.3 k.3 in
+    h.4 ∙ ((λ i. now i ++ more i) ∙ sym k.4)
+
+pub one_list : OneList
+one_list xs rows others h k = same_rows [] xs rows others h k

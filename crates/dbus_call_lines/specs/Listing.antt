@@ -92,3 +92,7 @@ pub record ListsEachOnce (xs : List Numbered) (rows : List Row) : Type 0 where
 
 abbrev pub OneLineEach : Type 0
 OneLineEach = (xs : List Numbered) (rows : List Row) → AreRising xs → AreListed [] xs rows → ListsEachOnce xs rows
+
+-- The messages determine what is listed.
+abbrev pub OneList : Type 0
+OneList = (xs : List Numbered) (rows others : List Row) → AreListed [] xs rows → AreListed [] xs others → rows ≡ others
