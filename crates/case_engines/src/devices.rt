@@ -1,8 +1,9 @@
 //! A device in memory, which moves a few bytes a call, and fails once if it has to.
 ghost use Rattle.std.specs.Prelude.{None};
+ghost use Rattle.dbus_device.specs.Packets.{no_packets};
 
 use case_questions::{Question, Reply};
-use dbus_device::{DeviceFault, Sink, Source};
+use dbus_device::{DeviceFault, Packet, Sink, Source};
 use std::alloc::Global;
 use std::cell::Cell;
 
@@ -57,6 +58,14 @@ impl Source for Device<'_, '_> {
     ghost calls = { λ s. s.calls };
 
     ghost reference = { λ s. None };
+
+    ghost packets = { λ s. no_packets };
+
+    ghost packet = { λ s. None };
+
+    fn packet(&self) -> Option<Packet> {
+        None
+    }
 
     fn read(&mut self, buffer: &mut [u8]) -> Result<usize, DeviceFault> {
         self.calls = self.calls.wrapping_add(1);

@@ -2,8 +2,9 @@
 //! one that states a byte more, and a million small ones.
 
 ghost use Rattle.std.specs.Prelude.{◌≡◌, ◌≤◌, length, None};
+ghost use Rattle.dbus_device.specs.Packets.{no_packets};
 
-use dbus_device::{DeviceFault, Source};
+use dbus_device::{DeviceFault, Packet, Source};
 
 /// Bytes, and how often they come.
 pub(crate) type Part = (&'static [u8], u64);
@@ -111,6 +112,14 @@ impl Source for PartsSource {
     ghost calls = { λ s. s.calls };
 
     ghost reference = { λ s. None };
+
+    ghost packets = { λ s. no_packets };
+
+    ghost packet = { λ s. None };
+
+    fn packet(&self) -> Option<Packet> {
+        None
+    }
 
     fn read(&mut self, buffer: &mut [u8]) -> Result<usize, DeviceFault> {
         self.calls = self.calls.wrapping_add(1);

@@ -7,10 +7,11 @@ use Rattle.std.proofs.lemmas.List.{drop-take, drop-drop, length-take, length-tak
 use Rattle.std.proofs.Math.Nat.{min-le_left}
 use Rattle.dbus_device.specs.Device.{one_more, ReadCounts}
 use Rattle.dbus_device.specs.declared.device_fault.DeviceFault.{DeviceFault}
+use Rattle.dbus_device.specs.declared.packet.Packet.{Packet}
 use Rattle.dbus_capture.specs.declared.scan.Scan.{Scan}
 use Rattle.dbus_capture.specs.declared.capture.Capture.{Capture}
-use Rattle.dbus_capture.specs.Steps.{Turn, turn_of, may_end, run, given, ended, IsPart}
-use Rattle.dbus_capture.specs.Captures.{given_of, source_of, scan_of, kept_of, file_of, left_of, gave_up_of, calls_of, failures_of, HandsOn, Reads, GivesPart, Ends, IsUnfailed, GivesUp, ReadsPart, Waits}
+use Rattle.dbus_capture.specs.Steps.{Turn, turn_of, may_end, run, told, given, ended, IsPart}
+use Rattle.dbus_capture.specs.Captures.{given_of, source_of, scan_of, kept_of, file_of, left_of, gave_up_of, calls_of, last_packet_of, failures_of, HandsOn, Reads, GivesPart, Ends, IsUnfailed, GivesUp, ReadsPart, Waits}
 use Rattle.dbus_capture.specs.Stages.{is_raw}
 use Rattle.dbus_capture.proofs.BlockTurns.{when_true}
 use Rattle.dbus_capture.proofs.StepLaws.{run-append, given-append, run_stopped, run_raw, none_of, turn_passes}
@@ -61,7 +62,7 @@ front_taken (Some x) old new used e = ap (λ l. l ++ x) e ∙ append_assoc used 
 
 module _ {R : Type 0} (left : R → Option (List ℕ)) where
   pub reads_nothing : (s : Capture R) → Reads left s s []
-  unfolding run given
+  unfolding run given told
   reads_nothing s = record { used = []; consumed = Consumes-nil (file_of left s); gave = refl; ran = refl }
 
   pub reads_filled : (old mid new : Capture R) (out : List ℕ) → Reads left old mid out → Consumes (file_of left mid) (file_of left new) [] → scan_of new ≡ scan_of mid → Reads left old new out
@@ -122,7 +123,7 @@ given_stopped t (Some y) p = (run_stopped t y p).1
 
 given_end : (s t : Scan) (a b : Option (List ℕ)) (used kept : List ℕ) → Consumes a (prepend_known kept b) used → given s used ≡ [] → kept ≡ [] → IsAtEnd b
     → Consumes (given_of s a) (given_of t (prepend_known kept b)) [] × IsAtEnd (given_of t (prepend_known kept b))
-unfolding given
+unfolding given told
 given_end s t None None used kept c gave none end = (tt, tt)
 given_end s t None (Some y) used kept c gave none end = (tt, ap (given t) (ap (λ l. l ++ y) none ∙ end))
 given_end s t (Some x) None used kept c gave none end = absurd c
@@ -180,6 +181,26 @@ module _ {R : Type 0} (left : R → Option (List ℕ)) (failures : R → ℕ) wh
     inr (w.0, record { used = w.1.used; consumed = w.1.consumed; gave = w.1.gave; ran = w.1.ran; nothing = w.1.nothing; at_end = w.1.at_end }),
   )
 
+  -- ---- the packet of what was handed on
+
+  repacked : (old new : Capture R) (packet : Option Packet) (p : new.start ≤ new.end) (q : new.end ≤ 65536) (out : List ℕ) → Reads left old new out → Reads left old (record new { packet = packet; in_order = p; in_room = q }) out
+  repacked old new packet p q out r = record { used = r.used; consumed = r.consumed; gave = r.gave; ran = r.ran }
+
+  -- which packet that was does not matter
+  pub part_repacked : (old new : Capture R) (packet : Option Packet) (p : new.start ≤ new.end) (q : new.end ≤ 65536) (r : Result ℕ DeviceFault) (buffer : List ℕ)
+      → ReadsPart left failures old new r buffer → ReadsPart left failures old (record new { packet = packet; in_order = p; in_room = q }) r buffer
+  unfolding repacked
+  part_repacked old new packet p q (Err e) buffer (inl f) = inl (record { reads = repacked old new packet p q [] f.reads; source = f.source; gave_up = f.gave_up })
+  part_repacked old new packet p q (Err e) buffer (inr f) = inr (record { reads = repacked old new packet p q [] f.reads; many = f.many; source = f.source; gave_up = f.gave_up })
+  part_repacked old new packet p q (Ok k) buffer (u, inl w) = (
+    record { source = u.source; gave_up = u.gave_up },
+    inl (record { reads = repacked old new packet p q (take k buffer) w.0.reads; one = w.0.one }, w.1),
+  )
+  part_repacked old new packet p q (Ok k) buffer (u, inr w) = (
+    record { source = u.source; gave_up = u.gave_up },
+    inr (w.0, record { used = w.1.used; consumed = w.1.consumed; gave = w.1.gave; ran = w.1.ran; nothing = w.1.nothing; at_end = w.1.at_end }),
+  )
+
 -- ---- many turns
 
 -- in so many turns bytes of the file were taken, one each or more, none of which is a packet's
@@ -188,6 +209,7 @@ pub record Passes {R : Type 0} (left : R → Option (List ℕ)) (failures : R �
   pub many : turns ≤ length reads.used
   pub unfailed : IsUnfailed failures old new
   pub calls : calls_of new ≡ calls_of old
+  pub packet : last_packet_of new ≡ last_packet_of old
   pub waits : given (scan_of old) (kept_of old) ≢ [] → (source_of new ≡ source_of old) × (given (scan_of new) (kept_of new) ≢ [])
 
 module _ {R : Type 0} (left : R → Option (List ℕ)) (failures : R → ℕ) where
@@ -197,31 +219,33 @@ module _ {R : Type 0} (left : R → Option (List ℕ)) (failures : R → ℕ) wh
     many = omega arith;
     unfailed = record { source = refl; gave_up = refl };
     calls = refl;
+    packet = refl;
     waits = λ some. (refl, some);
   }
 
   some_kept : (s : Capture R) → given (scan_of s) (kept_of s) ≢ [] → kept_of s ≢ []
-  unfolding given
+  unfolding given told
   some_kept s some e = some (ap (given (scan_of s)) e)
 
   pub passes_filled : (turns : ℕ) (old mid new : Capture R) → Passes left failures turns old mid → Consumes (file_of left mid) (file_of left new) [] → scan_of new ≡ scan_of mid
-      → failures (source_of new) ≡ failures (source_of mid) → gave_up_of new ≡ gave_up_of mid → calls_of new ≡ calls_of mid → (kept_of mid ≢ [] → new ≡ mid)
+      → failures (source_of new) ≡ failures (source_of mid) → gave_up_of new ≡ gave_up_of mid → calls_of new ≡ calls_of mid → last_packet_of new ≡ last_packet_of mid → (kept_of mid ≢ [] → new ≡ mid)
       → Passes left failures turns old new
   unfolding reads_filled
-  passes_filled turns old mid new p c same source gave_up calls keeps = record {
+  passes_filled turns old mid new p c same source gave_up calls packet keeps = record {
     reads = reads_filled left old mid new [] p.reads c same;
     many = p.many;
     unfailed = record { source = source ∙ p.unfailed.source; gave_up = gave_up ∙ p.unfailed.gave_up };
     calls = calls ∙ p.calls;
+    packet = packet ∙ p.packet;
     waits = λ some.
         let w = p.waits some in
         subst (λ (s : Capture R). (source_of s ≡ source_of old) × (given (scan_of s) (kept_of s) ≢ [])) (sym (keeps (some_kept mid w.1))) w;
   }
 
   pub passes_more : (turns : ℕ) (old mid new : Capture R) (n : ℕ) → Passes left failures turns old mid → HandsOn mid new n [] → length (kept_of new) < length (kept_of mid)
-      → source_of new ≡ source_of mid → gave_up_of new ≡ gave_up_of mid → calls_of new ≡ calls_of mid → Passes left failures (turns + 1) old new
+      → source_of new ≡ source_of mid → gave_up_of new ≡ gave_up_of mid → calls_of new ≡ calls_of mid → last_packet_of new ≡ last_packet_of mid → Passes left failures (turns + 1) old new
   unfolding reads_more
-  passes_more turns old mid new n p h fewer source gave_up calls =
+  passes_more turns old mid new n p h fewer source gave_up calls packet =
       let split = ap length h.front ∙ length-append h.used (kept_of new) in
       let joined = length-append p.reads.used h.used in
       let many = p.many in
@@ -233,6 +257,7 @@ module _ {R : Type 0} (left : R → Option (List ℕ)) (failures : R → ℕ) wh
         many = omega (arith, split, joined, many, fewer);
         unfailed = record { source = ap failures source ∙ p.unfailed.source; gave_up = gave_up ∙ p.unfailed.gave_up };
         calls = calls ∙ p.calls;
+        packet = packet ∙ p.packet;
         waits = λ some.
             let w = p.waits some in
             (source ∙ w.0, λ e. w.1 (rest ∙ e));
@@ -313,7 +338,7 @@ module _ {R : Type 0} (left : R → Option (List ℕ)) (failures : R → ℕ) wh
 
   raw_gives : (old new : Capture R) (n : ℕ) (buffer : List ℕ) → n ≤ length buffer → PassesOn old new → Consumes (left (source_of old)) (left (source_of new)) (take n buffer)
       → GivesPart left old new n (take n buffer)
-  unfolding raw_reads run given
+  unfolding raw_reads run given told
   raw_gives old new n buffer within p c = record {
     reads = raw_reads old new (take n buffer) p c;
     one = λ some. record {
@@ -341,5 +366,5 @@ module _ {R : Type 0} (left : R → Option (List ℕ)) (failures : R → ℕ) wh
 
 -- of nothing that is kept nothing is given
 pub none_given : {R : Type 0} (s : Capture R) → kept_of s ≡ [] → given (scan_of s) (kept_of s) ≡ []
-unfolding given
+unfolding given told
 none_given s none = ap (given (scan_of s)) none

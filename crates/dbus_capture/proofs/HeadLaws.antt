@@ -3,7 +3,7 @@ use Rattle.std.proofs.Common.{◌≡◌, ◌≢◌, ℕ, ◌+◌, ◌<◌, Bool,
 use Rattle.dbus_capture.specs.declared.scan.Scan.{Scan}
 use Rattle.dbus_capture.specs.Stages.{want, is_raw, is_filed, begun}
 use Rattle.dbus_capture.specs.Blocks.{decoded}
-use Rattle.dbus_capture.specs.Steps.{Gathers, turn_of, gathered, run, given}
+use Rattle.dbus_capture.specs.Steps.{Gathers, turn_of, gathered, run, told, given}
 use Rattle.dbus_capture.proofs.StepLaws.{opened_filed, filed_not_raw, turn_gathers, run_first, given_first}
 
 eq_same : (a b : ℕ) → a ≡ b → nat_eq a b ≡ true
@@ -29,7 +29,7 @@ regrouped held x xs = append_assoc held (x ∷ []) xs
 -- less than the whole head
 pub run_gathers : (s : Scan) (xs : List ℕ) → s.fault ≡ None → is_filed s.head.stage ≡ true → s.give ≡ 0 → s.skip ≡ 0 → length s.head.bytes + length xs < want s.head.stage
     → (run s xs ≡ record s { head = record { stage = s.head.stage; bytes = s.head.bytes ++ xs } }) × (given s xs ≡ [])
-unfolding run given
+unfolding run given told
 run_gathers s [] p q z k h = (ap (λ (l : List ℕ). record s { head = record { stage = s.head.stage; bytes = l } }) (sym (append-nil s.head.bytes)), refl)
 run_gathers s (x ∷ xs) p q z k h =
     let held = s.head.bytes in
@@ -49,7 +49,7 @@ run_gathers s (x ∷ xs) p q z k h =
 -- the whole head
 pub run_head : (s : Scan) (xs : List ℕ) → s.fault ≡ None → is_filed s.head.stage ≡ true → s.give ≡ 0 → s.skip ≡ 0 → xs ≢ [] → length s.head.bytes + length xs ≡ want s.head.stage
     → (run s xs ≡ decoded (record s { head = begun s.head.stage }) (s.head.bytes ++ xs)) × (given s xs ≡ [])
-unfolding run given
+unfolding run given told
 run_head s [] p q z k some h = absurd (some refl)
 run_head s (x ∷ []) p q z k some h =
     let held = s.head.bytes in

@@ -13,7 +13,7 @@ use Rattle.dbus_capture.specs.Stages.{is_filed}
 use Rattle.dbus_capture.specs.Stages.{begun}
 use Rattle.dbus_capture.specs.Scans.{place, refused}
 use Rattle.dbus_capture.specs.Blocks.{padded, after_option, pass_option, option_in}
-use Rattle.dbus_capture.specs.Steps.{run, given}
+use Rattle.dbus_capture.specs.Steps.{run, told, given}
 use Rattle.dbus_capture.specs.Reading.{Ready, InSection}
 use Rattle.dbus_capture.specs.BlockFiles.{FitsBody, InterfaceOption, option_bytes, options_bytes, FitsOption, AllFitOptions, with_option, with_options, end_bytes, FitsEnd, InterfaceBlock, block_bytes, block_body, interfaces_after, FitsBlock}
 use Rattle.dbus_capture.proofs.NumberLaws.{u32_size, u16_size, u32_last, u16_after}
@@ -191,7 +191,7 @@ option_taken t order interfaces total more i o s f =
 -- all options
 options_taken : (t : Scan) (order : ByteOrder) (interfaces : List Interface) (total more : ℕ) (i : Interface) (options : List InterfaceOption) → InOptions t order interfaces total (length (options_bytes order options) + more) i → AllFitOptions options
     → WentOn t (options_bytes order options) order interfaces total more (with_options i options)
-unfolding run given
+unfolding run given told
 options_taken t order interfaces total more i [] s f =
     record { final = t; ran = refl; gave = refl; stands = subst (λ (n : ℕ). InOptions t order interfaces total n i) (let z : 0 + more ≡ more = omega arith in z) s }
 options_taken t order interfaces total more i (o ∷ options) s f =
@@ -206,7 +206,7 @@ options_taken t order interfaces total more i (o ∷ options) s f =
 -- the end of the options
 end_taken : (t : Scan) (order : ByteOrder) (interfaces : List Interface) (total : ℕ) (i : Interface) (end : Option (List ℕ)) → InOptions t order interfaces total (length (end_bytes order end)) i → FitsEnd end
     → WentOn t (end_bytes order end) order interfaces total 0 i
-unfolding run given
+unfolding run given told
 end_taken t order interfaces total i None s f = record { final = t; ran = refl; gave = refl; stands = s }
 end_taken t order interfaces total i (Some more) s f =
     let bytes = u16_bytes order 0 ++ more in

@@ -1,6 +1,7 @@
 pub mod StepLaws
 pub mod HeadLaws
 pub mod CaptureSteps
+pub mod PacketSteps
 pub mod NumberLaws
 pub mod PcapLaws
 pub mod PcapFileLaws

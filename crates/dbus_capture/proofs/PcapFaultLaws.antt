@@ -13,7 +13,7 @@ use Rattle.dbus_capture.specs.Numbers.{u32_of, u32_bytes, u32_at}
 use Rattle.dbus_capture.specs.Stages.{want, is_raw, is_filed, Heading}
 use Rattle.dbus_capture.specs.Scans.{place, refused}
 use Rattle.dbus_capture.specs.Heads.{record_time, packet_of, passed_over, record_head}
-use Rattle.dbus_capture.specs.Steps.{Turn, Gives, Gathers, run, turn_of, turn_by, may_end, ended, given}
+use Rattle.dbus_capture.specs.Steps.{Turn, Gives, Gathers, run, turn_of, turn_by, may_end, ended, told, given}
 use Rattle.dbus_capture.specs.PcapFiles.{PcapPacket, packet_header_bytes, packets_bytes, FitsPacket, AllFitPackets, payload}
 use Rattle.dbus_capture.specs.PcapFaults.{AreBytes, IsRestFault, part_given}
 use Rattle.dbus_capture.proofs.ByteLaws.{bytes_front, bytes_back, u32_respelled, u32_fits, FourWords, four_u32s, third_u32, fourth_u32, sixteen, sixteen_size, sixteen_joined, four_cong}
@@ -229,7 +229,7 @@ respelled o bytes a b c d more body w p q r s e f =
     (sym (u32_respelled o c w.third r) ∙ ap (u32_bytes o) e) (sym (u32_respelled o d w.fourth s) ∙ ap (u32_bytes o) f)
 
 nothing_given : (s : Scan) → given s [] ≡ []
-unfolding given
+unfolding given told
 nothing_given s = refl
 
 ends_short : (s : Scan) (bytes : List ℕ) → length bytes < 16 → Between s → Outcome s bytes

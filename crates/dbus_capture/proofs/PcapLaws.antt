@@ -9,7 +9,7 @@ use Rattle.dbus_capture.specs.Stages.{want, is_filed, begun}
 use Rattle.dbus_capture.specs.Scans.{place, refused}
 use Rattle.dbus_capture.specs.Heads.{record_time, packet_of, passed_over, record_head}
 use Rattle.dbus_capture.specs.Blocks.{decoded, decoded_by}
-use Rattle.dbus_capture.specs.Steps.{run, given}
+use Rattle.dbus_capture.specs.Steps.{run, told, given}
 use Rattle.dbus_capture.specs.PcapFiles.{PcapPacket, packet_header_bytes, packets_bytes, payload, FitsPacket, AllFitPackets}
 use Rattle.dbus_capture.proofs.NumberLaws.{u32_size, u32_after, u32_last}
 use Rattle.dbus_capture.proofs.StepLaws.{run-append, given-append, run_gives}
@@ -156,7 +156,7 @@ order_after s p = refl
 -- all packets
 pub packets_taken : (s : Scan) (packets : List PcapPacket) → Between s → AllFitPackets packets
     → (run s (packets_bytes s.order packets) ≡ after_all s packets) × (given s (packets_bytes s.order packets) ≡ payload packets) × Between (after_all s packets)
-unfolding run given after_all
+unfolding run given told after_all
 packets_taken s [] b f = (refl, refl, b)
 packets_taken s (p ∷ packets) b f =
     let one = packet_taken s p b f.0 in

@@ -11,7 +11,7 @@ use Rattle.dbus_capture.specs.Numbers.{u32_of, u32_bytes, u16_bytes, u32_at, u16
 use Rattle.dbus_capture.specs.Stages.{is_raw, Heading, begun}
 use Rattle.dbus_capture.specs.Scans.{place, fresh, refused}
 use Rattle.dbus_capture.specs.Blocks.{is_length, order_mark, section_by, section_head, decoded, decoded_by}
-use Rattle.dbus_capture.specs.Steps.{Turn, Gathers, run, given, turn_of, may_end, ended}
+use Rattle.dbus_capture.specs.Steps.{Turn, Gathers, run, told, given, turn_of, may_end, ended}
 use Rattle.dbus_capture.specs.Reading.{IsRead, Ready, InSection}
 use Rattle.dbus_capture.specs.BlockFiles.{FitsBody, framed_bytes, FileBlock, InterfaceBlock, PacketBlock, ObsoleteBlock, SimpleBlock, OtherBlock, block_bytes, block_body, blocks_bytes, block_payload, blocks_payload, interfaces_after, FitsBlock, AllFitBlocks, FileSection, section_body, section_bytes, FitsSection, sections_bytes, sections_payload, AllFitSections}
 use Rattle.dbus_capture.proofs.NumberLaws.{u32_size, u16_size, u32_after, u16_after, part_after}
@@ -45,7 +45,7 @@ went_then s xs ys order order' interfaces interfaces' out more w v = record {
 }
 
 blocks_read : (s : Scan) (order : ByteOrder) (interfaces : List Interface) (blocks : List FileBlock) → InSection s order interfaces → AllFitBlocks order interfaces blocks → Went s (blocks_bytes order blocks) order (interfaces_all interfaces blocks) (blocks_payload interfaces blocks)
-unfolding run given
+unfolding run given told
 blocks_read s order interfaces [] i f = record { final = s; ran = refl; gave = refl; stands = i }
 blocks_read s order interfaces (block ∷ blocks) i f =
     let w = block_read s order interfaces block i f.0 f.1 in
@@ -220,7 +220,7 @@ record Reached (s : Scan) (bytes out : List ℕ) : Type 0 where
   went : Went s bytes order interfaces out
 
 sections_read : (s : Scan) (order : ByteOrder) (interfaces : List Interface) (sections : List FileSection) → InSection s order interfaces → AllFitSections sections → Reached s (sections_bytes sections) (sections_payload sections)
-unfolding run given
+unfolding run given told
 sections_read s order interfaces [] i f = record { order = order; interfaces = interfaces; went = record { final = s; ran = refl; gave = refl; stands = i } }
 sections_read s order interfaces (x ∷ sections) i f =
     let w = next_section s order interfaces x i f.0 in

@@ -5,7 +5,7 @@ use Rattle.dbus_capture.specs.declared.stage.Stage.{Stage}
 use Rattle.dbus_capture.specs.declared.stage.Stage.TheVariants.{Start, Raw}
 use Rattle.dbus_capture.specs.Stages.{begun, is_raw, is_filed, first_stage}
 use Rattle.dbus_capture.specs.declared.scan.Scan.{Scan}
-use Rattle.dbus_capture.specs.Steps.{Turn, Stays, Passes, Gives, Skips, Gathers, turn_by, turn_of, stepped, with_byte, opened_by, opened, step, run, given}
+use Rattle.dbus_capture.specs.Steps.{Turn, Stays, Passes, Gives, Skips, Gathers, turn_by, turn_of, stepped, with_byte, opened_by, opened, step, run, told, given}
 
 -- ---- any pieces
 
@@ -14,18 +14,23 @@ unfolding run
 run-append s [] ys = refl
 run-append s (x ∷ xs) ys = run-append (step s x) xs ys
 
-with_byte-append : (t : Turn) (b : ℕ) (xs ys : List ℕ) → with_byte t b (xs ++ ys) ≡ with_byte t b xs ++ ys
+with_byte-append : {A : Type 0} (t : Turn) (b : A) (xs ys : List A) → with_byte t b (xs ++ ys) ≡ with_byte t b xs ++ ys
 with_byte-append Stays b xs ys = refl
 with_byte-append Passes b xs ys = refl
 with_byte-append Gives b xs ys = refl
 with_byte-append Skips b xs ys = refl
 with_byte-append Gathers b xs ys = refl
 
+pub told-append : {A : Type 0} (tells : Scan → ℕ → A) (s : Scan) (xs ys : List ℕ) → told tells s (xs ++ ys) ≡ told tells s xs ++ told tells (run s xs) ys
+unfolding run told
+told-append tells s [] ys = refl
+told-append tells s (x ∷ xs) ys =
+    ap (with_byte (turn_of (opened s x)) (tells s x)) (told-append tells (step s x) xs ys)
+    ∙ with_byte-append (turn_of (opened s x)) (tells s x) (told tells (step s x) xs) (told tells (run (step s x) xs) ys)
+
 pub given-append : (s : Scan) (xs ys : List ℕ) → given s (xs ++ ys) ≡ given s xs ++ given (run s xs) ys
-unfolding run given
-given-append s [] ys = refl
-given-append s (x ∷ xs) ys =
-    ap (with_byte (turn_of (opened s x)) x) (given-append (step s x) xs ys) ∙ with_byte-append (turn_of (opened s x)) x (given (step s x) xs) (given (run (step s x) xs) ys)
+unfolding given
+given-append s xs ys = told-append (λ t b. b) s xs ys
 
 -- ---- which turn it is
 
@@ -93,14 +98,14 @@ unfolding run
 run_first s b t bytes o e = ap (λ v. run v bytes) (step_as s b t o e)
 
 pub given_first : (s : Scan) (b : ℕ) (t : Turn) (bytes : List ℕ) → opened s b ≡ s → turn_of s ≡ t → given s (b ∷ bytes) ≡ with_byte t b (given (stepped s b t) bytes)
-unfolding given
+unfolding given told
 given_first s b t bytes o e =
     ap (λ (v : Scan). with_byte (turn_of v) b (given (step s b) bytes)) o ∙ ap (λ v. with_byte v b (given (step s b) bytes)) e
     ∙ ap (λ v. with_byte t b (given v bytes)) (step_as s b t o e)
 
 -- a state that the first byte opens as another goes on as that
 pub opens : (s t : Scan) (b : ℕ) (bytes : List ℕ) → opened s b ≡ t → opened t b ≡ t → (run s (b ∷ bytes) ≡ run t (b ∷ bytes)) × (given s (b ∷ bytes) ≡ given t (b ∷ bytes))
-unfolding run given step
+unfolding run given told step
 opens s t b bytes o p =
     let e : opened s b ≡ opened t b = o ∙ sym p in (
       ap (λ (v : Scan). run (stepped v b (turn_of v)) bytes) e,
@@ -138,7 +143,7 @@ stays_by None raw give skip p = cc
 stays_by (Some f) raw give skip p = refl
 
 pub run_stopped : (s : Scan) (xs : List ℕ) → is_some s.fault ≡ true → (run s xs ≡ s) × (given s xs ≡ [])
-unfolding run given
+unfolding run given told
 run_stopped s [] p = (refl, refl)
 run_stopped s (x ∷ xs) p =
     let t : turn_of s ≡ Stays = stays_by s.fault (is_raw s.head.stage) s.give s.skip p in
@@ -147,7 +152,7 @@ run_stopped s (x ∷ xs) p =
     (run_first s x Stays xs o t ∙ rest.0, given_first s x Stays xs o t ∙ rest.1)
 
 pub run_raw : (s : Scan) (xs : List ℕ) → is_some s.fault ≡ false → is_raw s.head.stage ≡ true → (run s xs ≡ s) × (given s xs ≡ xs)
-unfolding run given
+unfolding run given told
 run_raw s [] p q = (refl, refl)
 run_raw s (x ∷ xs) p q =
     let o = opened_raw s.fault s.head.stage s x q in
@@ -157,7 +162,7 @@ run_raw s (x ∷ xs) p q =
 
 pub run_gives : (s : Scan) (xs : List ℕ) → s.fault ≡ None → is_filed s.head.stage ≡ true → length xs ≤ s.give
     → (run s xs ≡ record s { give = s.give - length xs }) × (given s xs ≡ xs)
-unfolding run given
+unfolding run given told
 run_gives s [] p q h = (ap (λ (n : ℕ). record s { give = n }) (let e : s.give ≡ s.give - 0 = omega arith in e), refl)
 run_gives s (x ∷ xs) p q h =
     let some : s.give ≡ suc (s.give - 1) = omega (arith, h) in
@@ -173,7 +178,7 @@ run_gives s (x ∷ xs) p q h =
 
 pub run_skips : (s : Scan) (xs : List ℕ) → s.fault ≡ None → is_filed s.head.stage ≡ true → s.give ≡ 0 → length xs ≤ s.skip
     → (run s xs ≡ record s { skip = s.skip - length xs }) × (given s xs ≡ [])
-unfolding run given
+unfolding run given told
 run_skips s [] p q z h = (ap (λ (n : ℕ). record s { skip = n }) (let e : s.skip ≡ s.skip - 0 = omega arith in e), refl)
 run_skips s (x ∷ xs) p q z h =
     let some : s.skip ≡ suc (s.skip - 1) = omega (arith, h) in

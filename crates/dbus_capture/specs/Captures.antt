@@ -3,7 +3,9 @@ use Rattle.std.specs.Prelude.{◌≡◌, ◌≢◌, ℕ, ◌+◌, ◌<◌, ◌�
 use Rattle.std.specs.Io.KnownBytes.{Consumes, IsAtEnd, prepend_known}
 use Rattle.dbus_device.specs.Device.{one_more}
 use Rattle.dbus_device.specs.declared.device_fault.DeviceFault.{DeviceFault}
-use Rattle.dbus_capture.specs.Steps.{IsPart, IsOfOnePacket, run, given, ended}
+use Rattle.dbus_device.specs.declared.packet.Packet.{Packet}
+use Rattle.dbus_device.specs.Packets.{Packets}
+use Rattle.dbus_capture.specs.Steps.{IsPart, IsOfOnePacket, run, given, packet_given, ended}
 use Rattle.dbus_capture.specs.declared.scan.Scan.{Scan}
 use Rattle.dbus_capture.specs.declared.capture.Capture.{Capture}
 
@@ -26,6 +28,10 @@ gave_up_of s = s.gave_up
 abbrev pub calls_of : {R : Type 0} → Capture R → ℕ
 calls_of s = s.calls
 
+-- the packet of the bytes that were handed on last, if they were of one
+abbrev pub last_packet_of : {R : Type 0} → Capture R → Option Packet
+last_packet_of s = s.packet
+
 -- how often a call failed: the source below failed in it, or it gave up
 abbrev pub failures_of : {R : Type 0} → (R → ℕ) → Capture R → ℕ
 failures_of failures s = (failures (source_of s) + gave_up_of s) % 2 ^ 64
@@ -42,6 +48,15 @@ given_of s (Some bytes) = Some (given s bytes)
 -- the bytes of the packets that were not handed on yet, if they are known
 abbrev pub left_of : {R : Type 0} → (R → Option (List ℕ)) → Capture R → Option (List ℕ)
 left_of left s = given_of (scan_of s) (file_of left s)
+
+-- of which packet each byte is that is handed on of bytes, if they are known
+abbrev pub packets_by : Scan → Option (List ℕ) → Option Packets
+packets_by s None = None
+packets_by s (Some bytes) = Some (packet_given s bytes)
+
+-- of which packet each byte is that was not handed on yet, if the bytes of the file are known
+abbrev pub packets_of : {R : Type 0} → (R → Option (List ℕ)) → Capture R → Option Packets
+packets_of left s = packets_by (scan_of s) (file_of left s)
 
 -- bytes of the file are kept, or the input is at its end
 abbrev pub HasBytes : {R : Type 0} → (R → Option (List ℕ)) → Capture R → Result Bool DeviceFault → Type 0

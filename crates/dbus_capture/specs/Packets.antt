@@ -1,6 +1,7 @@
 -- What is reported of a packet.
-use Rattle.std.specs.Prelude.{◌≡◌, ◌+◌, ◌*◌, ◌^◌, ◌<◌, ℕ, List, [], ◌++◌, length, Option, Some, None}
-use Rattle.dbus_capture.specs.declared.packet.Packet.{Packet}
+use Rattle.std.specs.Prelude.{◌≡◌, ◌+◌, ◌*◌, ◌^◌, ◌<◌, ℕ, zero, suc, List, [], ◌++◌, length, Option, Some, None, Result, Ok, Err}
+use Rattle.dbus_device.specs.declared.packet.Packet.{Packet}
+use Rattle.dbus_device.specs.declared.device_fault.DeviceFault.{DeviceFault}
 use Rattle.dbus_capture.specs.Scans.{place}
 use Rattle.dbus_capture.specs.Heads.{record_time}
 use Rattle.dbus_capture.specs.PcapFiles.{PcapHeader, PcapPacket, pcap_bytes}
@@ -10,6 +11,13 @@ use Rattle.dbus_capture.specs.declared.scan.Scan.{Scan}
 use Rattle.dbus_capture.specs.Numbers.{u32_bytes, u16_bytes}
 use Rattle.dbus_capture.specs.Blocks.{time_of}
 use Rattle.dbus_capture.specs.BlockFiles.{FileBlock, InterfaceBlock, PacketBlock, ObsoleteBlock, SimpleBlock, OtherBlock, block_kind, block_body}
+
+-- The packet of the bytes that were handed on last, after a read: the one that began last, if the
+-- read gave any, and the one before it otherwise.
+abbrev pub last_packet : Result ℕ DeviceFault → (began before : Option Packet) → Option Packet
+last_packet (Ok zero) began before = before
+last_packet (Ok (suc n)) began before = began
+last_packet (Err e) began before = before
 
 -- this is reported of the packet that began last
 abbrev pub Reports : Scan → Packet → Type 0

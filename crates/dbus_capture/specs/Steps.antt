@@ -1,5 +1,7 @@
 -- How a file is read, byte by byte. The code takes many bytes at once, and gives what this gives.
-use Rattle.std.specs.Prelude.{◌≡◌, ◌≤◌, ◌⊎◌, ℕ, zero, suc, ◌+◌, ◌-◌, ◌^◌, nat_eq, Bool, true, false, if◌then◌else◌, List, [], ◌∷◌, ◌++◌, length, Option, Some, None}
+use Rattle.std.specs.Prelude.{◌≡◌, ◌≤◌, ◌⊎◌, ℕ, zero, suc, ◌+◌, ◌-◌, ◌^◌, nat_eq, Bool, true, false, if◌then◌else◌, List, [], ◌∷◌, ◌++◌, length, get_or, Option, Some, None}
+use Rattle.dbus_device.specs.declared.packet.Packet.{Packet}
+use Rattle.dbus_device.specs.Packets.{Packets}
 use Rattle.dbus_capture.specs.declared.stage.Stage.{Stage}
 use Rattle.dbus_capture.specs.declared.stage.Stage.TheVariants.{Start, Record, Block}
 use Rattle.dbus_capture.specs.declared.fault.CaptureFault.{CaptureFault}
@@ -47,8 +49,8 @@ stepped s b Gives = record s { give = s.give - 1 }
 stepped s b Skips = record s { skip = s.skip - 1 }
 stepped s b Gathers = gathered s (s.head.bytes ++ b ∷ [])
 
--- what is handed on of a byte, and then the rest
-abbrev pub with_byte : Turn → ℕ → List ℕ → List ℕ
+-- this of a byte, if it is handed on, and then the rest
+abbrev pub with_byte : {A : Type 0} → Turn → A → List A → List A
 with_byte Stays b rest = rest
 with_byte Passes b rest = b ∷ rest
 with_byte Gives b rest = b ∷ rest
@@ -71,10 +73,22 @@ unfoldable pub run : Scan → List ℕ → Scan
 run s [] = s
 run s (b ∷ bytes) = run (step s b) bytes
 
+-- what is told of each byte that is handed on of these, by what is kept before it
+unfoldable pub told : {A : Type 0} → (Scan → ℕ → A) → Scan → List ℕ → List A
+told tells s [] = []
+told tells s (b ∷ bytes) = with_byte (turn_of (opened s b)) (tells s b) (told tells (step s b) bytes)
+
 -- what is handed on of these bytes
 unfoldable pub given : Scan → List ℕ → List ℕ
-given s [] = []
-given s (b ∷ bytes) = with_byte (turn_of (opened s b)) b (given (step s b) bytes)
+given s bytes = told (λ t b. b) s bytes
+
+-- the packet of each byte that is handed on of these: the one that began last
+unfoldable pub packets_given : Scan → List ℕ → List (Option Packet)
+packets_given s bytes = told (λ t b. t.packet) s bytes
+
+-- the packet of the byte of this number among those that are handed on
+abbrev pub packet_given : Scan → List ℕ → Packets
+packet_given s bytes i = get_or (packets_given s bytes) i None
 
 -- so many bytes were handed on, all of the packet that was under way; or no file is around them
 abbrev pub IsPart : Scan → Scan → ℕ → Type 0

@@ -8,9 +8,9 @@ use crate::byte_order::ByteOrder;
 use crate::fault::CaptureReason;
 use crate::head::Head;
 use crate::interface::{Interface, Interfaces};
-use crate::packet::Packet;
 use crate::scan::Scan;
 use crate::stage::Stage;
+use dbus_device::Packet;
 
 // A length, rounded up to a multiple of four.
 fn padded(length: u32) -> u64

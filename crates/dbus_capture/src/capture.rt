@@ -1,12 +1,12 @@
 //! A capture as a source of messages' bytes.
 ghost use Rattle.std.specs.Prelude.{◌≡◌, ◌≢◌, ◌≤◌, [], None, length};
 ghost use Rattle.dbus_device.specs.Device.{ReadCounts};
+ghost use Rattle.dbus_capture.specs.Packets.{last_packet};
 
 use crate::fault::CaptureFault;
-use crate::packet::Packet;
 use crate::scan::Scan;
 use crate::stage::Stage;
-use dbus_device::{DeviceFault, Source};
+use dbus_device::{DeviceFault, Packet, Source};
 
 // How many bytes of the file one call of the source below reads at most.
 const ROOM: usize = 65_536;
@@ -37,6 +37,8 @@ const ROOM: usize = 65_536;
 pub struct Capture<R> {
     source: R,
     scan: Scan,
+    // The packet of the bytes that were handed on last.
+    packet: Option<Packet>,
     // The bytes of the file that were read and not taken yet.
     bytes: [u8; ROOM],
     start: usize,
@@ -53,7 +55,7 @@ impl<R: Source> Capture<R> {
     ghost use Rattle.dbus_capture.specs.Stages.{is_raw};
     ghost use Rattle.std.specs.Io.KnownBytes.{Consumes};
     ghost use Rattle.dbus_capture.specs.Scans.{fresh};
-    ghost use Rattle.dbus_capture.specs.Captures.{source_of, scan_of, kept_of, gave_up_of, calls_of, file_of, HasBytes, HandsOn, ReadsPart, Waits, Stops};
+    ghost use Rattle.dbus_capture.specs.Captures.{source_of, scan_of, last_packet_of, kept_of, gave_up_of, calls_of, file_of, HasBytes, HandsOn, ReadsPart, Waits, Stops};
 
     /// The capture that this source gives. It has read nothing yet.
     ///
@@ -63,25 +65,20 @@ impl<R: Source> Capture<R> {
         ensures source { source_of result ≡ source }
         ensures kept { kept_of result ≡ [] }
         ensures scan { scan_of result ≡ fresh passes_cut Stage.Start }
+        ensures packet { last_packet_of result ≡ None }
         ensures gave_up { gave_up_of result ≡ 0 }
         ensures calls { calls_of result ≡ 0 }
     {
         Capture {
             source,
             scan: Scan::new(passes_cut, Stage::Start),
+            packet: None,
             bytes: [0; ROOM],
             start: 0,
             end: 0,
             gave_up: 0,
             calls: 0,
         }
-    }
-
-    /// The packet that began last, if one did: the one whose bytes were read last.
-    pub fn packet(&self) -> Option<Packet>
-        ensures { result ≡ (scan_of self.now).packet }
-    {
-        self.scan.packet
     }
 
     /// The fault of the file, if the reading came to it. Nothing is read after it.
@@ -116,6 +113,7 @@ impl<R: Source> Capture<R> {
             (R.failures (source_of self.new)) result }
         ensures gave_up { gave_up_of self.new ≡ gave_up_of self.old }
         ensures called { calls_of self.new ≡ calls_of self.old }
+        ensures packet { last_packet_of self.new ≡ last_packet_of self.old }
     {
         if self.start < self.end {
             return Ok(true);
@@ -136,6 +134,7 @@ impl<R: Source> Capture<R> {
         ensures source { source_of self.new ≡ source_of self.old }
         ensures gave_up { gave_up_of self.new ≡ gave_up_of self.old }
         ensures called { calls_of self.new ≡ calls_of self.old }
+        ensures packet { last_packet_of self.new ≡ last_packet_of self.old }
     {
         let bytes: &[u8] = &self.bytes;
         let piece = &bytes[self.start..self.end];
@@ -160,6 +159,7 @@ impl<R: Source> Capture<R> {
         ensures waits { Waits self.old self.new }
         ensures stops { Stops self.old self.new result }
         ensures called { calls_of self.new ≡ calls_of self.old }
+        ensures packet { last_packet_of self.new ≡ last_packet_of self.old }
     {
         if self.is_stopped() {
             return Ok(0);
@@ -186,7 +186,8 @@ impl<R: Source> Source for Capture<R> {
     ghost use Rattle.std.specs.Prelude.{IfOk};
     ghost use Rattle.std.specs.Io.KnownBytes.{ReadConsumes};
     ghost use Rattle.dbus_device.specs.Device.{one_more};
-    ghost use Rattle.dbus_capture.specs.Captures.{left_of, failures_of, calls_of, ReadsPart, Waits, Stops};
+    ghost use Rattle.dbus_device.specs.Packets.{ReadsOfPacket, LeavesPacket};
+    ghost use Rattle.dbus_capture.specs.Captures.{scan_of, left_of, failures_of, calls_of, packets_of, last_packet_of, ReadsPart, Waits, Stops};
 
     ghost left = { λ s. left_of R.left s };
 
@@ -195,6 +196,18 @@ impl<R: Source> Source for Capture<R> {
     ghost calls = { λ s. calls_of s };
 
     ghost reference = { λ s. None };
+
+    ghost packets = { λ s. packets_of R.left s };
+
+    ghost packet = { λ s. last_packet_of s };
+
+    /// The packet of the bytes that were read last, if they were of one: of a stream with no file
+    /// around it there is none. A read that gave no byte left it as it was.
+    fn packet(&self) -> Option<Packet>
+        ensures { result ≡ last_packet_of self.now }
+    {
+        self.packet
+    }
 
     /// Fills a prefix of the buffer with bytes of one packet, and returns their number.
     ///
@@ -210,12 +223,35 @@ impl<R: Source> Source for Capture<R> {
         ensures failed { ReadCounts (failures_of R.failures self.old)
             (failures_of R.failures self.new) result }
         ensures called { calls_of self.new ≡ one_more (calls_of self.old) }
+        ensures of_packet { ReadsOfPacket (packets_of R.left self.old) (packets_of R.left self.new)
+            (last_packet_of self.new) result }
+        ensures leaves_packet { LeavesPacket (last_packet_of self.old) (last_packet_of self.new)
+            result }
         // What the file has to do with it, and which packet the bytes are of.
         ensures part { ReadsPart R.left R.failures self.old self.new result buffer.new }
         ensures waits { Waits self.old self.new }
         ensures stops { Stops self.old self.new result }
+        ensures packet { last_packet_of self.new ≡
+            last_packet result (scan_of self.new).packet (last_packet_of self.old) }
     {
         self.calls = self.calls.wrapping_add(1);
-        self.read_part(buffer)
+        let read = self.read_part(buffer);
+        self.packet = last_packet(read, self.scan.packet, self.packet);
+        read
+    }
+}
+
+// The packet of the bytes that were read last, after a read: the one that began last, if the read
+// gave any, and the one before it otherwise.
+fn last_packet(
+    read: Result<usize, DeviceFault>,
+    began: Option<Packet>,
+    before: Option<Packet>,
+) -> Option<Packet>
+    ensures { result ≡ last_packet read began before }
+{
+    match read {
+        Ok(count) if count > 0 => began,
+        _ => before,
     }
 }

@@ -4,10 +4,10 @@
 //! clause `part`.
 //!
 //! [`Source::read`]: dbus_device::Source::read
-ghost use Rattle.std.specs.Prelude.{◌≡◌, ℕ, ◌++◌, List, ◌∷◌, Bool, false, Some, slice_get};
+ghost use Rattle.std.specs.Prelude.{◌≡◌, ℕ, ◌++◌, List, ◌∷◌, Bool, false, Some, None, slice_get};
 ghost use Rattle.dbus_capture.specs.Stages.{first_stage, IsFirstOfStream};
 ghost use Rattle.dbus_capture.specs.Scans.{fresh};
-ghost use Rattle.dbus_capture.specs.Steps.{run, given, ended};
+ghost use Rattle.dbus_capture.specs.Steps.{run, given, packet_given, ended};
 ghost use Rattle.dbus_capture.specs.Reading.{IsRead, InSection};
 ghost use Rattle.dbus_capture.specs.PcapFiles.{PcapHeader, PcapPacket, FitsHeader, FitsPacket, AllFitPackets, packet_header_bytes, pcap_bytes, payload};
 ghost use Rattle.dbus_capture.specs.BlockFiles.{FileBlock, FitsBlock, FitsBody, block_body, FileSection, FitsSection, AllFitSections, sections_bytes, sections_payload};
@@ -70,4 +70,11 @@ pub fn pcapng_packet_is_reported()
 /// A capture gives what begins as a message or a handshake as it is.
 pub fn streams_are_no_files()
     ensures { (first : ℕ) → IsFirstOfStream first → first_stage first ≡ stages.Raw }
+{}
+
+/// No byte of an input that is no file is of a packet.
+pub fn streams_have_no_packets()
+    ensures { (passes_cut : Bool) (first : ℕ) (rest : List ℕ) (i : ℕ) →
+        first_stage first ≡ stages.Raw →
+        packet_given (fresh passes_cut stages.Start) (first ∷ rest) i ≡ None }
 {}

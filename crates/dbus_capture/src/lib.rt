@@ -3,9 +3,9 @@
 //! A [`Capture`] reads such a file from a source, and is itself a source: of the bytes of the
 //! file's D-Bus packets, one after another, as `dbus_stream` reads them. Messages with no file
 //! around them, and a handshake, pass through it unchanged: the first byte alone says which it is.
-//! No read gives bytes of two packets, so [`Capture::packet`] says where and when what was read
-//! last was captured. A file that cannot be read has one fault ([`Capture::fault`]), at one place
-//! and for one reason, and what is read ends there.
+//! No read gives bytes of two packets, so [`Source::packet`] says where and when what was read last
+//! was captured. A file that cannot be read has one fault ([`Capture::fault`]), at one place and
+//! for one reason, and what is read ends there.
 //!
 //! The formats are those of two IETF drafts, "PCAP Capture File Format" and "PCAP Now Generic
 //! (pcapng) Capture File Format", whose sections comments name by their titles. The packets of
@@ -14,6 +14,8 @@
 //! start of the file.
 //!
 //! [`laws`] says of whole files what is read of them. An example is at [`Capture`].
+//!
+//! [`Source::packet`]: dbus_device::Source::packet
 #![tactic(auto)]
 
 mod blocks;
@@ -24,11 +26,9 @@ mod fault_text;
 mod head;
 mod interface;
 pub mod laws;
-mod packet;
 mod pcap;
 mod scan;
 mod stage;
 
 pub use capture::Capture;
 pub use fault::{CaptureFault, CaptureReason};
-pub use packet::Packet;

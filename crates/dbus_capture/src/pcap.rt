@@ -6,9 +6,9 @@ ghost use Rattle.dbus_capture.specs.Heads.{magic, record_time, file_header, file
 use crate::byte_order::ByteOrder;
 use crate::fault::{CaptureFault, CaptureReason};
 use crate::head::Head;
-use crate::packet::Packet;
 use crate::scan::Scan;
 use crate::stage::Stage;
+use dbus_device::Packet;
 
 // The order that a magic number says, and whether fractions of seconds are nanoseconds: the number
 // as a little-endian machine reads it.

@@ -5,8 +5,8 @@ use crate::byte_order::ByteOrder;
 use crate::fault::{CaptureFault, CaptureReason};
 use crate::head::Head;
 use crate::interface::{Interface, Interfaces};
-use crate::packet::Packet;
 use crate::stage::{Stage, first_stage};
+use dbus_device::Packet;
 use std::mem;
 
 /// What is kept between the bytes of a file that were taken and those that come.

@@ -1,7 +1,9 @@
 //! A reader of std's as a source.
 ghost use Rattle.std.specs.Prelude.{◌≡◌, None};
+ghost use Rattle.dbus_device.specs.Packets.{no_packets};
 
 use crate::device_fault::DeviceFault;
+use crate::packet::Packet;
 use crate::source::Source;
 use std::io::Read;
 
@@ -46,6 +48,14 @@ impl<R: Read> Source for FromRead<R> {
     ghost calls = { λ s. s.calls };
 
     ghost reference = { λ s. None };
+
+    ghost packets = { λ s. no_packets };
+
+    ghost packet = { λ s. None };
+
+    fn packet(&self) -> Option<Packet> {
+        None
+    }
 
     fn read(&mut self, buffer: &mut [u8]) -> Result<usize, DeviceFault> {
         self.calls = self.calls.wrapping_add(1);

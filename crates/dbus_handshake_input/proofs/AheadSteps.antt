@@ -1,5 +1,5 @@
 -- What is taken from a source that reads ahead.
-use Rattle.std.proofs.Common.{◌≡◌, ◌<◌, ◌≤◌, ◌+◌, ◌-◌, ◌^◌, ◌%◌, ℕ, Bool, true, false, List, [], ◌∷◌, ◌++◌, length, zero, suc, take, drop, Option, None, Some, Result, Ok, Err, sym, ap, ◌∙◌, subst, arith, append_assoc, append-nil, length-append, take-append-drop}
+use Rattle.std.proofs.Common.{◌≡◌, ◌<◌, ◌≤◌, ◌⊎◌, ◌+◌, ◌-◌, ◌^◌, ◌%◌, ℕ, Bool, true, false, List, [], ◌∷◌, ◌++◌, length, zero, suc, take, drop, Option, None, Some, Result, Ok, Err, MatchResult, nat_lt, if◌then◌else◌, inl, inr, refl, sym, ap, ◌∙◌, subst, arith, append_assoc, append-nil, length-append, take-append-drop}
 use Rattle.std.specs.Io.KnownBytes.{Consumes, Keeps, ReadConsumes, prepend_known}
 use Rattle.std.proofs.KnownBytes.{Consumes-nil, Consumes-kept, Consumes-trans}
 use Rattle.std.specs.List.{slice_range}
@@ -10,7 +10,9 @@ use Rattle.std.proofs.lemmas.Slice.{between_is}
 use Rattle.std.proofs.Math.Seq.{take-nil}
 use Rattle.dbus_device.specs.Device.{one_more}
 use Rattle.dbus_device.specs.declared.device_fault.DeviceFault.{DeviceFault}
-use Rattle.dbus_handshake_input.specs.Ahead.{source_of, kept_of, answered_of, idle_unless, Rests, Took}
+use Rattle.dbus_device.specs.declared.packet.Packet.{Packet}
+use Rattle.dbus_device.specs.Packets.{Packets, prepend_packets, PacketsAfter, AreOfPacket, ReadsOfPacket, LeavesPacket}
+use Rattle.dbus_handshake_input.specs.Ahead.{source_of, kept_of, packets_of, answered_of, idle_unless, Rests, Took}
 use Rattle.dbus_handshake_input.specs.declared.read_ahead.ReadAhead.{ReadAhead}
 
 -- a part that ends where it begins
@@ -63,6 +65,67 @@ read_nothing kept a b (Err e) buffer none h = keeps a b h
     keeps None b c = tt
     keeps (Some xs) None c = c
     keeps (Some xs) (Some ys) c = ap (λ l. kept ++ l) c
+
+-- ---- packets
+
+kept_front : (i n : ℕ) (packet : Option Packet) (rest : Packets) → i < n → (if nat_lt i n then packet else rest (i - n)) ≡ packet
+kept_front i n packet rest low = grind (arith, low)
+
+kept_after : (count left i : ℕ) (packet : Option Packet) (rest : Packets)
+    → (if nat_lt i left then packet else rest (i - left)) ≡ (if nat_lt (count + i) (count + left) then packet else rest (count + i - (count + left)))
+kept_after count left i packet rest =
+    let same : nat_lt i left ≡ nat_lt (count + i) (count + left) = grind arith in
+    let number : i - left ≡ count + i - (count + left) = omega arith in
+    ap (λ (b : Bool). if b then packet else rest (i - left)) same ∙ ap (λ (k : ℕ). if nat_lt (count + i) (count + left) then packet else rest k) number
+
+kept_read : (old new front : List ℕ) (count : ℕ) (packet : Option Packet) (rest : Option Packets) → old ≡ front ++ new → length front ≡ count
+    → ReadsOfPacket {E = DeviceFault} (prepend_packets (length old) packet rest) (prepend_packets (length new) packet rest) packet (Ok count)
+kept_read old new front count packet None joined size = (tt, tt)
+kept_read old new front count packet (Some rest) joined size =
+    let total : count + length new ≡ length old = let all = ap length joined in let both = length-append front new in omega (arith, all, both, size) in
+    subst (λ (n : ℕ). ReadsOfPacket {E = DeviceFault} (prepend_packets n packet (Some rest)) (prepend_packets (length new) packet (Some rest)) packet (Ok count)) total (
+      λ i. kept_after count (length new) i packet rest,
+      λ i low. kept_front i (count + length new) packet rest (omega (arith, low)),
+    )
+
+-- bytes that were kept are of their packet
+pub kept_given : {R : Type 0} (packets : R → Option Packets) (packet : R → Option Packet) (old new : ReadAhead R) (front : List ℕ) (count : ℕ) → source_of new ≡ source_of old
+    → kept_of old ≡ front ++ kept_of new → length front ≡ count → ReadsOfPacket {E = DeviceFault} (packets_of packets packet old) (packets_of packets packet new) (packet (source_of new)) (Ok count)
+kept_given {R = R} packets packet old new front count same joined size =
+    subst (λ (s : R). ReadsOfPacket {E = DeviceFault} (packets_of packets packet old) (prepend_packets (length (kept_of new)) (packet s) (packets s)) (packet s) (Ok count)) (sym same)
+    (kept_read (kept_of old) (kept_of new) front count (packet (source_of old)) (packets (source_of old)) joined size)
+
+kept_none : (i : ℕ) (packet : Option Packet) (rest : Packets) → (if nat_lt i 0 then packet else rest (i - 0)) ≡ rest i
+kept_none i packet rest =
+    let past : nat_lt i 0 ≡ false = grind arith in
+    let same : i - 0 ≡ i = omega arith in
+    ap (λ (b : Bool). if b then packet else rest (i - 0)) past ∙ ap rest same
+
+after_prepended : (kept n : ℕ) (p q : Option Packet) (a b : Option Packets) → (kept ≡ 0) ⊎ ((n ≡ 0) × (q ≡ p)) → PacketsAfter n a b → PacketsAfter n (prepend_packets kept p a) (prepend_packets kept q b)
+after_prepended kept n p q None b one h = tt
+after_prepended kept n p q (Some x) None one h = h
+after_prepended zero n p q (Some x) (Some y) (inl none) h = λ i. kept_none i q y ∙ h i ∙ sym (kept_none (n + i) p x)
+after_prepended (suc kept) n p q (Some x) (Some y) (inl none) h = absurd (omega (arith, none))
+after_prepended kept zero p q (Some x) (Some y) (inr same) h = λ i.
+    let less : 0 + (i - kept) ≡ i - kept = omega arith in
+    let none : i ≡ 0 + i = omega arith in
+    ap (λ v. if nat_lt i kept then v else y (i - kept)) same.1 ∙ ap (λ v. if nat_lt i kept then p else v) (h (i - kept) ∙ ap x less)
+    ∙ ap (λ (k : ℕ). if nat_lt k kept then p else x (k - kept)) none
+after_prepended kept (suc n) p q (Some x) (Some y) (inr same) h = absurd (let none = same.0 in omega (arith, none))
+
+are_prepended : (kept n : ℕ) (p q : Option Packet) (a : Option Packets) → (kept ≡ 0) ⊎ (n ≡ 0) → AreOfPacket n a q → AreOfPacket n (prepend_packets kept p a) q
+are_prepended kept n p q None one h = tt
+are_prepended zero n p q (Some x) one h = λ i low. kept_none i p x ∙ h i low
+are_prepended (suc kept) n p q (Some x) (inl none) h = absurd (omega (arith, none))
+are_prepended (suc kept) zero p q (Some x) (inr none) h = λ i low. absurd (omega (arith, low))
+are_prepended (suc kept) (suc n) p q (Some x) (inr none) h = absurd (omega (arith, none))
+
+-- a read of the source below where nothing is kept, or into no room
+pub packets_through : (kept : ℕ) (p q : Option Packet) (a b : Option Packets) (r : Result ℕ DeviceFault) → ((kept ≡ 0) ⊎ MatchResult r (λ n. n ≡ 0) (λ e. Unit {0})) → LeavesPacket p q r
+    → ReadsOfPacket a b q r → ReadsOfPacket (prepend_packets kept p a) (prepend_packets kept q b) q r
+packets_through kept p q a b (Ok n) (inl none) leaves h = (after_prepended kept n p q a b (inl none) h.0, are_prepended kept n p q a (inl none) h.1)
+packets_through kept p q a b (Ok n) (inr none) leaves h = (after_prepended kept n p q a b (inr (none, leaves none)) h.0, are_prepended kept n p q a (inr none) h.1)
+packets_through kept p q a b (Err e) one leaves h = after_prepended kept 0 p q a b (inr (refl, leaves)) h
 
 -- the calls for bytes that were kept or taken, of which each gave a byte but the last
 few_calls : (k0 k1 x y m n r : ℕ) → 0 < m + n → m ≤ r + 0 → (0 < m → m + k0 ≤ x + 1) → (0 < n → n + k1 ≤ y + 1) → k0 + r ≡ x + k1 → m + n + k0 ≤ (x + y) + 1

@@ -3,6 +3,8 @@ use Rattle.std.specs.Prelude.{ℕ, ◌≡◌, ◌≢◌, ◌⊎◌, ◌<◌, ◌
 use Rattle.std.specs.Io.KnownBytes.{Consumes, IsAtEnd}
 use Rattle.dbus_device.specs.Device.{one_more, RisesBy}
 use Rattle.dbus_device.specs.declared.device_fault.DeviceFault.{DeviceFault}
+use Rattle.dbus_device.specs.declared.packet.Packet.{Packet}
+use Rattle.dbus_device.specs.Packets.{Packets, prepend_packets}
 use Rattle.dbus_handshake_input.specs.declared.read_ahead.ReadAhead.{ReadAhead}
 
 -- the device below
@@ -21,6 +23,11 @@ answered_of s = s.answered
 -- were kept
 abbrev pub calls_of : {R : Type 0} → (R → ℕ) → ReadAhead R → ℕ
 calls_of calls s = (calls (source_of s) + answered_of s) % 2 ^ 64
+
+-- Of which packet each byte is that it has not given yet, if the device below reports that: it read
+-- the bytes that are kept at once, last.
+abbrev pub packets_of : {R : Type 0} → (R → Option Packets) → (R → Option Packet) → ReadAhead R → Option Packets
+packets_of packets packet s = prepend_packets (length (kept_of s)) (packet (source_of s)) (packets (source_of s))
 
 -- the device below was not called, and no call was answered
 pub record Rests {R : Type 0} (old new : ReadAhead R) : Type 0 where

@@ -3,7 +3,7 @@ ghost use Rattle.std.specs.Prelude.{◌≡◌, ◌≤◌, [], None};
 ghost use Rattle.std.specs.Io.KnownBytes.{prepend_known};
 ghost use Rattle.std.specs.List.{slice_range};
 
-use dbus_device::{DeviceFault, Source};
+use dbus_device::{DeviceFault, Packet, Source};
 
 // How many bytes are read ahead at most.
 const ROOM: usize = 512;
@@ -101,7 +101,8 @@ impl<R: Source> Source for ReadAhead<R> {
     ghost use Rattle.std.specs.Prelude.{◌+◌, ◌^◌, ◌%◌, ◌⊎◌, length, IfOk};
     ghost use Rattle.std.specs.Io.KnownBytes.{ReadConsumes};
     ghost use Rattle.dbus_device.specs.Device.{one_more, ReadCounts};
-    ghost use Rattle.dbus_handshake_input.specs.Ahead.{source_of, kept_of, calls_of, IsAnswered, IsPassedOn};
+    ghost use Rattle.dbus_device.specs.Packets.{ReadsOfPacket, LeavesPacket};
+    ghost use Rattle.dbus_handshake_input.specs.Ahead.{source_of, kept_of, calls_of, packets_of, IsAnswered, IsPassedOn};
 
     ghost left = { λ s. prepend_known (slice_range s.bytes s.start s.end) (R.left s.source) };
 
@@ -111,6 +112,18 @@ impl<R: Source> Source for ReadAhead<R> {
 
     ghost reference = { λ s. None };
 
+    ghost packets = { λ s. packets_of R.packets R.packet s };
+
+    ghost packet = { λ s. R.packet s.source };
+
+    /// The packet of the bytes that were read last, if they were of one: that of the source below,
+    /// which gave all bytes that are kept at once, last.
+    fn packet(&self) -> Option<Packet>
+        ensures { result ≡ R.packet (source_of self.now) }
+    {
+        self.source.packet()
+    }
+
     fn read(&mut self, buffer: &mut [u8]) -> Result<usize, DeviceFault>
         ensures bound { IfOk result (λ n. n ≤ length buffer.new) }
         ensures bytes { ReadConsumes (prepend_known (kept_of self.old) (R.left (source_of self.old)))
@@ -118,6 +131,10 @@ impl<R: Source> Source for ReadAhead<R> {
         ensures failed { ReadCounts (R.failures (source_of self.old))
             (R.failures (source_of self.new)) result }
         ensures called { calls_of R.calls self.new ≡ one_more (calls_of R.calls self.old) }
+        ensures of_packet { ReadsOfPacket (packets_of R.packets R.packet self.old)
+            (packets_of R.packets R.packet self.new) (R.packet (source_of self.new)) result }
+        ensures leaves_packet { LeavesPacket (R.packet (source_of self.old))
+            (R.packet (source_of self.new)) result }
         // The source below is called once, or not at all if bytes are given that were kept.
         ensures reaches { IsAnswered self.old self.new (length buffer.new) ⊎
             IsPassedOn R.calls self.old self.new (length buffer.new) }

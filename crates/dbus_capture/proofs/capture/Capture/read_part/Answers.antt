@@ -42,7 +42,7 @@ returns-then-not-branch-clause-part g c =
     let left = g.R.Source.left in
     let failures = g.R.Source.failures in
     let e = c.in_ok-fill.ensures in
-    let filled = passes_filled left failures c.turns.turn c.args.self.now c.turns.self c.fill.new.self c.turns.invariant e.file e.scan e.failed e.gave_up e.called e.keeps in
+    let filled = passes_filled left failures c.turns.turn c.args.self.now c.turns.self c.fill.new.self c.turns.invariant e.file e.scan e.failed e.gave_up e.called e.packet e.keeps in
     part_end left failures c.turns.turn c.args.self.now c.fill.new.self _ c.turns.buffer filled refl refl refl c.end.ensures
     (subst (λ (b : Bool). HasBytes left c.fill.new.self (Ok b)) c.if-not-branch.true e.has)
 
@@ -60,7 +60,7 @@ returns-then-count-gt0-clause-part g c =
     let left = g.R.Source.left in
     let failures = g.R.Source.failures in
     let e = c.in_ok-fill.ensures in
-    let filled = passes_filled left failures c.turns.turn c.args.self.now c.turns.self c.fill.new.self c.turns.invariant e.file e.scan e.failed e.gave_up e.called e.keeps in
+    let filled = passes_filled left failures c.turns.turn c.args.self.now c.turns.self c.fill.new.self c.turns.invariant e.file e.scan e.failed e.gave_up e.called e.packet e.keeps in
     let h = c.hand_on-count.ensures in (
       record { source = ap failures h.source ∙ filled.unfailed.source; gave_up = h.gave_up ∙ filled.unfailed.gave_up },
       inl (
@@ -76,7 +76,7 @@ returns-then-count-gt0-clause-part g c =
 pub returns-then-count-gt0-clause-waits : goal.returns-then-count-gt0-clause-waits
 returns-then-count-gt0-clause-waits g c some =
     let e = c.in_ok-fill.ensures in
-    let filled = passes_filled g.R.Source.left g.R.Source.failures c.turns.turn c.args.self.now c.turns.self c.fill.new.self c.turns.invariant e.file e.scan e.failed e.gave_up e.called e.keeps in
+    let filled = passes_filled g.R.Source.left g.R.Source.failures c.turns.turn c.args.self.now c.turns.self c.fill.new.self c.turns.invariant e.file e.scan e.failed e.gave_up e.called e.packet e.keeps in
     c.hand_on-count.ensures.source ∙ (filled.waits some).0
 
 some_there : (l : List ℕ) → (l ≡ [] → ⊥) → 0 < length l
@@ -91,7 +91,7 @@ turns-preserved g c =
     let left = g.R.Source.left in
     let failures = g.R.Source.failures in
     let e = c.in_ok-fill.ensures in
-    let filled = passes_filled left failures c.turns.turn c.args.self.now c.turns.self c.fill.new.self c.turns.invariant e.file e.scan e.failed e.gave_up e.called e.keeps in
+    let filled = passes_filled left failures c.turns.turn c.args.self.now c.turns.self c.fill.new.self c.turns.invariant e.file e.scan e.failed e.gave_up e.called e.packet e.keeps in
     let h = c.hand_on-count.ensures in
     let few = c.if-count-gt0.false in
     let zero : c.hand_on-count.result ≡ 0 = omega (arith, few) in
@@ -99,7 +99,7 @@ turns-preserved g c =
     let some = some_there (kept_of c.fill.new.self) (subst (λ (b : Bool). HasBytes left c.fill.new.self (Ok b)) c.if-not-branch.false e.has) in
     let room = some_room (length c.turns.buffer) c.is_empty.result (c.is_empty.ensures ∙ ap (λ (k : ℕ). nat_eq k 0) c.hand_on-count.auto.buffer) c.if-is_empty.false in
     passes_more left failures c.turns.turn c.args.self.now c.fill.new.self c.hand_on-count.new.self c.hand_on-count.result filled
-    (subst (λ (l : List ℕ). HandsOn c.fill.new.self c.hand_on-count.new.self c.hand_on-count.result l) none h.moved) (h.some some room) h.source h.gave_up h.called
+    (subst (λ (l : List ℕ). HandsOn c.fill.new.self c.hand_on-count.new.self c.hand_on-count.result l) none h.moved) (h.some some room) h.source h.gave_up h.called h.packet
 
 pub returns-clause-part : goal.returns-clause-part
 returns-clause-part g c =

@@ -4,7 +4,7 @@ use Rattle.dbus_capture.specs.declared.stage.Stage.{Stage}
 use Rattle.dbus_capture.specs.declared.fault.CaptureFault.{CaptureFault}
 use Rattle.dbus_capture.specs.declared.stage.Stage.TheVariants.{Start, Raw, FileHeader, Section}
 use Rattle.dbus_capture.specs.Stages.{is_raw, first_stage, Heading, begun}
-use Rattle.dbus_capture.specs.Steps.{run, given}
+use Rattle.dbus_capture.specs.Steps.{run, told, given}
 use Rattle.dbus_capture.proofs.StepLaws.{opens_start, opened_raw, opened_filed, filed_or_raw, run_raw}
 use Rattle.dbus_capture.proofs.scan.Scan.take_first.Goals as goal
 
@@ -13,7 +13,7 @@ unfolding run
 returns-then-is_empty-clause-runs c = refl
 
 pub returns-then-is_empty-clause-gives : goal.returns-then-is_empty-clause-gives
-unfolding given
+unfolding given told
 returns-then-is_empty-clause-gives c = refl
 
 nonempty : (l : List ℕ) (b : Bool) → b ≡ nat_eq (length l) 0 → b ≡ false → 0 < length l

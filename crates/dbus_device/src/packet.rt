@@ -1,7 +1,8 @@
-//! A packet of a capture.
+//! A packet that bytes came in.
 
-/// What a capture says of a packet of D-Bus. "Packet Record" in a pcap file, "Enhanced Packet
-/// Block", "Simple Packet Block" and the obsolete "Packet Block" in a pcapng file.
+/// A packet of a device that gives its bytes in packets, such as a captured one in a file. "Packet
+/// Record" in a pcap file, "Enhanced Packet Block", "Simple Packet Block" and the obsolete "Packet
+/// Block" in a pcapng file.
 #[derive(Clone, Copy, Debug, PartialEq, Eq)]
 pub struct Packet {
     /// The number of the packet among those that were not passed over, from 1 on, modulo 2^64.

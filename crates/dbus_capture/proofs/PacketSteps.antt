@@ -1,0 +1,177 @@
+-- Of which packets the bytes are that a capture hands on.
+use Rattle.std.proofs.Common.{◌≡◌, ◌≤◌, ◌+◌, ℕ, zero, suc, Bool, List, [], ◌∷◌, ◌++◌, length, get_or, replicate, Option, None, Some, Result, Ok, Err, MatchResult, inl, inr, refl, sym, ap, ◌∙◌, subst, arith}
+use Rattle.std.specs.Io.KnownBytes.{Consumes, IsAtEnd, prepend_known}
+use Rattle.std.proofs.lemmas.List.{length-take-le, get_or_append_left, get_or-append-add, get_or-replicate}
+use Rattle.dbus_device.specs.declared.device_fault.DeviceFault.{DeviceFault}
+use Rattle.dbus_device.specs.declared.packet.Packet.{Packet}
+use Rattle.dbus_device.specs.Packets.{Packets, PacketsAfter, AreOfPacket, ReadsOfPacket}
+use Rattle.dbus_capture.specs.declared.fault.CaptureFault.{CaptureFault}
+use Rattle.dbus_capture.specs.declared.stage.Stage.{Stage}
+use Rattle.dbus_capture.specs.declared.stage.Stage.TheVariants.{Start, Raw}
+use Rattle.dbus_capture.specs.declared.scan.Scan.{Scan}
+use Rattle.dbus_capture.specs.declared.capture.Capture.{Capture}
+use Rattle.dbus_capture.specs.Stages.{begun, is_raw, first_stage}
+use Rattle.dbus_capture.specs.Scans.{fresh}
+use Rattle.dbus_capture.specs.Steps.{Turn, Stays, Passes, Gives, Skips, Gathers, turn_of, stepped, with_byte, opened_by, opened, step, run, told, given, packets_given, packet_given}
+use Rattle.dbus_capture.specs.Captures.{scan_of, source_of, kept_of, file_of, packets_by, packets_of, ReadsPart}
+use Rattle.dbus_capture.specs.Packets.{last_packet}
+use Rattle.dbus_capture.proofs.StepLaws.{run-append, told-append, opened_raw, opens, run_raw}
+
+-- ---- as many packets as bytes
+
+with_byte-size : {A B : Type 0} (t : Turn) (a : A) (b : B) (xs : List A) (ys : List B) → length xs ≡ length ys → length (with_byte t a xs) ≡ length (with_byte t b ys)
+with_byte-size Stays a b xs ys e = e
+with_byte-size Passes a b xs ys e = ap suc e
+with_byte-size Gives a b xs ys e = ap suc e
+with_byte-size Skips a b xs ys e = e
+with_byte-size Gathers a b xs ys e = e
+
+told-size : {A B : Type 0} (f : Scan → ℕ → A) (g : Scan → ℕ → B) (s : Scan) (xs : List ℕ) → length (told f s xs) ≡ length (told g s xs)
+unfolding told
+told-size f g s [] = refl
+told-size f g s (x ∷ xs) = with_byte-size (turn_of (opened s x)) (f s x) (g s x) (told f (step s x) xs) (told g (step s x) xs) (told-size f g (step s x) xs)
+
+packets-size : (s : Scan) (xs : List ℕ) → length (packets_given s xs) ≡ length (given s xs)
+unfolding packets_given given
+packets-size s xs = told-size (λ t b. t.packet) (λ t b. b) s xs
+
+packets-append : (s : Scan) (xs ys : List ℕ) → packets_given s (xs ++ ys) ≡ packets_given s xs ++ packets_given (run s xs) ys
+unfolding packets_given
+packets-append s xs ys = told-append (λ t b. t.packet) s xs ys
+
+nothing_told : (l : List (Option Packet)) → length l ≡ 0 → l ≡ []
+nothing_told [] e = refl
+nothing_told (x ∷ l) e = absurd (omega (arith, e))
+
+no_packet : (s : Scan) (xs : List ℕ) → given s xs ≡ [] → packets_given s xs ≡ []
+no_packet s xs none = nothing_told (packets_given s xs) (packets-size s xs ∙ ap length none)
+
+-- ---- bytes that are all handed on
+
+with_byte-most : {A : Type 0} (t : Turn) (a : A) (xs : List A) → length (with_byte t a xs) ≤ suc (length xs)
+with_byte-most Stays a xs = omega arith
+with_byte-most Passes a xs = omega arith
+with_byte-most Gives a xs = omega arith
+with_byte-most Skips a xs = omega arith
+with_byte-most Gathers a xs = omega arith
+
+told-most : {A : Type 0} (f : Scan → ℕ → A) (s : Scan) (xs : List ℕ) → length (told f s xs) ≤ length xs
+unfolding told
+told-most f s [] = omega arith
+told-most f s (x ∷ xs) =
+    let here = with_byte-most (turn_of (opened s x)) (f s x) (told f (step s x) xs) in
+    let more = told-most f (step s x) xs in
+    omega (arith, here, more)
+
+opened_packet : (f : Option CaptureFault) (stage : Stage) (s : Scan) (b : ℕ) → (opened_by f stage s b).packet ≡ s.packet
+opened_packet (Some f) stage s b = refl
+opened_packet None Start s b = refl
+opened_packet None _ s b = refl
+
+-- a byte is handed on, if as many are as there are
+stepped_packet : (v : Scan) (b : ℕ) (t : Turn) (packet : Option Packet) (rest : List (Option Packet)) (n : ℕ) → length rest ≤ n → length (with_byte t packet rest) ≡ suc n
+    → ((stepped v b t).packet ≡ v.packet) × (with_byte t packet rest ≡ packet ∷ rest)
+stepped_packet v b Stays packet rest n few e = absurd (omega (arith, few, e))
+stepped_packet v b Passes packet rest n few e = (refl, refl)
+stepped_packet v b Gives packet rest n few e = (refl, refl)
+stepped_packet v b Skips packet rest n few e = absurd (omega (arith, few, e))
+stepped_packet v b Gathers packet rest n few e = absurd (omega (arith, few, e))
+
+-- they are all of one packet
+one_packet : (s : Scan) (xs : List ℕ) → length (packets_given s xs) ≡ length xs → ((run s xs).packet ≡ s.packet) × (packets_given s xs ≡ replicate (length xs) s.packet)
+unfolding run packets_given told step
+one_packet s [] e = (refl, refl)
+one_packet s (x ∷ xs) e =
+    let rest = packets_given (step s x) xs in
+    let here = stepped_packet (opened s x) x (turn_of (opened s x)) s.packet rest (length xs) (told-most (λ t b. t.packet) (step s x) xs) e in
+    let same : (step s x).packet ≡ s.packet = here.0 ∙ opened_packet s.fault s.head.stage s x in
+    let all = ap length here.1 in
+    let more = one_packet (step s x) xs (omega (arith, e, all)) in (
+      more.0 ∙ same,
+      here.1 ∙ ap (λ l. s.packet ∷ l) (more.1 ∙ ap (replicate (length xs)) same),
+    )
+
+-- ---- the packets of what is read, and of what is left
+
+packets_left : (s t : Scan) (a b : Option (List ℕ)) (used : List ℕ) (n : ℕ) → Consumes a b used → length (given s used) ≡ n → t ≡ run s used → PacketsAfter n (packets_by s a) (packets_by t b)
+packets_left s t None b used n c size ran = tt
+packets_left s t (Some x) None used n c size ran = absurd c
+packets_left s t (Some x) (Some y) used n c size ran = λ i.
+    let front = packets_given s used in
+    let back = packets_given (run s used) y in
+    let split = ap (packets_given s) c ∙ packets-append s used y in
+    ap (λ (v : Scan). packet_given v y i) ran ∙ sym (get_or-append-add front back i None)
+    ∙ ap (λ (k : ℕ). get_or (front ++ back) (k + i) None) (packets-size s used ∙ size) ∙ ap (λ l. get_or l (n + i) None) (sym split)
+
+packets_end : (s t : Scan) (a b : Option (List ℕ)) (used kept : List ℕ) → Consumes a (prepend_known kept b) used → given s used ≡ [] → kept ≡ [] → IsAtEnd b
+    → PacketsAfter 0 (packets_by s a) (packets_by t (prepend_known kept b))
+unfolding packets_given told
+packets_end s t None b used kept c gave none end = tt
+packets_end s t (Some x) None used kept c gave none end = absurd c
+packets_end s t (Some x) (Some y) used kept c gave none end = λ i.
+    let nothing : kept ++ y ≡ [] = ap (λ l. l ++ y) none ∙ end in
+    let all : x ≡ used ++ [] = c ∙ ap (λ l. used ++ l) nothing in
+    let empty : packets_given s x ≡ [] = ap (packets_given s) all ∙ packets-append s used [] ∙ ap (λ l. l ++ []) (no_packet s used gave) in
+    ap (λ (l : List ℕ). packet_given t l i) nothing ∙ sym (ap (λ l. get_or l (0 + i) None) empty)
+
+packets_read : (s : Scan) (a b : Option (List ℕ)) (before last used : List ℕ) (n : ℕ) → Consumes a b used → used ≡ before ++ last → length last ≡ n → given s before ≡ []
+    → length (given s used) ≡ n → AreOfPacket n (packets_by s a) (run s used).packet
+packets_read s None b before last used n c joined size none gave = tt
+packets_read s (Some x) None before last used n c joined size none gave = absurd c
+packets_read s (Some x) (Some y) before last used n c joined size none gave = λ i low.
+    let u = run s before in
+    let split = ap (packets_given s) c ∙ packets-append s used y in
+    let all : packets_given s used ≡ packets_given u last =
+    ap (packets_given s) joined ∙ packets-append s before last ∙ ap (λ l. l ++ packets_given u last) (no_packet s before none) in
+    let many : length (packets_given s used) ≡ n = packets-size s used ∙ gave in
+    let one = one_packet u last (ap length (sym all) ∙ many ∙ sym size) in
+    ap (λ l. get_or l i None) split ∙ get_or_append_left (packets_given s used) (packets_given (run s used) y) None i (omega (arith, low, many))
+    ∙ ap (λ l. get_or l i None) (all ∙ one.1) ∙ get_or-replicate (length last) i u.packet None (omega (arith, low, size))
+    ∙ sym (ap (λ (v : Scan). v.packet) (ap (run s) joined ∙ run-append s before last) ∙ one.0)
+
+of_none : (a : Option Packets) (packet : Option Packet) → AreOfPacket 0 a packet
+of_none None packet = tt
+of_none (Some packets) packet = λ i low. absurd (omega (arith, low))
+
+-- what was read is of the packet that began last
+pub part_packets : {R : Type 0} (left : R → Option (List ℕ)) (failures : R → ℕ) (old new : Capture R) (r : Result ℕ DeviceFault) (buffer : List ℕ) (before : Option Packet)
+    → MatchResult r (λ n. n ≤ length buffer) (λ e. Unit {0}) → ReadsPart left failures old new r buffer
+    → ReadsOfPacket (packets_of left old) (packets_of left new) (last_packet r (scan_of new).packet before) r
+part_packets left failures old new (Err e) buffer before b (inl f) =
+    let r = f.reads in packets_left (scan_of old) (scan_of new) (file_of left old) (file_of left new) r.used 0 r.consumed (ap length r.gave) r.ran
+part_packets left failures old new (Err e) buffer before b (inr f) =
+    let r = f.reads in packets_left (scan_of old) (scan_of new) (file_of left old) (file_of left new) r.used 0 r.consumed (ap length r.gave) r.ran
+part_packets left failures old new (Ok zero) buffer before b (u, inl g) =
+    let r = g.0.reads in (
+      packets_left (scan_of old) (scan_of new) (file_of left old) (file_of left new) r.used 0 r.consumed (ap length r.gave) r.ran,
+      of_none (packets_of left old) before,
+    )
+part_packets left failures old new (Ok (suc n)) buffer before b (u, inl g) =
+    let r = g.0.reads in
+    let one = g.0.one (omega arith) in
+    let size = ap length r.gave ∙ length-take-le (suc n) buffer b in (
+      packets_left (scan_of old) (scan_of new) (file_of left old) (file_of left new) r.used (suc n) r.consumed size r.ran,
+      subst (AreOfPacket (suc n) (packets_of left old)) (sym (ap (λ (v : Scan). v.packet) r.ran))
+          (packets_read (scan_of old) (file_of left old) (file_of left new) one.before one.last r.used (suc n) r.consumed one.joined one.size one.nothing size),
+    )
+part_packets left failures old new (Ok zero) buffer before b (u, inr g) = (
+  packets_end (scan_of old) (scan_of new) (file_of left old) (left (source_of new)) g.1.used (kept_of new) g.1.consumed g.1.gave g.1.nothing g.1.at_end,
+  of_none (packets_of left old) before,
+)
+part_packets left failures old new (Ok (suc n)) buffer before b (u, inr g) = absurd (let zero = g.0 in omega (arith, zero))
+
+-- ---- a stream with no file around it
+
+defaults : (n i : ℕ) (packet : Option Packet) → get_or (replicate n packet) i packet ≡ packet
+defaults zero i packet = refl
+defaults (suc n) zero packet = refl
+defaults (suc n) (suc i) packet = defaults n i packet
+
+pub stream_packets : (passes : Bool) (first : ℕ) (rest : List ℕ) (i : ℕ) → first_stage first ≡ Raw → packet_given (fresh passes Start) (first ∷ rest) i ≡ None
+stream_packets passes first rest i raw =
+    let s = fresh passes Start in
+    let t : Scan = record s { head = begun (first_stage first) } in
+    let is = ap is_raw raw in
+    let same = (opens s t first rest refl (opened_raw None (first_stage first) t first is)).1 ∙ (run_raw t (first ∷ rest) refl is).1 in
+    let one = one_packet s (first ∷ rest) (packets-size s (first ∷ rest) ∙ ap length same) in
+    ap (λ l. get_or l i None) one.1 ∙ defaults (length (first ∷ rest)) i None
