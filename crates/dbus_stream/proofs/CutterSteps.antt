@@ -1,7 +1,7 @@
 -- The steps of a cutter: what its checker answers, and what comes of it.
 use Rattle.std.proofs.Common.{◌≡◌, ℕ, ◌+◌, ◌<◌, ◌≤◌, List, [], ◌++◌, length, take, None, Some, Ok, Err, refl, sym, ap, subst, ◌∙◌, arith}
 use Rattle.std.proofs.Math.Seq.{take-append-add}
-use Rattle.std.specs.Prelude.{IfOk}
+use Rattle.std.specs.Prelude.{IfOk, IfSome}
 use Rattle.std.proofs.lemmas.List.{length-append, length-take-le, take-append-le}
 use Rattle.dbus_value_model.specs.declared.order.Order.{Order}
 use Rattle.dbus_value_model.specs.declared.limits.Limits.{Limits}
@@ -26,7 +26,7 @@ module _ (limits : Limits) (held piece : List ℕ) (n : ℕ) (order : Order) (m 
       omega (arith, inside, all)
 
   -- and takes some of it
-  ends_later : IsPartial limits held → IsWhole limits (held ++ piece) order m (length held + n) → 0 < n
+  pub ends_later : IsPartial limits held → IsWhole limits (held ++ piece) order m (length held + n) → 0 < n
   ends_later partial w =
       let past : length held + n ≤ length held → ⊥ = λ fits.
       let front = subst (λ l. IsWhole limits l order m (length held + n)) (take-append-le (length held + n) held piece fits) (alone limits (held ++ piece) order m (length held + n) w) in
@@ -64,3 +64,9 @@ module _ {A : Type 0} (old : CutterState) (piece : List ℕ) (new : CutterState)
   answer_moves (Ok (n, None)) partial t = λ some. let e = t.1 in omega (arith, e, some)
   answer_moves (Err Memory) partial t = tt
   answer_moves (Err (Format fault)) partial t = tt
+
+  pub answer_ends : (answer : TakeAnswer A) → IsPartial old.limits old.held → TakeAnswers old piece new answer → IfOk answer (λ r. IfSome r.1 (λ given. 0 < r.0))
+  answer_ends (Ok (n, Some given)) partial t = ends_later old.limits old.held piece n given.0 (message_tree given.1) partial t.0
+  answer_ends (Ok (n, None)) partial t = tt
+  answer_ends (Err Memory) partial t = tt
+  answer_ends (Err (Format fault)) partial t = tt

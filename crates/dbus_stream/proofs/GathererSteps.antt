@@ -1,9 +1,10 @@
 -- What a gatherer makes of a piece, as the taker of a reader.
-use Rattle.std.proofs.Common.{◌≡◌, ℕ, ◌+◌, List, [], ◌++◌, true, false, Ok, Err, None, Option, Bool, length, take, refl, sym, ap, ◌∙◌, subst, arith, inl, inr}
+use Rattle.std.proofs.Common.{◌≡◌, ℕ, List, [], false, Ok, Err, None, Option, Bool, length, take, refl, sym, ap, ◌∙◌, subst, arith, inl, inr}
 use Rattle.std.proofs.Math.Nat.{zero-add}
 use Rattle.std.proofs.Math.Seq.{take-append-add}
 use Rattle.dbus_value_model.specs.declared.limits.Limits.{Limits}
-use Rattle.dbus_header.specs.MessageOutcomes.{IsWhole, IsRefused, IsPartial}
+use Rattle.dbus_header.specs.MessageOutcomes.{IsWhole}
+use Rattle.dbus_header.proofs.OutcomeLaws.{whole_inside}
 use Rattle.dbus_validate.specs.declared.validating.Validated.{Validated}
 use Rattle.dbus_validate.specs.Validating.{IsValidated, IsValidatedWhole}
 use Rattle.dbus_validate.proofs.Headed.{own_validated}
@@ -26,6 +27,7 @@ module _ (old : GathererState) (piece : List ℕ) where
         order = j.order;
         message = first.message;
         whole = subst (λ n. IsWhole old.limits piece j.order first.message n) (sym (zero-add j.length)) (subst (λ l. IsWhole l piece j.order first.message j.length) same first.whole);
+        some = (whole_inside limits piece j.order first.message j.length first.whole).0;
         gives = record {
           validated = subst (λ n. IsValidatedWhole limits (take n piece) j) (sym (zero-add j.length)) (own_validated limits piece j first);
           place = inr (open_, none, sym (zero-add j.length));
@@ -45,6 +47,7 @@ module _ (old : GathererState) (piece : List ℕ) where
         order = e.order;
         message = e.message;
         whole = e.whole;
+        some = e.some;
         gives = record { validated = subst (λ b. IsValidatedWhole old.limits b j) (sym all) own; place = inl (refl, sym all, refl) };
         holds = refl;
         lends = λ some. absurd (omega (arith, some));

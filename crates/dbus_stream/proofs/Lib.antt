@@ -2,6 +2,7 @@ pub mod CutLaws
 pub mod ValueEnds
 pub mod MessageEnds
 pub mod NextSteps
+pub mod PacketSteps
 pub mod GathererSteps
 pub mod RawSteps
 pub mod PassSteps

@@ -1,5 +1,6 @@
 -- A cutter as the taker of a reader, and where the reader stands after each answer.
 use Rattle.std.proofs.Common.{◌≡◌, ℕ, List, None, Some, Ok, Err, Option, Result, length, refl, sym, ap, ◌∙◌, subst, arith}
+use Rattle.std.specs.Prelude.{◌<◌, IfSome}
 use Rattle.dbus_value_model.specs.declared.order.Order.{Order}
 use Rattle.dbus_value_model.specs.declared.fault.Fault.{Fault}
 use Rattle.dbus_message_model.specs.declared.message.Message.{Message}
@@ -20,16 +21,17 @@ use Rattle.dbus_stream.specs.Taking.{Takes}
 
 -- what a cutter makes of a piece, as a taker
 pub cuts : {A : Type 0} (old : CutterState) (piece : List ℕ) (new : CutterState) (n : ℕ) (given : Option (Order × Message A)) → TakeAnswers old piece new (Ok (n, given))
-    → Takes (cutting A) old old.held piece new (Ok n) given
-cuts {A} old piece new n (Some given) t = subst (λ s. Takes (cutting A) old old.held piece s (Ok n) (Some given)) (sym t.1) (record {
+    → IfSome given (λ message. 0 < n) → Takes (cutting A) old old.held piece new (Ok n) given
+cuts {A} old piece new n (Some given) t some = subst (λ s. Takes (cutting A) old old.held piece s (Ok n) (Some given)) (sym t.1) (record {
   order = given.0;
   message = message_tree given.1;
   whole = t.0;
+  some = some;
   gives = t.0;
   holds = (refl, refl);
   lends = λ some. absurd (omega (arith, some));
 })
-cuts {A} old piece new n None t = subst (λ s. Takes {G = Order × Message A} (cutting A) old old.held piece s (Ok n) None) (sym t.2) (t.0, t.1, record { holds = (refl, refl); rests = tt })
+cuts {A} old piece new n None t some = subst (λ s. Takes {G = Order × Message A} (cutting A) old old.held piece s (Ok n) None) (sym t.2) (t.0, t.1, record { holds = (refl, refl); rests = tt })
 
 -- what a cutter that refuses a piece is then
 pub refuses : {A : Type 0} (old : CutterState) (piece : List ℕ) (new : CutterState) (fault : StreamFault) (given : Option (Order × Message A)) → TakeAnswers {A = A} old piece new (Err fault)

@@ -224,7 +224,7 @@ module _ {R T B G : Type 0} {b : Ghosts B} (k : Taking T G) where
         → done_of mid ≡ done_of old → KeptAnswers k v mid new res → NextAnswers k v old new res
     answers_taken v mid new (Ok (Some given)) some e d (size, g, gives, lends) =
         let whole = subst (λ limits. IsWhole limits v g.order g.message size) e g.whole in
-        (size, record { order = g.order; message = g.message; whole = whole; kept = g.kept; done = g.done ∙ ap (λ n. n + size) d; unstopped = g.unstopped }, gives, lends)
+        (size, record { order = g.order; message = g.message; whole = whole; kept = g.kept; done = g.done ∙ ap (λ n. n + size) d; unstopped = g.unstopped; in_last = g.in_last }, gives, lends)
     answers_taken v mid new (Ok None) some e d t = absurd (some refl)
     answers_taken v mid new (Err Memory) some e d t = (t.0, keeps_since v mid new d t.1, t.2)
     answers_taken v mid new (Err (Format fault)) some e d t =

@@ -1,14 +1,17 @@
 -- What a reader over a gatherer answers, and what is copied of it.
-use Rattle.std.proofs.Common.{◌≡◌, ℕ, ◌-◌, ◌<◌, ◌≤◌, List, [], ◌++◌, None, Some, Ok, Err, Option, Result, Vec, length, take, drop, refl, sym, ap, ◌∙◌, subst, arith, take-append-drop, inl, inr}
+use Rattle.std.proofs.Common.{◌≡◌, ℕ, ◌+◌, ◌-◌, ◌<◌, ◌≤◌, List, [], ◌++◌, None, Some, Ok, Err, Option, Result, Vec, length, length-append, take, drop, refl, sym, ap, ◌∙◌, subst, arith, take-append-drop, inl, inr}
 use Rattle.std.specs.List.{slice_range}
 use Rattle.std.proofs.lemmas.List.{length-take-le}
+use Rattle.dbus_device.specs.Packets.{Packets, PacketsAfter}
+use Rattle.dbus_device.specs.declared.packet.Packet.{Packet}
+use Rattle.dbus_value_model.specs.declared.limits.Limits.{Limits}
 use Rattle.dbus_value_model.specs.declared.fault.Fault.{Fault}
 use Rattle.dbus_header.proofs.OutcomeLaws.{whole_inside}
 use Rattle.dbus_validate.specs.declared.validating.Validated.{Validated}
 use Rattle.dbus_validate.specs.Validating.{IsValidatedWhole}
 use Rattle.dbus_stream.specs.Gathering.{GathererState, gathering, under_way, Rests}
 use Rattle.dbus_stream.specs.Next as next
-use Rattle.dbus_stream.specs.RawReading.{Advances, CopyAnswers, KeptAnswers, Reads, ReadsNothing, KeepsAll, Lends, GivesLent, limits_of, kept, lent_of, done_of, stopped_of, whole_or}
+use Rattle.dbus_stream.specs.RawReading.{Advances, CopyAnswers, KeptAnswers, Reads, ReadsNothing, KeepsAll, Lends, GivesLent, IsNewReader, HasPackets, limits_of, kept, lent_of, done_of, read_of, stopped_of, whole_or}
 use Rattle.dbus_stream.specs.Reading as reading
 use Rattle.dbus_stream.specs.declared.buffer.Buffer.{Ghosts}
 use Rattle.dbus_stream.specs.declared.raw_reader.RawReader.{RawReader}
@@ -119,6 +122,7 @@ module _ {R A : Type 0} where
           kept = kept_is new (drop size w) g.kept;
           done = g.done;
           unstopped = g.unstopped;
+          in_last = g.in_last;
         };
         lent = lent_is;
         validated_is = subst (λ b. IsValidatedWhole (limits_of old) b j) (sym lent_is) (subst (λ limits. IsValidatedWhole limits (take size w) j) same l.validated);
@@ -159,8 +163,8 @@ module _ {R A : Type 0} where
     answers_next old new res a = (a.0, λ unstopped. advances (kept old ++ a.0.bytes) old new res a.0.limits (a.1 unstopped))
 
     -- a copy of the message that is lent
-    copied : (w : List ℕ) (j : Validated) (old mid new : RawReader R A) (res : Result (Option (Vec ℕ A)) ReadFault) → Lends w j old mid → GivesLent mid new res → CopyAnswers w old new res
-    copied w j old mid new (Ok (Some bytes)) l c = record {
+    copied : (w : List ℕ) (j : Validated) (old mid new : RawReader R A) (res : Result (Option (Vec ℕ A)) ReadFault) → Lends w j old mid → GivesLent mid new res → ReadsNothing mid new → CopyAnswers w old new res
+    copied w j old mid new (Ok (Some bytes)) l c n = record {
       size = l.size;
       gives = record {
         order = l.gives.order;
@@ -169,12 +173,13 @@ module _ {R A : Type 0} where
         kept = c.kept ∙ l.gives.kept;
         done = c.done ∙ l.gives.done;
         unstopped = c.stopped ∙ l.gives.unstopped;
+        in_last = (let inside = l.gives.in_last in let read = n.read in let last = n.last in let done = c.done in omega (arith, inside, read, last, done));
       };
       bytes_are = c.bytes_are ∙ l.lent;
       lent = c.lent;
     }
-    copied w j old mid new (Ok None) l c = absurd c
-    copied w j old mid new (Err Memory) l c =
+    copied w j old mid new (Ok None) l c n = absurd c
+    copied w j old mid new (Err Memory) l c n =
         let inside = (whole_inside (limits_of old) w l.gives.order l.gives.message l.size l.gives.whole).1 in
         let size_is : length (lent_of mid) ≡ l.size = ap length l.lent ∙ length-take-le l.size w inside in
         let done = c.done in
@@ -186,12 +191,31 @@ module _ {R A : Type 0} where
           },
           c.stopped ∙ l.gives.unstopped,
         )
-    copied w j old mid new (Err (Format fault)) l c = absurd c
-    copied w j old mid new (Err Device) l c = absurd c
-    copied w j old mid new (Err TooManyReads) l c = absurd c
+    copied w j old mid new (Err (Format fault)) l c n = absurd c
+    copied w j old mid new (Err Device) l c n = absurd c
+    copied w j old mid new (Err TooManyReads) l c n = absurd c
 
     pub gives_copy : (j : Validated) (old mid new : RawReader R A) (res : Result (Option (Vec ℕ A)) ReadFault)
         → ((r : Reads left calls old mid) × (stopped_of old ≡ None → Advances (kept old ++ r.bytes) old mid (Ok (Some j))))
         → GivesLent mid new res → ReadsNothing mid new
         → (r : Reads left calls old new) × (stopped_of old ≡ None → CopyAnswers (kept old ++ r.bytes) old new res)
-    gives_copy j old mid new res a c n = (unread old mid new a.0 n, λ unstopped. copied (kept old ++ a.0.bytes) j old mid new res (a.1 unstopped) c)
+    gives_copy j old mid new res a c n = (unread old mid new a.0 n, λ unstopped. copied (kept old ++ a.0.bytes) j old mid new res (a.1 unstopped) c n)
+
+  module _ (packets : R → Option Packets) (packet : R → Option Packet) where
+    -- a new reader begins with the packets of its device
+    pub begins : (device : R) (most : ℕ) (limits : Limits) (r : RawReader R A) (all : Packets) → IsNewReader device most limits r → packets device ≡ Some all → HasPackets packets packet all r
+    begins device most limits r all n told =
+        let front = under_way r.reader.taker.whole r.reader.taker.held in
+        let size = ap length n.kept in
+        let both = length-append front (reading.part_of r.reader) in
+        let held = r.held_counted in
+        let done = n.done in
+        let last = n.last in
+        let none : read_of r ≡ 0 = omega (arith, size, both, held, done) in
+        record {
+          left = subst (λ (s : Option Packets). PacketsAfter (read_of r) (Some all) s) (sym (ap packets n.source ∙ told)) (λ i. ap all (let same : i ≡ read_of r + i = omega (arith, none) in same));
+          first = 0;
+          told = λ i from before. absurd (omega (arith, before, none));
+          last = omega (arith, last);
+          some = λ some. omega (arith, some);
+        }

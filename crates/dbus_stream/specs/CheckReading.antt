@@ -1,6 +1,7 @@
 -- A reader that gives the lengths of messages, by the definitions of any reader.
 use Rattle.std.specs.Prelude.{◌≡◌, ℕ, List, Option, Result}
 use Rattle.dbus_check.specs.Checks.{Stands}
+use Rattle.dbus_header.specs.MessageOutcomes.{IsPartial}
 use Rattle.dbus_value_model.specs.declared.limits.Limits.{Limits}
 use Rattle.dbus_stream.specs.declared.lengths.Lengths.{Lengths}
 use Rattle.dbus_stream.specs.Taking.{Taking}
@@ -13,11 +14,12 @@ use Rattle.dbus_stream.specs.Reading as reading
 
 -- What is known of a taker that gives the lengths of messages, and of the reader over it.
 
--- its checker was handed the bytes; of those that are at fault it says nothing
+-- its checker was handed the bytes, of which more are wanted; of those that are at fault it says
+-- nothing
 abbrev pub lengths : Taking Lengths ℕ
 lengths = record {
   limits = λ t. t.limits;
-  holds = λ t w. Stands t.checker w;
+  holds = λ t w. Stands t.checker w × IsPartial t.limits w;
   keeps = λ t w. Unit {0};
   grows = ⊥;
   gives = λ t w size given. given ≡ size;

@@ -1,5 +1,5 @@
 -- What a gatherer of messages holds, and what it makes of a piece.
-use Rattle.std.specs.Prelude.{◌≡◌, ◌⊎◌, ℕ, ◌+◌, ◌≤◌, List, [], ◌++◌, length, take, Bool, true, false, Option, None, Some, Result, Ok, Err}
+use Rattle.std.specs.Prelude.{◌≡◌, ◌⊎◌, ℕ, ◌+◌, ◌<◌, ◌≤◌, List, [], ◌++◌, length, take, Bool, true, false, Option, None, Some, Result, Ok, Err}
 use Rattle.dbus_value_model.specs.declared.order.Order.{Order}
 use Rattle.dbus_value_model.specs.declared.limits.Limits.{Limits}
 use Rattle.dbus_message_model.specs.Messages.{MessageTree}
@@ -52,9 +52,10 @@ pub record IsUnderWay (g : GathererState) : Type 0 where
   pub not_whole : g.whole ≡ false
   pub unlent : g.lent ≡ 0
 
--- the message ends with the first n bytes of the piece, and is held
+-- the message ends with the first n bytes of the piece, of which there is one at least, and is held
 pub record Gathered (old : GathererState) (piece : List ℕ) (n : ℕ) (new : GathererState) : Type 0 where
   pub fits : n ≤ length piece
+  pub some : 0 < n
   pub order : Order
   pub message : MessageTree
   pub whole : IsWhole old.limits (old.held ++ piece) order message (length old.held + n)

@@ -5,6 +5,7 @@ pub mod CutEnds
 pub mod Taking
 pub mod Rooms
 pub mod Reading
+pub mod Packets
 pub mod Next
 pub mod Steps
 pub mod CheckReading

@@ -1,11 +1,14 @@
 -- A reader that gives messages: what it keeps, and what it answers. D-Bus Specification, "Message
 -- Protocol".
 use Rattle.std.specs.Prelude.{◌≡◌, ◌++◌, ℕ, List, [], slice_range, false, Option, None, Result}
+use Rattle.dbus_device.specs.Packets.{Packets}
+use Rattle.dbus_device.specs.declared.packet.Packet.{Packet}
 use Rattle.dbus_value_model.specs.declared.limits.Limits.{Limits}
 use Rattle.dbus_value_model.specs.declared.order.Order.{Order}
 use Rattle.dbus_message_model.specs.declared.message.Message.{Message}
 use Rattle.dbus_stream.specs.CutterTaking.{cutting}
 use Rattle.dbus_stream.specs.Next as next
+use Rattle.dbus_stream.specs.Packets as input
 use Rattle.dbus_stream.specs.declared.message_reader.MessageReader.{MessageReader}
 use Rattle.dbus_stream.specs.declared.read_fault.ReadFault.{ReadFault}
 
@@ -45,6 +48,10 @@ module _ {R A : Type 0} where
   -- what a call read, and that it counted it
   abbrev pub Reads : (R → Option (List ℕ)) → (R → ℕ) → MessageReader R A → MessageReader R A → Type 0
   Reads left calls old new = next.Reads (cutting A) left calls (kept old) old.reader new.reader
+
+  -- the bytes of the input are still of the packets that they were of, whatever these are
+  abbrev pub KeepsPackets : (R → Option Packets) → (R → Option Packet) → MessageReader R A → MessageReader R A → Type 0
+  KeepsPackets packets packet old new = input.KeepsPackets packets packet old.reader new.reader
 
   -- nothing was read
   abbrev pub ReadsNothing : MessageReader R A → MessageReader R A → Type 0

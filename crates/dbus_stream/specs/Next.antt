@@ -13,7 +13,7 @@ use Rattle.dbus_stream.specs.declared.reader.Reader.{Reader}
 use Rattle.dbus_stream.specs.declared.read_fault.ReadFault.{ReadFault}
 use Rattle.dbus_stream.specs.declared.read_fault.ReadFault.TheVariants.{Memory, Format, Device, TooManyReads}
 use Rattle.dbus_stream.specs.CutEnds.{truncated}
-use Rattle.dbus_stream.specs.Reading.{limits_of, source_of, part_of, done_of, reads_of, most_reads_of, is_ended, stopped_of, Keeps}
+use Rattle.dbus_stream.specs.Reading.{limits_of, source_of, part_of, done_of, read_of, last_of, reads_of, most_reads_of, is_ended, stopped_of, Keeps}
 use Rattle.dbus_stream.specs.Taking.{Taking}
 
 -- the fault of bytes after which nothing comes
@@ -63,6 +63,8 @@ module _ {R T B G : Type 0} {b : Ghosts B} (k : Taking T G) where
     pub most_reads : most_reads_of new ≡ most_reads_of old
     pub limits : limits_of k new ≡ limits_of k old
     pub ended : is_ended new ≡ is_ended old
+    pub read : read_of new ≡ read_of old
+    pub last : last_of new ≡ last_of old
 
   -- all of w is kept, and nothing is given or lent
   pub record KeepsAll (w : List ℕ) (old new : Reader R T B b) : Type 0 where
@@ -70,7 +72,8 @@ module _ {R T B G : Type 0} {b : Ghosts B} (k : Taking T G) where
     pub done : done_of new ≡ done_of old
     pub rests : k.rests new.taker
 
-  -- w begins with a message of so many bytes, and what follows it is kept
+  -- w begins with a message of so many bytes, of which the last came by the last read, and what
+  -- follows it is kept
   pub record Gives (w : List ℕ) (size : ℕ) (old new : Reader R T B b) : Type 0 where
     pub order : Order
     pub message : MessageTree
@@ -78,6 +81,7 @@ module _ {R T B G : Type 0} {b : Ghosts B} (k : Taking T G) where
     pub kept : Keeps k new (drop size w)
     pub done : done_of new ≡ done_of old + size
     pub unstopped : stopped_of new ≡ None
+    pub in_last : read_of new < done_of new + last_of new
 
   -- a message that is lent where it lies in the buffer stands before what is left
   abbrev pub LendsThere : List ℕ → ℕ → Reader R T B b → Type 0

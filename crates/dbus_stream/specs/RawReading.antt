@@ -1,8 +1,10 @@
 -- What a reader of raw messages keeps to, keeps, lends and counts.
-use Rattle.std.specs.Prelude.{◌≡◌, ℕ, ◌-◌, List, [], ◌++◌, Bool, true, false, slice_range, Option, None, ◌⊎◌, ◌+◌, length, take, drop, Some, Vec, Result, Ok, Err}
+use Rattle.std.specs.Prelude.{◌≡◌, ℕ, ◌-◌, List, [], ◌++◌, Bool, true, false, slice_range, Option, None, ◌⊎◌, ◌+◌, ◌<◌, length, take, drop, Some, Vec, Result, Ok, Err}
 use Rattle.dbus_value_model.specs.declared.limits.Limits.{Limits}
 use Rattle.dbus_value_model.specs.declared.order.Order.{Order}
 use Rattle.dbus_message_model.specs.Messages.{MessageTree}
+use Rattle.dbus_device.specs.Packets.{Packets}
+use Rattle.dbus_device.specs.declared.packet.Packet.{Packet}
 use Rattle.dbus_header.specs.MessageOutcomes.{IsWhole, IsRefused, IsPartial}
 use Rattle.dbus_validate.specs.declared.validating.Validated.{Validated}
 use Rattle.dbus_validate.specs.Validating.{IsValidatedWhole}
@@ -10,6 +12,8 @@ use Rattle.dbus_stream.specs.Gathering.{under_way, gathering}
 use Rattle.dbus_stream.specs.declared.raw_reader.RawReader.{RawReader}
 use Rattle.dbus_stream.specs.declared.read_fault.ReadFault.{ReadFault}
 use Rattle.dbus_stream.specs.Next as next
+use Rattle.dbus_stream.specs.Packets as input
+use Rattle.dbus_stream.specs.Reading as reading
 use Rattle.dbus_stream.specs.declared.read_fault.ReadFault.TheVariants.{Memory, Format, Device, TooManyReads}
 
 -- a whole message that was gathered, or else these bytes
@@ -37,6 +41,13 @@ module _ {R A : Type 0} where
   -- how many bytes all the messages have that were given or passed over
   abbrev pub done_of : RawReader R A → ℕ
   done_of r = r.reader.done
+
+  -- how many bytes were read in all, and how many of them the last read gave
+  abbrev pub read_of : RawReader R A → ℕ
+  read_of r = reading.read_of r.reader
+
+  abbrev pub last_of : RawReader R A → ℕ
+  last_of r = reading.last_of r.reader
 
   -- how many bytes of a refused message are still to be dropped, after a call that could not drop
   -- all of them
@@ -68,6 +79,7 @@ module _ {R A : Type 0} where
     pub lent : lent_of r ≡ []
     pub done : done_of r ≡ 0
     pub reads : reads_of r ≡ 0
+    pub last : last_of r ≡ 0
     pub ended : is_ended r ≡ false
     pub stopped : stopped_of r ≡ None
 
@@ -83,13 +95,22 @@ module _ {R A : Type 0} where
   abbrev pub ReadsNothing : RawReader R A → RawReader R A → Type 0
   ReadsNothing old new = next.ReadsNothing gathering old.reader new.reader
 
+  -- the bytes of the input are of these packets
+  abbrev pub HasPackets : (R → Option Packets) → (R → Option Packet) → Packets → RawReader R A → Type 0
+  HasPackets packets packet all r = input.HasPackets packets packet all r.reader
+
+  -- and still are, whatever the packets are
+  abbrev pub KeepsPackets : (R → Option Packets) → (R → Option Packet) → RawReader R A → RawReader R A → Type 0
+  KeepsPackets packets packet old new = input.KeepsPackets packets packet old.reader new.reader
+
   -- all of w is kept, and nothing is given
   pub record KeepsAll (w : List ℕ) (old new : RawReader R A) : Type 0 where
     pub kept : kept new ≡ w
     pub done : done_of new ≡ done_of old
     pub lent : lent_of new ≡ []
 
-  -- the message that w begins with is given, which has so many bytes, and what follows it is kept
+  -- the message that w begins with is given, which has so many bytes, of which the last came by the
+  -- last read, and what follows it is kept
   pub record Gives (w : List ℕ) (size : ℕ) (old new : RawReader R A) : Type 0 where
     pub order : Order
     pub message : MessageTree
@@ -97,6 +118,7 @@ module _ {R A : Type 0} where
     pub kept : kept new ≡ drop size w
     pub done : done_of new ≡ done_of old + size
     pub unstopped : stopped_of new ≡ None
+    pub in_last : read_of new < done_of new + last_of new
 
   -- it is lent, and validated
   pub record Lends (w : List ℕ) (validated : Validated) (old new : RawReader R A) : Type 0 where

@@ -1,5 +1,5 @@
 -- What a reader keeps to, keeps and counts. k is what is known of its taker.
-use Rattle.std.specs.Prelude.{◌≡◌, ℕ, List, [], ◌++◌, length, Bool, false, slice_range, Option, None}
+use Rattle.std.specs.Prelude.{◌≡◌, ℕ, ◌+◌, List, [], ◌++◌, length, Bool, false, slice_range, Option, None}
 use Rattle.dbus_value_model.specs.declared.limits.Limits.{Limits}
 use Rattle.dbus_stream.specs.declared.read_fault.ReadFault.{ReadFault}
 use Rattle.dbus_stream.specs.declared.buffer.Buffer.{Ghosts}
@@ -22,6 +22,15 @@ module _ {R T B : Type 0} {b : Ghosts B} where
   -- how many bytes all the messages have that were given
   abbrev pub done_of : Reader R T B b → ℕ
   done_of r = r.done
+
+  -- how many bytes were read in all: those of the messages, what the taker holds, and what is left of
+  -- the buffer
+  abbrev pub read_of : Reader R T B b → ℕ
+  read_of r = r.done + r.held + length (part_of r)
+
+  -- how many of them the last read gave
+  abbrev pub last_of : Reader R T B b → ℕ
+  last_of r = r.end
 
   -- how many reads were made, and how many may be made in all
   abbrev pub reads_of : Reader R T B b → ℕ
@@ -59,5 +68,6 @@ module _ {R T B : Type 0} {b : Ghosts B} where
       pub kept : Keeps r []
       pub done : done_of r ≡ 0
       pub reads : reads_of r ≡ 0
+      pub last : last_of r ≡ 0
       pub ended : is_ended r ≡ false
       pub stopped : stopped_of r ≡ None

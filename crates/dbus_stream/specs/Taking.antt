@@ -26,11 +26,13 @@ pub record Taking (T G : Type 0) : Type 1 where
   pub rests : T → Type 0
 
 module _ {T G : Type 0} (k : Taking T G) where
-  -- the message ends with the first n bytes of the piece, and this is given of it
+  -- the message ends with the first n bytes of the piece, of which there is one at least, and this is
+  -- given of it
   pub record Completes (old : T) (w piece : List ℕ) (new : T) (n : ℕ) (given : G) : Type 0 where
     pub order : Order
     pub message : MessageTree
     pub whole : IsWhole (k.limits old) (w ++ piece) order message (length w + n)
+    pub some : 0 < n
     pub gives : k.gives new (w ++ piece) (length w + n) given
     pub holds : k.holds new []
     pub lends : 0 < k.lent new → (w ≡ []) × (k.lent new ≡ n)

@@ -2,6 +2,7 @@
 ghost use Rattle.std.specs.Prelude.{◌≡◌, ◌≤◌, ◌<◌, List, length, slice_range, IfOk};
 ghost use Rattle.std.specs.Io.KnownBytes.{ReadConsumes};
 ghost use Rattle.dbus_device.specs.Device.{one_more, ReadCounts};
+ghost use Rattle.dbus_device.specs.Packets.{LeavesPacket, ReadsOfPacket};
 ghost use Rattle.dbus_stream.specs.Rooms.{Room};
 
 use dbus_device::{DeviceFault, Source};
@@ -17,10 +18,14 @@ pub trait Buffer: Drop {
     fn read_from<R: Source>(&mut self, source: &mut R) -> Result<usize, DeviceFault>
         ensures some { 0 < length (room.bytes self.new) }
         ensures bound { IfOk result (λ n. n ≤ room.size) }
+        ensures there { IfOk result (λ n. n ≤ length (room.bytes self.new)) }
         ensures bytes { ReadConsumes (R.left source.old) (R.left source.new) result
             (room.bytes self.new) }
         ensures failed { ReadCounts (R.failures source.old) (R.failures source.new) result }
         ensures called { R.calls source.new ≡ one_more (R.calls source.old) }
+        ensures of_packet { ReadsOfPacket (R.packets source.old) (R.packets source.new)
+            (R.packet source.new) result }
+        ensures leaves_packet { LeavesPacket (R.packet source.old) (R.packet source.new) result }
         ensures same_reference { R.reference source.new ≡ R.reference source.old };
 
     /// The bytes from `start` up to `end`.

@@ -1,5 +1,5 @@
 //! Messages out of bytes that come in pieces.
-ghost use Rattle.std.specs.Prelude.{◌≡◌, ◌<◌, ◌≤◌, [], length, None, Some, Ok, Err, IfOk};
+ghost use Rattle.std.specs.Prelude.{◌≡◌, ◌<◌, ◌≤◌, [], length, None, Some, Ok, Err, IfOk, IfSome};
 ghost use Rattle.dbus_value_model.specs.Specification.{specification};
 ghost use Rattle.dbus_value_model.specs.declared.fault.Fault.{Fault};
 ghost use Rattle.dbus_stream.specs.CutEnds.{truncated};
@@ -94,6 +94,8 @@ impl<A: Allocator + Copy> Cutter<A> {
         ensures takes { Takes self.old piece.now self.new result }
         // Of a piece with bytes, it takes at least one.
         ensures moves { IfOk result (λ r. 0 < length piece.now → 0 < r.0) }
+        // A message ends with a byte of the piece.
+        ensures ends { IfOk result (λ r. IfSome r.1 (λ given. 0 < r.0)) }
     {
         if let Some(fault) = self.fault {
             return Err(StreamFault::Format(fault));

@@ -1,8 +1,13 @@
 //! Laws of streams. Each function's contract is one, and it does nothing at run time.
+ghost use Rattle.std.specs.Prelude.{◌≡◌, ◌<◌, ◌+◌, ◌-◌, ℕ, Some};
+ghost use Rattle.dbus_device.specs.Packets.{Packets};
 ghost use Rattle.dbus_value_model.specs.declared.limits.Limits.{Limits};
 ghost use Rattle.dbus_stream.specs.CutEnds.{CutOfPrefix, EachCut, NoneTruncated, OneCut, StatedSuffice};
 ghost use Rattle.dbus_stream.specs.Headline.{Headline};
+ghost use Rattle.dbus_stream.specs.RawReading.{HasPackets, IsNewReader, KeepsPackets, ReadsNothing, done_of, last_of, read_of, source_of};
+ghost use Rattle.dbus_stream.specs.declared.raw_reader.RawReader.{RawReader};
 
+use dbus_device::Source;
 use std::alloc::Allocator;
 
 /// What reading and writing promise of bytes, messages and streams, as README says: bytes are
@@ -48,4 +53,20 @@ pub fn stated_suffice()
 #[tactic(auto, using(crate::proofs::MessageEnds::refused_reason))]
 pub fn none_truncated()
     ensures { NoneTruncated }
+{}
+
+/// The packet of a message is known. A new reader begins with the packets that its source tells of
+/// its bytes, and each call keeps to them: those that read by their clauses `packets`, and the
+/// others since they read nothing. So if a message is given, [`RawReader::packet`] returns the one
+/// that its last byte is of: the call's clause says that this byte came by the last read.
+///
+/// [`RawReader::packet`]: crate::RawReader::packet
+pub fn packets_of_messages<R: Source, A: Allocator>()
+    ensures begins { (source : R) (most : ℕ) (limits : Limits) (r : RawReader R A) (all : Packets) →
+        IsNewReader source most limits r → R.packets source ≡ Some all →
+        HasPackets R.packets R.packet all r }
+    ensures unread { (old new : RawReader R A) → ReadsNothing old new →
+        KeepsPackets R.packets R.packet old new }
+    ensures given { (r : RawReader R A) (all : Packets) → HasPackets R.packets R.packet all r →
+        read_of r < done_of r + last_of r → R.packet (source_of r) ≡ all (done_of r - 1) }
 {}

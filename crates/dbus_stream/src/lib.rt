@@ -30,7 +30,9 @@ mod writing;
 pub use buffer::{Buffer, Large, Small};
 pub use check_reader::CheckReader;
 pub use cutter::Cutter;
-pub use dbus_device::{DeviceFault, FromRead, FromWrite, Sink, Source, WrittenOnly, write_all};
+pub use dbus_device::{
+    DeviceFault, FromRead, FromWrite, Packet, Sink, Source, WrittenOnly, write_all,
+};
 pub use gatherer::Gatherer;
 pub use lengths::Lengths;
 pub use message_reader::MessageReader;

@@ -27,7 +27,7 @@ pub struct MessageReader<R, A: Allocator = Global> {
 impl<R: Source, A: Allocator + Copy> MessageReader<R, A> {
     ghost use Rattle.dbus_value_model.specs.Specification.{specification};
     ghost use Rattle.dbus_stream.specs.declared.read_fault.ReadFault.{ReadFault};
-    ghost use Rattle.dbus_stream.specs.MessageReaders.{kept, source_of, done_of, stopped_of, IsNewReader, Reads, ReadsNothing, NextAnswers, KeptAnswers};
+    ghost use Rattle.dbus_stream.specs.MessageReaders.{kept, source_of, done_of, stopped_of, IsNewReader, KeepsPackets, Reads, ReadsNothing, NextAnswers, KeptAnswers};
     ghost use Rattle.dbus_stream.specs.Next.{DeviceCounts};
 
     /// A reader as [`MessageReader::within`] makes it, of at most 2^32 reads and under the limits
@@ -107,6 +107,7 @@ impl<R: Source, A: Allocator + Copy> MessageReader<R, A> {
             (R.failures (source_of self.new)) result }
         ensures same_reference { R.reference (source_of self.new) ≡
             R.reference (source_of self.old) }
+        ensures packets { KeepsPackets R.packets R.packet self.old self.new }
         ensures few { done_of self.new ≤ 2 ^ 44 }
         // A fault of the bytes stays for good, and so does the number of reads.
         ensures stays { (f : ReadFault) → stopped_of self.old ≡ Some f →

@@ -8,7 +8,7 @@ use crate::gatherer::Gatherer;
 use crate::read_fault::ReadFault;
 use crate::reader::Reader;
 use crate::reads::MOST_READS;
-use dbus_device::Source;
+use dbus_device::{Packet, Source};
 use dbus_header::stated_length_within;
 use dbus_validate::Validated;
 use dbus_value_model::{Fault, Limits, Reason};
@@ -47,7 +47,7 @@ impl<R: Source, A: Allocator + Copy> RawReader<R, A> {
     ghost use Rattle.dbus_value_model.specs.Specification.{specification};
     ghost use Rattle.dbus_stream.specs.declared.read_fault.ReadFault.{ReadFault};
     ghost use Rattle.dbus_stream.specs.Next.{DeviceCounts};
-    ghost use Rattle.dbus_stream.specs.RawReading.{limits_of, kept, lent_of, source_of, done_of, reads_of, most_reads_of, stopped_of, IsNewReader, Advances, CopyAnswers, KeptAnswers, Reads, ReadsNothing, GivesLent};
+    ghost use Rattle.dbus_stream.specs.RawReading.{limits_of, kept, lent_of, source_of, done_of, reads_of, most_reads_of, stopped_of, IsNewReader, Advances, CopyAnswers, KeepsPackets, KeptAnswers, Reads, ReadsNothing, GivesLent};
 
     /// A reader as [`RawReader::within`] makes it, of at most 2^32 reads and under the limits of
     /// the specification.
@@ -100,6 +100,15 @@ impl<R: Source, A: Allocator + Copy> RawReader<R, A> {
         ensures { result ≡ done_of self.now }
     {
         self.reader.done
+    }
+
+    /// The packet of the bytes that were read last, if the source says that they were of one. It is
+    /// that of the last byte of the message that the last call gave; and after `Format` that of the
+    /// last byte that was read.
+    pub fn packet(&self) -> Option<Packet>
+        ensures { result ≡ R.packet (source_of self.now) }
+    {
+        self.reader.packet()
     }
 
     /// The bytes of the message that the last call gave, if that was [`RawReader::advance`] or
@@ -162,6 +171,7 @@ impl<R: Source, A: Allocator + Copy> RawReader<R, A> {
             (R.failures (source_of self.new)) result }
         ensures same_reference { R.reference (source_of self.new) ≡
             R.reference (source_of self.old) }
+        ensures packets { KeepsPackets R.packets R.packet self.old self.new }
         ensures few { done_of self.new ≤ 2 ^ 50 }
         // A fault of the bytes stays for good, and so does the number of reads.
         ensures stays { (f : ReadFault) → stopped_of self.old ≡ Some f →
@@ -210,6 +220,7 @@ impl<R: Source, A: Allocator + Copy> RawReader<R, A> {
             (R.failures (source_of self.new)) result }
         ensures same_reference { R.reference (source_of self.new) ≡
             R.reference (source_of self.old) }
+        ensures packets { KeepsPackets R.packets R.packet self.old self.new }
         ensures few { done_of self.new ≤ 2 ^ 50 }
         // A fault of the bytes stays for good, and so does the number of reads.
         ensures stays { (f : ReadFault) → stopped_of self.old ≡ Some f →
@@ -262,6 +273,7 @@ impl<R: Source, A: Allocator + Copy> RawReader<R, A> {
             (R.failures (source_of self.new)) result }
         ensures same_reference { R.reference (source_of self.new) ≡
             R.reference (source_of self.old) }
+        ensures packets { KeepsPackets R.packets R.packet self.old self.new }
         ensures few { done_of self.new ≤ 2 ^ 50 }
     {
         let Some(count) = self.due() else {

@@ -6,7 +6,7 @@ use crate::buffer::Buffer;
 use crate::read_fault::ReadFault;
 use crate::stream_fault::StreamFault;
 use crate::taker::Taker;
-use dbus_device::{DeviceFault, Source};
+use dbus_device::{DeviceFault, Packet, Source};
 use dbus_value_model::{Fault, Reason};
 
 /// Reads messages from a source, one after another, by a buffer inside it, and gives what its taker
@@ -45,6 +45,7 @@ impl<R: Source, T: Taker, B: Buffer> Reader<R, T, B> {
     ghost use Rattle.dbus_device.specs.Device.{ReadCounts};
     ghost use Rattle.dbus_stream.specs.Reading.{limits_of, source_of, taker_of, part_of, done_of, reads_of, most_reads_of, stopped_of, Keeps, IsNewReader};
     ghost use Rattle.dbus_stream.specs.Next.{NextAnswers, KeptAnswers, DeviceCounts, Reads, ReadsNothing};
+    ghost use Rattle.dbus_stream.specs.Packets.{KeepsPackets};
     ghost use Rattle.dbus_stream.specs.Passing.{ReadsToSkip, SkipAnswers};
     ghost use Rattle.dbus_stream.specs.Steps.{TakesAll, Stops, Drops, Fills, Calls};
 
@@ -107,6 +108,7 @@ impl<R: Source, T: Taker, B: Buffer> Reader<R, T, B> {
             (R.failures (source_of self.new)) result }
         ensures same_reference { R.reference (source_of self.new) ≡
             R.reference (source_of self.old) }
+        ensures packets { KeepsPackets R.packets R.packet self.old self.new }
         ensures few { done_of self.new ≤ B.room.size * 2 ^ 32 }
         // A fault of the bytes stays for good, and so does the number of reads.
         ensures stays { (f : ReadFault) → stopped_of self.old ≡ Some f →
@@ -183,6 +185,7 @@ impl<R: Source, T: Taker, B: Buffer> Reader<R, T, B> {
             (R.failures (source_of self.new)) result }
         ensures same_reference { R.reference (source_of self.new) ≡
             R.reference (source_of self.old) }
+        ensures packets { KeepsPackets R.packets R.packet self.old self.new }
         ensures few { done_of self.new ≤ B.room.size * 2 ^ 32 }
     {
         let mut left = count - self.held;
@@ -208,6 +211,13 @@ impl<R: Source, T: Taker, B: Buffer> Reader<R, T, B> {
                 Err(DeviceFault) => return Err(ReadFault::Device),
             }
         }
+    }
+
+    /// The packet of the bytes that were read last, if they were of one.
+    pub(crate) fn packet(&self) -> Option<Packet>
+        ensures { result ≡ R.packet (source_of self.now) }
+    {
+        Source::packet(&self.source)
     }
 
     /// What is left of the buffer.
@@ -278,6 +288,7 @@ impl<R: Source, T: Taker, B: Buffer> Reader<R, T, B> {
             (R.failures (source_of self.new)) result }
         ensures same_reference { R.reference (source_of self.new) ≡
             R.reference (source_of self.old) }
+        ensures packets { KeepsPackets R.packets R.packet self.old self.new }
     {
         self.reads += 1;
         self.start = 0;

@@ -10,7 +10,7 @@ returns-in-Ok-clause-limits g c = limits_stay c.args.self.now c.args.piece.now c
 pub returns-in-Ok-clause-takes : goal.returns-in-Ok-clause-takes
 returns-in-Ok-clause-takes g c = λ w holds size.
     subst (λ v. Takes (cutting g.row.A.Denot) c.args.self.now v c.args.piece.now c.take.new.self (Ok c.in-Ok.count) c.in-Ok.message) holds.0
-    (cuts c.args.self.now c.args.piece.now c.take.new.self c.in-Ok.count c.in-Ok.message (rw c.in-Ok.is at (c.take.ensures.takes.answers holds.1)))
+    (cuts c.args.self.now c.args.piece.now c.take.new.self c.in-Ok.count c.in-Ok.message (rw c.in-Ok.is at (c.take.ensures.takes.answers holds.1)) (rw c.in-Ok.is at c.take.ensures.ends))
 
 pub returns-in-Err-clause-takes : goal.returns-in-Err-clause-takes
 returns-in-Err-clause-takes g c = λ w holds size.

@@ -1,13 +1,17 @@
 use mathlib.Core.Logic.{∥∥₁_elim}
-use Rattle.std.proofs.Common.{◌≡◌, ◌++◌, [], arith, sym, subst, ◌∙◌}
+use Rattle.std.proofs.Common.{◌≡◌, ℕ, ◌+◌, ◌++◌, [], ap, arith, sym, subst, ◌∙◌}
 use Rattle.std.proofs.Math.Logic.{∥∥₁_map}
 use Rattle.std.specs.Coded.{le_prop}
 use Rattle.std.proofs.Math.Nat.{zero-add}
 use Rattle.std.proofs.lemmas.List.{nil_from_length}
 use Rattle.dbus_header.specs.MessageOutcomes.{IsWhole}
-use Rattle.dbus_header.proofs.OutcomeLaws.{whole_inside}
+use Rattle.dbus_header.proofs.OutcomeLaws.{nothing_partial, whole_inside}
+use Rattle.dbus_value_model.specs.declared.limits.Limits.{Limits}
+use Rattle.dbus_check.specs.Checks.{Takes}
+use Rattle.dbus_check.specs.declared.check.Check.TheVariants as check
 use Rattle.dbus_stream.specs.CheckReading.{lengths}
 use Rattle.dbus_stream.specs.Taking.{Completes}
+use Rattle.dbus_stream.proofs.CutterSteps.{ends_later}
 use Rattle.dbus_stream.proofs.lengths.LengthsTaker.take_piece.Goals as goal
 
 pub returns-in-Some-clause-within : goal.returns-in-Some-clause-within
@@ -26,10 +30,27 @@ returns-in-Some-clause-takes c = λ w stands size.
       order = c.in-Some.validated.order;
       message = j.message;
       whole = subst (λ k. IsWhole t.limits piece c.in-Some.validated.order j.message k) (sym (zero-add n)) j.whole;
+      some = (whole_inside t.limits piece c.in-Some.validated.order j.message n j.whole).0;
       gives = sym (zero-add n);
       holds = subst (λ v. lengths.holds t v) (sym none) stands;
       lends = λ some. absurd (omega (arith, some));
     })
+
+pub returns-in-Done-clause-takes : goal.returns-in-Done-clause-takes
+returns-in-Done-clause-takes c = λ w holds size.
+    let t = c.args.self.now in
+    let piece = c.args.piece.now in
+    let n = c.in-Done.count in
+    let takes : Takes t.limits w piece (check.Done n) = subst (λ (l : Limits). Takes l w piece (check.Done n)) t.same_limits (c.in-Done.ensures.answers w holds.0) in
+    record {
+      order = takes.1;
+      message = takes.2;
+      whole = takes.3;
+      some = ends_later t.limits w piece n takes.1 takes.2 holds.1 takes.3;
+      gives = ap (λ (k : ℕ). k + n) size;
+      holds = (c.restart.ensures.stands, nothing_partial t.limits);
+      lends = λ some. absurd (omega (arith, some));
+    }
 
 pub returns-in-Done-clause-within : goal.returns-in-Done-clause-within
 returns-in-Done-clause-within c =

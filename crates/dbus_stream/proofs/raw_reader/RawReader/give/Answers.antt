@@ -34,3 +34,25 @@ returns-clause-gives g c =
       lent = ap (λ (s : GathererState). whole_or s.whole s.held (slice_range bytes ((r.start - n) - s.lent) (r.start - n))) c.begin.ensures
           ∙ (ap (λ b. whole_or false (under_way b held) (slice_range bytes ((r.start - n) - 0) (r.start - n))) whole ∙ no_part bytes ((r.start - n) - 0) (r.start - n) (omega arith));
     }
+
+pub returns-clause-unread : goal.returns-clause-unread
+returns-clause-unread g c =
+    let r = c.args.self.now.reader in
+    let bytes = r.buffer.bytes in
+    let n = c.lent-lent.result in
+    let n_is = c.lent-lent.ensures in
+    let ordered = r.in_order in
+    let before = c.args.self.now.lent_before in
+    let counted = c.args.self.now.lent_counted in
+    let room : r.end ≤ length bytes = search rules in
+    let size = part_size bytes r.start r.end ordered room in
+    let more = part_size bytes (r.start - n) r.end (omega (arith, ordered)) room in
+    record {
+      source = refl;
+      reads = refl;
+      most_reads = refl;
+      limits = ap (λ (s : GathererState). s.limits) c.begin.ensures;
+      ended = refl;
+      read = omega (arith, before, counted, n_is, size, more, ordered);
+      last = refl;
+    }

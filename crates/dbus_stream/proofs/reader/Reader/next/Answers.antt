@@ -2,6 +2,8 @@ use Rattle.std.specs.Prelude.{Option}
 use Rattle.std.proofs.Common.{◌≡◌, ◌≤◌, ◌*◌, List, [], ℕ, ◌++◌, None, Some, Ok, Err, refl, ap, arith, sym, ◌∙◌}
 use Rattle.dbus_stream.specs.Reading.{source_of, part_of, stopped_of, Keeps}
 use Rattle.dbus_stream.specs.Next.{KeptAnswers}
+use Rattle.dbus_stream.specs.Packets.{KeepsPackets}
+use Rattle.dbus_stream.proofs.PacketSteps.{unread}
 use Rattle.dbus_stream.proofs.NextSteps.{Wants, lasts, few_done, starts, begins, wants, given, ended, cut_short, gave_up, adds_none, failed_read, filled}
 use Rattle.dbus_stream.proofs.reader.Reader.next.Goals as goal
 use Rattle.dbus_stream.proofs.reader.Reader.next.Goals.{In-Ok-None}
@@ -17,7 +19,7 @@ returns-in-Some-clause-failed g c =
     lasts (Option g.row.T-Given.Denot) (g.R.Source.failures (source_of c.args.self.now)) (stopped_of c.args.self.now) c.in-Some.fault c.in-Some.is c.args.self.now.lasting
 
 pub reading-init : goal.reading-init
-reading-init g c = (λ w kept. begins g.T.Taker.known g.R.Source.left g.R.Source.calls w c.args.self.now kept, c.in_default.is, refl, refl)
+reading-init g c = (λ w kept. begins g.T.Taker.known g.R.Source.left g.R.Source.calls w c.args.self.now kept, c.in_default.is, refl, refl, λ all h. h)
 
 pub returns-in-Ok-Some-clause-read : goal.returns-in-Ok-Some-clause-read
 returns-in-Ok-Some-clause-read g c = λ w kept.
@@ -73,6 +75,10 @@ returns-in-Err-fill-clause-read g c = λ w kept.
     failed_read g.T.Taker.known g.R.Source.left g.R.Source.calls w c.args.self.now c.take_kept.new.self c.fill.new.self [] (held g in_none w kept) d.0 c.if-self.false fill.calls adds
     refl (fill.calls.stopped ∙ d.1)
 
+-- the packets of the input are still what they were
+taken : (g : _) (c : In-Ok-None g) → KeepsPackets g.R.Source.packets g.R.Source.packet c.args.self.now c.take_kept.new.self
+taken g c = unread g.R.Source.packets g.R.Source.packet g.T.Taker.known c.args.self.now c.reading.self c.take_kept.new.self c.reading.invariant.4 c.take_kept.ensures.unread
+
 pub reading-preserved : goal.reading-preserved
 reading-preserved g c =
     let fill = c.in-Ok.ensures in
@@ -85,6 +91,7 @@ reading-preserved g c =
       fill.calls.stopped ∙ d.1,
       fill.failed ∙ (ap g.R.Source.failures unread.source ∙ c.reading.invariant.2),
       fill.same_reference ∙ (ap g.R.Source.reference unread.source ∙ c.reading.invariant.3),
+      λ all h. fill.packets all (taken g in_none all h),
     )
 
 pub returns-in-Err-fill-clause-few : goal.returns-in-Err-fill-clause-few
@@ -93,3 +100,30 @@ returns-in-Err-fill-clause-few g c =
     let counted = r.counted in
     let done : r.done ≤ g.B.Buffer.room.size * r.reads = omega (arith, counted) in
     few_done g.B.Buffer.room.size r.done r.reads r.most_reads done r.few_reads r.low_most
+
+-- ---- the packets of the input
+
+pub returns-in-Ok-Some-clause-packets : goal.returns-in-Ok-Some-clause-packets
+returns-in-Ok-Some-clause-packets g c =
+    unread g.R.Source.packets g.R.Source.packet g.T.Taker.known c.args.self.now c.reading.self c.take_kept.new.self c.reading.invariant.4 c.take_kept.ensures.unread
+
+pub returns-in-Err-clause-packets : goal.returns-in-Err-clause-packets
+returns-in-Err-clause-packets g c =
+    unread g.R.Source.packets g.R.Source.packet g.T.Taker.known c.args.self.now c.reading.self c.take_kept.new.self c.reading.invariant.4 c.take_kept.ensures.unread
+
+pub returns-then-self-eq0-clause-packets : goal.returns-then-self-eq0-clause-packets
+returns-then-self-eq0-clause-packets g c = taken g (goal.at.returns-then-self-eq0-clause-packets g c).In-Ok-None
+
+pub returns-then-self-clause-packets : goal.returns-then-self-clause-packets
+returns-then-self-clause-packets g c =
+    unread g.R.Source.packets g.R.Source.packet g.T.Taker.known c.args.self.now c.take_kept.new.self c.stop.new.self
+    (taken g (goal.at.returns-then-self-clause-packets g c).In-Ok-None) c.stop.ensures.unread
+
+pub returns-then-self-2-clause-packets : goal.returns-then-self-2-clause-packets
+returns-then-self-2-clause-packets g c =
+    unread g.R.Source.packets g.R.Source.packet g.T.Taker.known c.args.self.now c.take_kept.new.self c.stop-then-self-2.new.self
+    (taken g (goal.at.returns-then-self-2-clause-packets g c).In-Ok-None) c.stop-then-self-2.ensures.unread
+
+pub returns-in-Err-fill-clause-packets : goal.returns-in-Err-fill-clause-packets
+returns-in-Err-fill-clause-packets g c = λ all h.
+    c.in-Err-fill.ensures.packets all (taken g (goal.at.returns-in-Err-fill-clause-packets g c).In-Ok-None all h)

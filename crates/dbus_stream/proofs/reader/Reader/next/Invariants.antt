@@ -1,4 +1,5 @@
 use Rattle.std.proofs.Common.{◌≡◌, ◌-◌, None, List, ℕ}
+use Rattle.dbus_stream.specs.Packets.{KeepsPackets}
 use Rattle.dbus_stream.specs.Reading.{source_of, stopped_of, Keeps}
 use Rattle.dbus_stream.proofs.NextSteps.{HasRead}
 use Rattle.dbus_stream.proofs.reader.Reader.next.Given as goal
@@ -9,6 +10,7 @@ invariant-reading g l =
     × (stopped_of l.self ≡ None)
     × (g.R.Source.failures (source_of l.self) ≡ g.R.Source.failures (source_of l.fn.self))
     × (g.R.Source.reference (source_of l.self) ≡ g.R.Source.reference (source_of l.fn.self))
+    × KeepsPackets g.R.Source.packets g.R.Source.packet l.fn.self l.self
 
 abbrev pub decreases-reading : goal.decreases-reading
 decreases-reading g l = l.self.most_reads - l.self.reads

@@ -1,4 +1,5 @@
 use Rattle.std.proofs.Common.{◌≡◌, ◌-◌}
+use Rattle.dbus_stream.specs.Packets.{KeepsPackets}
 use Rattle.dbus_stream.specs.Reading.{source_of}
 use Rattle.dbus_stream.proofs.PassSteps.{HasSkipped}
 use Rattle.dbus_stream.proofs.reader.Reader.pass_over.Given as goal
@@ -8,6 +9,7 @@ invariant-reading g l =
     HasSkipped g.T.Taker.known (l.count - l.fn.self.held) g.R.Source.left g.R.Source.calls l.fn.self l.left l.self
     × (g.R.Source.failures (source_of l.self) ≡ g.R.Source.failures (source_of l.fn.self))
     × (g.R.Source.reference (source_of l.self) ≡ g.R.Source.reference (source_of l.fn.self))
+    × KeepsPackets g.R.Source.packets g.R.Source.packet l.fn.self l.self
 
 abbrev pub decreases-reading : goal.decreases-reading
 decreases-reading g l = l.self.most_reads - l.self.reads

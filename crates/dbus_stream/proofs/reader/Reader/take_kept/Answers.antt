@@ -1,11 +1,11 @@
 use Rattle.std.proofs.Common.{◌≡◌, ◌≤◌, ◌+◌, ◌-◌, ◌++◌, [], append-nil, arith, ap, refl, sym, subst, ◌∙◌, List, ℕ, length, drop, take, true, false, not, Option, None, Some}
 use Rattle.std.specs.List.{slice_range}
 use Rattle.std.specs.Option.{is_some}
-use Rattle.std.proofs.lemmas.List.{length-append, length-take}
+use Rattle.std.proofs.lemmas.List.{length-append, length-drop, length-take}
 use Rattle.dbus_header.specs.MessageOutcomes.{IsWhole, IsPartial, IsRefused}
 use Rattle.dbus_stream.specs.Reading.{limits_of}
 use Rattle.dbus_stream.specs.Taking.{Completes, Waits}
-use Rattle.dbus_stream.proofs.CutLaws.{left_after, no_part, front_of}
+use Rattle.dbus_stream.proofs.CutLaws.{left_after, left_of, no_part, front_of}
 use Rattle.dbus_stream.proofs.reader.Reader.take_kept.Goals as goal
 
 -- what is given
@@ -45,6 +45,7 @@ returns-clause-takes g c = λ w kept.
         };
         done = ap (λ x. r.done + (x + n)) kept.size;
         unstopped = c.requires;
+        in_last = (let past = length-take (r.end - (r.start + n)) (drop (r.start + n) (g.B.Buffer.room.bytes r.buffer)) in let some = e.some in omega (arith, past, some, fits));
       },
       subst (λ l. k.gives c.take_piece.new.self l size one.0) (sym kept.bytes) e.gives,
       λ some.
@@ -96,3 +97,21 @@ returns-in-Err-Format-clause-takes g c = λ w kept.
     let whole : kept.held ++ c.part-piece.result.now ≡ w = ap (λ (l : List ℕ). kept.held ++ l) c.part-piece.ensures ∙ sym kept.bytes in
     let refused = subst (λ l. IsRefused (limits_of k r) l c.in-Err-Format.fault) whole there.0 in
     rw c.in-Err-Format.field-0-is (refl, refl, record { refused = refused; held = kept.held; keeps = there.1; size = kept.size; bytes = kept.bytes })
+
+pub returns-clause-unread : goal.returns-clause-unread
+returns-clause-unread g c =
+    let r = c.args.self.now in
+    let n = c.in-Ok.count in
+    let bytes = g.B.Buffer.room.bytes r.buffer in
+    let part = slice_range bytes r.start r.end in
+    let taken : n ≤ length part = subst (λ (piece : List ℕ). n ≤ length piece) c.part-piece.ensures c.in-Ok.ensures.within in
+    let left = ap length (left_of bytes r.start r.end n) in
+    let size = length-drop n part in
+    record { source = refl; reads = refl; most_reads = refl; limits = c.in-Ok.ensures.limits; ended = refl; read = omega (arith, taken, left, size); last = refl }
+
+pub returns-then-is_none-clause-unread : goal.returns-then-is_none-clause-unread
+returns-then-is_none-clause-unread g c =
+    let r = c.args.self.now in
+    let none = ap length (no_part (g.B.Buffer.room.bytes r.buffer) r.end r.end refl) in
+    let piece = ap length c.part-piece.ensures in
+    record { source = refl; reads = refl; most_reads = refl; limits = c.in-Ok.ensures.limits; ended = refl; read = omega (arith, none, piece); last = refl }
