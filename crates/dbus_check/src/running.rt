@@ -1,7 +1,7 @@
 //! A message under way, read as far as the bytes go.
 #![tactic(auto)]
 
-ghost use Rattle.std.specs.Prelude.{◌≡◌, ◌+◌, ◌<◌, length, true, false, Ok, IfOk, IfErr, ◌⊎◌, ◌↔◌, IsTrue};
+ghost use Rattle.std.specs.Prelude.{◌≡◌, ◌+◌, ◌<◌, ◌≤◌, length, drop, true, false, Ok, IfOk, IfErr, ◌⊎◌, ◌↔◌, IsTrue};
 ghost use Rattle.dbus_value_model.specs.declared.stop.Stop.TheVariants.{Partial};
 
 use crate::progress::{Progress, Stage};
@@ -35,11 +35,27 @@ impl Progress {
                 self.missing()?;
                 Ok(0)
             }
-            Stage::Value => self.more(bytes),
+            Stage::Value => self.more(bytes, 0),
             Stage::Types => self.more_types(bytes),
             Stage::Padding => self.padding(bytes),
             Stage::Body => self.body(bytes),
             Stage::Done => Ok(0),
+        }
+    }
+
+    /// Does the same with the bytes after the first n.
+    fn step_after(&mut self, bytes: &[u8], n: usize) -> Result<usize, Stop>
+        requires valid { (to : To) × Denotes self.old to }
+        requires live { IsLive self.old.stage }
+        requires within { n ≤ length bytes.now }
+        ensures steps { (to : To) → Denotes self.old to →
+            Steps (drop n bytes.now) result self.new to }
+        ensures further { IfOk result (λ n. (0 < n) ⊎ (rank self.new.stage < rank self.old.stage)) }
+        ensures short { IfErr result (λ e. e ≡ Partial → length (drop n bytes.now) < 20) }
+    {
+        match self.stage {
+            Stage::Value => self.more(bytes, n),
+            _ => self.step(rest_after(bytes, n)),
         }
     }
 
@@ -72,7 +88,7 @@ impl Progress {
     {
         let mut n = 0;
         while self.is_live() {
-            match self.step(rest_after(bytes, n)) {
+            match self.step_after(bytes, n) {
                 Ok(more) => n += more,
                 Err(Stop::Partial) => return Ok(n),
                 Err(Stop::Refused(fault)) => return Err(fault),

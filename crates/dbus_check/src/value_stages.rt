@@ -2,7 +2,7 @@
 //! body's signature, and the body.
 #![tactic(auto)]
 
-ghost use Rattle.std.specs.Prelude.{◌≡◌, ◌+◌, ◌<◌, ◌≤◌, ◌++◌, length, IfOk, IfErr, ◌⊎◌};
+ghost use Rattle.std.specs.Prelude.{◌≡◌, ◌+◌, ◌<◌, ◌≤◌, ◌++◌, length, drop, IfOk, IfErr, ◌⊎◌};
 ghost use Rattle.dbus_value_model.specs.declared.stop.Stop.TheVariants.{Partial};
 
 use crate::progress::{Progress, Stage};
@@ -26,15 +26,18 @@ impl Progress {
     ghost use Rattle.dbus_check.specs.declared.progress.Stage.TheVariants.{Value, Types, Body};
     ghost use Rattle.dbus_check.specs.Progress.{To, WantsMore, WantsTypes, WantsBody, Steps, rank};
 
-    /// More of a field's value. After it the next field is wanted.
-    pub(crate) fn more(&mut self, bytes: &[u8]) -> Result<usize, Stop>
+    /// More of a field's value, of the bytes after the first `start`. After it the next field is
+    /// wanted.
+    pub(crate) fn more(&mut self, bytes: &[u8], start: usize) -> Result<usize, Stop>
         requires valid { (to : To) × WantsMore self.old to }
         requires stage { self.old.stage ≡ Value }
-        ensures steps { (to : To) → WantsMore self.old to → Steps bytes.now result self.new to }
+        requires within { start ≤ length bytes.now }
+        ensures steps { (to : To) → WantsMore self.old to →
+            Steps (drop start bytes.now) result self.new to }
         ensures further { IfOk result (λ n. (0 < n) ⊎ (rank self.new.stage < rank Value)) }
-        ensures short { IfErr result (λ e. e ≡ Partial → length bytes.now < 20) }
+        ensures short { IfErr result (λ e. e ≡ Partial → length (drop start bytes.now) < 20) }
     {
-        match self.values.run(bytes) {
+        match self.values.run_after(bytes, start) {
             Ok(n) => {
                 if !self.values.is_live() {
                     self.offset = self.values.offset();

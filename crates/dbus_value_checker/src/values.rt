@@ -235,10 +235,23 @@ impl ValueChecker {
             Runs bytes.now result self.new answer }
         ensures short { IfOk result (λ n. IsLive self.new.doing → length bytes.now < n + 20) }
     {
+        self.run_after(bytes, 0)
+    }
+
+    /// Does what [`ValueChecker::run`] does with the bytes after the first `start`, whatever those
+    /// are. If they are seven or more, a value that is whole is validated at once.
+    pub fn run_after(&mut self, bytes: &[u8], start: usize) -> Result<usize, Fault>
+        requires valid { (answer : Answer) × Denotes self.old answer }
+        requires within { start ≤ length bytes.now }
+        ensures runs { (answer : Answer) → Denotes self.old answer →
+            Runs (drop start bytes.now) result self.new answer }
+        ensures short { IfOk result (λ n. IsLive self.new.doing →
+            length (drop start bytes.now) < n + 20) }
+    {
         let mut n = 0;
         let mut misses = 0;
         while self.is_live() {
-            match self.advance(bytes, n, &mut misses) {
+            match self.advance(bytes, start + n, &mut misses) {
                 Ok(more) => n += more,
                 Err(Stop::Partial) => return Ok(n),
                 Err(Stop::Refused(fault)) => return Err(fault),

@@ -71,8 +71,8 @@ impl ValueChecker {
     }
 
     /// Whether what is wanted is worth trying at once: elements of arrays and, of the values around
-    /// all others, those whose type is longer than one code, so that what is tried in vain because
-    /// the bytes end is tried once.
+    /// all others, variants and those whose type is longer than one code, so that what is tried in
+    /// vain because the bytes end is tried once.
     fn is_tried(&self, bytes: &[u8], n: usize) -> bool
         requires within { n ≤ length bytes.now }
     {
@@ -80,8 +80,12 @@ impl ValueChecker {
             return false;
         };
         let left = bytes.len() - n;
-        (self.inner.array || self.frames.is_empty() && stop.saturating_sub(pos) > 1)
-            && (FEW <= left || self.inner.end <= self.offset.saturating_add(left))
+        if left < FEW && self.offset.saturating_add(left) < self.inner.end {
+            return false;
+        }
+        self.inner.array
+            || self.frames.is_empty()
+                && (stop.saturating_sub(pos) > 1 || self.text.as_slice().get(pos) == Some(&b'v'))
     }
 
     /// Takes what is wanted from the bytes after the first n: whole values at once, or what the
