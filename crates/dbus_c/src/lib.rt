@@ -68,6 +68,6 @@ pub use texts::{TextChecked, dbus_wire_text_check};
 pub use version::{VERSION, dbus_wire_version};
 pub use wanted::dbus_wire_wanted;
 pub use writers::{
-    WireArray, Writer, dbus_wire_begin_struct, dbus_wire_close_array, dbus_wire_open_array,
+    WireArray, WireWriter, dbus_wire_begin_struct, dbus_wire_close_array, dbus_wire_open_array,
     dbus_wire_put_number, dbus_wire_put_signature, dbus_wire_put_text,
 };

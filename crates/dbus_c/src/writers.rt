@@ -1,7 +1,8 @@
 //! A body spelled value by value into the caller's bytes.
 #![tactic(auto)]
 
-ghost use Rattle.std.specs.Prelude.{◌≡◌, ◌≢◌, ◌<◌, ◌≤◌, ◌^◌, ◌++◌, List, ℕ, length, IsTrue, IsFalse, MatchOption};
+ghost use Rattle.std.specs.Prelude.{◌≡◌, ◌≢◌, ◌<◌, ◌≤◌, ◌^◌, ◌++◌, List, ℕ, length, IsTrue};
+ghost use Rattle.std.specs.Prelude.{IsFalse, MatchOption};
 ghost use Rattle.dbus_texts.specs.Types.{STRING, SIGNATURE};
 ghost use Rattle.dbus_value_model.specs.SizeLimits.{with_padding, with_value};
 ghost use Rattle.dbus_value_model.specs.Bytes.{num};
@@ -9,7 +10,8 @@ ghost use Rattle.dbus_value_model.specs.Values.{TextValue};
 ghost use Rattle.dbus_value_model.specs.declared.order.Order.{Order};
 ghost use Rattle.dbus_body.specs.Arrays.{opened, place_of};
 ghost use Rattle.dbus_c.specs.Outcomes.{order_named};
-ghost use Rattle.dbus_c.specs.Writers.{Appends, Closes, Declines, IsTold, is_width, spelled, words_of};
+ghost use Rattle.dbus_c.specs.Writers.{Appends, Closes, Declines, IsTold, is_width, spelled};
+ghost use Rattle.dbus_c.specs.Writers.{words_of};
 
 use crate::answers::{NO_KIND, NO_ROOM, REFUSED, WHOLE};
 use crate::swapping::order_of;
@@ -19,7 +21,7 @@ use dbus_body::{OpenArray, close_array};
 /// A body that is being spelled. To begin one, its length is 0.
 #[repr(C)]
 #[derive(Drop)]
-pub struct Writer {
+pub struct WireWriter {
     /// The number of bytes that are spelled, from the first on.
     pub length: u64,
     /// The byte order: big if it is `B`, else little.
@@ -39,7 +41,7 @@ pub struct WireArray {
 }
 
 // Notes where what is put ends, if it is.
-fn put_to(writer: &mut Writer, end: Option<usize>) -> u32
+fn put_to(writer: &mut WireWriter, end: Option<usize>) -> u32
     ensures { IsTold end writer.old result writer.new }
 {
     match end {
@@ -75,12 +77,13 @@ fn width_named(number: u32) -> Option<u8>
 #[unsafe(no_mangle)]
 pub extern "C" fn dbus_wire_put_number(
     out: &mut [u8],
-    writer: &mut Writer,
+    writer: &mut WireWriter,
     width: u32,
     bits: u64,
 ) -> u32
     ensures put { IsTrue (is_width width) →
-        Appends (λ (l : List ℕ). with_padding width l ++ num (order_named writer.old.order) width bits)
+        Appends (λ (l : List ℕ). with_padding width l ++ num (order_named writer.old.order) width
+        bits)
         writer.old out.old result writer.new out.new }
     ensures no_kind { IsFalse (is_width width) →
         Declines NO_KIND writer.old out.old result writer.new out.new }
@@ -102,7 +105,7 @@ pub extern "C" fn dbus_wire_put_number(
 /// of `out` after what is put may change. It allocates nothing. D-Bus Specification, "Marshaling
 /// (Wire Format)".
 #[unsafe(no_mangle)]
-pub extern "C" fn dbus_wire_put_text(out: &mut [u8], writer: &mut Writer, text: &[u8]) -> u32
+pub extern "C" fn dbus_wire_put_text(out: &mut [u8], writer: &mut WireWriter, text: &[u8]) -> u32
     ensures put { length text.now < 2 ^ 32 →
         Appends (with_value (order_named writer.old.order) (TextValue STRING text.now))
         writer.old out.old result writer.new out.new }
@@ -125,7 +128,11 @@ pub extern "C" fn dbus_wire_put_text(out: &mut [u8], writer: &mut Writer, text: 
 /// `out` after what is put may change. It allocates nothing. D-Bus Specification, "Marshaling (Wire
 /// Format)".
 #[unsafe(no_mangle)]
-pub extern "C" fn dbus_wire_put_signature(out: &mut [u8], writer: &mut Writer, text: &[u8]) -> u32
+pub extern "C" fn dbus_wire_put_signature(
+    out: &mut [u8],
+    writer: &mut WireWriter,
+    text: &[u8],
+) -> u32
     ensures put { length text.now < 256 → (order : Order) →
         Appends (with_value order (TextValue SIGNATURE text.now))
         writer.old out.old result writer.new out.new }
@@ -145,7 +152,7 @@ pub extern "C" fn dbus_wire_put_signature(out: &mut [u8], writer: &mut Writer, t
 /// all stays. The bytes of `out` after what is put may change. It allocates nothing. D-Bus
 /// Specification, "Marshaling (Wire Format)".
 #[unsafe(no_mangle)]
-pub extern "C" fn dbus_wire_begin_struct(out: &mut [u8], writer: &mut Writer) -> u32
+pub extern "C" fn dbus_wire_begin_struct(out: &mut [u8], writer: &mut WireWriter) -> u32
     ensures { Appends (with_padding 8) writer.old out.old result writer.new out.new }
 {
     let end = struct_in(out, writer.length as usize);
@@ -163,7 +170,7 @@ pub extern "C" fn dbus_wire_begin_struct(out: &mut [u8], writer: &mut Writer) ->
 #[unsafe(no_mangle)]
 pub extern "C" fn dbus_wire_open_array(
     out: &mut [u8],
-    writer: &mut Writer,
+    writer: &mut WireWriter,
     alignment: u32,
     array: &mut WireArray,
 ) -> u32
@@ -198,7 +205,11 @@ pub extern "C" fn dbus_wire_open_array(
 /// not within `out`, or the elements have 4,294,967,296 bytes or more; then all stays. It allocates
 /// nothing. D-Bus Specification, "Marshaling (Wire Format)".
 #[unsafe(no_mangle)]
-pub extern "C" fn dbus_wire_close_array(out: &mut [u8], writer: &Writer, array: &WireArray) -> u32
+pub extern "C" fn dbus_wire_close_array(
+    out: &mut [u8],
+    writer: &WireWriter,
+    array: &WireArray,
+) -> u32
     ensures { Closes writer.now array.now out.old result out.new }
 {
     let length = writer.length as usize;
