@@ -45,10 +45,8 @@ pub(crate) fn pass<'a>(source: &MessageBytes<'a>, spot: &Spot<'a>) -> (ValueView
         }
         Layout::Variant { types, at } => {
             let noted = Spot {
-                at: spot.at,
-                types: spot.types,
                 lengths: &[1],
-                depth_left: spot.depth_left,
+                ..*spot
             };
             let held = Values::new(source, at, types, spot.depth_left - 1);
             (ValueView::Variant(held), skip_value(source, &noted))
@@ -76,10 +74,8 @@ fn after_parts(source: &MessageBytes<'_>, spot: &Spot<'_>) -> usize
 {
     let mut table = [0; 255];
     let noted = Spot {
-        at: spot.at,
-        types: spot.types,
         lengths: lengths_in(spot.types, &mut table),
-        depth_left: spot.depth_left,
+        ..*spot
     };
     skip_value(source, &noted)
 }
