@@ -1,6 +1,7 @@
 -- Frames: what is known of the innermost one, bounds on their ends, and one that is pushed.
-use Rattle.std.proofs.Common.{ℕ, ◌<◌, ◌≤◌, List, [], ◌∷◌, ◌++◌, arith, ◌≡◌, suc, ◌+◌, ◌*◌, length, reverse, take, true, false, refl, sym, ap, subst, ◌∙◌}
-use Rattle.dbus_value_checker.specs.declared.values.Frame.{Frame}
+use Rattle.std.proofs.Common.{ℕ, ◌<◌, ◌≤◌, List, [], ◌∷◌, ◌++◌, arith, ◌≡◌, suc, ◌+◌, ◌*◌, length, reverse, take, true, false, refl, sym}
+use Rattle.std.proofs.Common.{ap, subst, ◌∙◌}
+use Rattle.dbus_value_checker.specs.declared.values.OpenContainer.{OpenContainer}
 use Rattle.dbus_value_checker.specs.Suspended.{On, onward, Work, Parts, Elements, works}
 use Rattle.dbus_value_checker.specs.Denotations.{slice, Answer, IsFrame, AreFrames, AreNoted, extra, Framed, HasFrames, HasNotes, Wants}
 use Rattle.std.proofs.lemmas.List.{reverse-append, length-reverse, length-take, length-drop}
@@ -14,11 +15,22 @@ use Rattle.dbus_value_checker.specs.Moves.{Pushed}
 use Rattle.dbus_value_checker.proofs.FrontSteps.{sigs_some}
 
 -- turns that reach further are enough too
-pub IsFrame-reach : (reach more : ℕ) (text : List ℕ) (f : Frame) (w : Work) → reach ≤ more → IsFrame reach text f w → IsFrame more text f w
+pub IsFrame-reach : (reach more : ℕ) (text : List ℕ) (f : OpenContainer) (w : Work) → reach ≤ more → IsFrame reach text f w
+    → IsFrame more text f w
 IsFrame-reach reach more text f (Parts depth_left end ts) le h = h
-IsFrame-reach reach more text f (Elements turns depth_left end t) le h = record { elements = h.elements; room_is = h.room_is; end_is = h.end_is; type = h.type; complete = h.complete; turns_is = let t = h.turns_is in omega arith }
+IsFrame-reach reach more text f (Elements turns depth_left end t) le h =
+    record {
+      elements = h.elements;
+      room_is = h.room_is;
+      end_is = h.end_is;
+      type = h.type;
+      complete = h.complete;
+      turns_is = let t =
+          h.turns_is in omega arith;
+    }
 
-pub frames_reach : (reach more low high bottom : ℕ) (text : List ℕ) (fs : List Frame) (ws : List Work) → reach ≤ more → AreFrames reach low high bottom text fs ws → AreFrames more low high bottom text fs ws
+pub frames_reach : (reach more low high bottom : ℕ) (text : List ℕ) (fs : List OpenContainer) (ws : List Work) → reach ≤ more
+    → AreFrames reach low high bottom text fs ws → AreFrames more low high bottom text fs ws
 frames_reach reach more low high bottom text [] [] le h = h
 frames_reach reach more low high bottom text (f ∷ fs) (w ∷ ws) le h = (
   assumption (h, IsFrame-reach reach more text f w le h.0.is),
@@ -28,14 +40,17 @@ frames_reach reach more low high bottom text [] (w ∷ ws) le h = absurd h
 frames_reach reach more low high bottom text (f ∷ fs) [] le h = absurd h
 
 -- no offset is far
-pub frames_small : (reach low high bottom : ℕ) (text : List ℕ) (fs : List Frame) (ws : List Work) → AreFrames reach low high bottom text fs ws → low < 18446744073709551616
+pub frames_small : (reach low high bottom : ℕ) (text : List ℕ) (fs : List OpenContainer) (ws : List Work)
+    → AreFrames reach low high bottom text fs ws → low < 18446744073709551616
 frames_small reach low high bottom text [] [] h = let a = h.0 in let b = h.1 in omega arith
-frames_small reach low high bottom text (f ∷ fs) (w ∷ ws) h = let a = h.0.low_is in let b = frames_small reach f.end f.top bottom text fs ws h.1 in omega arith
+frames_small reach low high bottom text (f ∷ fs) (w ∷ ws) h = let a = h.0.low_is in let b =
+    frames_small reach f.end f.top bottom text fs ws h.1 in omega arith
 frames_small reach low high bottom text [] (w ∷ ws) h = absurd h
 frames_small reach low high bottom text (f ∷ fs) [] h = absurd h
 
 -- nor is an end, and the innermost frame is within its bounds
-pub frame_within : (reach low high bottom : ℕ) (text : List ℕ) (f : Frame) (fs : List Frame) (ws : List Work) → AreFrames reach low high bottom text (f ∷ fs) ws → (low ≤ f.end) × (f.top ≤ high) × (f.end < 18446744073709551616)
+pub frame_within : (reach low high bottom : ℕ) (text : List ℕ) (f : OpenContainer) (fs : List OpenContainer) (ws : List Work)
+    → AreFrames reach low high bottom text (f ∷ fs) ws → (low ≤ f.end) × (f.top ≤ high) × (f.end < 18446744073709551616)
 frame_within reach low high bottom text f fs [] h = absurd h
 frame_within reach low high bottom text f fs (w ∷ ws) h = (h.0.low_is, h.0.high_is, frames_small reach f.end f.top bottom text fs ws h.1)
 
@@ -52,22 +67,35 @@ pub record Inner (x : ValueChecker) : Type 0 where
 
 pub inner_of : (x : ValueChecker) (reach : ℕ) (ws : List Work) → HasFrames reach x ws → Inner x
 inner_of x reach [] h = absurd h
-inner_of x reach (w ∷ ws) h = record { low = h.0.low_is; high = h.0.high_is; stop = h.0.stop_is; pos = h.0.pos_is; count = omega (arith, h.0.count_is, length-reverse x.frames.items); depth_left = h.0.room_is }
+inner_of x reach (w ∷ ws) h = record {
+  low = h.0.low_is;
+  high = h.0.high_is;
+  stop = h.0.stop_is;
+  pos = h.0.pos_is;
+  count =
+      omega (arith, h.0.count_is, length-reverse x.frames.items);
+  depth_left = h.0.room_is;
+}
 
-pub within : (reach low high next more bottom : ℕ) (text : List ℕ) (f : Frame) (fs : List Frame) (ws : List Work) → next ≤ f.end → f.top ≤ more → AreFrames reach low high bottom text (f ∷ fs) ws → AreFrames reach next more bottom text (f ∷ fs) ws
+pub within : (reach low high next more bottom : ℕ) (text : List ℕ) (f : OpenContainer) (fs : List OpenContainer) (ws : List Work)
+    → next ≤ f.end → f.top ≤ more → AreFrames reach low high bottom text (f ∷ fs) ws → AreFrames reach next more bottom text (f ∷ fs) ws
 within reach low high next more bottom text f fs [] le top h = h
 within reach low high next more bottom text f fs (w ∷ ws) le top h = (assumption h, h.1)
 
 -- further on, within the innermost frame
-pub frames_at : (x : ValueChecker) (ws : List Work) (reach more o : ℕ) → HasFrames reach x ws → reach ≤ more → o ≤ x.inner.end → HasFrames more (record x { offset = o }) ws
+pub frames_at : (x : ValueChecker) (ws : List Work) (reach more o : ℕ) → HasFrames reach x ws → reach ≤ more → o ≤ x.inner.end
+    → HasFrames more (record x { offset = o }) ws
 frames_at x ws reach more o h le fits =
-    within more x.offset (length x.text.items) o (length x.text.items) x.end x.text.items x.inner (reverse x.frames.items) ws fits (inner_of x reach ws h).high
+    within more x.offset (length x.text.items) o (length x.text.items) x.end x.text.items x.inner (reverse x.frames.items) ws fits
+    (inner_of x reach ws h).high
     (frames_reach reach more x.offset (length x.text.items) x.end x.text.items (x.inner ∷ reverse x.frames.items) ws le h)
 
-pub pushed_frames : (x y : ValueChecker) (f : Frame) (reach : ℕ) (v : Work) (ws : List Work) → Pushed x y f → HasFrames reach x ws
-    → Framed reach x.offset (length x.text.items) (suc (length x.frames.items)) x.text.items f v → f.end ≤ x.inner.end → x.inner.top ≤ f.top → HasFrames reach y (v ∷ ws)
+pub pushed_frames : (x y : ValueChecker) (f : OpenContainer) (reach : ℕ) (v : Work) (ws : List Work) → Pushed x y f → HasFrames reach x ws
+    → Framed reach x.offset (length x.text.items) (suc (length x.frames.items)) x.text.items f v → f.end ≤ x.inner.end → x.inner.top ≤ f.top
+    → HasFrames reach y (v ∷ ws)
 pushed_frames x y f reach v ws p h framed end top =
-    let back : reverse y.frames.items ≡ x.inner ∷ reverse x.frames.items = ap (λ (fs : List Frame). reverse fs) p.frames ∙ reverse-append x.frames.items (x.inner ∷ []) in
+    let back : reverse y.frames.items ≡ x.inner ∷ reverse x.frames.items = ap (λ (fs : List OpenContainer). reverse fs) p.frames
+    ∙ reverse-append x.frames.items (x.inner ∷ []) in
     let n : suc (length x.frames.items) ≡ length (x.inner ∷ reverse x.frames.items) = ap suc (sym (length-reverse x.frames.items)) in
     let here : AreFrames reach x.offset (length x.text.items) x.end x.text.items (f ∷ (x.inner ∷ reverse x.frames.items)) (v ∷ ws) = (
       subst (λ (k : ℕ). Framed reach x.offset (length x.text.items) k x.text.items f v) n framed,
@@ -77,7 +105,8 @@ pushed_frames x y f reach v ws p h framed end top =
 
 -- ---- a frame that is over is left out
 
-narrower : (reach low high next more bottom : ℕ) (text : List ℕ) (fs : List Frame) (ws : List Work) → next ≤ low → high ≤ more → AreFrames reach low high bottom text fs ws → AreFrames reach next more bottom text fs ws
+narrower : (reach low high next more bottom : ℕ) (text : List ℕ) (fs : List OpenContainer) (ws : List Work) → next ≤ low → high ≤ more
+    → AreFrames reach low high bottom text fs ws → AreFrames reach next more bottom text fs ws
 narrower reach low high next more bottom text [] [] le top h = (let a = h.0 in omega arith, h.1)
 narrower reach low high next more bottom text (f ∷ fs) (w ∷ ws) le top h =
     let a = h.0.low_is in
@@ -86,7 +115,7 @@ narrower reach low high next more bottom text (f ∷ fs) (w ∷ ws) le top h =
 narrower reach low high next more bottom text [] (w ∷ ws) le top h = absurd h
 narrower reach low high next more bottom text (f ∷ fs) [] le top h = absurd h
 
-no_types : (text : List ℕ) (g : Frame) (ts : TypeTrees) → g.stop ≤ g.pos → slice text g.pos g.stop ≡ sigs ts → ts ≡ NoTypes
+no_types : (text : List ℕ) (g : OpenContainer) (ts : TypeTrees) → g.stop ≤ g.pos → slice text g.pos g.stop ≡ sigs ts → ts ≡ NoTypes
 no_types text g NoTypes le is = refl
 no_types text g (MoreTypes t ts) le is =
     let l = ap length is in
@@ -96,33 +125,51 @@ no_types text g (MoreTypes t ts) le is =
     absurd (omega arith)
 
 -- of two frames the second, which is over
-left_out : (reach low high bottom : ℕ) (text : List ℕ) (f g : Frame) (fs : List Frame) (b : Bounds) (o : Order) (last : On) (ws : List Work) → g.array ≡ false → g.stop ≤ g.pos → AreFrames reach low high bottom text (f ∷ (g ∷ fs)) ws
+left_out : (reach low high bottom : ℕ) (text : List ℕ) (f g : OpenContainer) (fs : List OpenContainer) (b : Bounds) (o : Order) (last : On)
+    (ws : List Work) → g.array ≡ false → g.stop ≤ g.pos → AreFrames reach low high bottom text (f ∷ (g ∷ fs)) ws
     → (us : List Work) × AreFrames reach low high bottom text (f ∷ fs) us × (works b o last us ≡ works b o last ws)
 left_out reach low high bottom text f g fs b o last [] plain over h = absurd h
 left_out reach low high bottom text f g fs b o last (v ∷ []) plain over h = absurd h.1
-left_out reach low high bottom text f g fs b o last (v ∷ (Elements turns depth_left end t ∷ ws)) plain over h = absurd (let e = h.1.0.is.elements in let d : true ≡ false = sym e ∙ plain in cc)
+left_out reach low high bottom text f g fs b o last (v ∷ (Elements turns depth_left end t ∷ ws)) plain over h =
+    absurd (let e = h.1.0.is.elements in let d : true ≡ false = sym e ∙ plain in cc)
 left_out reach low high bottom text f g fs b o last (v ∷ (Parts depth_left end ts ∷ ws)) plain over h =
     let none = no_types text g ts over h.1.0.is.types in
     let count = h.0.count_is in (
       v ∷ ws,
       (
-        record { low_is = h.0.low_is; high_is = h.0.high_is; stop_is = h.0.stop_is; pos_is = h.0.pos_is; count_is = omega arith; room_is = h.0.room_is; is = h.0.is },
+        record {
+          low_is = h.0.low_is;
+          high_is = h.0.high_is;
+          stop_is = h.0.stop_is;
+          pos_is = h.0.pos_is;
+          count_is = omega arith;
+          room_is =
+              h.0.room_is;
+          is = h.0.is;
+        },
         narrower reach g.end g.top f.end f.top bottom text fs ws h.1.0.low_is h.1.0.high_is h.1.1,
       ),
       ap (λ (us : TypeTrees). works b o last (v ∷ (Parts depth_left end us ∷ ws))) (sym none),
     )
 
-pub left_notes : (y : ValueChecker) (fs : ArrayVec Frame) (g : Frame) → y.frames.items ≡ fs.items ++ g ∷ [] → HasNotes y → HasNotes (record y { frames = fs })
+pub left_notes : (y : ValueChecker) (fs : ArrayVec OpenContainer) (g : OpenContainer) → y.frames.items ≡ fs.items ++ g ∷ [] → HasNotes y
+    → HasNotes (record y { frames = fs })
 left_notes y fs g is h =
-    let back : reverse y.frames.items ≡ g ∷ reverse fs.items = ap (λ (l : List Frame). reverse l) is ∙ reverse-append fs.items (g ∷ []) in
-    let n = subst (λ (l : List Frame). AreNoted y.text.items y.lengths.items (y.inner ∷ l)) back h.1 in
+    let back : reverse y.frames.items ≡ g ∷ reverse fs.items = ap (λ (l : List OpenContainer). reverse l) is
+    ∙ reverse-append fs.items (g ∷ []) in
+    let n = subst (λ (l : List OpenContainer). AreNoted y.text.items y.lengths.items (y.inner ∷ l)) back h.1 in
     (h.0, (n.0, n.1.1))
 
-pub left_wants : (y : ValueChecker) (fs : ArrayVec Frame) (g : Frame) (pos stop : ℕ) (answer : Answer) → y.frames.items ≡ fs.items ++ g ∷ [] → g.array ≡ false → g.stop ≤ g.pos → Wants y pos stop answer → Wants (record y { frames = fs }) pos stop answer
+pub left_wants : (y : ValueChecker) (fs : ArrayVec OpenContainer) (g : OpenContainer) (pos stop : ℕ) (answer : Answer)
+    → y.frames.items ≡ fs.items ++ g ∷ [] → g.array ≡ false → g.stop ≤ g.pos → Wants y pos stop answer
+    → Wants (record y { frames = fs }) pos stop answer
 left_wants y fs g pos stop answer is plain over w =
-    let back : reverse y.frames.items ≡ g ∷ reverse fs.items = ap (λ (l : List Frame). reverse l) is ∙ reverse-append fs.items (g ∷ []) in
-    let u = left_out (suc y.offset) y.offset (length y.text.items) y.end y.text.items y.inner g (reverse fs.items) y.bounds y.order answer.last w.ws plain over
-    (subst (λ (l : List Frame). AreFrames (suc y.offset) y.offset (length y.text.items) y.end y.text.items (y.inner ∷ l) w.ws) back w.frames) in
+    let back : reverse y.frames.items ≡ g ∷ reverse fs.items = ap (λ (l : List OpenContainer). reverse l) is
+    ∙ reverse-append fs.items (g ∷ []) in
+    let u = left_out (suc y.offset) y.offset (length y.text.items) y.end y.text.items y.inner g (reverse fs.items) y.bounds y.order
+    answer.last w.ws plain over
+    (subst (λ (l : List OpenContainer). AreFrames (suc y.offset) y.offset (length y.text.items) y.end y.text.items (y.inner ∷ l) w.ws) back
+    w.frames) in
     record {
       ws = u.0;
       type = w.type;

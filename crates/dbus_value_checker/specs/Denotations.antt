@@ -1,5 +1,6 @@
 -- What the fields of `ValueChecker` stand for: what they answer to the bytes still to come.
-use Rattle.std.specs.Prelude.{◌≡◌, ℕ, ◌+◌, ◌*◌, ◌<◌, ◌≤◌, List, [], ◌∷◌, ◌++◌, get_or, length, take, drop, Bool, true, false, suc, ◌-◌, reverse, Option, None}
+use Rattle.std.specs.Prelude.{◌≡◌, ℕ, ◌+◌, ◌*◌, ◌<◌, ◌≤◌, List, [], ◌∷◌, ◌++◌, get_or, length, take, drop, Bool, true, false, suc, ◌-◌}
+use Rattle.std.specs.Prelude.{reverse, Option, None}
 use Rattle.dbus_texts.specs.Types.{TypeTree, TypeTrees, sig, sigs, IsShaped, AreShaped, NumberCode, NumberType}
 use Rattle.dbus_types.specs.Alignments.{width}
 use Rattle.dbus_texts.specs.Scans.{Stands}
@@ -11,8 +12,9 @@ use Rattle.dbus_value_model.specs.WantedTexts.{Of}
 use Rattle.dbus_value_model.specs.Bytes.{gap_to}
 use Rattle.dbus_value_model.specs.ValueItems.{number_row}
 use Rattle.dbus_value_model.specs.Reading.{Outcome, after, text, nul, value}
-use Rattle.dbus_value_checker.specs.declared.values.Frame.{Frame}
-use Rattle.dbus_value_checker.specs.Suspended.{Work, Parts, Elements, On, onward, works, TextItem, AText, AHeld, item_kind, item_on, own, own_of, opened_by}
+use Rattle.dbus_value_checker.specs.declared.values.OpenContainer.{OpenContainer}
+use Rattle.dbus_value_checker.specs.Suspended.{Work, Parts, Elements, On, onward, works, TextItem, AText, AHeld, item_kind, item_on, own}
+use Rattle.dbus_value_checker.specs.Suspended.{own_of, opened_by}
 use Rattle.dbus_value_checker.specs.declared.values.ValueChecker.{ValueChecker}
 use Rattle.dbus_value_checker.specs.declared.values.Doing.{Doing}
 use Rattle.dbus_value_checker.specs.declared.values.Doing.TheVariants as doing
@@ -25,15 +27,16 @@ slice text pos stop = drop pos (take stop text)
 
 -- Of each place from pos up to stop the length of the type that begins there is noted.
 abbrev pub IsNoted : (text lengths : List ℕ) → (pos stop : ℕ) → Type 0
-IsNoted text lengths pos stop = (at : ℕ) (t : TypeTree) (more : List ℕ) → pos ≤ at → at < stop → slice text at stop ≡ sig t ++ more → get_or lengths at 0 ≡ length (sig t)
+IsNoted text lengths pos stop = (at : ℕ) (t : TypeTree) (more : List ℕ) → pos ≤ at → at < stop → slice text at stop ≡ sig t ++ more
+    → get_or lengths at 0 ≡ length (sig t)
 
 -- it is of the types of each frame
-abbrev pub AreNoted : (text lengths : List ℕ) → List Frame → Type 0
+abbrev pub AreNoted : (text lengths : List ℕ) → List OpenContainer → Type 0
 AreNoted text lengths [] = Unit {0}
 AreNoted text lengths (f ∷ fs) = IsNoted text lengths f.pos f.stop × AreNoted text lengths fs
 
 -- a frame whose values of these types are still wanted
-pub record IsParts (text : List ℕ) (f : Frame) (depth_left end : ℕ) (ts : TypeTrees) : Type 0 where
+pub record IsParts (text : List ℕ) (f : OpenContainer) (depth_left end : ℕ) (ts : TypeTrees) : Type 0 where
   pub parts : f.array ≡ false
   pub room_is : f.depth_left ≡ depth_left
   pub end_is : f.end ≡ end
@@ -41,7 +44,7 @@ pub record IsParts (text : List ℕ) (f : Frame) (depth_left end : ℕ) (ts : Ty
   pub complete : AreShaped ts
 
 -- a frame of an array; the turns are enough for the bytes from reach on
-pub record IsElements (reach : ℕ) (text : List ℕ) (f : Frame) (turns depth_left end : ℕ) (t : TypeTree) : Type 0 where
+pub record IsElements (reach : ℕ) (text : List ℕ) (f : OpenContainer) (turns depth_left end : ℕ) (t : TypeTree) : Type 0 where
   pub elements : f.array ≡ true
   pub room_is : f.depth_left ≡ depth_left
   pub end_is : f.end ≡ end
@@ -49,7 +52,7 @@ pub record IsElements (reach : ℕ) (text : List ℕ) (f : Frame) (turns depth_l
   pub complete : IsShaped true t
   pub turns_is : f.end ≤ reach + turns
 
-abbrev pub IsFrame : ℕ → List ℕ → Frame → Work → Type 0
+abbrev pub IsFrame : ℕ → List ℕ → OpenContainer → Work → Type 0
 IsFrame reach text f (Parts depth_left end ts) = IsParts text f depth_left end ts
 IsFrame reach text f (Elements turns depth_left end t) = IsElements reach text f turns depth_left end t
 
@@ -62,7 +65,7 @@ extra false = 0
 -- A frame with count frames around it. It ends at low or later, its types end at high or earlier,
 -- and for all that may still be opened in it there is room: 128 frames, and 255 bytes for the
 -- signature of each of 65 nested values.
-pub record Framed (reach low high count : ℕ) (text : List ℕ) (f : Frame) (w : Work) : Type 0 where
+pub record Framed (reach low high count : ℕ) (text : List ℕ) (f : OpenContainer) (w : Work) : Type 0 where
   pub low_is : low ≤ f.end
   pub high_is : f.top ≤ high
   pub stop_is : f.stop ≤ f.top
@@ -72,9 +75,10 @@ pub record Framed (reach low high count : ℕ) (text : List ℕ) (f : Frame) (w 
   pub is : IsFrame reach text f w
 
 -- the innermost first; each ends within the next, and the outermost at bottom or earlier
-abbrev pub AreFrames : (reach low high bottom : ℕ) → List ℕ → List Frame → List Work → Type 0
+abbrev pub AreFrames : (reach low high bottom : ℕ) → List ℕ → List OpenContainer → List Work → Type 0
 AreFrames reach low high bottom text [] [] = (low ≤ bottom) × (bottom < 18446744073709551616)
-AreFrames reach low high bottom text (f ∷ fs) (w ∷ ws) = Framed reach low high (length fs) text f w × AreFrames reach f.end f.top bottom text fs ws
+AreFrames reach low high bottom text (f ∷ fs) (w ∷ ws) = Framed reach low high (length fs) text f w
+    × AreFrames reach f.end f.top bottom text fs ws
 AreFrames reach low high bottom text [] (w ∷ ws) = ⊥
 AreFrames reach low high bottom text (f ∷ fs) [] = ⊥
 
@@ -116,7 +120,8 @@ pub record Wants (x : ValueChecker) (pos stop : ℕ) (answer : Answer) : Type 0 
   pub element : x.inner.array ≡ true → (pos ≡ x.inner.pos) × (stop ≡ x.inner.stop)
   pub pos_is : pos ≤ stop
   pub stop_is : stop ≤ x.inner.top
-  pub same : (c : List ℕ) → onward (value x.bounds x.order x.inner.depth_left x.inner.end type) (rest_of answer x ws) x.offset c ≡ answer.to c
+  pub same : (c : List ℕ) → onward (value x.bounds x.order x.inner.depth_left x.inner.end type) (rest_of answer x ws) x.offset c ≡ answer.to
+      c
 
 -- a value of the type that stands there is wanted, and so many bytes of padding before it are there
 pub record Ready (x : ValueChecker) (pos stop n : ℕ) (answer : Answer) : Type 0 where
@@ -125,7 +130,9 @@ pub record Ready (x : ValueChecker) (pos stop n : ℕ) (answer : Answer) : Type 
   pub fits : x.offset + n ≤ x.inner.end
   pub near : x.inner.end < 18446744073709551616
   pub there : stop ≤ length x.text.items
-  pub same : (c : List ℕ) → own x.bounds x.order x.inner.end (own_of wants.type x.inner.depth_left) (works x.bounds x.order (rest_of answer x wants.ws) (opened_by wants.type x.inner.depth_left x.inner.end)) (x.offset + n) c ≡ answer.to c
+  pub same : (c : List ℕ) → own x.bounds x.order x.inner.end (own_of wants.type x.inner.depth_left)
+      (works x.bounds x.order (rest_of answer x wants.ws) (opened_by wants.type x.inner.depth_left x.inner.end)) (x.offset + n)
+      c ≡ answer.to c
 
 -- what is kept of a text of so many bytes, of which these were taken: of a variant's signature all
 abbrev pub IsKept : TextItem → (held : List ℕ) → (depth_left size : ℕ) → (bytes : List ℕ) → Type 0
@@ -149,7 +156,8 @@ pub record Texts (x : ValueChecker) (kind : TextKind) (left : ℕ) (answer : Ans
   pub left_is : length bytes + left ≡ size
   pub fits : x.offset + left + 1 ≤ x.inner.end
   pub near : x.inner.end < 18446744073709551616
-  pub same : (c : List ℕ) → after (text (item_kind item) size start (bytes ++ c)) (λ t. onward nul (item_on x.bounds x.order x.inner.end item (rest_of answer x ws) t)) ≡ answer.to c
+  pub same : (c : List ℕ) → after (text (item_kind item) size start (bytes ++ c))
+      (λ t. onward nul (item_on x.bounds x.order x.inner.end item (rest_of answer x ws) t)) ≡ answer.to c
 
 -- the zero after a variant's signature is wanted, all of which is kept
 pub record Held (x : ValueChecker) (answer : Answer) : Type 0 where
@@ -160,7 +168,8 @@ pub record Held (x : ValueChecker) (answer : Answer) : Type 0 where
   pub kind : IsKind kinds.Single x.held.items
   pub fits : x.offset + 1 ≤ x.inner.end
   pub near : x.inner.end < 18446744073709551616
-  pub same : (c : List ℕ) → onward nul (item_on x.bounds x.order x.inner.end (AHeld (x.inner.depth_left - 1)) (rest_of answer x ws) x.held.items) x.offset c ≡ answer.to c
+  pub same : (c : List ℕ) → onward nul (item_on x.bounds x.order x.inner.end (AHeld (x.inner.depth_left - 1)) (rest_of answer x ws)
+      x.held.items) x.offset c ≡ answer.to c
 
 -- the zero after a text is wanted
 pub record Nuls (x : ValueChecker) (answer : Answer) : Type 0 where
@@ -189,7 +198,8 @@ pub record Numbers (x : ValueChecker) (left : ℕ) (answer : Answer) : Type 0 wh
   pub offset : start + length bytes ≡ x.offset
   pub left_is : length bytes + left ≡ count * width code
   pub fits : x.offset + left ≤ x.inner.end
-  pub same : (c : List ℕ) → rest_of answer x (Elements (count + turns) depth_left stop (NumberType code) ∷ ws) start (bytes ++ c) ≡ answer.to c
+  pub same : (c : List ℕ) → rest_of answer x (Elements (count + turns) depth_left stop (NumberType code) ∷ ws) start
+      (bytes ++ c) ≡ answer.to c
 
 abbrev pub denotes : Doing → ValueChecker → Answer → Type 0
 denotes (doing.Wanted pos stop) x answer = Wants x pos stop answer

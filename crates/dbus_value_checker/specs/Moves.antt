@@ -8,7 +8,7 @@ use Rattle.dbus_value_model.specs.declared.stop.Stop.{Stop}
 use Rattle.dbus_value_model.specs.declared.stop.Stop.TheVariants as stops
 use Rattle.dbus_value_model.specs.Reading.{Faulty, Partial, value, fields}
 use Rattle.dbus_value_checker.specs.declared.values.ValueChecker.{ValueChecker}
-use Rattle.dbus_value_checker.specs.declared.values.Frame.{Frame}
+use Rattle.dbus_value_checker.specs.declared.values.OpenContainer.{OpenContainer}
 use Rattle.dbus_value_checker.specs.declared.values.Doing.{Doing}
 use Rattle.dbus_value_checker.specs.declared.values.Doing.TheVariants as doing
 use Rattle.dbus_types.specs.SignatureCodes.{IsTypeEnd}
@@ -31,7 +31,7 @@ Opens (Err stops.Partial) new answer = ⊥
 Opens (Err (stops.Refused f)) new answer = (c : List ℕ) → answer.to c ≡ Faulty f
 
 -- a frame was pushed
-pub record Pushed (x y : ValueChecker) (f : Frame) : Type 0 where
+pub record Pushed (x y : ValueChecker) (f : OpenContainer) : Type 0 where
   pub bounds : y.bounds ≡ x.bounds
   pub order : y.order ≡ x.order
   pub end : y.end ≡ x.end
@@ -42,15 +42,17 @@ pub record Pushed (x y : ValueChecker) (f : Frame) : Type 0 where
   pub frames : y.frames.items ≡ x.frames.items ++ x.inner ∷ []
 
 -- the innermost frame is put after those around it, unless it is over
-abbrev pub Aside : Frame → (old new : List Frame) → Type 0
+abbrev pub Aside : OpenContainer → (old new : List OpenContainer) → Type 0
 Aside f old new = (new ≡ old ++ f ∷ []) ⊎ ((f.array ≡ false) × (f.stop ≤ f.pos) × (new ≡ old))
 
 -- once a frame is pushed for what stands within the brackets at pos, n bytes further, its first
 -- part is wanted
 abbrev pub Enters : ValueChecker → (pos stop n depth_left : ℕ) → Answer → Type 0
 Enters x pos stop n depth_left answer =
-    (y : ValueChecker) → Pushed (record x { offset = x.offset + n }) y (record { array = false; pos = pos + 1; stop = stop - 1; top = x.inner.top; end = x.inner.end; depth_left = depth_left })
-    → (q : ℕ) → IsTypeEnd (take y.inner.stop y.text.items) y.inner.pos q → Wants (record y { inner = record y.inner { pos = q } }) y.inner.pos q answer
+    (y : ValueChecker) → Pushed (record x { offset = x.offset + n }) y
+    (record { array = false; pos = pos + 1; stop = stop - 1; top = x.inner.top; end = x.inner.end; depth_left = depth_left })
+    → (q : ℕ) → IsTypeEnd (take y.inner.stop y.text.items) y.inner.pos q
+    → Wants (record y { inner = record y.inner { pos = q } }) y.inner.pos q answer
 
 -- something is wanted still
 abbrev pub IsLive : Doing → Type 0
@@ -62,7 +64,11 @@ IsLive doing.Over = ⊥
 
 -- values of these types, from an offset on, and then the last
 abbrev pub values_on : Bounds → Order → (depth_left end : ℕ) → TypeTrees → On → ℕ → Answer
-values_on bounds order depth_left end ts last offset = record { last = last; to = onward (fields (value bounds order depth_left end) ts) last offset }
+values_on bounds order depth_left end ts last offset = record {
+  last = last;
+  to =
+      onward (fields (value bounds order depth_left end) ts) last offset;
+}
 
 -- a text of a kind, of so many bytes, and the zero after it, from an offset on, and then the last
 abbrev pub text_on : TextKind → (size : ℕ) → On → ℕ → Answer

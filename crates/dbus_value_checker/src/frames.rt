@@ -2,15 +2,17 @@
 //! left.
 #![tactic(auto)]
 
-ghost use Rattle.std.specs.Prelude.{◌≡◌, ◌≢◌, ◌+◌, ◌-◌, ◌<◌, ◌≤◌, ◌^◌, length, take, slice_index, true, IfOk, IfErr, IfSome};
+ghost use Rattle.std.specs.Prelude.{◌≡◌, ◌≢◌, ◌+◌, ◌-◌, ◌<◌, ◌≤◌, ◌^◌, length, take, slice_index};
+ghost use Rattle.std.specs.Prelude.{true, IfOk, IfErr, IfSome};
 
-use crate::values::{Doing, Frame, ValueChecker};
+use crate::values::{Doing, OpenContainer, ValueChecker};
 use dbus_types::{boundary, free_width};
 use dbus_value_model::{Reason, Stop, gap, refuse};
 
 impl ValueChecker {
     ghost use Rattle.dbus_types.specs.SignatureCodes.{IsTypeEnd};
-    ghost use Rattle.dbus_value_checker.specs.Denotations.{Answer, Denotes, Goes, HasNotes, Ready, denotes, IsNoted};
+    ghost use Rattle.dbus_value_checker.specs.Denotations.{Answer, Denotes, Goes, HasNotes, Ready};
+    ghost use Rattle.dbus_value_checker.specs.Denotations.{denotes, IsNoted};
     ghost use Rattle.dbus_value_checker.specs.Moves.{Aside, Opens, Enters, wide};
     ghost use Rattle.dbus_value_model.specs.declared.stop.Stop.TheVariants.{Partial};
 
@@ -105,7 +107,7 @@ impl ValueChecker {
         self.offset += n;
         let outer = self.inner;
         self.set_aside();
-        self.inner = Frame {
+        self.inner = OpenContainer {
             array: false,
             pos: pos + 1,
             stop: stop - 1,

@@ -18,12 +18,12 @@ ghost use Rattle.dbus_value_model.specs.declared.fault.Reason.TheVariants as rea
 ghost use Rattle.dbus_value_model.specs.declared.order.Order.{Order};
 ghost use Rattle.dbus_value_model.specs.WantedTexts.{Of};
 ghost use Rattle.dbus_value_model.specs.Items.{text_reason};
-ghost use Rattle.dbus_value_model.specs.ValueItems.{number_row, text_row, array_row};
+ghost use Rattle.dbus_value_model.specs.ValueItems.{number_row, text_row};
 ghost use Rattle.dbus_value_model.specs.ValueReaders.{array_frame};
 ghost use Rattle.dbus_types.specs.SignatureCodes.{first_code};
 ghost use Rattle.dbus_value_model.specs.declared.stop.Stop.TheVariants.{Partial};
 ghost use Rattle.dbus_value_checker.specs.Fronts.{Fronts, IsThere, IsWord, IsByte};
-ghost use Rattle.dbus_value_checker.specs.Suspended.{onward, done, ended_text, short_text};
+ghost use Rattle.dbus_value_checker.specs.Suspended.{onward, done, ended_text};
 
 use dbus_types::{TextKind, boundary, text_break};
 use dbus_value_model::{Bounds, Order, Reason, Stop, gap, refuse};
@@ -116,7 +116,8 @@ pub fn byte(bytes: &[u8], offset: usize, end: usize) -> Result<u8, Stop>
 /// The row of the fault table that a number of the type that has this code meets: that of BOOLEAN
 /// or of UNIX_FD.
 fn row_of(code: u8, n: u32, index_limit: Option<u32>) -> Option<Reason>
-    ensures { (k : NumberCode) (p : ℕ) → number_code k ≡ code → result ≡ number_row index_limit k p n }
+    ensures { (k : NumberCode) (p : ℕ) → number_code k ≡ code →
+        result ≡ number_row index_limit k p n }
 {
     if code == b'b' {
         return if n > 1 { Some(Reason::Bool) } else { None };

@@ -2,12 +2,13 @@
 //! Specification, "Variant".
 #![tactic(auto)]
 
-ghost use Rattle.std.specs.Prelude.{◌≡◌, ◌+◌, ◌<◌, ◌≤◌, ◌++◌, ◌↔◌, length, slice_index, IfOk, IfErr, IsTrue};
+ghost use Rattle.std.specs.Prelude.{◌≡◌, ◌+◌, ◌<◌, ◌≤◌, ◌++◌, ◌↔◌, length, slice_index, IfOk};
+ghost use Rattle.std.specs.Prelude.{IfErr, IsTrue};
 ghost use Rattle.dbus_texts.specs.declared.text_kind.TextKind.TheVariants.{Single};
 
 use crate::fronts::short_length_front;
 use crate::signatures::sign;
-use crate::values::{Doing, Frame, ValueChecker};
+use crate::values::{Doing, OpenContainer, ValueChecker};
 use arrayvec::ArrayVec;
 use dbus_types::{TextKind, TextScan};
 use dbus_value_model::{Reason, Stop, refuse};
@@ -83,7 +84,7 @@ impl ValueChecker {
         let stop = top + self.held.len();
         sign(&mut self.text, &mut self.lengths, top, self.held.as_slice());
         self.frames.push(self.inner);
-        self.inner = Frame {
+        self.inner = OpenContainer {
             array: false,
             pos: top,
             stop,

@@ -4,7 +4,7 @@
 ghost use Rattle.std.specs.Prelude.{◌≡◌, ◌-◌, ◌<◌, length, slice_index, IfOk, IfErr, ◌⊎◌};
 
 use crate::fronts::{array_front, front, number_front, padding, rest_after};
-use crate::values::{Doing, Frame, ValueChecker};
+use crate::values::{Doing, OpenContainer, ValueChecker};
 use dbus_types::boundary;
 use dbus_value_model::{Reason, Stop, refuse};
 
@@ -67,7 +67,7 @@ impl ValueChecker {
             Ok((size, taken)) => {
                 self.offset = at + taken;
                 self.frames.push(self.inner);
-                self.inner = Frame {
+                self.inner = OpenContainer {
                     array: true,
                     pos: pos + 1,
                     stop,

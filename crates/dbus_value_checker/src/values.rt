@@ -1,7 +1,8 @@
 //! Values that are wanted: what is noted of them between pieces.
 #![tactic(auto)]
 
-ghost use Rattle.std.specs.Prelude.{◌≡◌, ◌≢◌, ◌+◌, ◌*◌, ◌<◌, ◌≤◌, ◌^◌, ℕ, length, drop, true, false, Ok, IfOk, IfErr, ◌⊎◌, ◌↔◌, IsTrue};
+ghost use Rattle.std.specs.Prelude.{drop, ◌≡◌, ◌≢◌, ◌+◌, ◌<◌, ◌≤◌, length, true, false, Ok, IfOk, IfErr};
+ghost use Rattle.std.specs.Prelude.{◌⊎◌, ◌↔◌, IsTrue};
 
 use crate::signatures::sign;
 use arrayvec::ArrayVec;
@@ -10,7 +11,7 @@ use dbus_value_model::{Bounds, Fault, Limits, Order, Stop};
 
 /// An open container: where the types of its parts are in the signatures, and where it ends.
 #[derive(Clone, Copy, Default)]
-pub(crate) struct Frame {
+pub(crate) struct OpenContainer {
     /// Whether it is an array, whose one type is that of all of its elements.
     pub(crate) array: bool,
     /// Where the next type begins.
@@ -45,9 +46,9 @@ pub(crate) enum Doing {
 /// bytes, allocates nothing, and holds no byte of what it took but signatures of variants: of those
 /// that are open and, until the next variant begins, of some that are over.
 ///
-/// [`ValueChecker::begin`] says which values are wanted, or [`ValueChecker::begin_text`] which text;
-/// [`ValueChecker::run`] takes their bytes in pieces of any length, and [`ValueChecker::is_live`]
-/// says whether more of them are wanted.
+/// [`ValueChecker::begin`] says which values are wanted, or [`ValueChecker::begin_text`] which
+/// text; [`ValueChecker::run`] takes their bytes in pieces of any length, and
+/// [`ValueChecker::is_live`] says whether more of them are wanted.
 #[derive(Drop)]
 pub struct ValueChecker {
     pub(crate) bounds: Bounds,
@@ -57,10 +58,10 @@ pub struct ValueChecker {
     /// The offset up to which the bytes are taken.
     pub(crate) offset: usize,
     /// The innermost container, or the values themselves.
-    pub(crate) inner: Frame,
+    pub(crate) inner: OpenContainer,
     /// Those around it, the outermost first, but structs and dict entries whose last part is open:
     /// at most 64 containers, and in each array a dict entry, which takes no room.
-    pub(crate) frames: ArrayVec<Frame, 128>,
+    pub(crate) frames: ArrayVec<OpenContainer, 128>,
     /// The signatures: that of the values, then those of the variants that are open, each at most
     /// 255 bytes. After them may be what is left of variants that are over.
     pub(crate) text: ArrayVec<u8, 16640>,
@@ -75,7 +76,8 @@ pub struct ValueChecker {
 
 impl ValueChecker {
     ghost use Rattle.dbus_value_checker.specs.Denotations.{Answer, Denotes};
-    ghost use Rattle.dbus_value_checker.specs.Moves.{Moves, Opens, Runs, IsLive, offset_of, wide, values_on, text_on, nothing_on};
+    ghost use Rattle.dbus_value_checker.specs.Moves.{Moves, Opens, Runs, IsLive, offset_of, wide};
+    ghost use Rattle.dbus_value_checker.specs.Moves.{values_on, text_on, nothing_on};
     ghost use Rattle.dbus_texts.specs.declared.text_kind.TextKind.TheVariants.{Single};
     ghost use Rattle.dbus_value_model.specs.declared.stop.Stop.TheVariants.{Partial};
     ghost use Rattle.dbus_value_checker.specs.Suspended.{On};
@@ -90,7 +92,7 @@ impl ValueChecker {
             order: Order::Little,
             end: 0,
             offset: 0,
-            inner: Frame::default(),
+            inner: OpenContainer::default(),
             frames: ArrayVec::new(),
             text: ArrayVec::new(),
             lengths: ArrayVec::new(),
@@ -126,7 +128,7 @@ impl ValueChecker {
         self.frames.clear();
         sign(&mut self.text, &mut self.lengths, 0, types);
         let stop = types.len();
-        self.inner = Frame {
+        self.inner = OpenContainer {
             array: false,
             pos: 0,
             stop,
@@ -158,7 +160,7 @@ impl ValueChecker {
         self.frames.clear();
         self.text.clear();
         self.lengths.clear();
-        self.inner = Frame {
+        self.inner = OpenContainer {
             array: false,
             pos: 0,
             stop: 0,
