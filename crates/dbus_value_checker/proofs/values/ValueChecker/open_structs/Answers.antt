@@ -1,4 +1,4 @@
-use Rattle.std.proofs.Common.{◌-◌, arith}
+use Rattle.std.proofs.Common.{arith}
 use Rattle.dbus_value_checker.proofs.values.ValueChecker.open_structs.Goals as goal
 
 pub loop-stop-preserved : goal.loop-stop-preserved
