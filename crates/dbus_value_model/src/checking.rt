@@ -9,7 +9,8 @@ ghost use Rattle.dbus_types.specs.SigTypes.{type_tree};
 ghost use Rattle.dbus_value_model.specs.Checks.{Checks, IsTyped};
 ghost use Rattle.dbus_value_model.specs.declared.limits.TheConstants.{DEPTH_LIMIT};
 ghost use Rattle.dbus_value_model.specs.Forming.{NestsWithin, IsNamed};
-ghost use Rattle.dbus_value_model.specs.Verdicts.{HoldsNumbers, IsVerdict, IsPartsVerdict, ArePartsVerdict};
+ghost use Rattle.dbus_value_model.specs.Verdicts.{HoldsNumbers, IsVerdict, IsPartsVerdict};
+ghost use Rattle.dbus_value_model.specs.Verdicts.{ArePartsVerdict};
 ghost use Rattle.dbus_value_model.specs.Specification.{specification};
 ghost use Rattle.dbus_value_model.specs.Sizes.{HasShortSignatures};
 ghost use Rattle.dbus_value_model.specs.Values.{AllOf, type_of as tree_type};
@@ -105,10 +106,8 @@ fn check_parts<A: Allocator>(value: &Value<A>, depth_left: u8) -> Verdict
             if depth_left == 0 {
                 return Verdict::TooDeep;
             }
-            earlier(
-                check_items(element, items),
-                check_all(items, depth_left - 1),
-            )
+            let found = check_items(element, items);
+            earlier(found, check_all(items, depth_left - 1))
         }
         Value::Struct(fields) => {
             if depth_left == 0 {
