@@ -1,2 +1,3 @@
 mod LineLaws
 mod Rows
+mod Printed

@@ -23,16 +23,16 @@ module _ {A : Type 0} where
   none_in : (x : A) → Contains [] x → ⊥
   none_in x h = omega (arith, h.1)
 
-  here : (x : A) (xs : List A) → Contains (x ∷ xs) x
+  pub here : (x : A) (xs : List A) → Contains (x ∷ xs) x
   here x xs = Contains-append_left (x ∷ []) xs x (Contains-push [] x)
 
-  there : (y : A) (xs : List A) (x : A) → Contains xs x → Contains (y ∷ xs) x
+  pub there : (y : A) (xs : List A) (x : A) → Contains xs x → Contains (y ∷ xs) x
   there y xs x h = Contains-append_right (y ∷ []) xs x h
 
   either : (y : A) (xs : List A) (x : A) → Contains (y ∷ xs) x → (y ≡ x) ⊎ Contains xs x
   either y xs x h = ⊎_elim (λ one. ⊎_elim (λ none. absurd (none_in x none)) (λ is. inl is) (Contains-push_cases [] y x one)) (λ later. inr later) (Contains-append_cases (y ∷ []) xs x h)
 
-  all_at : (P : A → Type 0) (xs : List A) (x : A) → AllByRecursion P xs → Contains xs x → P x
+  pub all_at : (P : A → Type 0) (xs : List A) (x : A) → AllByRecursion P xs → Contains xs x → P x
   all_at P [] x all h = absurd (none_in x h)
   all_at P (y ∷ ys) x all h = ⊎_elim (λ is. subst P is all.0) (λ later. all_at P ys x all.1 later) (either y ys x h)
 
@@ -40,7 +40,7 @@ module _ {A : Type 0} where
   all_from P [] each = tt
   all_from P (y ∷ ys) each = (each y (here y ys), all_from P ys (λ x h. each x (there y ys x h)))
 
-  all_both : (P : A → Type 0) (xs ys : List A) → AllByRecursion P xs → AllByRecursion P ys → AllByRecursion P (xs ++ ys)
+  pub all_both : (P : A → Type 0) (xs ys : List A) → AllByRecursion P xs → AllByRecursion P ys → AllByRecursion P (xs ++ ys)
   all_both P [] ys p q = q
   all_both P (x ∷ xs) ys p q = (p.0, all_both P xs ys p.1 q)
 
@@ -147,7 +147,7 @@ now_open : (before : List Numbered) (x : Numbered) → Waits x.message → WasOp
 now_open [] x waits = inl (refl, waits, tt)
 now_open (y ∷ ys) x waits = inr (now_open ys x waits)
 
-open_among : (before : List Numbered) (call : Numbered) → WasOpen before call → Contains before call
+pub open_among : (before : List Numbered) (call : Numbered) → WasOpen before call → Contains before call
 open_among [] call found = absurd found
 open_among (y ∷ ys) call found = ⊎_elim (λ first. subst (λ (z : Numbered). Contains (y ∷ ys) z) first.0 (here y ys)) (λ later. there y ys call (open_among ys call later)) found
 

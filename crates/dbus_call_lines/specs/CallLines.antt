@@ -1,7 +1,8 @@
 -- A call and what came of it, as a line: in words, or as an object of JSON. D-Bus Specification,
 -- "Header Fields"; RFC 8259.
 use Rattle.std.specs.Prelude.{◌≡◌, ℕ, List, [], ◌∷◌, ◌++◌, Option, None, Some, codes, decimal}
-use Rattle.std.specs.List.{flat_map}
+use Rattle.std.specs.Int.{IsInRange}
+use Rattle.std.specs.List.{AllByRecursion, flat_map}
 use Rattle.dbus_message_model.specs.Messages.{MessageTree}
 use Rattle.dbus_message_model.specs.declared.field_code.TheConstants as field
 use Rattle.dbus_json.specs.JsonValues.{listed, member, object, plain, string}
@@ -93,3 +94,13 @@ end Json outcome = behind_commas (outcome_members outcome) ++ codes "}\n"
 -- a line is its front and its end
 abbrev pub HasTwoParts : Type 0
 HasTwoParts = (form : Form) (number : ℕ) (call : MessageTree) (outcome : Outcome) → front form number call ++ end form outcome ≡ line form number call outcome
+
+-- What a terminal gets.
+
+-- characters of ASCII that are printed, the space among them: a terminal obeys none of them
+abbrev pub ArePrinted : List ℕ → Type 0
+ArePrinted text = AllByRecursion (IsInRange 32 126) text
+
+-- such characters, and then a line feed
+abbrev pub IsPrintedLine : List ℕ → Type 0
+IsPrintedLine text = (front : List ℕ) × ArePrinted front × (text ≡ front ++ codes "\n")

@@ -1,17 +1,20 @@
 -- What is listed of the calls in an input: each METHOD_CALL, once it is known what came of it.
 -- D-Bus Specification, "Message Types" ("Method Calls").
-use Rattle.std.specs.Prelude.{◌≡◌, ◌↔◌, ℕ, nat_eq, List, [], ◌∷◌, ◌++◌, Bool, true, not, ◌&&◌, ◌==◌, map, if◌then◌else◌}
-use Rattle.std.specs.List.{Contains, IsDistinct, flat_map}
+use Rattle.std.specs.Prelude.{◌≡◌, ◌↔◌, ◌<◌, ◌^◌, ℕ, nat_eq, List, [], ◌∷◌, ◌++◌, Bool, true, not, ◌&&◌, ◌==◌, map, if◌then◌else◌}
+use Rattle.std.specs.List.{AllByRecursion, Contains, IsDistinct, flat_map}
 use Rattle.std.specs.List.Sorted.{IsStrictlySortedBy}
 use Rattle.std.specs.Ordering.{nat_cmp}
-use Rattle.dbus_message_model.specs.Messages.{MessageTree}
+use Rattle.dbus_value_model.specs.declared.limits.Limits.{Limits}
+use Rattle.dbus_value_model.specs.declared.order.Order.{Order}
+use Rattle.dbus_message_model.specs.Messages.{IsMessage, MessageTree}
 use Rattle.dbus_message_model.specs.declared.message_type.TheConstants as message
 use Rattle.dbus_calls.specs.Events.{wants_reply}
 use Rattle.dbus_calls.specs.Pairing.{IsOpen, ends}
-use Rattle.dbus_call_lines.specs.CallLines.{line}
+use Rattle.dbus_call_lines.specs.CallLines.{IsPrintedLine, line}
 use Rattle.dbus_call_lines.specs.Outcomes.{Outcome, outcome_by}
 use Rattle.dbus_call_lines.specs.Outcomes.Outcome.{Unwanted, Open}
 use Rattle.dbus_call_lines.specs.declared.form.Form.{Form}
+use Rattle.dbus_call_lines.specs.declared.form.Form.TheVariants.{Text}
 
 -- a message, and its number in the input
 pub record Numbered : Type 0 where
@@ -96,3 +99,11 @@ OneLineEach = (xs : List Numbered) (rows : List Row) → AreRising xs → AreLis
 -- The messages determine what is listed.
 abbrev pub OneList : Type 0
 OneList = (xs : List Numbered) (rows others : List Row) → AreListed [] xs rows → AreListed [] xs others → rows ≡ others
+
+-- Each line in words is printed, whatever the messages hold that are within the limits.
+abbrev pub AreWithin : Limits → List Numbered → Type 0
+AreWithin limits xs = AllByRecursion (λ x. (order : Order) × IsMessage limits order x.message × (x.number < 2 ^ 64)) xs
+
+abbrev pub OnlyPrinted : Type 0
+OnlyPrinted = (limits : Limits) (xs : List Numbered) (rows : List Row) → AreWithin limits xs → AreListed [] xs rows
+    → AllByRecursion (λ r. IsPrintedLine (line Text r.call.number r.call.message r.outcome)) rows

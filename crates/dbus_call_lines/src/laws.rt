@@ -3,7 +3,7 @@
 #![tactic(auto)]
 
 ghost use Rattle.dbus_call_lines.specs.CallLines.{HasTwoParts};
-ghost use Rattle.dbus_call_lines.specs.Listing.{OneLineEach, OneList};
+ghost use Rattle.dbus_call_lines.specs.Listing.{OneLineEach, OneList, OnlyPrinted};
 
 /// The line of a call is its front, which says nothing of what came of the call, and its end, which
 /// says that alone.
@@ -20,4 +20,10 @@ pub fn one_line_each()
 /// The messages of an input determine what is listed of its calls, and in which order.
 pub fn one_list()
     ensures { OneList }
+{}
+
+/// The lines of the calls in words have only characters of ASCII from the space to `~` before their
+/// line feeds, so that a terminal obeys none of them, whatever the messages hold.
+pub fn only_printed()
+    ensures { OnlyPrinted }
 {}
