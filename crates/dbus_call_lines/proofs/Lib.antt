@@ -1,3 +1,4 @@
 mod LineLaws
 mod Rows
 mod Printed
+mod Taken

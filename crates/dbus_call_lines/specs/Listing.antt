@@ -1,6 +1,6 @@
 -- What is listed of the calls in an input: each METHOD_CALL, once it is known what came of it.
 -- D-Bus Specification, "Message Types" ("Method Calls").
-use Rattle.std.specs.Prelude.{◌≡◌, ◌↔◌, ◌<◌, ◌^◌, ℕ, nat_eq, List, [], ◌∷◌, ◌++◌, Bool, true, not, ◌&&◌, ◌==◌, map, if◌then◌else◌}
+use Rattle.std.specs.Prelude.{◌≡◌, ◌↔◌, ◌<◌, ◌^◌, ℕ, nat_eq, List, [], ◌∷◌, ◌++◌, Bool, true, not, ◌&&◌, ◌==◌, Some, map, if◌then◌else◌}
 use Rattle.std.specs.List.{AllByRecursion, Contains, IsDistinct, flat_map}
 use Rattle.std.specs.List.Sorted.{IsStrictlySortedBy}
 use Rattle.std.specs.Ordering.{nat_cmp}
@@ -8,8 +8,10 @@ use Rattle.dbus_value_model.specs.declared.limits.Limits.{Limits}
 use Rattle.dbus_value_model.specs.declared.order.Order.{Order}
 use Rattle.dbus_message_model.specs.Messages.{IsMessage, MessageTree}
 use Rattle.dbus_message_model.specs.declared.message_type.TheConstants as message
-use Rattle.dbus_calls.specs.Events.{wants_reply}
-use Rattle.dbus_calls.specs.Pairing.{IsOpen, ends}
+use Rattle.dbus_calls.specs.Events.{Event, destination_of, event_of, wants_reply}
+use Rattle.dbus_calls.specs.Events.Event.{Calls, Replies, Leaves, Passes}
+use Rattle.dbus_calls.specs.Pairing.{IsOpen, ends, run}
+use Rattle.dbus_calls.specs.Waiting.{Waiting, answered, no_calls}
 use Rattle.dbus_call_lines.specs.CallLines.{IsPrintedLine, line}
 use Rattle.dbus_call_lines.specs.Outcomes.{Outcome, outcome_by}
 use Rattle.dbus_call_lines.specs.Outcomes.Outcome.{Unwanted, Open}
@@ -107,3 +109,15 @@ AreWithin limits xs = AllByRecursion (λ x. (order : Order) × IsMessage limits 
 abbrev pub OnlyPrinted : Type 0
 OnlyPrinted = (limits : Limits) (xs : List Numbered) (rows : List Row) → AreWithin limits xs → AreListed [] xs rows
     → AllByRecursion (λ r. IsPrintedLine (line Text r.call.number r.call.message r.outcome)) rows
+
+-- How one pass finds what a message ends: it keeps the calls that wait, and takes these away.
+
+abbrev pub IsTaken : Waiting Numbered → Event → (call : Numbered) → Type 0
+IsTaken w (Calls caller serial wants) call = w caller serial ≡ Some call
+IsTaken w (Replies caller serial sender) call = answered (λ c. destination_of c.message) (w caller serial) sender ≡ Some call
+IsTaken w (Leaves name) call = (serial : ℕ) × (w name serial ≡ Some call)
+IsTaken w Passes call = ⊥
+
+-- it takes away exactly the calls that the message ends
+abbrev pub TakesEnded : Type 0
+TakesEnded = (before : List Numbered) (x call : Numbered) → IsEnded before x call ↔ IsTaken (run message_of no_calls before) (event_of x.message) call

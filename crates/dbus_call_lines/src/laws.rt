@@ -3,7 +3,7 @@
 #![tactic(auto)]
 
 ghost use Rattle.dbus_call_lines.specs.CallLines.{HasTwoParts};
-ghost use Rattle.dbus_call_lines.specs.Listing.{OneLineEach, OneList, OnlyPrinted};
+ghost use Rattle.dbus_call_lines.specs.Listing.{OneLineEach, OneList, OnlyPrinted, TakesEnded};
 
 /// The line of a call is its front, which says nothing of what came of the call, and its end, which
 /// says that alone.
@@ -26,4 +26,10 @@ pub fn one_list()
 /// line feeds, so that a terminal obeys none of them, whatever the messages hold.
 pub fn only_printed()
     ensures { OnlyPrinted }
+{}
+
+/// One pass over messages that keeps the calls that wait, as `dbus_calls::OpenCalls` does, takes
+/// away exactly the calls that a message ends.
+pub fn takes_ended()
+    ensures { TakesEnded }
 {}

@@ -1,2 +1,2 @@
 mod Callers
-mod Passes
+pub mod Passes
