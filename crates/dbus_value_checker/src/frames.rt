@@ -168,10 +168,7 @@ impl ValueChecker {
         let mut until = stop;
         let mut zeros = n;
         loop {
-            match self.open_struct(at, until, zeros) {
-                Ok(()) => {}
-                Err(stop) => return Err(stop),
-            }
+            self.open_struct(at, until, zeros)?;
             match self.struct_here() {
                 Some((first, last)) => {
                     at = first;

@@ -94,10 +94,8 @@ pub fn word(bytes: &[u8], offset: usize, end: usize, order: Order) -> Result<u32
     requires at_most { offset ≤ end }
     ensures { IsWord order offset end bytes.now result }
 {
-    match fixed(bytes, offset, end, 4) {
-        Ok(()) => Ok(order.u32_at(bytes, 0)),
-        Err(stop) => Err(stop),
-    }
+    fixed(bytes, offset, end, 4)?;
+    Ok(order.u32_at(bytes, 0))
 }
 
 /// A number of one byte.
@@ -107,10 +105,8 @@ pub fn byte(bytes: &[u8], offset: usize, end: usize) -> Result<u8, Stop>
     requires at_most { offset ≤ end }
     ensures { IsByte offset end bytes.now result }
 {
-    match fixed(bytes, offset, end, 1) {
-        Ok(()) => Ok(bytes[0]),
-        Err(stop) => Err(stop),
-    }
+    fixed(bytes, offset, end, 1)?;
+    Ok(bytes[0])
 }
 
 /// The row of the fault table that a number of the type that has this code meets: that of BOOLEAN

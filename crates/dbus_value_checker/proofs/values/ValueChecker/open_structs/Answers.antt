@@ -1,10 +1,10 @@
 use Rattle.std.proofs.Common.{arith}
 use Rattle.dbus_value_checker.proofs.values.ValueChecker.open_structs.Goals as goal
 
-pub loop-stop-preserved : goal.loop-stop-preserved
-loop-stop-preserved c =
-    let v = c.loop-stop.invariant in let opens = c.in-Ok.ensures.opens in let p = c.in-Some.ensures in
-    let before = c.in-Ok.ensures.narrower in
+pub loop-self-preserved : goal.loop-self-preserved
+loop-self-preserved c =
+    let v = c.loop-self.invariant in let opens = c.in_ok-open_struct.ensures.opens in let p = c.in-Some.ensures in
+    let before = c.in_ok-open_struct.ensures.narrower in
     let here = p.wanted in
     let less = v.less in
     record {
