@@ -1,16 +1,17 @@
 -- Which packet of a pcap file is reported while its bytes are handed on.
-use Rattle.std.proofs.Common.{◌≡◌, ℕ, ◌+◌, Bool, true, List, [], ◌∷◌, ◌++◌, length, Some, refl, sym, ap, ◌∙◌, arith, length-append}
+use Rattle.std.proofs.Common.{◌≡◌, ℕ, ◌+◌, Bool, true, List, [], ◌∷◌, ◌++◌, length, Some, refl, sym, ap, ◌∙◌, arith, length-append, append-nil, ◌<◌}
 use Rattle.dbus_capture.specs.declared.byte_order.ByteOrder.{ByteOrder}
 use Rattle.dbus_capture.specs.declared.stage.Stage.TheVariants.{Start, Record}
 use Rattle.dbus_capture.specs.declared.scan.Scan.{Scan}
 use Rattle.dbus_capture.specs.Stages.{is_filed, Heading}
 use Rattle.dbus_capture.specs.Scans.{place, fresh}
 use Rattle.dbus_capture.specs.Heads.{record_time, packet_of}
-use Rattle.dbus_capture.specs.Steps.{run, given}
-use Rattle.dbus_capture.specs.PcapFiles.{PcapHeader, PcapPacket, header_bytes, packet_header_bytes, packets_bytes, pcap_bytes, FitsHeader, FitsPacket, AllFitPackets}
+use Rattle.dbus_capture.specs.Steps.{run, given, packet_given}
+use Rattle.dbus_capture.specs.PcapFiles.{PcapHeader, PcapPacket, header_bytes, packet_header_bytes, packets_bytes, pcap_bytes, payload, FitsHeader, FitsPacket, AllFitPackets}
 use Rattle.dbus_capture.specs.Packets.{pcap_packet_reported}
-use Rattle.dbus_capture.proofs.StepLaws.{run-append, run_gives}
-use Rattle.dbus_capture.proofs.PcapLaws.{Between, after, after_all, begins, head_taken, packet_header_size}
+use Rattle.dbus_capture.proofs.StepLaws.{run-append, given-append, run_gives}
+use Rattle.dbus_capture.proofs.PcapLaws.{Between, after, after_all, begins, head_taken, body_taken, packet_header_size}
+use Rattle.dbus_capture.proofs.PacketSteps.{packet_after}
 use Rattle.dbus_capture.proofs.PcapFileLaws.{head_size, opened_file, file_taken}
 
 place_more : (a n : ℕ) → place (place a + n) ≡ place (a + n)
@@ -100,3 +101,22 @@ pcap_reported passes h packets p front back fh fp f e =
     ∙ body.0 ∙ begins_told t p o h.nanoseconds (24 + length (packets_bytes o packets)) (0 + length packets) stands
     ∙ ap (λ (n : ℕ). Some (record { number = place n; at = place (24 + length (packets_bytes o packets)); time = Some (record_time h.nanoseconds p.seconds p.fraction); length = length p.bytes })) count
     ∙ ap (λ (n : ℕ). Some (record { number = place (length packets + 1); at = place n; time = Some (record_time h.nanoseconds p.seconds p.fraction); length = length p.bytes })) size
+
+-- each of its bytes is of it
+pub pcap_packet_of : (passes : Bool) (h : PcapHeader) (packets : List PcapPacket) (p : PcapPacket) (more : List ℕ) (i : ℕ) → FitsHeader h → AllFitPackets packets → FitsPacket p → i < length p.bytes
+    → packet_given (fresh passes Start) ((pcap_bytes h packets ++ packet_header_bytes h.order p) ++ (p.bytes ++ more)) (length (payload packets) + i) ≡ Some (pcap_packet_reported h packets p)
+pcap_packet_of passes h packets p more i fh fp f low =
+    let s = fresh passes Start in
+    let t = after_all (opened_file passes h) packets in
+    let head = packet_header_bytes h.order p in
+    let front = pcap_bytes h packets in
+    let whole = file_taken passes h packets fh fp in
+    let stands = stands_all (opened_file passes h) packets h.order h.nanoseconds 24 0 (stands_open passes h) in
+    let same : packet_header_bytes t.order p ≡ head = ap (λ (v : ByteOrder). packet_header_bytes v p) stands.order_is in
+    let taken = head_taken t p whole.2 f in
+    let to : run s (front ++ head) ≡ begins t p = run-append s front head ∙ ap (λ (v : Scan). run v head) whole.0 ∙ ap (run t) (sym same) ∙ taken.0 in
+    let gave : given s (front ++ head) ≡ payload packets =
+    given-append s front head ∙ ap (λ l. l ++ given (run s front) head) whole.1 ∙ ap (λ (v : Scan). payload packets ++ given v head) whole.0
+    ∙ ap (λ l. payload packets ++ given t l) (sym same) ∙ ap (λ l. payload packets ++ l) taken.1 ∙ append-nil (payload packets) in
+    packet_after s (front ++ head) p.bytes more (length (payload packets)) i (ap length gave) (ap (λ (v : Scan). given v p.bytes) to ∙ (body_taken t p whole.2).1) low
+    ∙ ap (λ (l : List ℕ). (run s (front ++ l)).packet) (sym (append-nil head)) ∙ pcap_reported passes h packets p [] p.bytes fh fp f refl

@@ -1,5 +1,5 @@
 -- Of which packets the bytes are that a capture hands on.
-use Rattle.std.proofs.Common.{◌≡◌, ◌≤◌, ◌+◌, ℕ, zero, suc, Bool, List, [], ◌∷◌, ◌++◌, length, get_or, replicate, Option, None, Some, Result, Ok, Err, MatchResult, inl, inr, refl, sym, ap, ◌∙◌, subst, arith}
+use Rattle.std.proofs.Common.{◌<◌, ◌≡◌, ◌≤◌, ◌+◌, ℕ, zero, suc, Bool, List, [], ◌∷◌, ◌++◌, length, get_or, replicate, Option, None, Some, Result, Ok, Err, MatchResult, inl, inr, refl, sym, ap, ◌∙◌, subst, arith}
 use Rattle.std.specs.Io.KnownBytes.{Consumes, IsAtEnd, prepend_known}
 use Rattle.std.proofs.lemmas.List.{length-take-le, get_or_append_left, get_or-append-add, get_or-replicate}
 use Rattle.dbus_device.specs.declared.device_fault.DeviceFault.{DeviceFault}
@@ -159,6 +159,19 @@ part_packets left failures old new (Ok zero) buffer before b (u, inr g) = (
   of_none (packets_of left old) before,
 )
 part_packets left failures old new (Ok (suc n)) buffer before b (u, inr g) = absurd (let zero = g.0 in omega (arith, zero))
+
+-- ---- bytes of a packet, after others
+
+pub packet_after : (s : Scan) (front bytes more : List ℕ) (n i : ℕ) → length (given s front) ≡ n → given (run s front) bytes ≡ bytes → i < length bytes
+    → packet_given s (front ++ (bytes ++ more)) (n + i) ≡ (run s front).packet
+packet_after s front bytes more n i size gives low =
+    let u = run s front in
+    let all : length (packets_given u bytes) ≡ length bytes = packets-size u bytes ∙ ap length gives in
+    let split = packets-append s front (bytes ++ more) ∙ ap (λ l. packets_given s front ++ l) (packets-append u bytes more) in
+    let back = packets_given u bytes ++ packets_given (run u bytes) more in
+    ap (λ l. get_or l (n + i) None) split ∙ ap (λ (k : ℕ). get_or (packets_given s front ++ back) (k + i) None) (sym (packets-size s front ∙ size))
+    ∙ get_or-append-add (packets_given s front) back i None ∙ get_or_append_left (packets_given u bytes) (packets_given (run u bytes) more) None i (omega (arith, low, all))
+    ∙ ap (λ l. get_or l i None) (one_packet u bytes all).1 ∙ get_or-replicate (length bytes) i u.packet None low
 
 -- ---- a stream with no file around it
 

@@ -125,7 +125,7 @@ head_taken s p b f =
     let law = record_taken s (packet_header_bytes s.order p) b (packet_header_size s.order p) in
     (law.0 ∙ record_reads s p f, law.1)
 
-body_taken : (s : Scan) (p : PcapPacket) → Between s → (run (begins s p) p.bytes ≡ after s p) × (given (begins s p) p.bytes ≡ p.bytes)
+pub body_taken : (s : Scan) (p : PcapPacket) → Between s → (run (begins s p) p.bytes ≡ after s p) × (given (begins s p) p.bytes ≡ p.bytes)
 unfolding begins after
 body_taken s p b =
     let stage : s.head.stage ≡ Record = ap (λ (v : _). v.stage) b.head in

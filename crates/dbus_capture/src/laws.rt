@@ -4,7 +4,7 @@
 //! clause `part`.
 //!
 //! [`Source::read`]: dbus_device::Source::read
-ghost use Rattle.std.specs.Prelude.{◌≡◌, ℕ, ◌++◌, List, ◌∷◌, Bool, false, Some, None, slice_get};
+ghost use Rattle.std.specs.Prelude.{◌≡◌, ◌<◌, ◌+◌, ℕ, ◌++◌, List, ◌∷◌, length, Bool, false, Some, None, slice_get};
 ghost use Rattle.dbus_capture.specs.Stages.{first_stage, IsFirstOfStream};
 ghost use Rattle.dbus_capture.specs.Scans.{fresh};
 ghost use Rattle.dbus_capture.specs.Steps.{run, given, packet_given, ended};
@@ -65,6 +65,18 @@ pub fn pcapng_packet_is_reported()
         slice_get interfaces (interface_of block) ≡ Some i → i.link_type ≡ 231 →
         packet_bytes block ≡ front ++ back →
         Reports (run s (block_front order block ++ front)) (block_packet_reported s i block) }
+{}
+
+/// Each byte of a packet of a pcap file is of the packet of its number, place, time and length, as a
+/// source says it of its bytes.
+pub fn pcap_bytes_have_packets()
+    ensures { (passes_cut : Bool) (header : PcapHeader) (packets : List PcapPacket)
+        (packet : PcapPacket) (more : List ℕ) (i : ℕ) →
+        FitsHeader header → AllFitPackets packets → FitsPacket packet → i < length packet.bytes →
+        packet_given (fresh passes_cut stages.Start)
+        ((pcap_bytes header packets ++ packet_header_bytes header.order packet) ++
+        (packet.bytes ++ more)) (length (payload packets) + i) ≡
+        Some (pcap_packet_reported header packets packet) }
 {}
 
 /// A capture gives what begins as a message or a handshake as it is.
