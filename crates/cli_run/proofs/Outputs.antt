@@ -16,7 +16,7 @@ use Rattle.cli_options.specs.declared.command.Command.{Command}
 use Rattle.cli_options.specs.declared.command.Command.TheVariants.{Show, Json, Check, Swap, Filter}
 use Rattle.cli_run.specs.Inputs.{Placed, Whole, placed, sizes_of, wholes}
 use Rattle.cli_run.specs.Laws.{OneFront, OneOutput, SomeOutput}
-use Rattle.cli_run.specs.Output.{IsExact, IsFront, IsOutputOf, IsOutputOfAll, IsTextOf, Picks, last_line, owners_after, owners_known, owners_after_all}
+use Rattle.cli_run.specs.Output.{IsExact, IsFront, IsOutputOf, IsOutputOfAll, IsTextOf, Picks, last_line, line_place, owners_after, owners_known, owners_after_all}
 use Rattle.cli_report.specs.Gathering.{IsPrefixTo}
 use Rattle.cli_run.specs.VisitorLaws.{output_both}
 use Rattle.cli_run.proofs.PartLaws.{placed_both}
@@ -30,7 +30,7 @@ picked command os message = inl tt
 
 pub some_text : (command : Command) (order : Order) (message : MessageTree) (n offset : ℕ) → (text : List ℕ) × IsTextOf command order message n offset text
 some_text Show order message n offset = (message_text order message n, refl)
-some_text Json order message n offset = some_line_each order message n offset
+some_text Json order message n offset = some_line_each order message (line_place n offset)
 some_text Check order message n offset = ([], refl)
 some_text (Swap wanted) order message n offset = (message_bytes wanted message, refl)
 some_text (Filter selection) order message n offset = (message_bytes order message, refl)

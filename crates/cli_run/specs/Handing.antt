@@ -12,7 +12,7 @@ use Rattle.dbus_json.specs.JsonMessages.{IsJsonLine}
 use Rattle.dbus_match.specs.declared.owner.Owner.{Owner}
 use Rattle.cli_options.specs.declared.command.Command.{Command}
 use Rattle.cli_report.specs.Devices.{Writing}
-use Rattle.cli_run.specs.Output.{after, written, IsOutputOf, IsTextOf, Picks, owners_after, owners_known}
+use Rattle.cli_run.specs.Output.{after, written, IsOutputOf, IsTextOf, line_place, Picks, owners_after, owners_known}
 use Rattle.cli_report.specs.Gathering.{GathersOrNot}
 use Rattle.cli_report.specs.declared.ending.Cause.{Cause}
 use Rattle.cli_report.specs.declared.ending.Cause.TheVariants.{WriteFailed}
@@ -27,7 +27,7 @@ use Rattle.cli_run.specs.declared.visitor.RunStop.TheVariants.{Cause as ByCause}
 -- a line of JSON of one message was written or gathered, which has this place in its input
 abbrev pub WritesJson : {W : Type 0} → Writing W → Order → MessageTree → MessagePlace → List ℕ → List ℕ → Result (Unit {0}) Cause → Type 0
 WritesJson w order message place g0 g1 result =
-    (out : List ℕ) × IsJsonLine order message place.number place.offset out × GathersOrNot w.held w.failures out g0 g1 w.old w.new result
+    (out : List ℕ) × IsJsonLine order message (line_place place.number place.offset) out × GathersOrNot w.held w.failures out g0 g1 w.old w.new result
 
 -- the text that a command makes of one message, which has this place in its input, was written or
 -- gathered

@@ -9,6 +9,7 @@ use Rattle.dbus_stream.specs.Cut.{CutMessage}
 use Rattle.dbus_stream.specs.CutEnds.{sizes}
 use Rattle.dbus_show.specs.ShownMessages.{message_text}
 use Rattle.dbus_json.specs.JsonMessages.{IsJsonLine}
+use Rattle.dbus_json.specs.declared.place.LinePlace.{LinePlace}
 use Rattle.dbus_match.specs.declared.owner.Owner.{Owner}
 use Rattle.dbus_match.specs.Matching.{Ownership}
 use Rattle.cli_options.specs.Owners.{known, known_after}
@@ -59,10 +60,14 @@ Picks Check os message = ⊥
 Picks (Filter selection) os message = SelectsBy selection os message
 Picks command os message = Unit {0}
 
+-- what a line of JSON says of where its message stands: no time
+abbrev pub line_place : (n offset : ℕ) → LinePlace
+line_place n offset = record { number = n; offset = offset; time = None }
+
 -- that text, if the message is the n-th of its input and begins at this offset there
 abbrev pub IsTextOf : Command → Order → MessageTree → (n offset : ℕ) → List ℕ → Type 0
 IsTextOf Show order message n offset text = text ≡ message_text order message n
-IsTextOf Json order message n offset text = IsJsonLine order message n offset text
+IsTextOf Json order message n offset text = IsJsonLine order message (line_place n offset) text
 IsTextOf Check order message n offset text = text ≡ []
 IsTextOf (Swap wanted) order message n offset text = text ≡ message_bytes wanted message
 IsTextOf (Filter selection) order message n offset text = text ≡ message_bytes order message

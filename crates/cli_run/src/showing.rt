@@ -11,7 +11,7 @@ ghost use Rattle.cli_run.specs.Handing.{WritesJson};
 
 use crate::place::MessagePlace;
 use cli_report::{Cause, OutputBuffer, Page};
-use dbus_json::write_json;
+use dbus_json::{LinePlace, write_json};
 use dbus_show_view::write_message;
 use dbus_stream::Sink;
 use dbus_validate::Validated;
@@ -70,8 +70,11 @@ pub(crate) fn write_json_line<W: Sink>(
         bytes,
         limits,
         validated,
-        place.number,
-        place.offset,
+        LinePlace {
+            number: place.number,
+            offset: place.offset,
+            time: None,
+        },
     );
     if page.failed {
         Err(Cause::WriteFailed)

@@ -1,5 +1,5 @@
 -- The JSON of a message has no line feed but its last byte.
-use Rattle.std.proofs.Common.{◌≡◌, ◌≢◌, ℕ, ◌<◌, ◌⊎◌, inl, inr, Bool, true, false, List, [], ◌∷◌, ◌++◌, length, Option, Some, None, IfSome, option_map, codes, decimal, from_bits, refl, sym, subst, arith, ap, ◌∙◌, append-nil, append_assoc}
+use Rattle.std.proofs.Common.{◌≡◌, ◌≢◌, ℕ, ◌<◌, ◌/◌, ◌⊎◌, inl, inr, Bool, true, false, List, [], ◌∷◌, ◌++◌, length, Option, Some, None, IfSome, option_map, map, codes, decimal, from_bits, refl, sym, subst, arith, ap, ◌∙◌, append-nil, append_assoc}
 use Rattle.std.specs.Char.{digit_value}
 use Rattle.std.specs.Float.{binary64, float_is_finite}
 use Rattle.std.specs.Float.Numeral.{exponent_text, text_of}
@@ -24,6 +24,8 @@ use Rattle.dbus_value_model.specs.declared.order.Order.{Order}
 use Rattle.dbus_validate.specs.declared.validating.Validated.{Validated}
 use Rattle.dbus_value_text.specs.Forms.{led}
 use Rattle.dbus_json.specs.JsonValues.{plain, string, listed, array, member, object, IsDouble, IsNumber, IsJson, AreJson}
+use Rattle.dbus_json.specs.Times.{digit_at, powers, fraction_digits, seconds_text, time_members}
+use Rattle.dbus_json.specs.declared.place.LinePlace.{LinePlace}
 use Rattle.dbus_json.specs.JsonMessages.{type_text, IsField, AreFields, fields_of, first_members, IsOneLineEach, start_text}
 
 -- ---- the parts of JSON
@@ -142,26 +144,44 @@ type_line kind = line_or (option_map plain (type_name kind)) (decimal kind) (pla
 count_line : (name : List ℕ) → line_feeds name ≡ 0 → (n : ℕ) → IsOneLine (member name (decimal n))
 count_line name h n = member_line name (decimal n) (line_literal name h) (line_decimal n)
 
+places_line : (n : ℕ) (powers : List ℕ) → IsOneLine (map (digit_at n) powers)
+places_line n [] = line_literal [] refl
+places_line n (power ∷ powers) = line_cons (digit_at n power) (map (digit_at n) powers) (λ e. omega arith) (places_line n powers)
+
+time_line : (time : Option ℕ) → AreLines (time_members time)
+time_line None = tt
+time_line (Some n) =
+    let fraction = line_cons 46 (fraction_digits n) (λ e. omega arith) (places_line n powers) in
+    let seconds = line_append (decimal (n / 1000000000)) (46 ∷ fraction_digits n) (line_decimal (n / 1000000000)) fraction in
+    (member_line (codes "time") (plain (seconds_text n)) (line_literal (codes "time") refl) (plain_line (seconds_text n) seconds), tt)
+
+-- those of the first members that stand after the time
+abbrev pub last_members : Order → (size kind flags serial : ℕ) → List (List ℕ)
+last_members order size kind flags serial =
+    member (codes "length") (decimal size)
+    ∷ member (codes "order") (plain (order_byte order ∷ []))
+    ∷ member (codes "type") (type_text kind)
+    ∷ member (codes "flags") (decimal flags)
+    ∷ member (codes "serial") (decimal serial)
+    ∷ []
+
 pub one_line_each : IsOneLineEach
-one_line_each order m number offset text is =
-    let front = first_members order (length (message_bytes order m)) m.kind m.flags m.serial number offset in
+one_line_each order m place text is =
+    let size = length (message_bytes order m) in
+    let front = first_members place order size m.kind m.flags m.serial in
     let back = member (codes "fields") (array is.others) ∷ member (codes "body") (array is.values) ∷ [] in
-    let first : AreLines front = (
-      count_line (codes "number") refl number,
+    let rest : AreLines (last_members order size m.kind m.flags m.serial) = (
+      count_line (codes "length") refl size,
       (
-        count_line (codes "offset") refl offset,
+        member_line (codes "order") (plain (order_byte order ∷ [])) (line_literal (codes "order") refl) (plain_line (order_byte order ∷ []) (order_line order)),
         (
-          count_line (codes "length") refl (length (message_bytes order m)),
-          (
-            member_line (codes "order") (plain (order_byte order ∷ [])) (line_literal (codes "order") refl) (plain_line (order_byte order ∷ []) (order_line order)),
-            (
-              member_line (codes "type") (type_text m.kind) (line_literal (codes "type") refl) (type_line m.kind),
-              (count_line (codes "flags") refl m.flags, (count_line (codes "serial") refl m.serial, tt)),
-            ),
-          ),
+          member_line (codes "type") (type_text m.kind) (line_literal (codes "type") refl) (type_line m.kind),
+          (count_line (codes "flags") refl m.flags, (count_line (codes "serial") refl m.serial, tt)),
         ),
       ),
     ) in
+    let timed = lines_append (time_members place.time) (last_members order size m.kind m.flags m.serial) (time_line place.time) rest in
+    let first : AreLines front = (count_line (codes "number") refl place.number, (count_line (codes "offset") refl place.offset, timed)) in
     let known = fields_line (fields_of true m.fields) is.known is.knows in
     let others = member_line (codes "fields") (array is.others) (line_literal (codes "fields") refl) (array_line is.others (fields_line (fields_of false m.fields) is.others is.other)) in
     let body = member_line (codes "body") (array is.values) (line_literal (codes "body") refl) (array_line is.values (jsons_line m.body is.values is.body)) in
@@ -203,22 +223,27 @@ line_is t ts known others values =
     ∙ parts_joined (listed (t ∷ ts)) (more known) (listed others) (listed values)
     ∙ ap (λ (s : List ℕ). (codes "{" ++ (s ++ codes "}")) ++ codes "\n") (sym all)
 
--- those of the first members that stand after the number
-abbrev pub later_members : Order → (size kind flags serial offset : ℕ) → List (List ℕ)
-later_members order size kind flags serial offset =
-    member (codes "offset") (decimal offset)
-    ∷ member (codes "length") (decimal size)
-    ∷ member (codes "order") (plain (order_byte order ∷ []))
-    ∷ member (codes "type") (type_text kind)
-    ∷ member (codes "flags") (decimal flags)
-    ∷ member (codes "serial") (decimal serial)
-    ∷ []
+-- what is written of the time and of what stands after it
+pub before_rest : (time : Option ℕ) (rest : List (List ℕ)) → led (codes ",") (codes ",") (time_members time) ++ more rest ≡ more (time_members time ++ rest)
+before_rest time rest =
+    ap (λ (s : List ℕ). s ++ more rest) (led_more (time_members time))
+    ∙ sym (flat_map-append (λ (x : List ℕ). codes "," ++ x) (time_members time) rest)
 
-pub start_is : (j : Validated) (m : MessageTree) (number offset : ℕ) → j.length ≡ length (message_bytes j.order m) → (m.kind ≡ j.kind) × (m.flags ≡ j.flags) × (m.serial ≡ j.serial)
-    → start_text j number offset ≡ codes "{" ++ listed (first_members j.order (length (message_bytes j.order m)) m.kind m.flags m.serial number offset)
-start_is j m number offset size same =
-    let text = λ (n kind flags serial : ℕ). codes "{" ++ listed (first_members j.order n kind flags serial number offset) in
+-- those of the first members that stand after the number
+abbrev pub later_members : LinePlace → Order → (size kind flags serial : ℕ) → List (List ℕ)
+later_members place order size kind flags serial =
+    member (codes "offset") (decimal place.offset) ∷ (time_members place.time ++ last_members order size kind flags serial)
+
+pub start_is : (j : Validated) (m : MessageTree) (place : LinePlace) → j.length ≡ length (message_bytes j.order m) → (m.kind ≡ j.kind) × (m.flags ≡ j.flags) × (m.serial ≡ j.serial)
+    → start_text j place ≡ codes "{" ++ listed (first_members place j.order (length (message_bytes j.order m)) m.kind m.flags m.serial)
+start_is j m place size same =
+    let text = λ (n kind flags serial : ℕ). codes "{" ++ listed (first_members place j.order n kind flags serial) in
     ap (λ (n : ℕ). text n j.kind j.flags j.serial) size
     ∙ ap (λ (k : ℕ). text (length (message_bytes j.order m)) k j.flags j.serial) (sym same.0)
     ∙ ap (λ (k : ℕ). text (length (message_bytes j.order m)) m.kind k j.serial) (sym same.1)
     ∙ ap (λ (k : ℕ). text (length (message_bytes j.order m)) m.kind m.flags k) (sym same.2)
+
+-- the text of a time by its parts, as they are written
+pub time_joined : (seconds fraction : List ℕ)
+    → codes ",\"time\":\"" ++ (seconds ++ (fraction ++ codes "\"")) ≡ codes "," ++ (member (codes "time") (plain (seconds ++ fraction)) ++ [])
+time_joined seconds fraction = simp (append_assoc, append-nil)

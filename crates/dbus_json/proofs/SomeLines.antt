@@ -64,7 +64,7 @@ some_fields (f ∷ fs) =
     (one.0 ∷ more.0, (one.1, more.1))
 
 pub some_line_each : IsSomeLineEach
-some_line_each order m number offset =
+some_line_each order m place =
     let known = some_fields (fields_of true m.fields) in
     let others = some_fields (fields_of false m.fields) in
     let values = some_jsons m.body in

@@ -11,6 +11,8 @@ use Rattle.dbus_message_model.specs.MessageTypes.{type_name}
 use Rattle.dbus_show.specs.ShownMessages.{field_name, line_feeds}
 use Rattle.dbus_value_text.specs.Forms.{AreFieldTexts, taken_fields}
 use Rattle.dbus_validate.specs.declared.validating.Validated.{Validated}
+use Rattle.dbus_json.specs.Times.{time_members}
+use Rattle.dbus_json.specs.declared.place.LinePlace.{LinePlace}
 use Rattle.dbus_json.specs.JsonValues.{plain, array, member, object, IsJson, AreJson, listed}
 
 -- a message type's name, or its number if it has none
@@ -34,20 +36,21 @@ abbrev pub fields_of : (known : Bool) → List FieldTree → List FieldTree
 fields_of known fs = taken_fields (λ code. beq (is_known code) known) fs
 
 -- what stands before the header fields, of a message of so many bytes
-abbrev pub first_members : Order → (size kind flags serial number offset : ℕ) → List (List ℕ)
-first_members order size kind flags serial number offset =
-    member (codes "number") (decimal number)
-    ∷ member (codes "offset") (decimal offset)
-    ∷ member (codes "length") (decimal size)
+abbrev pub first_members : LinePlace → Order → (size kind flags serial : ℕ) → List (List ℕ)
+first_members place order size kind flags serial =
+    member (codes "number") (decimal place.number)
+    ∷ member (codes "offset") (decimal place.offset)
+    ∷ (time_members place.time
+    ++ (member (codes "length") (decimal size)
     ∷ member (codes "order") (plain (order_byte order ∷ []))
     ∷ member (codes "type") (type_text kind)
     ∷ member (codes "flags") (decimal flags)
     ∷ member (codes "serial") (decimal serial)
-    ∷ []
+    ∷ []))
 
--- The line of a message that has this number and begins at this offset: the known fields are
--- members of the object, and all other fields, and the values of the body, stand in two arrays.
-pub record IsJsonLine (order : Order) (m : MessageTree) (number offset : ℕ) (text : List ℕ) : Type 0 where
+-- The line of a message that has this place: the known fields are members of the object, and all
+-- other fields, and the values of the body, stand in two arrays.
+pub record IsJsonLine (order : Order) (m : MessageTree) (place : LinePlace) (text : List ℕ) : Type 0 where
   pub known : List (List ℕ)
   pub knows : AreFields (fields_of true m.fields) known
   pub others : List (List ℕ)
@@ -55,22 +58,22 @@ pub record IsJsonLine (order : Order) (m : MessageTree) (number offset : ℕ) (t
   pub values : List (List ℕ)
   pub body : AreJson m.body values
   pub is : text ≡ object
-      (first_members order (length (message_bytes order m)) m.kind m.flags m.serial number offset
+      (first_members place order (length (message_bytes order m)) m.kind m.flags m.serial
       ++ (known ++ (member (codes "fields") (array others) ∷ member (codes "body") (array values) ∷ [])))
       ++ codes "\n"
 
 -- How a line begins.
 
 -- what stands before the header fields
-abbrev pub start_text : Validated → ℕ → ℕ → List ℕ
-start_text j number offset = codes "{" ++ listed (first_members j.order j.length j.kind j.flags j.serial number offset)
+abbrev pub start_text : Validated → LinePlace → List ℕ
+start_text j place = codes "{" ++ listed (first_members place j.order j.length j.kind j.flags j.serial)
 
 -- Each message has a line of JSON, and its one line feed ends it.
 
 -- Whatever a message holds, its JSON is one line.
 abbrev pub IsOneLineEach : Type 0
-IsOneLineEach = (order : Order) (m : MessageTree) (number offset : ℕ) (text : List ℕ) → IsJsonLine order m number offset text → (line : List ℕ) × (text ≡ line ++ codes "\n") × (line_feeds line ≡ 0)
+IsOneLineEach = (order : Order) (m : MessageTree) (place : LinePlace) (text : List ℕ) → IsJsonLine order m place text → (line : List ℕ) × (text ≡ line ++ codes "\n") × (line_feeds line ≡ 0)
 
--- Each message has a line of JSON, whatever its number and its offset.
+-- Each message has a line of JSON, whatever its place.
 abbrev pub IsSomeLineEach : Type 0
-IsSomeLineEach = (order : Order) (m : MessageTree) (number offset : ℕ) → (text : List ℕ) × IsJsonLine order m number offset text
+IsSomeLineEach = (order : Order) (m : MessageTree) (place : LinePlace) → (text : List ℕ) × IsJsonLine order m place text

@@ -1,4 +1,5 @@
 pub mod JsonValues
+pub mod Times
 pub mod JsonMessages
 pub mod Form
 pub mod FormLaws

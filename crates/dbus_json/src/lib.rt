@@ -9,7 +9,10 @@ mod fields;
 mod json;
 pub mod laws;
 mod line;
+mod place;
 mod texts;
+mod times;
 
 pub use line::write_json;
+pub use place::LinePlace;
 pub use texts::write_string;

@@ -12,6 +12,8 @@ ghost use Rattle.dbus_json.specs.JsonMessages.{AreFields, IsJsonLine, fields_of,
 
 use crate::fields::{KnownFields, OtherFields};
 use crate::json::Json;
+use crate::place::LinePlace;
+use crate::times::write_time;
 use dbus_message_model::message_type::type_name;
 use dbus_message_model::order_byte;
 use dbus_show::{Draft, write_integer};
@@ -34,13 +36,14 @@ fn write_type<D: Draft>(draft: &mut D, kind: u8)
 }
 
 /// Appends what comes before the header fields.
-fn write_start<D: Draft>(draft: &mut D, validated: &Validated, number: u64, offset: u64)
-    ensures { D.gains draft.old (start_text validated.now number offset) draft.new }
+fn write_start<D: Draft>(draft: &mut D, validated: &Validated, place: LinePlace)
+    ensures { D.gains draft.old (start_text validated.now place) draft.new }
 {
     draft.push_str("{\"number\":");
-    write_integer(draft, number);
+    write_integer(draft, place.number);
     draft.push_str(",\"offset\":");
-    write_integer(draft, offset);
+    write_integer(draft, place.offset);
+    write_time(draft, place.time);
     draft.push_str(",\"length\":");
     write_integer(draft, validated.length);
     draft.push_str(",\"order\":\"");
@@ -71,11 +74,11 @@ fn write_others<D: Draft>(draft: &mut D, whole: &Whole<'_>, all_known: bool)
 /// Appends the message that the bytes begin with as a line of JSON, which ends in a line feed. It
 /// was validated in them under the limits.
 ///
-/// The line is one object: `number` and `offset` as they are given, which are the message's number,
-/// counted from 1, and where it begins in the input; its length in bytes, its order as `"l"` or
-/// `"B"`, its type by name, its flags and its serial; each known header field by its name; all
-/// other fields in the array `fields`, and the values of the body in the array `body`. No message
-/// is built from the bytes, and only the draft allocates.
+/// The line is one object: the message's `number` and `offset`, as they are given; its `time`, if
+/// one is given, a string of seconds with nine digits behind the point; its length in bytes, its
+/// order as `"l"` or `"B"`, its type by name, its flags and its serial; each known header field by
+/// its name; all other fields in the array `fields`, and the values of the body in the array
+/// `body`. No message is built from the bytes, and only the draft allocates.
 ///
 /// ```text
 /// {"number":1,"offset":0,"length":96,"order":"l","type":"signal","flags":0,"serial":2,"path":"/a","fields":[],"body":["hi",[1,2]]}
@@ -87,13 +90,12 @@ pub fn write_json<D: Draft>(
     bytes: &[u8],
     limits: Limits,
     validated: &Validated,
-    number: u64,
-    offset: u64,
+    place: LinePlace,
 )
     requires validated { IsValidated limits bytes.now validated.now }
     ensures written { (m : MessageTree) →
         IsWhole limits bytes.now validated.now.order m validated.now.length →
-        (text : List ℕ) × IsJsonLine validated.now.order m number offset text ×
+        (text : List ℕ) × IsJsonLine validated.now.order m place text ×
         D.gains draft.old text draft.new }
 {
     let whole = Whole {
@@ -101,7 +103,7 @@ pub fn write_json<D: Draft>(
         limits,
         validated,
     };
-    write_start(draft, validated, number, offset);
+    write_start(draft, validated, place);
     let all_known = write_fields::<KnownFields, D>(draft, &whole, ",", ",");
     draft.push_str(",\"fields\":[");
     write_others(draft, &whole, all_known);

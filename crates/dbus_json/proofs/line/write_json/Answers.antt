@@ -18,13 +18,13 @@ returns g c = record {
       let known = c.write_fields-all_known.ensures.written m whole in
       let others = c.write_others.ensures.written m whole in
       let values = c.write_body.ensures.written m whole in
-      let first = first_members j.order (length (message_bytes j.order m)) m.kind m.flags m.serial c.args.number c.args.offset in
+      let first = first_members c.args.place j.order (length (message_bytes j.order m)) m.kind m.flags m.serial in
       let text = object (first ++ (known.0 ++ (member (codes "fields") (array others.0) ∷ member (codes "body") (array values.0) ∷ []))) ++ codes "\n" in
-      let start = subst (λ (s : List ℕ). g.D.Draft.gains c.args.draft.now s c.write_start.new.draft) (start_is j m c.args.number c.args.offset spelled.1 parts) c.write_start.ensures in
-      let is : IsJsonLine j.order m c.args.number c.args.offset text = record { known = known.0; knows = known.1; others = others.0; other = others.1; values = values.0; body = are_json m.body values.0 values.1; is = refl } in (
+      let start = subst (λ (s : List ℕ). g.D.Draft.gains c.args.draft.now s c.write_start.new.draft) (start_is j m c.args.place spelled.1 parts) c.write_start.ensures in
+      let is : IsJsonLine j.order m c.args.place text = record { known = known.0; knows = known.1; others = others.0; other = others.1; values = values.0; body = are_json m.body values.0 values.1; is = refl } in (
         text,
         is,
-        subst (λ (s : List ℕ). g.D.Draft.gains c.args.draft.now s c.push_str-3.new.self) (line_is (member (codes "number") (decimal c.args.number)) (later_members j.order (length (message_bytes j.order m)) m.kind m.flags m.serial c.args.offset) known.0 others.0 values.0)
+        subst (λ (s : List ℕ). g.D.Draft.gains c.args.draft.now s c.push_str-3.new.self) (line_is (member (codes "number") (decimal c.args.place.number)) (later_members c.args.place j.order (length (message_bytes j.order m)) m.kind m.flags m.serial) known.0 others.0 values.0)
             (then g.D.Draft.gains g.met.D.Draft.joins start (then g.D.Draft.gains g.met.D.Draft.joins known.2 (then g.D.Draft.gains g.met.D.Draft.joins c.push_str.ensures (then g.D.Draft.gains g.met.D.Draft.joins others.2 (then g.D.Draft.gains g.met.D.Draft.joins c.push_str-2.ensures (then g.D.Draft.gains g.met.D.Draft.joins values.2 c.push_str-3.ensures)))))),
       );
 }
