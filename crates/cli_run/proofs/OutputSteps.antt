@@ -39,12 +39,12 @@ use Rattle.cli_run.specs.declared.place.MessagePlace.{MessagePlace}
 use Rattle.cli_run.specs.declared.visitor.RunStop.TheVariants.{Untold}
 
 -- what the first writer gets of texts: all of them, since `check` makes none
-first_made : (command : Command) (os : List Ownership) (order : Order) (m : MessageTree) (n offset : ℕ) (window : Window) (texts : List (List ℕ)) → IsOutputOf command os order m n offset texts
+first_made : (command : Command) (os : List Ownership) (order : Order) (m : MessageTree) (place : MessagePlace) (window : Window) (texts : List (List ℕ)) → IsOutputOf command os order m place texts
     → written window texts ≡ first_of (is_check command) (written window texts) []
-first_made Check os order m n offset window texts made =
+first_made Check os order m place window texts made =
     let none : texts ≡ [] = elim made [ inl picked ↦ absurd picked.0 | inr not ↦ not.1 ] in
     ap (λ l. written window l) none ∙ written_none window
-first_made command os order m n offset window texts made = refl
+first_made command os order m place window texts made = refl
 
 module _ {A W E : Type 0} (held : W → Option (List ℕ)) (failures : W → ℕ) (second_held : E → Option (List ℕ)) (second_failures : E → ℕ) (a b : OutputWriter A W E)
     (same_first : b.first.ghost_name ≡ a.first.ghost_name) (same_second : b.second.ghost_name ≡ a.second.ghost_name) (same_output : b.output ≡ a.output) where
@@ -81,11 +81,11 @@ module _ {A W E : Type 0} (held : W → Option (List ℕ)) (failures : W → ℕ
       window = p.2.window;
       owners = p.2.owners;
       passes = subst (λ (l : List ℕ). Passes held failures l (gathered_bytes a.gathered) (gathered_bytes b.gathered) a.first.now b.first.now)
-          (first_made own (owners_known own a.carried.owners) order m place.number place.offset a.carried.window p.0 p.1) p.3;
+          (first_made own (owners_known own a.carried.owners) order m place a.carried.window p.0 p.1) p.3;
       tells = told_nothing second_held second_failures (is_check own) a.second.now b.second.now same;
     }
 
-    broken : (texts : List (List ℕ)) → IsOutputOf own (owners_known own a.carried.owners) order m place.number place.offset texts
+    broken : (texts : List (List ℕ)) → IsOutputOf own (owners_known own a.carried.owners) order m place texts
         → Breaks held failures (written a.carried.window texts) (gathered_bytes a.gathered) a.first.now b.first.now → Takes (Err WriteFailed)
     broken texts made p = record {
       same_first = same_first;
@@ -93,7 +93,7 @@ module _ {A W E : Type 0} (held : W → Option (List ℕ)) (failures : W → ℕ
       texts = texts;
       made = (texts, [], sym (append-nil texts), made, refl);
       leaves = subst (λ (l : List ℕ). Breaks held failures l (gathered_bytes a.gathered) a.first.now b.first.now)
-          (first_made own (owners_known own a.carried.owners) order m place.number place.offset a.carried.window texts made) p;
+          (first_made own (owners_known own a.carried.owners) order m place a.carried.window texts made) p;
       tells = told_nothing second_held second_failures (is_check own) a.second.now b.second.now same;
     }
 

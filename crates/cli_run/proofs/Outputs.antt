@@ -18,6 +18,7 @@ use Rattle.cli_run.specs.Inputs.{Placed, Whole, placed, sizes_of, wholes}
 use Rattle.cli_run.specs.Laws.{OneFront, OneOutput, SomeOutput}
 use Rattle.cli_run.specs.Output.{IsExact, IsFront, IsOutputOf, IsOutputOfAll, IsTextOf, Picks, last_line, line_place, owners_after, owners_known, owners_after_all}
 use Rattle.cli_report.specs.Gathering.{IsPrefixTo}
+use Rattle.cli_run.specs.declared.place.MessagePlace.{MessagePlace}
 use Rattle.cli_run.specs.VisitorLaws.{output_both}
 use Rattle.cli_run.proofs.PartLaws.{placed_both}
 
@@ -28,16 +29,16 @@ picked Check os message = inr (λ never. never)
 picked (Filter selection) os message = selected selection os message
 picked command os message = inl tt
 
-pub some_text : (command : Command) (order : Order) (message : MessageTree) (n offset : ℕ) → (text : List ℕ) × IsTextOf command order message n offset text
-some_text Show order message n offset = (message_text order message n, refl)
-some_text Json order message n offset = some_line_each order message (line_place n offset)
-some_text Check order message n offset = ([], refl)
-some_text (Swap wanted) order message n offset = (message_bytes wanted message, refl)
-some_text (Filter selection) order message n offset = (message_bytes order message, refl)
+pub some_text : (command : Command) (order : Order) (message : MessageTree) (place : MessagePlace) → (text : List ℕ) × IsTextOf command order message place text
+some_text Show order message place = (message_text order message place.number, refl)
+some_text Json order message place = some_line_each order message (line_place place)
+some_text Check order message place = ([], refl)
+some_text (Swap wanted) order message place = (message_bytes wanted message, refl)
+some_text (Filter selection) order message place = (message_bytes order message, refl)
 
-pub some_of_one : (command : Command) (os : List Ownership) (order : Order) (message : MessageTree) (n offset : ℕ) → (texts : List (List ℕ)) × IsOutputOf command os order message n offset texts
-some_of_one command os order message n offset =
-    let some = some_text command order message n offset in
+pub some_of_one : (command : Command) (os : List Ownership) (order : Order) (message : MessageTree) (place : MessagePlace) → (texts : List (List ℕ)) × IsOutputOf command os order message place texts
+some_of_one command os order message place =
+    let some = some_text command order message place in
     elim (picked command os message) [
       | inl h ↦ (some.0 ∷ [], inl (h, some.0, some.1, refl))
       | inr n ↦ ([], inr (n, refl))
@@ -46,7 +47,7 @@ some_of_one command os order message n offset =
 some_of_all : (command : Command) (os : List Ownership) (items : List Placed) → (out : List (List ℕ)) × IsOutputOfAll command os items out
 some_of_all command os [] = ([], refl)
 some_of_all command os (m ∷ items) =
-    let one = some_of_one command os m.item.order m.item.message m.place.number m.place.offset in
+    let one = some_of_one command os m.item.order m.item.message m.place in
     let more = some_of_all command (owners_after command os m.item.message) items in
     (one.0 ++ more.0, (one.0, more.0, refl, one.1, more.1))
 
@@ -78,16 +79,16 @@ front_of_first command items more all fault texts front e o prefix =
 
 -- ---- and no other, of an exact command
 
-text_one : (command : Command) (order : Order) (message : MessageTree) (n offset : ℕ) (a b : List ℕ) → IsExact command → IsTextOf command order message n offset a
-    → IsTextOf command order message n offset b → a ≡ b
-text_one Json order message n offset a b exact p q = absurd exact
-text_one command order message n offset a b exact p q = p ∙ sym q
+text_one : (command : Command) (order : Order) (message : MessageTree) (place : MessagePlace) (a b : List ℕ) → IsExact command → IsTextOf command order message place a
+    → IsTextOf command order message place b → a ≡ b
+text_one Json order message place a b exact p q = absurd exact
+text_one command order message place a b exact p q = p ∙ sym q
 
-output_one : (command : Command) (os : List Ownership) (order : Order) (message : MessageTree) (n offset : ℕ) (a b : List (List ℕ)) → IsExact command → IsOutputOf command os order message n offset a
-    → IsOutputOf command os order message n offset b → a ≡ b
-output_one command os order message n offset a b exact p q = elim p [
+output_one : (command : Command) (os : List Ownership) (order : Order) (message : MessageTree) (place : MessagePlace) (a b : List (List ℕ)) → IsExact command → IsOutputOf command os order message place a
+    → IsOutputOf command os order message place b → a ≡ b
+output_one command os order message place a b exact p q = elim p [
   | inl met ↦ elim q [
-    | inl too ↦ met.3 ∙ (ap (λ t. t ∷ []) (text_one command order message n offset met.1 too.1 exact met.2 too.2) ∙ sym too.3)
+    | inl too ↦ met.3 ∙ (ap (λ t. t ∷ []) (text_one command order message place met.1 too.1 exact met.2 too.2) ∙ sym too.3)
     | inr unmet ↦ absurd (unmet.0 met.0)
   ]
   | inr unmet ↦ elim q [ inl met ↦ absurd (unmet.0 met.0) | inr too ↦ unmet.1 ∙ sym too.1 ]
@@ -96,7 +97,7 @@ output_one command os order message n offset a b exact p q = elim p [
 pub output_all_one : (command : Command) (os : List Ownership) (items : List Placed) (a b : List (List ℕ)) → IsExact command → IsOutputOfAll command os items a → IsOutputOfAll command os items b → a ≡ b
 output_all_one command os [] a b exact p q = p ∙ sym q
 output_all_one command os (m ∷ items) a b exact p q =
-    let same : p.0 ≡ q.0 = output_one command os m.item.order m.item.message m.place.number m.place.offset p.0 q.0 exact p.3 q.3 in
+    let same : p.0 ≡ q.0 = output_one command os m.item.order m.item.message m.place p.0 q.0 exact p.3 q.3 in
     let suffix : p.1 ≡ q.1 = output_all_one command (owners_after command os m.item.message) items p.1 q.1 exact p.4 q.4 in
     let parts : p.0 ++ p.1 ≡ q.0 ++ q.1 = λ i. same i ++ suffix i in
     p.2 ∙ (parts ∙ sym q.2)

@@ -23,6 +23,7 @@ use Rattle.cli_report.specs.declared.ending.ExitStatus.TheVariants as status
 use Rattle.cli_run.specs.Inputs.{Part, PassedOver, Placed, Whole, placed, placed_at}
 use Rattle.cli_run.specs.Output.{IsExact, IsOutputOf, IsOutputOfAll, IsTextOf, Picks, is_check, owners_after, owners_known}
 use Rattle.cli_run.specs.Going.{AreTold, IsTold, IsToldLast, passed_count, status_at, tally_of}
+use Rattle.cli_run.specs.declared.place.MessagePlace.{MessagePlace}
 use Rattle.cli_run.proofs.Outputs.{output_all_one}
 use Rattle.cli_run.proofs.SameParts.{ArePassed, AreSame, bare}
 
@@ -135,12 +136,12 @@ pub record ActsAs (a b : Command) : Type 0 where
   pub checks : is_check a ≡ is_check b
   pub exact : IsExact a → IsExact b
   pub picks : (os : List Ownership) (m : MessageTree) → Picks a os m ↔ Picks b os m
-  pub texts : (order : Order) (m : MessageTree) (n offset : ℕ) (text : List ℕ) → IsTextOf a order m n offset text → IsTextOf b order m n offset text
+  pub texts : (order : Order) (m : MessageTree) (place : MessagePlace) (text : List ℕ) → IsTextOf a order m place text → IsTextOf b order m place text
   pub known : owners_known a None ≡ owners_known b None
   pub learned : (os : List Ownership) (m : MessageTree) → owners_after a os m ≡ owners_after b os m
 
 itself : (a : Command) → ActsAs a a
-itself a = record { checks = refl; exact = λ e. e; picks = λ os m. (λ p. p, λ p. p); texts = λ order m n offset text t. t; known = refl; learned = λ os m. refl }
+itself a = record { checks = refl; exact = λ e. e; picks = λ os m. (λ p. p, λ p. p); texts = λ order m place text t. t; known = refl; learned = λ os m. refl }
 
 pub acts_as : (a b : Command) → AreSameCommand a b → ActsAs a b
 acts_as Show Show h = itself Show
@@ -153,7 +154,7 @@ acts_as (Filter x) (Filter y) h =
       checks = refl;
       exact = λ e. e;
       picks = λ os m. (same_selects x y os m h, same_selects y x os m back);
-      texts = λ order m n offset text t. t;
+      texts = λ order m place text t. t;
       known = h.owners;
       learned = λ os m. same_after x y os m h;
     }
@@ -163,8 +164,8 @@ module _ (a b : Command) (h : ActsAs a b) where
   made_too : (os : List Ownership) (items : List Placed) (texts : List (List ℕ)) → IsOutputOfAll a os items texts → IsOutputOfAll b os items texts
   made_too os [] texts p = p
   made_too os (m ∷ items) texts p =
-      let one : IsOutputOf b os m.item.order m.item.message m.place.number m.place.offset p.0 = elim p.3 [
-        | inl met ↦ inl ((h.picks os m.item.message).0 met.0, met.1, h.texts m.item.order m.item.message m.place.number m.place.offset met.1 met.2, met.3)
+      let one : IsOutputOf b os m.item.order m.item.message m.place p.0 = elim p.3 [
+        | inl met ↦ inl ((h.picks os m.item.message).0 met.0, met.1, h.texts m.item.order m.item.message m.place met.1 met.2, met.3)
         | inr unmet ↦ inr (λ k. unmet.0 ((h.picks os m.item.message).1 k), unmet.1)
       ] in
       (p.0, p.1, p.2, one, subst (λ (l : List Ownership). IsOutputOfAll b l items p.1) (h.learned os m.item.message) (made_too (owners_after a os m.item.message) items p.1 p.4))

@@ -27,13 +27,13 @@ use Rattle.cli_run.specs.declared.visitor.RunStop.TheVariants.{Cause as ByCause}
 -- a line of JSON of one message was written or gathered, which has this place in its input
 abbrev pub WritesJson : {W : Type 0} → Writing W → Order → MessageTree → MessagePlace → List ℕ → List ℕ → Result (Unit {0}) Cause → Type 0
 WritesJson w order message place g0 g1 result =
-    (out : List ℕ) × IsJsonLine order message (line_place place.number place.offset) out × GathersOrNot w.held w.failures out g0 g1 w.old w.new result
+    (out : List ℕ) × IsJsonLine order message (line_place place) out × GathersOrNot w.held w.failures out g0 g1 w.old w.new result
 
 -- the text that a command makes of one message, which has this place in its input, was written or
 -- gathered
 abbrev pub WritesOne : {W : Type 0} → Writing W → Command → Order → MessageTree → MessagePlace → List ℕ → List ℕ → Result (Unit {0}) Cause → Type 0
 WritesOne w command order message place g0 g1 result =
-    (text : List ℕ) × IsTextOf command order message place.number place.offset text × GathersOrNot w.held w.failures text g0 g1 w.old w.new result
+    (text : List ℕ) × IsTextOf command order message place text × GathersOrNot w.held w.failures text g0 g1 w.old w.new result
 
 -- whether the command makes a text of a message, and the owners that it has learned before and
 -- after it
@@ -49,7 +49,7 @@ pub record GoesOnAfter (command : Command) (message : MessageTree) (texts : List
 -- what the window lets through of the texts that a command makes of one message was written or
 -- gathered
 abbrev pub HandsOne : {W : Type 0} → Writing W → Command → (old new : Carried) → Order → MessageTree → MessagePlace → List ℕ → List ℕ → Result (Unit {0}) Cause → Type 0
-HandsOne w command old new order message place g0 g1 result = (texts : List (List ℕ)) × IsOutputOf command (owners_known command old.owners) order message place.number place.offset texts
+HandsOne w command old new order message place g0 g1 result = (texts : List (List ℕ)) × IsOutputOf command (owners_known command old.owners) order message place texts
     × IfOk result (λ _. GoesOnAfter command message texts old new) × GathersOrNot w.held w.failures (written old.window texts) g0 g1 w.old w.new result
 
 -- a reader stands where it stood, and may have looked at what it keeps

@@ -23,6 +23,7 @@ use Rattle.cli_report.specs.declared.ending.ExitStatus.TheVariants as status
 use Rattle.cli_options.specs.declared.window.Window.{Window}
 use Rattle.cli_run.specs.Inputs.{Placed, placed, wholes}
 use Rattle.cli_run.specs.Told.{first_of, second_of}
+use Rattle.cli_run.specs.declared.place.MessagePlace.{MessagePlace}
 use Rattle.cli_run.specs.declared.output.Output.{Output}
 use Rattle.cli_run.specs.declared.output.Output.TheVariants.{InOrder, JsonLine, Matching, Nothing, Text}
 
@@ -61,28 +62,28 @@ Picks (Filter selection) os message = SelectsBy selection os message
 Picks command os message = Unit {0}
 
 -- what a line of JSON says of where its message stands: no time
-abbrev pub line_place : (n offset : ℕ) → LinePlace
-line_place n offset = record { number = n; offset = offset; time = None }
+abbrev pub line_place : MessagePlace → LinePlace
+line_place place = record { number = place.number; offset = place.offset; time = None }
 
--- that text, if the message is the n-th of its input and begins at this offset there
-abbrev pub IsTextOf : Command → Order → MessageTree → (n offset : ℕ) → List ℕ → Type 0
-IsTextOf Show order message n offset text = text ≡ message_text order message n
-IsTextOf Json order message n offset text = IsJsonLine order message (line_place n offset) text
-IsTextOf Check order message n offset text = text ≡ []
-IsTextOf (Swap wanted) order message n offset text = text ≡ message_bytes wanted message
-IsTextOf (Filter selection) order message n offset text = text ≡ message_bytes order message
+-- that text, if the message has this place in its input
+abbrev pub IsTextOf : Command → Order → MessageTree → MessagePlace → List ℕ → Type 0
+IsTextOf Show order message place text = text ≡ message_text order message place.number
+IsTextOf Json order message place text = IsJsonLine order message (line_place place) text
+IsTextOf Check order message place text = text ≡ []
+IsTextOf (Swap wanted) order message place text = text ≡ message_bytes wanted message
+IsTextOf (Filter selection) order message place text = text ≡ message_bytes order message
 
 -- the texts that it makes of one message: one if it picks it, else none
-abbrev pub IsOutputOf : Command → List Ownership → Order → MessageTree → (n offset : ℕ) → List (List ℕ) → Type 0
-IsOutputOf command os order message n offset texts =
-    (Picks command os message × (text : List ℕ) × IsTextOf command order message n offset text × (texts ≡ text ∷ []))
+abbrev pub IsOutputOf : Command → List Ownership → Order → MessageTree → MessagePlace → List (List ℕ) → Type 0
+IsOutputOf command os order message place texts =
+    (Picks command os message × (text : List ℕ) × IsTextOf command order message place text × (texts ≡ text ∷ []))
     ⊎ ((Picks command os message → ⊥) × (texts ≡ []))
 
 -- those that it makes of several, one after the other, if it knows these owners before
 abbrev pub IsOutputOfAll : Command → List Ownership → List Placed → List (List ℕ) → Type 0
 IsOutputOfAll command os [] texts = texts ≡ []
 IsOutputOfAll command os (m ∷ items) texts = (one : List (List ℕ)) × (more : List (List ℕ)) × (texts ≡ one ++ more)
-    × IsOutputOf command os m.item.order m.item.message m.place.number m.place.offset one × IsOutputOfAll command (owners_after command os m.item.message) items more
+    × IsOutputOf command os m.item.order m.item.message m.place one × IsOutputOfAll command (owners_after command os m.item.message) items more
 
 -- the messages and the fault after them determine each byte that the command writes. `json` may
 -- write a DOUBLE by any digits that read back as its bits.

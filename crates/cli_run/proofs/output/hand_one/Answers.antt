@@ -14,7 +14,7 @@ if_ok (Err e) p = tt
 pub returns-in_default : goal.returns-in_default
 returns-in_default g c = λ order m whole.
     let command = command_of c.args.output.now in
-    let some = some_of_one command (owners_known command c.args.carried.now.owners) order m c.args.lent.now.place.number c.args.lent.now.place.offset in
+    let some = some_of_one command (owners_known command c.args.carried.now.owners) order m c.args.lent.now.place in
     (some.0, some.1, tt, passes_none g.W.Sink.held g.W.Sink.failures (gathered_bytes c.args.gathered.now) c.args.first.now)
 
 pub returns-then-not-picked : goal.returns-then-not-picked
@@ -41,7 +41,7 @@ returns-then-lets_through g c = λ order m whole.
 pub returns-else-lets_through : goal.returns-else-lets_through
 returns-else-lets_through g c = λ order m whole.
     let is = c.in-Ok.ensures order m whole in
-    let some = some_text (command_of c.args.output.now) order m c.args.lent.now.place.number c.args.lent.now.place.offset in
+    let some = some_text (command_of c.args.output.now) order m c.args.lent.now.place in
     let none : written c.args.carried.now.window (some.0 ∷ []) ≡ [] = c.lets_through.ensures.lets some.0 ∙ ap (λ b. text_if b some.0) c.if-lets_through.false in (
       some.0 ∷ [],
       inl (is.picks.0 c.if-not-picked.false, some.0, some.1, refl),
