@@ -8,7 +8,6 @@ import pathlib
 import re
 import subprocess
 import tempfile
-import threading
 
 from crate_list import copy_parts, folder_of, lanes, libraries_below, read_crates, read_lines
 from edits import all_edits, edited, edits_in, function_at, functions_changed, text_of
@@ -183,20 +182,19 @@ class Rounds:
     def __init__(self, edits, crates):
         self.crates, self.uses = crates, read_crates()
         self.waiting, self.tried, self.proved = of_crates(edits), [], set()
-        self.pool, self.turns = futures.ThreadPoolExecutor(lanes()), threading.Semaphore(max(1, lanes() // 2))
+        self.pool = futures.ThreadPoolExecutor(max(1, lanes() // 2))
 
     def note(self, line):
         """Notes what `rt ci` says."""
         if found := PROVED.match(line):
             self.proved.add(found[1])
             ready = [it for it in self.waiting if self.proved.issuperset([it, *libraries_below(it, self.uses)])]
-            self.tried += [self.pool.submit(self.try_crate, self.waiting.pop(it)) for it in ready]
-
-    def try_crate(self, edits):
-        with self.turns:
-            return len(try_crate(edits, self.crates))
+            for edits in map(self.waiting.pop, ready):
+                self.tried.append((edits, self.pool.submit(try_crate, edits, self.crates)))
 
     def missed(self):
         """The number of those that were not refused where they should be, once all crates were proved. Those of a crate that was not say nothing."""
-        self.turns.release(lanes())
-        return sum(it.result() for it in self.tried) + sum(map(len, self.waiting.values()))
+        left = [edits for edits, run in self.tried if run.cancel()]
+        missed = try_edits([it for edits in left for it in edits], self.crates)
+        missed += sum(len(run.result()) for _, run in self.tried if not run.cancelled())
+        return missed + sum(map(len, self.waiting.values()))
