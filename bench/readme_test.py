@@ -1,9 +1,9 @@
 #!/usr/bin/env python3
 """readme_test.py: runs the commands that README.md, cases/README.md and docs/RECIPES.md show with their output.
 
-A command is a line `$ ..` of an indented block, and the next line too if it ends in a backslash; what it writes, on standard output and standard
-error, are the lines after it. `dbus-wire` is the program that was built by `make build`. Without it README's commands are run by `rt try`, which builds the program without proofs for each run: some
-minutes in all. A command with `jq` is passed over if there is none. The exit status is 1 if a command writes something else, or if code of
+A command is a line `$ ..` of an indented block, and the next line too if it ends in a backslash or within single quotes; what it writes, on standard
+output and standard error, are the lines after it. `dbus-wire` is the program that was built by `make build`. Without it README's commands are run by
+`rt try`, which builds the program without proofs for each run: some minutes in all. A command with `jq` is passed over if there is none. The exit status is 1 if a command writes something else, or if code of
 docs/EXAMPLES.md that is said to be from a crate is not there.
 """
 
@@ -40,7 +40,8 @@ def shown(text):
         lines = [line[4:] for line in re.sub(r"\\\n +", "", block).splitlines()]
         starts = [at for at, line in enumerate(lines) if line.startswith("$ ")]
         for start, end in zip(starts, [*starts[1:], len(lines)]):
-            yield lines[start].removeprefix("$ "), lines[start + 1 : end]
+            last = next(at for at in range(start, end) if "\n".join(lines[start : at + 1]).count("'") % 2 == 0)
+            yield "\n".join(lines[start : last + 1]).removeprefix("$ "), lines[last + 1 : end]
 
 
 def bare(code):

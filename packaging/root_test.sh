@@ -37,8 +37,8 @@ libraries=$fresh/usr/lib/$(dpkg-architecture -qDEB_HOST_MULTIARCH)
 must /crate/target/debug/examples/check
 inside sh -c 'dpkg --purge dbus-wire libdbus-wire-dev libdbus-wire0 python3-dbus-wire'
 
-inside tar -xf "/release/dbus-wire-$version-x86_64-linux.tar.gz" -C /opt
-unpacked=/opt/dbus-wire-$version-x86_64-linux
+inside tar -xf "/release/dbus-wire-$version-x86_64-linux.tar.gz"
+unpacked=/dbus-wire-$version-x86_64-linux
 must "$unpacked/bin/dbus-wire" check
 inside sh -c "gcc -o /check /dbus-wire-$version/examples/c/check.c \$(PKG_CONFIG_PATH=$unpacked/lib/pkgconfig pkg-config --cflags --libs dbus-wire)"
 must env LD_LIBRARY_PATH="$unpacked/lib" /check
