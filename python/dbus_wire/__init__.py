@@ -13,26 +13,29 @@ linker finds it.
             print(message.serial, message.member, message.body)
 
 Bytes that are no message raise Refused or Truncated, which say where and why, as `dbus-wire check`
-does. All of it may be called from any thread; a thread needs 128 KiB of stack for a call. A message
+does. No value that is given is changed: one that is not of its type raises BadValue, which says
+where it is. All of it may be called from any thread; a thread needs 128 KiB of stack for a call. A message
 of any depth is read within Python's default limit on recursion.
 """
 
+from ._building import build, error_to, rebuild, reply_to
 from ._checker import Checker
-from ._errors import HeaderField, NotAMessage, Refused, Truncated
+from ._errors import BadValue, HeaderField, NotAMessage, Refused, Truncated
 from ._handshake import Client, Server, Status, Step
 from ._library import LIBRARY_VERSION
 from ._limits import Limits
 from ._lines import BadLine, Line, LineCommand, client_line, server_line
-from ._messages import Message, MessageFlag, MessageType, Order, build, byteswap, messages, rebuild, stated_length
+from ._messages import Message, MessageFlag, MessageType, byteswap, messages, stated_length
 from ._rules import BadRule, Rule, RuleSet
 from ._spelling import spell_body
 from ._texts import TextFault, TextKind, check_text
-from ._values import ObjectPath, Signature, UnixFd, Variant
+from ._values import ObjectPath, Order, Signature, UnixFd, Variant
 
 __all__ = [
     "LIBRARY_VERSION",
     "BadLine",
     "BadRule",
+    "BadValue",
     "Checker",
     "Client",
     "HeaderField",
@@ -61,8 +64,10 @@ __all__ = [
     "byteswap",
     "check_text",
     "client_line",
+    "error_to",
     "messages",
     "rebuild",
+    "reply_to",
     "server_line",
     "spell_body",
     "stated_length",

@@ -1,9 +1,10 @@
-"""What is raised for bytes that are no message."""
+"""What is raised for bytes that are no message, and for values that have no bytes."""
 
 from __future__ import annotations
 
 import ctypes
 import enum
+import reprlib
 
 from ._library import REASON_TRUNCATED, library
 
@@ -48,6 +49,47 @@ class Refused(NotAMessage):
 
 class Truncated(NotAMessage):
     """The input ends within a message; `at` is its end."""
+
+
+class BadValue(ValueError):
+    """A value is none of its type, or an argument is none that the call takes. As a text, all three
+    of these:
+
+    `path` is the Python expression that leads to it. It begins with `body`, the list or tuple of
+    the values, and goes on as in `body[2]["x"].value[0]`; `.value` enters a Variant, and
+    `list(body[2])[1]` is a key of a dict. Of an argument it is the name. `wanted` says what may be
+    there, and `given` what is there, cut if it is long, with its Python type.
+    """
+
+    def __init__(self, path: str, wanted: str, given: str) -> None:
+        super().__init__(path, wanted, given)
+        self.path = path
+        self.wanted = wanted
+        self.given = given
+
+    def __str__(self) -> str:
+        return f"{self.path}: wanted {self.wanted}, given {self.given}"
+
+
+class _Shown(reprlib.Repr):
+    """Short texts of values."""
+
+    def __init__(self) -> None:
+        super().__init__()
+        self.maxstring = self.maxother = self.maxlong = 60
+
+    def repr_bytes(self, value: bytes, level: int) -> str:
+        return self.repr_instance(value[: self.maxother], level)
+
+
+def bad_value(path: str, wanted: str, given: object, why: str = "") -> BadValue:
+    """The error of a value, with what is to be said of it after its type."""
+    try:
+        text = _Shown().repr(given)
+    except Exception:
+        # An int of too many digits, or a type whose own text fails.
+        text = object.__repr__(given)
+    return BadValue(path, wanted, f"{text} ({type(given).__name__}){why}")
 
 
 def refused(at: int, reason: int, field: int = 0) -> Refused:

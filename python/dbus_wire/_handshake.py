@@ -13,6 +13,7 @@ from typing import NamedTuple
 from . import _library
 from ._library import EXTERNAL_AS_REPORTED, EXTERNAL_AS_USER, GUID_LENGTH, NO_HANDSHAKE, NO_MEMORY, OK, REFUSED
 from ._library import REPLY_ROOM, Bytes, as_bytes, library
+from ._values import bool_of, text_of, uint32_of
 
 
 class Status(enum.IntEnum):
@@ -30,7 +31,7 @@ class Step(NamedTuple):
     """What an end did with a piece: `count` bytes were taken, the others are to be passed again,
     and `reply` is to be sent."""
 
-    count: int
+    count: int  # type: ignore[assignment]
     reply: bytes
     status: Status
 
@@ -83,8 +84,8 @@ class Server(_Handshake):
         """Makes the end of a server of this GUID, which offers EXTERNAL if it has a user, and
         ANONYMOUS, which lets everybody in, if `anonymous` is true. Raises ValueError if the GUID is
         not 32 hexadecimal digits, and MemoryError."""
-        handle, text = _library.Handshake(), guid.encode("utf-8", "surrogatepass")
-        mechanisms = _mechanisms(0 if user is None else EXTERNAL_AS_USER, user or 0, anonymous)
+        handle, text = _library.Handshake(), text_of("guid", guid)
+        mechanisms = _mechanisms(0 if user is None else EXTERNAL_AS_USER, user, anonymous)
         answer = library.dbus_wire_server_new(text, len(text), byref(mechanisms), byref(handle))
         _raise_if_failed(answer)
         if answer == REFUSED:
@@ -109,11 +110,11 @@ class Client(_Handshake):
         one that the transport reports to the server, and then for ANONYMOUS if there is a trace,
         which may be empty. Raises ValueError if the trace has over 255 bytes or both kinds of
         EXTERNAL are asked for, and MemoryError."""
-        if user is not None and reported:
+        if bool_of("reported", reported) and user is not None:
             raise ValueError("EXTERNAL is asked for either as a user or as the one that is reported")
         external = EXTERNAL_AS_REPORTED if reported else 0 if user is None else EXTERNAL_AS_USER
-        handle, text = _library.Handshake(), as_bytes(trace or b"")
-        mechanisms = _mechanisms(external, user or 0, trace is not None)
+        handle, text = _library.Handshake(), as_bytes(b"" if trace is None else trace)
+        mechanisms = _mechanisms(external, user, trace is not None)
         answer = library.dbus_wire_client_new(byref(mechanisms), text, len(text), byref(handle))
         _raise_if_failed(answer)
         if answer == REFUSED:
@@ -131,10 +132,9 @@ class Client(_Handshake):
         return text.raw.decode("ascii") if answer == OK else None
 
 
-def _mechanisms(external: int, user: int, anonymous: bool) -> _library.Mechanisms:
-    if not 0 <= user < 1 << 32:
-        raise ValueError(f"{user} is no number of a user")
-    return _library.Mechanisms(external, user, int(anonymous), 0)
+def _mechanisms(external: int, user: int | None, anonymous: bool) -> _library.Mechanisms:
+    number = 0 if user is None else uint32_of("user", user)
+    return _library.Mechanisms(external, number, int(bool_of("anonymous", anonymous)), 0)
 
 
 def _raise_if_failed(answer: int) -> None:

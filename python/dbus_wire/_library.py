@@ -160,8 +160,9 @@ Bytes = Union[bytes, bytearray, memoryview]
 
 
 def as_bytes(data: Bytes) -> bytes:
-    """The bytes, copied if another thread could write them while the library reads them."""
-    return data if isinstance(data, bytes) else bytes(memoryview(data))
+    """The bytes, copied if another thread could write them while the library reads them, or if a
+    class of its own could give them another length."""
+    return data if type(data) is bytes else bytes(memoryview(data))
 
 
 def _version_of(number: int) -> tuple[int, int, int]:

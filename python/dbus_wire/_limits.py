@@ -4,28 +4,31 @@ from __future__ import annotations
 
 import ctypes
 from dataclasses import dataclass
+from operator import index
 
 from . import _library
+from ._errors import bad_value
 from ._library import library
+from ._values import bool_of, int_of
 
 _GREATEST = 0xFFFF_FFFF
-_SPECIFICATION = _library.Limits()
-library.dbus_wire_specification_limits(ctypes.byref(_SPECIFICATION))
+SPECIFICATION = _library.Limits()
+library.dbus_wire_specification_limits(ctypes.byref(SPECIFICATION))
 
 
 @dataclass(frozen=True)
 class Limits:
     """Limits that a message has to keep; what is left out is the D-Bus Specification's. Raises
-    ValueError of a negative number.
+    BadValue of a negative number.
 
     A number over the specification's stands for the specification's.
     """
 
-    message: int = _SPECIFICATION.message
+    message: int = SPECIFICATION.message
     """The greatest number of bytes of a message."""
-    array: int = _SPECIFICATION.array
+    array: int = SPECIFICATION.array
     """The greatest number of bytes of an array's contents."""
-    depth: int = _SPECIFICATION.depth
+    depth: int = SPECIFICATION.depth
     """The greatest number of containers (arrays, structs, variants) open at once, three of the
     header among them."""
     fds_below_count: bool = False
@@ -33,13 +36,16 @@ class Limits:
     is 0 if that is absent."""
 
     def __post_init__(self) -> None:
-        if min(self.message, self.array, self.depth) < 0:
-            raise ValueError("a limit is negative")
+        for name in ("message", "array", "depth"):
+            number = int_of(getattr(self, name))
+            if number is None or number < 0:
+                raise bad_value(name, "an int that is not negative", getattr(self, name))
+        bool_of("fds_below_count", self.fds_below_count)
 
 
 def limits_struct(limits: Limits | None) -> _library.Limits:
     """The limits, or the specification's, as the library takes them."""
     if limits is None:
-        return _SPECIFICATION
-    numbers = (min(number, _GREATEST) for number in (limits.message, limits.array, limits.depth))
+        return SPECIFICATION
+    numbers = (min(index(number), _GREATEST) for number in (limits.message, limits.array, limits.depth))
     return _library.Limits(*numbers, _library.FDS_BELOW_COUNT if limits.fds_below_count else _library.FDS_ANY)

@@ -1,4 +1,4 @@
-"""Messages: one, those of a capture, one of its parts, and one in the other byte order."""
+"""Messages: one, those of a capture, and one in the other byte order."""
 
 from __future__ import annotations
 
@@ -12,24 +12,12 @@ from typing import Any, BinaryIO, Iterator, NoReturn
 
 from . import _library
 from ._errors import refused, truncated
-from ._library import FIXED_HEADER_LENGTH, NO_MEMORY, NO_ROOM, OK, PARTIAL, REASON_TRAILING, REFUSED, WHOLE, Bytes, as_bytes, library
+from ._library import FIXED_HEADER_LENGTH, NO_ROOM, PARTIAL, REASON_TRAILING, REFUSED, WHOLE, Bytes, as_bytes, library
 from ._limits import Limits, limits_struct
-from ._values import ObjectPath, Signature, text_at, values_of
+from ._values import ObjectPath, Order, Signature, text_at, values_of
 
 # The most bytes that one read asks for, so that a length that is only stated takes no memory.
 _PIECE = 1 << 20
-
-# The parts of a message that are numbers, each with its name in the library, and those that are
-# texts.
-_NUMBERS = {"type": "kind", "flags": "flags", "serial": "serial", "reply_serial": "reply_serial", "unix_fds": "unix_fds"}
-_TEXTS = ("path", "interface", "member", "error_name", "destination", "sender", "signature")
-
-
-class Order(str, enum.Enum):
-    """A byte order, as the first byte of a message names it."""
-
-    LITTLE = "l"
-    BIG = "B"
 
 
 class MessageType(enum.IntEnum):
@@ -156,8 +144,13 @@ class Message:
         library.dbus_wire_parts_of(self.data, len(self.data), byref(limits_struct(None)), byref(parts))
         return self.data[parts.body :]
 
+    @property
+    def wants_reply(self) -> bool:
+        """Whether it is a method call that does not say that it expects no reply."""
+        return self.type == MessageType.METHOD_CALL and not self.flags & MessageFlag.NO_REPLY_EXPECTED
+
     def swapped(self, order: Order | str) -> Message:
-        """The same message in the byte order, 'l' or 'B'. Raises ValueError of another."""
+        """The same message in the byte order, 'l' or 'B'. Raises BadValue of another."""
         return Message.parse(byteswap(self.data, order))
 
     def __bytes__(self) -> bytes:
@@ -194,83 +187,6 @@ def stated_length(data: Bytes, limits: Limits | None = None) -> int | None:
     if library.dbus_wire_check(head, len(head), byref(given), byref(told)) == REFUSED:
         raise refused(told.offset, told.reason, told.field)
     return None
-
-
-def build(
-    type: MessageType | int,
-    serial: int,
-    *,
-    order: Order | str = Order.LITTLE,
-    flags: int = 0,
-    path: str | None = None,
-    interface: str | None = None,
-    member: str | None = None,
-    error_name: str | None = None,
-    reply_serial: int | None = None,
-    destination: str | None = None,
-    sender: str | None = None,
-    signature: str | None = None,
-    unix_fds: int = 0,
-    body: Bytes = b"",
-    limits: Limits | None = None,
-) -> Message:
-    """The message within the limits that has exactly these parts. What is None or 0 is no header
-    field.
-
-    The fields are in the order of their codes; `rebuild` changes a message and keeps its fields as
-    they are.
-
-    The body's bytes are spelled in the byte order, 'l' or 'B', as `spell_body` spells values, and
-    as those of `body_bytes` are. Raises Refused if no message has these parts; its place counts
-    from the first byte that they spell. Raises ValueError of a number that no field has room for.
-    """
-    numbers = {"type": type, "flags": flags, "serial": serial, "reply_serial": reply_serial, "unix_fds": unix_fds}
-    texts = {"path": path, "interface": interface, "member": member, "error_name": error_name}
-    texts |= {"destination": destination, "sender": sender, "signature": signature}
-    return _built(library.dbus_wire_build, b"", {"order": order, "body": body} | numbers | texts, limits)
-
-
-def rebuild(message: Message, *, limits: Limits | None = None, **changes: Any) -> Message:
-    """The message with other parts: those that `build` takes, by their names, but for its byte
-    order. What becomes None or 0 is no header field any more.
-
-    Each header field stays in its place, also those of codes that the specification does not name.
-    Fields that the message does not have come last, in the order of their codes. With no changes it
-    is the same message, byte for byte. Raises what `build` raises.
-    """
-    parts = {name: getattr(message, name) for name in (*_NUMBERS, *_TEXTS)}
-    parts["body"] = message.body_bytes
-    if unknown := changes.keys() - parts.keys():
-        raise TypeError(f"a message has no part {min(unknown)!r} to change")
-    return _built(library.dbus_wire_rebuild, message.data, parts | changes | {"order": message.order}, limits)
-
-
-def _built(call: Any, front: bytes, parts: dict[str, Any], limits: Limits | None) -> Message:
-    """The message that the call makes of the parts, whose texts and body come after the bytes in
-    front."""
-    given, data = _library.Parts(order=ord(Order(parts["order"]).value)), bytearray(front)
-    for name, name_there in _NUMBERS.items():
-        number = parts[name] or 0
-        if not 0 <= number < 1 << 32:
-            raise ValueError(f"{number} is out of range")
-        setattr(given, name_there, number)
-    for name in _TEXTS:
-        if parts[name] is not None:
-            spelled = parts[name].encode("utf-8", "surrogatepass")
-            setattr(given, name, _library.Text(len(data), len(spelled), 1))
-            data += spelled
-    given.body = len(data)
-    data += as_bytes(parts["body"])
-    given.length = len(data)
-    # Each of seven texts has 16 bytes beside its own at most, and so has each number, the fixed
-    # header and the body.
-    out, told = ctypes.create_string_buffer(len(data) + 11 * 16), _library.Checked()
-    answer = call(byref(given), bytes(data), len(data), byref(limits_struct(limits)), out, len(out), byref(told))
-    if answer == NO_MEMORY:
-        raise MemoryError
-    if answer != OK:
-        raise refused(told.offset, told.reason, told.field)
-    return Message.parse(out.raw[: told.length])
 
 
 def byteswap(data: Bytes, order: Order | str, limits: Limits | None = None) -> bytes:

@@ -3,9 +3,24 @@
 from __future__ import annotations
 
 import ctypes
+import enum
+import operator
 import struct
 from dataclasses import dataclass
-from typing import Any, Callable
+from typing import Any, Callable, NoReturn
+
+from ._errors import bad_value
+
+
+class Order(str, enum.Enum):
+    """A byte order, as the first byte of a message names it. Raises BadValue of another."""
+
+    LITTLE = "l"
+    BIG = "B"
+
+    @classmethod
+    def _missing_(cls, value: object) -> NoReturn:
+        raise bad_value("order", "'l' or 'B'", value)
 
 
 class ObjectPath(str):
@@ -38,10 +53,52 @@ class UnixFd(int):
 
 @dataclass(frozen=True)
 class Variant:
-    """A VARIANT: a value with the signature of its one type."""
+    """A VARIANT: a value with the signature of its one type, such as Variant("as", ["a", "b"])."""
 
-    signature: Signature
+    signature: str
+    """A Signature if it is read of a message."""
     value: Any
+
+
+def int_of(value: object) -> int | None:
+    """The int that the value is, or None if it is none: it has `__index__`, and is no bool."""
+    try:
+        return None if isinstance(value, bool) else int.__index__(operator.index(value))  # type: ignore[arg-type]
+    except TypeError:
+        return None
+
+
+def float_of(value: object) -> float | None:
+    """The float that the value is, or that has the value of an int; else None."""
+    if isinstance(value, float):
+        return value
+    try:
+        number = int_of(value)
+        return float(number) if number is not None and float(number) == number else None
+    except OverflowError:
+        return None
+
+
+def uint32_of(name: str, value: object) -> int:
+    """An argument of this name, which is to be a UINT32. Raises BadValue."""
+    number = int_of(value)
+    if number is None or not 0 <= number < 1 << 32:
+        raise bad_value(name, "an int from 0 to 4294967295", value)
+    return number
+
+
+def bool_of(name: str, value: object) -> bool:
+    """An argument of this name, which is to be a bool. Raises BadValue."""
+    if not isinstance(value, bool):
+        raise bad_value(name, "True or False", value)
+    return value
+
+
+def text_of(name: str, value: object) -> bytes:
+    """The bytes of an argument of this name, which is to be a str. Raises BadValue."""
+    if not isinstance(value, str):
+        raise bad_value(name, "a str", value)
+    return str.encode(value, "utf-8", "surrogatepass")
 
 
 def _double(bits: int) -> float:

@@ -10,13 +10,15 @@ import io
 import json
 import math
 import os
+import random
 import subprocess
 import unittest
 import warnings
 
 from inputs import FIELDS, SAMPLES, captures, changed_messages, whole_cases
+from random_values import BASIC, Values, parts_of
 
-from dbus_wire import Message, MessageType, NotAMessage, Variant, byteswap, messages
+from dbus_wire import BadValue, Message, MessageType, NotAMessage, Variant, byteswap, messages, spell_body
 
 # Their own warnings are not ours.
 with warnings.catch_warnings():
@@ -179,6 +181,44 @@ class Jeepney(Peer, unittest.TestCase):
 
     def body(self, message):
         return list(message.body)
+
+
+def in_the_form_of_jeepney(one, value):
+    """The value of a type in the one form of it that jeepney takes."""
+    code, form = one[0], in_the_form_of_jeepney
+    if code == "v":
+        return value.signature, form(value.signature, value.value)
+    if code in "({":
+        return tuple(map(form, parts_of(one[1:-1]), value))
+    if code != "a":
+        return value
+    if isinstance(value, (list, tuple)):
+        return [form(one[1:], part) for part in value]
+    return dict(form(one[1:], entry) for entry in value.items()) if one[1] == "{" else bytes(value)
+
+
+@unittest.skipUnless(jeepney, "jeepney is not there")
+class WhatJeepneyRefuses(unittest.TestCase):
+    """What jeepney refuses to spell, the module refuses, but for
+
+    * other forms of what it takes: a tuple for an array, a list for a struct or a dict entry, a bytearray or a memoryview
+      for bytes, and a mapping that is no dict;
+    * a UNIX_FD, for which it takes a descriptor and not its index, and a Variant, for which it takes a pair.
+    """
+
+    def test_what_is_spelled_is_spelled_by_jeepney(self):
+        values, spelled = Values(random.Random(3), BASIC.replace("h", "")), 0
+        for _ in range(10000):
+            one, other = values.type(), values.type(1)
+            value = values.choice([values.right(one), values.right(other), values.wrong(one)[0]])
+            try:
+                ours = spell_body(one, [value])
+            except BadValue:
+                continue
+            theirs = jeepney.parse_signature(list(f"({one})"))
+            self.assertEqual(theirs.serialise((in_the_form_of_jeepney(one, value),), 0, jeepney.Endianness.little), ours, one)
+            spelled += 1
+        self.assertGreater(spelled, 3000)
 
 
 @unittest.skipUnless(Unmarshaller, "dbus-fast is not there")
