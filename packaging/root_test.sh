@@ -10,7 +10,6 @@ chmod 755 "$fresh"
 debootstrap --variant=minbase --include=bash-completion,dpkg-dev,fish,gcc,libc6-dev,man-db,pkg-config,python3-venv,zsh bookworm "$fresh" > /dev/null
 mkdir "$fresh/release"
 cp out/release/* "$fresh/release"
-sample=/dbus-wire-$version/samples/session.dbus
 said=$(crates/dbus_wire/out/dbus_wire check < samples/session.dbus)
 
 # inside WORD..: runs the command in the fresh system, with the sample as its input. What is mounted there is gone when it ends.
@@ -45,6 +44,5 @@ must env LD_LIBRARY_PATH="$unpacked/lib" /check
 
 inside python3 -m venv /venv
 inside sh -c '/venv/bin/pip install --quiet --no-index /release/*.whl'
-count="import dbus_wire; bytes = open('$sample', 'rb').read(); print('ok', len(list(dbus_wire.messages(bytes))), 'messages', len(bytes), 'bytes')"
-must /venv/bin/python -c "$count"
+must /venv/bin/python "/dbus-wire-$version/examples/python/check.py"
 echo "a fresh system uses the packages, the tarball, the wheel and the crate as it should"

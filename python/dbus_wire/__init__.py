@@ -14,7 +14,7 @@ linker finds it.
 
 Bytes that are no message raise Refused or Truncated, which say where and why, as `dbus-wire check`
 does. No value that is given is changed: one that is not of its type raises BadValue, which says
-where it is. All of it may be called from any thread; a thread needs 128 KiB of stack for a call. A message
+where it is. examples/python has programs. All of it may be called from any thread; a thread needs 128 KiB of stack for a call. A message
 of any depth is read within Python's default limit on recursion.
 """
 

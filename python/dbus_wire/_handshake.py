@@ -4,6 +4,7 @@ from __future__ import annotations
 
 import ctypes
 import enum
+import socket
 import threading
 import weakref
 from ctypes import byref
@@ -57,6 +58,24 @@ class _Handshake:
         _raise_if_failed(answer)
         return Step(told.count, room.raw[: told.reply], Status(answer))
 
+    def shake_hands(self, connection: socket.socket) -> None:
+        """Shakes hands with the other end of a connection that blocks, from the first byte on. It
+        reads no byte of what follows, which `messages(connection.makefile("rb"))` reads.
+
+        Raises ConnectionError if the handshake fails or the connection ends before it does, and
+        what the socket raises.
+        """
+        step = self.take()
+        while step.status == Status.TALKING:
+            connection.sendall(step.reply)
+            # A byte at a time: the last line may have the first message behind it.
+            if not (piece := connection.recv(1)):
+                raise ConnectionError("the connection ended in the handshake")
+            step = self.take(piece)
+        connection.sendall(step.reply)
+        if step.status == Status.CLOSED:
+            raise ConnectionError("the handshake failed")
+
     def close(self) -> None:
         """Frees the end. Once more does nothing; ValueError is raised by its other calls from then
         on."""
@@ -97,10 +116,9 @@ class Client(_Handshake):
     """A client's end of the handshake. It may be shared by threads, whose calls wait for each
     other.
 
-        client, rest = Client(user=os.getuid()), b""
-        while (step := client.take(rest)).status == Status.TALKING:
-            socket.sendall(step.reply)
-            rest = rest[step.count :] or socket.recv(4096)
+        bus = socket.socket(socket.AF_UNIX)
+        bus.connect("/run/user/1000/bus")
+        Client(user=os.getuid()).shake_hands(bus)
     """
 
     __slots__ = ()

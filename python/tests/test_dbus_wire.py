@@ -8,6 +8,7 @@ import io
 import os
 import pickle
 import re
+import socket
 import unittest
 from concurrent.futures import ThreadPoolExecutor
 from unittest import mock
@@ -537,6 +538,26 @@ class Handshakes(unittest.TestCase):
                     self.assertEqual(self.shake(client, server, size), (*ends, lines))
                     self.assertEqual(client.guid, self.GUID.lower())
                     self.assertEqual((client.take(b"l\1").count, server.take(b"l\1").count), (0, 0))
+
+    def test_hands_are_shaken_over_a_socket(self):
+        here, there = socket.socketpair()
+        with here, there, ThreadPoolExecutor(1) as pool, Client(user=7) as client, Server(self.GUID, 7) as server:
+            serving = pool.submit(server.shake_hands, there)
+            client.shake_hands(here)
+            here.sendall(SESSION)
+            serving.result(20)
+            self.assertEqual(client.guid, self.GUID.lower())
+            with there.makefile("rb") as file:
+                self.assertEqual(next(messages(file)).body, [":1.2"])
+
+    def test_hands_that_are_not_shaken(self):
+        for ending, text in ((b"REJECTED\r\n", "the handshake failed"), (b"REJ", "the connection ended in the handshake")):
+            here, there = socket.socketpair()
+            with here, there, Client(user=7) as client:
+                there.sendall(ending)
+                there.shutdown(socket.SHUT_WR)
+                self.assertRaisesRegex(ConnectionError, text, client.shake_hands, here)
+                self.assertEqual(there.recv(100), b"\0AUTH EXTERNAL 37\r\n")
 
     def test_ends_that_fail(self):
         with Client(user=1) as client:

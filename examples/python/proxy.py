@@ -1,0 +1,53 @@
+#!/usr/bin/env python3
+"""Stands between clients and a bus: `proxy.py DOOR BUS RULE..` lets in clients of its own user at
+the Unix socket DOOR, connects each to the bus at the Unix socket BUS, and passes messages on, in
+both directions, each validated. What a client sends that one of the match rules matches does not
+get through: a call is answered by the error org.freedesktop.DBus.Error.AccessDenied. Bytes that are
+no message end the connection, and so does a message of over 1 MiB."""
+
+import os
+import select
+import socket
+import socketserver
+import struct
+import sys
+
+from dbus_wire import Client, Limits, Rule, Server, error_to, messages
+
+DENIED = "org.freedesktop.DBus.Error.AccessDenied"
+LIMITS = Limits(message=1 << 20)
+
+
+def shake_hands(client, bus):
+    peer = client.getsockopt(socket.SOL_SOCKET, socket.SO_PEERCRED, 12)
+    if (user := struct.unpack("3i", peer)[1]) != os.getuid():
+        raise PermissionError(f"a client of the user {user}")
+    bus.connect(sys.argv[2])
+    Client(user=user).shake_hands(bus)
+    Server(os.urandom(16).hex(), user).shake_hands(client)
+
+
+def pass_messages(client, bus, rules):
+    # The files keep no bytes, which `select` would not see.
+    files = {side: side.makefile("rb", buffering=0) for side in (client, bus)}
+    incoming = {side: messages(file, LIMITS) for side, file in files.items()}
+    while True:
+        for side in select.select(incoming, [], [])[0]:
+            if not (message := next(incoming[side], None)):
+                return
+            if side is bus:
+                client.sendall(bytes(message))
+            elif not any(rule.matches(message) for rule in rules):
+                bus.sendall(bytes(message))
+            elif message.wants_reply:
+                client.sendall(bytes(error_to(message, 1 << 31, DENIED)))
+
+
+class Connection(socketserver.BaseRequestHandler):
+    def handle(self):
+        with socket.socket(socket.AF_UNIX) as bus:
+            shake_hands(self.request, bus)
+            pass_messages(self.request, bus, [Rule(text) for text in sys.argv[3:]])
+
+
+socketserver.ThreadingUnixStreamServer(sys.argv[1], Connection).serve_forever()

@@ -1,0 +1,163 @@
+"""Tests of the programs in examples/python: `make test-python` runs them. A bus is one of this test,
+or a dbus-daemon, if it is there."""
+
+import os
+import pathlib
+import shutil
+import socket
+import subprocess
+import sys
+import tempfile
+import threading
+import time
+import unittest
+
+from inputs import ROOT, SAMPLES
+
+import dbus_wire
+from dbus_wire import Client, MessageType, Rule, Server, Variant, build, messages, reply_to
+
+EXAMPLES = ROOT / "examples/python"
+GUID = "0" * 32
+DBUS = "org.freedesktop.DBus"
+# The module that this test has.
+ENVIRONMENT = {**os.environ, "PYTHONPATH": str(pathlib.Path(dbus_wire.__file__).parent.parent)}
+
+
+def run(name, *words, given=b""):
+    ran = subprocess.run([sys.executable, EXAMPLES / name, *words], input=given, capture_output=True, env=ENVIRONMENT)
+    return ran.stdout, ran.stderr.decode(), ran.returncode
+
+
+def connected(path):
+    """A connection to the socket, once it is there."""
+    for _ in range(100):
+        try:
+            connection = socket.socket(socket.AF_UNIX)
+            connection.settimeout(20)
+            connection.connect(path)
+            return connection
+        except OSError:
+            connection.close()
+            time.sleep(0.1)
+    raise TimeoutError(path)
+
+
+def asked(connection, incoming, serial, member, *body, **parts):
+    """The reply to a call, and the error's name."""
+    call = build(MessageType.METHOD_CALL, serial, *body, member=member, path="/", **parts)
+    connection.sendall(bytes(call))
+    reply = next(message for message in incoming if message.reply_serial == serial)
+    return reply.error_name or reply.body
+
+
+class Filters(unittest.TestCase):
+    def test_check(self):
+        data = SAMPLES["session"]
+        self.assertEqual(run("check.py", given=data), (f"ok 136 messages {len(data)} bytes\n".encode(), "", 0))
+        self.assertEqual(run("check.py", given=data[:-1]), (f"refused at {len(data) - 1}: Truncated\n".encode(), "", 1))
+
+    def test_values(self):
+        written, said, status = run("values.py", given=SAMPLES["session"])
+        right = [f"{message.serial} {message.member} {message.body}" for message in messages(SAMPLES["session"])]
+        self.assertEqual((written.decode().splitlines(), said, status), (right, "", 0))
+
+    def test_filter(self):
+        text, data = "type='signal',member='NameAcquired'", SAMPLES["session"]
+        with Rule(text) as rule:
+            right = b"".join(bytes(message) for message in messages(data) if rule.matches(message))
+        self.assertTrue(right)
+        self.assertEqual(run("filter.py", text, given=data), (right, "", 0))
+
+
+class AtABus(unittest.TestCase):
+    def setUp(self):
+        self.folder = tempfile.TemporaryDirectory()
+        self.addCleanup(self.folder.cleanup)
+        self.bus, self.door = (os.path.join(self.folder.name, name) for name in ("bus", "door"))
+
+    def start(self, *words):
+        """Starts a program, which ends with the test."""
+        program = subprocess.Popen(words, env=ENVIRONMENT, stdout=subprocess.DEVNULL, stderr=subprocess.DEVNULL)
+        self.addCleanup(program.wait)
+        self.addCleanup(program.kill)
+
+    def example(self, name, *words):
+        self.start(sys.executable, EXAMPLES / name, *words)
+
+    def listen(self):
+        """A socket at which the bus of a test listens."""
+        listening = socket.socket(socket.AF_UNIX)
+        self.addCleanup(listening.close)
+        listening.bind(self.bus)
+        listening.listen()
+        listening.settimeout(20)
+        return listening
+
+    def test_service(self):
+        listening = self.listen()
+        self.example("service.py", self.bus)
+        service, _ = listening.accept()
+        with service:
+            service.settimeout(20)
+            Server(GUID, os.getuid()).shake_hands(service)
+            with service.makefile("rb") as file:
+                incoming = messages(file)
+                hello, request = next(incoming), next(incoming)
+                self.assertEqual((hello.member, request.member, request.body), ("Hello", "RequestName", ["org.example.Load", 0]))
+                service.sendall(bytes(reply_to(hello, 1, "s", ":1.1")))
+                [entries] = asked(service, incoming, 7, "Get", sender=":1.7")
+                self.assertEqual(list(entries), ["Load"])
+                self.assertIsInstance(entries["Load"].value, float)
+                self.assertEqual(asked(service, incoming, 8, "Set", "v", Variant("d", 1.0)), f"{DBUS}.Error.UnknownMethod")
+
+    def test_proxy(self):
+        listening = self.listen()
+
+        def answer():
+            client, _ = listening.accept()
+            with client:
+                Server(GUID, os.getuid()).shake_hands(client)
+                with client.makefile("rb") as file:
+                    for call in messages(file):
+                        client.sendall(bytes(reply_to(call, call.serial, call.signature, *call.body)))
+
+        answering = threading.Thread(target=answer)
+        answering.start()
+        self.example("proxy.py", self.door, self.bus, "member='Secret'", "arg0='secret'")
+        with connected(self.door) as client:
+            Client(user=os.getuid()).shake_hands(client)
+            with client.makefile("rb") as file:
+                incoming = messages(file)
+                self.assertEqual(asked(client, incoming, 1, "A", "as", ["x"] * 50000), [["x"] * 50000])
+                self.assertEqual(asked(client, incoming, 2, "Secret"), f"{DBUS}.Error.AccessDenied")
+                self.assertEqual(asked(client, incoming, 3, "A", "s", "secret"), f"{DBUS}.Error.AccessDenied")
+                self.assertEqual(asked(client, incoming, 4, "A", "s", "x"), ["x"])
+                client.sendall(b"no message, not even its first byte")
+                self.assertEqual(file.read(), b"")
+        answering.join(20)
+        self.assertFalse(answering.is_alive())
+
+    @unittest.skipUnless(shutil.which("dbus-daemon"), "dbus-daemon is not there")
+    def test_both_at_a_dbus_daemon(self):
+        self.start("dbus-daemon", "--session", "--nofork", f"--address=unix:path={self.bus}")
+        connected(self.bus).close()
+        self.example("service.py", self.bus)
+        self.example("proxy.py", self.door, self.bus, "member='GetId'")
+        with connected(self.door) as client:
+            Client(user=os.getuid()).shake_hands(client)
+            with client.makefile("rb") as file:
+                incoming, to_bus = messages(file), {"destination": DBUS, "interface": DBUS}
+                [own] = asked(client, incoming, 1, "Hello", **to_bus)
+                self.assertEqual(own[:1], ":")
+                self.assertEqual(asked(client, incoming, 2, "GetId", **to_bus), f"{DBUS}.Error.AccessDenied")
+                for serial in range(3, 100):
+                    if asked(client, incoming, serial, "NameHasOwner", "s", "org.example.Load", **to_bus) == [True]:
+                        break
+                    time.sleep(0.1)
+                [entries] = asked(client, incoming, 100, "Get", destination="org.example.Load")
+                self.assertEqual(list(entries), ["Load"])
+
+
+if __name__ == "__main__":
+    unittest.main()
