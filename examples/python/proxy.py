@@ -16,6 +16,7 @@ from dbus_wire import Client, Limits, Rule, Server, error_to, messages
 
 DENIED = "org.freedesktop.DBus.Error.AccessDenied"
 LIMITS = Limits(message=1 << 20)
+RULES = [Rule(text) for text in sys.argv[3:]]
 
 
 def shake_hands(client, bus):
@@ -27,7 +28,7 @@ def shake_hands(client, bus):
     Server(os.urandom(16).hex(), user).shake_hands(client)
 
 
-def pass_messages(client, bus, rules):
+def pass_messages(client, bus):
     # The files keep no bytes, which `select` would not see.
     files = {side: side.makefile("rb", buffering=0) for side in (client, bus)}
     incoming = {side: messages(file, LIMITS) for side, file in files.items()}
@@ -37,7 +38,7 @@ def pass_messages(client, bus, rules):
                 return
             if side is bus:
                 client.sendall(bytes(message))
-            elif not any(rule.matches(message) for rule in rules):
+            elif not any(rule.matches(message) for rule in RULES):
                 bus.sendall(bytes(message))
             elif message.wants_reply:
                 client.sendall(bytes(error_to(message, 1 << 31, DENIED)))
@@ -47,7 +48,7 @@ class Connection(socketserver.BaseRequestHandler):
     def handle(self):
         with socket.socket(socket.AF_UNIX) as bus:
             shake_hands(self.request, bus)
-            pass_messages(self.request, bus, [Rule(text) for text in sys.argv[3:]])
+            pass_messages(self.request, bus)
 
 
 socketserver.ThreadingUnixStreamServer(sys.argv[1], Connection).serve_forever()
