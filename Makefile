@@ -12,11 +12,13 @@
 # make build       proves dbus-wire and all below it, on all processors, and builds it: half an hour on four
 # make test        the gate: every proof, the wrong bodies that are due, the tests and the programs' stored runs
 # make gate-times  the gate, and the processor minutes of each of its steps
-# make library     proves and builds the library for C, static and shared
+# make library     proves and builds the library for C, static and shared. TARGET=aarch64-linux-gnu does it for that system, in out/aarch64-linux-gnu, by
+#                  Debian's gcc-aarch64-linux-gnu and libc6-dev-arm64-cross; make install-c takes TARGET too
 # make peers       compares the cases of messages and values with libdbus, GDBus, sd-bus, jeepney, dbus-next and dbus-fast, and writes
 #                  docs/PEERS.md
 # make export-cases writes the cases for other implementations to out/, as lines of JSON and as an archive
-# make test-c      builds the examples for C over it, tests the Rust crate, and compares what both write with dbus-wire check
+# make test-c      builds the examples for C over it, tests the Rust crate, and compares what both write with dbus-wire check. With TARGET the examples
+#                  for C alone, run by qemu-user-static or what RUN says: a quarter of an hour
 # make test-python compares what the module for Python makes of messages by it with what dbus-wire writes, and with what jeepney and
 #                  dbus-fast make of them, if these are there
 # make wheel       makes a wheel of the module for Python, with the library in it, in out/; `pip install ./python` does too
@@ -52,13 +54,28 @@ ZSHDIR ?= $(DATADIR)/zsh/site-functions
 PYTHONDIR ?= $(PREFIX)/lib/python3/dist-packages
 
 PROGRAM = crates/dbus_wire/out/dbus_wire
-ARCHIVE = out/libdbus_wire.a
+# Where the library for C is built.
+ROOM = out
 # include/dbus_wire.h says what changes its number.
 SONAME = libdbus_wire.so.0
-SHARED = out/$(SONAME)
-# The kit's calls of malloc, realloc and free, which are C: an object that the archive needs, and where the kit has it.
+ARCHIVE = $(ROOM)/libdbus_wire.a
+SHARED = $(ROOM)/$(SONAME)
+# The calls of malloc, realloc and free, which are C: an object that the archive needs. The kit has it for x86-64.
 HEAP_OBJECT = heap.pic.o
-HEAP = $(dir $(firstword $(shell rt doc)))c/liblibc_c.a
+HEAP = cd $(ROOM) && $(AR) x $(dir $(firstword $(shell rt doc)))c/liblibc_c.a $(HEAP_OBJECT)
+# Another system that the library is built for, by GNU's name: the kit's name of it, its tools, and what runs its programs here.
+ifeq ($(origin TARGET),command line)
+ifneq ($(TARGET) $(filter-out library test-c install-c install-shared install-dev,$(or $(MAKECMDGOALS),run)),aarch64-linux-gnu )
+$(error TARGET is aarch64-linux-gnu, for library, test-c, install-c, install-shared and install-dev)
+endif
+KIT_TARGET = --target aarch64-unknown-linux-gnu
+ROOM = out/$(TARGET)
+CC = $(TARGET)-gcc
+AR = $(TARGET)-ar
+HEAP = $(CC) -std=c99 -O2 -fPIC -c -o $(ROOM)/$(HEAP_OBJECT) packaging/heap.c
+RUN = qemu-aarch64-static -L /usr/$(TARGET)
+RUN_BY = $(TARGET) $(RUN)
+endif
 VERSION = $(shell sed -n 's/.*VERSION: &str = "\(.*\)";/\1/p' crates/cli_options/src/help.rt)
 # The licences of the kit's crates that are linked in. They come from the kit, and what is installed needs no kit.
 NOTICES = out/NOTICES
@@ -102,10 +119,12 @@ build: kit
 	$(WRITE_NOTICES)
 
 library: kit
-	bench/build.py dbus_c
+	bench/build.py dbus_c $(KIT_TARGET)
 	$(WRITE_NOTICES)
+	mkdir -p $(ROOM)
 	cp crates/dbus_c/out/libdbus_c.a $(ARCHIVE)
-	cd out && ar x $(HEAP) $(HEAP_OBJECT) && ar r $(notdir $(ARCHIVE)) $(HEAP_OBJECT) && rm $(HEAP_OBJECT)
+	$(HEAP)
+	cd $(ROOM) && $(AR) r $(notdir $(ARCHIVE)) $(HEAP_OBJECT) && rm $(HEAP_OBJECT)
 	$(CC) -shared -o $(SHARED) -Wl,-soname,$(SONAME) -Wl,--whole-archive $(ARCHIVE) -Wl,--no-whole-archive \
 		-Wl,--version-script=include/libdbus_wire.map -Wl,-z,defs -Wl,-z,text -Wl,-z,now
 
@@ -113,7 +132,7 @@ test: kit
 	.ci/run
 
 test-c: build library
-	examples/test.sh $(PROGRAM) $(ARCHIVE) $(SHARED)
+	CC="$(CC)" examples/test.sh $(PROGRAM) $(ARCHIVE) $(SHARED) $(RUN_BY)
 
 # Cargo builds what it packs, but not its tests.
 crate:

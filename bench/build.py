@@ -1,5 +1,6 @@
 #!/usr/bin/env python3
-"""build.py NAME: proves and builds the crate NAME and all that it uses, side by side, and says how far it is.
+"""build.py NAME [WORD..]: proves and builds the crate NAME and all that it uses, side by side, and says how far it is. Words after NAME are for its own
+build, as --target.
 
 `rt lib` locks each library below its crate, so crates that share one would wait for each other. Each is therefore built in a folder
 out/building/NAME, into which its files and the built libraries below it are linked, and what that makes is put back. First come
@@ -67,14 +68,14 @@ def build_apart(name, libraries, jobs):
     return ran.returncode, ran.stdout
 
 
-def build_last(name, jobs):
+def build_last(name, words, jobs):
     """The status of a static library's or a program's build, where it lies, and what rt said. A program is run with its stored input."""
     folder = folder_of(name)
     if not (folder / "src" / "main.rt").exists():
-        ran = subprocess.run(["rt", "lib", "--jobs", str(jobs)], cwd=folder, stdout=subprocess.PIPE, stderr=subprocess.STDOUT, text=True)
+        ran = subprocess.run(["rt", "lib", *words, "--jobs", str(jobs)], cwd=folder, stdout=subprocess.PIPE, stderr=subprocess.STDOUT, text=True)
         return ran.returncode, ran.stdout
     arguments, given = ((folder / it).read_bytes() if (folder / it).exists() else b"" for it in ("args", "stdin"))
-    words = ["rt", "run", "--jobs", str(jobs), "--", *arguments.decode().split("\n")[:-1]]
+    words = ["rt", "run", *words, "--jobs", str(jobs), "--", *arguments.decode().split("\n")[:-1]]
     ran = subprocess.run(words, cwd=folder, input=given, capture_output=True)
     return ran.returncode, ran.stderr.decode(errors="replace")
 
@@ -82,7 +83,7 @@ def build_last(name, jobs):
 class Build:
     """The build of a crate: which crates it needs, which of them are left, running and done."""
 
-    def __init__(self, target):
+    def __init__(self, target, words):
         uses = read_crates()
         self.libraries = {name: libraries_below(name, uses) for name in (*libraries_below(target, uses), target)}
         self.minutes = read_minutes(self.libraries)
@@ -90,7 +91,7 @@ class Build:
         for name in reversed(self.libraries):
             for library in uses[name]:
                 behind[library] = max(behind[library], self.minutes[library] + behind[name])
-        self.target = target
+        self.target, self.words = target, words
         self.left = sorted(self.libraries, key=lambda it: -behind[it])
         self.running = {}
         self.done = []
@@ -106,7 +107,7 @@ class Build:
                 return
             jobs = max(1, min(MOST_JOBS, idle // (len(ready) - number)))
             self.left.remove(name)
-            call = (build_last, name, jobs) if name == self.target else (build_apart, name, self.libraries[name], jobs)
+            call = (build_last, name, self.words, jobs) if name == self.target else (build_apart, name, self.libraries[name], jobs)
             self.running[pool.submit(*call)] = Running(name, jobs, time.monotonic())
 
     def end(self, future):
@@ -134,8 +135,8 @@ class Build:
         return f"{left:.0f} min left" if left >= 1 else "less than a minute left"
 
 
-def main(target):
-    build, processors, well = Build(target), lanes(), True
+def main(target, *words):
+    build, processors, well = Build(target, words), lanes(), True
     with futures.ThreadPoolExecutor(processors) as pool:
         while build.running or (well and build.left):
             if well:

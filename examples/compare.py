@@ -4,7 +4,8 @@
 The messages are the captures in samples/, whole and cut short, and those of the first messages of each capture of which one
 byte is changed. Both the text and the exit status are compared. What each of LISTERS, which commas separate, writes of the captures is compared with
 what `PROGRAM show` writes; what each of SWAPPERS writes of them in either byte order, with `PROGRAM swap`; what each of FILTERS writes of them for a rule and owners of names, with `PROGRAM filter`. What BUILDER builds of the
-parts of their messages has these parts, as `PROGRAM json` writes them. The exit status is 1 if they differ.
+parts of their messages has these parts, as `PROGRAM json` writes them. All but PROGRAM are run by the words in RUN, if it has any. The exit status is 1
+if they differ.
 """
 
 import collections
@@ -14,6 +15,8 @@ import os
 import subprocess
 import sys
 
+# The words that run what is compared.
+RUN = os.environ.get("RUN", "").split()
 SAMPLES = ("session.dbus", "big-endian.dbus")
 CHANGED_MESSAGES = 3
 CHANGES = (0x01, 0x80, 0xFF)
@@ -78,7 +81,7 @@ def compare_lists(program, lister, folder):
     differing = 0
     for sample in SAMPLES:
         data = capture(folder, sample)
-        right, other = (answer(words, data)[0].split("\n") for words in ([program, "show"], [lister]))
+        right, other = (answer(words, data)[0].split("\n") for words in ([program, "show"], [*RUN, lister]))
         differing += abs(len(right) - len(other)) + sum(a != b for a, b in zip(right, other))
         print(f"{sample}: {len(right)} lines listed, {differing} otherwise")
     return differing
@@ -92,7 +95,7 @@ def compare_swaps(program, swapper, folder):
             data = capture(folder, sample)
             right, other = (
                 subprocess.run([*words, order], input=data, capture_output=True).stdout
-                for words in ([program, "swap", "--to"], [swapper])
+                for words in ([program, "swap", "--to"], [*RUN, swapper])
             )
             differing += right != other or not right
     print(f"{2 * len(SAMPLES)} captures swapped, {differing} otherwise")
@@ -107,7 +110,7 @@ def compare_filters(program, filter_program, folder):
         options = [word for owner in owners for word in ("--owner", owner)]
         right, other = (
             subprocess.run(words, input=data, capture_output=True)
-            for words in ([program, "filter", *options, rule], [filter_program, rule, *owners])
+            for words in ([program, "filter", *options, rule], [*RUN, filter_program, rule, *owners])
         )
         written += len(right.stdout) > 0
         if (right.stdout, right.stderr, right.returncode) != (other.stdout, other.stderr, other.returncode):
@@ -138,7 +141,7 @@ def compare_builds(program, builder, folder):
     differing = built = 0
     for sample, (words, changed) in itertools.product(SAMPLES, BUILT):
         data = capture(folder, sample)
-        made = subprocess.run([builder, *words], input=data, capture_output=True).stdout
+        made = subprocess.run([*RUN, builder, *words], input=data, capture_output=True).stdout
         before, after = ([json.loads(line) for line in answer([program, "json"], it)[0].split("\n")] for it in (data, made))
         right = list(filter(None, map(changed, before)))
         for line in right + after:
@@ -160,7 +163,7 @@ def main(program, listers, swappers, filters, builder, *checkers):
         right = answer([program, "check"], data)
         kinds[right[0].split(" ")[-1] if right[1] else "ok"] += 1
         for checker in checkers:
-            other = answer([checker], data)
+            other = answer([*RUN, checker], data)
             if other != right:
                 differing += 1
                 print(f"{name}: {program} says {right}, {checker} says {other}")

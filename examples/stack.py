@@ -1,5 +1,6 @@
 #!/usr/bin/env python3
-"""stack.py LIBRARY MOST: prints the bytes of stack that each call of the shared library needs, and fails if one needs more than MOST.
+"""stack.py LIBRARY MOST [aarch64-linux-gnu]: prints the bytes of stack that each call of the shared library, for this system or that one, needs, and fails
+if one needs more than MOST.
 
 They are read from the machine code: what a function pushes and takes off the stack pointer, its return address, and the most that a
 function needs that it calls or jumps to. Functions that call one another do so once for each container that is open, of which the
@@ -7,46 +8,65 @@ specification allows 64; they are counted once a container, all of them, and onc
 here too. What memcpy and the like of the C library need comes on top.
 """
 
+import collections
 import functools
 import re
 import subprocess
 import sys
 
+# Of a machine the bytes that a call pushes, and how its code is spelled: the stack pointer; what is pushed, by its bytes if they vary; what is taken off,
+# in pages or not; a call or a jump; and what is not known here.
+Machine = collections.namedtuple("Machine", "address stack push take goto other")
+MACHINES = {
+    "": Machine(
+        8,
+        "rsp",
+        re.compile(r"\tpush\s"),
+        re.compile(r"\tsub\s+\$0x(?P<count>[0-9a-f]+),%(?P<to>rsp|r11)(?P<pages>)$"),
+        re.compile(r"\t(call|j\w+)\s+[0-9a-f]+ <([^+>]+)(?:\+0x[0-9a-f]+)?>"),
+        re.compile(r"\t(?:call\s+\*|and\s.*,%rsp|lea\s.*,%rsp$)"),
+    ),
+    "aarch64-linux-gnu": Machine(
+        0,
+        "sp",
+        re.compile(r"\[sp, #-(\d+)\]!"),
+        re.compile(r"\tsub\t(?P<to>sp|x\d+), sp, #0x(?P<count>[0-9a-f]+)(?P<pages>, lsl #12)?$"),
+        re.compile(r"\t(bl|b|b\.\w+|cbn?z|tbn?z)\t(?:.*, )?[0-9a-f]+ <([^+>]+)(?:\+0x[0-9a-f]+)?>"),
+        re.compile(r"\t(?:blr\t|and\tsp,|sub\tsp, \w+, [wx])"),
+    ),
+}
 HEAD = re.compile(r"^[0-9a-f]+ <(.+)>:$")
-PUSH = re.compile(r"\tpush\s")
-TAKE = re.compile(r"\tsub\s+\$0x([0-9a-f]+),%(rsp|r11)$")
-GOTO = re.compile(r"\t(call|j\w+)\s+[0-9a-f]+ <([^+>]+)(?:\+0x[0-9a-f]+)?>")
-OTHER = re.compile(r"\t(?:call\s+\*|and\s.*,%rsp|lea\s.*,%rsp$)")
-ADDRESS = 8
+CALLS = ("call", "bl")
 LEVELS = 64 + 1
 
 
-def read_functions(library):
+def read_functions(library, target):
     """Of each function of ours the bytes that it takes itself, and those that it calls or jumps to."""
-    text = subprocess.run(["objdump", "-d", "--no-show-raw-insn", library], capture_output=True, text=True, check=True).stdout
+    machine, tool = MACHINES[target], f"{target}-objdump" if target else "objdump"
+    text = subprocess.run([tool, "-d", "--no-show-raw-insn", library], capture_output=True, text=True, check=True).stdout
     frames, calls, name, is_probed = {}, {}, "", False
-    for line in text.splitlines():
+    for line in map(str.rstrip, text.splitlines()):
         if head := HEAD.match(line):
             name = head[1]
             if name.startswith("dbus_"):
-                frames[name], calls[name] = ADDRESS, set()
+                frames[name], calls[name] = machine.address, set()
         elif name not in frames:
             continue
-        elif PUSH.search(line):
-            frames[name] += ADDRESS
-        elif take := TAKE.search(line.rstrip()):
-            # A large frame is taken page by page down to %r11: the steps are no frames of their own.
-            frames[name] += 0 if is_probed else int(take[1], 16)
-            is_probed = take[2] == "r11"
-        elif OTHER.search(line):
+        elif push := machine.push.search(line):
+            frames[name] += int(push[1]) if push.groups() else machine.address
+        elif take := machine.take.search(line):
+            # A large frame is taken page by page down to another register: the steps are no frames of their own.
+            frames[name] += 0 if is_probed else int(take["count"], 16) << (12 if take["pages"] else 0)
+            is_probed = take["to"] != machine.stack
+        elif machine.other.search(line):
             sys.exit(f"{name}: {line.strip()} is not known here")
-        elif (goto := GOTO.search(line)) and (goto[2] != name or goto[1] == "call"):
+        elif (goto := machine.goto.search(line)) and (goto[2] != name or goto[1] in CALLS):
             calls[name].add(goto[2])
     return frames, {name: {it for it in called if it in frames} for name, called in calls.items()}
 
 
-def main(library, most):
-    frames, calls = read_functions(library)
+def main(library, most, target=""):
+    frames, calls = read_functions(library, target)
 
     @functools.cache
     def reached(name):

@@ -4,9 +4,10 @@
 The numbers of message types, flags, header fields, answers, mechanisms, commands of lines, rooms and rules on indexes are those of the
 crates' constants, and those of kinds of text are those of `kind_of` in dbus_c. The names of reasons, as HABITS prints them, are those of the header's constants. The version is the
 program's. What TEXTS says of the cases of names and signatures, and LINES of those of a handshake's lines (cases/README.md), is what these
-say. The exit status is 1 if not.
+say. All but PROGRAM are run by the words in RUN, if it has any. The exit status is 1 if not.
 """
 
+import os
 import pathlib
 import re
 import subprocess
@@ -16,6 +17,8 @@ ROOT = pathlib.Path(__file__).resolve().parent.parent
 sys.path.insert(0, str(ROOT / "cases"))
 from read_cases import read_bytes, read_cases  # noqa: E402
 
+# The words that run what is compared.
+RUN = os.environ.get("RUN", "").split()
 CONSTANTS = (
     ("TYPE_", "dbus_message_model/src/message_type.rt"),
     ("FLAG_", "dbus_message_model/src/flag.rt"),
@@ -79,7 +82,7 @@ def text_cases(numbers):
 
 def differing_texts(program, numbers):
     cases = [(kind, read_bytes(text), said) for kind, text, said in text_cases(numbers)]
-    lines = run(program, given="".join(f"{kind} {text.hex()}\n" for kind, text, _ in cases))
+    lines = run(*RUN, program, given="".join(f"{kind} {text.hex()}\n" for kind, text, _ in cases))
     accepted = ("unique", "well-known")
     right = ["accepted" if said in accepted else re.sub("^too long .*", "too long", said) for *_, said in cases]
     print(f"{len(cases)} texts checked")
@@ -125,7 +128,7 @@ def is_said(told, right):
 def differing_lines(program):
     wrong, count = [], 0
     for count, (side, sent, right) in enumerate(line_cases(), 1):
-        told = subprocess.run([program, side], input=sent, capture_output=True).stdout.splitlines()
+        told = subprocess.run([*RUN, program, side], input=sent, capture_output=True).stdout.splitlines()
         if len(told) != len(right) or not all(map(is_said, told, right)):
             wrong.append(f"{side} {sent[:99]!r}: {told}, not {right}")
     print(f"{count} texts of a handshake's lines checked")
@@ -147,7 +150,7 @@ def main(habits, texts, lines, program):
     hold("rules", of_prefix(numbers, "FDS_"), {"ANY": rules["ANY_INDEX"], "BELOW_COUNT": rules["INDEX_BELOW_COUNT"]})
     text_kinds = of_prefix(numbers, "TEXT_")
     hold("kinds of text", text_kinds, kinds())
-    names = [line.split() for line in run(habits)]
+    names = [line.split() for line in run(*RUN, habits)]
     for prefix in ("REASON_", "RULE_REASON_"):
         hold(prefix, of_prefix(numbers, prefix), {upper(name): int(number) for which, number, name in names if which == prefix})
     header = (ROOT / "include" / "dbus_wire.h").read_text()

@@ -1,19 +1,27 @@
 #!/bin/sh
-# test.sh PROGRAM ARCHIVE SHARED: builds the examples over the archive, and compares what they write with what `PROGRAM check` does:
+# test.sh PROGRAM ARCHIVE SHARED [TARGET WORD..]: builds the examples over the archive, and compares what they write with what `PROGRAM check` does:
 # of the captures in samples/ and of messages of which a byte is changed; the C example once more under AddressSanitizer, and over
 # the shared library; the callers in C under valgrind, if it is there. Compares the header's numbers with the crates', and what is said
 # of texts and of a handshake's lines with their cases. Runs the fuzz target over the captures and changed copies of their messages;
-# shakes hands with a bus and with a client, if they are there; tests the Rust crate, and compares what its examples write.
+# shakes hands with a bus and with a client, if they are there; tests the Rust crate, and compares what its examples write. Of a library for another
+# system, by GNU's name TARGET, whose programs the words run, it tries the callers in C alone, and without sanitizers and valgrind.
 set -eu
-program=$1 archive=$2 shared=$3
+program=$1 archive=$2 shared=$3 target=${4:-}
+shift 3
+tools=${target:+$target-}
+if [ -n "$target" ]; then shift; fi
+# The words that run a caller, nothing for this system. compare.py and tables.py have them from the environment.
+run="$*"
+export RUN="$run"
 here=$(cd "$(dirname "$0")" && pwd)
-built=$here/../out/examples
+built=$here/../out/${target:+$target/}examples
 mkdir -p "$built"
 cp "$archive" "$built/libdbus_wire.a"
 
 : "${CC:=cc}" "${CXX:=c++}"
 flags="-I$here/../include -Wall -Wextra -Wpedantic -Werror"
-sanitized="-std=c99 -g -fsanitize=address,undefined $flags"
+sanitized="-std=c99 -g $flags"
+if [ -z "$target" ]; then sanitized="-fsanitize=address,undefined $sanitized"; fi
 # Ends if the command does not fail: after `!`, set -e looks at no status.
 must_fail() {
 	if "$@"; then
@@ -23,15 +31,15 @@ must_fail() {
 }
 
 # One object of the archive, the kit's, takes and frees memory for the other.
-if nm -A -u "$archive" | grep -v ':heap.pic.o:' | grep -Ew 'malloc|calloc|realloc|aligned_alloc|posix_memalign|mmap|sbrk|free'; then
+if "${tools}nm" -A -u "$archive" | grep -v ':heap.pic.o:' | grep -Ew 'malloc|calloc|realloc|aligned_alloc|posix_memalign|mmap|sbrk|free'; then
 	echo "the archive takes memory"
 	exit 1
 fi
 # The shared library exports the calls that the header declares, and needs the C library alone.
 sed -n 's/^\(DBUS_WIRE_[A-Z_]*((.*)) \)\{0,1\}\(void\|uint[0-9]*_t\|size_t\) \(dbus_wire_[a-z_]*\)(.*/\3/p' "$here/../include/dbus_wire.h" | sort > "$built/declared"
-nm -D --defined-only "$shared" | sed -n 's/.* T \([a-z_]*\).*/\1/p' | sort | diff "$built/declared" -
-test "$(objdump -p "$shared" | grep -c NEEDED)" = 1
-"$here/stack.py" "$shared" 131072
+"${tools}nm" -D --defined-only "$shared" | sed -n 's/.* T \([a-z_]*\).*/\1/p' | sort | diff "$built/declared" -
+test "$("${tools}objdump" -p "$shared" | grep -c NEEDED)" = 1
+"$here/stack.py" "$shared" 131072 $target
 # The header is C99 and C++, and the archive needs no other.
 echo '#include <dbus_wire.h>' | "$CXX" $flags -x c++ -fsyntax-only -
 "$CC" -std=c99 -O2 $flags -o "$built/check" "$here/c/check.c" -L"$built" -ldbus_wire
@@ -42,18 +50,18 @@ for name in list swap rules build signal room habits texts lines pieces threads 
 	"$CC" -std=c99 -O2 -g $flags -pthread -o "$built/plain_$name" "$here/c/$name.c" -L"$built" -ldbus_wire
 done
 for sample in session big-endian; do
-	for name in room threads "sharing type='signal' member='NameAcquired' sender='org.a.B'"; do "$built/"$name < "$here/../samples/$sample.dbus"; done
-	for length in 1 64 4096; do "$built/pieces" $length < "$here/../samples/$sample.dbus"; done
+	for name in room threads "sharing type='signal' member='NameAcquired' sender='org.a.B'"; do $run "$built/"$name < "$here/../samples/$sample.dbus"; done
+	for length in 1 64 4096; do $run "$built/pieces" $length < "$here/../samples/$sample.dbus"; done
 done
 # Each growth is refused in turn: a caller ends by a status of its own, and has written a front of what it writes else.
 "$CC" -shared -fPIC -O2 -o "$built/refuse_nth.so" "$here/../bench/refuse_nth.c" -ldl
 try_growths() {
 	name=$1
 	shift
-	"$built/plain_$name" "$@" < "$here/../samples/session.dbus" > "$built/whole" || true
+	$run "$built/plain_$name" "$@" < "$here/../samples/session.dbus" > "$built/whole" || true
 	for nth in $(seq 60); do
 		status=0
-		REFUSE_NTH=$nth LD_PRELOAD=$built/refuse_nth.so "$built/plain_$name" "$@" < "$here/../samples/session.dbus" > "$built/front" 2> "$built/said" || status=$?
+		REFUSE_NTH=$nth LD_PRELOAD=$built/refuse_nth.so $run "$built/plain_$name" "$@" < "$here/../samples/session.dbus" > "$built/front" 2> "$built/said" || status=$?
 		test "$status" -lt 126
 		head -c "$(stat -c %s "$built/front")" "$built/whole" | cmp - "$built/front"
 	done
@@ -64,15 +72,15 @@ try_growths pieces 64
 try_growths build again
 # Both ends of a handshake: one with the other, a client with a bus, and a server with a client of libdbus.
 "$CC" $sanitized -D_GNU_SOURCE -o "$built/handshake" "$here/c/handshake.c" -L"$built" -ldbus_wire
-for length in 1 7 4096; do "$built/handshake" pieces $length; done
+for length in 1 7 4096; do $run "$built/handshake" pieces $length; done
 sockets=$(mktemp -d) proxy=
 if command -v dbus-daemon > /dev/null; then
 	bus=$(dbus-daemon --session --fork --print-pid --address="unix:path=$sockets/bus")
 	trap 'kill "$bus" $proxy' EXIT
-	"$built/handshake" client "$sockets/bus"
+	$run "$built/handshake" client "$sockets/bus"
 	# A client behind a proxy asks the bus, but not for what a rule of the proxy's denies.
 	"$CC" $sanitized -D_GNU_SOURCE -o "$built/proxy" "$here/c/proxy.c" -L"$built" -ldbus_wire
-	"$built/proxy" "$sockets/door" "$sockets/bus" "type='method_call',member='GetId'" & proxy=$!
+	$run "$built/proxy" "$sockets/door" "$sockets/bus" "type='method_call',member='GetId'" & proxy=$!
 	while test ! -S "$sockets/door"; do sleep 0.1; done
 	if command -v dbus-send > /dev/null; then
 		ask="dbus-send --bus=unix:path=$sockets/door --print-reply --dest=org.freedesktop.DBus / org.freedesktop.DBus"
@@ -84,7 +92,7 @@ if command -v dbus-daemon > /dev/null; then
 	trap - EXIT
 fi
 if command -v dbus-send > /dev/null; then
-	timeout 20 "$built/handshake" server "$sockets/peer" & server=$!
+	timeout 20 $run "$built/handshake" server "$sockets/peer" & server=$!
 	while test ! -S "$sockets/peer"; do sleep 0.1; done
 	dbus-send --peer="unix:path=$sockets/peer" --type=signal /a b.c.Greeting
 	wait "$server"
@@ -93,18 +101,18 @@ rm -rf "$sockets"
 # A checker for which there is no memory is not made.
 for nth in 1 2; do
 	status=0
-	LD_PRELOAD=$built/refuse_nth.so REFUSE_NTH=$nth "$built/plain_pieces" < "$here/../samples/session.dbus" || status=$?
+	LD_PRELOAD=$built/refuse_nth.so REFUSE_NTH=$nth $run "$built/plain_pieces" < "$here/../samples/session.dbus" || status=$?
 	test $status = 3
 done
 # An end for which there is no memory is not made; one that has too little for a call goes on by the same call.
 "$CC" -std=c99 -O2 -D_GNU_SOURCE $flags -o "$built/handshake_plain" "$here/c/handshake.c" -L"$built" -l:libdbus_wire.a
 for nth in $(seq 1 60); do
 	status=0
-	LD_PRELOAD=$built/refuse_nth.so REFUSE_NTH=$nth "$built/handshake_plain" pieces 7 > "$built/said" 2>&1 || status=$?
+	LD_PRELOAD=$built/refuse_nth.so REFUSE_NTH=$nth $run "$built/handshake_plain" pieces 7 > "$built/said" 2>&1 || status=$?
 	test $status = 0 || grep -qx 'no client\|no server' "$built/said"
 done
 # In the library's machine code too, which no sanitizer sees, no caller touches a byte that is not its own, or keeps a block to its end.
-if command -v valgrind > /dev/null; then
+if [ -z "$target" ] && command -v valgrind > /dev/null; then
 	under_valgrind() { valgrind --quiet --leak-check=full --error-exitcode=9 "$@"; }
 	under_valgrind "$built/plain_signal" Name "a b" Number 7 > "$built/one"
 	under_valgrind "$built/plain_room" < "$built/one"
@@ -114,21 +122,21 @@ if command -v valgrind > /dev/null; then
 	under_valgrind "$built/handshake_plain" pieces 7
 	printf '\0AUTH EXTERNAL 31303030\r\nBEGIN\r\nl' | under_valgrind "$built/plain_lines" client > "$built/said"
 else
-	echo "no valgrind here: the callers are not tried under it"
+	echo "no valgrind here, or none for the system: the callers are not tried under it"
 fi
 # No message is built if there is no memory (stdio takes the first block), or of parts that no message has.
-must_fail env LD_PRELOAD="$built/refuse_nth.so" REFUSE_NTH=2 "$built/plain_build" < "$here/../samples/session.dbus" 2> "$built/told" > /dev/null
+must_fail env LD_PRELOAD="$built/refuse_nth.so" REFUSE_NTH=2 $run "$built/plain_build" < "$here/../samples/session.dbus" 2> "$built/told" > /dev/null
 grep -q 'out of memory' "$built/told"
-must_fail "$built/build" serial 0 < "$here/../samples/session.dbus" 2> "$built/told"
+must_fail $run "$built/build" serial 0 < "$here/../samples/session.dbus" 2> "$built/told"
 grep -q 'is 0$' "$built/told"
 # A body that is spelled value by value is read as these values.
-"$built/signal" Name "a b" Number 7 | "$program" show > "$built/said"
+$run "$built/signal" Name "a b" Number 7 | "$program" show > "$built/said"
 grep -q "a b" "$built/said"
 "$here/tables.py" "$built/habits" "$built/texts" "$built/lines" "$program"
 # The fuzz target finds nothing, and finds a parser that takes everything for a message.
 try_fuzz() {
 	"$CC" $sanitized -I"$here/fuzz" -o "$built/fuzz" "$here/fuzz/fuzz.c" "$here/fuzz/files.c" "$@" -L"$built" -ldbus_wire
-	"$built/fuzz" "$changes" "$here/../samples/session.dbus" "$here/../samples/big-endian.dbus"
+	$run "$built/fuzz" "$changes" "$here/../samples/session.dbus" "$here/../samples/big-endian.dbus"
 }
 changes=100 try_fuzz
 printf '#include "fuzz.h"\nuint32_t their_check(const uint8_t *bytes, size_t length) { return bytes == NULL && length > 0; }\n' > "$built/all.c"
@@ -136,13 +144,16 @@ if (changes=1 try_fuzz "$built/all.c") 2> /dev/null; then
 	echo "the fuzz target does not find a parser that takes everything"
 	exit 1
 fi
-if pkg-config --exists dbus-1; then
+if [ -z "$target" ] && pkg-config --exists dbus-1; then
 	changes=0 try_fuzz "$here/fuzz/peer.c" "$here/../cases/peers/libdbus.c" $(pkg-config --cflags --libs dbus-1)
 fi
 
 listers=$built/list swappers=$built/swap filters=$built/rules
-set -- "$built/check" "$built/check_sanitized" "$built/check_shared" "$built/plain_pieces"
-if command -v cargo > /dev/null; then
+set -- "$built/check" "$built/check_shared" "$built/plain_pieces"
+if [ -z "$target" ]; then set -- "$@" "$built/check_sanitized"; fi
+if [ -n "$target" ]; then
+	echo "for $target the Rust crate is not tried"
+elif command -v cargo > /dev/null; then
 	export DBUS_WIRE_LIB_DIR="$built" CARGO_TARGET_DIR="$built/rust"
 	cargo test --quiet --offline --manifest-path "$here/../rust/Cargo.toml"
 	cargo build --quiet --offline --release --examples --manifest-path "$here/../rust/Cargo.toml"
