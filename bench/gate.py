@@ -1,9 +1,10 @@
 #!/usr/bin/env python3
 """gate.py [--all]: the gate. Runs `rt ci` over a copy of the repository. Over what that builds it meanwhile tries the wrong bodies of the crates that
-are due and those that are always tried; with --all, all of them (bench/trying.py). Then it asks the programs that answer questions on the cases, and makes
-the runs that are stored in runs/ of programs, as each of two compilers built these (cases/README.md).
+are due and those that are always tried; with --all, all of them (bench/trying.py). Then it asks the programs that answer questions on the cases, makes
+the runs that are stored in runs/ of programs, and has dbus-wire read captures, as each of two compilers built these (cases/README.md).
 
-The last line says how many crates, programs of questions, stored runs and wrong bodies passed, and how many failed; the exit status is 1 if one did.
+The last line says how many crates, programs of questions, stored runs, readings of all captures and wrong bodies passed, and how many failed; the exit
+status is 1 if one did.
 """
 
 import contextlib
@@ -65,6 +66,13 @@ def make(program, run):
     return is_well
 
 
+def read_captures(copy, program):
+    """Whether the program reads all captures as the cases have them."""
+    is_well = program.exists() and run_in(copy, "cases/captures.py", str(program))[0] == 0
+    print(f"{program.name}: {'all captures read' if is_well else 'captures read wrongly, or it is not there'}", flush=True)
+    return is_well
+
+
 def main(*words):
     if words not in ((), ("--all",)):
         print(__doc__, file=sys.stderr)
@@ -78,6 +86,7 @@ def main(*words):
         status, (passed, failed) = run_in(copy, "rt", "ci", note=rounds.note)
         answered = [ask(copy, name, program) for name in asked_programs() for program in built(copy, name)]
         answered += [make(program, run) for name, run in stored_runs() for program in built(copy, name)]
+        answered += [read_captures(copy, program) for program in built(copy, "dbus_wire")]
         missed = rounds.missed()
     passed += answered.count(True) + len(edits) - missed
     failed += answered.count(False) + missed

@@ -1,5 +1,24 @@
 # The completion of dbus-wire's commands and options, for bash.
 
+# The last part of a match rule, KEY=VALUE,KEY=VALUE: a key that the rule does not have yet, or its value. Bash replaces
+# what follows the last `=`, and within quotation marks the whole rule, which is not completed.
+_dbus_wire_rule() {
+    local rule=${COMP_LINE:0:COMP_POINT} key keys=
+    rule=${rule##*[[:space:]]}
+    [[ $rule == [\"\']* ]] && return
+    local last=${rule##*,}
+    local front=${rule%"$last"}
+    if [[ $last == *=* ]]; then
+        [[ $last == type=* ]] && COMPREPLY=($(compgen -W 'signal method_call method_return error' -- "${last#*=}"))
+        return
+    fi
+    for key in type sender interface member path path_namespace destination arg0 arg0path arg0namespace; do
+        [[ ,$front == *,$key=* ]] || keys+=" $key="
+    done
+    compopt -o nospace
+    COMPREPLY=($(compgen -P "${front##*=}" -W "$keys" -- "$last"))
+}
+
 _dbus_wire() {
     local word=${COMP_WORDS[COMP_CWORD]} option=${COMP_WORDS[COMP_CWORD-1]}
     local commands='show json check count swap filter handshake help'
@@ -43,8 +62,7 @@ _dbus_wire() {
             if [[ $word == -* ]]; then
                 COMPREPLY=($(compgen -W "--invert --owner --learn-owners --skip --limit --keep-going $options" -- "$word"))
             else
-                compopt -o nospace
-                COMPREPLY=($(compgen -W 'type= sender= interface= member= path= path_namespace= destination=' -- "$word"))
+                _dbus_wire_rule
             fi
             ;;
         show | json)

@@ -1,5 +1,19 @@
 # The completion of dbus-wire's commands and options, for fish.
 
+# A match rule, KEY=VALUE,.., as far as it is written, and what its last part can be: a key that the rule does not have
+# yet, or a type.
+function __dbus_wire_rule
+    set -l front (string match -r '^.*,' -- (commandline -ct))
+    set -l last (string replace -r '^.*,' '' -- (commandline -ct))
+    if string match -q 'type=*' -- $last
+        printf '%s\n' "$front"type={signal,method_call,method_return,error}
+    else if not string match -q '*=*' -- $last
+        for key in type sender interface member path path_namespace destination arg0 arg0path arg0namespace
+            string match -q "*,$key=*" -- ",$front"; or echo "$front$key="
+        end
+    end
+end
+
 set -l commands show json check count swap filter handshake help
 
 complete -c dbus-wire -n "not __fish_seen_subcommand_from $commands" -f
@@ -19,7 +33,7 @@ complete -c dbus-wire -n '__fish_seen_subcommand_from handshake' -l side -x -a '
 complete -c dbus-wire -n '__fish_seen_subcommand_from filter' -l invert -f -d 'Write the messages that match no rule'
 complete -c dbus-wire -n '__fish_seen_subcommand_from filter' -l owner -x -d 'The owner of a well-known name, NAME=UNIQUE'
 complete -c dbus-wire -n '__fish_seen_subcommand_from filter' -l learn-owners -f -d 'Learn owners from signals of the bus'
-complete -c dbus-wire -n '__fish_seen_subcommand_from filter' -f -a 'type= sender= interface= member= path= path_namespace= destination='
+complete -c dbus-wire -n '__fish_seen_subcommand_from filter' -f -a '(__dbus_wire_rule)'
 complete -c dbus-wire -n '__fish_seen_subcommand_from show json filter' -l skip -x -d 'Messages to skip first'
 complete -c dbus-wire -n '__fish_seen_subcommand_from show json filter' -l limit -x -d 'Most messages to write'
 complete -c dbus-wire -n '__fish_seen_subcommand_from show json check count filter' -l keep-going -f -d 'Go on after a refused message'

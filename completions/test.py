@@ -31,15 +31,25 @@ ESCAPES = re.compile(r"\x1b\[[0-9;?]*[a-zA-Z]|\x1b[=>]|[\x07\x0f]")
 # More rows and columns than any list has.
 WINDOW = struct.pack("HHHH", 200, 160, 0, 0)
 
-# The lines before Tab, and what each completes.
+KEYS = {"type", "sender", "interface", "member", "path", "path_namespace", "destination", "arg0", "arg0path", "arg0namespace"}
+
+# The lines before Tab, and what each completes, of a match rule its last part.
 VALUES = {
     "swap --to ": {"l", "B"},
     "swap --fds ": {"any", "below-count"},
     "check --fds=": {"any", "below-count"},
     "show --handshake ": {"client", "server"},
     "handshake --side=": {"client", "server"},
-    "filter ": {f"{key}=" for key in ("type", "sender", "interface", "member", "path", "path_namespace", "destination")},
+    "filter ": KEYS,
+    "filter type=": {"signal", "method_call", "method_return", "error"},
+    "filter type=signal,": KEYS - {"type"},
+    "filter type=signal,arg": {"arg0", "arg0path", "arg0namespace"},
 }
+
+
+def last_part(word):
+    """What a word adds to the line: the option, or the last part of OPTION=VALUE and KEY=VALUE,KEY=.."""
+    return re.split("[=,]", word.rstrip("="))[-1]
 
 
 def wanted():
@@ -87,7 +97,7 @@ class Terminal:
         self.send("\x15")
         self.read()
         listed = text.replace("\r", "\n").partition("\n")[2].rpartition(PROMPT)[0]
-        return {it.rstrip("=") if it.startswith("-") else it for it in listed.split()}
+        return {last_part(it) for it in listed.split()}
 
     def close(self):
         os.close(self.end)
@@ -103,9 +113,7 @@ class Fish:
     def completed(self, line):
         script = f'source "{self.file}"; complete -C "dbus-wire {line}"'
         listed = subprocess.run(["fish", "--no-config", "-c", script], capture_output=True, text=True, check=True, stdin=subprocess.DEVNULL).stdout
-        words = [it.partition("\t")[0] for it in listed.splitlines()]
-        # It gives the option with the value.
-        return {it if it in ("--help",) or not re.match(r"--[a-z]+=.", it) else it.partition("=")[2] for it in words}
+        return {last_part(it.partition("\t")[0]) for it in listed.splitlines()}
 
     def close(self):
         pass

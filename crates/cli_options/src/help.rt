@@ -71,6 +71,9 @@ pub(crate) const PROGRAM_MORE: &str = more!(
 /// What `show` does.
 pub(crate) const SHOW: &str = "Writes each message as text";
 
+/// How `show` is called.
+pub(crate) const SHOW_USAGE: &str = "dbus-wire show [OPTIONS] < FILE";
+
 /// What follows the help of `show`.
 pub(crate) const SHOW_MORE: &str = more!(
     going "
@@ -83,6 +86,9 @@ pub(crate) const SHOW_MORE: &str = more!(
 
 /// What `json` does.
 pub(crate) const JSON: &str = "Writes each message as a line of JSON";
+
+/// How `json` is called.
+pub(crate) const JSON_USAGE: &str = "dbus-wire json [OPTIONS] < FILE";
 
 /// What follows the help of `json`.
 pub(crate) const JSON_MORE: &str = more!(
@@ -103,6 +109,9 @@ pub(crate) const JSON_MORE: &str = more!(
 /// What `check` does.
 pub(crate) const CHECK: &str = "Checks that the input is messages, and counts them";
 
+/// How `check` is called.
+pub(crate) const CHECK_USAGE: &str = "dbus-wire check [OPTIONS] < FILE";
+
 /// What follows the help of `check`.
 pub(crate) const CHECK_MORE: &str = more!(
     going "
@@ -114,6 +123,9 @@ pub(crate) const CHECK_MORE: &str = more!(
 
 /// What `count` does.
 pub(crate) const COUNT: &str = "Counts the messages of each type, sender, member and so on";
+
+/// How `count` is called.
+pub(crate) const COUNT_USAGE: &str = "dbus-wire count [OPTIONS] < FILE";
 
 /// What follows the help of `count`.
 pub(crate) const COUNT_MORE: &str = more!(
@@ -134,6 +146,9 @@ pub(crate) const COUNT_JSON: &str = "Writes each line of the tables as JSON";
 /// What `swap` does.
 pub(crate) const SWAP: &str = "Writes each message in one byte order";
 
+/// How `swap` is called.
+pub(crate) const SWAP_USAGE: &str = "dbus-wire swap [OPTIONS] --to <ORDER> < FILE";
+
 /// What follows the help of `swap`.
 pub(crate) const SWAP_MORE: &str = more!(
     "
@@ -150,13 +165,17 @@ pub(crate) const ORDER: &str = "The byte order: l is little-endian, B is big-end
 /// What `filter` does.
 pub(crate) const FILTER: &str = "Writes the messages that match a rule, as they came";
 
+/// How `filter` is called.
+pub(crate) const FILTER_USAGE: &str = "dbus-wire filter [OPTIONS] <RULE>... < FILE";
+
 /// What follows the help of `filter`.
 pub(crate) const FILTER_MORE: &str = more!(
     going "
   The raw messages that match one of the rules, or with --invert none of them,
-  on standard output, each as it came. If the input is refused,
-  `refused at P: NAME` on standard error. If a rule is refused, the first such
-  rule gives `rule refused at P: NAME` there, with the place in the rule.
+  on standard output, each as it came. Each word is a rule: `type=error,member=M`
+  asks for both, and `type=error member=M` for one of the two. If the input is
+  refused, `refused at P: NAME` on standard error. If a rule is refused, the
+  first such rule gives `rule refused at P: NAME` there, with the place in it.
 
   Who owns a well-known name is not known, so sender='org.a.B' matches only a
   message that has that name itself. With --owner org.a.B=:1.7 it also matches
@@ -208,6 +227,9 @@ pub(crate) const HANDSHAKE: &str = "Whose handshake comes first: client or serve
 
 /// What `handshake` does.
 pub(crate) const HANDSHAKES: &str = "Lists the lines before the messages, and what each says";
+
+/// How `handshake` is called.
+pub(crate) const HANDSHAKES_USAGE: &str = "dbus-wire handshake --side <SIDE> < FILE";
 
 /// What follows the help of `handshake`.
 pub(crate) const HANDSHAKES_MORE: &str = "Input:

@@ -74,11 +74,13 @@ fn bare<'a>(
     alloc: Global,
     name: &'a str,
     about: &'a str,
+    usage: &'a str,
     more: &'a str,
 ) -> Result<Command<'a>, AllocError>
     ensures { IfOk result (IsLocal (new_app name.entry.now)) }
 {
-    Ok(Command::new(alloc, name).about(about).after_help(more))
+    let command = Command::new(alloc, name).override_usage(usage);
+    Ok(command.about(about).after_help(more))
 }
 
 // The command with one more argument.
@@ -146,28 +148,49 @@ fn with_window<'a>(
 fn show_command<'a>(alloc: Global) -> Result<Command<'a>, AllocError>
     ensures { IfOk result (IsLocal show_app) }
 {
-    with_window(alloc, bare(alloc, "show", help::SHOW, help::SHOW_MORE))
+    with_window(
+        alloc,
+        bare(alloc, "show", help::SHOW, help::SHOW_USAGE, help::SHOW_MORE),
+    )
 }
 
 // `json`, which takes no words but its options.
 fn json_command<'a>(alloc: Global) -> Result<Command<'a>, AllocError>
     ensures { IfOk result (IsLocal json_app) }
 {
-    with_window(alloc, bare(alloc, "json", help::JSON, help::JSON_MORE))
+    with_window(
+        alloc,
+        bare(alloc, "json", help::JSON, help::JSON_USAGE, help::JSON_MORE),
+    )
 }
 
 // `check`, which takes no words but its options.
 fn check_command<'a>(alloc: Global) -> Result<Command<'a>, AllocError>
     ensures { IfOk result (IsLocal check_app) }
 {
-    with_keep_going(alloc, bare(alloc, "check", help::CHECK, help::CHECK_MORE))
+    with_keep_going(
+        alloc,
+        bare(
+            alloc,
+            "check",
+            help::CHECK,
+            help::CHECK_USAGE,
+            help::CHECK_MORE,
+        ),
+    )
 }
 
 // `count`, with its flag.
 fn count_command<'a>(alloc: Global) -> Result<Command<'a>, AllocError>
     ensures { IfOk result (IsLocal count_app) }
 {
-    let count = bare(alloc, "count", help::COUNT, help::COUNT_MORE);
+    let count = bare(
+        alloc,
+        "count",
+        help::COUNT,
+        help::COUNT_USAGE,
+        help::COUNT_MORE,
+    );
     let formed = with_arg(count, flag(alloc, "json", help::COUNT_JSON));
     with_keep_going(alloc, formed)
 }
@@ -176,7 +199,7 @@ fn count_command<'a>(alloc: Global) -> Result<Command<'a>, AllocError>
 fn swap_command<'a>(alloc: Global) -> Result<Command<'a>, AllocError>
     ensures { IfOk result (IsLocal swap_app) }
 {
-    let swap = bare(alloc, "swap", help::SWAP, help::SWAP_MORE);
+    let swap = bare(alloc, "swap", help::SWAP, help::SWAP_USAGE, help::SWAP_MORE);
     let to = needed_option(alloc, "to", "ORDER", help::ORDER);
     with_options(alloc, with_arg(swap, to))
 }
@@ -185,7 +208,13 @@ fn swap_command<'a>(alloc: Global) -> Result<Command<'a>, AllocError>
 fn filter_command<'a>(alloc: Global) -> Result<Command<'a>, AllocError>
     ensures { IfOk result (IsLocal filter_app) }
 {
-    let filter = bare(alloc, "filter", help::FILTER, help::FILTER_MORE);
+    let filter = bare(
+        alloc,
+        "filter",
+        help::FILTER,
+        help::FILTER_USAGE,
+        help::FILTER_MORE,
+    );
     let ruled = with_arg(filter, rule_argument(alloc));
     let inverting = with_arg(ruled, flag(alloc, "invert", help::INVERT));
     let owning = with_arg(inverting, owner_option(alloc));
@@ -197,7 +226,13 @@ fn filter_command<'a>(alloc: Global) -> Result<Command<'a>, AllocError>
 fn handshake_command<'a>(alloc: Global) -> Result<Command<'a>, AllocError>
     ensures { IfOk result (IsLocal handshake_app) }
 {
-    let handshake = bare(alloc, "handshake", help::HANDSHAKES, help::HANDSHAKES_MORE);
+    let handshake = bare(
+        alloc,
+        "handshake",
+        help::HANDSHAKES,
+        help::HANDSHAKES_USAGE,
+        help::HANDSHAKES_MORE,
+    );
     with_arg(handshake, needed_option(alloc, "side", "SIDE", help::SIDE))
 }
 
