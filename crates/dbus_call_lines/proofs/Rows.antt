@@ -20,7 +20,7 @@ use Rattle.dbus_call_lines.specs.Outcomes.Outcome.{Unwanted, Open}
 -- ---- lists
 
 module _ {A : Type 0} where
-  none_in : (x : A) → Contains [] x → ⊥
+  pub none_in : (x : A) → Contains [] x → ⊥
   none_in x h = omega (arith, h.1)
 
   pub here : (x : A) (xs : List A) → Contains (x ∷ xs) x
@@ -29,14 +29,14 @@ module _ {A : Type 0} where
   pub there : (y : A) (xs : List A) (x : A) → Contains xs x → Contains (y ∷ xs) x
   there y xs x h = Contains-append_right (y ∷ []) xs x h
 
-  either : (y : A) (xs : List A) (x : A) → Contains (y ∷ xs) x → (y ≡ x) ⊎ Contains xs x
+  pub either : (y : A) (xs : List A) (x : A) → Contains (y ∷ xs) x → (y ≡ x) ⊎ Contains xs x
   either y xs x h = ⊎_elim (λ one. ⊎_elim (λ none. absurd (none_in x none)) (λ is. inl is) (Contains-push_cases [] y x one)) (λ later. inr later) (Contains-append_cases (y ∷ []) xs x h)
 
   pub all_at : (P : A → Type 0) (xs : List A) (x : A) → AllByRecursion P xs → Contains xs x → P x
   all_at P [] x all h = absurd (none_in x h)
   all_at P (y ∷ ys) x all h = ⊎_elim (λ is. subst P is all.0) (λ later. all_at P ys x all.1 later) (either y ys x h)
 
-  all_from : (P : A → Type 0) (xs : List A) → ((x : A) → Contains xs x → P x) → AllByRecursion P xs
+  pub all_from : (P : A → Type 0) (xs : List A) → ((x : A) → Contains xs x → P x) → AllByRecursion P xs
   all_from P [] each = tt
   all_from P (y ∷ ys) each = (each y (here y ys), all_from P ys (λ x h. each x (there y ys x h)))
 
@@ -48,7 +48,7 @@ module _ {A : Type 0} where
   all_parts P [] x all = (tt, all.0)
   all_parts P (y ∷ ys) x all = let rest = all_parts P ys x all.1 in ((all.0, rest.0), rest.1)
 
-  distinct_both : (e : A → A → Bool) (xs ys : List A) → IsDistinct e xs → IsDistinct e ys → ((a b : A) → Contains xs a → Contains ys b → e a b ≡ false) → IsDistinct e (xs ++ ys)
+  pub distinct_both : (e : A → A → Bool) (xs ys : List A) → IsDistinct e xs → IsDistinct e ys → ((a b : A) → Contains xs a → Contains ys b → e a b ≡ false) → IsDistinct e (xs ++ ys)
   unfolding IsDistinct
   distinct_both e [] ys p q apart = q
   distinct_both e (x ∷ xs) ys p q apart = (
@@ -87,7 +87,7 @@ rising_apart (x ∷ xs) ys rising a b h k = ⊎_elim
 no_both : (b : Bool) → b ≡ true → b ≡ false → ⊥
 no_both b p q = grind arith
 
-one_number : (xs : List Numbered) → AreRising xs → (a b : Numbered) → Contains xs a → Contains xs b → same_number a b ≡ true → a ≡ b
+pub one_number : (xs : List Numbered) → AreRising xs → (a b : Numbered) → Contains xs a → Contains xs b → same_number a b ≡ true → a ≡ b
 unfolding IsStrictlySortedBy
 one_number [] rising a b h k same = absurd (none_in a h)
 one_number (x ∷ xs) rising a b h k same = ⊎_elim
@@ -103,17 +103,17 @@ module _ (c : List ℕ) (s : ℕ) (w : Bool) where
   left_or_passes true name is = cc
   left_or_passes false name is = cc
 
-  none_departed : (change : Option Ownership) → departed change ≡ Calls c s w → ⊥
+  pub none_departed : (change : Option Ownership) → departed change ≡ Calls c s w → ⊥
   none_departed None is = cc
   none_departed (Some change) is = left_or_passes (bytes_eq change.unique []) change.name is
 
-  first_kind : (b d : Bool) (caller to : List ℕ) (serial to_serial : ℕ) (wants : Bool) (sender : Option (List ℕ)) (rest : Event) → (rest ≡ Calls c s w → ⊥)
+  pub first_kind : (b d : Bool) (caller to : List ℕ) (serial to_serial : ℕ) (wants : Bool) (sender : Option (List ℕ)) (rest : Event) → (rest ≡ Calls c s w → ⊥)
       → (if b then Calls caller serial wants else if d then Replies to to_serial sender else rest) ≡ Calls c s w → (b ≡ true) × (wants ≡ w)
   first_kind true d caller to serial to_serial wants sender rest never is = (refl, cc)
   first_kind false true caller to serial to_serial wants sender rest never is = cc
   first_kind false false caller to serial to_serial wants sender rest never is = absurd (never is)
 
-abbrev is_reply : MessageTree → Bool
+abbrev pub is_reply : MessageTree → Bool
 is_reply m = (m.kind == message.METHOD_RETURN) || (m.kind == message.ERROR)
 
 waits_call : (m : MessageTree) → Waits m → ((m.kind == message.METHOD_CALL) ≡ true) × (wants_reply m ≡ true)

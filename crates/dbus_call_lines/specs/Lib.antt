@@ -1,3 +1,4 @@
 pub mod Outcomes
 pub mod CallLines
 pub mod Listing
+pub mod Keeping

@@ -13,9 +13,9 @@ use Rattle.dbus_calls.specs.Events.Event.{Calls, Replies, Leaves, Passes}
 use Rattle.dbus_calls.specs.Pairing.{IsOpen, ends, run}
 use Rattle.dbus_calls.specs.Waiting.{Waiting, answered, no_calls}
 use Rattle.dbus_call_lines.specs.CallLines.{IsPrintedLine, line}
-use Rattle.dbus_call_lines.specs.Outcomes.{Outcome, outcome_by}
+use Rattle.dbus_call_lines.specs.Outcomes.{Outcome, is_wanted, outcome_by}
 use Rattle.dbus_call_lines.specs.Outcomes.Outcome.{Unwanted, Open}
-use Rattle.dbus_call_lines.specs.declared.form.Form.{Form}
+use Rattle.dbus_call_lines.specs.declared.wanted.Wanted.{Wanted}
 use Rattle.dbus_call_lines.specs.declared.form.Form.TheVariants.{Text}
 
 -- a message, and its number in the input
@@ -78,9 +78,17 @@ abbrev pub AreListed : (before xs : List Numbered) → List Row → Type 0
 AreListed before [] rows = ListsOpen before rows
 AreListed before (x ∷ xs) rows = (now more : List Row) × ListsAfter before x now × AreListed (before ++ x ∷ []) xs more × (rows ≡ now ++ more)
 
--- their lines
-abbrev pub rows_text : Form → List Row → List ℕ
-rows_text form rows = flat_map (λ r. line form r.call.number r.call.message r.outcome) rows
+-- what is listed by the time that these messages came, if those came before
+abbrev pub AreListedBy : (before xs : List Numbered) → List Row → Type 0
+AreListedBy before [] rows = rows ≡ []
+AreListedBy before (x ∷ xs) rows = (now more : List Row) × ListsAfter before x now × AreListedBy (before ++ x ∷ []) xs more × (rows ≡ now ++ more)
+
+-- the lines of those that are wanted
+abbrev pub row_text : Wanted → Row → List ℕ
+row_text wanted r = if is_wanted wanted r.outcome then line wanted.form r.call.number r.call.message r.outcome else []
+
+abbrev pub rows_text : Wanted → List Row → List ℕ
+rows_text wanted rows = flat_map (row_text wanted) rows
 
 -- What holds of what is listed.
 
@@ -98,7 +106,10 @@ pub record ListsEachOnce (xs : List Numbered) (rows : List Row) : Type 0 where
 abbrev pub OneLineEach : Type 0
 OneLineEach = (xs : List Numbered) (rows : List Row) → AreRising xs → AreListed [] xs rows → ListsEachOnce xs rows
 
--- The messages determine what is listed.
+-- Of messages whose numbers rise something is listed, and they determine it.
+abbrev pub SomeList : Type 0
+SomeList = (xs : List Numbered) → AreRising xs → (rows : List Row) × AreListed [] xs rows
+
 abbrev pub OneList : Type 0
 OneList = (xs : List Numbered) (rows others : List Row) → AreListed [] xs rows → AreListed [] xs others → rows ≡ others
 

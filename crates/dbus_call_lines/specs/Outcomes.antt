@@ -1,6 +1,6 @@
 -- What comes of calls. D-Bus Specification, "Message Types" and "Message Format"
 -- (NO_REPLY_EXPECTED).
-use Rattle.std.specs.Prelude.{ℕ, List, Option, ◌==◌, codes, if◌then◌else◌}
+use Rattle.std.specs.Prelude.{ℕ, List, Option, Bool, true, false, ◌||◌, ◌&&◌, ◌==◌, codes, if◌then◌else◌}
 use Rattle.std.specs.Option.{unwrap_or}
 use Rattle.dbus_message_model.specs.Messages.{MessageTree}
 use Rattle.dbus_message_model.specs.declared.field_code.TheConstants as field
@@ -8,6 +8,7 @@ use Rattle.dbus_message_model.specs.declared.message_type.TheConstants as messag
 use Rattle.dbus_calls.specs.Events.{text_at}
 use Rattle.dbus_call_lines.specs.declared.outcome.Outcome.{Outcome as OutcomeSeen}
 use Rattle.dbus_call_lines.specs.declared.outcome.Outcome.TheVariants as seen
+use Rattle.dbus_call_lines.specs.declared.wanted.Wanted.{Wanted}
 
 -- what came of a call
 pub data Outcome : Type 0 where
@@ -44,3 +45,23 @@ outcome_seen seen.Unwanted = Unwanted
 outcome_seen seen.Open = Open
 outcome_seen seen.Left = Left
 outcome_seen seen.Replaced = Replaced
+
+-- Which calls a list is to have.
+
+-- no reply came, and one is wanted
+abbrev pub is_unanswered : Outcome → Bool
+is_unanswered Open = true
+is_unanswered Left = true
+is_unanswered Replaced = true
+is_unanswered outcome = false
+
+-- an ERROR came
+abbrev pub is_error : Outcome → Bool
+is_error (Error number name) = true
+is_error outcome = false
+
+-- all calls, or those of the outcomes that are asked for
+abbrev pub is_wanted : Wanted → Outcome → Bool
+is_wanted wanted outcome =
+    if wanted.unanswered || wanted.errors then (wanted.unanswered && is_unanswered outcome) || (wanted.errors && is_error outcome)
+    else true

@@ -3,7 +3,7 @@
 #![tactic(auto)]
 
 ghost use Rattle.dbus_call_lines.specs.CallLines.{HasTwoParts};
-ghost use Rattle.dbus_call_lines.specs.Listing.{OneLineEach, OneList, OnlyPrinted, TakesEnded};
+ghost use Rattle.dbus_call_lines.specs.Listing.{OneLineEach, OneList, OnlyPrinted, SomeList, TakesEnded};
 
 /// The line of a call is its front, which says nothing of what came of the call, and its end, which
 /// says that alone.
@@ -15,6 +15,11 @@ pub fn two_parts()
 /// came of it, or at the end.
 pub fn one_line_each()
     ensures { OneLineEach }
+{}
+
+/// Of messages whose numbers rise there is a list of calls.
+pub fn some_list()
+    ensures { SomeList }
 {}
 
 /// The messages of an input determine what is listed of its calls, and in which order.

@@ -1,16 +1,22 @@
 //! A call of a method and what came of it, as a line.
 //!
-//! [`write_front`] writes a line as far as the call says it, and [`write_end`] what came of the
-//! call, an [`Outcome`]. [`laws::two_parts`] says that these are the line.
+//! [`CallList`] takes the messages of an input, and writes the lines of its calls, of those that are
+//! [`Wanted`]. [`write_front`] writes a line as far as the call says it, and [`write_end`] what came
+//! of the call, an [`Outcome`]. [`laws::two_parts`] says that these are the line.
 #![tactic(auto)]
 
+mod call_list;
 mod ending;
 mod form;
 mod fronts;
 pub mod laws;
 mod outcome;
+mod waiting_call;
+mod wanted;
 
+pub use call_list::CallList;
 pub use ending::write_end;
 pub use form::Form;
 pub use fronts::write_front;
 pub use outcome::{Outcome, outcome_of};
+pub use wanted::Wanted;

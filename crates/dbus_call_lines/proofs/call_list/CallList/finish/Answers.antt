@@ -1,0 +1,34 @@
+use Rattle.std.proofs.Common.{◌≡◌, List, Result, Ok, Err, OnOk, rules, map, ap, ◌∙◌, subst}
+use Rattle.std.specs.List.{AllByRecursion}
+use Rattle.std.specs.Map.Iter.{deref_pair}
+use Rattle.std.proofs.lemmas.Map.Iter.{iter_end}
+use Rattle.dbus_calls.specs.Kept.{waiting}
+use Rattle.dbus_call_lines.specs.Keeping.{WritesSorted}
+use Rattle.dbus_call_lines.specs.Listing.{ListsOpen, Row, rows_text}
+use Rattle.dbus_call_lines.specs.Outcomes.Outcome.{Open}
+use Rattle.dbus_call_lines.specs.declared.waiting_call.WaitingCall.{WaitingCall}
+use Rattle.dbus_call_lines.specs.declared.wanted.Wanted.{Wanted}
+use Rattle.dbus_call_lines.proofs.Finishing.{Entry, IsMap, by_form, collected_push, lists_open, maps_push, values_in}
+use Rattle.dbus_call_lines.proofs.call_list.CallList.finish.Goals as goal
+
+if_ok : {T E A B : Type 0} (r : Result T E) → OnOk r A → (A → B) → OnOk r B
+if_ok (Ok x) a f = f a
+if_ok (Err e) a f = tt
+
+pub loop-calls-preserved : goal.loop-calls-preserved
+loop-calls-preserved g c = record {
+  collected = collected_push _ _ c.loop-calls.yielded _ c.in_ok-collect_calls.ensures.collected c.loop-calls.invariant.collected;
+  maps = maps_push c.loop-calls.yielded _ c.loop-calls.invariant.maps (c.in_ok-collect_calls.ensures.ordered, c.in_ok-collect_calls.ensures.found);
+}
+
+pub returns-clause-lists : goal.returns-clause-lists
+returns-clause-lists g c = λ wanted before keeps rising.
+    let gains = g.D.Draft.gains in
+    let callers = c.into_callers-callers.result in
+    let all : map deref_pair c.loop-calls.yielded ≡ callers.entries = search (rules, iter_end) in
+    let maps = subst (λ (es : List Entry). AllByRecursion IsMap es) all c.loop-calls.invariant.maps in
+    let values = c.loop-calls.invariant.collected ∙ ap values_in all in
+    by_form wanted before c.args.self (λ (z : Wanted). OnOk c.write_sorted.result ((rows : List Row) × ListsOpen before rows × gains c.args.draft.now (rows_text z rows) c.write_sorted.new.draft)) keeps (λ are.
+    if_ok c.write_sorted.result c.write_sorted.ensures.writes (λ h.
+    lists_open c.args.self.wanted before rising callers c.into_iter-calls-iterator.ensures.into_iter_gives.5 c.into_iter-calls-iterator.ensures.into_iter_gives.6 maps (waiting c.args.self.open) are c.into_callers-callers.ensures
+    gains c.args.draft.now c.write_sorted.new.draft (subst (λ (l : List WaitingCall). WritesSorted gains c.args.self.wanted Open l c.args.draft.now c.write_sorted.new.draft) values h)))

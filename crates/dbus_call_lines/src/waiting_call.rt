@@ -1,0 +1,28 @@
+//! A call that waits for its reply.
+#![tactic(auto)]
+
+ghost use Rattle.std.specs.Prelude.{option_map, string_bytes};
+
+use dbus_calls::Sent;
+
+/// A call that waits for its reply, with the front of its line.
+#[derive(Drop)]
+pub(crate) struct WaitingCall {
+    /// Its number in the input.
+    pub(crate) number: u64,
+    /// Its DESTINATION, if it has one.
+    pub(crate) destination: Option<String>,
+    /// Its line, as far as it says nothing of what came of the call.
+    pub(crate) front: String,
+}
+
+impl Sent for WaitingCall {
+    ghost sent_to = { λ call. option_map string_bytes call.destination };
+
+    fn destination(&self) -> Option<&str> {
+        match &self.destination {
+            Some(name) => Some(name.as_str()),
+            None => None,
+        }
+    }
+}
