@@ -9,7 +9,7 @@ use Rattle.dbus_calls.specs.Kept.{waiting}
 use Rattle.dbus_calls.specs.Pairing.{run}
 use Rattle.dbus_calls.specs.Waiting.{no_calls}
 use Rattle.dbus_call_lines.specs.CallLines.{end, front}
-use Rattle.dbus_call_lines.specs.Listing.{Numbered, message_of}
+use Rattle.dbus_call_lines.specs.Listing.{ListsAfter, Numbered, Row, message_of, rows_text}
 use Rattle.dbus_call_lines.specs.Outcomes.{Outcome, is_wanted}
 use Rattle.dbus_call_lines.specs.declared.wanted.Wanted.{Wanted}
 use Rattle.dbus_call_lines.specs.declared.call_list.CallList.{CallList}
@@ -49,3 +49,7 @@ pub record WritesSorted {S : Type 0} (gains : S → List ℕ → S → Type 0) (
   pub same : IsPermutation calls sorted
   pub rising : IsSortedBy (λ a b. is_lt (nat_cmp a.number b.number)) sorted
   pub gains_lines : gains old (kept_text wanted outcome (map kept sorted)) new
+
+-- After messages the list took this one too, and the lines of what is listed then are gained.
+abbrev pub TakesNext : {S : Type 0} → (gains : S → List ℕ → S → Type 0) → Wanted → (before : List Numbered) → Numbered → CallList → (old new : S) → Type 0
+TakesNext gains wanted before x list old new = Keeps wanted (before ++ x ∷ []) list × (rows : List Row) × ListsAfter before x rows × gains old (rows_text wanted rows) new

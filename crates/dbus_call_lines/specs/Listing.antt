@@ -23,6 +23,10 @@ pub record Numbered : Type 0 where
   pub number : ℕ
   pub message : MessageTree
 
+-- the message of this number
+abbrev pub nth : (number : ℕ) → MessageTree → Numbered
+nth number message = record { number = number; message = message }
+
 abbrev pub message_of : Numbered → MessageTree
 message_of x = x.message
 

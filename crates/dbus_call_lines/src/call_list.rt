@@ -12,8 +12,8 @@ ghost use Rattle.dbus_view.specs.Views.{Views};
 ghost use Rattle.dbus_calls.specs.Events.{event_of};
 ghost use Rattle.dbus_calls.specs.Events.Event.{Calls};
 ghost use Rattle.dbus_call_lines.specs.CallLines.{front};
-ghost use Rattle.dbus_call_lines.specs.Keeping.{Keeps, WritesSorted, as_list, kept, kept_line, kept_of, kept_text};
-ghost use Rattle.dbus_call_lines.specs.Listing.{AreRising, ListsAfter, ListsOpen, Numbered, Row, rows_text};
+ghost use Rattle.dbus_call_lines.specs.Keeping.{Keeps, TakesNext, WritesSorted, as_list, kept, kept_line, kept_of, kept_text};
+ghost use Rattle.dbus_call_lines.specs.Listing.{AreRising, ListsOpen, Numbered, Row, nth, rows_text};
 ghost use Rattle.dbus_call_lines.specs.Outcomes.{outcome_seen};
 ghost use Rattle.dbus_call_lines.specs.Outcomes.Outcome.{Unwanted};
 ghost use Rattle.dbus_call_lines.specs.declared.wanted.Wanted.{Wanted};
@@ -85,10 +85,10 @@ impl CallList {
         number: u64,
         view: &MessageView,
     ) -> Result<(), AllocError>
-        ensures takes { (order : Order) (m : MessageTree) → Views view.now order m → (wanted : Wanted) (before : List Numbered) →
-            Keeps wanted before self.old → AreRising (before ++ (record { number = number; message = m }) ∷ []) →
-            OnOk result (Keeps wanted (before ++ (record { number = number; message = m }) ∷ []) self.new × (rows : List Row) ×
-            ListsAfter before (record { number = number; message = m }) rows × D.gains draft.old (rows_text wanted rows) draft.new) }
+        ensures takes { (order : Order) (m : MessageTree) → Views view.now order m →
+            (wanted : Wanted) (before : List Numbered) → Keeps wanted before self.old →
+            AreRising (before ++ nth number m ∷ []) → OnOk result
+            (TakesNext D.gains wanted before (nth number m) self.new draft.old draft.new) }
         ensures unwritten { OnErr result (draft.new ≡ draft.old) }
     {
         match event_of(view) {
@@ -114,10 +114,10 @@ impl CallList {
         call: CallSeen<'_>,
         view: &MessageView,
     ) -> Result<(), AllocError>
-        ensures takes { (order : Order) (m : MessageTree) → Views view.now order m → Calls call.entry.caller.now call.entry.serial call.entry.wants_reply ≡ event_of m →
-            (wanted : Wanted) (before : List Numbered) → Keeps wanted before self.old →
-            OnOk result (Keeps wanted (before ++ (record { number = number; message = m }) ∷ []) self.new × (rows : List Row) ×
-            ListsAfter before (record { number = number; message = m }) rows × D.gains draft.old (rows_text wanted rows) draft.new) }
+        ensures takes { (order : Order) (m : MessageTree) → Views view.now order m →
+            Calls call.entry.caller.now call.entry.serial call.entry.wants_reply ≡ event_of m →
+            (wanted : Wanted) (before : List Numbered) → Keeps wanted before self.old → OnOk result
+            (TakesNext D.gains wanted before (nth number m) self.new draft.old draft.new) }
         ensures unwritten { OnErr result (draft.new ≡ draft.old) }
     {
         if call.wants_reply {
@@ -135,7 +135,8 @@ impl CallList {
     // Appends the line of a call that wants no reply.
     fn write_unwanted<D: Draft>(&self, draft: &mut D, number: u64, view: &MessageView)
         ensures { (order : Order) (m : MessageTree) → Views view.now order m →
-            D.gains draft.old (kept_line self.now.wanted Unwanted (front self.now.wanted.form number m)) draft.new }
+            D.gains draft.old
+            (kept_line self.now.wanted Unwanted (front self.now.wanted.form number m)) draft.new }
     {
         if self.wanted.lists(Outcome::Unwanted) {
             write_front(draft, self.wanted.form, number, view);
@@ -146,7 +147,7 @@ impl CallList {
     // What is kept of a call.
     fn waiting_call(&self, number: u64, view: &MessageView) -> Result<WaitingCall, AllocError>
         ensures { (order : Order) (m : MessageTree) → Views view.now order m →
-            IfOk result (λ call. kept call ≡ kept_of self.now.wanted (record { number = number; message = m })) }
+            IfOk result (λ call. kept call ≡ kept_of self.now.wanted (nth number m)) }
     {
         let mut front = String::new(self.alloc);
         front_into(&mut front, self.wanted.form, number, view)?;
@@ -163,7 +164,9 @@ impl CallList {
 
     // Appends the line of a call that ended, if one did.
     fn write_ended<D: Draft>(&self, draft: &mut D, ended: &Option<WaitingCall>, outcome: Outcome)
-        ensures { D.gains draft.old (kept_text self.now.wanted (outcome_seen outcome.entry) (as_list (option_map kept ended.now))) draft.new }
+        ensures { D.gains draft.old
+            (kept_text self.now.wanted (outcome_seen outcome.entry) (as_list (option_map kept ended.now)))
+            draft.new }
     {
         if let Some(call) = ended {
             write_line(draft, self.wanted, call, outcome);
@@ -178,8 +181,10 @@ impl CallList {
         outcome: Outcome,
     ) -> Result<(), AllocError>
         ensures ordered { OnOk result (IsOrdered nat_cmp calls.now) }
-        ensures found { OnOk result (All (λ e. get nat_cmp calls.now e.0 ≡ Some e.1) calls.now.entries) }
-        ensures writes { OnOk result (WritesSorted D.gains self.now.wanted (outcome_seen outcome.entry) (values_of calls.now.entries) draft.old draft.new) }
+        ensures found { OnOk result
+            (All (λ e. get nat_cmp calls.now e.0 ≡ Some e.1) calls.now.entries) }
+        ensures writes { OnOk result (WritesSorted D.gains self.now.wanted
+            (outcome_seen outcome.entry) (values_of calls.now.entries) draft.old draft.new) }
         ensures unwritten { OnErr result (draft.new ≡ draft.old) }
     {
         let mut rows = Vec::new(self.alloc);
@@ -192,8 +197,9 @@ impl CallList {
     ///
     /// `AllocError`: an allocation failed. Then nothing is written.
     pub fn finish<D: Draft>(self, draft: &mut D) -> Result<(), AllocError>
-        ensures lists { (wanted : Wanted) (before : List Numbered) → Keeps wanted before self → AreRising before →
-            OnOk result ((rows : List Row) × ListsOpen before rows × D.gains draft.old (rows_text wanted rows) draft.new) }
+        ensures lists { (wanted : Wanted) (before : List Numbered) → Keeps wanted before self →
+            AreRising before → OnOk result ((rows : List Row) × ListsOpen before rows ×
+            D.gains draft.old (rows_text wanted rows) draft.new) }
         ensures unwritten { OnErr result (draft.new ≡ draft.old) }
     {
         let CallList {
@@ -227,7 +233,8 @@ fn front_into(
 
 // Appends the line of a call that waited, if it is wanted.
 fn write_line<D: Draft>(draft: &mut D, wanted: Wanted, call: &WaitingCall, outcome: Outcome)
-    ensures { D.gains draft.old (kept_line wanted (outcome_seen outcome.entry) (string_bytes call.now.front)) draft.new }
+    ensures { D.gains draft.old
+        (kept_line wanted (outcome_seen outcome.entry) (string_bytes call.now.front)) draft.new }
 {
     if wanted.lists(outcome) {
         draft.push_str(call.front.as_str());
@@ -241,8 +248,10 @@ fn collect_calls<'a>(
     calls: &'a BTreeMap<u32, WaitingCall>,
 ) -> Result<(), AllocError>
     ensures ordered { OnOk result (IsOrdered nat_cmp calls.now) }
-    ensures found { OnOk result (All (λ e. get nat_cmp calls.now e.0 ≡ Some e.1) calls.now.entries) }
-    ensures collected { OnOk result (map (λ call. call.now) rows.new.items ≡ map (λ call. call.now) rows.old.items ++ values_of calls.now.entries) }
+    ensures found { OnOk result
+        (All (λ e. get nat_cmp calls.now e.0 ≡ Some e.1) calls.now.entries) }
+    ensures collected { OnOk result (map (λ call. call.now) rows.new.items ≡
+        map (λ call. call.now) rows.old.items ++ values_of calls.now.entries) }
 {
     for (_, call) in calls {
         rows.push(call)?;
@@ -257,7 +266,8 @@ fn write_sorted<D: Draft>(
     rows: &mut Vec<&WaitingCall>,
     outcome: Outcome,
 ) -> Result<(), AllocError>
-    ensures writes { OnOk result (WritesSorted D.gains wanted (outcome_seen outcome.entry) (map (λ call. call.now) rows.old.items) draft.old draft.new) }
+    ensures writes { OnOk result (WritesSorted D.gains wanted (outcome_seen outcome.entry)
+        (map (λ call. call.now) rows.old.items) draft.old draft.new) }
     ensures unwritten { OnErr result (draft.new ≡ draft.old) }
 {
     rows.sort_by(|a, b| a.number.cmp(&b.number))?;
