@@ -53,14 +53,13 @@ pub extern "C" fn dbus_wire_checker_new(
 /// It allocates nothing. D-Bus Specification, "Message Protocol".
 #[unsafe(no_mangle)]
 pub extern "C" fn dbus_wire_checker_take(
-    alloc: Global,
     checker: &mut WireHandle,
     piece: &[u8],
     out: &mut Taken,
 ) -> u32
     ensures { TellsPiece checker.old.state checker.new.state piece.now result out.old out.new }
 {
-    match checker.take(alloc, piece) {
+    match checker.take(piece) {
         None => NO_CHECKER,
         Some(check) => {
             *out = taken_told(check, piece.len());
@@ -72,14 +71,10 @@ pub extern "C" fn dbus_wire_checker_take(
 /// Begins again, under the same limits, as if it took nothing yet. [`WHOLE`]; [`NO_CHECKER`] if
 /// there is none.
 #[unsafe(no_mangle)]
-pub extern "C" fn dbus_wire_checker_restart(alloc: Global, checker: &mut WireHandle) -> u32
+pub extern "C" fn dbus_wire_checker_restart(checker: &mut WireHandle) -> u32
     ensures { TellsRestart checker.old.state checker.new.state result }
 {
-    if checker.restart(alloc) {
-        WHOLE
-    } else {
-        NO_CHECKER
-    }
+    if checker.restart() { WHOLE } else { NO_CHECKER }
 }
 
 /// Frees the checker, if there is one: from then on there is none.

@@ -67,7 +67,6 @@ pub extern "C" fn dbus_wire_client_new(
 /// Specification, "Authentication Protocol".
 #[unsafe(no_mangle)]
 pub extern "C" fn dbus_wire_handshake_take(
-    alloc: Global,
     handshake: &mut WireHandle,
     piece: &[u8],
     reply: &mut [u8],
@@ -76,7 +75,7 @@ pub extern "C" fn dbus_wire_handshake_take(
     ensures { TellsStep handshake.old.state handshake.new.state piece.now reply.old reply.new result out.old
         out.new }
 {
-    match handshake.go_on(alloc, piece, reply) {
+    match handshake.go_on(piece, reply) {
         None => NO_HANDSHAKE,
         Some(Err(fault)) => fault_number(fault),
         Some(Ok(step)) => {
@@ -91,15 +90,11 @@ pub extern "C" fn dbus_wire_handshake_take(
 /// [`NO_ROOM`] if there is room for fewer, [`NO_HANDSHAKE`] if there is no end. D-Bus
 /// Specification, "OK Command".
 #[unsafe(no_mangle)]
-pub extern "C" fn dbus_wire_handshake_guid(
-    alloc: Global,
-    handshake: &mut WireHandle,
-    out: &mut [u8],
-) -> u32
+pub extern "C" fn dbus_wire_handshake_guid(handshake: &mut WireHandle, out: &mut [u8]) -> u32
     ensures same { handshake.new.state ≡ handshake.old.state }
     ensures told { TellsGuidText (handshake_of handshake.old.state) result out.old out.new }
 {
-    match handshake.guid(alloc) {
+    match handshake.guid() {
         None => NO_HANDSHAKE,
         Some(None) => NO_VALUE,
         Some(Some(guid)) => {

@@ -50,7 +50,7 @@ pub extern "C" fn dbus_wire_rules_add(
     ensures own { is_shared rules.new.state ≡ is_shared rules.old.state }
     ensures shared { is_shared rules.old.state ≡ true → (result ≡ SHARED) × (rules.new.state ≡ rules.old.state) × (id.new ≡ id.old) × (out.new ≡ out.old) }
 {
-    if rules.are_shared(alloc) {
+    if rules.are_shared() {
         return SHARED;
     }
     let added = match str::from_utf8(text) {
@@ -76,11 +76,7 @@ pub extern "C" fn dbus_wire_rules_add(
 /// Removes the rule that `id` stands for: [`WHOLE`]; [`NO_RULE`] if it stands for none. From then
 /// on it stands for none. Of rules that are shared it removes none: [`SHARED`].
 #[unsafe(no_mangle)]
-pub extern "C" fn dbus_wire_rules_remove(
-    alloc: Global,
-    rules: &mut WireHandle,
-    id: &RuleHandle,
-) -> u32
+pub extern "C" fn dbus_wire_rules_remove(rules: &mut WireHandle, id: &RuleHandle) -> u32
     ensures told { is_shared rules.old.state ≡ false → result ≡ removal_told (rule_at id.now (rules_of rules.old.state)) }
     ensures removed { is_shared rules.old.state ≡ false → rules_of rules.new.state ≡ without id.now (rules_of rules.old.state) }
     ensures given { given_of rules.new.state ≡ given_of rules.old.state }
@@ -88,9 +84,9 @@ pub extern "C" fn dbus_wire_rules_remove(
     ensures own { is_shared rules.new.state ≡ is_shared rules.old.state }
     ensures shared { is_shared rules.old.state ≡ true → (result ≡ SHARED) × (rules.new.state ≡ rules.old.state) }
 {
-    if rules.are_shared(alloc) {
+    if rules.are_shared() {
         SHARED
-    } else if rules.remove_rule(alloc, *id) {
+    } else if rules.remove_rule(*id) {
         WHOLE
     } else {
         NO_RULE
@@ -113,7 +109,7 @@ pub extern "C" fn dbus_wire_rules_owner(
     ensures own { is_shared rules.new.state ≡ is_shared rules.old.state }
     ensures shared { is_shared rules.old.state ≡ true → (result ≡ SHARED) × (rules.new.state ≡ rules.old.state) }
 {
-    if rules.are_shared(alloc) {
+    if rules.are_shared() {
         SHARED
     } else {
         note_owner(alloc, rules, name, owner)

@@ -19,7 +19,7 @@ use base.Fml.{ftrue, flft}
 use contract.BorrowLft.{◌⊑◌, ⊑_static}
 use contract.Monad.{fact, fact_i, fact_use}
 use types.Logic.{Logic, sem}
-use types.Kit.{Goal, Item, Seq, Step, step, ‵, raw, ◌⊛◌, ◌$◌, given, learn, drop, join, use0, use1, fsplit, fjoin, fpick, fpack, feq_i, feq_l}
+use types.Kit.{Goal, Item, Seq, Step, step, ‵, raw, ◌⊛◌, ◌$◌, given, learn, drop, join, use0, use1, fsplit, fjoin, fpick, fpack, feq_i, feq_l, qed, done, ◌∵◌, ! }
 use denote.Exit.{no}
 use denote.Memory.{lone}
 use denote.Param.{arg, layout}
@@ -78,6 +78,10 @@ module _ {M : Type 1} {𝓤 : Ura M} (𝓛 : Logic 𝓤) where
   tested : (a : heap.the_row.Denot) (p : Ptr) (x : Kept) → ent 𝓤 (sem 𝓛 (box_owns (ghosts.dealloc_token a) kept.the_row p x)) (guard 𝓤 (Testable p) (sem 𝓛 (box_owns (ghosts.dealloc_token a) kept.the_row p x)))
   tested a p x = fact_use 𝓤 (Testable p) (via 𝓤 _ (snd∗ 𝓤 (sem 𝓛 (lies_at kept.the_row full_share p x)) (sem 𝓛 ((ghosts.dealloc_token a) (bare (lone kept.the_row.mir)) p))) (dealloc_token-Testable 𝓛 a (bare (lone kept.the_row.mir)) p)) (guard_i 𝓤 (Testable p) (sem 𝓛 (box_owns (ghosts.dealloc_token a) kept.the_row p x)))
 
+  -- a null pointer owns nothing
+  pub held_none : (p : Ptr) (s : Option Kept) → p ≡ null_ptr → s ≡ None → ent 𝓤 (emp 𝓤) (sem 𝓛 (holds p s))
+  held_none p s e f = subst (λ (x : Option Kept). ent 𝓤 (emp 𝓤) (sem 𝓛 (holds p x))) (sym f) (qed 𝓛 [] ∵ feq_i ! Ptr p null_ptr e $ done !)
+
 -- the tokens that a call of a function of two types is passed, and what it is told of them: what is
 -- kept and the heap borrow nothing
 abbrev pub tokens : {M : Type 1} {𝓤 : Ura M} → Item 𝓤
@@ -101,13 +105,13 @@ module _ {M : Type 1} {𝓤 : Ura M} {𝓛 : Logic 𝓤} {K : Type 0} {Γ : List
       (subst (λ (ps : List Val). vs ≡ vstruct (of_list (ps ++ [])) ∷ []) ep ev))))
 
   -- nothing is kept, and the pointer is null; or something is in a block
-  pub either : K → (a : heap.the_row.Denot) (p : Ptr) (s : Option Kept) → (p ≡ null_ptr → s ≡ None → Seq K 𝓛 Γ G)
-      → ((b o : ℕ) (x : Kept) → p ≡ block_ptr b o → s ≡ Some x → Testable (block_ptr b o) → Seq K 𝓛 (‵ (box_owns (ghosts.dealloc_token a) kept.the_row (block_ptr b o) x) ∷ Γ) G)
+  pub either : K → (p : Ptr) (s : Option Kept) → (p ≡ null_ptr → s ≡ None → Seq K 𝓛 Γ G)
+      → ((a : heap.the_row.Denot) (b o : ℕ) (x : Kept) → p ≡ block_ptr b o → s ≡ Some x → Testable (block_ptr b o) → Seq K 𝓛 (‵ (box_owns (ghosts.dealloc_token a) kept.the_row (block_ptr b o) x) ∷ Γ) G)
       → Seq K 𝓛 (‵ (holds p s) ∷ Γ) G
-  either t a p None none some = feq_l t (λ e. none e refl)
-  either t a p (Some x) none some =
-      fpick t (λ g. in_a_block t p (λ q. box_owns (ghosts.dealloc_token g) kept.the_row q x) (fst∗ 𝓤 (never 𝓤) (sem 𝓛 ((ghosts.dealloc_token g) (bare (lone kept.the_row.mir)) null_ptr))) (λ b o e.
-      use1 𝓛 (given (Testable (block_ptr b o)) (‵ (box_owns (ghosts.dealloc_token g) kept.the_row (block_ptr b o) x))) (tested 𝓛 g (block_ptr b o) x) $ learn t (λ can. some b o x e refl can)))
+  either t p None none some = feq_l t (λ e. none e refl)
+  either t p (Some x) none some =
+      fpick t (λ a. in_a_block t p (λ q. box_owns (ghosts.dealloc_token a) kept.the_row q x) (fst∗ 𝓤 (never 𝓤) (sem 𝓛 ((ghosts.dealloc_token a) (bare (lone kept.the_row.mir)) null_ptr))) (λ b o e.
+      use1 𝓛 (given (Testable (block_ptr b o)) (‵ (box_owns (ghosts.dealloc_token a) kept.the_row (block_ptr b o) x))) (tested 𝓛 a (block_ptr b o) x) $ learn t (λ can. some a b o x e refl can)))
 
 -- A rule that comes to what was kept comes to the rules that were kept.
 

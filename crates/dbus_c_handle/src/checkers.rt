@@ -24,34 +24,29 @@ impl WireHandle {
 
     /// Passes the checker a piece, and returns what [`Checker::take`] does; `None` if the handle
     /// keeps no checker, and then it stays as it is.
-    pub fn take(&mut self, alloc: Global, piece: &[u8]) -> Option<Check>
+    pub fn take(&mut self, piece: &[u8]) -> Option<Check>
         ensures { Handed (checker_of self.old.state) self.old.state self.new.state piece.now result }
     {
-        let mut kept = self.take_box(alloc)?;
-        let check = match &mut *kept {
+        match self.kept()? {
             Kept::Checker(checker) => Some(checker.take(piece)),
             _ => None,
-        };
-        *self = WireHandle::of(kept);
-        check
+        }
     }
 
     /// Begins again, as [`Checker::restart`] does. Whether the handle keeps a checker; if not, it
     /// stays as it is.
-    pub fn restart(&mut self, alloc: Global) -> bool
+    pub fn restart(&mut self) -> bool
         ensures { Restarted (checker_of self.old.state) self.old.state self.new.state result }
     {
-        let Some(mut kept) = self.take_box(alloc) else {
+        let Some(kept) = self.kept() else {
             return false;
         };
-        let is_checker = match &mut *kept {
+        match kept {
             Kept::Checker(checker) => {
                 checker.restart();
                 true
             }
             _ => false,
-        };
-        *self = WireHandle::of(kept);
-        is_checker
+        }
     }
 }

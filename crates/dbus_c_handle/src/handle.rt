@@ -14,7 +14,7 @@ use std::{mem, ptr};
 /// A handle of what it keeps in a block of the heap, or of nothing: then its pointer is null. It
 /// may move between threads.
 ///
-/// Each call that may take or free the block is passed the heap. Dropping a handle frees nothing:
+/// Each call that may make or free the block is passed the heap. Dropping a handle frees nothing:
 /// [`WireHandle::free`] does.
 #[repr(C)]
 #[derive(Drop)]
@@ -32,11 +32,26 @@ impl Model for WireHandle {
 unsafe impl Send for WireHandle {}
 
 impl WireHandle {
+    ghost use Rattle.std.specs.Borrow.{LendsIf, sem};
+    ghost use Rattle.std.specs.Prelude.{◌≡◌, Some, None, MatchOption};
+    ghost use Rattle.dbus_c_handle.specs.contracts.handle.WireHandle.{the_row as handle_row};
+
     /// Frees what the handle keeps, if it keeps anything: from then on it keeps nothing.
     pub fn free(&mut self, alloc: Global)
         ensures { self.new.state ≡ None }
     {
         drop(self.take_box(alloc));
+    }
+
+    /// What the handle keeps, to be asked or changed where it lies.
+    pub(crate) fn kept(&mut self) -> Option<&mut Kept>
+        ensures* writes_back { sem 𝓛 (LendsIf handle_row the_row self.entry result (λ kept. record self.old { state = Some kept }) self.old) }
+        ensures kept { MatchOption result (self.old.state ≡ None) (λ kept. self.old.state ≡ Some kept.now) }
+    {
+        if self.at.is_null() {
+            return None;
+        }
+        Some(unsafe { &mut *(self.at as *mut Kept) })
     }
 
     /// The box of what the handle kept. From then on it keeps nothing.

@@ -67,34 +67,35 @@ impl WireHandle {
 
     /// Passes the end a piece, and writes what it sends to the room, as [`Handshake::take`] does;
     /// `None` if the handle keeps no end, and then it stays as it is.
-    pub fn go_on(
-        &mut self,
-        alloc: Global,
-        piece: &[u8],
-        reply: &mut [u8],
-    ) -> Option<Result<Step, TakeFault>>
+    pub fn go_on(&mut self, piece: &[u8], reply: &mut [u8]) -> Option<Result<Step, TakeFault>>
         ensures { Goes (handshake_of self.old.state) self.old.state self.new.state piece.now reply.old reply.new result }
     {
-        let mut kept = self.take_box(alloc)?;
-        let answer = match &mut *kept {
+        match self.kept()? {
             Kept::Handshake(handshake) => Some(handshake.take(piece, reply)),
             _ => None,
-        };
-        *self = WireHandle::of(kept);
-        answer
+        }
     }
 
     /// The server's GUID, of a client that has begun; `None` if the handle keeps no end.
-    pub fn guid(&mut self, alloc: Global) -> Option<Option<Guid>>
+    pub fn guid(&mut self) -> Option<Option<Guid>>
         ensures same { self.new.state ≡ self.old.state }
         ensures guid { TellsGuid (handshake_of self.old.state) result }
     {
-        let kept = self.take_box(alloc)?;
-        let answer = match &*kept {
-            Kept::Handshake(handshake) => Some(handshake.guid()),
+        Some(self.kept()?.handshake()?.guid())
+    }
+}
+
+impl Kept {
+    ghost use Rattle.std.specs.Prelude.{◌≡◌, Some, None, MatchOption};
+    ghost use Rattle.dbus_c_handle.specs.Checkers.{handshake_of};
+
+    // The end of a handshake; `None` if something else is kept.
+    fn handshake(&self) -> Option<&Handshake>
+        ensures { MatchOption result (handshake_of (Some self.now) ≡ None) (λ end. handshake_of (Some self.now) ≡ Some end.now) }
+    {
+        match self {
+            Kept::Handshake(handshake) => Some(handshake),
             _ => None,
-        };
-        *self = WireHandle::of(kept);
-        answer
+        }
     }
 }

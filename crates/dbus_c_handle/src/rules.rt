@@ -53,7 +53,7 @@ impl WireHandle {
 
     /// Removes the rule of this handle in the set. Whether there was one. The rules must not be
     /// shared.
-    pub fn remove_rule(&mut self, alloc: Global, handle: RuleHandle) -> bool
+    pub fn remove_rule(&mut self, handle: RuleHandle) -> bool
         requires { is_shared self.old.state ≡ false }
         ensures was { result ≡ is_some (rule_at handle (rules_of self.old.state)) }
         ensures removed { rules_of self.new.state ≡ without handle (rules_of self.old.state) }
@@ -61,15 +61,13 @@ impl WireHandle {
         ensures owners { owners_of self.new.state ≡ owners_of self.old.state }
         ensures own { is_shared self.new.state ≡ false }
     {
-        let Some(mut kept) = self.take_box(alloc) else {
+        let Some(kept) = self.kept() else {
             return false;
         };
-        let was = match &mut *kept {
+        match kept {
             Kept::Rules(own) => own.rules.remove(handle).is_some(),
             _ => false,
-        };
-        *self = WireHandle::of(kept);
-        was
+        }
     }
 
     /// Gives the name this owner, in place of the one that it has; an empty one: it has none from
@@ -99,17 +97,10 @@ impl WireHandle {
         ensures found { (order : Order) (m : MessageTree) → Views view.now order m →
             IfOk result (λ found. Collects (EntryMatches m (owners_of self.old.state)) (rules_of self.old.state) [] found.items) }
     {
-        let mut found = Vec::new(alloc);
-        let Some(kept) = self.take_box(alloc) else {
-            return Ok(found);
-        };
-        let searched = match kept.rules() {
-            Some(own) => own.rules.matching(view, &own.owners, &mut found),
-            None => Ok(()),
-        };
-        *self = WireHandle::of(kept);
-        searched?;
-        Ok(found)
+        match self.kept() {
+            Some(kept) => kept.matching(alloc, view),
+            None => Ok(Vec::new(alloc)),
+        }
     }
 
     /// The canonical text of the rule of this handle in the set, as [`rule_text`] writes it, or
@@ -122,23 +113,44 @@ impl WireHandle {
         ensures same { self.new.state ≡ self.old.state }
         ensures written { IsWritten (rule_at handle (rules_of self.old.state)) result }
     {
-        let kept = self.take_box(alloc)?;
-        let text = match kept.rules() {
-            Some(own) => match own.rules.get(handle) {
-                Some(rule) => Some(rule_text(alloc, rule)),
-                None => None,
-            },
+        match self.kept() {
+            Some(kept) => kept.canonical_text(alloc, handle),
             None => None,
-        };
-        *self = WireHandle::of(kept);
-        text
+        }
     }
 }
 
 impl Kept {
-    ghost use Rattle.std.specs.Prelude.{◌≡◌, [], Some, MatchOption};
-    ghost use Rattle.dbus_rule_set.specs.Held.{held};
-    ghost use Rattle.dbus_c_handle.specs.Rules.{owners_of, rules_of};
+    ghost use Rattle.std.specs.Prelude.{◌≡◌, [], Some, IfOk, MatchOption};
+    ghost use Rattle.dbus_value_model.specs.declared.order.Order.{Order};
+    ghost use Rattle.dbus_message_model.specs.Messages.{MessageTree};
+    ghost use Rattle.dbus_rule_set.specs.Held.{Collects, EntryMatches, held, rule_at};
+    ghost use Rattle.dbus_view.specs.Views.{Views};
+    ghost use Rattle.dbus_c_handle.specs.Rules.{IsWritten, owners_of, rules_of};
+
+    // As `WireHandle::matching`.
+    fn matching(&self, alloc: Global, view: &MessageView) -> Result<Vec<RuleHandle>, AllocError>
+        ensures { (order : Order) (m : MessageTree) → Views view.now order m →
+            IfOk result (λ found. Collects (EntryMatches m (owners_of (Some self.now))) (rules_of (Some self.now)) [] found.items) }
+    {
+        let mut found = Vec::new(alloc);
+        if let Some(own) = self.rules() {
+            own.rules.matching(view, &own.owners, &mut found)?;
+        }
+        Ok(found)
+    }
+
+    // As `WireHandle::canonical_text`.
+    fn canonical_text(
+        &self,
+        alloc: Global,
+        handle: RuleHandle,
+    ) -> Option<Result<String, AllocError>>
+        ensures { IsWritten (rule_at handle (rules_of (Some self.now))) result }
+    {
+        let rule = self.rules()?.rules.get(handle)?;
+        Some(rule_text(alloc, rule))
+    }
 
     /// The rules with the owners of names, shared or not; `None` if something else is kept.
     pub(crate) fn rules(&self) -> Option<&KeptRules>

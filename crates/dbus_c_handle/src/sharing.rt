@@ -18,19 +18,14 @@ impl WireHandle {
     ghost use Rattle.dbus_c_handle.specs.Rules.{SharesNone, SharesRules, is_shared};
 
     /// Whether the rules that it keeps are shared: no call changes them.
-    pub fn are_shared(&mut self, alloc: Global) -> bool
+    pub fn are_shared(&mut self) -> bool
         ensures same { self.new.state ≡ self.old.state }
         ensures are { result ≡ is_shared self.old.state }
     {
-        let Some(kept) = self.take_box(alloc) else {
-            return false;
-        };
-        let are = match &*kept {
-            Kept::Shared(_) => true,
-            _ => false,
-        };
-        *self = WireHandle::of(kept);
-        are
+        match self.kept() {
+            Some(kept) => kept.is_shared(),
+            None => false,
+        }
     }
 
     /// Shares the rules that it keeps with another handle, which from then on keeps the same rules:
@@ -53,6 +48,21 @@ impl WireHandle {
         other.free(alloc);
         *other = WireHandle::of(place);
         Ok(())
+    }
+}
+
+impl Kept {
+    ghost use Rattle.std.specs.Prelude.{◌≡◌, Some};
+    ghost use Rattle.dbus_c_handle.specs.Rules.{is_shared};
+
+    // Whether the rules that are kept are shared.
+    fn is_shared(&self) -> bool
+        ensures { result ≡ is_shared (Some self.now) }
+    {
+        match self {
+            Kept::Shared(_) => true,
+            _ => false,
+        }
     }
 }
 

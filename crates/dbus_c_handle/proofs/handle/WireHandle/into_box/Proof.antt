@@ -59,7 +59,7 @@ into_box_spec {M} 𝓤 𝓛 𝓜 𝓡 wired =
     let κs = z.0.0 in let h = z.0.3.0 in let a = z.0.3.1.0 in let Post : Val → SProp 𝓤 = (walk_of 𝓛 ended stayed c).post z in let Run : List Val → SProp 𝓤 = λ ws. WpFn 𝓤 H 𝓣.C 𝓣.Λ fn ws Post in
     let Out : RattleType = type_at ended.signature.result κs in
     qed 𝓛 ((‵ ftrue ⊛ ‵ (owns (types_at ended.signature.params κs) z.0.3 z.0.4)) ∷ raw ((c κs z.0.3).requires z.1) ∷ []) ∵ split ! $ move ! (1 ∷ []) $ fsplit ! $
-    handle_out ! h z.0.4.0 (λ ev. move ! (1 ∷ []) $ fsplit ! $ handle_tells boxed.al ! a z.0.4.1.0 (λ k ek fits. move ! (2 ∷ []) $ either ! a h.at h.state
+    handle_out ! h z.0.4.0 (λ ev. move ! (1 ∷ []) $ fsplit ! $ handle_tells boxed.al ! a z.0.4.1.0 (λ k ek fits. move ! (2 ∷ []) $ either ! h.at h.state
     (λ is st. let w : Val = word null_ptr in let ws : z.0.4.0 ≡ w ∷ [] = ev ∙ ap (λ (p : Ptr). word p ∷ []) is in
     suffices ! (Run (w ∷ k ∷ [])) (subst (λ (us : List Val). ent 𝓤 (Run (w ∷ k ∷ [])) (Run us)) (sym (λ i. ws i ++ (ek i ++ []))) (id⊢ 𝓤 (Run (w ∷ k ∷ [])))) $
     enter ! 𝓣.C 𝓣.Λ fn (w ∷ k ∷ []) Post $ alloc_all ! (λ l. pass_all ! refl ((tt, (record { fits = lit< tt }, tt)), (fits, tt)) $
@@ -71,7 +71,7 @@ into_box_spec {M} 𝓤 𝓛 𝓜 𝓡 wired =
     returns_within ! Post refl (look_at ! 0 refl) $ free_all ! refl $
     -- [nothing; the fact; the option; the allocator's; nothing; the tokens; ..]
     keep ! (5 ∷ 0 ∷ 2 ∷ 1 ∷ []) $ by ! (leaves 𝓛 ended stayed c z (live 0 vnil) None (tt, (tt, tt)) (tt, (tt, tt)))) (λ wrong. absurd wrong)))
-    (λ b o x is st can. let w : Val = word (block_ptr b o) in let ws : z.0.4.0 ≡ w ∷ [] = ev ∙ ap (λ (p : Ptr). word p ∷ []) is in
+    (λ _ b o x is st can. let w : Val = word (block_ptr b o) in let ws : z.0.4.0 ≡ w ∷ [] = ev ∙ ap (λ (p : Ptr). word p ∷ []) is in
     suffices ! (Run (w ∷ k ∷ [])) (subst (λ (us : List Val). ent 𝓤 (Run (w ∷ k ∷ [])) (Run us)) (sym (λ i. ws i ++ (ek i ++ []))) (id⊢ 𝓤 (Run (w ∷ k ∷ [])))) $
     enter ! 𝓣.C 𝓣.Λ fn (w ∷ k ∷ []) Post $ alloc_all ! (λ l. pass_all ! refl ((tt, (tt, tt)), (fits, tt)) $ let Ev = env fn.locals l in
     sets ! (of_opd ! (get_in ! (fld ! refl (stop !)) (sub ! 0 refl (whole !)))) refl (tt, tt) $ sets ! (of_opd ! (get ! refl)) refl (tt, tt) $
