@@ -10,6 +10,7 @@ use Rattle.hex.specs.Hex.{encode_lower}
 use Rattle.dbus_value_model.specs.declared.fault.Reason.{Reason}
 use Rattle.dbus_show.specs.ShownMessages.{line_feeds, field_name}
 use Rattle.dbus_show.specs.ShownValues.{quoted}
+use Rattle.dbus_show.specs.declared.escapes.Escapes.TheVariants.{Shown}
 use Rattle.dbus_show.proofs.LineFeeds.{IsOneLine, line_literal, line_append, line_either, line_flat, line_decimal, line_hex, line_quoted}
 use Rattle.dbus_value_model.specs.declared.fault.Reason.TheVariants.{FieldMissing}
 use Rattle.dbus_show.proofs.FieldTexts.{then}
@@ -168,7 +169,7 @@ pub rule_lines : (text : List ℕ) (at : ℕ) (allowed : List ℕ) → line_feed
     (codes "  " ++ (quoted text ++ (codes "\n" ++ (mark_line text at ++ (codes "\n  " ++ (allowed ++ codes "\n"))))))
 rule_lines text at allowed one =
     three (quoted_line text) (mark_line text at) (rule_line allowed) _
-    (after_literal (codes "  ") (quoted text) refl (line_quoted (codes "\\x") (literal (codes "\\x") refl) text)) (line_mark text at)
+    (after_literal (codes "  ") (quoted text) refl (line_quoted Shown refl text)) (line_mark text at)
     (line_rule allowed one)
     (rule_text (quoted text) (mark_line text at) allowed)
 

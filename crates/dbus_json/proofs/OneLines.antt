@@ -17,6 +17,7 @@ use Rattle.dbus_value_model.specs.Values.{ValueTree, ValueTrees, NumberValue, Te
 use Rattle.dbus_message_model.specs.Messages.{FieldTree, order_byte, message_bytes, is_known, MessageTree}
 use Rattle.dbus_message_model.specs.MessageTypes.{type_name}
 use Rattle.dbus_show.specs.ShownMessages.{line_feeds, field_name}
+use Rattle.dbus_show.specs.declared.escapes.Escapes.TheVariants.{Json}
 use Rattle.dbus_show.specs.ShownValues.{bytes_in}
 use Rattle.dbus_show.proofs.LineFeeds.{IsOneLine, AreLines, line_literal, line_append, line_cons, line_either, line_decimal, line_hex, line_number, line_quoted, line_sig, between}
 use Rattle.dbus_show.proofs.FieldTexts.{name_line, line_or, type_name_line, order_line}
@@ -92,7 +93,7 @@ eq_or true = inl refl
 eq_or false = inr refl
 
 string_line : (t : List ℕ) → IsOneLine (string t)
-string_line t = line_quoted (codes "\\u00") (line_literal (codes "\\u00") refl) t
+string_line t = line_quoted Json refl t
 
 mutual
   json_line : (v : ValueTree) (text : List ℕ) → IsJson v text → IsOneLine text

@@ -11,7 +11,9 @@ use Rattle.dbus_texts.specs.PlainTypes.{is_byte}
 use Rattle.dbus_value_model.specs.declared.order.Order.TheVariants.{Big}
 use Rattle.dbus_value_model.specs.Values.{ValueTree, ValueTrees, NumberValue, TextValue, VariantValue, ArrayValue, StructValue, EntryValue, NoValues, MoreValues, type_of}
 use Rattle.dbus_value_model.specs.Bytes.{num}
-use Rattle.dbus_show.specs.ShownValues.{number_text, quoted_by, bytes_in}
+use Rattle.dbus_show.specs.declared.escapes.Escapes.TheVariants.{Json}
+use Rattle.dbus_show.specs.Escapes.{quoted_by}
+use Rattle.dbus_show.specs.ShownValues.{number_text, bytes_in}
 
 -- ---- the parts of JSON
 
@@ -19,10 +21,9 @@ use Rattle.dbus_show.specs.ShownValues.{number_text, quoted_by, bytes_in}
 abbrev pub plain : List ℕ → List ℕ
 plain text = codes "\"" ++ (text ++ codes "\"")
 
--- Any string, section 7: `"` and `\` stand after a backslash, and the bytes below 32 and 127 as
--- `\u00` and two hexadecimal digits. Every other byte is itself.
+-- any string, with the escapes of section 7
 abbrev pub string : List ℕ → List ℕ
-string text = quoted_by (codes "\\u00") text
+string text = quoted_by Json text
 
 -- with a comma between two of them
 abbrev pub listed : List (List ℕ) → List ℕ

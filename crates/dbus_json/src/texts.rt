@@ -3,12 +3,13 @@
 
 ghost use Rattle.dbus_json.specs.JsonValues.{string};
 
-use dbus_show::{Draft, write_quoted_by};
+use dbus_show::{Draft, Escapes, write_quoted_by};
 
-/// Appends a text as a string of JSON: `"` and `\` stand after a backslash, the characters below 32
-/// and 127 as `\u00` and two hexadecimal digits, and every other character is itself.
+/// Appends a text as a string of JSON: `"` and `\` stand after a backslash, the control characters
+/// of ASCII and hidden characters as `\u001b`, one that UTF-16 has in two units as two of them, and
+/// every other character is itself. [`is_hidden`](dbus_show::is_hidden) says which are hidden.
 pub fn write_string<D: Draft>(draft: &mut D, text: &str)
     ensures { D.gains draft.old (string text.now) draft.new }
 {
-    write_quoted_by(draft, text, "\\u00");
+    write_quoted_by(draft, text, Escapes::Json);
 }

@@ -1,97 +1,44 @@
--- Escaped texts, run by run.
-use Rattle.std.proofs.Common.{◌≡◌, ℕ, suc, ◌+◌, ◌-◌, ◌<◌, ◌≤◌, List, [], ◌∷◌, ◌++◌, length, get_or, take, drop, Bool, true, false, not, cond, nat_lt, ◌||◌, eqb, refl, sym, ap, subst, ◌∙◌, arith, append-nil, ◌/◌, ◌%◌, slice_index}
-use Rattle.std.specs.List.{flat_map, prefix_len}
-use Rattle.std.proofs.Math.Seq.{take-add, take-length}
-use Rattle.std.proofs.lemmas.List.{take_more, take_rest, length-drop, get_or-drop, take-append-drop}
-use Rattle.std.proofs.lemmas.List.Sums.{prefix_len-le-length, prefix_len_stops, AllPass-from_list_all}
-use Rattle.std.proofs.lemmas.Bool.Decides.{nat_tests}
+-- Escaped texts, by what comes before a character that is escaped.
+use Rattle.std.proofs.Common.{◌≡◌, ℕ, ◌+◌, ◌-◌, ◌<◌, ◌≤◌, Bool, ◌||◌, eqb, ◌⊎◌, inl, inr, ⊎_elim, subst, arith, map, codes, append-nil, List, [], ◌∷◌, ◌++◌, length, take, drop, true, false, cond, nat_lt, refl, sym, ap, ◌∙◌, ◌/◌, ◌%◌, slice_index, chars, encode_utf8, encode_utf8_all, IsUtf8}
+use Rattle.std.specs.List.{flat_map}
+use Rattle.std.proofs.Math.Seq.{take-add}
+use Rattle.std.proofs.lemmas.List.{take_rest, take-append-drop}
 use Rattle.std.proofs.lemmas.List.Concat.{flat_map-append}
-use Rattle.std.specs.Str.{IsAscii}
-use Rattle.std.proofs.lemmas.Bool.{ltb-true}
+use Rattle.std.specs.Str.{IsAscii, NonePass}
+use Rattle.std.specs.Char.Escape.{escape_unicode, hex_digit_at}
+use Rattle.std.proofs.lemmas.Bool.{eqb-true, le-ltb, ltb-true}
 use Rattle.std.proofs.lemmas.List.Elements.{All-weaker}
-use Rattle.std.proofs.lemmas.Str.Ascii.{IsAscii-from_all}
+use Rattle.std.proofs.lemmas.List.Sums.{AllPass-from_list_all}
+use Rattle.std.proofs.lemmas.Str.{IsAscii-append, chars-append, chars_past_char, encodes-chars}
+use Rattle.std.proofs.lemmas.Str.Ascii.{IsAscii-cons, IsAscii-from_all, IsAscii-nil}
 use Rattle.hex.specs.Hex.{lower_digits, encode_lower, encode_with}
-use Rattle.dbus_show.specs.ShownValues.{escape_by, is_escaped}
+use Rattle.dbus_show.specs.Escapes.{escape, escaped, is_escaped, is_hidden, is_quote, units_text}
+use Rattle.dbus_show.specs.declared.escapes.Escapes.{Escapes}
+use Rattle.dbus_show.specs.declared.escapes.Escapes.TheVariants.{Shown, Json, Hidden}
 
--- the cases of an escape
-plain_cases : (low quote backslash delete : Bool) (a b c d : List ℕ) → (low || quote || backslash || delete) ≡ false → cond quote a (cond backslash b (cond (low || delete) c d)) ≡ d
-plain_cases true q s k a b c d e = absurd (cc)
-plain_cases false true s k a b c d e = absurd (cc)
-plain_cases false false true k a b c d e = absurd (cc)
-plain_cases false false false true a b c d e = absurd (cc)
-plain_cases false false false false a b c d e = refl
+module _ (escapes : Escapes) where
+  -- what is written of a character
+  abbrev written : ℕ → List ℕ
+  written c = cond (is_escaped escapes c) (escape escapes c) (encode_utf8 c)
 
--- how many bytes come before the first one that is escaped
-abbrev pub plain_length : List ℕ → ℕ
-plain_length xs = prefix_len (λ b. not (is_escaped b)) xs
+  plain_written : (cs : List ℕ) → NonePass (is_escaped escapes) cs → flat_map written cs ≡ encode_utf8_all cs
+  plain_written [] h = refl
+  plain_written (c ∷ cs) h = ap (λ b. cond b (escape escapes c) (encode_utf8 c) ++ flat_map written cs) h.0 ∙ ap (λ s. encode_utf8 c ++ s) (plain_written cs h.1)
 
--- a run of bytes from one place to the next byte that is escaped, or to the end
-pub record IsRun (xs : List ℕ) (start end : ℕ) : Type 0 where
-  pub begun : start ≤ length xs
-  pub ends : end ≡ start + plain_length (drop start xs)
+  -- a text of which no character is escaped is itself
+  pub plain_itself : (text : List ℕ) → IsUtf8 text → NonePass (is_escaped escapes) (chars text) → escaped escapes text ≡ text
+  plain_itself text u h = plain_written (chars text) h ∙ encodes-chars text u
 
-pub run_within : (xs : List ℕ) (start end : ℕ) → IsRun xs start end → (start ≤ end) × (end ≤ length xs)
-run_within xs start end r = let n = prefix_len-le-length (λ b. not (is_escaped b)) (drop start xs) in (omega (arith, r.ends), omega (arith, r.ends, r.begun, n, length-drop start xs))
+  pub escaped_append : (s t : List ℕ) → IsUtf8 s → escaped escapes (s ++ t) ≡ escaped escapes s ++ escaped escapes t
+  escaped_append s t u = ap (flat_map written) (chars-append s t u) ∙ flat_map-append written (chars s) (chars t)
 
-was_true : (b : Bool) → not b ≡ false → b ≡ true
-was_true true e = refl
-was_true false e = sym e
-
--- it stops at a byte that is escaped
-pub run_stops : (xs : List ℕ) (start end : ℕ) → IsRun xs start end → end < length xs → is_escaped (get_or xs end 0) ≡ true
-run_stops xs start end r l =
-    let rest = drop start xs in
-    let short : plain_length rest < length rest = omega (arith, r.ends, l, r.begun, length-drop start xs) in
-    let at : get_or rest (plain_length rest) 0 ≡ get_or xs end 0 = get_or-drop start xs (plain_length rest) 0 ∙ ap (λ i. get_or xs i 0) (sym r.ends) in
-    was_true (is_escaped (get_or xs end 0)) (ap (λ x. not (is_escaped x)) (sym at) ∙ prefix_len_stops (λ b. not (is_escaped b)) rest 0 short)
-
-module _ (mark : List ℕ) where
-  escape_plain : (b : ℕ) → is_escaped b ≡ false → escape_by mark b ≡ b ∷ []
-  escape_plain b e = plain_cases (nat_lt b 32) (eqb b 34) (eqb b 92) (eqb b 127) _ _ _ _ e
-
-  plain_first : (b : Bool) (x n m : ℕ) (xs : List ℕ) → m ≡ suc n → is_escaped x ≡ b → flat_map (escape_by mark) (take n xs) ≡ take n xs
-      → flat_map (escape_by mark) (take (cond (not b) m 0) (x ∷ xs)) ≡ take (cond (not b) m 0) (x ∷ xs)
-  plain_first true x n m xs one e more = refl
-  plain_first false x n m xs one e more =
-      subst (λ k. flat_map (escape_by mark) (take k (x ∷ xs)) ≡ take k (x ∷ xs)) (sym one) (ap (λ s. s ++ flat_map (escape_by mark) (take n xs)) (escape_plain x e) ∙ ap (λ s. x ∷ s) more)
-
-  -- each byte of a run stands for itself
-  plain_itself : (xs : List ℕ) → flat_map (escape_by mark) (take (plain_length xs) xs) ≡ take (plain_length xs) xs
-  plain_itself [] = refl
-  plain_itself (x ∷ xs) = plain_first (is_escaped x) x (plain_length xs) (1 + plain_length xs) xs (omega arith) refl (plain_itself xs)
-
-  -- no byte is escaped
-  pub all_itself : (xs : List ℕ) → plain_length xs ≡ length xs → flat_map (escape_by mark) xs ≡ xs
-  all_itself xs e = subst (λ (ys : List ℕ). flat_map (escape_by mark) ys ≡ ys) (ap (λ n. take n xs) e ∙ take-length xs) (plain_itself xs)
-
-  run_shown : (xs : List ℕ) (start end : ℕ) → IsRun xs start end → flat_map (escape_by mark) (take end xs) ≡ flat_map (escape_by mark) (take start xs) ++ take (end - start) (drop start xs)
-  run_shown xs start end r =
-      let f = flat_map (escape_by mark) in
-      let rest = drop start xs in
-      let n = plain_length rest in
-      let long : n ≡ end - start = omega (arith, r.ends) in
-      ap (λ i. f (take i xs)) r.ends ∙ (ap f (take-add start n xs) ∙ (flat_map-append (escape_by mark) (take start xs) (take n rest)
-      ∙ (ap (λ s. f (take start xs) ++ s) (plain_itself rest) ∙ ap (λ i. f (take start xs) ++ take i rest) long)))
-
-  escape_more : (xs : List ℕ) (i : ℕ) → i < length xs → flat_map (escape_by mark) (take (i + 1) xs) ≡ flat_map (escape_by mark) (take i xs) ++ escape_by mark (get_or xs i 0)
-  escape_more xs i h =
-      let x = get_or xs i 0 in
-      ap (flat_map (escape_by mark)) (take_more xs i 0 h) ∙ flat_map-append (escape_by mark) (take i xs) (x ∷ []) ∙ ap (λ s. flat_map (escape_by mark) (take i xs) ++ s) (append-nil (escape_by mark x))
-
-  -- a run, and the byte that is escaped
-  pub escape_after : (xs : List ℕ) (start end : ℕ) → IsRun xs start end → end < length xs
-      → (flat_map (escape_by mark) (take start xs) ++ take (end - start) (drop start xs)) ++ escape_by mark (get_or xs end 0) ≡ flat_map (escape_by mark) (take (end + 1) xs)
-  escape_after xs start end r l = ap (λ s. s ++ escape_by mark (get_or xs end 0)) (sym (run_shown xs start end r)) ∙ sym (escape_more xs end l)
-
-  -- the last run
-  pub plain_last : (xs : List ℕ) (start end : ℕ) → IsRun xs start end → end ≡ length xs → flat_map (escape_by mark) (take start xs) ++ drop start xs ≡ flat_map (escape_by mark) xs
-  plain_last xs start end r is =
-      let f = flat_map (escape_by mark) in
-      ap (λ s. f (take start xs) ++ s) (sym (take_rest xs start)) ∙ (ap (λ i. f (take start xs) ++ take (i - start) (drop start xs)) (sym is)
-      ∙ (sym (run_shown xs start end r) ∙ (ap (λ i. f (take i xs)) is ∙ ap f (take-length xs))))
-
-pub escaped_ascii : (b : ℕ) → is_escaped b ≡ true → b < 128
-escaped_ascii b e = grind (arith, nat_tests)
+  -- plain characters, one that is escaped, and what follows
+  pub escaped_split : (text plain rest : List ℕ) (c : ℕ) → text ≡ plain ++ (encode_utf8 c ++ rest) → IsUtf8 plain → IsUtf8 (encode_utf8 c ++ rest) → NonePass (is_escaped escapes) (chars plain)
+      → is_escaped escapes c ≡ true → escaped escapes text ≡ plain ++ (escape escapes c ++ escaped escapes rest)
+  escaped_split text plain rest c e u v none is =
+      let first : escaped escapes (encode_utf8 c ++ rest) ≡ escape escapes c ++ escaped escapes rest = ap (flat_map written) (chars_past_char (encode_utf8 c ++ rest) rest c v refl)
+      ∙ ap (λ b. cond b (escape escapes c) (encode_utf8 c) ++ escaped escapes rest) is in
+      ap (escaped escapes) e ∙ escaped_append plain (encode_utf8 c ++ rest) u ∙ ap (λ s. s ++ escaped escapes (encode_utf8 c ++ rest)) (plain_itself plain u none) ∙ ap (λ s. plain ++ s) first
 
 -- The hexadecimal digits of bytes.
 
@@ -114,3 +61,63 @@ block_more xs i n m e = sym (encode_append (take i xs) (take m (drop i xs))) ∙
 -- the last block
 pub block_last : (xs : List ℕ) (i : ℕ) → encode_lower (take i xs) ++ encode_lower (take (length xs - i) (drop i xs)) ≡ encode_lower xs
 block_last xs i = sym (encode_append (take i xs) (take (length xs - i) (drop i xs))) ∙ ap (λ r. encode_lower (take i xs ++ r)) (take_rest xs i) ∙ ap encode_lower (take-append-drop i xs)
+
+-- What stands for a character.
+
+glyph : (b : Bool) (d : ℕ) → d < 16 → cond b (48 + d) (87 + d) < 128
+glyph true d h = omega arith
+glyph false d h = omega arith
+
+digits_ascii : (c : ℕ) (places : List ℕ) → IsAscii (map (λ p. hex_digit_at p c) places)
+digits_ascii c [] = IsAscii-nil
+digits_ascii c (p ∷ places) =
+    let d = c / p % 16 in
+    IsAscii-cons (hex_digit_at p c) (map (λ p. hex_digit_at p c) places) (glyph (nat_lt d 10) d (omega arith)) (digits_ascii c places)
+
+in_braces : (digits : List ℕ) → IsAscii digits → IsAscii (92 ∷ 117 ∷ 123 ∷ (digits ++ 125 ∷ []))
+in_braces digits h =
+    IsAscii-cons 92 (117 ∷ 123 ∷ (digits ++ 125 ∷ [])) (omega arith)
+    (IsAscii-cons 117 (123 ∷ (digits ++ 125 ∷ [])) (omega arith) (IsAscii-cons 123 (digits ++ 125 ∷ []) (omega arith) (IsAscii-append digits (125 ∷ []) h (IsAscii-cons 125 [] (omega arith) IsAscii-nil))))
+
+spelled : (c : ℕ) (places : List ℕ) → IsAscii (92 ∷ 117 ∷ 123 ∷ (map (λ p. hex_digit_at p c) places ++ 125 ∷ []))
+spelled c places = in_braces (map (λ p. hex_digit_at p c) places) (digits_ascii c places)
+
+ascii_either : (b : Bool) (s t : List ℕ) → IsAscii s → IsAscii t → IsAscii (cond b s t)
+ascii_either true s t h k = h
+ascii_either false s t h k = k
+
+pub unicode_ascii : (c : ℕ) → IsAscii (escape_unicode c)
+unicode_ascii c =
+    ascii_either (nat_lt c 0x10) _ _ (spelled c (1 ∷ []))
+    (ascii_either (nat_lt c 0x100) _ _ (spelled c (0x10 ∷ 1 ∷ []))
+    (ascii_either (nat_lt c 0x1000) _ _ (spelled c (0x100 ∷ 0x10 ∷ 1 ∷ []))
+    (ascii_either (nat_lt c 0x1_0000) _ _ (spelled c (0x1000 ∷ 0x100 ∷ 0x10 ∷ 1 ∷ []))
+    (ascii_either (nat_lt c 0x10_0000) _ _ (spelled c (0x1_0000 ∷ 0x1000 ∷ 0x100 ∷ 0x10 ∷ 1 ∷ []))
+    (spelled c (0x10_0000 ∷ 0x1_0000 ∷ 0x1000 ∷ 0x100 ∷ 0x10 ∷ 1 ∷ []))))))
+
+-- a unit of UTF-16
+abbrev pub unit_text : ℕ → List ℕ
+unit_text u = codes "\\u" ++ encode_lower (u / 256 ∷ u % 256 ∷ [])
+
+pub two_units : (c : ℕ) → 65536 ≤ c → units_text c ≡ unit_text (0xD800 + (c - 0x1_0000) / 0x400) ++ unit_text (0xDC00 + (c - 0x1_0000) % 0x400)
+two_units c l = rw (le-ltb c 65536 l) (ap (λ s. unit_text (0xD800 + (c - 0x1_0000) / 0x400) ++ s) (append-nil (unit_text (0xDC00 + (c - 0x1_0000) % 0x400))))
+
+quote_is : (c : ℕ) → is_quote c ≡ true → (c ≡ 34) ⊎ (c ≡ 92)
+quote_is c h = which (eqb c 34) refl h where
+  which : (b : Bool) → eqb c 34 ≡ b → (b || eqb c 92) ≡ true → (c ≡ 34) ⊎ (c ≡ 92)
+  which true e k = inl (eqb-true c 34 e)
+  which false e k = inr (eqb-true c 92 k)
+
+not_hidden : (c : ℕ) → is_quote c ≡ true → is_hidden c ≡ true → ⊥
+not_hidden c h k =
+    ⊎_elim (λ e. let t : is_hidden 34 ≡ true = subst (λ x. is_hidden x ≡ true) e k in cc)
+    (λ e. let t : is_hidden 92 ≡ true = subst (λ x. is_hidden x ≡ true) e k in cc)
+    (quote_is c h)
+
+pub quote_escape : (escapes : Escapes) (c : ℕ) → is_escaped escapes c ≡ true → is_quote c ≡ true → escape escapes c ≡ 92 ∷ c ∷ []
+quote_escape Shown c h is = ap (λ b. cond b (92 ∷ c ∷ []) (codes "\\x" ++ encode_lower (c ∷ []))) is
+quote_escape Json c h is = ap (λ b. cond b (92 ∷ c ∷ []) (units_text c)) is
+quote_escape Hidden c h is = absurd (not_hidden c is h)
+
+pub shown_escape : (escapes : Escapes) (c : ℕ) → escapes ≡ Shown → is_quote c ≡ false → escape escapes c ≡ codes "\\x" ++ encode_lower (c ∷ [])
+shown_escape escapes c e is = ap (λ k. escape k c) e ∙ ap (λ b. cond b (92 ∷ c ∷ []) (codes "\\x" ++ encode_lower (c ∷ []))) is

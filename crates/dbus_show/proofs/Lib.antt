@@ -1,5 +1,6 @@
 pub mod FieldTexts
 pub mod EscapedText
 pub mod LineFeeds
+mod PlainFronts
 mod PlainRuns
 mod HexBlocks

@@ -1,5 +1,7 @@
 -- The texts of values have no line feed.
-use Rattle.std.proofs.Common.{◌≡◌, ◌≢◌, ℕ, zero, suc, ◌+◌, ◌/◌, ◌%◌, ℤ, pos, negsuc, Bool, true, false, cond, eqb, List, [], ◌∷◌, ◌++◌, nat_lt, ◌||◌, get_or, codes, decimal, refl, ap, arith}
+use Rattle.std.proofs.Common.{◌≡◌, ◌≢◌, ℕ, zero, suc, ◌+◌, ◌/◌, ◌%◌, ℤ, pos, negsuc, Bool, true, false, cond, eqb, ltb, List, [], ◌∷◌, ◌++◌, nat_lt, get_or, codes, decimal, chars, encode_utf8, refl, ap, subst, arith}
+use Rattle.std.specs.Char.Escape.{encode_utf16}
+use Rattle.std.proofs.Math.Utf8.{encode}
 use Rattle.std.specs.List.{flat_map}
 use Rattle.std.specs.Fmt.{digits, digits_onto, digit_glyph, signed_decimal}
 use Rattle.std.specs.Int.{cast_signed, w16, w32, w64}
@@ -12,7 +14,10 @@ use Rattle.dbus_value_model.specs.declared.order.Order.TheVariants.{Big}
 use Rattle.dbus_value_model.specs.Values.{ValueTree, ValueTrees, NumberValue, TextValue, VariantValue, ArrayValue, StructValue, EntryValue, NoValues, MoreValues}
 use Rattle.dbus_value_model.specs.Bytes.{num}
 use Rattle.dbus_show.specs.ShownMessages.{line_feeds}
-use Rattle.dbus_show.specs.ShownValues.{number_text, escape_by, quoted_by, joined, bytes_in, value_text, value_texts}
+use Rattle.dbus_show.specs.Escapes.{escape, escaped, is_escaped, is_quote, quoted_by, units_text}
+use Rattle.dbus_show.specs.ShownValues.{number_text, joined, bytes_in, value_text, value_texts}
+use Rattle.dbus_show.specs.declared.escapes.Escapes.{Escapes}
+use Rattle.dbus_show.specs.declared.escapes.Escapes.TheVariants.{Shown, Json, Hidden}
 
 -- ---- lists
 
@@ -119,18 +124,36 @@ line_number UNIX_FD n = line_decimal n
 
 -- ---- texts
 
--- the cases of an escape
-escape_cases : (mark : List ℕ) → IsOneLine mark → (b : ℕ) (quote backslash control : Bool) → (b ≡ 10 → control ≡ true) → IsOneLine (cond quote (codes "\\\"") (cond backslash (codes "\\\\") (cond control (mark ++ encode_lower (b ∷ [])) (b ∷ []))))
-escape_cases mark m b true backslash control h = line_literal (codes "\\\"") refl
-escape_cases mark m b false true control h = line_literal (codes "\\\\") refl
-escape_cases mark m b false false true h = line_append mark (encode_lower (b ∷ [])) m (line_hex (b ∷ []))
-escape_cases mark m b false false false h = line_cons b [] (λ e. let k = h e in cc) (line_literal [] refl)
+line_if : (b : Bool) (s t : List ℕ) → (b ≡ true → IsOneLine s) → (b ≡ false → IsOneLine t) → IsOneLine (cond b s t)
+line_if true s t h k = h refl
+line_if false s t h k = k refl
 
-line_escape : (mark : List ℕ) → IsOneLine mark → (b : ℕ) → IsOneLine (escape_by mark b)
-line_escape mark m b = escape_cases mark m b (eqb b 34) (eqb b 92) (nat_lt b 32 || eqb b 127) (λ e. ap (λ x. nat_lt x 32 || eqb x 127) e)
+line_encode : (c : ℕ) → c ≢ 10 → IsOneLine (encode_utf8 c)
+unfolding encode
+line_encode c h =
+    let last = line_cons (128 + c % 64) [] (λ e. omega arith) (line_literal [] refl) in
+    let third = line_cons (128 + c / 64 % 64) ((128 + c % 64) ∷ []) (λ e. omega arith) last in
+    line_either (ltb c 128) _ _ (line_cons c [] h (line_literal [] refl))
+    (line_either (ltb c 2048) _ _ (line_cons (192 + c / 64) _ (λ e. omega arith) last)
+    (line_either (ltb c 65536) _ _ (line_cons (224 + c / 4096) _ (λ e. omega arith) third) (line_cons (240 + c / 262144) _ (λ e. omega arith) (line_cons (128 + c / 4096 % 64) _ (λ e. omega arith) third))))
 
-pub line_quoted : (mark : List ℕ) → IsOneLine mark → (text : List ℕ) → IsOneLine (quoted_by mark text)
-line_quoted mark m text = between (codes "\"") (flat_map (escape_by mark) text) (codes "\"") refl (line_flat (escape_by mark) (line_escape mark m) text) refl
+line_units : (c : ℕ) → IsOneLine (units_text c)
+line_units c = line_flat _ (λ u. line_append (codes "\\u") _ (line_literal (codes "\\u") refl) (line_hex (u / 256 ∷ u % 256 ∷ []))) (encode_utf16 c)
+
+line_backslashed : (c : ℕ) → is_quote c ≡ true → IsOneLine (92 ∷ c ∷ [])
+line_backslashed c h = line_cons 92 (c ∷ []) (λ e. omega arith) (line_cons c [] (λ e. let k : is_quote 10 ≡ true = subst (λ x. is_quote x ≡ true) e h in cc) (line_literal [] refl))
+
+-- what stands for a character, if a line feed is among those that are escaped
+line_escape : (escapes : Escapes) → is_escaped escapes 10 ≡ true → (c : ℕ) → IsOneLine (escape escapes c)
+line_escape Shown h c = line_if (is_quote c) _ _ (line_backslashed c) (λ _. line_append (codes "\\x") (encode_lower (c ∷ [])) (line_literal (codes "\\x") refl) (line_hex (c ∷ [])))
+line_escape Json h c = line_if (is_quote c) _ _ (line_backslashed c) (λ _. line_units c)
+line_escape Hidden h c = absurd (cc)
+
+line_written : (escapes : Escapes) → is_escaped escapes 10 ≡ true → (c : ℕ) → IsOneLine (cond (is_escaped escapes c) (escape escapes c) (encode_utf8 c))
+line_written escapes h c = line_if (is_escaped escapes c) _ _ (λ _. line_escape escapes h c) (λ other. line_encode c (λ e. let k : is_escaped escapes 10 ≡ false = subst (λ x. is_escaped escapes x ≡ false) e other in cc))
+
+pub line_quoted : (escapes : Escapes) → is_escaped escapes 10 ≡ true → (text : List ℕ) → IsOneLine (quoted_by escapes text)
+line_quoted escapes h text = between (codes "\"") (escaped escapes text) (codes "\"") refl (line_flat _ (line_written escapes h) (chars text)) refl
 
 -- ---- signatures
 
@@ -173,7 +196,7 @@ line_joined (t ∷ ts) h = line_append t (flat_map (λ t. codes ", " ++ t) ts) h
 mutual
   pub line_value : (v : ValueTree) → IsOneLine (value_text v)
   line_value (NumberValue k n) = line_cons (number_code k) (codes ":" ++ number_text k n) (number_code_other k) (line_append (codes ":") (number_text k n) (line_literal (codes ":") refl) (line_number k n))
-  line_value (TextValue k t) = line_cons (text_code k) (codes ":" ++ quoted_by (codes "\\x") t) (text_code_other k) (line_append (codes ":") (quoted_by (codes "\\x") t) (line_literal (codes ":") refl) (line_quoted (codes "\\x") (line_literal (codes "\\x") refl) t))
+  line_value (TextValue k t) = line_cons (text_code k) (codes ":" ++ quoted_by Shown t) (text_code_other k) (line_append (codes ":") (quoted_by Shown t) (line_literal (codes ":") refl) (line_quoted Shown refl t))
   line_value (VariantValue x) = between (codes "<") (value_text x) (codes ">") refl (line_value x) refl
   line_value (ArrayValue t xs) =
       let bytes = encode_lower (bytes_in xs) in

@@ -1,3 +1,7 @@
+pub mod Escapes
+pub mod PlainFronts
+pub mod Visible
+pub mod VisibleLaws
 pub mod ShownValues
 pub mod ShownMessages
 pub mod Gains

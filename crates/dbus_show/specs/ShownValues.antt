@@ -1,16 +1,18 @@
 -- The text of a value: the code of its type, a colon and its number or text; an array after its
 -- signature; the other containers in brackets of their own. The codes and signatures are those of
 -- the D-Bus Specification, "Type System", "Summary of types".
-use Rattle.std.specs.Prelude.{ℕ, List, [], ◌∷◌, ◌++◌, Bool, codes, decimal, ◌||◌, nat_eq, nat_lt, if◌then◌else◌}
+use Rattle.std.specs.Prelude.{ℕ, List, [], ◌∷◌, ◌++◌, codes, decimal, nat_eq, if◌then◌else◌}
 use Rattle.std.specs.Fmt.{signed_decimal}
 use Rattle.std.specs.Int.{cast_signed, w16, w32, w64}
-use Rattle.std.specs.List.{concat, flat_map, join_by}
+use Rattle.std.specs.List.{concat, join_by}
 use Rattle.hex.specs.Hex.{encode_lower}
 use Rattle.dbus_texts.specs.Types.{NumberCode, BYTE, BOOLEAN, INT16, UINT16, INT32, UINT32, INT64, UINT64, DOUBLE, UNIX_FD, ArrayType, number_code, text_code, sig}
 use Rattle.dbus_texts.specs.PlainTypes.{is_byte}
 use Rattle.dbus_value_model.specs.declared.order.Order.TheVariants.{Big}
 use Rattle.dbus_value_model.specs.Values.{ValueTree, ValueTrees, NumberValue, TextValue, VariantValue, ArrayValue, StructValue, EntryValue, NoValues, MoreValues}
 use Rattle.dbus_value_model.specs.Bytes.{num}
+use Rattle.dbus_show.specs.declared.escapes.Escapes.TheVariants.{Shown}
+use Rattle.dbus_show.specs.Escapes.{quoted_by}
 
 -- A number in decimal, a signed one read back from its two's complement; a DOUBLE's eight bytes,
 -- the highest place first, two hexadecimal digits for each.
@@ -26,27 +28,9 @@ number_text UINT64 n = decimal n
 number_text DOUBLE n = encode_lower (num Big 8 n)
 number_text UNIX_FD n = decimal n
 
--- A byte of a text: 34 is a quotation mark and 92 a backslash, which stand after a backslash; the
--- bytes below 32 and 127 have no sign of their own and stand as a mark and two hexadecimal digits.
--- Every other byte is itself.
-abbrev pub escape_by : (mark : List ℕ) → ℕ → List ℕ
-escape_by mark b =
-    if nat_eq b 34 then codes "\\\""
-    else if nat_eq b 92 then codes "\\\\"
-    else if nat_lt b 32 || nat_eq b 127 then mark ++ encode_lower (b ∷ [])
-    else b ∷ []
-
--- whether a byte is shown as something other than itself, as in each case of `escape_by` but the
--- last
-abbrev pub is_escaped : ℕ → Bool
-is_escaped b = nat_lt b 32 || nat_eq b 34 || nat_eq b 92 || nat_eq b 127
-
-abbrev pub quoted_by : (mark : List ℕ) → List ℕ → List ℕ
-quoted_by mark text = concat (codes "\"" ∷ flat_map (escape_by mark) text ∷ codes "\"" ∷ [])
-
--- a text as it is shown: the mark is `\x`
+-- a text as it is shown: between quotation marks, with its escapes
 abbrev pub quoted : List ℕ → List ℕ
-quoted text = quoted_by (codes "\\x") text
+quoted text = quoted_by Shown text
 
 abbrev pub joined : List (List ℕ) → List ℕ
 joined texts = join_by (λ text. text) (codes ", ") texts

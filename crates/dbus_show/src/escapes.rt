@@ -1,63 +1,117 @@
-//! Texts with their escapes.
+//! Which characters of a text are escaped, and what stands for them.
 #![tactic(auto)]
 
-ghost use Rattle.std.specs.Prelude.{◌≡◌, true};
-ghost use Rattle.std.specs.List.{flat_map};
-ghost use Rattle.dbus_show.specs.ShownValues.{escape_by, is_escaped, quoted, quoted_by};
+ghost use Rattle.std.specs.Prelude.{◌≡◌, ◌/◌, ◌%◌, ◌∷◌, [], ◌++◌, codes, true};
+ghost use Rattle.std.specs.Char.Escape.{escape_unicode};
+ghost use Rattle.hex.specs.Hex.{encode_lower};
+ghost use Rattle.dbus_show.specs.Escapes.{escape, is_escaped, is_hidden, is_quote, units_text};
 
 use crate::draft::Draft;
 use crate::hexadecimal::write_byte;
-use crate::runs::plain_length;
 
-/// Appends what stands for a byte that is not shown as itself.
-fn write_escape<D: Draft>(draft: &mut D, byte: u8, mark: &str)
-    requires { is_escaped byte ≡ true }
-    ensures { D.gains draft.old (escape_by mark.now byte) draft.new }
+/// Which characters of a text are escaped as it is written, and how.
+#[derive(Clone, Copy, Debug, PartialEq, Eq)]
+pub enum Escapes {
+    /// As `show` has texts: `"` and `\` after a backslash, control characters of ASCII as `\x1b`.
+    Shown,
+    /// As in strings of JSON: `"` and `\` after a backslash, control characters of ASCII and hidden
+    /// characters as `\u001b`, or as two such units if UTF-16 has two. RFC 8259, section 7.
+    Json,
+    /// Hidden characters alone, as `\u{202e}`.
+    Hidden,
+}
+
+/// Whether a character is hidden: beyond ASCII, a terminal may obey it, or it is not drawn.
+///
+/// These are the control characters U+0080 to U+009F, those that turn the direction of writing, as
+/// U+202E, separators of lines, characters without a width, as U+200B and U+FEFF, the soft hyphen,
+/// and tags. Unicode, chapter 23, "Special Areas and Format Characters".
+pub fn is_hidden(character: char) -> bool
+    ensures { result ≡ is_hidden character }
 {
-    match byte {
-        b'"' => draft.push_str("\\\""),
-        b'\\' => draft.push_str("\\\\"),
-        _ => {
-            draft.push_str(mark);
-            write_byte(draft, byte);
+    matches!(
+        character,
+        '\u{80}'..='\u{9f}'
+            | '\u{ad}'
+            | '\u{61c}'
+            | '\u{180e}'
+            | '\u{200b}'..='\u{200f}'
+            | '\u{2028}'..='\u{202e}'
+            | '\u{2060}'..='\u{206f}'
+            | '\u{feff}'
+            | '\u{fff9}'..='\u{fffb}'
+            | '\u{e0000}'..='\u{e0fff}'
+    )
+}
+
+/// Whether it is a quotation mark or a backslash.
+fn is_quote(character: char) -> bool
+    ensures { result ≡ is_quote character }
+{
+    character == '"' || character == '\\'
+}
+
+/// Whether a character is escaped.
+pub(crate) fn is_escaped(character: char, escapes: Escapes) -> bool
+    ensures { result ≡ is_escaped escapes character }
+{
+    match escapes {
+        Escapes::Shown => is_quote(character) || character.is_ascii_control(),
+        Escapes::Json => {
+            is_quote(character) || character.is_ascii_control() || is_hidden(character)
         }
+        Escapes::Hidden => is_hidden(character),
     }
 }
 
-/// Appends a text with its escapes, and what is between two of them at once.
-#[inline(never)]
-fn write_runs<D: Draft>(draft: &mut D, text: &str, mark: &str)
-    ensures { D.gains draft.old (flat_map (escape_by mark.now) text.now) draft.new }
+/// Appends a unit of UTF-16 as `\u` and four digits.
+fn write_unit<D: Draft>(draft: &mut D, unit: u16)
+    ensures { D.gains draft.old (codes "\\u" ++ encode_lower (unit / 256 ∷ unit % 256 ∷ [])) draft.new }
 {
-    let bytes = text.as_bytes();
-    let mut start = 0;
-    let mut end = plain_length(bytes);
-    while end < bytes.len() {
-        draft.push_str(&text[start..end]);
-        write_escape(draft, bytes[end], mark);
-        start = end + 1;
-        end = start + plain_length(&bytes[start..]);
-    }
-    draft.push_str(&text[start..]);
+    draft.push_str("\\u");
+    write_byte(draft, (unit / 256) as u8);
+    write_byte(draft, (unit % 256) as u8);
 }
 
-/// Appends a text between quotation marks. A byte below 32, or 127, is written as the mark and two
-/// hexadecimal digits.
-pub fn write_quoted_by<D: Draft>(draft: &mut D, text: &str, mark: &str)
-    ensures { D.gains draft.old (quoted_by mark.now text.now) draft.new }
+/// Appends the units of a character in UTF-16. RFC 8259, section 7.
+fn write_units<D: Draft>(draft: &mut D, character: char)
+    ensures { D.gains draft.old (units_text character) draft.new }
 {
-    if plain_length(text.as_bytes()) == text.len() {
-        draft.push_between("\"", text, "\"");
+    let code = character as u32;
+    if code < 0x1_0000 {
+        write_unit(draft, code as u16);
         return;
     }
-    draft.push_code(b'"');
-    write_runs(draft, text, mark);
-    draft.push_code(b'"');
+    let bits = code - 0x1_0000;
+    write_unit(draft, (0xd800 + bits / 0x400) as u16);
+    write_unit(draft, (0xdc00 + bits % 0x400) as u16);
 }
 
-/// Appends a text between quotation marks, with `\x` as the mark.
-pub fn write_quoted<D: Draft>(draft: &mut D, text: &str)
-    ensures { D.gains draft.old (quoted text.now) draft.new }
+/// Appends a character as `\u{`, its code and `}`.
+fn write_code<D: Draft>(draft: &mut D, character: char)
+    ensures { D.gains draft.old (escape_unicode character) draft.new }
 {
-    write_quoted_by(draft, text, "\\x");
+    for part in character.escape_unicode() {
+        draft.push_str(part.encode_utf8(&mut [0; 4]));
+    }
+}
+
+/// Appends what stands for a character that is escaped.
+pub(crate) fn write_escape<D: Draft>(draft: &mut D, character: char, escapes: Escapes)
+    requires { is_escaped escapes character ≡ true }
+    ensures { D.gains draft.old (escape escapes character) draft.new }
+{
+    if is_quote(character) {
+        draft.push_code(b'\\');
+        draft.push_code(character as u8);
+        return;
+    }
+    match escapes {
+        Escapes::Shown => {
+            draft.push_str("\\x");
+            write_byte(draft, character as u8);
+        }
+        Escapes::Json => write_units(draft, character),
+        Escapes::Hidden => write_code(draft, character),
+    }
 }

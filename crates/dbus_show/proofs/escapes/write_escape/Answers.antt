@@ -1,10 +1,14 @@
-use Rattle.std.proofs.Common.{rules, ◌≡◌, ◌∷◌, [], ◌++◌, subst}
-use Rattle.hex.specs.Hex.{encode_lower}
-use Rattle.dbus_show.specs.ShownValues.{escape_by}
+use Rattle.std.proofs.Common.{sym, subst, ◌∙◌}
+use Rattle.dbus_show.proofs.EscapedText.{quote_escape, shown_escape}
 use Rattle.dbus_show.proofs.FieldTexts.{then}
 use Rattle.dbus_show.proofs.escapes.write_escape.Goals as goal
 
-pub returns-in_default : goal.returns-in_default
-returns-in_default g c =
-    let text : c.args.mark.now ++ encode_lower (c.args.byte ∷ []) ≡ escape_by c.args.mark.now c.args.byte = search rules in
-    subst (λ s. g.D.Draft.gains c.args.draft.now s c.write_byte.new.draft) text (then g.D.Draft.gains g.met.D.Draft.joins c.push_str-in_default.ensures c.write_byte.ensures)
+pub returns-then-is_quote : goal.returns-then-is_quote
+returns-then-is_quote g c =
+    subst (λ s. g.D.Draft.gains c.args.draft.now s c.push_code-then-is_quote.new.self) (sym (quote_escape c.args.escapes c.args.character c.requires (sym c.is_quote.ensures ∙ c.if-is_quote.true)))
+    (then g.D.Draft.gains g.met.D.Draft.joins c.push_code.ensures c.push_code-then-is_quote.ensures)
+
+pub returns-in-Shown : goal.returns-in-Shown
+returns-in-Shown g c =
+    subst (λ s. g.D.Draft.gains c.args.draft.now s c.write_byte.new.draft) (sym (shown_escape c.args.escapes c.args.character c.in-Shown.is (sym c.is_quote.ensures ∙ c.if-is_quote.false)))
+    (then g.D.Draft.gains g.met.D.Draft.joins c.push_str.ensures c.write_byte.ensures)
