@@ -6,7 +6,8 @@ as `make bench-c` builds it, also the microseconds that it takes to find ten of 
 many: N rules, each of an interface of its own, that match nothing, over 4,000 signals.
 learned, owned: N rules, each of the well-known sender of its own, whose names have owners: as the stream tells, or as is given by
 `--owner`; the owners are N connections. Over 4,000 signals of the last of them. alone: the same if one connection owns all names, over
-1,000 of its signals.
+1,000 of its signals. others: N rules, each of the sender alone, which is another name; over 4,000 signals of one connection that owns
+N names.
 keys: 100 rules of N keys `argN`, of which the last does not hold. reach: 100 rules of the one key `argN` behind N values. Both over
 2,000 signals of 64 texts.
 """
@@ -66,6 +67,11 @@ def alone(count):
     return owned_by(count, lambda _: ":1.7"), sent(1_000, "s", ("a",), ":1.7")
 
 
+def others(count):
+    owners = [word for n in range(count) for word in ("--owner", f"{name(n)}=:1.7")]
+    return ("filter", *owners, *[f"sender='org.example.Other{n}'" for n in range(count)]), sent(4_000, "s", ("a",), ":1.7")
+
+
 def keys(count):
     held = ",".join(f"arg{n}='a'" for n in range(count - 1))
     return ("filter", *[f"{held},arg{count - 1}='b'"] * 100), sent(2_000, "s" * 64, ("a",) * 64, ":1.7")
@@ -99,7 +105,7 @@ SETS_BY_KEY = {
         "sender='org.example.Name',interface='org.freedesktop.DBus.Properties',path='/org/freedesktop/NetworkManager/Devices/%ld',arg0='org.example.Name.A'",
     ),
 }
-ROWS = {many: OWNERS, learned: OWNERS, owned: OWNERS, alone: OWNERS, keys: KEYS, reach: KEYS}
+ROWS = {many: OWNERS, learned: OWNERS, owned: OWNERS, alone: OWNERS, others: OWNERS, keys: KEYS, reach: KEYS}
 
 
 def least(command_line, path):

@@ -10,7 +10,7 @@ use Rattle.dbus_stream.specs.Cut.{CutMessage}
 use Rattle.dbus_stream.specs.CutEnds.{sizes}
 use Rattle.dbus_show.specs.ShownMessages.{message_text}
 use Rattle.dbus_json.proofs.SomeLines.{some_line_each}
-use Rattle.dbus_match.specs.Matching.{Ownership}
+use Rattle.dbus_rule_set.specs.Owners.{OwnerSet, owners_in}
 use Rattle.cli_options.proofs.Selections.{selected}
 use Rattle.cli_options.specs.declared.command.Command.{Command}
 use Rattle.cli_options.specs.declared.command.Command.TheVariants.{Show, Json, Check, Swap, Filter}
@@ -24,9 +24,9 @@ use Rattle.cli_run.proofs.PartLaws.{placed_both}
 
 -- ---- there is one
 
-picked : (command : Command) (os : List Ownership) (message : MessageTree) → Picks command os message ⊎ (Picks command os message → ⊥)
+picked : (command : Command) (os : OwnerSet) (message : MessageTree) → Picks command os message ⊎ (Picks command os message → ⊥)
 picked Check os message = inr (λ never. never)
-picked (Filter selection) os message = selected selection os message
+picked (Filter selection) os message = selected selection (owners_in os) message
 picked command os message = inl tt
 
 pub some_text : (command : Command) (order : Order) (message : MessageTree) (place : MessagePlace) → (text : List ℕ) × IsTextOf command order message place text
@@ -36,7 +36,7 @@ some_text Check order message place = ([], refl)
 some_text (Swap wanted) order message place = (message_bytes wanted message, refl)
 some_text (Filter selection) order message place = (message_bytes order message, refl)
 
-pub some_of_one : (command : Command) (os : List Ownership) (order : Order) (message : MessageTree) (place : MessagePlace) → (texts : List (List ℕ)) × IsOutputOf command os order message place texts
+pub some_of_one : (command : Command) (os : OwnerSet) (order : Order) (message : MessageTree) (place : MessagePlace) → (texts : List (List ℕ)) × IsOutputOf command os order message place texts
 some_of_one command os order message place =
     let some = some_text command order message place in
     elim (picked command os message) [
@@ -44,7 +44,7 @@ some_of_one command os order message place =
       | inr n ↦ ([], inr (n, refl))
     ]
 
-some_of_all : (command : Command) (os : List Ownership) (items : List Placed) → (out : List (List ℕ)) × IsOutputOfAll command os items out
+some_of_all : (command : Command) (os : OwnerSet) (items : List Placed) → (out : List (List ℕ)) × IsOutputOfAll command os items out
 some_of_all command os [] = ([], refl)
 some_of_all command os (m ∷ items) =
     let one = some_of_one command os m.item.order m.item.message m.place in
@@ -84,7 +84,7 @@ text_one : (command : Command) (order : Order) (message : MessageTree) (place : 
 text_one Json order message place a b exact p q = absurd exact
 text_one command order message place a b exact p q = p ∙ sym q
 
-output_one : (command : Command) (os : List Ownership) (order : Order) (message : MessageTree) (place : MessagePlace) (a b : List (List ℕ)) → IsExact command → IsOutputOf command os order message place a
+output_one : (command : Command) (os : OwnerSet) (order : Order) (message : MessageTree) (place : MessagePlace) (a b : List (List ℕ)) → IsExact command → IsOutputOf command os order message place a
     → IsOutputOf command os order message place b → a ≡ b
 output_one command os order message place a b exact p q = elim p [
   | inl met ↦ elim q [
@@ -94,7 +94,7 @@ output_one command os order message place a b exact p q = elim p [
   | inr unmet ↦ elim q [ inl met ↦ absurd (unmet.0 met.0) | inr too ↦ unmet.1 ∙ sym too.1 ]
 ]
 
-pub output_all_one : (command : Command) (os : List Ownership) (items : List Placed) (a b : List (List ℕ)) → IsExact command → IsOutputOfAll command os items a → IsOutputOfAll command os items b → a ≡ b
+pub output_all_one : (command : Command) (os : OwnerSet) (items : List Placed) (a b : List (List ℕ)) → IsExact command → IsOutputOfAll command os items a → IsOutputOfAll command os items b → a ≡ b
 output_all_one command os [] a b exact p q = p ∙ sym q
 output_all_one command os (m ∷ items) a b exact p q =
     let same : p.0 ≡ q.0 = output_one command os m.item.order m.item.message m.place p.0 q.0 exact p.3 q.3 in

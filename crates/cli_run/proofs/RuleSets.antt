@@ -15,6 +15,7 @@ use Rattle.dbus_rule.specs.RuleViews.{rule_pairs}
 use Rattle.dbus_rule.specs.declared.rule.Rule.{Rule}
 use Rattle.dbus_rule_set.specs.Handles.{handle_cmp}
 use Rattle.dbus_rule_set.specs.Held.{EntryMatches, HoldsOfAny, rule_at, with_rule}
+use Rattle.dbus_rule_set.specs.Owners.{OwnerSet, owners_in}
 use Rattle.dbus_rule_set.specs.declared.handle.RuleHandle.{RuleHandle}
 use Rattle.cli_options.specs.Selections.{OrInverted, SomeMatches}
 
@@ -67,17 +68,18 @@ module _ (m : MessageTree) (os : List Ownership) where
             t),
       )
 
-  -- ---- whether any matches
+-- ---- whether any matches
 
-  met : (es : Entries) → HoldsOfAny (EntryMatches m os) es → Met es
+module _ (m : MessageTree) (os : OwnerSet) where
+  met : (es : Entries) → HoldsOfAny (EntryMatches m os) es → Met m (owners_in os) es
   met [] h = h
   met (e ∷ es) h = ⊎_elim (λ a. inl a) (λ b. inr (met es b)) h
 
-  met_any : (es : Entries) → Met es → HoldsOfAny (EntryMatches m os) es
+  met_any : (es : Entries) → Met m (owners_in os) es → HoldsOfAny (EntryMatches m os) es
   met_any [] s = s
   met_any (e ∷ es) s = ⊎_elim (λ a. inl a) (λ b. inr (met_any es b)) s
 
-  pub any_met : (es : Entries) (any : Bool) → Decides any (HoldsOfAny (EntryMatches m os) es) → Decides any (Met es)
+  pub any_met : (es : Entries) (any : Bool) → Decides any (HoldsOfAny (EntryMatches m os) es) → Decides any (Met m (owners_in os) es)
   any_met es any d = (λ t. met es (d.0 t), λ s. d.1 (met_any es s))
 
 -- whether a message is selected, by whether any of the same rules matches it

@@ -2,6 +2,7 @@
 -- the tally, and what is told if nothing is explained; and of the messages the texts that commands
 -- make that are the same, and exact.
 use Rattle.std.proofs.Common.{◌≡◌, ◌↔◌, ℕ, zero, suc, ◌+◌, Bool, true, false, ◌||◌, List, [], ◌∷◌, ◌++◌, map, None, Some, Option, refl, sym, ap, ◌∙◌, subst, arith, inl, inr}
+use Rattle.std.specs.FinSet.{from_list}
 use Rattle.std.specs.declared.alloc.Global.{Global}
 use Rattle.dbus_value_model.specs.declared.fault.Fault.{Fault}
 use Rattle.dbus_value_model.specs.declared.order.Order.{Order}
@@ -10,8 +11,8 @@ use Rattle.dbus_rule.specs.declared.rule.Rule.{Rule}
 use Rattle.dbus_match.specs.Matching.{Matches, Ownership}
 use Rattle.dbus_rule.specs.Rules.{sender_of, Pair}
 use Rattle.dbus_rule.specs.RuleViews.{rule_pairs}
+use Rattle.dbus_rule_set.specs.Owners.{OwnerSet, owners_in}
 use Rattle.dbus_calls.specs.OwnerChanges.{change_of, is_text}
-use Rattle.cli_options.specs.Owners.{ask_sender, known_after, wanted}
 use Rattle.cli_options.specs.Selections.{AreSameCommand, AreSameSelection, OrInverted, SelectsBy, SomeMatches}
 use Rattle.cli_options.specs.declared.command.Command.{Command}
 use Rattle.cli_options.specs.declared.command.Command.TheVariants.{Show, Json, Check, Swap, Filter}
@@ -20,6 +21,7 @@ use Rattle.cli_options.specs.declared.settings.Settings.{Settings}
 use Rattle.cli_report.specs.Telling.{IsToldBy, line_of}
 use Rattle.cli_report.specs.declared.telling.RefusedMessage.{RefusedMessage}
 use Rattle.cli_report.specs.declared.ending.ExitStatus.TheVariants as status
+use Rattle.cli_run.specs.Learning.{ask_sender, changed, known_after}
 use Rattle.cli_run.specs.Inputs.{Part, PassedOver, Placed, Whole, placed, placed_at}
 use Rattle.cli_run.specs.Output.{IsExact, IsOutputOf, IsOutputOfAll, IsTextOf, Picks, is_check, owners_after, owners_known}
 use Rattle.cli_run.specs.Going.{AreTold, IsTold, IsToldLast, passed_count, status_at, tally_of}
@@ -123,22 +125,22 @@ same_asks (r ∷ rules) (s ∷ others) name e =
     let rest = same_asks rules others name more in
     λ i. is_text (sender_of (one i)) name || rest i
 
-same_wanted : (rules others : List (Rule Global)) (change : Option Ownership) → map rule_pairs rules ≡ map rule_pairs others → wanted rules change ≡ wanted others change
-same_wanted rules others None e = refl
-same_wanted rules others (Some o) e = rw (same_asks rules others o.name e) refl
+same_changed : (rules others : List (Rule Global)) (change : Option Ownership) (os : OwnerSet) → map rule_pairs rules ≡ map rule_pairs others → changed rules change os ≡ changed others change os
+same_changed rules others None os e = refl
+same_changed rules others (Some o) os e = rw (same_asks rules others o.name e) refl
 
-same_after : (a b : Selection) (os : List Ownership) (m : MessageTree) → AreSameSelection a b → known_after a os m ≡ known_after b os m
-same_after a b os m h = rw (h.learns, same_wanted a.rules.items b.rules.items (change_of m) h.rules) refl
+same_after : (a b : Selection) (os : OwnerSet) (m : MessageTree) → AreSameSelection a b → known_after a os m ≡ known_after b os m
+same_after a b os m h = rw (h.learns, same_changed a.rules.items b.rules.items (change_of m) os h.rules) refl
 
 -- ---- a command that is the same acts the same
 
 pub record ActsAs (a b : Command) : Type 0 where
   pub checks : is_check a ≡ is_check b
   pub exact : IsExact a → IsExact b
-  pub picks : (os : List Ownership) (m : MessageTree) → Picks a os m ↔ Picks b os m
+  pub picks : (os : OwnerSet) (m : MessageTree) → Picks a os m ↔ Picks b os m
   pub texts : (order : Order) (m : MessageTree) (place : MessagePlace) (text : List ℕ) → IsTextOf a order m place text → IsTextOf b order m place text
   pub known : owners_known a None ≡ owners_known b None
-  pub learned : (os : List Ownership) (m : MessageTree) → owners_after a os m ≡ owners_after b os m
+  pub learned : (os : OwnerSet) (m : MessageTree) → owners_after a os m ≡ owners_after b os m
 
 itself : (a : Command) → ActsAs a a
 itself a = record { checks = refl; exact = λ e. e; picks = λ os m. (λ p. p, λ p. p); texts = λ order m place text t. t; known = refl; learned = λ os m. refl }
@@ -153,23 +155,23 @@ acts_as (Filter x) (Filter y) h =
     record {
       checks = refl;
       exact = λ e. e;
-      picks = λ os m. (same_selects x y os m h, same_selects y x os m back);
+      picks = λ os m. (same_selects x y (owners_in os) m h, same_selects y x (owners_in os) m back);
       texts = λ order m place text t. t;
-      known = h.owners;
+      known = ap from_list h.owners;
       learned = λ os m. same_after x y os m h;
     }
 acts_as a b h = absurd h
 
 module _ (a b : Command) (h : ActsAs a b) where
-  made_too : (os : List Ownership) (items : List Placed) (texts : List (List ℕ)) → IsOutputOfAll a os items texts → IsOutputOfAll b os items texts
+  made_too : (os : OwnerSet) (items : List Placed) (texts : List (List ℕ)) → IsOutputOfAll a os items texts → IsOutputOfAll b os items texts
   made_too os [] texts p = p
   made_too os (m ∷ items) texts p =
       let one : IsOutputOf b os m.item.order m.item.message m.place p.0 = elim p.3 [
         | inl met ↦ inl ((h.picks os m.item.message).0 met.0, met.1, h.texts m.item.order m.item.message m.place met.1 met.2, met.3)
         | inr unmet ↦ inr (λ k. unmet.0 ((h.picks os m.item.message).1 k), unmet.1)
       ] in
-      (p.0, p.1, p.2, one, subst (λ (l : List Ownership). IsOutputOfAll b l items p.1) (h.learned os m.item.message) (made_too (owners_after a os m.item.message) items p.1 p.4))
+      (p.0, p.1, p.2, one, subst (λ (l : OwnerSet). IsOutputOfAll b l items p.1) (h.learned os m.item.message) (made_too (owners_after a os m.item.message) items p.1 p.4))
 
   pub same_outputs : IsExact a → (items : List Placed) (x y : List (List ℕ)) → IsOutputOfAll a (owners_known a None) items x → IsOutputOfAll b (owners_known b None) items y → x ≡ y
   same_outputs exact items x y p q =
-      output_all_one b (owners_known b None) items x y (h.exact exact) (subst (λ (l : List Ownership). IsOutputOfAll b l items x) h.known (made_too (owners_known a None) items x p)) q
+      output_all_one b (owners_known b None) items x y (h.exact exact) (subst (λ (l : OwnerSet). IsOutputOfAll b l items x) h.known (made_too (owners_known a None) items x p)) q

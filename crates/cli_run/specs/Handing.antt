@@ -1,7 +1,6 @@
 -- What is written of one message, and what is read of the next one. g0 and g1 are what is gathered
 -- before and after.
-use Rattle.std.specs.Prelude.{◌≡◌, ◌↔◌, ℕ, Bool, IsTrue, Vec, List, [], ◌++◌, length, Option, None, Result, Ok, Err, IfOk}
-use Rattle.std.specs.declared.alloc.Global.{Global}
+use Rattle.std.specs.Prelude.{◌≡◌, ◌↔◌, ℕ, Bool, IsTrue, List, [], ◌++◌, length, Option, None, Result, Ok, Err, IfOk}
 use Rattle.dbus_value_model.specs.declared.order.Order.{Order}
 use Rattle.dbus_message_model.specs.Messages.{MessageTree}
 use Rattle.dbus_validate.specs.declared.validating.Validated.{Validated}
@@ -9,7 +8,7 @@ use Rattle.dbus_stream.specs.Next.{DeviceCounts}
 use Rattle.dbus_stream.specs.RawReading.{Reads, Advances, ReadsNothing, done_of, kept, source_of, stopped_of}
 use Rattle.dbus_stream.specs.declared.raw_reader.RawReader.{RawReader}
 use Rattle.dbus_json.specs.JsonMessages.{IsJsonLine}
-use Rattle.dbus_match.specs.declared.owner.Owner.{Owner}
+use Rattle.dbus_rule_set.specs.Owners.{OwnerSet}
 use Rattle.cli_options.specs.declared.command.Command.{Command}
 use Rattle.cli_report.specs.Devices.{Writing}
 use Rattle.cli_run.specs.Output.{after, written, IsOutputOf, IsTextOf, line_place, Picks, owners_after, owners_known}
@@ -37,7 +36,7 @@ WritesOne w command order message place g0 g1 result =
 
 -- whether the command makes a text of a message, and the owners that it has learned before and
 -- after it
-pub record IsPicked (command : Command) (message : MessageTree) (old new : Option (Vec (Owner Global) Global)) (picked : Bool) : Type 0 where
+pub record IsPicked (command : Command) (message : MessageTree) (old new : Option OwnerSet) (picked : Bool) : Type 0 where
   pub picks : IsTrue picked ↔ Picks command (owners_known command old) message
   pub owners : owners_known command new ≡ owners_after command (owners_known command old) message
 

@@ -1,4 +1,5 @@
 pub mod RuleLists
+pub mod Learning
 pub mod Output
 pub mod Inputs
 pub mod Told

@@ -1,7 +1,7 @@
 -- What a command writes of the messages of its input and the fault after them.
-use Rattle.std.specs.Prelude.{◌≡◌, ℕ, ◌+◌, ◌⊎◌, Bool, true, false, List, [], ◌∷◌, ◌++◌, length, Option, None, Some, Vec, codes, decimal, ◌-◌, take, drop, option_map}
+use Rattle.std.specs.Prelude.{◌≡◌, ℕ, ◌+◌, ◌⊎◌, Bool, true, false, List, [], ◌∷◌, ◌++◌, length, Option, None, Some, codes, decimal, ◌-◌, take, drop, option_map}
+use Rattle.std.specs.FinSet.{empty}
 use Rattle.std.specs.List.{concat}
-use Rattle.std.specs.declared.alloc.Global.{Global}
 use Rattle.dbus_value_model.specs.declared.fault.Fault.{Fault}
 use Rattle.dbus_value_model.specs.declared.order.Order.{Order}
 use Rattle.dbus_message_model.specs.Messages.{MessageTree, message_bytes}
@@ -10,9 +10,7 @@ use Rattle.dbus_stream.specs.CutEnds.{sizes}
 use Rattle.dbus_show.specs.ShownMessages.{message_text}
 use Rattle.dbus_json.specs.JsonMessages.{IsJsonLine}
 use Rattle.dbus_json.specs.declared.place.LinePlace.{LinePlace}
-use Rattle.dbus_match.specs.declared.owner.Owner.{Owner}
-use Rattle.dbus_match.specs.Matching.{Ownership}
-use Rattle.cli_options.specs.Owners.{known, known_after}
+use Rattle.dbus_rule_set.specs.Owners.{OwnerSet, owners_in}
 use Rattle.cli_options.specs.Selections.{SelectsBy}
 use Rattle.cli_options.specs.declared.command.Command.{Command}
 use Rattle.cli_options.specs.declared.command.Command.TheVariants.{Show, Json, Check, Swap, Filter}
@@ -22,6 +20,7 @@ use Rattle.cli_report.specs.declared.ending.ExitStatus.{ExitStatus}
 use Rattle.cli_report.specs.declared.ending.ExitStatus.TheVariants as status
 use Rattle.cli_options.specs.declared.window.Window.{Window}
 use Rattle.cli_run.specs.Inputs.{Placed, placed, wholes}
+use Rattle.cli_run.specs.Learning.{known, known_after}
 use Rattle.cli_run.specs.Told.{first_of, second_of}
 use Rattle.cli_run.specs.declared.place.MessagePlace.{MessagePlace}
 use Rattle.cli_run.specs.declared.output.Output.{Output}
@@ -41,24 +40,24 @@ is_check Check = true
 is_check command = false
 
 -- the owners of names that a command knows: its own, or those that it has learned since
-abbrev pub owners_known : Command → Option (Vec (Owner Global) Global) → List Ownership
+abbrev pub owners_known : Command → Option OwnerSet → OwnerSet
 owners_known (Filter selection) learned = known selection learned
-owners_known command learned = []
+owners_known command learned = empty
 
 -- the owners that it knows after a message, if it knew these before
-abbrev pub owners_after : Command → List Ownership → MessageTree → List Ownership
+abbrev pub owners_after : Command → OwnerSet → MessageTree → OwnerSet
 owners_after (Filter selection) os message = known_after selection os message
 owners_after command os message = os
 
 -- the owners that a command knows after messages, if it knew these before
-abbrev pub owners_after_all : Command → List Ownership → List Placed → List Ownership
+abbrev pub owners_after_all : Command → OwnerSet → List Placed → OwnerSet
 owners_after_all command os [] = os
 owners_after_all command os (m ∷ items) = owners_after_all command (owners_after command os m.item.message) items
 
 -- a command makes a text of the message, if it knows these owners
-abbrev pub Picks : Command → List Ownership → MessageTree → Type 0
+abbrev pub Picks : Command → OwnerSet → MessageTree → Type 0
 Picks Check os message = ⊥
-Picks (Filter selection) os message = SelectsBy selection os message
+Picks (Filter selection) os message = SelectsBy selection (owners_in os) message
 Picks command os message = Unit {0}
 
 -- what a line of JSON says of where its message stands: no time
@@ -74,13 +73,13 @@ IsTextOf (Swap wanted) order message place text = text ≡ message_bytes wanted 
 IsTextOf (Filter selection) order message place text = text ≡ message_bytes order message
 
 -- the texts that it makes of one message: one if it picks it, else none
-abbrev pub IsOutputOf : Command → List Ownership → Order → MessageTree → MessagePlace → List (List ℕ) → Type 0
+abbrev pub IsOutputOf : Command → OwnerSet → Order → MessageTree → MessagePlace → List (List ℕ) → Type 0
 IsOutputOf command os order message place texts =
     (Picks command os message × (text : List ℕ) × IsTextOf command order message place text × (texts ≡ text ∷ []))
     ⊎ ((Picks command os message → ⊥) × (texts ≡ []))
 
 -- those that it makes of several, one after the other, if it knows these owners before
-abbrev pub IsOutputOfAll : Command → List Ownership → List Placed → List (List ℕ) → Type 0
+abbrev pub IsOutputOfAll : Command → OwnerSet → List Placed → List (List ℕ) → Type 0
 IsOutputOfAll command os [] texts = texts ≡ []
 IsOutputOfAll command os (m ∷ items) texts = (one : List (List ℕ)) × (more : List (List ℕ)) × (texts ≡ one ++ more)
     × IsOutputOf command os m.item.order m.item.message m.place one × IsOutputOfAll command (owners_after command os m.item.message) items more

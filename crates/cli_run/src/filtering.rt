@@ -1,27 +1,30 @@
 //! Whether a message is selected, by the owners of names that are known.
 ghost use Rattle.std.specs.Prelude.{◌≡◌, ℕ, IfOk, List, length};
+ghost use Rattle.std.specs.FinSet.{from_list};
 ghost use Rattle.dbus_value_model.specs.declared.order.Order.{Order};
 ghost use Rattle.dbus_message_model.specs.Messages.{MessageTree};
 ghost use Rattle.dbus_header.specs.MessageOutcomes.{IsWhole};
 ghost use Rattle.dbus_validate.specs.Validating.{IsValidatedWhole};
 ghost use Rattle.dbus_match.specs.Matching.{ownerships};
-ghost use Rattle.cli_options.specs.Owners.{known};
 ghost use Rattle.cli_options.specs.declared.command.Command.TheVariants.{Filter};
 ghost use Rattle.cli_run.specs.Handing.{IsPicked};
+ghost use Rattle.cli_run.specs.Learning.{known};
 
+use crate::learning::learn;
 use crate::place::Lent;
 use crate::selector::Selector;
 use cli_options::Selection;
 use dbus_match::Owner;
+use dbus_rule_set::Owners;
 use dbus_view::MessageView;
-use std::alloc::AllocError;
+use std::alloc::{AllocError, Global};
 
 /// Whether the message is selected by the owners that are known before it. What it tells of owners
 /// is learned then.
 pub(crate) fn select(
     selector: &Selector,
     lent: &Lent,
-    owners: &mut Option<Vec<Owner>>,
+    owners: &mut Option<Owners>,
 ) -> Result<bool, AllocError>
     requires { IsValidatedWhole lent.now.limits lent.now.bytes.now lent.now.validated }
     ensures { (order : Order) (m : MessageTree) →
@@ -30,18 +33,30 @@ pub(crate) fn select(
 {
     let view = MessageView::of_validated(lent.bytes, lent.limits, lent.validated);
     let selection = selector.selection;
-    let is_selected = selector.selects(&view, known_owners(selection, owners));
-    selection.learn(&view, owners)?;
+    let mut known = take_known(selection, owners)?;
+    let is_selected = selector.selects(&view, &known);
+    learn(selection, &view, &mut known)?;
+    *owners = Some(known);
     Ok(is_selected)
 }
 
-// The owners of names by which a message is selected: those that are known since some were learned,
-// else the selection's own.
-fn known_owners<'a>(selection: &'a Selection, learned: &'a Option<Vec<Owner>>) -> &'a [Owner]
-    ensures { ownerships result.now ≡ known selection.now learned.now }
+// The owners of names that are known since some were learned, else the selection's own.
+fn take_known(selection: &Selection, learned: &mut Option<Owners>) -> Result<Owners, AllocError>
+    ensures { IfOk result (λ owners. owners ≡ known selection.now learned.old) }
 {
-    match learned {
-        Some(owners) => owners.as_slice(),
-        None => selection.owners.as_slice(),
+    match learned.take() {
+        Some(owners) => Ok(owners),
+        None => owners_of(*selection.owners.allocator(), &selection.owners),
     }
+}
+
+// These owners, each once.
+fn owners_of(alloc: Global, owners: &[Owner]) -> Result<Owners, AllocError>
+    ensures { IfOk result (λ all. all ≡ from_list (ownerships owners.now)) }
+{
+    let mut all = Owners::new(alloc);
+    for owner in owners {
+        all.add(owner.name.as_str(), owner.unique.as_str())?;
+    }
+    Ok(all)
 }

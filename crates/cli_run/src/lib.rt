@@ -13,6 +13,7 @@ mod filtering;
 mod going;
 mod handing;
 pub mod laws;
+mod learning;
 mod output;
 mod output_writer;
 mod place;

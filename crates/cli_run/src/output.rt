@@ -17,7 +17,7 @@ use crate::swapping::swap;
 use crate::window::lets_through;
 use cli_options::Command;
 use cli_report::{Cause, OutputBuffer, put_out};
-use dbus_match::Owner;
+use dbus_rule_set::Owners;
 use dbus_stream::Sink;
 use dbus_value_model::Order;
 use std::alloc::{AllocError, Allocator};
@@ -66,7 +66,7 @@ pub(crate) fn is_check(output: &Output) -> bool
 }
 
 // Whether the command makes a text of the message. It learns from the message after that.
-fn picks(output: &Output, lent: &Lent, owners: &mut Option<Vec<Owner>>) -> Result<bool, AllocError>
+fn picks(output: &Output, lent: &Lent, owners: &mut Option<Owners>) -> Result<bool, AllocError>
     requires { IsValidatedWhole lent.now.limits lent.now.bytes.now lent.now.validated }
     ensures { (order : Order) (m : MessageTree) →
         IsWhole lent.now.limits lent.now.bytes.now order m (length lent.now.bytes.now) →

@@ -1,6 +1,6 @@
 //! A message of an input, and which of its messages it is.
 use cli_options::Window;
-use dbus_match::Owner;
+use dbus_rule_set::Owners;
 use dbus_validate::Validated;
 use dbus_value_model::Limits;
 
@@ -18,8 +18,9 @@ pub(crate) struct MessagePlace {
 pub(crate) struct Carried {
     /// The window for the messages that follow.
     pub(crate) window: Window,
-    /// The owners of names, once a message changed those of the command.
-    pub(crate) owners: Option<Vec<Owner>>,
+    /// The owners of names that are known, once a message was looked at. Before, they are those of
+    /// the command.
+    pub(crate) owners: Option<Owners>,
 }
 
 /// A message of an input.

@@ -4,14 +4,14 @@ ghost use Rattle.std.specs.Map.{values_of};
 ghost use Rattle.dbus_value_model.specs.declared.order.Order.{Order};
 ghost use Rattle.dbus_message_model.specs.Messages.{MessageTree};
 ghost use Rattle.dbus_view.specs.Views.{Views};
-ghost use Rattle.dbus_match.specs.Matching.{ownerships};
 ghost use Rattle.dbus_rule_set.specs.Held.{held};
+ghost use Rattle.dbus_rule_set.specs.Owners.{owners_in};
 ghost use Rattle.cli_options.specs.Selections.{SelectsBy};
 ghost use Rattle.cli_run.specs.RuleLists.{MatchAlike};
 
 use cli_options::Selection;
-use dbus_match::{Owner, Rule};
-use dbus_rule_set::RuleSet;
+use dbus_match::Rule;
+use dbus_rule_set::{Owners, RuleSet};
 use dbus_view::MessageView;
 use std::alloc::{AllocError, Global};
 
@@ -36,9 +36,9 @@ impl<'a> Selector<'a> {
     }
 
     /// Whether the message that the view is of is selected if these are the owners of names.
-    pub(crate) fn selects(&self, view: &MessageView, owners: &[Owner]) -> bool
+    pub(crate) fn selects(&self, view: &MessageView, owners: &Owners) -> bool
         ensures { (order : Order) (m : MessageTree) → Views view.now order m →
-            IsTrue result ↔ SelectsBy self.now.selection.now (ownerships owners.now) m }
+            IsTrue result ↔ SelectsBy self.now.selection.now (owners_in owners.now) m }
     {
         self.rules.any_matches(view, owners) != self.selection.is_inverted
     }

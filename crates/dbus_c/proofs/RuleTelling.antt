@@ -7,7 +7,7 @@ use Rattle.dbus_message_model.specs.Messages.{MessageTree}
 use Rattle.dbus_header.specs.MessageOutcomes.{IsWhole}
 use Rattle.dbus_header.proofs.OutcomeLaws.{one_whole}
 use Rattle.dbus_view.specs.Views.{ViewState, Views}
-use Rattle.dbus_match.specs.Matching.{Ownership}
+use Rattle.dbus_rule_set.specs.Owners.{OwnerSet}
 use Rattle.dbus_rule.specs.declared.rule.Rule.{Rule}
 use Rattle.dbus_rule_set.specs.Held.{Collects, EntryMatches}
 use Rattle.dbus_rule_set.specs.declared.handle.RuleHandle.{RuleHandle}
@@ -15,7 +15,7 @@ use Rattle.dbus_c.specs.Outcomes.{IsFirstView, TellsApart}
 use Rattle.dbus_c.specs.Rules.{HasFound, TellsAll, TellsFound, TellsMatching, written, no_room}
 use Rattle.dbus_c.proofs.Outcomes.{whole_answered}
 
-module _ (rules : List (RuleHandle × Rule Global)) (os : List Ownership) (limits : Limits) (b : List ℕ) (old : List RuleHandle) (count : ℕ) where
+module _ (rules : List (RuleHandle × Rule Global)) (os : OwnerSet) (limits : Limits) (b : List ℕ) (old : List RuleHandle) (count : ℕ) where
   module _ (v : ViewState) (is : IsFirstView limits b v) where
     apart : (answer : ℕ) → (answer ≡ 1 → ⊥) → (answer ≡ 2 → ⊥) → TellsApart limits b answer
     apart answer = whole_answered limits b is.order is.message (length v.bytes) is.whole answer

@@ -12,11 +12,11 @@ use Rattle.dbus_value_model.specs.declared.limits.Limits.{Limits}
 use Rattle.dbus_value_model.specs.declared.order.Order.{Order}
 use Rattle.dbus_message_model.specs.Messages.{MessageTree}
 use Rattle.dbus_header.specs.MessageOutcomes.{IsWhole}
-use Rattle.dbus_match.specs.Matching.{Ownership}
 use Rattle.dbus_rule.specs.Rules.{canonical}
 use Rattle.dbus_rule.specs.RuleViews.{rule_pairs}
 use Rattle.dbus_rule.specs.declared.rule.Rule.{Rule}
 use Rattle.dbus_rule_set.specs.Held.{Collects, EntryMatches}
+use Rattle.dbus_rule_set.specs.Owners.{OwnerSet}
 use Rattle.dbus_rule_set.specs.declared.handle.RuleHandle.{RuleHandle}
 use Rattle.dbus_c_handle.specs.Rules.{Adds, KeepsAll, SetsOwner, SharesNone, SharesRules}
 use Rattle.dbus_c_handle.specs.declared.kept.Kept.{Kept}
@@ -93,7 +93,7 @@ pub data TellsAll (handles : List RuleHandle) (answer : ℕ) (old new : List Rul
   no_room : length old < length handles → answer ≡ NO_ROOM → new ≡ old → TellsAll handles answer old new
 
 -- what stands for each rule that matches the message is told, and how many there are
-abbrev pub TellsFound : List (RuleHandle × Rule Global) → MessageTree → List Ownership → ℕ → (old new : List RuleHandle) → (count : ℕ) → Type 0
+abbrev pub TellsFound : List (RuleHandle × Rule Global) → MessageTree → OwnerSet → ℕ → (old new : List RuleHandle) → (count : ℕ) → Type 0
 TellsFound rules m os answer old new count =
     (found : List RuleHandle) × Collects (EntryMatches m os) rules [] found × TellsAll found answer old new × (count ≡ length found)
 
@@ -101,7 +101,7 @@ abbrev pub HasFound : ℕ → Type 0
 HasFound answer = (answer ≡ WHOLE) ⊎ (answer ≡ NO_ROOM)
 
 -- what is told of rules, with the owners of names, and of the message that bytes begin with
-pub record TellsMatching (rules : List (RuleHandle × Rule Global)) (os : List Ownership) (limits : Limits) (b : List ℕ) (answer : ℕ) (old new : List RuleHandle)
+pub record TellsMatching (rules : List (RuleHandle × Rule Global)) (os : OwnerSet) (limits : Limits) (b : List ℕ) (answer : ℕ) (old new : List RuleHandle)
     (count_old count_new : ℕ) : Type 0 where
   pub apart : TellsApart limits b answer
   pub message : BeginsWithMessage limits b → HasFound answer ⊎ (answer ≡ NO_MEMORY)

@@ -2,14 +2,14 @@
 -- keeps with them, and what its calls do with both.
 -- D-Bus Specification, "Match Rules".
 use Rattle.std.specs.Prelude.{◌≡◌, ℕ, ◌+◌, List, [], ◌∷◌, Option, Some, None, Result, Ok, Err, Bool, true, false, String, string_bytes}
+use Rattle.std.specs.FinSet.{empty}
 use Rattle.std.specs.declared.alloc.Global.{Global}
 use Rattle.std.specs.declared.alloc.AllocError.{AllocError}
-use Rattle.dbus_match.specs.Matching.{Ownership}
 use Rattle.dbus_rule.specs.Rules.{SpellsRule, canonical}
 use Rattle.dbus_rule.specs.RuleViews.{rule_pairs}
 use Rattle.dbus_rule.specs.declared.rule.Rule.{Rule}
 use Rattle.dbus_rule_set.specs.Held.{held, given, rule_at, with_rule}
-use Rattle.dbus_rule_set.specs.Owners.{GivesOwner}
+use Rattle.dbus_rule_set.specs.Owners.{OwnerSet, owned_anew}
 use Rattle.dbus_rule_set.specs.declared.handle.RuleHandle.{RuleHandle}
 use Rattle.dbus_c_handle.specs.declared.kept.Kept.{Kept}
 use Rattle.dbus_c_handle.specs.declared.kept.Kept.TheVariants as kept
@@ -29,10 +29,10 @@ given_of (Some (kept.Shared s)) = given s.value.rules
 given_of _ = 0
 
 -- the owners of names that are kept
-abbrev pub owners_of : Option Kept → List Ownership
+abbrev pub owners_of : Option Kept → OwnerSet
 owners_of (Some (kept.Rules s)) = s.owners
 owners_of (Some (kept.Shared s)) = s.value.owners
-owners_of _ = []
+owners_of _ = empty
 
 -- they are shared, so no call changes them
 abbrev pub is_shared : Option Kept → Bool
@@ -57,14 +57,9 @@ pub record KeepsRules (old new : Option Kept) : Type 0 where
   pub given : given_of new ≡ given_of old
   pub owners : owners_of new ≡ owners_of old
 
--- the owner that a text names: none if it is empty
-abbrev pub owner_named : List ℕ → Option (List ℕ)
-owner_named [] = None
-owner_named (b ∷ w) = Some (b ∷ w)
-
--- a name has the owner from then on that the text names, and the rules stay
+-- a name has this owner from then on, or none if that is empty, and the rules stay
 pub record SetsOwner (name owner : List ℕ) (old new : Option Kept) : Type 0 where
-  pub owners : GivesOwner name (owner_named owner) (owners_of old) (owners_of new)
+  pub owners : owners_of new ≡ owned_anew name owner (owners_of old)
   pub rules : rules_of new ≡ rules_of old
   pub given : given_of new ≡ given_of old
 

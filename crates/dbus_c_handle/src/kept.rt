@@ -18,13 +18,14 @@ pub struct KeptRules {
 
 impl KeptRules {
     ghost use Rattle.std.specs.Prelude.{◌≡◌, []};
+    ghost use Rattle.std.specs.FinSet.{empty};
     ghost use Rattle.dbus_rule_set.specs.Held.{held, given};
 
     /// No rule, and no owner of a name. It allocates nothing.
     pub fn new(alloc: Global) -> KeptRules
         ensures rules { held result.rules ≡ [] }
         ensures given { given result.rules ≡ 0 }
-        ensures owners { result.owners ≡ [] }
+        ensures owners { result.owners ≡ empty }
     {
         KeptRules {
             rules: RuleSet::new(alloc),

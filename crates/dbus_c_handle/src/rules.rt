@@ -1,15 +1,14 @@
 //! Match rules that a handle keeps.
 #![tactic(auto)]
 
-ghost use Rattle.std.specs.Prelude.{◌≡◌, Some, MatchResult, OnErr, OnOk, false};
+ghost use Rattle.std.specs.Prelude.{◌≡◌, Some, MatchResult, false};
 ghost use Rattle.dbus_rule.specs.declared.fault.RuleFault.TheVariants.{Memory};
-ghost use Rattle.dbus_c_handle.specs.Rules.{AddsRule, KeepsAll, SetsOwner, is_shared, owner_named};
-ghost use Rattle.dbus_rule_set.specs.Owners.{GivesOwner};
+ghost use Rattle.dbus_c_handle.specs.Rules.{AddsRule, KeepsAll, SetsOwner, is_shared};
 
 use crate::handle::WireHandle;
 use crate::kept::{Kept, KeptRules};
 use dbus_match::{Rule, RuleFault, parse_rule, rule_text};
-use dbus_rule_set::{Owners, RuleHandle};
+use dbus_rule_set::RuleHandle;
 use dbus_view::MessageView;
 use std::alloc::{AllocError, Global};
 
@@ -199,24 +198,12 @@ fn set_owner_in(alloc: Global, kept: &mut Kept, name: &str, owner: &str) -> Resu
     ensures own { is_shared (Some kept.new) ≡ false }
 {
     match kept {
-        Kept::Rules(own) => set_or_remove(&mut own.owners, name, owner),
+        Kept::Rules(own) => own.owners.set(name, owner),
         _ => {
             let mut own = KeptRules::new(alloc);
-            set_or_remove(&mut own.owners, name, owner)?;
+            own.owners.set(name, owner)?;
             *kept = Kept::Rules(own);
             Ok(())
         }
     }
-}
-
-// Gives the name this owner, or none if that is empty.
-fn set_or_remove(owners: &mut Owners, name: &str, owner: &str) -> Result<(), AllocError>
-    ensures set { OnOk result (GivesOwner name.now (owner_named owner.now) owners.old owners.new) }
-    ensures unchanged { OnErr result (owners.new ≡ owners.old) }
-{
-    if owner.is_empty() {
-        owners.remove(name);
-        return Ok(());
-    }
-    owners.set(name, owner)
 }

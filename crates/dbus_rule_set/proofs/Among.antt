@@ -1,8 +1,5 @@
--- Hashes among some, and the next one of them; and owners that are left.
+-- Hashes among some, and the next one of them.
 use Rattle.std.proofs.Common.{◌≡◌, ◌⊎◌, ⊎_elim, inl, inr, ℕ, ◌+◌, ◌<◌, ◌≤◌, List, [], ◌∷◌, ◌++◌, length, get_or, drop, min, Option, Some, None, refl, sym, subst, string_bytes, arith}
-use Rattle.std.proofs.lemmas.List.{drop_more}
-use Rattle.dbus_match.specs.declared.owner.Owner.{Owner}
-use Rattle.dbus_match.specs.Matching.{IsOwned, ownerships}
 use Rattle.dbus_rule_set.specs.Places.{IsAmong, IsNext}
 
 pub among_kept : (h x : ℕ) (xs : List ℕ) → IsAmong h xs → IsAmong h (xs ++ x ∷ [])
@@ -31,9 +28,3 @@ next_lesser from x n m hs l e is =
       omega (arith, l, e, up),
       λ h i. ⊎_elim (λ j. ⊎_elim (λ b. inl b) (λ g. inr (omega (arith, e, g))) (is.1 h j)) (λ q. inr (omega (arith, e, q))) (among_split h x hs i),
     )
-
--- an owner among those left is the next one, or among those left after it
-pub owned_left : {A : Type 0} (os : List (Owner A)) (i : ℕ) (o : Owner A) (v w : List ℕ) → i < length os → o ≡ get_or os i o → IsOwned (ownerships (drop i os)) v w → ((string_bytes o.name ≡ v) × (string_bytes o.unique ≡ w)) ⊎ IsOwned (ownerships (drop (i + 1) os)) v w
-owned_left os i o v w l e owned =
-    let first = subst (λ (xs : List (Owner _)). IsOwned (ownerships xs) v w) (drop_more os i o l) owned in
-    subst (λ (x : Owner _). ((string_bytes x.name ≡ v) × (string_bytes x.unique ≡ w)) ⊎ IsOwned (ownerships (drop (i + 1) os)) v w) (sym e) first

@@ -8,5 +8,5 @@ pub mod Marked
 pub mod Collected
 pub mod Parted
 pub mod Placed
-pub mod OwnersLeft
-pub mod Grouped
+pub mod GroupedTexts
+pub mod OwnerSets

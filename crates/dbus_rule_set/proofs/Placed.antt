@@ -17,6 +17,7 @@ use Rattle.dbus_rule.proofs.Keys.{rank_same}
 use Rattle.dbus_match.specs.Matching.{HoldsAt, Matches, Ownership, text_of}
 use Rattle.dbus_rule_set.specs.declared.handle.RuleHandle.{RuleHandle}
 use Rattle.dbus_rule_set.specs.Held.{EntryMatches}
+use Rattle.dbus_rule_set.specs.Owners.{OwnerSet, owners_in}
 use Rattle.dbus_rule_set.specs.Places.{Stands, argument, is_placed, is_under, place_hash}
 
 is_key : (k : Key) → argument k < 64 → IsKey k
@@ -70,8 +71,8 @@ leads h (p ∷ ps) m os t all =
     (or_cases (is_under h p) (is_placed h ps) t)
 
 -- those of a kind that match have hashes of which H holds, as of those that its key leads to
-module _ {A : Type 0} (m : MessageTree) (os : List Ownership) (key : Key) (kind : ℕ) (H : ℕ → Type 0) (keyed : kind < 136 → IsKey key × (rank key ≡ kind)) (other : kind ≡ 136 → ⊥)
-    (met : (v : List ℕ) → HoldsAt key v m os → H (place_hash key v)) where
+module _ {A : Type 0} (m : MessageTree) (os : OwnerSet) (key : Key) (kind : ℕ) (H : ℕ → Type 0) (keyed : kind < 136 → IsKey key × (rank key ≡ kind)) (other : kind ≡ 136 → ⊥)
+    (met : (v : List ℕ) → HoldsAt key v m (owners_in os) → H (place_hash key v)) where
   one_met : (e : RuleHandle × Rule A) → Stands e → EntryMatches m os e → e.0.kind ≡ kind → H e.0.hash
   one_met e stands matches is =
       ⊎_elim
@@ -81,8 +82,8 @@ module _ {A : Type 0} (m : MessageTree) (os : List Ownership) (key : Key) (kind 
       let below : kind < 136 = ⊎_elim (λ n. absurd (other n)) (λ d. omega (arith, b, is, d)) (cases_eq kind 136) in
       let k = keyed below in
       let same : l.key ≡ key = rank_same l.key key l.is_key k.0 (sym l.kind ∙ is ∙ sym k.1) in
-      subst H (sym (l.hash ∙ ap (λ x. place_hash x l.value) same)) (met l.value (subst (λ x. HoldsAt x l.value m os) same l.holds)))
-      (leads e.0 (rule_pairs e.1) m os stands.1 matches)
+      subst H (sym (l.hash ∙ ap (λ x. place_hash x l.value) same)) (met l.value (subst (λ x. HoldsAt x l.value m (owners_in os)) same l.holds)))
+      (leads e.0 (rule_pairs e.1) m (owners_in os) stands.1 matches)
 
   pub have_met : (es : List (RuleHandle × Rule A)) → AllByRecursion Stands es → AllByRecursion (λ e. EntryMatches m os e → e.0.kind ≡ kind → H e.0.hash) es
   have_met [] all = tt

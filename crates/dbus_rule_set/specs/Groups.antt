@@ -1,33 +1,31 @@
--- The names that each unique name owns, by which SENDER's are found. No public clause speaks of it.
-use Rattle.std.specs.Prelude.{◌≡◌, ◌↔◌, ℕ, List, [], Option, Some, not, filter, option_map, String, string_bytes, Vec}
+-- Texts that each text has. No public clause speaks of it.
+use Rattle.std.specs.Prelude.{◌≡◌, ℕ, Bool, false, List, String, string_bytes, map}
 use Rattle.std.specs.BTreeMap.{BTreeMap, IsOrdered, get_by_text}
+use Rattle.std.specs.BTreeSet.{BTreeSet, contains_text}
+use Rattle.std.specs.FinSet as set
+use Rattle.std.specs.List.{flat_map}
 use Rattle.std.specs.Option.{option_map_or}
-use Rattle.std.specs.Str.{bytes_eq}
 use Rattle.std.specs.String.{string_cmp}
 use Rattle.std.specs.declared.alloc.Global.{Global}
-use Rattle.dbus_match.specs.Matching.{IsOwned, Ownership, ownerships}
-use Rattle.dbus_match.specs.declared.owner.Owner.{Owner}
-use Rattle.dbus_rule_set.specs.Owners.{AreOf, HaveEachNameOnce}
+use Rattle.dbus_match.specs.Matching.{Ownership}
+use Rattle.dbus_rule_set.specs.Owners.{OwnerSet}
 
--- what the unique name owns
-abbrev pub group : BTreeMap (String Global) (Vec (Owner Global) Global) → List ℕ → List Ownership
-group m u = option_map_or (λ v. ownerships v.items) (get_by_text m u) []
+abbrev pub Groups : Type 0
+Groups = BTreeMap (String Global) (BTreeSet (String Global))
 
--- those of other names
-abbrev pub others : List ℕ → List Ownership → List Ownership
-others name os = filter (λ o. not (bytes_eq o.name name)) os
+-- whether the first text has the second
+abbrev pub has : Groups → (first second : List ℕ) → Bool
+has groups first second = option_map_or (λ group. contains_text group second) (get_by_text groups first) false
 
--- the unique name that owns the name
-abbrev pub owner_in : BTreeMap (String Global) (String Global) → List ℕ → Option (List ℕ)
-owner_in m n = option_map string_bytes (get_by_text m n)
+-- the name that has owners, with each of them
+abbrev pub owned : String Global × BTreeSet (String Global) → List Ownership
+owned e = map (λ u. record { name = string_bytes e.0; unique = string_bytes u }) e.1.keys
 
--- what stands by a unique name: owners that are it, of each name one
-pub record IsGroup (unique : List ℕ) (os : List Ownership) : Type 0 where
-  pub own : AreOf unique os
-  pub once_each : HaveEachNameOnce os
+-- the owners of names that have them
+abbrev pub owners_by : Groups → OwnerSet
+owners_by groups = set.from_list (flat_map owned groups.entries)
 
--- the names are in order, and each unique name stands by those that it owns, and by no others
-pub record AreGrouped (names : BTreeMap (String Global) (String Global)) (groups : BTreeMap (String Global) (Vec (Owner Global) Global)) : Type 0 where
-  pub ordered : IsOrdered string_cmp names
-  pub grouped : (name unique : List ℕ) → IsOwned (group groups unique) name unique ↔ (owner_in names name ≡ Some unique)
-  pub each : (unique : List ℕ) → IsGroup unique (group groups unique)
+-- the names are in order, and each owner has exactly the names that have it
+pub record AreConverse (by_name by_unique : Groups) : Type 0 where
+  pub ordered : IsOrdered string_cmp by_name
+  pub converse : (name unique : List ℕ) → has by_name name unique ≡ has by_unique unique name

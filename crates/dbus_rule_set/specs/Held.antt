@@ -7,10 +7,11 @@ use Rattle.std.specs.Map.{keys_of, lookup, remove_entry}
 use Rattle.dbus_message_model.specs.Messages.{MessageTree}
 use Rattle.dbus_rule.specs.declared.rule.Rule.{Rule}
 use Rattle.dbus_rule.specs.RuleViews.{rule_pairs}
-use Rattle.dbus_match.specs.Matching.{Matches, Ownership}
+use Rattle.dbus_match.specs.Matching.{Matches}
 use Rattle.dbus_rule_set.specs.declared.handle.RuleHandle.{RuleHandle}
 use Rattle.dbus_rule_set.specs.declared.rule_set.RuleSet.{RuleSet}
 use Rattle.dbus_rule_set.specs.Handles.{handle_cmp}
+use Rattle.dbus_rule_set.specs.Owners.{OwnerSet, owners_in}
 
 -- the rules of a set, each with its handle, in the order of the handles
 abbrev pub held : {A : Type 0} → RuleSet A → List (RuleHandle × Rule A)
@@ -36,9 +37,9 @@ without h es = remove_entry (is_at (handle_cmp h)) es
 abbrev pub AreApart : {A : Type 0} → List (RuleHandle × Rule A) → Type 0
 AreApart es = IsStrictlySortedBy handle_cmp (keys_of es)
 
--- the rule matches the message
-abbrev pub EntryMatches : {A : Type 0} → MessageTree → List Ownership → RuleHandle × Rule A → Type 0
-EntryMatches m os e = Matches (rule_pairs e.1) m os
+-- the rule matches the message, with these owners of names
+abbrev pub EntryMatches : {A : Type 0} → MessageTree → OwnerSet → RuleHandle × Rule A → Type 0
+EntryMatches m os e = Matches (rule_pairs e.1) m (owners_in os)
 
 -- in order, the handle of each rule of which P holds comes to the end of a list, and no other
 abbrev pub Collects : {A : Type 0} → (RuleHandle × Rule A → Type 0) → List (RuleHandle × Rule A) → List RuleHandle → List RuleHandle → Type 0

@@ -1,31 +1,34 @@
--- The owners of names that are kept, of each name one, and how noting changes them. D-Bus
+-- The owners of names, as a set of names with their owners, and how it changes. D-Bus
 -- Specification, "Bus names".
-use Rattle.std.specs.Prelude.{◌≡◌, ◌≢◌, ◌↔◌, ℕ, List, Option, Some, map, String, string_bytes}
-use Rattle.std.specs.List.{All, AllPairs}
-use Rattle.std.specs.declared.alloc.Global.{Global}
-use Rattle.dbus_match.specs.Matching.{IsOwned, Ownership}
+use Rattle.std.specs.Prelude.{◌≡◌, ℕ, List, [], not, if◌then◌else◌, refl}
+use Rattle.std.specs.Coded.{Coded, code_by, coded×, coded_list, coded_ℕ}
+use Rattle.std.specs.Cmp.Lexicographic.{slice_cmp}
+use Rattle.std.specs.FinSet as set
+use Rattle.std.specs.Ordering.{nat_cmp, on, then_cmp}
+use Rattle.std.specs.Str.{bytes_eq}
+use Rattle.std.specs.declared.cmp.Ordering.{Ordering}
+use Rattle.dbus_match.specs.Matching.{Ownership}
 
--- the owner of one name
-abbrev pub entry_owner : String Global × String Global → Ownership
-entry_owner e = record { name = string_bytes e.0; unique = string_bytes e.1 }
+-- by the names, and then by their owners
+abbrev pub owner_cmp : Ownership → Ownership → Ordering
+owner_cmp = then_cmp (on (λ o. o.name) (slice_cmp nat_cmp)) (on (λ o. o.unique) (slice_cmp nat_cmp))
 
--- the owners by name
-abbrev pub owners_by_name : List (String Global × String Global) → List Ownership
-owners_by_name es = map entry_owner es
+-- names with their owners, each once
+abbrev pub OwnerSet : Type 0
+OwnerSet = set.FinSet owner_cmp
 
--- no name has two owners
-abbrev pub HaveOneOwner : List Ownership → Type 0
-HaveOneOwner os = (name u w : List ℕ) → IsOwned os name u → IsOwned os name w → u ≡ w
+-- as a list
+abbrev pub owners_in : OwnerSet → List Ownership
+owners_in os = set.items os
 
--- each is of this owner
-abbrev pub AreOf : (unique : List ℕ) → List Ownership → Type 0
-AreOf unique os = All (λ o. o.unique ≡ unique) os
+abbrev pub ownership_code : Coded Ownership
+ownership_code =
+    code_by (List ℕ × List ℕ) (coded× (coded_list coded_ℕ) (coded_list coded_ℕ)) (λ o. (o.name, o.unique)) (λ p. record { name = p.0; unique = p.1 }) (λ _. refl)
 
--- no name stands twice
-abbrev pub HaveEachNameOnce : List Ownership → Type 0
-HaveEachNameOnce os = AllPairs (λ o p. o.name ≢ p.name) os
+-- those of other names
+abbrev pub without_owners : List ℕ → OwnerSet → OwnerSet
+without_owners name s = set.retain s (λ o. not (bytes_eq name o.name))
 
--- the name has this owner from now on, or none, and each other name the owner that it had
-pub record GivesOwner (name : List ℕ) (owner : Option (List ℕ)) (old new : List Ownership) : Type 0 where
-  pub here : (unique : List ℕ) → IsOwned new name unique ↔ (owner ≡ Some unique)
-  pub others : (other unique : List ℕ) → other ≢ name → IsOwned new other unique ↔ IsOwned old other unique
+-- the name has this owner alone, or none if that is empty; other names keep theirs
+abbrev pub owned_anew : (name unique : List ℕ) → OwnerSet → OwnerSet
+owned_anew name unique s = if bytes_eq unique [] then without_owners name s else set.insert (without_owners name s) (record { name = name; unique = unique })

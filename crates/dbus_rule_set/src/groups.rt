@@ -1,68 +1,98 @@
-//! The names that each unique name owns.
+//! Texts that each text has.
 #![tactic(auto)]
 
-ghost use Rattle.std.specs.Prelude.{◌≡◌, ◌++◌, ◌∷◌, [], ℕ, List, OnErr, OnOk, if◌then◌else◌};
+ghost use Rattle.std.specs.Prelude.{◌≡◌, ◌&&◌, ◌||◌, not, ℕ, List, [], OnErr, OnOk};
 ghost use Rattle.std.specs.Bool.{OnTrue};
+ghost use Rattle.std.specs.BTreeMap.{IsOrdered};
+ghost use Rattle.std.specs.BTreeSet.{contains_text};
+ghost use Rattle.std.specs.String.{string_cmp};
 ghost use Rattle.std.specs.Str.{bytes_eq};
-ghost use Rattle.dbus_match.specs.Matching.{ownerships};
-ghost use Rattle.dbus_rule_set.specs.Groups.{group, others};
+ghost use Rattle.dbus_rule_set.specs.Groups.{has};
 
-use dbus_match::Owner;
 use std::alloc::{AllocError, Global};
-use std::collections::BTreeMap;
+use std::collections::{BTreeMap, BTreeSet};
 
-/// What the unique name owns.
-pub(crate) fn group_of<'a>(groups: &'a BTreeMap<String, Vec<Owner>>, unique: &str) -> &'a [Owner]
-    ensures { ownerships result.now ≡ group groups.now unique.now }
+/// Some texts, each with those that it has.
+pub(crate) type Groups = BTreeMap<String, BTreeSet<String>>;
+
+/// Whether the first text has the second.
+pub(crate) fn has(groups: &Groups, first: &str, second: &str) -> bool
+    ensures { result ≡ has groups.now first.now second.now }
 {
-    match groups.get(unique) {
-        Some(owners) => owners.as_slice(),
-        None => &[],
+    match groups.get(first) {
+        Some(group) => group.contains(second),
+        None => false,
     }
 }
 
-/// Takes the owners of this name away. Whether none is left.
-fn forget(owners: &mut Vec<Owner>, name: &str) -> bool
-    ensures left { ownerships owners.new.items ≡ others name.now (ownerships owners.old.items) }
-    ensures none { OnTrue result (ownerships owners.new.items ≡ []) }
+/// Adds a text, if it is not there.
+pub(crate) fn note(
+    alloc: Global,
+    group: &mut BTreeSet<String>,
+    text: &str,
+) -> Result<(), AllocError>
+    ensures noted { OnOk result ((t : List ℕ) →
+        contains_text group.new t ≡ (bytes_eq text.now t || contains_text group.old t)) }
+    ensures failed { OnErr result ((t : List ℕ) →
+        contains_text group.new t ≡ contains_text group.old t) }
 {
-    owners.retain(|owner| owner.name.as_str() != name);
-    owners.is_empty()
+    let text = String::from_str(alloc, text)?;
+    group.insert(text)?;
+    Ok(())
 }
 
-/// Takes the name from those that the unique name owns.
-pub(crate) fn leave(groups: &mut BTreeMap<String, Vec<Owner>>, name: &str, unique: &str)
-    ensures { (u : List ℕ) → group groups.new u ≡ (if bytes_eq unique.now u then others name.now (group groups.old u) else group groups.old u) }
+/// Takes a text away. Whether none is left.
+pub(crate) fn forget(group: &mut BTreeSet<String>, text: &str) -> bool
+    ensures left { (t : List ℕ) →
+        contains_text group.new t ≡ (not (bytes_eq text.now t) && contains_text group.old t) }
+    ensures none { OnTrue result (group.new.keys ≡ []) }
 {
-    let Some(owners) = groups.get_mut(unique) else {
+    group.remove(text);
+    group.is_empty()
+}
+
+/// The first text has the second no more.
+pub(crate) fn leave(groups: &mut Groups, first: &str, second: &str)
+    ensures { (n u : List ℕ) → has groups.new n u ≡
+        (not (bytes_eq first.now n && bytes_eq second.now u) && has groups.old n u) }
+{
+    let Some(group) = groups.get_mut(first) else {
         return;
     };
-    if forget(owners, name) {
-        groups.remove(unique);
+    if forget(group, second) {
+        groups.remove(first);
     }
 }
 
-/// Adds the name to those that the unique name owns.
+/// None of the first texts has the second any more.
+pub(crate) fn leave_each(groups: &mut Groups, firsts: &BTreeSet<String>, second: &str)
+    ensures { (n u : List ℕ) → has groups.new n u ≡
+        (not (contains_text firsts.now n && bytes_eq second.now u) && has groups.old n u) }
+{
+    for first in firsts {
+        leave(groups, first.as_str(), second);
+    }
+}
+
+/// The first text has the second from now on.
 pub(crate) fn join(
     alloc: Global,
-    groups: &mut BTreeMap<String, Vec<Owner>>,
-    name: &str,
-    unique: &str,
+    groups: &mut Groups,
+    first: &str,
+    second: &str,
 ) -> Result<(), AllocError>
-    ensures joined { OnOk result ((u : List ℕ) → group groups.new u ≡ (if bytes_eq unique.now u then group groups.old u ++ record { name = name.now; unique = unique.now } ∷ [] else group groups.old u)) }
-    ensures failed { OnErr result ((u : List ℕ) → group groups.new u ≡ group groups.old u) }
+    ensures joined { OnOk result ((n u : List ℕ) → has groups.new n u ≡
+        (bytes_eq first.now n && bytes_eq second.now u || has groups.old n u)) }
+    ensures failed { OnErr result ((n u : List ℕ) → has groups.new n u ≡ has groups.old n u) }
+    ensures ordered { IsOrdered string_cmp groups.new }
 {
-    let owner = Owner {
-        name: String::from_str(alloc, name)?,
-        unique: String::from_str(alloc, unique)?,
-    };
-    if let Some(owners) = groups.get_mut(unique) {
-        owners.push(owner)?;
+    if let Some(group) = groups.get_mut(first) {
+        note(alloc, group, second)?;
         return Ok(());
     }
-    let key = String::from_str(alloc, unique)?;
-    let mut owners = Vec::new(alloc);
-    owners.push(owner)?;
-    groups.insert(key, owners)?;
+    let key = String::from_str(alloc, first)?;
+    let mut group = BTreeSet::new(alloc);
+    note(alloc, &mut group, second)?;
+    groups.insert(key, group)?;
     Ok(())
 }

@@ -7,7 +7,7 @@
 //! An example is at [`RuleSet`].
 //!
 //! [`Owners`] keeps the owners of well-known names from message to message, for
-//! [`RuleSet::matching`].
+//! [`RuleSet::matching`] and [`RuleSet::any_matches`].
 #![tactic(auto)]
 
 mod groups;

@@ -7,18 +7,18 @@ ghost use Rattle.dbus_message_model.specs.Messages.{MessageTree};
 ghost use Rattle.dbus_view.specs.Views.{Views};
 ghost use Rattle.dbus_rule.specs.declared.key.Key.TheVariants.{Eavesdrop};
 ghost use Rattle.dbus_match.specs.Matching.{HoldsAt, IsOwned, PathsMeet};
+ghost use Rattle.dbus_rule_set.specs.Owners.{owners_in};
 ghost use Rattle.dbus_rule_set.specs.Places.{Covers, IsAmong, IsFront, place_hash, trimmed};
 ghost use Rattle.dbus_rule_set.specs.TextNumbers.{text_hash};
 
 use crate::numbers::{START, and_byte, hash_of, text_hash};
+use crate::owners::Owners;
 use crate::slashes::ends_in_slash;
-use crate::visitor::NameOwners;
 use arrayvec::ArrayVec;
 use dbus_match::{string_arg, string_or_path_arg};
 use dbus_message_model::message_type::type_name;
 use dbus_rule::Key;
 use dbus_view::MessageView;
-use std::alloc::Allocator;
 
 /// The most hashes that are looked up for one kind.
 const HASHES: usize = 64;
@@ -97,35 +97,30 @@ fn paths(text: Option<&str>) -> Option<Hashes>
 }
 
 /// The hashes of the sender and of the names that it owns; `None` if they are too many.
-fn senders<A: Allocator, O: NameOwners<A>>(text: Option<&str>, owners: &O) -> Option<Hashes>
+fn senders(text: Option<&str>, owners: &Owners) -> Option<Hashes>
     ensures { IfSome result (λ hashes.
         Covers (option_map (λ s. s.now) text.entry) (λ v w.
-        (v ≡ w) ⊎ IsOwned (O.owners owners.now) v w) (λ v. v) hashes.items) }
+        (v ≡ w) ⊎ IsOwned (owners_in owners.now) v w) (λ v. v) hashes.items) }
 {
     let mut hashes = only(text);
     let Some(unique) = text else {
         return Some(hashes);
     };
-    let names = owners.names_of(unique);
-    for owner in names {
-        if owner.unique.as_str() != unique {
-            continue;
-        }
-        note(&mut hashes, true, text_hash(owner.name.as_str().as_bytes()))?;
+    let Some(names) = owners.of(unique) else {
+        return Some(hashes);
+    };
+    for name in names {
+        note(&mut hashes, true, text_hash(name.as_str().as_bytes()))?;
     }
     Some(hashes)
 }
 
 /// The hashes under which rules with the key stand that may match the message; `None` if any of
 /// these rules may match.
-pub(crate) fn met<A: Allocator, O: NameOwners<A>>(
-    key: Key,
-    view: &MessageView,
-    owners: &O,
-) -> Option<Hashes>
+pub(crate) fn met(key: Key, view: &MessageView, owners: &Owners) -> Option<Hashes>
     ensures met { (order : Order) (m : MessageTree) → Views view.now order m →
         IfSome result (λ hashes. (v : List ℕ) →
-        HoldsAt key v m (O.owners owners.now) → IsAmong (place_hash key v) hashes.items) }
+        HoldsAt key v m (owners_in owners.now) → IsAmong (place_hash key v) hashes.items) }
     ensures all { OnSome result (key ≢ Eavesdrop) }
 {
     match key {

@@ -1,19 +1,17 @@
 //! The owners of names.
 #![tactic(auto)]
 
-ghost use Rattle.std.specs.Prelude.{◌≡◌, ◌↔◌, IsTrue, Some};
-ghost use Rattle.dbus_rule_set.specs.Groups.{owner_in};
-
-use crate::groups::{group_of, join, leave};
-use dbus_match::Owner;
+use crate::groups::{Groups, forget, has, join, leave, leave_each, note};
 use std::alloc::{AllocError, Global};
-use std::collections::BTreeMap;
+use std::collections::{BTreeMap, BTreeSet};
 use std::marker::Model;
 
-/// The owners of well-known names, of each name at most one. D-Bus Specification, "Bus names".
+/// The owners of well-known names. D-Bus Specification, "Bus names".
 ///
-/// To set one takes time for the logarithm of the number of names, and for the number of those that
-/// the old owner and the new one have. What an owner has is found in time for the logarithm.
+/// A bus gives a name one owner. More may be added, for messages of several buses or times.
+///
+/// To add or set an owner, to take those of a name away, or to look one up takes time for the
+/// logarithm of the number of names and owners, for each owner that goes.
 ///
 /// This keeps what `NameOwnerChanged` tells, whose third value is empty if no one owns the name any
 /// more:
@@ -23,44 +21,45 @@ use std::marker::Model;
 ///
 /// let mut owners = Owners::new(alloc);
 /// for (name, unique) in [("org.example.Clock", ":1.7"), ("org.example.Lab", "")] {
-///     if unique.is_empty() {
-///         owners.remove(name);
-///     } else {
-///         owners.set(name, unique)?;
-///     }
+///     owners.set(name, unique)?;
 /// }
-/// println!(rt; "{}", owners.of(":1.7").len())?;
+/// println!(rt; "{}", owners.of(":1.7").is_some())?;
 /// ```
 #[derive(Drop)]
 pub struct Owners {
     alloc: Global,
-    /// The owner of each name.
-    by_name: BTreeMap<String, String>,
+    /// The owners of each name.
+    by_name: Groups,
     /// The names of each owner.
-    by_unique: BTreeMap<String, Vec<Owner>>,
+    by_unique: Groups,
 }
 
 impl Model for Owners {
-    ghost use Rattle.std.specs.Prelude.{List};
-    ghost use Rattle.dbus_match.specs.Matching.{Ownership};
-    ghost use Rattle.dbus_rule_set.specs.Groups.{AreGrouped};
-    ghost use Rattle.dbus_rule_set.specs.Owners.{owners_by_name};
+    ghost use Rattle.std.specs.FinSet as set;
+    ghost use Rattle.dbus_rule_set.specs.Owners.{OwnerSet, ownership_code};
 
-    ghost Value = { List Ownership };
+    ghost Value = { OwnerSet };
 
-    ghost view = { λ s. owners_by_name s.by_name.entries };
+    ghost coded = { set.code ownership_code };
 
-    ghost invariant = { λ s. AreGrouped s.by_name s.by_unique };
+    ghost use Rattle.dbus_rule_set.specs.Groups.{AreConverse, owners_by};
+
+    ghost view = { λ s. owners_by s.by_name };
+
+    ghost invariant = { λ s. AreConverse s.by_name s.by_unique };
 }
 
 impl Owners {
-    ghost use Rattle.std.specs.Prelude.{◌≡◌, ◌↔◌, [], None, Some, IsTrue, OnErr, OnOk};
-    ghost use Rattle.dbus_match.specs.Matching.{IsOwned, ownerships, OwnsAlike};
-    ghost use Rattle.dbus_rule_set.specs.Owners.{AreOf, GivesOwner, HaveEachNameOnce, HaveOneOwner};
+    ghost use Rattle.std.specs.Prelude.{◌≡◌, ◌↔◌, ℕ, List, IsTrue, OnErr, OnOk, false};
+    ghost use Rattle.std.specs.BTreeSet.{contains_text};
+    ghost use Rattle.std.specs.FinSet.{contains, empty, insert};
+    ghost use Rattle.std.specs.Option.{option_map_or};
+    ghost use Rattle.dbus_match.specs.Matching.{IsOwned};
+    ghost use Rattle.dbus_rule_set.specs.Owners.{owned_anew, owners_in, without_owners};
 
     /// No name has an owner. It allocates nothing.
     pub fn new(alloc: Global) -> Owners
-        ensures { result ≡ [] }
+        ensures { result ≡ empty }
     {
         Owners {
             alloc,
@@ -69,65 +68,76 @@ impl Owners {
         }
     }
 
-    /// Gives the name this owner, in place of the one that it has. Other names keep theirs.
+    /// Gives the name this owner, beside those that it has.
+    ///
+    /// Returns an error only if an allocation failed. It then holds what it held.
+    pub fn add(&mut self, name: &str, unique: &str) -> Result<(), AllocError>
+        ensures added { OnOk result (self.new ≡
+            insert self.old (record { name = name.now; unique = unique.now })) }
+        ensures unchanged { OnErr result (self.new ≡ self.old) }
+    {
+        if has(&self.by_name, name, unique) {
+            return Ok(());
+        }
+        join(self.alloc, &mut self.by_unique, unique, name)?;
+        if join(self.alloc, &mut self.by_name, name, unique).is_err() {
+            leave(&mut self.by_unique, unique, name);
+            return Err(AllocError);
+        }
+        Ok(())
+    }
+
+    /// Gives the name this owner, in place of those that it has; an empty one: it has none from
+    /// then on. Other names keep theirs.
     ///
     /// Returns an error only if an allocation failed. It then holds what it held.
     pub fn set(&mut self, name: &str, unique: &str) -> Result<(), AllocError>
-        ensures set { OnOk result (GivesOwner name.now (Some unique.now) self.old self.new) }
+        ensures set { OnOk result (self.new ≡ owned_anew name.now unique.now self.old) }
         ensures unchanged { OnErr result (self.new ≡ self.old) }
     {
-        if is_owner(&self.by_name, name, unique) {
+        if unique.is_empty() {
+            self.remove(name);
             return Ok(());
         }
         let key = String::from_str(self.alloc, name)?;
-        let value = String::from_str(self.alloc, unique)?;
-        join(self.alloc, &mut self.by_unique, name, unique)?;
-        match self.by_name.insert(key, value) {
+        let mut owners = BTreeSet::new(self.alloc);
+        note(self.alloc, &mut owners, unique)?;
+        join(self.alloc, &mut self.by_unique, unique, name)?;
+        match self.by_name.insert(key, owners) {
             Ok(None) => Ok(()),
-            Ok(Some(old)) => {
-                leave(&mut self.by_unique, name, old.as_str());
+            Ok(Some(mut others)) => {
+                forget(&mut others, unique);
+                leave_each(&mut self.by_unique, &others, name);
                 Ok(())
             }
             Err(_) => {
-                leave(&mut self.by_unique, name, unique);
+                leave(&mut self.by_unique, unique, name);
                 Err(AllocError)
             }
         }
     }
 
-    /// Takes the name's owner away, if it has one. Other names keep theirs. It allocates nothing.
+    /// Takes the name's owners away, if it has any. Other names keep theirs. It allocates nothing.
     pub fn remove(&mut self, name: &str)
-        ensures { GivesOwner name.now None self.old self.new }
+        ensures { self.new ≡ without_owners name.now self.old }
     {
-        if let Some(old) = self.by_name.remove(name) {
-            leave(&mut self.by_unique, name, old.as_str());
+        if let Some(owners) = self.by_name.remove(name) {
+            leave_each(&mut self.by_unique, &owners, name);
         }
     }
 
-    /// The names that the unique name owns, each once and with it, and no others.
-    pub fn of(&self, unique: &str) -> &[Owner]
-        ensures alike { OwnsAlike unique.now (ownerships result.now) self.now }
-        ensures own { AreOf unique.now (ownerships result.now) }
-        ensures once_each { HaveEachNameOnce (ownerships result.now) }
-        ensures once { HaveOneOwner self.now }
+    /// The names that the unique name owns, in the order of their bytes; `None` if it owns none.
+    pub fn of(&self, unique: &str) -> Option<&BTreeSet<String>>
+        ensures { (name : List ℕ) → option_map_or (λ names. contains_text names.now name) result false ≡
+            contains self.now (record { name = name; unique = unique.now }) }
     {
-        group_of(&self.by_unique, unique)
+        self.by_unique.get(unique)
     }
 
     /// Whether the name has this owner.
     pub(crate) fn has(&self, name: &str, unique: &str) -> bool
-        ensures { IsTrue result ↔ IsOwned self.now name.now unique.now }
+        ensures { IsTrue result ↔ IsOwned (owners_in self.now) name.now unique.now }
     {
-        is_owner(&self.by_name, name, unique)
-    }
-}
-
-// Whether the name has this owner.
-fn is_owner(names: &BTreeMap<String, String>, name: &str, unique: &str) -> bool
-    ensures { IsTrue result ↔ (owner_in names.now name.now ≡ Some unique.now) }
-{
-    match names.get(name) {
-        Some(owner) => owner.as_str() == unique,
-        None => false,
+        has(&self.by_name, name, unique)
     }
 }

@@ -9,7 +9,6 @@ ghost use Rattle.std.proofs.Props.{props};
 ghost use Rattle.dbus_value_model.specs.declared.order.Order.{Order};
 ghost use Rattle.dbus_message_model.specs.Messages.{MessageTree};
 ghost use Rattle.dbus_view.specs.Views.{Views};
-ghost use Rattle.dbus_match.specs.Matching.{ownerships};
 ghost use Rattle.dbus_rule_set.specs.Handles.{handle_cmp};
 ghost use Rattle.dbus_rule_set.specs.Places.{IsIndexed, IsKept};
 
@@ -18,8 +17,8 @@ use crate::kinds::Kinds;
 use crate::owners::Owners;
 use crate::search::search;
 use crate::standing::handle_of;
-use crate::visitor::{FirstOnly, Listed};
-use dbus_match::{Owner, Rule};
+use crate::visitor::FirstOnly;
+use dbus_match::Rule;
 use dbus_view::MessageView;
 use std::alloc::{AllocError, AllocFailed, Allocator, Global};
 use std::collections::BTreeMap;
@@ -210,25 +209,25 @@ impl<A: Allocator> RuleSet<A> {
     }
 
     /// Whether any rule matches the message, as [`dbus_match::matches_view`] says, with these owners
-    /// of well-known names, of which a name may have several. It stops at the first rule that
-    /// matches, and allocates nothing.
+    /// of well-known names. It stops at the first rule that matches, and allocates nothing.
     ///
     /// ```rust
-    /// use dbus_match::{Owner, parse_rule};
+    /// use dbus_match::parse_rule;
     /// use dbus_message::MessageView;
-    /// use dbus_rule_set::RuleSet;
+    /// use dbus_rule_set::{Owners, RuleSet};
     ///
     /// let mut rules = RuleSet::new(alloc);
     /// rules.add(parse_rule(alloc, "sender='org.example.Clock'")?)?;
-    /// let name = String::from_str(alloc, "org.example.Clock")?;
-    /// let owners = [Owner { name, unique: String::from_str(alloc, ":1.7")? }];
+    /// let mut owners = Owners::new(alloc);
+    /// for unique in [":1.7", ":1.8"] {
+    ///     owners.add("org.example.Clock", unique)?;
+    /// }
     /// println!(rt; "{}", rules.any_matches(&MessageView::of(bytes)?, &owners))?;
     /// ```
-    pub fn any_matches(&self, view: &MessageView, owners: &[Owner<A>]) -> bool
+    pub fn any_matches(&self, view: &MessageView, owners: &Owners) -> bool
         ensures { (order : Order) (m : MessageTree) → Views view.now order m →
-            IsTrue result ↔ HoldsOfAny (EntryMatches m (ownerships owners.now)) (held self.now) }
+            IsTrue result ↔ HoldsOfAny (EntryMatches m owners.now) (held self.now) }
     {
-        let owners = Listed { owners };
-        search(&self.rules, &self.kinds, view, &owners, &mut FirstOnly).is_err()
+        search(&self.rules, &self.kinds, view, owners, &mut FirstOnly).is_err()
     }
 }

@@ -12,9 +12,11 @@ ghost use Rattle.dbus_rule_set.specs.Searches.{Searches};
 
 use crate::handle::RuleHandle;
 use crate::kinds::{KINDS, Kinds, key_of};
+use crate::matching::matches;
 use crate::met::met;
+use crate::owners::Owners;
 use crate::places::rules_between;
-use crate::visitor::{NameOwners, RuleVisitor};
+use crate::visitor::RuleVisitor;
 use dbus_match::Rule;
 use dbus_view::MessageView;
 use std::alloc::Allocator;
@@ -26,21 +28,21 @@ const FEW: usize = 8;
 
 /// Hands over those of the rules that match.
 #[tactic(auto, using(crate::proofs::Begins::begins_on))]
-fn ask_each<A: Allocator, O: NameOwners<A>, V: RuleVisitor>(
+fn ask_each<A: Allocator, V: RuleVisitor>(
     rules: Range<'_, RuleHandle, Rule<A>>,
     view: &MessageView,
-    owners: &O,
+    owners: &Owners,
     visitor: &mut V,
 ) -> Result<(), V::Stop>
     ensures found { (order : Order) (m : MessageTree) → Views view.now order m →
-        OnOk result (Collects (EntryMatches m (O.owners owners.now)) rules.entry
+        OnOk result (Collects (EntryMatches m owners.now) rules.entry
         (V.gathered visitor.old) (V.gathered visitor.new)) }
     ensures stopped { (order : Order) (m : MessageTree) → Views view.now order m →
-        OnErr result (HoldsOfAny (EntryMatches m (O.owners owners.now)) rules.entry) }
+        OnErr result (HoldsOfAny (EntryMatches m owners.now) rules.entry) }
     ensures kept { take (length (V.gathered visitor.old)) (V.gathered visitor.new) ≡ V.gathered visitor.old }
 {
     for (handle, rule) in rules {
-        if owners.rule_matches(rule, view) {
+        if matches(rule, view, owners) {
             visitor.visit(*handle)?;
         }
     }
@@ -73,21 +75,21 @@ fn next_of(hashes: &[u32], from: u64) -> Option<u32>
 
 /// Hands over the rules of the kind that match, if these have the hashes.
 #[tactic(auto, using(crate::proofs::Begins::begins_on))]
-fn ask_hashes<A: Allocator, O: NameOwners<A>, V: RuleVisitor>(
+fn ask_hashes<A: Allocator, V: RuleVisitor>(
     rules: &BTreeMap<RuleHandle, Rule<A>, A>,
     kind: u8,
     hashes: &[u32],
     view: &MessageView,
-    owners: &O,
+    owners: &Owners,
     visitor: &mut V,
 ) -> Result<(), V::Stop>
     ensures found { (order : Order) (m : MessageTree) → Views view.now order m →
-        AllByRecursion (λ e. EntryMatches m (O.owners owners.now) e → e.0.kind ≡ kind → IsAmong e.0.hash hashes.now)
+        AllByRecursion (λ e. EntryMatches m owners.now e → e.0.kind ≡ kind → IsAmong e.0.hash hashes.now)
         rules.now.entries →
-        OnOk result (Searches (EntryMatches m (O.owners owners.now)) rules.now.entries kind
+        OnOk result (Searches (EntryMatches m owners.now) rules.now.entries kind
         (V.gathered visitor.old) (V.gathered visitor.new)) }
     ensures stopped { (order : Order) (m : MessageTree) → Views view.now order m →
-        OnErr result (HoldsOfAny (EntryMatches m (O.owners owners.now)) rules.now.entries) }
+        OnErr result (HoldsOfAny (EntryMatches m owners.now) rules.now.entries) }
     ensures kept { take (length (V.gathered visitor.old)) (V.gathered visitor.new) ≡ V.gathered visitor.old }
 {
     let mut from = 0;
@@ -101,20 +103,20 @@ fn ask_hashes<A: Allocator, O: NameOwners<A>, V: RuleVisitor>(
 }
 
 /// Hands over the rules of the kind that match the message.
-fn ask_kind<A: Allocator, O: NameOwners<A>, V: RuleVisitor>(
+fn ask_kind<A: Allocator, V: RuleVisitor>(
     rules: &BTreeMap<RuleHandle, Rule<A>, A>,
     kind: u8,
     view: &MessageView,
-    owners: &O,
+    owners: &Owners,
     visitor: &mut V,
 ) -> Result<(), V::Stop>
     requires small { kind < 137 }
     requires placed { AllByRecursion Stands rules.now.entries }
     ensures found { (order : Order) (m : MessageTree) → Views view.now order m →
-        OnOk result (Searches (EntryMatches m (O.owners owners.now)) rules.now.entries kind
+        OnOk result (Searches (EntryMatches m owners.now) rules.now.entries kind
         (V.gathered visitor.old) (V.gathered visitor.new)) }
     ensures stopped { (order : Order) (m : MessageTree) → Views view.now order m →
-        OnErr result (HoldsOfAny (EntryMatches m (O.owners owners.now)) rules.now.entries) }
+        OnErr result (HoldsOfAny (EntryMatches m owners.now) rules.now.entries) }
     ensures kept { take (length (V.gathered visitor.old)) (V.gathered visitor.new) ≡ V.gathered visitor.old }
 {
     match met(key_of(kind), view, owners) {
@@ -132,19 +134,19 @@ fn ask_kind<A: Allocator, O: NameOwners<A>, V: RuleVisitor>(
 ///
 /// It stops at an error of the visitor, which then was handed a rule that matches.
 #[tactic(auto, using(crate::proofs::Begins::begins_on))]
-pub(crate) fn search<A: Allocator, O: NameOwners<A>, V: RuleVisitor>(
+pub(crate) fn search<A: Allocator, V: RuleVisitor>(
     rules: &BTreeMap<RuleHandle, Rule<A>, A>,
     kinds: &Kinds,
     view: &MessageView,
-    owners: &O,
+    owners: &Owners,
     visitor: &mut V,
 ) -> Result<(), V::Stop>
     requires indexed { AllByRecursion (IsIndexed kinds.now) rules.now.entries }
     ensures found { (order : Order) (m : MessageTree) → Views view.now order m →
-        OnOk result (Collects (EntryMatches m (O.owners owners.now)) rules.now.entries
+        OnOk result (Collects (EntryMatches m owners.now) rules.now.entries
         (V.gathered visitor.old) (V.gathered visitor.new)) }
     ensures stopped { (order : Order) (m : MessageTree) → Views view.now order m →
-        OnErr result (HoldsOfAny (EntryMatches m (O.owners owners.now)) rules.now.entries) }
+        OnErr result (HoldsOfAny (EntryMatches m owners.now) rules.now.entries) }
     ensures kept { take (length (V.gathered visitor.old)) (V.gathered visitor.new) ≡ V.gathered visitor.old }
 {
     if rules.len() <= FEW {

@@ -1,10 +1,5 @@
-use Rattle.std.proofs.Common.{rules, not, ap, ◌∙◌}
-use Rattle.std.specs.Str.{bytes_eq}
-use Rattle.std.proofs.lemmas.Fn.{filter_same}
-use Rattle.dbus_match.specs.Matching.{ownerships}
-use Rattle.dbus_rule_set.proofs.OwnersLeft.{kept}
+use Rattle.dbus_rule_set.proofs.GroupedTexts.{taken}
 use Rattle.dbus_rule_set.proofs.groups.forget.Goals as goal
 
 pub returns-clause-left : goal.returns-clause-left
-returns-clause-left c =
-    ap ownerships (filter_same _ _ _ (λ x b f' k. search rules) _ _ c.retain.ensures.filtered) ∙ kept (λ o. not (bytes_eq o.name c.args.name.now)) c.args.owners.now.items
+returns-clause-left c = λ t. taken c.args.text.now c.args.group.now c.remove.new.self c.remove.ensures.updates t

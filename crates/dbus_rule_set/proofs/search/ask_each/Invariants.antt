@@ -10,7 +10,7 @@ use Rattle.dbus_rule_set.proofs.search.ask_each.Given as goal
 abbrev pub invariant-loop-handle : goal.invariant-loop-handle
 invariant-loop-handle g l =
     let gathered = g.V.RuleVisitor.gathered in
-    let os = g.O.NameOwners.owners l.owners in
+    let os = l.owners in
     record {
       found : (order : Order) (m : MessageTree) → Views l.view order m → (end : List RuleHandle)
           → Collects (EntryMatches m os) l.handle-iterator (gathered l.visitor) end

@@ -11,7 +11,7 @@ use Rattle.dbus_rule_set.proofs.search.ask_hashes.Given as goal
 abbrev pub invariant-loop-hash : goal.invariant-loop-hash
 invariant-loop-hash g l =
     let gathered = g.V.RuleVisitor.gathered in
-    let os = g.O.NameOwners.owners l.owners in
+    let os = l.owners in
     let es = l.rules.entries in
     record {
       found : (order : Order) (m : MessageTree) → Views l.view order m → HaveHashes (EntryMatches m os) l.kind l.hashes es

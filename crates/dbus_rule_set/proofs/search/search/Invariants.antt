@@ -10,7 +10,7 @@ use Rattle.dbus_rule_set.proofs.search.search.Given as goal
 abbrev pub invariant-loop-kind : goal.invariant-loop-kind
 invariant-loop-kind g l =
     let gathered = g.V.RuleVisitor.gathered in
-    let os = g.O.NameOwners.owners l.owners in
+    let os = l.owners in
     record {
       found : (order : Order) (m : MessageTree) → Views l.view order m
           → Collects (Below (EntryMatches m os) l.kind 0) l.rules.entries (gathered l.fn.visitor) (gathered l.visitor);
