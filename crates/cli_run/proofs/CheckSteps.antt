@@ -7,7 +7,7 @@ use Rattle.cli_options.specs.declared.settings.Settings.{Settings}
 use Rattle.cli_run.specs.ByName.{IsUnwritten, Tallies}
 use Rattle.cli_run.specs.Told.{WritesLine, GotFirst, GotSecond, TellsStop}
 use Rattle.cli_run.specs.Going.{IsMore, IsStopOf, StopsWithin, closing_line}
-use Rattle.cli_run.specs.Inputs.{Placed, placed}
+use Rattle.cli_run.specs.Inputs.{ArePlaced, Placed}
 use Rattle.cli_run.specs.Output.{IsOutputOfAll, check_line, fault_line, status_of}
 use Rattle.cli_run.specs.Running.{RunsWith, Writes, WritesSome}
 use Rattle.cli_run.specs.VisitorLaws.{told_nothing, wrote_nothing}
@@ -22,7 +22,7 @@ use Rattle.cli_run.specs.declared.tally.Tally.{Tally}
 use Rattle.cli_run.specs.declared.visitor.RunStop.{RunStop}
 use Rattle.cli_run.specs.declared.visitor.RunStop.TheVariants.{Cause as ByCause, Untold}
 use Rattle.cli_run.proofs.EndSteps.{stops_as}
-use Rattle.cli_run.proofs.PartLaws.{line_is}
+use Rattle.cli_run.proofs.PartLaws.{line_is, some_placed}
 
 -- `check` writes nothing of a message
 no_output : (items : List Placed) → IsOutputOfAll Check empty items []
@@ -71,12 +71,15 @@ module _ {R W E : Type 0} (r : Reading R) (w : Writing W) (e : Writing E) (setti
     abbrev line : List ℕ
     line = check_line counted.count counted.size counted.fault
 
+    some : (messages : List Placed) × ArePlaced (r.packets r.old) 1 0 t.parts messages
+    some = some_placed (r.packets r.old) 1 0 t.parts
+
     -- the line was written, and the second writer got nothing
     pub line_written : (end : ExitStatus) → Wrote w.held w.failures w.old line w.new → e.new ≡ e.old → end ≡ status_of counted.fault → Ends end
     line_written end wrote same end_is =
         let first = subst (λ (l : List ℕ). Wrote w.held w.failures w.old l w.new) (sym (line_is (tally_of counted) counted.fault)) wrote in
-        let came : Writes w e settings Check (placed 1 0 t.parts) all = record { texts = []; made = no_output (placed 1 0 t.parts); first = first; second = told_nothing e.held e.failures true e.old e.new same } in
-        inl (record { tally = tally_of counted; fault = counted.fault; told = []; text = text; through = t; came = came; end_is = end_is })
+        let came : Writes w e settings Check some.0 all = record { texts = []; made = no_output some.0; first = first; second = told_nothing e.held e.failures true e.old e.new same } in
+        inl (record { tally = tally_of counted; fault = counted.fault; told = []; text = text; through = t; messages = some.0; placed = some.1; came = came; end_is = end_is })
 
     -- or not all of it
     within : (stop : RunStop) (more : List ℕ) → IsMore (taken r) settings most true stop t.parts t.rest more → IsStopOf (taken r) most stop → GotFirst w.held w.failures true stop more w.old w.new
@@ -89,7 +92,9 @@ module _ {R W E : Type 0} (r : Reading R) (w : Writing W) (e : Writing E) (setti
       more = more;
       all = due;
       caused = caused;
-      came = record { texts = []; made = no_output (placed 1 0 t.parts); first = first; second = second };
+      messages = some.0;
+      placed = some.1;
+      came = record { texts = []; made = no_output some.0; first = first; second = second };
     }
 
     pub line_not : (cause : Cause) → WritesLine w.held w.failures line w.old w.new (Err cause) → (end : ExitStatus) → end ≡ status.Failed → Told e.held e.failures e.old e.new cause → Ends end

@@ -7,6 +7,7 @@ use Rattle.std.proofs.lemmas.Bool.{or_parts}
 use Rattle.dbus_value_model.specs.declared.fault.Fault.{Fault}
 use Rattle.dbus_value_model.specs.declared.limits.Limits.{Limits}
 use Rattle.dbus_device.specs.Device.{RisesBy, Wrote}
+use Rattle.dbus_device.specs.Packets.{Packets}
 use Rattle.dbus_stream.specs.CheckReading.{CheckAnswers, CheckReader, limits_of, lengths}
 use Rattle.dbus_stream.specs.Cut.{CutMessage}
 use Rattle.dbus_stream.specs.CutEnds.{sizes}
@@ -35,7 +36,7 @@ use Rattle.cli_run.specs.declared.visitor.RunStop.{RunStop}
 use Rattle.cli_run.specs.declared.visitor.RunStop.TheVariants.{Cause as ByCause}
 use Rattle.cli_run.proofs.GoSteps.{wholes_tally}
 use Rattle.cli_run.proofs.HandSteps.{Faults}
-use Rattle.cli_run.proofs.PartLaws.{is_last, parts_of, sizes-wholes, told_of}
+use Rattle.cli_run.proofs.PartLaws.{is_last, parts_of, sizes-wholes, some_placed, told_of}
 use Rattle.cli_run.specs.declared.by_name.Counter.{Counter}
 use Rattle.cli_run.proofs.EndSteps.{goes_as}
 
@@ -54,6 +55,10 @@ adds_up = record {
   rests = λ a b s p h settled. (tt, tt, tt);
 }
 
+-- nothing is made of their times, so nothing need be known of the packets
+abbrev pub none_known : Option Packets → Type 0
+none_known packets = ⊥
+
 -- what a fault of the reader says of the bytes that it keeps
 pub check_faults : {R : Type 0} (w : List ℕ) (mid new : CheckReader R) (fault : ReadFault) → CheckAnswers w mid new (Err fault) → Faults lengths w mid new fault
 check_faults w mid new read.Memory a = tt
@@ -70,10 +75,10 @@ told_last settings n offset kept (Some fault) explains halts =
     transport (λ i. IsToldBy (sym halts i) (sym explains i) refusal kept (line_of false refusal)) refl
 
 -- of a new reader, which keeps nothing
-module _ {R : Type 0} (left : R → Option (List ℕ)) (calls failures : R → ℕ) (old new : CheckReader R) (is : IsNewReader lengths (source_of old) (most_reads_of old) (limits_of old) old)
+module _ {R : Type 0} (left : R → Option (List ℕ)) (calls failures : R → ℕ) (packets : R → Option Packets) (old new : CheckReader R) (is : IsNewReader lengths (source_of old) (most_reads_of old) (limits_of old) old)
     (settings : Settings) (no_more : ask_more settings ≡ false) where
   abbrev Took : Taken
-  Took = taken (reading left calls failures (source_of old) (source_of new))
+  Took = taken (reading left calls failures packets (source_of old) (source_of new))
 
   plain_told : (settings.explains ≡ false) × (settings.keeps_going ≡ false)
   plain_told = or_parts _ _ (or_parts _ _ no_more).0
@@ -88,14 +93,15 @@ module _ {R : Type 0} (left : R → Option (List ℕ)) (calls failures : R → �
   }
 
   abbrev HandsSome : Cause → Type 0
-  HandsSome cause = HandsSomeOn lengths left calls settings.limits [] failures counts gives_up 0 cause old new tt tt
+  HandsSome cause = HandsSomeOn lengths left calls settings.limits [] failures counts gives_up 0 none_known cause old new tt tt
 
   some_tallied : (cause : Cause) (s : HandsSome cause) → IsMore Took settings (most_reads_of old) true (ByCause cause) (wholes s.items) s.rest [] → IsStopOf Took (most_reads_of old) (ByCause cause)
       → Tallies Took settings (most_reads_of old) (Err cause)
   some_tallied cause s all caused =
-      record { parts = wholes s.items; rest = s.rest; told = []; covers = covers s.items s.rest s.read; more = []; all = all; caused = caused; came = (s.given_up, refl) }
+      let some = some_placed Took.packets 1 0 (wholes s.items) in
+      record { parts = wholes s.items; rest = s.rest; told = []; covers = covers s.items s.rest s.read; more = []; all = all; caused = caused; messages = some.0; placed = some.1; came = (s.given_up, refl) }
 
-  tallies : (res : Result Counted Cause) → HandsOn lengths left calls settings.limits [] failures counts gives_up 0 old new tt tt res → Tallies Took settings (most_reads_of old) res
+  tallies : (res : Result Counted Cause) → HandsOn lengths left calls settings.limits [] failures counts gives_up 0 none_known old new tt tt res → Tallies Took settings (most_reads_of old) res
   tallies (Ok counted) a =
       let size : counted.size ≡ sizes a.items = omega (arith, a.size_is, is.done) in
       let told = told_last settings (length (wholes a.items) + 1) (sizes_of (wholes a.items)) a.rest counted.fault plain_told.0 plain_told.1 in
@@ -122,18 +128,18 @@ module _ {R : Type 0} (left : R → Option (List ℕ)) (calls failures : R → �
       let all : s.read.count ≡ most_reads_of old = omega (arith, s.caused.1, s.read.reads, s.read.most_reads, is.reads) in
       some_tallied TooManyReads s (inl (s.all, refl)) (s.caused.0, subst (λ n. RisesBy n Took.calls0 Took.calls1) all s.read.called)
 
-  pub tallied : settings.limits ≡ limits_of old → (res : Result Counted Cause) → HandsOn lengths left calls (limits_of old) [] failures counts gives_up 0 old new tt tt res
+  pub tallied : settings.limits ≡ limits_of old → (res : Result Counted Cause) → HandsOn lengths left calls (limits_of old) [] failures counts gives_up 0 none_known old new tt tt res
       → Tallies Took settings (most_reads_of old) res
-  tallied same res h = tallies res (subst (λ (l : Limits). HandsOn lengths left calls l [] failures counts gives_up 0 old new tt tt res) (sym same) h)
+  tallied same res h = tallies res (subst (λ (l : Limits). HandsOn lengths left calls l [] failures counts gives_up 0 none_known old new tt tt res) (sym same) h)
 
 -- How a run ends that counts messages by their names.
 
-module _ {R W E : Type 0} (left : R → Option (List ℕ)) (calls read_failures : R → ℕ) (held : E → Option (List ℕ)) (failures : E → ℕ) (w : Writing W) (settings : Settings) (form : Form) (most : ℕ) (r0 r1 : R)
+module _ {R W E : Type 0} (left : R → Option (List ℕ)) (calls read_failures : R → ℕ) (packets : R → Option Packets) (held : E → Option (List ℕ)) (failures : E → ℕ) (w : Writing W) (settings : Settings) (form : Form) (most : ℕ) (r0 r1 : R)
     (a b : Counter E) {r2 : R} {e1 : E} (source : r1 ≡ r2) (second : b.second.now ≡ e1) where
   -- all was told, and the tables are those of the counts
   pub counts_all : (e2 : E) (due end : ExitStatus) → ((name : List ℕ) → counting_of a.counts name ≡ None)
-      → GoesThrough (taken (reading left calls read_failures r0 r1)) settings most false (CountsMessages held failures a b) due → EndsCount w (writing held failures e1 e2) form (counting_of b.counts) due end
-      → CountsThrough (reading left calls read_failures r0 r2) w (writing held failures a.second.now e2) settings form most end
+      → GoesThrough (taken (reading left calls read_failures packets r0 r1)) settings most false (CountsMessages held failures a b) due → EndsCount w (writing held failures e1 e2) form (counting_of b.counts) due end
+      → CountsThrough (reading left calls read_failures packets r0 r2) w (writing held failures a.second.now e2) settings form most end
   counts_all e2 due end none g ends =
       let after : (items : List Placed) (told : List ℕ) → CountsMessages held failures a b items told → Wrote held failures a.second.now told e1 × EndsCount w (writing held failures e1 e2) form (counting items) due end
       = λ items told h. (
@@ -143,6 +149,6 @@ module _ {R W E : Type 0} (left : R → Option (List ℕ)) (calls read_failures 
       record {
         due = due;
         before = e1;
-        through = subst (λ (x : R). GoesThrough (taken (reading left calls read_failures r0 x)) settings most false
+        through = subst (λ (x : R). GoesThrough (taken (reading left calls read_failures packets r0 x)) settings most false
             (λ items told. Wrote held failures a.second.now told e1 × EndsCount w (writing held failures e1 e2) form (counting items) due end) due) source (goes_as after g);
       }

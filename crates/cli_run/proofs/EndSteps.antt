@@ -3,6 +3,7 @@ use Rattle.std.proofs.Common.{◌≡◌, ℕ, Bool, true, false, List, [], None,
 use Rattle.std.proofs.KnownBytes.{Consumes-nil}
 use Rattle.std.proofs.Math.Path.{transport}
 use Rattle.dbus_device.specs.Device.{Wrote}
+use Rattle.dbus_device.specs.Packets.{Packets}
 use Rattle.cli_options.specs.declared.command.Command.{Command}
 use Rattle.cli_options.specs.declared.settings.Settings.{Settings}
 use Rattle.cli_report.specs.Devices.{Taken, Writing, reading, taken, writing}
@@ -26,17 +27,17 @@ use Rattle.cli_run.specs.declared.visitor.RunStop.TheVariants.{Cause as ByCause,
 -- what became of it is said otherwise
 pub goes_as : {t : Taken} {settings : Settings} {most : ℕ} {is_check : Bool} {P Q : List Placed → (told : List ℕ) → Type 0} {end : ExitStatus} → ((items : List Placed) (told : List ℕ) → P items told → Q items told)
     → GoesThrough t settings most is_check P end → GoesThrough t settings most is_check Q end
-goes_as f g = record { tally = g.tally; fault = g.fault; told = g.told; text = g.text; through = g.through; came = f _ _ g.came; end_is = g.end_is }
+goes_as f g = record { tally = g.tally; fault = g.fault; told = g.told; text = g.text; through = g.through; messages = g.messages; placed = g.placed; came = f _ _ g.came; end_is = g.end_is }
 
 pub stops_as : {t : Taken} {settings : Settings} {most : ℕ} {is_check : Bool} {P Q : List Placed → (told : List ℕ) → RunStop → Type 0} {stop : RunStop}
     → ((items : List Placed) (told : List ℕ) → P items told stop → Q items told stop) → StopsWithin t settings most is_check P stop → StopsWithin t settings most is_check Q stop
-stops_as f s = record { parts = s.parts; rest = s.rest; told = s.told; covers = s.covers; more = s.more; all = s.all; caused = s.caused; came = f _ _ s.came }
+stops_as f s = record { parts = s.parts; rest = s.rest; told = s.told; covers = s.covers; more = s.more; all = s.all; caused = s.caused; messages = s.messages; placed = s.placed; came = f _ _ s.came }
 
 -- nothing is read for want of memory
-pub unread : {R W E : Type 0} (left : R → Option (List ℕ)) (calls read_failures : R → ℕ) (r : R) (held : W → Option (List ℕ)) (failures : W → ℕ) (w : W) (second_held : E → Option (List ℕ)) (second_failures : E → ℕ) (e0 e1 : E)
+pub unread : {R W E : Type 0} (left : R → Option (List ℕ)) (calls read_failures : R → ℕ) (packets : R → Option Packets) (r : R) (held : W → Option (List ℕ)) (failures : W → ℕ) (w : W) (second_held : E → Option (List ℕ)) (second_failures : E → ℕ) (e0 e1 : E)
     (settings : Settings) (most : ℕ) (command : Command) (end : ExitStatus) → end ≡ status.Failed → Told second_held second_failures e0 e1 Memory
-    → RunsWith (reading left calls read_failures r r) (writing held failures w w) (writing second_held second_failures e0 e1) settings most command end
-unread left calls read_failures r held failures w second_held second_failures e0 e1 settings most command end failed told =
+    → RunsWith (reading left calls read_failures packets r r) (writing held failures w w) (writing second_held second_failures e0 e1) settings most command end
+unread left calls read_failures packets r held failures w second_held second_failures e0 e1 settings most command end failed told =
     let none : [] ≡ first_of (is_check command) (written settings.window []) [] = sym (ap (λ l. first_of (is_check command) l []) (written_none settings.window) ∙ first_nothing (is_check command)) in
     inr (record {
       failed = failed;
@@ -50,6 +51,8 @@ unread left calls read_failures r held failures w second_held second_failures e0
         more = [];
         all = inl refl;
         caused = refl;
+        messages = [];
+        placed = refl;
         came = record {
           texts = [];
           made = refl;
@@ -103,13 +106,13 @@ module _ {A W E : Type 0} (held : W → Option (List ℕ)) (failures : W → ℕ
 
   -- ---- the same of a source that stands where this one does
 
-  module _ {R : Type 0} (left : R → Option (List ℕ)) (calls read_failures : R → ℕ) (most : ℕ) (r0 r1 : R) (c : Bool) (checks : c ≡ is_check command) {r2 : R} (source : r1 ≡ r2) where
+  module _ {R : Type 0} (left : R → Option (List ℕ)) (calls read_failures : R → ℕ) (packets : R → Option Packets) (most : ℕ) (r0 r1 : R) (c : Bool) (checks : c ≡ is_check command) {r2 : R} (source : r1 ≡ r2) where
     pub ran : {end : ExitStatus} → gathered_bytes b.gathered ≡ []
-        → GoesThrough (taken (reading left calls read_failures r0 r1)) settings most c (WritesAll held failures second_held second_failures a b) end
-        → GoesThrough (taken (reading left calls read_failures r0 r2)) settings most (is_check command) (Writes w e settings command) end
-    ran {end} last g = transport (λ i. GoesThrough (taken (reading left calls read_failures r0 (source i))) settings most (checks i) (Writes w e settings command) end) (goes_as (writes_as last) g)
+        → GoesThrough (taken (reading left calls read_failures packets r0 r1)) settings most c (WritesAll held failures second_held second_failures a b) end
+        → GoesThrough (taken (reading left calls read_failures packets r0 r2)) settings most (is_check command) (Writes w e settings command) end
+    ran {end} last g = transport (λ i. GoesThrough (taken (reading left calls read_failures packets r0 (source i))) settings most (checks i) (Writes w e settings command) end) (goes_as (writes_as last) g)
 
-    pub gave_up : {stop : RunStop} → StopsWithin (taken (reading left calls read_failures r0 r1)) settings most c (LeavesWritten held failures second_held second_failures a b) stop
-        → StopsWithin (taken (reading left calls read_failures r0 r2)) settings most (is_check command) (WritesSome w e settings command) stop
+    pub gave_up : {stop : RunStop} → StopsWithin (taken (reading left calls read_failures packets r0 r1)) settings most c (LeavesWritten held failures second_held second_failures a b) stop
+        → StopsWithin (taken (reading left calls read_failures packets r0 r2)) settings most (is_check command) (WritesSome w e settings command) stop
     gave_up {stop} s =
-        transport (λ i. StopsWithin (taken (reading left calls read_failures r0 (source i))) settings most (checks i) (WritesSome w e settings command) stop) (stops_as (leaves_as stop) s)
+        transport (λ i. StopsWithin (taken (reading left calls read_failures packets r0 (source i))) settings most (checks i) (WritesSome w e settings command) stop) (stops_as (leaves_as stop) s)

@@ -22,7 +22,7 @@ use Rattle.dbus_stream.specs.declared.raw_reader.RawReader.{RawReader}
 use Rattle.dbus_stream.specs.declared.read_fault.ReadFault.{ReadFault}
 use Rattle.dbus_stream.specs.declared.read_fault.ReadFault.TheVariants as read
 use Rattle.cli_run.specs.Going.{Closes, IsAllOf, PassesAll, cause_of, AreTold, HasLastLine, IsTold, closing_line, passed_count, passed_sizes}
-use Rattle.cli_run.specs.Inputs.{BeginWithParts, IsCutOff, IsLast, IsTellable, PassedOver, Placed, placed, sizes_of}
+use Rattle.cli_run.specs.Inputs.{BeginWithParts, IsCutOff, IsLast, IsTellable, PassedOver, Placed, sizes_of}
 use Rattle.cli_run.specs.Onward.{HasRead, stop_of}
 use Rattle.cli_run.specs.Visiting.{AddsUp, Tells}
 use Rattle.cli_report.specs.declared.ending.Cause.{Cause}
@@ -34,12 +34,12 @@ use Rattle.cli_run.specs.declared.visitor.RunStop.{RunStop}
 use Rattle.cli_run.specs.declared.visitor.RunStop.TheVariants.{Cause as ByCause, Untold}
 use Rattle.cli_run.proofs.PartLaws.{parts_more, placed_past, sizes-both, passed-both, passed_sizes-both}
 use Rattle.cli_run.proofs.ReadSteps.{read_none, read_on}
-use Rattle.cli_run.proofs.GoSteps.{Begun, HasCovered, HasEnded, HasGone, HasReached, refused_is, none_is, covers_read, covers, Took, Within, Through, Stopped, More, stops_plain, all_called}
+use Rattle.cli_run.proofs.GoSteps.{Begun, HasCovered, HasEnded, HasGone, HasReached, refused_is, none_is, covers_read, covers, packets_of, Took, Within, Through, Stopped, More, stops_plain, all_called}
 
 module _ {R A S : Type 0} {takes : S → S → List Placed → (told : List ℕ) → Type 0} {leaves : S → S → List Placed → (told : List ℕ) → RunStop → Type 0} {settled : S → Type 0} (laws : AddsUp takes leaves settled)
     {run : Begun R A S} {mid : RawReader R A} {counted : Counted} {tally : Tally} {s1 : S} (h : HasReached run takes mid counted tally s1) where
   abbrev items : List Placed
-  items = placed 1 0 h.gone.parts
+  items = h.gone.messages
 
   -- it ends after a message
   pub finished : counted.fault ≡ None → HasEnded run takes mid tally None s1
@@ -61,6 +61,8 @@ module _ {R A S : Type 0} {takes : S → S → List Placed → (told : List ℕ)
           last = subst (λ o. IsLast run.settings.keeps_going run.settings.limits (kept mid) (kept mid) o (IsAtEnd (run.left (source_of mid)))) (sym ended) (refl, at_end);
           read_failed = g.failed;
         };
+        messages = items;
+        placed = g.placed;
         came = subst (λ (l : List ℕ). takes run.s0 s1 items l) (sym (append-nil g.told)) g.came;
       }
 
@@ -127,7 +129,7 @@ module _ {R A S : Type 0} {takes : S → S → List Placed → (told : List ℕ)
     pub not_told : settled s1 → (s2 : S) (stop : RunStop) → Tells takes leaves Due s1 s2 (Err stop) → Within run leaves mid stop s2
     not_told rests s2 (ByCause Memory) same =
         let came = (laws.rests run.s0 s1 items h.gone.told h.gone.came rests).0 in
-        stops_plain run leaves Memory mid h.gone.parts (kept mid) h.gone.told s2 h.gone.covered (inl refl) h.gone.failed (subst (λ (s : S). leaves run.s0 s items h.gone.told (ByCause Memory)) (sym same) came)
+        stops_plain run leaves Memory mid h.gone.parts (kept mid) h.gone.told s2 h.gone.covered (inl refl) h.gone.failed items h.gone.placed (subst (λ (s : S). leaves run.s0 s items h.gone.told (ByCause Memory)) (sym same) came)
     not_told rests s2 (ByCause cause) never = absurd never
     not_told rests s2 Untold half = record {
       parts = h.gone.parts;
@@ -143,6 +145,8 @@ module _ {R A S : Type 0} {takes : S → S → List Placed → (told : List ℕ)
         inl (tellable h.outcome fault_last (λ not. h.gone.covered.at_end (h.ended not)), refl),
       );
       caused = h.gone.failed;
+      messages = items;
+      placed = h.gone.placed;
       came = subst (λ (l : List Placed). leaves run.s0 s2 l (h.gone.told ++ half.0) Untold) (append-nil items) (laws.leaves_after run.s0 s1 s2 items [] h.gone.told half.0 Untold h.gone.came half.2);
     }
 
@@ -153,7 +157,7 @@ module _ {R A S : Type 0} {takes : S → S → List Placed → (told : List ℕ)
       came_told = subst (λ (l : List Placed). takes run.s0 s2 l (h.gone.told ++ text)) (append-nil items) (laws.joins run.s0 s1 s2 items [] h.gone.told text h.gone.came took)
 
       pub halts : run.settings.keeps_going ≡ false → HasEnded run takes mid tally (Some fault) s2
-      halts halt = record { told = h.gone.told; text = text; through = through_there text told (λ goes. absurd (false≢true (sym halt ∙ goes))); came = came_told }
+      halts halt = record { told = h.gone.told; text = text; through = through_there text told (λ goes. absurd (false≢true (sym halt ∙ goes))); messages = items; placed = h.gone.placed; came = came_told }
 
       module _ (new : RawReader R A) where
         met : (other : Fault) → IsRefusal (stopped_of mid) other → IsRefused run.settings.limits (kept mid) fault
@@ -202,6 +206,8 @@ module _ {R A S : Type 0} {takes : S → S → List Placed → (told : List ℕ)
               told = h.gone.told;
               text = text;
               through = through new text (kept mid ++ r.bytes) (Refused fault) told (met other refusal) refl covered (inr (cut_off n r.bytes s short, covered.at_end ended, goes)) same;
+              messages = items;
+              placed = h.gone.placed;
               came = came_told;
             }
 
@@ -212,6 +218,8 @@ module _ {R A S : Type 0} {takes : S → S → List Placed → (told : List ℕ)
             told = h.gone.told;
             text = text;
             through = through_there text told (λ goes other n refusal all. none.0 other n refusal (inl all));
+            messages = items;
+            placed = h.gone.placed;
             came = came_told;
           })
         ]
@@ -230,6 +238,8 @@ module _ {R A S : Type 0} {takes : S → S → List Placed → (told : List ℕ)
             more = text;
             all = all (inr (kept mid, fault, met other refusal, cut_off n r.bytes s short, goes, told_at (length h.gone.parts + 1) text refl told));
             caused = caused;
+            messages = items;
+            placed = h.gone.placed;
             came = came;
           }
 
@@ -274,7 +284,9 @@ module _ {R A S : Type 0} {takes : S → S → List Placed → (told : List ℕ)
               tally_is = past_is ∙ (λ i. record { count = count_is i; size = (there ∙ size_is) i; passed = passed_is i; passed_size = passed_size_is i });
               done = size_is;
               failed = same ∙ h.gone.failed;
-              came = subst (λ (l : List Placed). takes run.s0 s2 l (h.gone.told ++ text)) (placed_past 1 0 parts (kept mid) fault n) came_told;
+              messages = items;
+              placed = placed_past (packets_of run) 1 0 parts (kept mid) fault n items h.gone.placed;
+              came = came_told;
             }
 
         pub goes_on : (past : Tally) (end : ℕ) → end ≡ done_of new → past ≡ record { count = tally.count + 1; size = end; passed = tally.passed + 1; passed_size = tally.passed_size + (end - tally.size) }
@@ -289,7 +301,7 @@ module _ {R A S : Type 0} {takes : S → S → List Placed → (told : List ℕ)
 module _ {R A S : Type 0} {takes : S → S → List Placed → (told : List ℕ) → Type 0} {run : Begun R A S} {new : RawReader R A} {tally : Tally} {fault : Option Fault} {s1 : S}
     (h : HasEnded run takes new tally fault s1) where
   abbrev all : List Placed
-  all = placed 1 0 h.through.parts
+  all = h.messages
 
   abbrev line : List ℕ
   line = closing_line run.is_check tally tally.passed fault
@@ -303,6 +315,8 @@ module _ {R A S : Type 0} {takes : S → S → List Placed → (told : List ℕ)
       told = h.told;
       text = h.text;
       through = h.through;
+      messages = all;
+      placed = h.placed;
       came = subst (λ (l : List Placed). takes run.s0 s2 l ((h.told ++ h.text) ++ line)) (append-nil all) (laws.joins run.s0 s1 s2 all [] (h.told ++ h.text) line h.came c.0);
       end_is = c.1;
     }
@@ -316,6 +330,8 @@ module _ {R A S : Type 0} {takes : S → S → List Placed → (told : List ℕ)
           more = h.text;
           all = inr (h.through.kept, fault, h.through.tells, h.through.last, subst (λ (n : ℕ). HasLastLine run.is_check n fault) passed c.1);
           caused = h.through.read_failed;
+          messages = all;
+          placed = h.placed;
           came = subst (λ (s : S). leaves run.s0 s all (h.told ++ h.text) (ByCause Memory)) (sym c.0) (laws.rests run.s0 s1 all (h.told ++ h.text) h.came rests).0;
         }
     closes (Err (ByCause cause)) c = absurd c
@@ -329,5 +345,7 @@ module _ {R A S : Type 0} {takes : S → S → List Placed → (told : List ℕ)
           more = h.text ++ line;
           all = (h.through.kept, fault, h.text, h.through.tells, inr (h.through.last, ap (λ (x : Tally). h.text ++ closing_line run.is_check x x.passed fault) h.through.tally_is));
           caused = h.through.read_failed;
+          messages = all;
+          placed = h.placed;
           came = subst (λ (l : List ℕ). leaves run.s0 s2 all l Untold) (append_assoc h.told h.text line) came;
         }

@@ -1,6 +1,7 @@
 -- The turns of a run that passes over refused messages. Each hands on the messages up to the next
 -- fault, tells it, and passes over that message.
 use Rattle.std.proofs.Common.{◌≡◌, ℕ, ◌+◌, ◌^◌, ◌<◌, ◌≤◌, Bool, List, [], ◌++◌, true, false, None, Some, Ok, Option, length, refl, sym, ap, ◌∙◌, subst, arith, inl, inr, append-nil, length-append}
+use Rattle.std.proofs.Math.Path.{transport}
 use Rattle.std.specs.Io.KnownBytes.{Consumes}
 use Rattle.std.proofs.KnownBytes.{Consumes-nil, Consumes-trans}
 use Rattle.std.proofs.lemmas.Bool.{false≢true}
@@ -9,6 +10,8 @@ use Rattle.dbus_value_model.specs.declared.fault.Fault.{Fault}
 use Rattle.dbus_value_model.specs.declared.limits.Limits.{Limits}
 use Rattle.dbus_header.specs.MessageOutcomes.{IsRefused}
 use Rattle.dbus_device.specs.Device.{one_more, RisesBy}
+use Rattle.dbus_device.specs.Packets.{Packets}
+use Rattle.dbus_device.specs.declared.packet.Packet.{Packet}
 use Rattle.dbus_stream.specs.Cut.{CutMessage, CutOutcome, Ended, Unfinished, Refused, IsOutcome}
 use Rattle.dbus_stream.specs.CutEnds.{fault_at_end, truncated, sizes}
 use Rattle.dbus_stream.specs.Gathering.{gathering}
@@ -19,8 +22,8 @@ use Rattle.dbus_stream.specs.declared.raw_reader.RawReader.{RawReader}
 use Rattle.cli_options.specs.declared.settings.Settings.{Settings}
 use Rattle.cli_report.specs.Devices.{reading, taken, Taken}
 use Rattle.cli_run.specs.Going.{Covers, IsMore, IsStopOf, IsThrough, StopsWithin, AreTold, passed_count, passed_sizes, tally_of}
-use Rattle.cli_run.specs.Inputs.{BeginWithParts, Part, Placed, Whole, placed, sizes_of, wholes}
-use Rattle.cli_run.specs.Onward.{HasRead, HandsRawOn, HandsSomeOn, IsTrueEnd, stop_of}
+use Rattle.cli_run.specs.Inputs.{ArePlaced, BeginWithParts, Part, Placed, Whole, sizes_of, wholes}
+use Rattle.cli_run.specs.Onward.{HasKnownPackets, HasRead, HandsRawOn, HandsSomeOn, IsTrueEnd, stop_of}
 use Rattle.cli_run.specs.Visiting.{AddsUp}
 use Rattle.cli_report.specs.declared.ending.Cause.{Cause}
 use Rattle.cli_report.specs.declared.ending.Cause.TheVariants.{Memory, ReadFailed, WriteFailed, TooManyReads}
@@ -84,6 +87,8 @@ pub record Begun (R A S : Type 0) : Type 0 where
   pub left : R → Option (List ℕ)
   pub calls : R → ℕ
   pub failures : R → ℕ
+  pub packets : R → Option Packets
+  pub packet : R → Option Packet
   pub settings : Settings
   pub is_check : Bool
   pub old : RawReader R A
@@ -92,7 +97,11 @@ pub record Begun (R A S : Type 0) : Type 0 where
 module _ {R A S : Type 0} (run : Begun R A S) where
   -- the source before and after
   abbrev pub Took : RawReader R A → Taken
-  Took new = taken (reading run.left run.calls run.failures (source_of run.old) (source_of new))
+  Took new = taken (reading run.left run.calls run.failures run.packets (source_of run.old) (source_of new))
+
+  -- of which packets the bytes of the input are
+  abbrev pub packets_of : Option Packets
+  packets_of = run.packets (source_of run.old)
 
   -- what was read is these parts and then the rest
   pub record HasCovered (new : RawReader R A) (parts : List Part) (rest told : List ℕ) : Type 0 where
@@ -154,7 +163,9 @@ module _ {R A S : Type 0} (run : Begun R A S) where
       pub tally_is : tally ≡ tally_of parts
       pub done : done_of new ≡ sizes_of parts
       pub failed : run.failures (source_of new) ≡ run.failures (source_of run.old)
-      pub came : takes run.s0 s (placed 1 0 parts) told
+      pub messages : List Placed
+      pub placed : ArePlaced packets_of 1 0 parts messages
+      pub came : takes run.s0 s messages told
 
     pub gone_none : ((a : S) → takes a a [] []) → IsNewReader (source_of run.old) (most_reads_of run.old) run.settings.limits run.old
         → HasGone run.old (record { count = 0; size = 0; passed = 0; passed_size = 0 }) run.s0
@@ -174,6 +185,8 @@ module _ {R A S : Type 0} (run : Begun R A S) where
       tally_is = refl;
       done = new_reader.done;
       failed = refl;
+      messages = [];
+      placed = refl;
       came = nothing run.s0;
     }
 
@@ -193,7 +206,9 @@ module _ {R A S : Type 0} (run : Begun R A S) where
       pub told : List ℕ
       pub text : List ℕ
       pub through : Through new tally fault told text
-      pub came : takes run.s0 s (placed 1 0 through.parts) (told ++ text)
+      pub messages : List Placed
+      pub placed : ArePlaced packets_of 1 0 through.parts messages
+      pub came : takes run.s0 s messages (told ++ text)
 
   module _ (leaves : S → S → List Placed → (told : List ℕ) → RunStop → Type 0) where
     abbrev pub Within : RawReader R A → RunStop → S → Type 0
@@ -201,8 +216,8 @@ module _ {R A S : Type 0} (run : Begun R A S) where
 
     -- nothing is told of the rest
     pub stops_plain : (cause : Cause) (new : RawReader R A) (parts : List Part) (rest told : List ℕ) (s : S) → HasCovered new parts rest told → More new (ByCause cause) parts rest [] → Stopped new (ByCause cause)
-        → leaves run.s0 s (placed 1 0 parts) told (ByCause cause) → Within new (ByCause cause) s
-    stops_plain cause new parts rest told s h all caused came = record {
+        → (messages : List Placed) → ArePlaced packets_of 1 0 parts messages → leaves run.s0 s messages told (ByCause cause) → Within new (ByCause cause) s
+    stops_plain cause new parts rest told s h all caused messages placed came = record {
       parts = parts;
       rest = rest;
       told = told;
@@ -210,7 +225,9 @@ module _ {R A S : Type 0} (run : Begun R A S) where
       more = [];
       all = all;
       caused = caused;
-      came = subst (λ (l : List ℕ). leaves run.s0 s (placed 1 0 parts) l (ByCause cause)) (sym (append-nil told)) came;
+      messages = messages;
+      placed = placed;
+      came = subst (λ (l : List ℕ). leaves run.s0 s messages l (ByCause cause)) (sym (append-nil told)) came;
     }
 
 -- ---- messages are handed on
@@ -232,13 +249,15 @@ module _ {R A S : Type 0} {takes : S → S → List Placed → (told : List ℕ)
   }
 
   -- they are the next parts
-  placed_next : (items : List CutMessage) → placed 1 0 h.parts ++ placed (tally.count + 1) (done_of mid) (wholes items) ≡ placed 1 0 (h.parts ++ wholes items)
-  placed_next items =
+  placed_next : (items : List CutMessage) (messages : List Placed) → ArePlaced (packets_of run) (tally.count + 1) (done_of mid) (wholes items) messages
+      → ArePlaced (packets_of run) 1 0 (h.parts ++ wholes items) (h.messages ++ messages)
+  placed_next items messages p =
       let n : tally.count + 1 ≡ 1 + length h.parts = omega (arith, count_parts) in
       let at : done_of mid ≡ 0 + sizes_of h.parts = omega (arith, h.done) in
-      (λ i. placed 1 0 h.parts ++ placed (n i) (at i) (wholes items)) ∙ sym (placed_both 1 0 h.parts (wholes items))
+      placed_both (packets_of run) 1 0 h.parts (wholes items) h.messages messages h.placed (transport (λ i. ArePlaced (packets_of run) (n i) (at i) (wholes items) messages) p)
 
-  module _ {leaves : S → S → List Placed → (told : List ℕ) → RunStop → Type 0} {settled : S → Type 0} (laws : AddsUp takes leaves settled) (new : RawReader R A) (s2 : S) where
+  module _ {leaves : S → S → List Placed → (told : List ℕ) → RunStop → Type 0} {settled : S → Type 0} (laws : AddsUp takes leaves settled) (known : HasKnownPackets run.packets run.packet mid (packets_of run))
+      (new : RawReader R A) (s2 : S) where
     covered_next : (items : List CutMessage) (rest last : List ℕ) → rest ≡ last → HasRead gathering run.left run.calls run.settings.limits (kept mid) mid.reader new.reader items rest
         → HasCovered run new (h.parts ++ wholes items) last h.told
     covered_next items rest last e r =
@@ -249,12 +268,12 @@ module _ {R A S : Type 0} {takes : S → S → List Placed → (told : List ℕ)
 
     -- up to a fault, or up to the end
     pub reach : (counted : Counted) (up : Tally) → up ≡ record tally { count = counted.count; size = counted.size }
-        → HandsRawOn run.left run.calls run.failures takes leaves run.settings.limits tally.count counted mid new s1 s2 → HasReached run takes new counted up s2
+        → HandsRawOn run.left run.calls run.failures run.packets run.packet takes leaves run.settings.limits tally.count counted mid new s1 s2 → HasReached run takes new counted up s2
     reach counted up is a =
         let items = a.all.items in
-        let more = placed (tally.count + 1) (done_of mid) (wholes items) in
+        let more = a.all.messages in
         let size : counted.size ≡ sizes_of h.parts + sizes items = omega (arith, a.all.size_is, h.done) in
-        let came = subst (λ (l : List ℕ). takes run.s0 s2 (placed 1 0 h.parts ++ more) l) (append-nil h.told) (laws.joins run.s0 s1 s2 (placed 1 0 h.parts) more h.told [] h.came a.all.taken) in
+        let came = subst (λ (l : List ℕ). takes run.s0 s2 (h.messages ++ more) l) (append-nil h.told) (laws.joins run.s0 s1 s2 h.messages more h.told [] h.came a.all.taken) in
         record {
           gone = record {
             parts = h.parts ++ wholes items;
@@ -263,7 +282,9 @@ module _ {R A S : Type 0} {takes : S → S → List Placed → (told : List ℕ)
             tally_is = is ∙ wholes_tally h.parts items counted.count counted.size tally h.tally_is a.all.count_is size;
             done = omega (arith, a.all.done, size, sizes-both h.parts (wholes items), sizes-wholes items);
             failed = a.all.failed ∙ h.failed;
-            came = subst (λ (l : List Placed). takes run.s0 s2 l h.told) (placed_next items) came;
+            messages = h.messages ++ more;
+            placed = placed_next items more (a.all.placed (packets_of run) known);
+            came = came;
           };
           count_is = ap (λ (t : Tally). t.count) is;
           size_is = ap (λ (t : Tally). t.size) is;
@@ -276,15 +297,14 @@ module _ {R A S : Type 0} {takes : S → S → List Placed → (told : List ℕ)
 
     -- not all
     abbrev Handing : Cause → Type 0
-    Handing cause = HandsSomeOn gathering run.left run.calls run.settings.limits (kept mid) run.failures takes leaves tally.count cause mid.reader new.reader s1 s2
+    Handing cause = HandsSomeOn gathering run.left run.calls run.settings.limits (kept mid) run.failures takes leaves tally.count (HasKnownPackets run.packets run.packet mid) cause mid.reader new.reader s1 s2
 
     stops_some : (cause : Cause) (s : Handing cause) → More run new (ByCause cause) (h.parts ++ wholes s.items) s.rest [] → Stopped run new (ByCause cause) → Within run leaves new (ByCause cause) s2
     stops_some cause s all caused =
-        let more = placed (tally.count + 1) (done_of mid) (wholes s.items) in
-        let came = subst (λ (l : List ℕ). leaves run.s0 s2 (placed 1 0 h.parts ++ more) l (ByCause cause)) (append-nil h.told)
-        (laws.leaves_after run.s0 s1 s2 (placed 1 0 h.parts) more h.told [] (ByCause cause) h.came s.given_up) in
+        let came = subst (λ (l : List ℕ). leaves run.s0 s2 (h.messages ++ s.messages) l (ByCause cause)) (append-nil h.told)
+        (laws.leaves_after run.s0 s1 s2 h.messages s.messages h.told [] (ByCause cause) h.came s.given_up) in
         stops_plain run leaves cause new (h.parts ++ wholes s.items) s.rest h.told s2 (covered_next s.items s.rest s.rest refl s.read) all caused
-        (subst (λ (l : List Placed). leaves run.s0 s2 l h.told (ByCause cause)) (placed_next s.items) came)
+        (h.messages ++ s.messages) (placed_next s.items s.messages (s.placed (packets_of run) known)) came
 
     pub stop_hand : (cause : Cause) → Handing cause → Within run leaves new (ByCause cause) s2
     stop_hand Memory s = stops_some Memory s (inl refl) (s.caused ∙ h.failed)

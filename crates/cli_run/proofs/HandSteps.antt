@@ -8,6 +8,8 @@ use Rattle.dbus_message_model.specs.Messages.{MessageTree}
 use Rattle.dbus_validate.specs.declared.validating.Validated.{Validated}
 use Rattle.dbus_header.specs.MessageOutcomes.{IsWhole, IsRefused, IsPartial}
 use Rattle.dbus_device.specs.Device.{one_more}
+use Rattle.dbus_device.specs.Packets.{Packets}
+use Rattle.dbus_device.specs.declared.packet.Packet.{Packet}
 use Rattle.dbus_stream.specs.Cut.{CutMessage, CutOutcome, Unfinished, Refused, IsOutcome}
 use Rattle.dbus_stream.specs.CutEnds.{fault_at_end, sizes}
 use Rattle.dbus_stream.specs.Gathering.{gathering}
@@ -25,8 +27,8 @@ use Rattle.cli_report.specs.declared.ending.Cause.{Cause}
 use Rattle.cli_report.specs.declared.ending.Cause.TheVariants.{Memory, ReadFailed, WriteFailed, TooManyReads}
 use Rattle.cli_run.specs.ByName.{ended_by, stopped_by}
 use Rattle.cli_run.specs.Handing.{GivesNext, Stays}
-use Rattle.cli_run.specs.Onward.{AreAll, HasRead, HandsAllOn, HandsSomeOn, HandsOn, RawHandsOn, StopsFor}
-use Rattle.cli_run.specs.Inputs.{Placed, placed, wholes}
+use Rattle.cli_run.specs.Onward.{AreAll, AreHanded, HasKnownPackets, HasRead, HandsAllOn, HandsSomeOn, HandsOn, RawHandsOn, StopsFor}
+use Rattle.cli_run.specs.Inputs.{IsTimeBefore, Placed}
 use Rattle.cli_run.specs.Visiting.{AddsUp, TakesOne}
 use Rattle.cli_run.specs.declared.counted.Counted.{Counted}
 use Rattle.cli_run.specs.declared.counted.NoMessage.{NoMessage}
@@ -40,7 +42,7 @@ use Rattle.cli_run.proofs.PartLaws.{placed_last}
 use Rattle.cli_run.proofs.ReadSteps.{read_none, read_more, read_message, sizes-last, length-last}
 
 module _ {R T B G S : Type 0} {b : Ghosts B} (k : Taking T G) (left : R → Option (List ℕ)) (calls failures : R → ℕ)
-    (takes : S → S → List Placed → (told : List ℕ) → Type 0) (limits : Limits) (kept : List ℕ) (before : ℕ) where
+    (takes : S → S → List Placed → (told : List ℕ) → Type 0) (limits : Limits) (kept : List ℕ) (before : ℕ) (Are : Option Packets → Type 0) where
   -- the visitor took the messages that were read so far, and the rest is kept
   pub record HasHanded (count : ℕ) (old new : Reader R T B b) (rest : List ℕ) (s0 s1 : S) : Type 0 where
     pub items : List CutMessage
@@ -49,7 +51,9 @@ module _ {R T B G S : Type 0} {b : Ghosts B} (k : Taking T G) (left : R → Opti
     pub unstopped : stopped_of new ≡ None
     pub failed : failures (source_of new) ≡ failures (source_of old)
     pub count_is : count ≡ before + length items
-    pub taken : takes s0 s1 (placed (before + 1) (done_of old) (wholes items)) []
+    pub messages : List Placed
+    pub placed : AreHanded before Are (done_of old) items messages
+    pub taken : takes s0 s1 messages []
 
   pub hands_none : ((a : S) → takes a a [] []) → (reader : Reader R T B b) (s : S) → limits_of k reader ≡ limits → stopped_of reader ≡ None
       → HasHanded before reader reader kept s s
@@ -60,6 +64,8 @@ module _ {R T B G S : Type 0} {b : Ghosts B} (k : Taking T G) (left : R → Opti
     unstopped = unstopped;
     failed = refl;
     count_is = omega arith;
+    messages = [];
+    placed = λ packets are. refl;
     taken = nothing s;
   }
 
@@ -86,36 +92,36 @@ took_lent takes leaves s2 s3 limits w bytes j old new e same l place res one =
 -- what was read after that
 module _ {R T B G S : Type 0} {b : Ghosts B} {k : Taking T G} {left : R → Option (List ℕ)} {calls failures : R → ℕ} {takes : S → S → List Placed → (told : List ℕ) → Type 0}
     {leaves : S → S → List Placed → (told : List ℕ) → RunStop → Type 0} {settled : S → Type 0} (laws : AddsUp takes leaves settled) {limits : Limits} {kept : List ℕ} {before count : ℕ}
-    {old mid : Reader R T B b} {rest : List ℕ} {s0 s1 : S} (h : HasHanded k left calls failures takes limits kept before count old mid rest s0 s1) {new : Reader R T B b}
+    {Are : Option Packets → Type 0} {old mid : Reader R T B b} {rest : List ℕ} {s0 s1 : S} (h : HasHanded k left calls failures takes limits kept before Are count old mid rest s0 s1) {new : Reader R T B b}
     (r : Reads k left calls rest mid new) where
-  abbrev all : List Placed
-  all = placed (before + 1) (done_of old) (wholes h.items)
-
   -- no more are taken for this cause
-  stays : (cause : Cause) {s2 s3 : S} → takes s0 s2 all [] → leaves s2 s3 [] [] (ByCause cause) → leaves s0 s3 all [] (ByCause cause)
-  stays cause {s2} {s3} taken gave = subst (λ (l : List Placed). leaves s0 s3 l [] (ByCause cause)) (append-nil all) (laws.leaves_after s0 s2 s3 all [] [] [] (ByCause cause) taken gave)
+  stays : (cause : Cause) {s2 s3 : S} → takes s0 s2 h.messages [] → leaves s2 s3 [] [] (ByCause cause) → leaves s0 s3 h.messages [] (ByCause cause)
+  stays cause {s2} {s3} taken gave =
+      subst (λ (l : List Placed). leaves s0 s3 l [] (ByCause cause)) (append-nil h.messages) (laws.leaves_after s0 s2 s3 h.messages [] [] [] (ByCause cause) taken gave)
 
   -- reading or writing is given up
-  hands_some : (cause : Cause) {s2 : S} → AreAll limits cause (rest ++ r.bytes) → leaves s0 s2 all [] (ByCause cause) → StopsFor failures cause old new
-      → HandsSomeOn k left calls limits kept failures takes leaves before cause old new s0 s2
+  hands_some : (cause : Cause) {s2 : S} → AreAll limits cause (rest ++ r.bytes) → leaves s0 s2 h.messages [] (ByCause cause) → StopsFor failures cause old new
+      → HandsSomeOn k left calls limits kept failures takes leaves before Are cause old new s0 s2
   hands_some cause all gave caused = record {
     items = h.items;
     rest = rest ++ r.bytes;
     read = read_more k left calls limits kept old mid new h.items rest h.read r;
     all = all;
+    messages = h.messages;
+    placed = h.placed;
     given_up = gave;
     caused = caused;
   }
 
   -- the visitor could not let go what it held back
   pub hands_unwritten : {s2 : S} → leaves s1 s2 [] [] (ByCause WriteFailed) → failures (source_of new) ≡ failures (source_of mid)
-      → HandsSomeOn k left calls limits kept failures takes leaves before WriteFailed old new s0 s2
+      → HandsSomeOn k left calls limits kept failures takes leaves before Are WriteFailed old new s0 s2
   hands_unwritten kept same = hands_some WriteFailed tt (stays WriteFailed h.taken kept) (same ∙ h.failed)
 
   -- it did
   module _ {s2 : S} (go : takes s1 s2 [] []) where
-    pub taken : takes s0 s2 all []
-    taken = subst (λ (l : List Placed). takes s0 s2 l []) (append-nil all) (laws.joins s0 s1 s2 all [] [] [] h.taken go)
+    pub taken : takes s0 s2 h.messages []
+    taken = subst (λ (l : List Placed). takes s0 s2 l []) (append-nil h.messages) (laws.joins s0 s1 s2 h.messages [] [] [] h.taken go)
 
     module _ (item : CutMessage) (whole : IsWhole (limits_of k mid) (rest ++ r.bytes) item.order item.message item.size) (same : failures (source_of new) ≡ failures (source_of mid)) where
       read_item : HasRead k left calls limits kept old new (h.items ++ item ∷ []) (drop item.size (rest ++ r.bytes))
@@ -124,12 +130,21 @@ module _ {R T B G S : Type 0} {b : Ghosts B} {k : Taking T G} {left : R → Opti
           (subst (λ l. IsWhole l (rest ++ r.bytes) item.order item.message item.size) h.read.limits_are whole)
 
       -- one more message, which is at this place
-      module _ (place : MessagePlace) (number : place.number ≡ count + 1) (offset : place.offset ≡ done_of mid) where
-        last_is : all ++ record { place = place; item = item } ∷ [] ≡ placed (before + 1) (done_of old) (wholes (h.items ++ item ∷ []))
-        last_is = placed_last (before + 1) (done_of old) h.items item place (omega (arith, number, h.count_is)) (offset ∙ h.done)
+      module _ (place : MessagePlace) (number : place.number ≡ count + 1) (offset : place.offset ≡ done_of mid)
+          (time : (packets : Option Packets) → Are packets → IsTimeBefore packets (done_of mid + item.size) place.time) where
+        abbrev one_more_message : List Placed
+        one_more_message = record { place = place; item = item } ∷ []
 
-        pub hands_more : {s3 : S} → done_of new ≡ done_of mid + item.size → stopped_of new ≡ None → takes s2 s3 (record { place = place; item = item } ∷ []) []
-            → HasHanded k left calls failures takes limits kept before (count + 1) old new (drop item.size (rest ++ r.bytes)) s0 s3
+        last_is : AreHanded before Are (done_of old) (h.items ++ item ∷ []) (h.messages ++ one_more_message)
+        last_is packets are = placed_last packets (before + 1) (done_of old) h.items item h.messages _ (h.placed packets are) (record {
+          item_is = refl;
+          number_is = omega (arith, number, h.count_is);
+          offset_is = offset ∙ h.done;
+          time_is = subst (λ (n : ℕ). IsTimeBefore packets (n + item.size) place.time) h.done (time packets are);
+        })
+
+        pub hands_more : {s3 : S} → done_of new ≡ done_of mid + item.size → stopped_of new ≡ None → takes s2 s3 one_more_message []
+            → HasHanded k left calls failures takes limits kept before Are (count + 1) old new (drop item.size (rest ++ r.bytes)) s0 s3
         hands_more {s3} done unstopped one = record {
           items = h.items ++ item ∷ [];
           read = read_item;
@@ -137,20 +152,23 @@ module _ {R T B G S : Type 0} {b : Ghosts B} {k : Taking T G} {left : R → Opti
           unstopped = unstopped;
           failed = same ∙ h.failed;
           count_is = omega (arith, h.count_is, length-last h.items item);
-          taken = subst (λ (l : List Placed). takes s0 s3 l []) last_is (laws.joins s0 s2 s3 all (record { place = place; item = item } ∷ []) [] [] taken one);
+          messages = h.messages ++ one_more_message;
+          placed = last_is;
+          taken = laws.joins s0 s2 s3 h.messages one_more_message [] [] taken one;
         }
 
         -- which is not taken
         pub hands_not : {s3 : S} (cause : Cause) → TakesOne takes leaves s2 s3 (record { place = place; item = item }) (Err cause)
-            → HandsSomeOn k left calls limits kept failures takes leaves before cause old new s0 s3
+            → HandsSomeOn k left calls limits kept failures takes leaves before Are cause old new s0 s3
         hands_not {s3} Memory one = hands_some Memory tt (stays Memory taken one) (same ∙ h.failed)
         hands_not {s3} WriteFailed one = record {
           items = h.items ++ item ∷ [];
           rest = drop item.size (rest ++ r.bytes);
           read = read_item;
           all = tt;
-          given_up = subst (λ (l : List Placed). leaves s0 s3 l [] (ByCause WriteFailed)) last_is
-              (laws.leaves_after s0 s2 s3 all (record { place = place; item = item } ∷ []) [] [] (ByCause WriteFailed) taken one);
+          messages = h.messages ++ one_more_message;
+          placed = last_is;
+          given_up = laws.leaves_after s0 s2 s3 h.messages one_more_message [] [] (ByCause WriteFailed) taken one;
           caused = same ∙ h.failed;
         }
         hands_not cause one = absurd one
@@ -158,7 +176,7 @@ module _ {R T B G S : Type 0} {b : Ghosts B} {k : Taking T G} {left : R → Opti
     -- no further message comes
     abbrev pub hands_all : (outcome : CutOutcome) (counted : Counted) → counted.count ≡ count → counted.size ≡ done_of new → done_of new ≡ done_of mid
         → counted.fault ≡ fault_at_end (rest ++ r.bytes) outcome → IsOutcome limits (rest ++ r.bytes) outcome → (((f : Fault) → outcome ≡ Refused f → ⊥) → is_ended new ≡ true)
-        → failures (source_of new) ≡ failures (source_of mid) → HandsAllOn k left calls limits kept failures takes leaves before counted old new s0 s2
+        → failures (source_of new) ≡ failures (source_of mid) → HandsAllOn k left calls limits kept failures takes leaves before Are counted old new s0 s2
     hands_all outcome counted count_is size done fault is ended same = record {
       items = h.items;
       rest = rest ++ r.bytes;
@@ -170,13 +188,15 @@ module _ {R T B G S : Type 0} {b : Ghosts B} {k : Taking T G} {left : R → Opti
       size_is = size ∙ (done ∙ h.done);
       fault_is = fault;
       done = sym size;
+      messages = h.messages;
+      placed = h.placed;
       taken = taken;
       failed = same ∙ h.failed;
     }
 
     -- the bytes are no message, or end within one
     pub hands_refused : (fault : Fault) → Faults k (rest ++ r.bytes) mid new (read.Format fault) → failures (source_of new) ≡ failures (source_of mid)
-        → (a : HandsAllOn k left calls limits kept failures takes leaves before (record { count = count; size = done_of new; fault = Some fault }) old new s0 s2) × (a.rest ≡ rest ++ r.bytes)
+        → (a : HandsAllOn k left calls limits kept failures takes leaves before Are (record { count = count; size = done_of new; fault = Some fault }) old new s0 s2) × (a.rest ≡ rest ++ r.bytes)
     hands_refused fault answer same = elim answer.1 [
       | inl refused ↦ (
         hands_all (Refused fault) _ refl refl answer.0 refl (subst (λ l. IsRefused l (rest ++ r.bytes) fault) h.read.limits_are refused) (λ none. absurd (none fault refl)) same,
@@ -190,20 +210,20 @@ module _ {R T B G S : Type 0} {b : Ghosts B} {k : Taking T G} {left : R → Opti
 
     -- the reader has a fault
     pub hands_faulted : (fault : ReadFault) → Faults k (rest ++ r.bytes) mid new fault → DeviceCounts {T = Option G} (failures (source_of mid)) (failures (source_of new)) (Err fault)
-        → settled s2 → HandsOn k left calls limits kept failures takes leaves before old new s0 s2 (ended_by count (done_of new) fault)
+        → settled s2 → HandsOn k left calls limits kept failures takes leaves before Are old new s0 s2 (ended_by count (done_of new) fault)
     hands_faulted (read.Format fault) answer same o = (hands_refused fault answer same).0
-    hands_faulted read.Memory answer same o = hands_some Memory tt (laws.rests s0 s2 all [] taken o).0 (same ∙ h.failed)
+    hands_faulted read.Memory answer same o = hands_some Memory tt (laws.rests s0 s2 h.messages [] taken o).0 (same ∙ h.failed)
     hands_faulted read.Device partial counts o =
-        hands_some ReadFailed (subst (λ l. IsPartial l (rest ++ r.bytes)) h.read.limits_are partial) (laws.rests s0 s2 all [] taken o).1 (counts.0 ∙ ap one_more h.failed)
+        hands_some ReadFailed (subst (λ l. IsPartial l (rest ++ r.bytes)) h.read.limits_are partial) (laws.rests s0 s2 h.messages [] taken o).1 (counts.0 ∙ ap one_more h.failed)
     hands_faulted read.TooManyReads answer same o =
-        hands_some TooManyReads (subst (λ l. IsPartial l (rest ++ r.bytes)) h.read.limits_are answer.0) (laws.rests s0 s2 all [] taken o).2 (same ∙ h.failed, answer.1)
+        hands_some TooManyReads (subst (λ l. IsPartial l (rest ++ r.bytes)) h.read.limits_are answer.0) (laws.rests s0 s2 h.messages [] taken o).2 (same ∙ h.failed, answer.1)
 
 -- a reader of raw messages
 module _ {R A S : Type 0} {left : R → Option (List ℕ)} {calls failures : R → ℕ} {takes : S → S → List Placed → (told : List ℕ) → Type 0}
     {leaves : S → S → List Placed → (told : List ℕ) → RunStop → Type 0} {settled : S → Type 0} (laws : AddsUp takes leaves settled) {limits : Limits} {before : ℕ} where
   -- so it is if the reader looks at what it keeps
-  pub still : {count : ℕ} {s0 s1 : S} (old mid from : RawReader R A) → HasHanded gathering left calls failures takes limits (kept old) before count old.reader mid.reader (kept mid) s0 s1 → Stays mid from
-      → HasHanded gathering left calls failures takes limits (kept old) before count old.reader from.reader (kept from) s0 s1
+  pub still : {Are : Option Packets → Type 0} {count : ℕ} {s0 s1 : S} (old mid from : RawReader R A) → HasHanded gathering left calls failures takes limits (kept old) before Are count old.reader mid.reader (kept mid) s0 s1
+      → Stays mid from → HasHanded gathering left calls failures takes limits (kept old) before Are count old.reader from.reader (kept from) s0 s1
   still old mid from h s =
       let read = read_more gathering left calls limits (kept old) old.reader mid.reader from.reader h.items (kept mid) h.read (unread left calls mid mid from (starts left calls mid) s.unread) in
       record {
@@ -213,11 +233,13 @@ module _ {R A S : Type 0} {left : R → Option (List ℕ)} {calls failures : R �
         unstopped = s.unstopped;
         failed = ap failures s.unread.source ∙ h.failed;
         count_is = h.count_is;
+        messages = h.messages;
+        placed = h.placed;
         taken = h.taken;
       }
 
-  module _ {count : ℕ} (old mid : RawReader R A) {s0 s1 : S} (h : HasHanded gathering left calls failures takes limits (kept old) before count old.reader mid.reader (kept mid) s0 s1)
-      (new : RawReader R A) (s2 : S) where
+  module _ {packets : R → Option Packets} {packet : R → Option Packet} {count : ℕ} (old mid : RawReader R A) {s0 s1 : S}
+      (h : HasHanded gathering left calls failures takes limits (kept old) before (HasKnownPackets packets packet old) count old.reader mid.reader (kept mid) s0 s1) (new : RawReader R A) (s2 : S) where
     faults : (w : List ℕ) (fault : ReadFault) (from : RawReader R A) → Advances w from new (Err fault) → Faults gathering w from.reader new.reader fault
     faults w read.Memory from a = tt
     faults w (read.Format fault) from a = (a.0.done, a.2)
@@ -228,7 +250,7 @@ module _ {R A S : Type 0} {left : R → Option (List ℕ)} {calls failures : R �
     Given stop = GivesNext left calls failures takes leaves settled mid new s1 s2 (Err stop)
 
     -- there is no next message
-    faulted : (fault : ReadFault) (given : Given (FromReader fault)) → HandsOn gathering left calls limits (kept old) failures takes leaves before old.reader new.reader s0 s2 (ended_by count (raw.done_of new) fault)
+    faulted : (fault : ReadFault) (given : Given (FromReader fault)) → HandsOn gathering left calls limits (kept old) failures takes leaves before (HasKnownPackets packets packet old) old.reader new.reader s0 s2 (ended_by count (raw.done_of new) fault)
     faulted fault (from, there, (r, a, counts, go, rests)) = hands_faulted laws (still old mid from h there) r go fault (faults (kept from ++ r.bytes) fault from a) counts rests
 
     -- the visitor holds nothing back, unless a write failed
@@ -236,7 +258,7 @@ module _ {R A S : Type 0} {left : R → Option (List ℕ)} {calls failures : R �
     settled_last (FromReader (read.Format fault)) (from, there, (r, a, counts, go, rests)) = rests
     settled_last stop given = tt
 
-    pub hands_stopped : (stop : NoMessage) → Given stop → RawHandsOn left calls failures takes leaves limits before old new s0 s2 (stopped_by count (raw.done_of new) stop)
+    pub hands_stopped : (stop : NoMessage) → Given stop → RawHandsOn left calls failures packets packet takes leaves limits before old new s0 s2 (stopped_by count (raw.done_of new) stop)
     hands_stopped (FromReader (read.Format fault)) (from, there, (r, a, same, go, rests)) =
         let all = hands_refused laws (still old mid from h there) r go fault (faults (kept from ++ r.bytes) (read.Format fault) from a) same in
         record { all = all.0; kept = a.0.kept ∙ sym all.1; stopped = a.1 }

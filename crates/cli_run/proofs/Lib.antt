@@ -2,6 +2,7 @@ pub mod RuleSets
 pub mod OutputSteps
 pub mod PartLaws
 pub mod Outputs
+pub mod KnownPackets
 pub mod ReadSteps
 pub mod GivenSteps
 pub mod HandSteps

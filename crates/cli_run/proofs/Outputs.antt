@@ -3,6 +3,7 @@ use Rattle.std.proofs.Common.{◌≡◌, ◌⊎◌, ℕ, ◌+◌, inl, inr, List
 use Rattle.std.specs.List.{concat}
 use Rattle.std.proofs.lemmas.List.{map-append}
 use Rattle.std.proofs.lemmas.List.Folds.{concat-append}
+use Rattle.dbus_device.specs.Packets.{Packets}
 use Rattle.dbus_value_model.specs.declared.fault.Fault.{Fault}
 use Rattle.dbus_value_model.specs.declared.order.Order.{Order}
 use Rattle.dbus_message_model.specs.Messages.{MessageTree, message_bytes}
@@ -14,13 +15,13 @@ use Rattle.dbus_rule_set.specs.Owners.{OwnerSet, owners_in}
 use Rattle.cli_options.proofs.Selections.{selected}
 use Rattle.cli_options.specs.declared.command.Command.{Command}
 use Rattle.cli_options.specs.declared.command.Command.TheVariants.{Show, Json, Check, Swap, Filter}
-use Rattle.cli_run.specs.Inputs.{Placed, Whole, placed, sizes_of, wholes}
+use Rattle.cli_run.specs.Inputs.{ArePlaced, Part, PassedOver, Placed, Whole, sizes_of, wholes}
 use Rattle.cli_run.specs.Laws.{OneFront, OneOutput, SomeOutput}
 use Rattle.cli_run.specs.Output.{IsExact, IsFront, IsOutputOf, IsOutputOfAll, IsTextOf, Picks, last_line, line_place, owners_after, owners_known, owners_after_all}
 use Rattle.cli_report.specs.Gathering.{IsPrefixTo}
 use Rattle.cli_run.specs.declared.place.MessagePlace.{MessagePlace}
 use Rattle.cli_run.specs.VisitorLaws.{output_both}
-use Rattle.cli_run.proofs.PartLaws.{placed_both}
+use Rattle.cli_run.proofs.PartLaws.{placed_both, some_placed}
 
 -- ---- there is one
 
@@ -52,24 +53,24 @@ some_of_all command os (m ∷ items) =
     (one.0 ++ more.0, (one.0, more.0, refl, one.1, more.1))
 
 pub some_output : SomeOutput
-some_output command items fault =
-    let all = some_of_all command (owners_known command None) (placed 1 0 (wholes items)) in
-    (concat all.0 ++ last_line command (length items) (sizes items) fault, record { texts = all.0; each = all.1; joined = refl })
+some_output packets command items fault =
+    let some = some_placed packets 1 0 (wholes items) in
+    let all = some_of_all command (owners_known command None) some.0 in
+    (concat all.0 ++ last_line command (length items) (sizes items) fault, record { messages = some.0; placed = some.1; texts = all.0; each = all.1; joined = refl })
 
 -- a prefix of what is written of the first messages is one of what the first writer gets
-pub front_of_first : (command : Command) (items more all : List CutMessage) (fault : Option Fault) (texts : List (List ℕ)) (front : List ℕ) → all ≡ items ++ more
-    → IsOutputOfAll command (owners_known command None) (placed 1 0 (wholes items)) texts → IsPrefixTo front (concat texts) → IsFront command all fault front
-front_of_first command items more all fault texts front e o prefix =
+pub front_of_first : (packets : Option Packets) (command : Command) (items more all : List CutMessage) (fault : Option Fault) (messages : List Placed) (texts : List (List ℕ)) (front : List ℕ) → all ≡ items ++ more
+    → ArePlaced packets 1 0 (wholes items) messages → IsOutputOfAll command (owners_known command None) messages texts → IsPrefixTo front (concat texts) → IsFront packets command all fault front
+front_of_first packets command items more all fault messages texts front e p o prefix =
     let os = owners_known command None in
-    let first = placed 1 0 (wholes items) in
-    let others = placed (1 + length (wholes items)) (0 + sizes_of (wholes items)) (wholes more) in
-    let rest = some_of_all command (owners_after_all command os first) others in
+    let others = some_placed packets (1 + length (wholes items)) (0 + sizes_of (wholes items)) (wholes more) in
+    let rest = some_of_all command (owners_after_all command os messages) others.0 in
     let last = last_line command (length all) (sizes all) fault in
     let tail = concat rest.0 in
-    let both : first ++ others ≡ placed 1 0 (wholes all) = sym (placed_both 1 0 (wholes items) (wholes more)) ∙ ap (λ l. placed 1 0 l) (sym (map-append Whole items more) ∙ ap wholes (sym e)) in
-    let each = subst (λ (l : List Placed). IsOutputOfAll command os l (texts ++ rest.0)) both (output_both command os first others texts rest.0 o rest.1) in (
+    let both : wholes items ++ wholes more ≡ wholes all = sym (map-append Whole items more) ∙ ap wholes (sym e) in
+    let placed = subst (λ (l : List Part). ArePlaced packets 1 0 l (messages ++ others.0)) both (placed_both packets 1 0 (wholes items) (wholes more) messages others.0 p others.1) in (
       concat (texts ++ rest.0) ++ last,
-      record { texts = texts ++ rest.0; each = each; joined = refl },
+      record { messages = messages ++ others.0; placed = placed; texts = texts ++ rest.0; each = output_both command os messages others.0 texts rest.0 o rest.1; joined = refl },
       (
         prefix.0 ++ (tail ++ last),
         ap (λ l. l ++ last) (concat-append texts rest.0)
@@ -79,32 +80,44 @@ front_of_first command items more all fault texts front e o prefix =
 
 -- ---- and no other, of an exact command
 
-text_one : (command : Command) (order : Order) (message : MessageTree) (place : MessagePlace) (a b : List ℕ) → IsExact command → IsTextOf command order message place a
-    → IsTextOf command order message place b → a ≡ b
-text_one Json order message place a b exact p q = absurd exact
-text_one command order message place a b exact p q = p ∙ sym q
+-- it does not depend on the time
+text_one : (command : Command) (order : Order) (message : MessageTree) (place other : MessagePlace) (a b : List ℕ) → IsExact command → place.number ≡ other.number
+    → IsTextOf command order message place a → IsTextOf command order message other b → a ≡ b
+text_one Json order message place other a b exact number p q = absurd exact
+text_one Show order message place other a b exact number p q = p ∙ (ap (message_text order message) number ∙ sym q)
+text_one command order message place other a b exact number p q = p ∙ sym q
 
-output_one : (command : Command) (os : OwnerSet) (order : Order) (message : MessageTree) (place : MessagePlace) (a b : List (List ℕ)) → IsExact command → IsOutputOf command os order message place a
-    → IsOutputOf command os order message place b → a ≡ b
-output_one command os order message place a b exact p q = elim p [
+output_one : (command : Command) (os : OwnerSet) (order : Order) (message : MessageTree) (place other : MessagePlace) (a b : List (List ℕ)) → IsExact command → place.number ≡ other.number
+    → IsOutputOf command os order message place a → IsOutputOf command os order message other b → a ≡ b
+output_one command os order message place other a b exact number p q = elim p [
   | inl met ↦ elim q [
-    | inl too ↦ met.3 ∙ (ap (λ t. t ∷ []) (text_one command order message place met.1 too.1 exact met.2 too.2) ∙ sym too.3)
+    | inl too ↦ met.3 ∙ (ap (λ t. t ∷ []) (text_one command order message place other met.1 too.1 exact number met.2 too.2) ∙ sym too.3)
     | inr unmet ↦ absurd (unmet.0 met.0)
   ]
   | inr unmet ↦ elim q [ inl met ↦ absurd (unmet.0 met.0) | inr too ↦ unmet.1 ∙ sym too.1 ]
 ]
 
-pub output_all_one : (command : Command) (os : OwnerSet) (items : List Placed) (a b : List (List ℕ)) → IsExact command → IsOutputOfAll command os items a → IsOutputOfAll command os items b → a ≡ b
-output_all_one command os [] a b exact p q = p ∙ sym q
-output_all_one command os (m ∷ items) a b exact p q =
-    let same : p.0 ≡ q.0 = output_one command os m.item.order m.item.message m.place p.0 q.0 exact p.3 q.3 in
-    let suffix : p.1 ≡ q.1 = output_all_one command (owners_after command os m.item.message) items p.1 q.1 exact p.4 q.4 in
-    let parts : p.0 ++ p.1 ≡ q.0 ++ q.1 = λ i. same i ++ suffix i in
-    p.2 ∙ (parts ∙ sym q.2)
+-- of the messages of the same parts, whatever their packets are
+pub output_all_one : (packets others : Option Packets) (command : Command) (os : OwnerSet) (n offset : ℕ) (parts : List Part) (items also : List Placed) (a b : List (List ℕ)) → IsExact command
+    → ArePlaced packets n offset parts items → ArePlaced others n offset parts also → IsOutputOfAll command os items a → IsOutputOfAll command os also b → a ≡ b
+output_all_one packets others command os n offset [] items also a b exact p q h k =
+    subst (λ (l : List Placed). IsOutputOfAll command os l a) p h ∙ sym (subst (λ (l : List Placed). IsOutputOfAll command os l b) q k)
+output_all_one packets others command os n offset (Whole item ∷ parts) [] also a b exact p q h k = absurd p
+output_all_one packets others command os n offset (Whole item ∷ parts) (m ∷ items) [] a b exact p q h k = absurd q
+output_all_one packets others command os n offset (Whole item ∷ parts) (m ∷ items) (l ∷ also) a b exact p q h k =
+    let same : l.item ≡ m.item = q.0.item_is ∙ sym p.0.item_is in
+    let one = subst (λ (x : CutMessage). IsOutputOf command os x.order x.message l.place k.0) same k.3 in
+    let more = subst (λ (x : CutMessage). IsOutputOfAll command (owners_after command os x.message) also k.1) same k.4 in
+    let first : h.0 ≡ k.0 = output_one command os m.item.order m.item.message m.place l.place h.0 k.0 exact (p.0.number_is ∙ sym q.0.number_is) h.3 one in
+    let suffix : h.1 ≡ k.1 = output_all_one packets others command (owners_after command os m.item.message) (n + 1) (offset + item.size) parts items also h.1 k.1 exact p.1 q.1 h.4 more in
+    h.2 ∙ ((λ i. first i ++ suffix i) ∙ sym k.2)
+output_all_one packets others command os n offset (PassedOver kept fault size ∷ parts) items also a b exact p q h k =
+    output_all_one packets others command os (n + 1) (offset + size) parts items also a b exact p q h k
 
 pub one_output : OneOutput
-one_output command items fault x y exact h k =
-    h.joined ∙ ap (λ a. concat a ++ last_line command (length items) (sizes items) fault) (output_all_one command (owners_known command None) (placed 1 0 (wholes items)) h.texts k.texts exact h.each k.each) ∙ sym k.joined
+one_output packets others command items fault x y exact h k =
+    let texts = output_all_one packets others command (owners_known command None) 1 0 (wholes items) h.messages k.messages h.texts k.texts exact h.placed k.placed h.each k.each in
+    h.joined ∙ ap (λ a. concat a ++ last_line command (length items) (sizes items) fault) texts ∙ sym k.joined
 
 pub one_front : OneFront
-one_front command items fault front out exact is whole = subst (λ l. IsPrefixTo front l) (one_output command items fault is.0 out exact is.1 whole) is.2
+one_front packets others command items fault front out exact is whole = subst (λ l. IsPrefixTo front l) (one_output packets others command items fault is.0 out exact is.1 whole) is.2

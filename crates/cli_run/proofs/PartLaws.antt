@@ -1,8 +1,9 @@
 -- Parts of an input that follow one another, what is told of them, and the messages among them.
-use Rattle.std.proofs.Common.{◌≡◌, ℕ, suc, ◌+◌, ◌<◌, ◌≤◌, Bool, true, false, List, [], ◌∷◌, ◌++◌, Option, None, Some, length, drop, refl, sym, ap, ◌∙◌, subst, arith, append_assoc, append-nil, length-append, inl}
+use Rattle.std.proofs.Common.{◌≡◌, ℕ, suc, ◌+◌, ◌-◌, ◌<◌, ◌≤◌, Bool, true, false, List, [], ◌∷◌, ◌++◌, Option, None, Some, length, drop, refl, sym, ap, ◌∙◌, subst, arith, append_assoc, append-nil, length-append, inl}
 use Rattle.std.proofs.Math.Path.{transport}
 use Rattle.std.proofs.lemmas.Bool.{false≢true}
 use Rattle.std.proofs.lemmas.List.{drop-append-le}
+use Rattle.dbus_device.specs.Packets.{Packets}
 use Rattle.dbus_value_model.specs.declared.fault.Fault.{Fault}
 use Rattle.dbus_value_model.specs.declared.limits.Limits.{Limits}
 use Rattle.dbus_header.specs.StatedLengths.{StatesLength}
@@ -10,7 +11,7 @@ use Rattle.dbus_header.proofs.OutcomeLaws.{whole_for_good, whole_inside}
 use Rattle.dbus_stream.specs.Cut.{BeginWith, CutMessage, CutOutcome, Refused}
 use Rattle.dbus_stream.specs.CutEnds.{sizes}
 use Rattle.cli_options.specs.declared.settings.Settings.{Settings}
-use Rattle.cli_run.specs.Inputs.{Part, Whole, PassedOver, Placed, placed, placed_at, size_of, sizes_of, wholes, IsLast, IsPart, BeginWithParts}
+use Rattle.cli_run.specs.Inputs.{ArePlaced, IsPlaced, IsTimeBefore, Part, Whole, PassedOver, Placed, size_of, sizes_of, time_of, wholes, IsLast, IsPart, BeginWithParts}
 use Rattle.cli_run.specs.Output.{check_line, fault_line}
 use Rattle.cli_run.specs.Going.{AreTold, closing_line, passed_count, passed_sizes}
 use Rattle.cli_run.specs.declared.place.MessagePlace.{MessagePlace}
@@ -132,34 +133,58 @@ line_is t (Some fault) = append-nil (fault_line t.size (Some fault))
 
 -- ---- the messages among them
 
-n_is : (n : ℕ) → n + 0 ≡ n
-n_is n = omega arith
+-- the time of the byte before a place, if the packets are known
+time_before : Option Packets → (end : ℕ) → Option ℕ
+time_before None end = None
+time_before (Some packets) end = time_of (packets (end - 1))
 
-moved : (n offset : ℕ) (first : List Placed) (parts : List Part) (size : ℕ) (more : List Part) → first ++ placed (n + 1 + length parts) (offset + size + sizes_of parts) more
-    ≡ first ++ placed (n + suc (length parts)) (offset + (size + sizes_of parts)) more
-moved n offset first parts size more =
-    let number : n + 1 + length parts ≡ n + suc (length parts) = omega arith in
-    let place : offset + size + sizes_of parts ≡ offset + (size + sizes_of parts) = omega arith in
-    λ i. first ++ placed (number i) (place i) more
+is_time : (packets : Option Packets) (end : ℕ) → IsTimeBefore packets end (time_before packets end)
+unfolding time_before
+is_time None end = tt
+is_time (Some packets) end = refl
 
--- those of parts after others
-pub placed_both : (n offset : ℕ) (parts more : List Part) → placed n offset (parts ++ more) ≡ placed n offset parts ++ placed (n + length parts) (offset + sizes_of parts) more
-placed_both n offset [] more = λ i. placed (sym (n_is n) i) (sym (n_is offset) i) more
-placed_both n offset (Whole item ∷ parts) more =
-    ap (λ l. placed_at n offset item ∷ l) (placed_both (n + 1) (offset + item.size) parts more ∙ moved n offset (placed (n + 1) (offset + item.size) parts) parts item.size more)
-placed_both n offset (PassedOver kept fault size ∷ parts) more =
-    placed_both (n + 1) (offset + size) parts more ∙ moved n offset (placed (n + 1) (offset + size) parts) parts size more
+-- there are some
+pub some_placed : (packets : Option Packets) (n offset : ℕ) (parts : List Part) → (messages : List Placed) × ArePlaced packets n offset parts messages
+some_placed packets n offset [] = ([], refl)
+some_placed packets n offset (Whole item ∷ parts) =
+    let more = some_placed packets (n + 1) (offset + item.size) parts in
+    let place : MessagePlace = record { number = n; offset = offset; time = time_before packets (offset + item.size) } in (
+      record { place = place; item = item } ∷ more.0,
+      (record { item_is = refl; number_is = refl; offset_is = refl; time_is = is_time packets (offset + item.size) }, more.1),
+    )
+some_placed packets n offset (PassedOver kept fault size ∷ parts) = some_placed packets (n + 1) (offset + size) parts
 
--- one message more
-pub placed_last : (n offset : ℕ) (items : List CutMessage) (item : CutMessage) (place : MessagePlace) → place.number ≡ n + length items → place.offset ≡ offset + sizes items
-    → placed n offset (wholes items) ++ record { place = place; item = item } ∷ [] ≡ placed n offset (wholes (items ++ item ∷ []))
-placed_last n offset [] item place number at =
-    let same_number : place.number ≡ n = omega (arith, number) in
-    let same_offset : place.offset ≡ offset = omega (arith, at) in
-    λ i. record { place = record { number = same_number i; offset = same_offset i }; item = item } ∷ []
-placed_last n offset (x ∷ items) item place number at =
-    ap (λ l. placed_at n offset x ∷ l) (placed_last (n + 1) (offset + x.size) items item place (omega (arith, number)) (omega (arith, at)))
+module _ (packets : Option Packets) where
+  moved : (n m offset at : ℕ) (parts : List Part) (messages : List Placed) → n ≡ m → offset ≡ at → ArePlaced packets n offset parts messages → ArePlaced packets m at parts messages
+  moved n m offset at parts messages number place p = transport (λ i. ArePlaced packets (number i) (place i) parts messages) p
 
--- one more is passed over
-pub placed_past : (n offset : ℕ) (parts : List Part) (kept : List ℕ) (fault : Fault) (size : ℕ) → placed n offset parts ≡ placed n offset (parts ++ PassedOver kept fault size ∷ [])
-placed_past n offset parts kept fault size = sym (placed_both n offset parts (PassedOver kept fault size ∷ []) ∙ append-nil (placed n offset parts))
+  -- those of parts after others
+  pub placed_both : (n offset : ℕ) (parts more : List Part) (a b : List Placed) → ArePlaced packets n offset parts a → ArePlaced packets (n + length parts) (offset + sizes_of parts) more b
+      → ArePlaced packets n offset (parts ++ more) (a ++ b)
+  placed_both n offset [] more a b p q =
+      subst (λ (l : List Placed). ArePlaced packets n offset more (l ++ b)) (sym p) (moved (n + 0) n (offset + 0) offset more b (omega arith) (omega arith) q)
+  placed_both n offset (Whole item ∷ parts) more [] b p q = absurd p
+  placed_both n offset (Whole item ∷ parts) more (m ∷ a) b p q =
+      (p.0, placed_both (n + 1) (offset + item.size) parts more a b p.1 (moved (n + suc (length parts)) (n + 1 + length parts) (offset + (item.size + sizes_of parts)) (offset + item.size + sizes_of parts) more b (omega arith) (omega arith) q))
+  placed_both n offset (PassedOver kept fault size ∷ parts) more a b p q =
+      placed_both (n + 1) (offset + size) parts more a b p (moved (n + suc (length parts)) (n + 1 + length parts) (offset + (size + sizes_of parts)) (offset + size + sizes_of parts) more b (omega arith) (omega arith) q)
+
+  -- one message more
+  pub placed_last : (n offset : ℕ) (items : List CutMessage) (item : CutMessage) (messages : List Placed) (m : Placed) → ArePlaced packets n offset (wholes items) messages
+      → IsPlaced packets (n + length items) (offset + sizes items) item m → ArePlaced packets n offset (wholes (items ++ item ∷ [])) (messages ++ m ∷ [])
+  placed_last n offset [] item messages m p q =
+      let number : n + 0 ≡ n = omega arith in
+      let place : offset + 0 ≡ offset = omega arith in
+      subst (λ (l : List Placed). ArePlaced packets n offset (wholes (item ∷ [])) (l ++ m ∷ [])) (sym p) (transport (λ i. IsPlaced packets (number i) (place i) item m) q, refl)
+  placed_last n offset (x ∷ items) item [] m p q = absurd p
+  placed_last n offset (x ∷ items) item (y ∷ messages) m p q =
+      let number : n + suc (length items) ≡ n + 1 + length items = omega arith in
+      let place : offset + (x.size + sizes items) ≡ offset + x.size + sizes items = omega arith in
+      (p.0, placed_last (n + 1) (offset + x.size) items item messages m p.1 (transport (λ i. IsPlaced packets (number i) (place i) item m) q))
+
+  -- one more is passed over
+  pub placed_past : (n offset : ℕ) (parts : List Part) (kept : List ℕ) (fault : Fault) (size : ℕ) (messages : List Placed) → ArePlaced packets n offset parts messages
+      → ArePlaced packets n offset (parts ++ PassedOver kept fault size ∷ []) messages
+  placed_past n offset parts kept fault size messages p =
+      subst (λ (l : List Placed). ArePlaced packets n offset (parts ++ PassedOver kept fault size ∷ []) l) (append-nil messages)
+      (placed_both n offset parts (PassedOver kept fault size ∷ []) messages [] p refl)

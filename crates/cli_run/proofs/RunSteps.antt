@@ -11,6 +11,7 @@ use Rattle.dbus_value_model.specs.declared.fault.Fault.{Fault}
 use Rattle.dbus_value_model.specs.declared.limits.Limits.{Limits}
 use Rattle.dbus_header.specs.MessageOutcomes.{IsPartial}
 use Rattle.dbus_device.specs.Device.{Wrote, Stopped}
+use Rattle.dbus_device.specs.Packets.{Packets}
 use Rattle.dbus_stream.specs.Cut.{CutMessage, BeginWith, CutOutcome, Refused, IsOutcome, IsCut}
 use Rattle.dbus_stream.specs.CutEnds.{fault_at_end, sizes}
 use Rattle.dbus_stream.proofs.CutLaws.{BeginWith-first, IsCut-one}
@@ -23,7 +24,7 @@ use Rattle.cli_report.specs.Devices.{Reading, Writing, taken, writing}
 use Rattle.cli_run.specs.Going.{GoesThrough, IsAllOf, IsThrough, StopsWithin, AreTold, IsToldLast, closing_line, passed_count, status_at, tally_of}
 use Rattle.cli_report.specs.Gathering.{Breaks, IsPrefixTo}
 use Rattle.cli_report.specs.Telling.{cause_line, Told}
-use Rattle.cli_run.specs.Inputs.{BeginWithParts, IsLast, IsTellable, Part, PassedOver, Placed, Whole, placed, sizes_of, wholes}
+use Rattle.cli_run.specs.Inputs.{ArePlaced, BeginWithParts, IsLast, IsTellable, Part, PassedOver, Placed, Whole, sizes_of, wholes}
 use Rattle.cli_run.specs.Output.{IsFirstOutput, IsFront, IsOutputOfAll, check_line, fault_line, is_check, last_line, owners_known, second_output, written}
 use Rattle.cli_run.specs.Told.{GotFirst, GotSecond, TellsStop, first_of, second_of}
 use Rattle.cli_run.specs.VisitorLaws.{first_nothing, second_nothing, wrote_both, wrote_stopped}
@@ -115,8 +116,11 @@ module _ {R W E : Type 0} (r : Reading R) (w : Writing W) (e : Writing E) (asked
   abbrev limits : Limits
   limits = asked.limits
 
-  abbrev AreOutput : List Part → List (List ℕ) → Type 0
-  AreOutput parts texts = IsOutputOfAll command (owners_known command None) (placed 1 0 parts) texts
+  abbrev packets : Option Packets
+  packets = r.packets r.old
+
+  abbrev AreOutput : List Placed → List (List ℕ) → Type 0
+  AreOutput handed texts = IsOutputOfAll command (owners_known command None) handed texts
 
   -- what the first writer gets of the texts, and of what is told
   abbrev first_part : List (List ℕ) → List ℕ → List ℕ
@@ -166,15 +170,15 @@ module _ {R W E : Type 0} (r : Reading R) (w : Writing W) (e : Writing E) (asked
     cut = record { messages = messages.messages; outcome_is = subst (λ (l : List ℕ). IsOutcome limits l h.tells.outcome) (sym rest_kept.0) h.tells.outcome_is }
 
     -- and these texts were made of them
-    module _ (texts : List (List ℕ)) (made : AreOutput h.parts texts) where
+    module _ (handed : List Placed) (placed : ArePlaced packets 1 0 h.parts handed) (texts : List (List ℕ)) (made : AreOutput handed texts) where
       first_is : first_part texts ((told ++ text) ++ closing) ≡ concat texts ++ last_of
       first_is =
-          first_due command (placed 1 0 h.parts) texts ((told ++ text) ++ closing) made
+          first_due command handed texts ((told ++ text) ++ closing) made
           ∙ ap (λ l. concat texts ++ l) (ap (first_of (is_check command) []) all_due ∙ (first_line (is_check command) tally fault
           ∙ (λ i. first_of (is_check command) [] (check_line (count_is i) (size_is i) (fault_is i)))))
 
-      output : IsFirstOutput command messages.items last_fault (concat texts ++ last_of)
-      output = record { texts = texts; each = subst (λ (l : List Part). AreOutput l texts) messages.parts_are made; joined = refl }
+      output : IsFirstOutput packets command messages.items last_fault (concat texts ++ last_of)
+      output = record { messages = handed; placed = subst (λ (l : List Part). ArePlaced packets 1 0 l handed) messages.parts_are placed; texts = texts; each = made; joined = refl }
 
       answers : (end : ExitStatus) → Wrote w.held w.failures w.old (concat texts ++ last_of) w.new → TellsLine e line_of last_fault end → Answers r w e limits most command end
       answers end first second = record {
@@ -204,7 +208,7 @@ module _ {R W E : Type 0} (r : Reading R) (w : Writing W) (e : Writing E) (asked
         front = λ items rest outcome other.
             let one = IsCut-one limits h.covers.bytes messages.items items h.rest rest h.tells.outcome outcome cut other in
             let all = prefix.1 ∙ (ap (λ l. l ++ prefix.0) b.front.1 ∙ append_assoc b.written b.front.0 prefix.0) in
-            transport (λ i. IsFront command (one.0 i) (fault_at_end (one.1 i) (one.2 i)) b.written) (concat texts ++ last_of, output, (b.front.0 ++ prefix.0, all));
+            transport (λ i. IsFront packets command (one.0 i) (fault_at_end (one.1 i) (one.2 i)) b.written) (concat texts ++ last_of, output, (b.front.0 ++ prefix.0, all));
         before = tt;
         read_caused = h.read_failed;
         write_caused = b.failed;
@@ -214,7 +218,7 @@ module _ {R W E : Type 0} (r : Reading R) (w : Writing W) (e : Writing E) (asked
   ran end g =
       let h = g.through in
       let second = subst (λ (l : List ℕ). Wrote e.held e.failures e.old l e.new) (second_is h) g.came.second in
-      inl (answers h g.came.texts g.came.made end (subst (λ (l : List ℕ). Wrote w.held w.failures w.old l w.new) (first_is h g.came.texts g.came.made) g.came.first)
+      inl (answers h g.messages g.placed g.came.texts g.came.made end (subst (λ (l : List ℕ). Wrote w.held w.failures w.old l w.new) (first_is h g.messages g.placed g.came.texts g.came.made) g.came.first)
       (inl (second, g.end_is ∙ (λ i. status_at (passed_is h i) (fault_is h i)))))
 
   -- ---- the run was given up, and before is the second writer before it was told why
@@ -240,12 +244,12 @@ module _ {R W E : Type 0} (r : Reading R) (w : Writing W) (e : Writing E) (asked
 
     texts_alone : (cause : Cause) (s : Within (ByCause cause)) → first_part s.came.texts (s.told ++ s.more) ≡ concat s.came.texts
     texts_alone cause s =
-        ap (λ l. first_part s.came.texts l) (none_told cause s) ∙ (first_due command (placed 1 0 s.parts) s.came.texts [] s.came.made
+        ap (λ l. first_part s.came.texts l) (none_told cause s) ∙ (first_due command s.messages s.came.texts [] s.came.made
         ∙ (ap (λ l. concat s.came.texts ++ l) (first_nothing (is_check command)) ∙ append-nil (concat s.came.texts)))
 
     -- the first writer got a prefix of what is made of the messages
     some_fail : (cause : Cause) (s : Within (ByCause cause)) (front : List ℕ) → Appends (w.held w.old) (w.held w.new) front → IsPrefixTo front (concat s.came.texts)
-        → WritesBefore limits command cause s.covers.bytes front → CountsWrite cause (w.failures w.old) (w.failures w.new) → Fails r w e limits most command cause
+        → WritesBefore packets limits command cause s.covers.bytes front → CountsWrite cause (w.failures w.old) (w.failures w.new) → Fails r w e limits most command cause
     some_fail cause s front appended prefix before counted = record {
       bytes = s.covers.bytes;
       written = front;
@@ -255,7 +259,8 @@ module _ {R W E : Type 0} (r : Reading R) (w : Writing W) (e : Writing E) (asked
       front = λ items rest outcome cut.
           let m = messages_of (ByCause cause) s in
           let more = BeginWith-first limits s.covers.bytes m.items items s.rest rest outcome m.messages cut.messages cut.outcome_is in
-          front_of_first command m.items more.0 items (fault_at_end rest outcome) s.came.texts front more.1 (subst (λ (l : List Part). AreOutput l s.came.texts) m.parts_are s.came.made) prefix;
+          front_of_first packets command m.items more.0 items (fault_at_end rest outcome) s.messages s.came.texts front more.1
+          (subst (λ (l : List Part). ArePlaced packets 1 0 l s.messages) m.parts_are s.placed) s.came.made prefix;
       before = before;
       read_caused = s.caused;
       write_caused = counted;
@@ -263,11 +268,11 @@ module _ {R W E : Type 0} (r : Reading R) (w : Writing W) (e : Writing E) (asked
 
     -- or all of it
     all_fail : (cause : Cause) (s : Within (ByCause cause)) → Wrote w.held w.failures w.old (first_part s.came.texts (s.told ++ s.more)) w.new
-        → WritesBefore limits command cause s.covers.bytes (concat s.came.texts) → CountsWrite cause (w.failures w.old) (w.failures w.new) → Fails r w e limits most command cause
+        → WritesBefore packets limits command cause s.covers.bytes (concat s.came.texts) → CountsWrite cause (w.failures w.old) (w.failures w.new) → Fails r w e limits most command cause
     all_fail cause s wrote before counted =
         some_fail cause s (concat s.came.texts) (subst (λ l. Wrote w.held w.failures w.old l w.new) (texts_alone cause s) wrote).appended ([], sym (append-nil (concat s.came.texts))) before counted
 
-    all_messages : (cause : Cause) (s : Within (ByCause cause)) → IsAllOf (taken r) (plain asked) most (is_check command) s.parts s.rest s.more → WritesMessages limits command s.covers.bytes (concat s.came.texts)
+    all_messages : (cause : Cause) (s : Within (ByCause cause)) → IsAllOf (taken r) (plain asked) most (is_check command) s.parts s.rest s.more → WritesMessages packets limits command s.covers.bytes (concat s.came.texts)
     all_messages cause s all =
         let m = messages_of (ByCause cause) s in
         let partial : IsPartial limits s.rest = elim all [ inl none ↦ none.0 | inr cut ↦ absurd (false≢true cut.4) ] in
@@ -276,8 +281,10 @@ module _ {R W E : Type 0} (r : Reading R) (w : Writing W) (e : Writing E) (asked
           rest = s.rest;
           messages = m.messages;
           partial = partial;
+          handed = s.messages;
+          placed = subst (λ (l : List Part). ArePlaced packets 1 0 l s.messages) m.parts_are s.placed;
           texts = s.came.texts;
-          output = subst (λ (l : List Part). AreOutput l s.came.texts) m.parts_are s.came.made;
+          output = s.came.made;
           written_is = refl;
         }
 
@@ -314,12 +321,12 @@ module _ {R W E : Type 0} (r : Reading R) (w : Writing W) (e : Writing E) (asked
     untold true is end s failed first second tells =
         let h = through s in
         let last = closing h in
-        let out = sym (ap (λ b. first_of b (written (plain asked).window s.came.texts) ((s.told ++ s.all.2) ++ last)) is) ∙ first_is h s.came.texts s.came.made in
+        let out = sym (ap (λ b. first_of b (written (plain asked).window s.came.texts) ((s.told ++ s.all.2) ++ last)) is) ∙ first_is h s.messages s.placed s.came.texts s.came.made in
         let prefix : IsPrefixTo (s.told ++ s.more) (concat s.came.texts ++ last_of h) = elim s.all.4 [
           | inl shown ↦ (last, sym out ∙ ap (λ l. (s.told ++ l) ++ last) (sym shown.1))
           | inr all ↦ ([], sym out ∙ (append_assoc s.told s.all.2 last ∙ (ap (λ l. s.told ++ l) (sym all.1) ∙ sym (append-nil (s.told ++ s.more)))))
         ] in
-        inr (record { failed = failed; cause = WriteFailed; fails = broken h s.came.texts s.came.made (s.told ++ s.more) first prefix; told = told_after WriteFailed second tells })
+        inr (record { failed = failed; cause = WriteFailed; fails = broken h s.messages s.placed s.came.texts s.came.made (s.told ++ s.more) first prefix; told = told_after WriteFailed second tells })
     untold false is end s failed first second tells =
         let h = through s in
         let last = closing h in
@@ -327,9 +334,9 @@ module _ {R W E : Type 0} (r : Reading R) (w : Writing W) (e : Writing E) (asked
         let more : s.more ≡ s.all.2 ++ last = elim s.all.4 [ inl shown ↦ shown.1 ∙ sym (ap (λ l. s.all.2 ++ l) none ∙ append-nil s.all.2) | inr all ↦ all.1 ] in
         let line : s.told ++ s.more ≡ line_of h
         = ap (λ l. s.told ++ l) more ∙ (sym (append_assoc s.told s.all.2 last) ∙ (sym (ap (λ b. second_of b ((s.told ++ s.all.2) ++ last)) is) ∙ second_is h)) in
-        let out = sym (ap (λ b. first_of b (written (plain asked).window s.came.texts) ((s.told ++ s.all.2) ++ last)) is) ∙ first_is h s.came.texts s.came.made in
+        let out = sym (ap (λ b. first_of b (written (plain asked).window s.came.texts) ((s.told ++ s.all.2) ++ last)) is) ∙ first_is h s.messages s.placed s.came.texts s.came.made in
         let half = subst (λ (l : List ℕ). Stopped e.held e.failures e.old l second.0 before) line second.1 in
-        inl (answers h s.came.texts s.came.made end (subst (λ (l : List ℕ). Wrote w.held w.failures w.old l w.new) out first)
+        inl (answers h s.messages s.placed s.came.texts s.came.made end (subst (λ (l : List ℕ). Wrote w.held w.failures w.old l w.new) out first)
         (inr (second.0, subst (λ (x : E). Stopped e.held e.failures e.old (line_of h) second.0 x) (sym tells) half, failed)))
 
     stopped : (stop : RunStop) (end : ExitStatus) → Within stop → end ≡ status.Failed → TellsStop e.held e.failures (is_check command) stop before e.new → Runs r w e limits most command end

@@ -4,6 +4,10 @@
 use Rattle.std.proofs.Common.{◌≡◌, ◌↔◌, ℕ, zero, suc, ◌+◌, Bool, true, false, ◌||◌, List, [], ◌∷◌, ◌++◌, map, None, Some, Option, refl, sym, ap, ◌∙◌, subst, arith, inl, inr}
 use Rattle.std.specs.FinSet.{from_list}
 use Rattle.std.specs.declared.alloc.Global.{Global}
+use Rattle.dbus_count.specs.Counting.{names_of, with_names}
+use Rattle.dbus_count.specs.declared.count.Count.{Count}
+use Rattle.dbus_device.specs.Packets.{Packets}
+use Rattle.dbus_stream.specs.Cut.{CutMessage}
 use Rattle.dbus_value_model.specs.declared.fault.Fault.{Fault}
 use Rattle.dbus_value_model.specs.declared.order.Order.{Order}
 use Rattle.dbus_message_model.specs.Messages.{MessageTree}
@@ -22,7 +26,8 @@ use Rattle.cli_report.specs.Telling.{IsToldBy, line_of}
 use Rattle.cli_report.specs.declared.telling.RefusedMessage.{RefusedMessage}
 use Rattle.cli_report.specs.declared.ending.ExitStatus.TheVariants as status
 use Rattle.cli_run.specs.Learning.{ask_sender, changed, known_after}
-use Rattle.cli_run.specs.Inputs.{Part, PassedOver, Placed, Whole, placed, placed_at}
+use Rattle.cli_run.specs.ByName.{after_messages}
+use Rattle.cli_run.specs.Inputs.{ArePlaced, Part, PassedOver, Placed, Whole}
 use Rattle.cli_run.specs.Output.{IsExact, IsOutputOf, IsOutputOfAll, IsTextOf, Picks, is_check, owners_after, owners_known}
 use Rattle.cli_run.specs.Going.{AreTold, IsTold, IsToldLast, passed_count, status_at, tally_of}
 use Rattle.cli_run.specs.declared.place.MessagePlace.{MessagePlace}
@@ -31,10 +36,36 @@ use Rattle.cli_run.proofs.SameParts.{ArePassed, AreSame, bare}
 
 -- ---- parts
 
-pub bare_placed : (n offset : ℕ) (parts : List Part) → placed n offset parts ≡ placed n offset (bare parts)
-bare_placed n offset [] = refl
-bare_placed n offset (Whole item ∷ parts) = ap (λ l. placed_at n offset item ∷ l) (bare_placed (n + 1) (offset + item.size) parts)
-bare_placed n offset (PassedOver kept fault size ∷ parts) = bare_placed (n + 1) (offset + size) parts
+pub bare_placed : (packets : Option Packets) (n offset : ℕ) (parts : List Part) (messages : List Placed) → ArePlaced packets n offset parts messages → ArePlaced packets n offset (bare parts) messages
+bare_placed packets n offset [] messages p = p
+bare_placed packets n offset (Whole item ∷ parts) [] p = absurd p
+bare_placed packets n offset (Whole item ∷ parts) (m ∷ messages) p = (p.0, bare_placed packets (n + 1) (offset + item.size) parts messages p.1)
+bare_placed packets n offset (PassedOver kept fault size ∷ parts) messages p = bare_placed packets (n + 1) (offset + size) parts messages p
+
+-- if the packets are known, so are the times
+pub one_placed : (packets : Packets) (n offset : ℕ) (parts : List Part) (a b : List Placed) → ArePlaced (Some packets) n offset parts a → ArePlaced (Some packets) n offset parts b → a ≡ b
+one_placed packets n offset [] a b p q = p ∙ sym q
+one_placed packets n offset (Whole item ∷ parts) [] b p q = absurd p
+one_placed packets n offset (Whole item ∷ parts) (m ∷ a) [] p q = absurd q
+one_placed packets n offset (Whole item ∷ parts) (m ∷ a) (l ∷ b) p q =
+    let number : m.place.number ≡ l.place.number = p.0.number_is ∙ sym q.0.number_is in
+    let there : m.place.offset ≡ l.place.offset = p.0.offset_is ∙ sym q.0.offset_is in
+    let time : m.place.time ≡ l.place.time = p.0.time_is ∙ sym q.0.time_is in
+    let same : m.item ≡ l.item = p.0.item_is ∙ sym q.0.item_is in
+    let more = one_placed packets (n + 1) (offset + item.size) parts a b p.1 q.1 in
+    λ i. record { place = record { number = number i; offset = there i; time = time i }; item = same i } ∷ more i
+one_placed packets n offset (PassedOver kept fault size ∷ parts) a b p q = one_placed packets (n + 1) (offset + size) parts a b p q
+
+-- the messages of the same parts count alike
+pub same_counts : (packets others : Option Packets) (n offset : ℕ) (parts : List Part) (a b : List Placed) (name : List ℕ) (c : Option Count) → ArePlaced packets n offset parts a → ArePlaced others n offset parts b
+    → after_messages a name c ≡ after_messages b name c
+same_counts packets others n offset [] a b name c p q = ap (λ (l : List Placed). after_messages l name c) (p ∙ sym q)
+same_counts packets others n offset (Whole item ∷ parts) [] b name c p q = absurd p
+same_counts packets others n offset (Whole item ∷ parts) (m ∷ a) [] name c p q = absurd q
+same_counts packets others n offset (Whole item ∷ parts) (m ∷ a) (l ∷ b) name c p q =
+    let same : m.item ≡ l.item = p.0.item_is ∙ sym q.0.item_is in
+    same_counts packets others (n + 1) (offset + item.size) parts a b name _ p.1 q.1 ∙ ap (λ (x : CutMessage). after_messages b name (with_names (names_of x.message) x.size name c)) same
+same_counts packets others n offset (PassedOver kept fault size ∷ parts) a b name c p q = same_counts packets others (n + 1) (offset + size) parts a b name c p q
 
 pub bare_tally : (parts : List Part) → tally_of parts ≡ tally_of (bare parts)
 bare_tally [] = refl
@@ -172,6 +203,8 @@ module _ (a b : Command) (h : ActsAs a b) where
       ] in
       (p.0, p.1, p.2, one, subst (λ (l : OwnerSet). IsOutputOfAll b l items p.1) (h.learned os m.item.message) (made_too (owners_after a os m.item.message) items p.1 p.4))
 
-  pub same_outputs : IsExact a → (items : List Placed) (x y : List (List ℕ)) → IsOutputOfAll a (owners_known a None) items x → IsOutputOfAll b (owners_known b None) items y → x ≡ y
-  same_outputs exact items x y p q =
-      output_all_one b (owners_known b None) items x y (h.exact exact) (subst (λ (l : OwnerSet). IsOutputOfAll b l items x) h.known (made_too (owners_known a None) items x p)) q
+  pub same_outputs : IsExact a → (packets others : Option Packets) (parts : List Part) (items also : List Placed) (x y : List (List ℕ)) → ArePlaced packets 1 0 parts items → ArePlaced others 1 0 parts also
+      → IsOutputOfAll a (owners_known a None) items x → IsOutputOfAll b (owners_known b None) also y → x ≡ y
+  same_outputs exact packets others parts items also x y here there p q =
+      output_all_one packets others b (owners_known b None) 1 0 parts items also x y (h.exact exact) here there
+      (subst (λ (l : OwnerSet). IsOutputOfAll b l items x) h.known (made_too (owners_known a None) items x p)) q

@@ -3,12 +3,13 @@ use Rattle.std.proofs.Common.{◌≡◌, ℕ, ◌+◌, Bool, false, List, [], �
 use Rattle.std.proofs.Math.Path.{transport}
 use Rattle.std.specs.Io.KnownBytes.{Consumes, IsAtEnd}
 use Rattle.dbus_device.specs.Device.{Wrote}
+use Rattle.dbus_device.specs.Packets.{Packets}
 use Rattle.dbus_value_model.specs.ByteNumbers.{IsBytes}
 use Rattle.dbus_value_model.proofs.Numbers.{IsBytes-rest}
 use Rattle.dbus_value_model.specs.declared.fault.Fault.{Fault}
 use Rattle.dbus_value_model.specs.declared.limits.Limits.{Limits}
 use Rattle.dbus_count.specs.Counting.{Counting}
-use Rattle.dbus_count.specs.Tables.{words, OneTable}
+use Rattle.dbus_count.specs.Tables.{AreTables, words, OneTable}
 use Rattle.dbus_count.specs.declared.form.Form.{Form}
 use Rattle.dbus_stream.specs.Cut.{IsOutcome, BeginWith, CutMessage, CutOutcome, Refused, IsCut}
 use Rattle.dbus_stream.specs.CutEnds.{fault_at_end, sizes}
@@ -20,14 +21,14 @@ use Rattle.cli_report.specs.declared.ending.ExitStatus.TheVariants as status
 use Rattle.cli_run.specs.Laws.{ExplainsNone, OneCount, OneRun, OneWithin}
 use Rattle.cli_run.specs.ByName.{EndsCount, WritesTables, counting}
 use Rattle.cli_run.specs.Going.{GoesThrough, IsThrough, IsToldLast, closing_line, passed_count, status_at, tally_of}
-use Rattle.cli_run.specs.Inputs.{BeginWithParts, Part, Placed, placed, size_of, sizes_of, wholes}
-use Rattle.cli_run.specs.Output.{is_check, IsOutputOfAll, check_line, fault_line, last_line, owners_known, second_output, status_of, written}
+use Rattle.cli_run.specs.Inputs.{ArePlaced, BeginWithParts, Part, Placed, size_of, sizes_of, wholes}
+use Rattle.cli_run.specs.Output.{is_check, check_line, fault_line, last_line, second_output, status_of, written}
 use Rattle.cli_run.specs.Running.{Writes, TellsLine}
 use Rattle.cli_run.specs.Told.{first_of, second_of}
 use Rattle.cli_run.specs.declared.tally.Tally.{Tally}
 use Rattle.cli_run.proofs.PartLaws.{is_last, parts_more, parts_of}
-use Rattle.cli_run.proofs.SameOutputs.{acts_as, are_passed, bare_placed, bare_tally, none_last, none_refused, none_told, same_last, same_outputs, same_told}
-use Rattle.cli_run.proofs.SameParts.{AreSame, EndsHere, ends_here, same_parts}
+use Rattle.cli_run.proofs.SameOutputs.{acts_as, are_passed, bare_placed, bare_tally, none_last, none_refused, none_told, one_placed, same_counts, same_last, same_outputs, same_told}
+use Rattle.cli_run.proofs.SameParts.{AreSame, EndsHere, bare, ends_here, same_parts}
 use Rattle.std.specs.List.{concat}
 
 -- ---- what a run reads is the input up to where it ends
@@ -109,17 +110,17 @@ module _ (settings : Settings) (is_check : Bool) (input : List ℕ) (bytes : IsB
           )
     ]
 
-    goes_alike : (items : List Placed) × (told : List ℕ) × P items told × Q items told × (other ≡ end)
+    goes_alike : (told : List ℕ) × P g.messages told × Q h.messages told × (other ≡ end) × (parts : List Part) × ArePlaced t.packets 1 0 parts g.messages × ArePlaced u.packets 1 0 parts h.messages
     goes_alike =
         let closing : closing_line is_check g.tally g.tally.passed g.fault ≡ closing_line is_check h.tally h.tally.passed h.fault = λ i. closing_line is_check (tally_is i) (tally_is i).passed (fault_is i) in
-        let all : g.told ++ g.text ++ closing_line is_check g.tally g.tally.passed g.fault ≡ h.told ++ h.text ++ closing_line is_check h.tally h.tally.passed h.fault = λ i. told_is i ++ closing i in
-        let items : placed 1 0 g.through.parts ≡ placed 1 0 h.through.parts
-        = bare_placed 1 0 g.through.parts ∙ (ap (λ l. placed 1 0 l) same.0 ∙ sym (bare_placed 1 0 h.through.parts)) in (
-          placed 1 0 g.through.parts,
+        let all : g.told ++ g.text ++ closing_line is_check g.tally g.tally.passed g.fault ≡ h.told ++ h.text ++ closing_line is_check h.tally h.tally.passed h.fault = λ i. told_is i ++ closing i in (
           g.told ++ g.text ++ closing_line is_check g.tally g.tally.passed g.fault,
           g.came,
-          transport (λ i. Q (sym items i) (sym all i)) h.came,
+          subst (λ (l : List ℕ). Q h.messages l) (sym all) h.came,
           h.end_is ∙ ((λ i. status_at (sym tally_is i).passed (sym fault_is i)) ∙ sym g.end_is),
+          bare g.through.parts,
+          bare_placed t.packets 1 0 g.through.parts g.messages g.placed,
+          subst (λ (l : List Part). ArePlaced u.packets 1 0 l h.messages) (sym same.0) (bare_placed u.packets 1 0 h.through.parts h.messages h.placed),
         )
 
 -- ---- the laws
@@ -131,19 +132,23 @@ one_run R S W V E F r s w v e f settings most more command copy end other same i
         let acts = acts_as command copy same in
         let checks = acts.checks in
         let input = is.input in
-        let all = goes_alike settings (is_check command) input.0 input.1 g
-        (subst (λ c. GoesThrough (taken s) settings more c (Writes v f settings copy) other) (sym checks) h) is.explains input.2 input.3 in
-        let told = all.1 in (
-          record { status_is = all.4; items = all.0; told = told; one = all.2; same = all.3 },
+        let k = subst (λ c. GoesThrough (taken s) settings more c (Writes v f settings copy) other) (sym checks) h in
+        let all = goes_alike settings (is_check command) input.0 input.1 g k is.explains input.2 input.3 in
+        let told = all.0 in (
+          λ packets.
+              let here = subst (λ (p : Option Packets). ArePlaced p 1 0 all.4 g.messages) packets.one all.5 in
+              let there = subst (λ (p : Option Packets). ArePlaced p 1 0 all.4 k.messages) packets.same all.6 in
+              let items = one_placed packets.all 1 0 all.4 g.messages k.messages here there in
+              record { status_is = all.3; items = g.messages; told = told; one = all.1; same = subst (λ (l : List Placed). Writes v f settings copy l told) (sym items) all.2 },
           λ exact.
-              let texts = same_outputs command copy acts exact all.0 all.2.texts all.3.texts all.2.made all.3.made in
-              let first : first_of (is_check command) (written settings.window all.2.texts) told ≡ first_of (is_check copy) (written settings.window all.3.texts) told
+              let texts = same_outputs command copy acts exact (r.packets r.old) (s.packets s.old) all.4 g.messages k.messages all.1.texts all.2.texts all.5 all.6 all.1.made all.2.made in
+              let first : first_of (is_check command) (written settings.window all.1.texts) told ≡ first_of (is_check copy) (written settings.window all.2.texts) told
               = λ i. first_of (checks i) (written settings.window (texts i)) told in
               let second : second_of (is_check command) told ≡ second_of (is_check copy) told = λ i. second_of (checks i) told in
               record {
-                status_is = all.4;
-                first = (first_of (is_check command) (written settings.window all.2.texts) told, all.2.first, subst (λ l. Wrote v.held v.failures v.old l v.new) (sym first) all.3.first);
-                second = (second_of (is_check command) told, all.2.second, subst (λ l. Wrote f.held f.failures f.old l f.new) (sym second) all.3.second);
+                status_is = all.3;
+                first = (first_of (is_check command) (written settings.window all.1.texts) told, all.1.first, subst (λ l. Wrote v.held v.failures v.old l v.new) (sym first) all.2.first);
+                second = (second_of (is_check command) told, all.1.second, subst (λ l. Wrote f.held f.failures f.old l f.new) (sym second) all.2.second);
               },
         )
         )
@@ -165,17 +170,21 @@ one_count R S W V E F one_table r s w v e f settings form most more end other is
         let due = (ended w (writing e.held e.failures g.before e.new) form _ g.due end is.done g.through.came.1).2 in
         let explains : ExplainsNone settings g.due = elim is.explains [ inl off ↦ inl off | inr all ↦ inr (sym due ∙ all) ] in
         let all = goes_alike settings false input.0 input.1 g.through h.through explains input.2 input.3 in
-        let told = all.1 in
-        let one = ended w (writing e.held e.failures g.before e.new) form (counting all.0) g.due end is.done all.2.1 in
-        let too = ended v (writing f.held f.failures h.before f.new) form (counting all.0) h.due other is.other_done all.3.1 in
-        let table = one_table form (counting all.0) words one.0.0 too.0.0 one.0.1 too.0.1 in
+        let told = all.0 in
+        let items = g.through.messages in
+        let also = h.through.messages in
+        let counts_too = λ (name : List ℕ). same_counts (s.packets s.old) (r.packets r.old) 1 0 all.4 also items name None all.6 all.5 in
+        let one = ended w (writing e.held e.failures g.before e.new) form (counting items) g.due end is.done all.1.1 in
+        let too = ended v (writing f.held f.failures h.before f.new) form (counting also) h.due other is.other_done all.2.1 in
+        let same = subst (λ (c : Counting). AreTables form c words too.0.0) (λ i name. counts_too name i) too.0.1 in
+        let table = one_table form (counting items) words one.0.0 too.0.0 one.0.1 same in
         record {
-          status_is = too.2 ∙ (all.4 ∙ sym one.2);
+          status_is = too.2 ∙ (all.3 ∙ sym one.2);
           first = (one.0.0, one.0.2, subst (λ l. Wrote v.held v.failures v.old l v.new) (sym table) too.0.2);
           second = (
             told,
-            subst (λ (x : E). Wrote e.held e.failures e.old told x) (sym one.1) all.2.0,
-            subst (λ (x : F). Wrote f.held f.failures f.old told x) (sym too.1) all.3.0,
+            subst (λ (x : E). Wrote e.held e.failures e.old told x) (sym one.1) all.1.0,
+            subst (λ (x : F). Wrote f.held f.failures f.old told x) (sym too.1) all.2.0,
           );
         }
         )
@@ -211,8 +220,9 @@ one_within R S W V E F r s w v e f limits most more command copy end other same 
         let too = whole_cut limits input.0 b.bytes b.rest (s.left s.old) (s.left s.new) b.items b.outcome input.3 input.1 b.consumed b.cut b.at_end in
         let cut = IsCut-one limits input.0 a.items b.items one.0 too.0 a.outcome b.outcome one.1 too.1 in
         let fault : fault_at_end a.rest a.outcome ≡ fault_at_end b.rest b.outcome = one.2 ∙ ((λ i. fault_at_end (cut.1 i) (cut.2 i)) ∙ sym too.2) in
-        let made = subst (λ (l : List CutMessage). IsOutputOfAll copy (owners_known copy None) (placed 1 0 (wholes l)) b.output.texts) (sym cut.0) b.output.each in
-        let texts = same_outputs command copy acts exact (placed 1 0 (wholes a.items)) a.output.texts b.output.texts a.output.each made in
+        let there = subst (λ (l : List CutMessage). ArePlaced (s.packets s.old) 1 0 (wholes l) b.output.messages) (sym cut.0) b.output.placed in
+        let texts = same_outputs command copy acts exact (r.packets r.old) (s.packets s.old) (wholes a.items) a.output.messages b.output.messages a.output.texts b.output.texts a.output.placed there
+        a.output.each b.output.each in
         let last : last_line command (length a.items) (sizes a.items) (fault_at_end a.rest a.outcome) ≡ last_line copy (length b.items) (sizes b.items) (fault_at_end b.rest b.outcome)
         = λ i. first_of (acts.checks i) [] (check_line (length (cut.0 i)) (sizes (cut.0 i)) (fault i)) in
         let out : a.out ≡ b.out = a.output.joined ∙ ((λ i. concat (texts i) ++ last i) ∙ sym b.output.joined) in

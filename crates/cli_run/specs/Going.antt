@@ -18,7 +18,7 @@ use Rattle.dbus_stream.specs.declared.read_fault.ReadFault.TheVariants as read
 use Rattle.cli_report.specs.Devices.{RisesAtMost, Taken, Writing}
 use Rattle.cli_report.specs.declared.ending.Cause.{Cause}
 use Rattle.cli_report.specs.declared.ending.Cause.TheVariants.{Memory, ReadFailed, WriteFailed, TooManyReads}
-use Rattle.cli_run.specs.Inputs.{Part, Whole, PassedOver, size_of, sizes_of, BeginWithParts, IsCutOff, IsLast, IsTellable, Placed, placed}
+use Rattle.cli_run.specs.Inputs.{Part, Whole, PassedOver, size_of, sizes_of, BeginWithParts, IsCutOff, IsLast, IsTellable, ArePlaced, Placed}
 use Rattle.cli_run.specs.Output.{counts_line, ok_line, status_of}
 use Rattle.cli_run.specs.declared.tally.Tally.{Tally}
 use Rattle.cli_run.specs.Told.{TellsStop}
@@ -156,7 +156,9 @@ module _ (t : Taken) (settings : Settings) (most : ℕ) (is_check : Bool) where
     pub more : List ℕ
     pub all : IsMore stop parts rest more
     pub caused : IsStopOf t most stop
-    pub came : left (placed 1 0 parts) (told ++ more) stop
+    pub messages : List Placed
+    pub placed : ArePlaced t.packets 1 0 parts messages
+    pub came : left messages (told ++ more) stop
 
   -- all was taken and told, and then the last line. done says what became of it
   pub record GoesThrough (done : List Placed → (told : List ℕ) → Type 0) (end : ExitStatus) : Type 0 where
@@ -165,7 +167,9 @@ module _ (t : Taken) (settings : Settings) (most : ℕ) (is_check : Bool) where
     pub told : List ℕ
     pub text : List ℕ
     pub through : IsThrough tally fault told text
-    pub came : done (placed 1 0 through.parts) (told ++ text ++ closing_line is_check tally tally.passed fault)
+    pub messages : List Placed
+    pub placed : ArePlaced t.packets 1 0 through.parts messages
+    pub came : done messages (told ++ text ++ closing_line is_check tally tally.passed fault)
     pub end_is : end ≡ status_at tally.passed fault
 
   -- it was given up, and the second writer was told why

@@ -1,6 +1,8 @@
 -- What an input is made of: messages, and others that are refused and passed over, by the length
 -- that their first sixteen bytes state. D-Bus Specification, "Message Format".
-use Rattle.std.specs.Prelude.{◌≡◌, ◌⊎◌, ℕ, ◌+◌, ◌<◌, ◌≤◌, Bool, true, false, List, [], ◌∷◌, length, drop, map}
+use Rattle.std.specs.Prelude.{◌≡◌, ◌⊎◌, ℕ, ◌+◌, ◌-◌, ◌<◌, ◌≤◌, Bool, true, false, List, [], ◌∷◌, length, drop, map, Option, None, Some}
+use Rattle.dbus_device.specs.Packets.{Packets}
+use Rattle.dbus_device.specs.declared.packet.Packet.{Packet}
 use Rattle.dbus_value_model.specs.declared.fault.Fault.{Fault}
 use Rattle.dbus_value_model.specs.declared.limits.Limits.{Limits}
 use Rattle.dbus_header.specs.MessageOutcomes.{IsWhole, IsRefused}
@@ -61,19 +63,36 @@ IsLast goes_on limits kept rest (Refused fault) at_end =
 
 -- ---- the messages among the parts
 
+-- when a packet was captured, if that is known
+abbrev pub time_of : Option Packet → Option ℕ
+time_of None = None
+time_of (Some packet) = packet.time
+
+-- it is the time of the packet of the byte before this place, if the packets of the input are known
+abbrev pub IsTimeBefore : Option Packets → (end : ℕ) → Option ℕ → Type 0
+IsTimeBefore None end time = Unit {0}
+IsTimeBefore (Some packets) end time = time ≡ time_of (packets (end - 1))
+
 -- a message of an input, and its place there
 pub record Placed : Type 0 where
   pub place : MessagePlace
   pub item : CutMessage
 
-abbrev pub placed_at : (n offset : ℕ) → CutMessage → Placed
-placed_at n offset item = record { place = record { number = n; offset = offset }; item = item }
+-- this is the n-th message of its input and begins at this offset, and its time is that of its last
+-- byte
+pub record IsPlaced (packets : Option Packets) (n offset : ℕ) (item : CutMessage) (m : Placed) : Type 0 where
+  pub item_is : m.item ≡ item
+  pub number_is : m.place.number ≡ n
+  pub offset_is : m.place.offset ≡ offset
+  pub time_is : IsTimeBefore packets (offset + item.size) m.place.time
 
--- the messages among parts, of which the first is the n-th of its input and begins at this offset
-abbrev pub placed : (n offset : ℕ) → List Part → List Placed
-placed n offset [] = []
-placed n offset (Whole item ∷ parts) = placed_at n offset item ∷ placed (n + 1) (offset + item.size) parts
-placed n offset (PassedOver kept fault size ∷ parts) = placed (n + 1) (offset + size) parts
+-- these are the messages among parts, of which the first is the n-th of its input and begins at this
+-- offset
+abbrev pub ArePlaced : Option Packets → (n offset : ℕ) → List Part → List Placed → Type 0
+ArePlaced packets n offset [] messages = messages ≡ []
+ArePlaced packets n offset (Whole item ∷ parts) [] = ⊥
+ArePlaced packets n offset (Whole item ∷ parts) (m ∷ messages) = IsPlaced packets n offset item m × ArePlaced packets (n + 1) (offset + item.size) parts messages
+ArePlaced packets n offset (PassedOver kept fault size ∷ parts) messages = ArePlaced packets (n + 1) (offset + size) parts messages
 
 -- messages alone, as parts
 abbrev pub wholes : List CutMessage → List Part

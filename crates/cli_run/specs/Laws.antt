@@ -11,6 +11,7 @@ use Rattle.cli_report.specs.Devices.{reading, writing, Reading, Writing}
 use Rattle.cli_report.specs.declared.ending.ExitStatus.{ExitStatus}
 use Rattle.cli_report.specs.Gathering.{IsPrefixTo}
 use Rattle.dbus_device.specs.Device.{Wrote}
+use Rattle.dbus_device.specs.Packets.{Packets}
 use Rattle.dbus_value_model.specs.ByteNumbers.{IsBytes}
 use Rattle.dbus_value_model.specs.declared.limits.Limits.{Limits}
 use Rattle.dbus_count.specs.declared.form.Form.{Form}
@@ -21,27 +22,28 @@ use Rattle.cli_run.specs.Output.{IsExact, IsFirstOutput, IsFront}
 use Rattle.cli_run.specs.ByName.{CountsByName}
 use Rattle.cli_run.specs.Inputs.{Placed}
 
--- of each list of messages, and a fault after them or none, the command has an output
+-- of each list of messages, and a fault after them or none, the command has an output, whatever the
+-- packets are
 abbrev pub SomeOutput : Type 0
-SomeOutput = (command : Command) (items : List CutMessage) (fault : Option Fault) → (out : List ℕ) × IsFirstOutput command items fault out
+SomeOutput = (packets : Option Packets) (command : Command) (items : List CutMessage) (fault : Option Fault) → (out : List ℕ) × IsFirstOutput packets command items fault out
 
--- and no other, if the command is exact
+-- and no other, if the command is exact: it does not depend on the packets
 abbrev pub OneOutput : Type 0
-OneOutput = (command : Command) (items : List CutMessage) (fault : Option Fault) (x y : List ℕ)
-    → IsExact command → IsFirstOutput command items fault x → IsFirstOutput command items fault y → x ≡ y
+OneOutput = (packets others : Option Packets) (command : Command) (items : List CutMessage) (fault : Option Fault) (x y : List ℕ)
+    → IsExact command → IsFirstOutput packets command items fault x → IsFirstOutput others command items fault y → x ≡ y
 
 -- so what is a prefix of an output then is one of each
 abbrev pub OneFront : Type 0
-OneFront = (command : Command) (items : List CutMessage) (fault : Option Fault) (front out : List ℕ)
-    → IsExact command → IsFront command items fault front → IsFirstOutput command items fault out → IsPrefixTo front out
+OneFront = (packets others : Option Packets) (command : Command) (items : List CutMessage) (fault : Option Fault) (front out : List ℕ)
+    → IsExact command → IsFront packets command items fault front → IsFirstOutput others command items fault out → IsPrefixTo front out
 
 -- by settings that ask for no more, a command does what it does under their limits alone
-abbrev pub PlainRuns : {R W E : Type 0} → (left : R → Option (List ℕ)) → (calls failures : R → ℕ) → (held : W → Option (List ℕ)) → (write_failures : W → ℕ) → (second_held : E → Option (List ℕ))
+abbrev pub PlainRuns : {R W E : Type 0} → (left : R → Option (List ℕ)) → (calls failures : R → ℕ) → (packets : R → Option Packets) → (held : W → Option (List ℕ)) → (write_failures : W → ℕ) → (second_held : E → Option (List ℕ))
     → (second_failures : E → ℕ) → Type 0
-PlainRuns {R} {W} {E} left calls failures held write_failures second_held second_failures =
+PlainRuns {R} {W} {E} left calls failures packets held write_failures second_held second_failures =
     (settings : Settings) (most : ℕ) (command : Command) (r0 r1 : R) (w0 w1 : W) (e0 e1 : E) (end : ExitStatus) → ask_more settings ≡ false
-    → RunsWith (reading left calls failures r0 r1) (writing held write_failures w0 w1) (writing second_held second_failures e0 e1) settings most command end
-    → Runs (reading left calls failures r0 r1) (writing held write_failures w0 w1) (writing second_held second_failures e0 e1) settings.limits most command end
+    → RunsWith (reading left calls failures packets r0 r1) (writing held write_failures w0 w1) (writing second_held second_failures e0 e1) settings most command end
+    → Runs (reading left calls failures packets r0 r1) (writing held write_failures w0 w1) (writing second_held second_failures e0 e1) settings.limits most command end
 
 -- One law for all commands and settings: two runs that read the same input end alike.
 
@@ -80,11 +82,17 @@ pub record AreOfOneInput {R S : Type 0} (r : Reading R) (s : Reading S) (setting
   pub done : end ≢ status.Failed
   pub other_done : other ≢ status.Failed
 
+-- both inputs are of the same packets: a line of JSON has the time of its message's packet
+pub record AreOfSamePackets {R S : Type 0} (r : Reading R) (s : Reading S) : Type 0 where
+  pub all : Packets
+  pub one : r.packets r.old ≡ Some all
+  pub same : s.packets s.old ≡ Some all
+
 -- two runs of a command
 abbrev pub OneRun : (R S W V E F : Type 0) → Type 0
 OneRun R S W V E F = (r : Reading R) (s : Reading S) (w : Writing W) (v : Writing V) (e : Writing E) (f : Writing F) (settings : Settings) (most more : ℕ) (command copy : Command) (end other : ExitStatus)
     → AreSameCommand command copy → AreOfOneInput r s settings end other → RunsWith r w e settings most command end → RunsWith s v f settings more copy other
-    → MadeAlike w v e f settings command copy end other × (IsExact command → EndAlike w v e f end other)
+    → (AreOfSamePackets r s → MadeAlike w v e f settings command copy end other) × (IsExact command → EndAlike w v e f end other)
 
 -- two runs of a command under the same limits alone
 abbrev pub OneWithin : (R S W V E F : Type 0) → Type 0

@@ -1,12 +1,15 @@
 -- What is read if messages are handed to a visitor from where a reader stands, and what becomes of
 -- the visitor. kept is what the reader keeps there, and before is how many messages came before. k
--- is what is known of its taker, and limits are those that each message keeps.
+-- is what is known of its taker, and limits are those that each message keeps. Are says what is known
+-- of the packets of the input.
 use Rattle.std.specs.Prelude.{◌≡◌, ℕ, ◌+◌, List, [], ◌++◌, true, length, Option, None, Some, Result, Ok, Err}
 use Rattle.std.specs.Io.KnownBytes.{Consumes, IsAtEnd}
 use Rattle.dbus_value_model.specs.declared.fault.Fault.{Fault}
 use Rattle.dbus_value_model.specs.declared.limits.Limits.{Limits}
 use Rattle.dbus_header.specs.MessageOutcomes.{IsPartial}
 use Rattle.dbus_device.specs.Device.{one_more, RisesBy}
+use Rattle.dbus_device.specs.Packets.{Packets}
+use Rattle.dbus_device.specs.declared.packet.Packet.{Packet}
 use Rattle.dbus_stream.specs.Cut.{CutMessage, BeginWith, CutOutcome, Refused, IsOutcome}
 use Rattle.dbus_stream.specs.CutEnds.{fault_at_end, sizes}
 use Rattle.dbus_stream.specs.Gathering.{gathering}
@@ -20,7 +23,7 @@ use Rattle.dbus_stream.specs.declared.read_fault.ReadFault.{ReadFault}
 use Rattle.dbus_stream.specs.declared.read_fault.ReadFault.TheVariants.{Format}
 use Rattle.cli_report.specs.declared.ending.Cause.{Cause}
 use Rattle.cli_report.specs.declared.ending.Cause.TheVariants.{ReadFailed, TooManyReads}
-use Rattle.cli_run.specs.Inputs.{Placed, placed, wholes}
+use Rattle.cli_run.specs.Inputs.{ArePlaced, Placed, wholes}
 use Rattle.cli_run.specs.declared.counted.Counted.{Counted}
 use Rattle.cli_run.specs.declared.visitor.RunStop.{RunStop}
 use Rattle.cli_run.specs.declared.visitor.RunStop.TheVariants.{Cause as ByCause}
@@ -48,6 +51,10 @@ module _ {R T B : Type 0} {b : Ghosts B} (failures : R → ℕ) where
   StopsFor TooManyReads old new = (failures (source_of new) ≡ failures (source_of old)) × (reads_of new ≡ most_reads_of new)
   StopsFor cause old new = failures (source_of new) ≡ failures (source_of old)
 
+-- these are the messages that were read from this offset on
+abbrev pub AreHanded : (before : ℕ) (Are : Option Packets → Type 0) (offset : ℕ) → List CutMessage → List Placed → Type 0
+AreHanded before Are offset items messages = (packets : Option Packets) → Are packets → ArePlaced packets (before + 1) offset (wholes items) messages
+
 module _ {R T B G : Type 0} {b : Ghosts B} (k : Taking T G) (left : R → Option (List ℕ)) (calls : R → ℕ) (limits : Limits) (kept : List ℕ) where
   -- what was kept and then read is these messages, and then the rest
   pub record HasRead (old new : Reader R T B b) (items : List CutMessage) (rest : List ℕ) : Type 0 where
@@ -62,7 +69,7 @@ module _ {R T B G : Type 0} {b : Ghosts B} (k : Taking T G) (left : R → Option
     pub at_end : IsTrueEnd left old → IsTrueEnd left new
 
   module _ {S : Type 0} (failures : R → ℕ) (takes : S → S → List Placed → (told : List ℕ) → Type 0) (leaves : S → S → List Placed → (told : List ℕ) → RunStop → Type 0)
-      (before : ℕ) where
+      (before : ℕ) (Are : Option Packets → Type 0) where
     -- all messages were handed on, up to the end of the input or a fault
     pub record HandsAllOn (counted : Counted) (old new : Reader R T B b) (s0 s1 : S) : Type 0 where
       pub items : List CutMessage
@@ -76,7 +83,9 @@ module _ {R T B G : Type 0} {b : Ghosts B} (k : Taking T G) (left : R → Option
       pub size_is : counted.size ≡ done_of old + sizes items
       pub fault_is : counted.fault ≡ fault_at_end rest outcome
       pub done : done_of new ≡ counted.size
-      pub taken : takes s0 s1 (placed (before + 1) (done_of old) (wholes items)) []
+      pub messages : List Placed
+      pub placed : AreHanded before Are (done_of old) items messages
+      pub taken : takes s0 s1 messages []
       pub failed : failures (source_of new) ≡ failures (source_of old)
 
     -- some of the first messages were handed on
@@ -85,21 +94,29 @@ module _ {R T B G : Type 0} {b : Ghosts B} (k : Taking T G) (left : R → Option
       pub rest : List ℕ
       pub read : HasRead old new items rest
       pub all : AreAll limits cause rest
-      pub given_up : leaves s0 s1 (placed (before + 1) (done_of old) (wholes items)) [] (ByCause cause)
+      pub messages : List Placed
+      pub placed : AreHanded before Are (done_of old) items messages
+      pub given_up : leaves s0 s1 messages [] (ByCause cause)
       pub caused : StopsFor failures cause old new
 
     abbrev pub HandsOn : Reader R T B b → Reader R T B b → S → S → Result Counted Cause → Type 0
     HandsOn old new s0 s1 (Ok counted) = HandsAllOn counted old new s0 s1
     HandsOn old new s0 s1 (Err cause) = HandsSomeOn cause old new s0 s1
 
-module _ {R A S : Type 0} (left : R → Option (List ℕ)) (calls failures : R → ℕ) (takes : S → S → List Placed → (told : List ℕ) → Type 0)
-    (leaves : S → S → List Placed → (told : List ℕ) → RunStop → Type 0) (limits : Limits) (before : ℕ) where
+module _ {R A : Type 0} (packets : R → Option Packets) (packet : R → Option Packet) where
+  -- the bytes of the input are of these packets, if they are known
+  abbrev pub HasKnownPackets : RawReader R A → Option Packets → Type 0
+  HasKnownPackets r None = Unit {0}
+  HasKnownPackets r (Some all) = raw.HasPackets packets packet all r
+
+module _ {R A S : Type 0} (left : R → Option (List ℕ)) (calls failures : R → ℕ) (packets : R → Option Packets) (packet : R → Option Packet)
+    (takes : S → S → List Placed → (told : List ℕ) → Type 0) (leaves : S → S → List Placed → (told : List ℕ) → RunStop → Type 0) (limits : Limits) (before : ℕ) where
   -- a reader of raw messages keeps the rest then, and answers the fault
   pub record HandsRawOn (counted : Counted) (old new : RawReader R A) (s0 s1 : S) : Type 0 where
-    pub all : HandsAllOn gathering left calls limits (raw.kept old) failures takes leaves before counted old.reader new.reader s0 s1
+    pub all : HandsAllOn gathering left calls limits (raw.kept old) failures takes leaves before (HasKnownPackets packets packet old) counted old.reader new.reader s0 s1
     pub kept : raw.kept new ≡ all.rest
     pub stopped : raw.stopped_of new ≡ stop_of counted.fault
 
   abbrev pub RawHandsOn : RawReader R A → RawReader R A → S → S → Result Counted Cause → Type 0
   RawHandsOn old new s0 s1 (Ok counted) = HandsRawOn counted old new s0 s1
-  RawHandsOn old new s0 s1 (Err cause) = HandsSomeOn gathering left calls limits (raw.kept old) failures takes leaves before cause old.reader new.reader s0 s1
+  RawHandsOn old new s0 s1 (Err cause) = HandsSomeOn gathering left calls limits (raw.kept old) failures takes leaves before (HasKnownPackets packets packet old) cause old.reader new.reader s0 s1

@@ -2,6 +2,7 @@
 use Rattle.std.specs.Prelude.{◌≡◌, ℕ, ◌+◌, ◌⊎◌, Bool, true, false, List, [], ◌∷◌, ◌++◌, length, Option, None, Some, codes, decimal, ◌-◌, take, drop, option_map}
 use Rattle.std.specs.FinSet.{empty}
 use Rattle.std.specs.List.{concat}
+use Rattle.dbus_device.specs.Packets.{Packets}
 use Rattle.dbus_value_model.specs.declared.fault.Fault.{Fault}
 use Rattle.dbus_value_model.specs.declared.order.Order.{Order}
 use Rattle.dbus_message_model.specs.Messages.{MessageTree, message_bytes}
@@ -19,7 +20,7 @@ use Rattle.cli_report.specs.Telling.{refused_line}
 use Rattle.cli_report.specs.declared.ending.ExitStatus.{ExitStatus}
 use Rattle.cli_report.specs.declared.ending.ExitStatus.TheVariants as status
 use Rattle.cli_options.specs.declared.window.Window.{Window}
-use Rattle.cli_run.specs.Inputs.{Placed, placed, wholes}
+use Rattle.cli_run.specs.Inputs.{ArePlaced, Placed, wholes}
 use Rattle.cli_run.specs.Learning.{known, known_after}
 use Rattle.cli_run.specs.Told.{first_of, second_of}
 use Rattle.cli_run.specs.declared.place.MessagePlace.{MessagePlace}
@@ -60,9 +61,9 @@ Picks Check os message = ⊥
 Picks (Filter selection) os message = SelectsBy selection (owners_in os) message
 Picks command os message = Unit {0}
 
--- what a line of JSON says of where its message stands: no time
+-- what a line of JSON says of where its message stands
 abbrev pub line_place : MessagePlace → LinePlace
-line_place place = record { number = place.number; offset = place.offset; time = None }
+line_place place = record { number = place.number; offset = place.offset; time = place.time }
 
 -- that text, if the message has this place in its input
 abbrev pub IsTextOf : Command → Order → MessageTree → MessagePlace → List ℕ → Type 0
@@ -108,15 +109,17 @@ check_line count size (Some fault) = refused_line (size + fault.at) fault.reason
 abbrev pub last_line : Command → ℕ → ℕ → Option Fault → List ℕ
 last_line command count size fault = first_of (is_check command) [] (check_line count size fault)
 
--- what the first writer gets
-pub record IsFirstOutput (command : Command) (items : List CutMessage) (fault : Option Fault) (out : List ℕ) : Type 0 where
+-- what the first writer gets, if the bytes of the input are of these packets
+pub record IsFirstOutput (packets : Option Packets) (command : Command) (items : List CutMessage) (fault : Option Fault) (out : List ℕ) : Type 0 where
+  pub messages : List Placed
+  pub placed : ArePlaced packets 1 0 (wholes items) messages
   pub texts : List (List ℕ)
-  pub each : IsOutputOfAll command (owners_known command None) (placed 1 0 (wholes items)) texts
+  pub each : IsOutputOfAll command (owners_known command None) messages texts
   pub joined : out ≡ concat texts ++ last_line command (length items) (sizes items) fault
 
 -- a prefix of what the first writer gets
-abbrev pub IsFront : Command → List CutMessage → Option Fault → List ℕ → Type 0
-IsFront command items fault front = (out : List ℕ) × IsFirstOutput command items fault out × IsPrefixTo front out
+abbrev pub IsFront : Option Packets → Command → List CutMessage → Option Fault → List ℕ → Type 0
+IsFront packets command items fault front = (out : List ℕ) × IsFirstOutput packets command items fault out × IsPrefixTo front out
 
 abbrev pub fault_line : ℕ → Option Fault → List ℕ
 fault_line size None = []

@@ -2,11 +2,12 @@
 -- those that each message keeps, and most is how many reads may be made.
 use Rattle.std.specs.Prelude.{◌⊎◌, ℕ, List, None, ◌≡◌, Option}
 use Rattle.dbus_device.specs.Device.{Wrote, Stopped, one_more}
+use Rattle.dbus_device.specs.Packets.{Packets}
 use Rattle.dbus_value_model.specs.declared.limits.Limits.{Limits}
 use Rattle.cli_options.specs.declared.command.Command.{Command}
 use Rattle.cli_options.specs.declared.settings.Settings.{Settings}
 use Rattle.cli_run.specs.Going.{GivesUp, GoesThrough, IsStopOf}
-use Rattle.cli_run.specs.Inputs.{Placed, placed, wholes}
+use Rattle.cli_run.specs.Inputs.{ArePlaced, Placed, wholes}
 use Rattle.cli_run.specs.Output.{IsOutputOfAll, is_check, owners_known, IsFirstOutput, IsFront, second_output, status_of, written}
 use Rattle.cli_run.specs.Told.{GotFirst, GotSecond, first_of, second_of}
 use Rattle.cli_report.specs.Devices.{Reading, Writing, taken, writing, RisesAtMost}
@@ -31,20 +32,22 @@ TellsLine e line fault end = (Wrote e.held e.failures e.old line e.new × (end �
     ⊎ ((n : ℕ) × Stopped e.held e.failures e.old line n e.new × (end ≡ status.Failed))
 
 -- what the command makes of all messages within the limits that the bytes begin with was written
-pub record WritesMessages (limits : Limits) (command : Command) (bytes written : List ℕ) : Type 0 where
+pub record WritesMessages (packets : Option Packets) (limits : Limits) (command : Command) (bytes written : List ℕ) : Type 0 where
   pub items : List CutMessage
   pub rest : List ℕ
   pub messages : BeginWith limits bytes items rest
   pub partial : IsPartial limits rest
+  pub handed : List Placed
+  pub placed : ArePlaced packets 1 0 (wholes items) handed
   pub texts : List (List ℕ)
-  pub output : IsOutputOfAll command (owners_known command None) (placed 1 0 (wholes items)) texts
+  pub output : IsOutputOfAll command (owners_known command None) handed texts
   pub written_is : written ≡ concat texts
 
 -- where reading was given up, all messages that were read were written
-abbrev pub WritesBefore : Limits → Command → Cause → List ℕ → List ℕ → Type 0
-WritesBefore limits command ReadFailed bytes written = WritesMessages limits command bytes written
-WritesBefore limits command TooManyReads bytes written = WritesMessages limits command bytes written
-WritesBefore limits command cause bytes written = Unit {0}
+abbrev pub WritesBefore : Option Packets → Limits → Command → Cause → List ℕ → List ℕ → Type 0
+WritesBefore packets limits command ReadFailed bytes written = WritesMessages packets limits command bytes written
+WritesBefore packets limits command TooManyReads bytes written = WritesMessages packets limits command bytes written
+WritesBefore packets limits command cause bytes written = Unit {0}
 
 -- a write counts as failed if that is the cause
 abbrev pub CountsWrite : Cause → ℕ → ℕ → Type 0
@@ -66,7 +69,7 @@ module _ {R W E : Type 0} (r : Reading R) (w : Writing W) (e : Writing E) (limit
     pub cut : IsCut limits bytes items rest outcome
     -- without a fault that bytes show, all was read
     pub at_end : ((f : Fault) → outcome ≡ Refused f → ⊥) → IsAtEnd (r.left r.new)
-    pub output : IsFirstOutput command items (fault_at_end rest outcome) out
+    pub output : IsFirstOutput (r.packets r.old) command items (fault_at_end rest outcome) out
     pub first : Wrote w.held w.failures w.old out w.new
     pub second : TellsLine e (second_output command (sizes items) (fault_at_end rest outcome)) (fault_at_end rest outcome) end
 
@@ -78,8 +81,8 @@ module _ {R W E : Type 0} (r : Reading R) (w : Writing W) (e : Writing E) (limit
     pub called : RisesAtMost most (r.calls r.old) (r.calls r.new)
     pub appended : Appends (w.held w.old) (w.held w.new) written
     pub front : (items : List CutMessage) (rest : List ℕ) (outcome : CutOutcome) → IsCut limits bytes items rest outcome
-        → IsFront command items (fault_at_end rest outcome) written
-    pub before : WritesBefore limits command cause bytes written
+        → IsFront (r.packets r.old) command items (fault_at_end rest outcome) written
+    pub before : WritesBefore (r.packets r.old) limits command cause bytes written
     -- the devices count the one call that failed, or none
     pub read_caused : IsStopOf (taken r) most (ByCause cause)
     pub write_caused : CountsWrite cause (w.failures w.old) (w.failures w.new)

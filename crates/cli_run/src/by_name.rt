@@ -76,7 +76,7 @@ pub fn count_by_name<R: Source, W: Sink, E: Sink>(
     first: &mut W,
     second: &mut E,
 ) -> ExitStatus
-    ensures { CountsByName (reading R.left R.calls R.failures reader.old reader.new)
+    ensures { CountsByName (reading R.left R.calls R.failures R.packets reader.old reader.new)
         (writing W.held W.failures first.old first.new)
         (writing E.held E.failures second.old second.new)
         settings form (2 ^ 32) result }

@@ -19,7 +19,8 @@ fn count_all<R: Source>(messages: &mut CheckReader<R>) -> Result<Counted, Cause>
         (limits_of messages.old) messages.old }
     ensures counts { (settings : Settings) → ask_more settings ≡ false →
         settings.limits ≡ limits_of messages.old → Tallies
-        (taken (reading R.left R.calls R.failures (source_of messages.old) (source_of messages.new)))
+        (taken (reading R.left R.calls R.failures R.packets (source_of messages.old)
+        (source_of messages.new)))
         settings (most_reads_of messages.old) result }
     ensures same_reference { R.reference (source_of messages.new) ≡
         R.reference (source_of messages.old) }
@@ -49,8 +50,8 @@ pub(crate) fn count_through<R: Source + Drop>(
 ) -> (Result<Counted, Cause>, R)
     requires few { reads ≤ 2 ^ 32 }
     requires no_more { ask_more settings ≡ false }
-    ensures counts { Tallies (taken (reading R.left R.calls R.failures source result.1)) settings
-        reads result.0 }
+    ensures counts { Tallies (taken (reading R.left R.calls R.failures R.packets source result.1))
+        settings reads result.0 }
     ensures same_reference { R.reference result.1 ≡ R.reference source }
 {
     let mut messages = CheckReader::within(source, reads, settings.limits);

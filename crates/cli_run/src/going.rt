@@ -31,8 +31,8 @@ pub(crate) fn pass_through<R: Source + Drop, A: Allocator + Copy, V: MessageVisi
 ) -> (Result<ExitStatus, RunStop>, R)
     requires few { reads ≤ 2 ^ 32 }
     requires settled { V.settled visitor.old }
-    ensures passes { PassesAll (taken (reading R.left R.calls R.failures source result.1)) settings reads is_check
-        V.takes V.leaves visitor.old visitor.new result.0 }
+    ensures passes { PassesAll (taken (reading R.left R.calls R.failures R.packets source result.1))
+        settings reads is_check V.takes V.leaves visitor.old visitor.new result.0 }
     ensures settled { IfOk result.0 (λ _. V.settled visitor.new) }
     ensures same_reference { R.reference result.1 ≡ R.reference source }
 {
@@ -52,7 +52,8 @@ fn hand_parts<R: Source, A: Allocator + Copy, V: MessageVisitor>(
     requires new { IsNewReader (source_of messages.old) (most_reads_of messages.old) settings.limits
         messages.old }
     requires settled { V.settled visitor.old }
-    ensures passes { PassesAll (taken (reading R.left R.calls R.failures (source_of messages.old) (source_of messages.new)))
+    ensures passes { PassesAll (taken (reading R.left R.calls R.failures R.packets
+        (source_of messages.old) (source_of messages.new)))
         settings (most_reads_of messages.old) is_check V.takes V.leaves visitor.old visitor.new result }
     ensures settled { IfOk result (λ _. V.settled visitor.new) }
     ensures same_reference { R.reference (source_of messages.new) ≡

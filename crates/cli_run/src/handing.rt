@@ -1,15 +1,16 @@
 //! The messages of a reader are handed to a visitor.
 ghost use Rattle.std.specs.Prelude.{◌≡◌, ◌≤◌, ◌^◌, ℕ, None, IfOk};
-ghost use Rattle.dbus_stream.specs.RawReading.{source_of, done_of, limits_of, stopped_of};
+ghost use Rattle.dbus_stream.specs.RawReading.{source_of, done_of, limits_of, stopped_of, KeepsPackets};
 ghost use Rattle.cli_run.specs.ByName.{ended_by, stopped_by};
 ghost use Rattle.cli_run.specs.Handing.{GivesNext};
+ghost use Rattle.cli_run.specs.Inputs.{time_of};
 ghost use Rattle.cli_run.specs.Onward.{RawHandsOn};
 
 use crate::counted::{Counted, NoMessage};
 use crate::place::{Lent, MessagePlace};
 use crate::visitor::MessageVisitor;
 use cli_report::{Cause, Unwritten};
-use dbus_stream::{RawReader, ReadFault, Source};
+use dbus_stream::{Packet, RawReader, ReadFault, Source};
 use dbus_validate::Validated;
 use dbus_value_model::Limits;
 use std::alloc::Allocator;
@@ -24,6 +25,7 @@ fn next_message<R: Source, A: Allocator + Copy, V: MessageVisitor>(
     requires { stopped_of messages.old ≡ None }
     ensures gives { GivesNext R.left R.calls R.failures V.takes V.leaves V.settled messages.old messages.new
         visitor.old visitor.new result }
+    ensures packets { KeepsPackets R.packets R.packet messages.old messages.new }
     ensures few { IfOk result (λ _. done_of messages.new ≤ 2 ^ 50) }
     ensures same_reference { R.reference (source_of messages.new) ≡
         R.reference (source_of messages.old) }
@@ -47,6 +49,7 @@ fn read_message<R: Source, A: Allocator + Copy, V: MessageVisitor>(
     requires { stopped_of messages.old ≡ None }
     ensures gives { GivesNext R.left R.calls R.failures V.takes V.leaves V.settled messages.old messages.new
         visitor.old visitor.new result }
+    ensures packets { KeepsPackets R.packets R.packet messages.old messages.new }
     ensures few { IfOk result (λ _. done_of messages.new ≤ 2 ^ 50) }
     ensures same_reference { R.reference (source_of messages.new) ≡
         R.reference (source_of messages.old) }
@@ -73,8 +76,9 @@ pub(crate) fn hand_all<R: Source, A: Allocator + Copy, V: MessageVisitor>(
     requires unstopped { stopped_of messages.old ≡ None }
     requires within { limits_of messages.old ≡ limits }
     requires few { before ≤ done_of messages.old }
-    ensures hands { RawHandsOn R.left R.calls R.failures V.takes V.leaves limits before messages.old messages.new
-        visitor.old visitor.new result }
+    ensures hands { RawHandsOn R.left R.calls R.failures R.packets R.packet V.takes V.leaves limits
+        before messages.old messages.new visitor.old visitor.new result }
+    ensures packets { KeepsPackets R.packets R.packet messages.old messages.new }
     ensures settled { IfOk result (λ _. V.settled visitor.new) }
     ensures same_reference { R.reference (source_of messages.new) ≡
         R.reference (source_of messages.old) }
@@ -92,6 +96,7 @@ pub(crate) fn hand_all<R: Source, A: Allocator + Copy, V: MessageVisitor>(
                     place: MessagePlace {
                         number: count,
                         offset,
+                        time: time_of(messages.packet()),
                     },
                 };
                 match visitor.take(&lent) {
@@ -108,6 +113,16 @@ pub(crate) fn hand_all<R: Source, A: Allocator + Copy, V: MessageVisitor>(
             }
             Err(stop) => return stopped_by(count, messages.done(), stop),
         }
+    }
+}
+
+// When a packet was captured, if that is known.
+fn time_of(packet: Option<Packet>) -> Option<u64>
+    ensures { result ≡ time_of packet }
+{
+    match packet {
+        Some(packet) => packet.time,
+        None => None,
     }
 }
 

@@ -7,14 +7,15 @@ ghost use Rattle.cli_run.specs.Laws.{OneCount, OneRun, OneWithin, OneFront, OneO
 use dbus_count::laws::one_table;
 use dbus_stream::{Sink, Source};
 
-/// Of each list of messages, and a fault after them or none, a command has an output.
+/// Of each list of messages, and a fault after them or none, a command has an output, whatever the
+/// packets of the input are.
 #[tactic(auto, using(crate::proofs::Outputs::some_output))]
 pub fn some_output()
     ensures { SomeOutput }
 {}
 
-/// It has no other, unless it is `Json`, which may write a DOUBLE by any digits that read back as
-/// its bits.
+/// It has no other, also if the packets are others, unless it is `Json`: that writes the times of
+/// packets, and may write a DOUBLE by any digits that read back as its bits.
 pub fn one_output()
     ensures { OneOutput }
 {}
@@ -27,13 +28,13 @@ pub fn one_front()
 /// By settings that ask for no more, a command does what it does under their limits alone.
 #[tactic(auto, using(crate::proofs::RunSteps::plainly))]
 pub fn plain_run<R: Source, W: Sink, E: Sink>()
-    ensures { PlainRuns R.left R.calls R.failures W.held W.failures E.held E.failures }
+    ensures { PlainRuns R.left R.calls R.failures R.packets W.held W.failures E.held E.failures }
 {}
 
 /// Two runs of a command by the same settings, neither of which failed, that read the same input
 /// end with the same status, and their writers got the same bytes; but what is explained of a
 /// message that is refused shows its bytes as far as they happened to be read, and `Json` may write
-/// a DOUBLE by other digits that read back as its bits.
+/// a DOUBLE by other digits that read back as its bits, and other times if the packets are others.
 pub fn one_run<R, S, W, V, E, F>()
     ensures { OneRun R S W V E F }
 {}

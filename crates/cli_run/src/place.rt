@@ -11,6 +11,8 @@ pub(crate) struct MessagePlace {
     pub(crate) number: u64,
     /// Where it begins, in bytes from the start of the input.
     pub(crate) offset: u64,
+    /// When it was captured, in nanoseconds since 1970 began in UTC, if the input says so.
+    pub(crate) time: Option<u64>,
 }
 
 /// What is carried from message to message.

@@ -26,7 +26,7 @@ pub fn run<A: Allocator + Copy, R: Source, W: Sink, E: Sink>(
     first: &mut W,
     second: &mut E,
 ) -> ExitStatus
-    ensures { Runs (reading R.left R.calls R.failures reader.old reader.new)
+    ensures { Runs (reading R.left R.calls R.failures R.packets reader.old reader.new)
         (writing W.held W.failures first.old first.new)
         (writing E.held E.failures second.old second.new)
         specification (2 ^ 32) command result }
@@ -44,7 +44,7 @@ pub fn run_reads<A: Allocator + Copy, R: Source, W: Sink, E: Sink>(
     second: &mut E,
 ) -> ExitStatus
     requires { reads ≤ 2 ^ 32 }
-    ensures { Runs (reading R.left R.calls R.failures reader.old reader.new)
+    ensures { Runs (reading R.left R.calls R.failures R.packets reader.old reader.new)
         (writing W.held W.failures first.old first.new)
         (writing E.held E.failures second.old second.new)
         specification reads command result }
@@ -65,12 +65,13 @@ pub fn run_reads<A: Allocator + Copy, R: Source, W: Sink, E: Sink>(
 /// that finds the end of the input among them.
 ///
 /// `Show` writes each message as text, numbered from 1. `Json` writes each message as one line, an
-/// object of JSON, with that number and the offset at which the message begins in the input. `Swap`
-/// writes each message in the order that it names. `Filter` writes each message that is selected,
-/// in its own order. Where the bytes after the messages are none within the limits or too few, each
-/// of these writes `refused at P: NAME` on the second writer, with the place from the start of the
-/// input and the name of the reason. `Check` writes that line on the first writer; or, if the input
-/// is messages alone, `ok N messages B bytes`, how many they are and of how many bytes.
+/// object of JSON, with that number, the offset at which the message begins in the input, and the
+/// time of the packet that its last byte is of, if the reader reports one. `Swap` writes each
+/// message in the order that it names. `Filter` writes each message that is selected, in its own
+/// order. Where the bytes after the messages are none within the limits or too few, each of these
+/// writes `refused at P: NAME` on the second writer, with the place from the start of the input and
+/// the name of the reason. `Check` writes that line on the first writer; or, if the input is
+/// messages alone, `ok N messages B bytes`, how many they are and of how many bytes.
 ///
 /// If the run fails, it stops at the first cause that it meets, and writes `read failed`, `write
 /// failed`, `too many reads` or `out of memory` on the second writer. Each line ends in LF. What is
@@ -95,7 +96,7 @@ pub fn run_within<A: Allocator + Copy, R: Source, W: Sink, E: Sink>(
     second: &mut E,
 ) -> ExitStatus
     requires { reads ≤ 2 ^ 32 }
-    ensures { Runs (reading R.left R.calls R.failures reader.old reader.new)
+    ensures { Runs (reading R.left R.calls R.failures R.packets reader.old reader.new)
         (writing W.held W.failures first.old first.new)
         (writing E.held E.failures second.old second.new)
         limits reads command result }
@@ -143,7 +144,7 @@ pub fn run_with<A: Allocator + Copy, R: Source, W: Sink, E: Sink>(
     second: &mut E,
 ) -> ExitStatus
     requires { reads ≤ 2 ^ 32 }
-    ensures { RunsWith (reading R.left R.calls R.failures reader.old reader.new)
+    ensures { RunsWith (reading R.left R.calls R.failures R.packets reader.old reader.new)
         (writing W.held W.failures first.old first.new)
         (writing E.held E.failures second.old second.new)
         settings reads command result }
@@ -187,7 +188,7 @@ fn check<A: Allocator + Copy, R: Source, W: Sink, E: Sink>(
 ) -> ExitStatus
     requires few { reads ≤ 2 ^ 32 }
     requires no_more { ask_more settings ≡ false }
-    ensures { RunsWith (reading R.left R.calls R.failures reader.old reader.new)
+    ensures { RunsWith (reading R.left R.calls R.failures R.packets reader.old reader.new)
         (writing W.held W.failures first.old first.new)
         (writing E.held E.failures second.old second.new)
         settings reads Command.Check result }

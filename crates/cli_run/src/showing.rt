@@ -73,7 +73,7 @@ pub(crate) fn write_json_line<W: Sink>(
         LinePlace {
             number: place.number,
             offset: place.offset,
-            time: None,
+            time: place.time,
         },
     );
     if page.failed {

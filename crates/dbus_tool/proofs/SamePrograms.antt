@@ -7,6 +7,8 @@ use Rattle.clap.specs.Faults.{fault_of}
 use Rattle.clap.specs.Kinds.{IsAmong}
 use Rattle.clap.specs.declared.error.kind.ErrorKind.TheVariants.{DisplayHelp, DisplayVersion}
 use Rattle.dbus_device.specs.Device.{Wrote}
+use Rattle.dbus_device.specs.Packets.{Packets}
+use Rattle.dbus_device.specs.declared.packet.Packet.{Packet}
 use Rattle.dbus_value_model.proofs.Numbers.{IsBytes-rest}
 use Rattle.dbus_count.specs.Tables.{OneTable}
 use Rattle.dbus_handshake_input.specs.Alike.{FollowsAlike, IsOfInput}
@@ -74,9 +76,9 @@ no_fault (Some sub) (Messages command settings) refused p h = omega (arith, mark
 no_fault (Some sub) (Count settings form) refused p h = omega (arith, ap mark p.0, ap mark h.0.named)
 no_fault (Some sub) (Handshake side) refused p h = omega (arith, ap mark p.0, ap mark h.0.named)
 
-module _ {R W E : Type 0} (left : R → Option (List ℕ)) (calls failures : R → ℕ) (old new : ReadAhead R) (w : Writing W) (e : Writing E) (words : List Text) (one : NameOneWay words) (end : ExitStatus) (done : end ≢ status.Failed) where
-  answer_is : (answer : Result Asked UsageFault) → IfOk answer (IsNamedBy words) → TellsFault words answer → Does left calls failures old new w e answer end
-      → (asked : Asked) × IsNamedBy words asked × Does left calls failures old new w e (Ok asked) end
+module _ {R W E : Type 0} (left : R → Option (List ℕ)) (calls failures : R → ℕ) (packets : R → Option Packets) (packet : R → Option Packet) (old new : ReadAhead R) (w : Writing W) (e : Writing E) (words : List Text) (one : NameOneWay words) (end : ExitStatus) (done : end ≢ status.Failed) where
+  answer_is : (answer : Result Asked UsageFault) → IfOk answer (IsNamedBy words) → TellsFault words answer → Does left calls failures packets packet old new w e answer end
+      → (asked : Asked) × IsNamedBy words asked × Does left calls failures packets packet old new w e (Ok asked) end
   answer_is (Ok asked) named told does = (asked, named, does)
   answer_is (Err Memory) named told does = absurd (done does.2.0)
   answer_is (Err (Help text)) named told does = absurd (subst (λ l. IsAmong DisplayHelp l) one.faultless told)
@@ -101,13 +103,13 @@ one_way_too (Count s f) (Messages d t) h one = absurd h
 one_way_too (Count s f) (Handshake b) h one = absurd h
 
 -- without a note
-module _ {R W E : Type 0} (left : R → Option (List ℕ)) (calls failures : R → ℕ) (old new : ReadAhead R) (w : Writing W) (e : Writing E) (settings : Settings) where
-  unnoted : (c : Command) (end : ExitStatus) → end ≢ status.Failed → settings.explains ≡ false → RunsNoted left calls failures old new w e settings c end
-      → DoesTask left calls failures old new w e settings (Run c) end
+module _ {R W E : Type 0} (left : R → Option (List ℕ)) (calls failures : R → ℕ) (packets : R → Option Packets) (packet : R → Option Packet) (old new : ReadAhead R) (w : Writing W) (e : Writing E) (settings : Settings) where
+  unnoted : (c : Command) (end : ExitStatus) → end ≢ status.Failed → settings.explains ≡ false → RunsNoted left calls failures packets packet old new w e settings c end
+      → DoesTask left calls failures packets packet old new w e settings (Run c) end
   unnoted c end done off does = elim does [
     | inl h ↦ (
         let same : h.0 ≡ e.old = subst (λ (b : Bool). Notes e.held e.failures (b && lacks_owner c) e.old h.0 (Ok tt)) off h.1 in
-        subst (λ (x : E). DoesTask left calls failures old new w (writing e.held e.failures x e.new) settings (Run c) end) same h.2
+        subst (λ (x : E). DoesTask left calls failures packets packet old new w (writing e.held e.failures x e.new) settings (Run c) end) same h.2
         )
     | inr h ↦ absurd (done h.2)
   ]
@@ -177,12 +179,13 @@ module _ {R W E : Type 0} (left : R → Option (List ℕ)) (calls failures : R �
 
 -- ---- two runs
 
-module _ {R S W V E F : Type 0} (one_table : OneTable) (left : R → Option (List ℕ)) (calls failures : R → ℕ) (other_left : S → Option (List ℕ)) (other_calls other_failures : S → ℕ) (r0 r1 : ReadAhead R)
-    (s0 s1 : ReadAhead S) (w : Writing W) (v : Writing V) (e : Writing E) (f : Writing F) (end other : ExitStatus) (input : ReadAlike (ahead left calls failures r0 r1) (ahead other_left other_calls other_failures s0 s1))
+module _ {R S W V E F : Type 0} (one_table : OneTable) (left : R → Option (List ℕ)) (calls failures : R → ℕ) (packets : R → Option Packets) (packet : R → Option Packet) (other_left : S → Option (List ℕ)) (other_calls other_failures : S → ℕ)
+    (other_packets : S → Option Packets) (other_packet : S → Option Packet) (r0 r1 : ReadAhead R)
+    (s0 s1 : ReadAhead S) (w : Writing W) (v : Writing V) (e : Writing E) (f : Writing F) (end other : ExitStatus) (input : ReadAlike (ahead left calls failures packets packet r0 r1) (ahead other_left other_calls other_failures other_packets other_packet s0 s1))
     (done : end ≢ status.Failed) (other_done : other ≢ status.Failed) where
   -- what follows in both sources is the same
   abbrev FromHere : ReadAhead R → ReadAhead S → Type 0
-  FromHere r s = ReadAlike (ahead left calls failures r r1) (ahead other_left other_calls other_failures s s1)
+  FromHere r s = ReadAlike (ahead left calls failures packets packet r r1) (ahead other_left other_calls other_failures other_packets other_packet s s1)
 
   taken_alike : (side : Option Side) (r : ReadAhead R) (s : ReadAhead S) (a b : Result (Unit {0}) HandshakeFault) → IsOfInput a → IsOfInput b
       → TakesHandshake left calls failures side r0 r a → TakesHandshake other_left other_calls other_failures side s0 s b → (a ≡ b) × IfOk a (λ x. FromHere r s)
@@ -199,9 +202,9 @@ module _ {R S W V E F : Type 0} (one_table : OneTable) (left : R → Option (Lis
       begun (Err why) g = tt
 
   tasks_alike : (settings : Settings) (task copy : Task)
-      → ((r : ReadAhead R) (s : ReadAhead S) → FromHere r s → DoesBy (ahead left calls failures r r1) w e settings task end → DoesBy (ahead other_left other_calls other_failures s s1) v f settings copy other
+      → ((r : ReadAhead R) (s : ReadAhead S) → FromHere r s → DoesBy (ahead left calls failures packets packet r r1) w e settings task end → DoesBy (ahead other_left other_calls other_failures other_packets other_packet s s1) v f settings copy other
       → EndAlike w v e f end other)
-      → DoesTask left calls failures r0 r1 w e settings task end → DoesTask other_left other_calls other_failures s0 s1 v f settings copy other → EndAlike w v e f end other
+      → DoesTask left calls failures packets packet r0 r1 w e settings task end → DoesTask other_left other_calls other_failures other_packets other_packet s0 s1 v f settings copy other → EndAlike w v e f end other
   tasks_alike settings task copy from does doing = elim does [
     | inl h ↦ elim doing [
       | inl k ↦ from h.0 k.0 (taken_alike settings.handshake h.0 k.0 (Ok tt) (Ok tt) tt tt h.1 k.1).1 h.2 k.2
@@ -234,28 +237,28 @@ module _ {R S W V E F : Type 0} (one_table : OneTable) (left : R → Option (Lis
       let ends = lists_alike e f end other done other_done h.read k.read one.1 h.ends k.ends in
       record { status_is = ends.0; first = (h.text ++ last_line h.read, h.wrote, subst (λ l. Wrote v.held v.failures v.old l v.new) (sym all) k.wrote); second = ends.1 }
 
-  runs_alike : (c d : Command) (settings : Settings) → AreSameCommand c d → IsExact c → settings.explains ≡ false → DoesTask left calls failures r0 r1 w e settings (Run c) end
-      → DoesTask other_left other_calls other_failures s0 s1 v f settings (Run d) other → EndAlike w v e f end other
+  runs_alike : (c d : Command) (settings : Settings) → AreSameCommand c d → IsExact c → settings.explains ≡ false → DoesTask left calls failures packets packet r0 r1 w e settings (Run c) end
+      → DoesTask other_left other_calls other_failures other_packets other_packet s0 s1 v f settings (Run d) other → EndAlike w v e f end other
   runs_alike c d settings same exact off = tasks_alike settings (Run c) (Run d) (λ r s here does doing.
-      (one_run (ReadAhead R) (ReadAhead S) W V E F (ahead left calls failures r r1) (ahead other_left other_calls other_failures s s1) w v e f settings _ _ c d end other same
+      (one_run (ReadAhead R) (ReadAhead S) W V E F (ahead left calls failures packets packet r r1) (ahead other_left other_calls other_failures other_packets other_packet s s1) w v e f settings _ _ c d end other same
       (record { input = here; explains = inl off; done = done; other_done = other_done }) does doing).1 exact)
 
-  counts_alike : (settings : Settings) (form : CountForm) → settings.explains ≡ false → DoesTask left calls failures r0 r1 w e settings (CountAll form) end
-      → DoesTask other_left other_calls other_failures s0 s1 v f settings (CountAll form) other → EndAlike w v e f end other
+  counts_alike : (settings : Settings) (form : CountForm) → settings.explains ≡ false → DoesTask left calls failures packets packet r0 r1 w e settings (CountAll form) end
+      → DoesTask other_left other_calls other_failures other_packets other_packet s0 s1 v f settings (CountAll form) other → EndAlike w v e f end other
   counts_alike settings form off = tasks_alike settings (CountAll form) (CountAll form) (λ r s here does doing.
-      one_count (ReadAhead R) (ReadAhead S) W V E F one_table (ahead left calls failures r r1) (ahead other_left other_calls other_failures s s1) w v e f settings (table_form form) _ _ end other
+      one_count (ReadAhead R) (ReadAhead S) W V E F one_table (ahead left calls failures packets packet r r1) (ahead other_left other_calls other_failures other_packets other_packet s s1) w v e f settings (table_form form) _ _ end other
       (record { input = here; explains = inl off; done = done; other_done = other_done }) does doing)
 
-  alike : (a b : Asked) → AreSameAsked a b → IsOneWay a → Does left calls failures r0 r1 w e (Ok a) end → Does other_left other_calls other_failures s0 s1 v f (Ok b) other → EndAlike w v e f end other
+  alike : (a b : Asked) → AreSameAsked a b → IsOneWay a → Does left calls failures packets packet r0 r1 w e (Ok a) end → Does other_left other_calls other_failures other_packets other_packet s0 s1 v f (Ok b) other → EndAlike w v e f end other
   alike (Messages c settings) (Messages d t) same one does doing =
-      let there = subst (λ (x : Settings). Does other_left other_calls other_failures s0 s1 v f (Ok (Messages d x)) other) (sym same.1) doing in
-      runs_alike c d settings same.0 one.0 one.1 (unnoted left calls failures r0 r1 w e settings c end done one.1 does)
-      (unnoted other_left other_calls other_failures s0 s1 v f settings d other other_done one.1 there)
+      let there = subst (λ (x : Settings). Does other_left other_calls other_failures other_packets other_packet s0 s1 v f (Ok (Messages d x)) other) (sym same.1) doing in
+      runs_alike c d settings same.0 one.0 one.1 (unnoted left calls failures packets packet r0 r1 w e settings c end done one.1 does)
+      (unnoted other_left other_calls other_failures other_packets other_packet s0 s1 v f settings d other other_done one.1 there)
   alike (Count settings form) (Count t g) same one does doing =
-      let there = subst (λ (x : Settings). Does other_left other_calls other_failures s0 s1 v f (Ok (Count x g)) other) (sym same.0) doing in
-      counts_alike settings form one does (subst (λ (x : CountForm). Does other_left other_calls other_failures s0 s1 v f (Ok (Count settings x)) other) (sym same.1) there)
+      let there = subst (λ (x : Settings). Does other_left other_calls other_failures other_packets other_packet s0 s1 v f (Ok (Count x g)) other) (sym same.0) doing in
+      counts_alike settings form one does (subst (λ (x : CountForm). Does other_left other_calls other_failures other_packets other_packet s0 s1 v f (Ok (Count settings x)) other) (sym same.1) there)
   alike (Handshake side) (Handshake b) same one does doing =
-      listed_alike side does (subst (λ (x : Side). Does other_left other_calls other_failures s0 s1 v f (Ok (Handshake x)) other) (sym same) doing)
+      listed_alike side does (subst (λ (x : Side). Does other_left other_calls other_failures other_packets other_packet s0 s1 v f (Ok (Handshake x)) other) (sym same) doing)
   alike (Handshake side) (Messages d u) same one does doing = absurd same
   alike (Handshake side) (Count u g) same one does doing = absurd same
   alike (Messages c t) (Count u g) same one does doing = absurd same
@@ -264,8 +267,8 @@ module _ {R S W V E F : Type 0} (one_table : OneTable) (left : R → Option (Lis
   alike (Count t g) (Handshake b) same one does doing = absurd same
 
 pub one_program : (R S W V E F : Type 0) → OneTable → OneProgram R S W V E F
-one_program R S W V E F one_table left calls failures other_left other_calls other_failures r0 r1 s0 s1 w v e f words end other one input done other_done runs ran =
-    let a = answer_is left calls failures r0 r1 w e words one end done runs.answer runs.named runs.told runs.does in
-    let b = answer_is other_left other_calls other_failures s0 s1 v f words one other other_done ran.answer ran.named ran.told ran.does in
-    alike one_table left calls failures other_left other_calls other_failures r0 r1 s0 s1 w v e f end other input done other_done a.0 b.0 (same_asked words a.0 b.0 a.1 b.1)
+one_program R S W V E F one_table left calls failures packets packet other_left other_calls other_failures other_packets other_packet r0 r1 s0 s1 w v e f words end other one input done other_done runs ran =
+    let a = answer_is left calls failures packets packet r0 r1 w e words one end done runs.answer runs.named runs.told runs.does in
+    let b = answer_is other_left other_calls other_failures other_packets other_packet s0 s1 v f words one other other_done ran.answer ran.named ran.told ran.does in
+    alike one_table left calls failures packets packet other_left other_calls other_failures other_packets other_packet r0 r1 s0 s1 w v e f end other input done other_done a.0 b.0 (same_asked words a.0 b.0 a.1 b.1)
     (one_way_too one.asked a.0 (same_asked words one.asked a.0 one.named a.1) one.one_way) a.2 b.2

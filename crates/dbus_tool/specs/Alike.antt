@@ -2,6 +2,8 @@
 use Rattle.std.specs.Prelude.{◌≡◌, ◌≢◌, ℕ, false, List, [], Option}
 use Rattle.clap.specs.Words.{Text}
 use Rattle.clap.specs.Faults.{fault_of}
+use Rattle.dbus_device.specs.Packets.{Packets}
+use Rattle.dbus_device.specs.declared.packet.Packet.{Packet}
 use Rattle.dbus_handshake_input.specs.declared.read_ahead.ReadAhead.{ReadAhead}
 use Rattle.cli_options.specs.CommandLine.{wire_app}
 use Rattle.cli_options.specs.Named.{IsNamedBy}
@@ -30,7 +32,8 @@ pub record NameOneWay (words : List Text) : Type 0 where
 
 -- two runs of the program by such words that read the same input, and did not fail, end alike
 abbrev pub OneProgram : (R S W V E F : Type 0) → Type 0
-OneProgram R S W V E F = (left : R → Option (List ℕ)) (calls failures : R → ℕ) (other_left : S → Option (List ℕ)) (other_calls other_failures : S → ℕ) (r0 r1 : ReadAhead R) (s0 s1 : ReadAhead S)
+OneProgram R S W V E F = (left : R → Option (List ℕ)) (calls failures : R → ℕ) (packets : R → Option Packets) (packet : R → Option Packet) (other_left : S → Option (List ℕ)) (other_calls other_failures : S → ℕ)
+    (other_packets : S → Option Packets) (other_packet : S → Option Packet) (r0 r1 : ReadAhead R) (s0 s1 : ReadAhead S)
     (w : Writing W) (v : Writing V) (e : Writing E) (f : Writing F) (words : List Text) (end other : ExitStatus)
-    → NameOneWay words → ReadAlike (ahead left calls failures r0 r1) (ahead other_left other_calls other_failures s0 s1) → end ≢ status.Failed → other ≢ status.Failed
-    → RunsWords left calls failures r0 r1 w e words end → RunsWords other_left other_calls other_failures s0 s1 v f words other → EndAlike w v e f end other
+    → NameOneWay words → ReadAlike (ahead left calls failures packets packet r0 r1) (ahead other_left other_calls other_failures other_packets other_packet s0 s1) → end ≢ status.Failed → other ≢ status.Failed
+    → RunsWords left calls failures packets packet r0 r1 w e words end → RunsWords other_left other_calls other_failures other_packets other_packet s0 s1 v f words other → EndAlike w v e f end other

@@ -4,7 +4,9 @@ use Rattle.std.specs.Prelude.{◌≡◌, ◌⊎◌, ℕ, List, ◌++◌, Option,
 use Rattle.std.specs.Io.KnownBytes.{prepend_known}
 use Rattle.std.specs.List.{flat_map}
 use Rattle.dbus_device.specs.Device.{Wrote, Stopped}
-use Rattle.dbus_handshake_input.specs.Ahead.{calls_of, kept_of, source_of}
+use Rattle.dbus_device.specs.Packets.{Packets}
+use Rattle.dbus_device.specs.declared.packet.Packet.{Packet}
+use Rattle.dbus_handshake_input.specs.Ahead.{calls_of, kept_of, packets_of, source_of}
 use Rattle.dbus_handshake_input.specs.Passing.{Counts, Passes}
 use Rattle.dbus_handshake_input.specs.declared.fault.HandshakeFault.{HandshakeFault}
 use Rattle.dbus_handshake_input.specs.Handshakes.{handshake_reason_text}
@@ -26,11 +28,6 @@ use Rattle.cli_report.specs.declared.gathering.Unwritten.{Unwritten}
 use Rattle.cli_report.specs.declared.page.Page.{Page}
 
 module _ {R : Type 0} (left : R → Option (List ℕ)) (calls failures : R → ℕ) where
-  -- a source before and after: what is left in it is what it keeps, and then what the source below
-  -- has; its calls are those of the source below, and those that the bytes it kept answered
-  abbrev pub ahead : ReadAhead R → ReadAhead R → Reading (ReadAhead R)
-  ahead old new = reading (λ s. prepend_known (kept_of s) (left (source_of s))) (calls_of calls) (λ s. failures (source_of s)) old new
-
   -- the handshake of the side was taken, or what was read begins with none; the reads that failed
   -- count
   abbrev pub ReadsHandshake : Side → ReadAhead R → ReadAhead R → Result (Unit {0}) HandshakeFault → Type 0
@@ -41,6 +38,12 @@ module _ {R : Type 0} (left : R → Option (List ℕ)) (calls failures : R → �
   TakesHandshake None old new (Ok x) = new ≡ old
   TakesHandshake None old new (Err fault) = ⊥
   TakesHandshake (Some side) old new result = ReadsHandshake side old new result
+
+-- a source before and after: what is left in it is what it keeps, and then what the source below
+-- has; its calls are those of the source below, and those that the bytes it kept answered
+abbrev pub ahead : {R : Type 0} → (R → Option (List ℕ)) → (calls failures : R → ℕ) → (R → Option Packets) → (R → Option Packet) → ReadAhead R → ReadAhead R → Reading (ReadAhead R)
+ahead left calls failures packets packet old new =
+    reading (λ s. prepend_known (kept_of s) (left (source_of s))) (calls_of calls) (λ s. failures (source_of s)) (packets_of packets packet) old new
 
 -- the offset of the fault of a handshake and its reason
 abbrev pub handshake_line : ℕ → HandshakeReason → List ℕ

@@ -6,6 +6,8 @@ use Rattle.cli_options.specs.declared.usage_fault.RefusedRule.{RefusedRule}
 use Rattle.dbus_explain.specs.Explained.{IsExplainedRule}
 use Rattle.clap.specs.Words.{Text}
 use Rattle.dbus_device.specs.Device.{Wrote, Stopped, WritesAll}
+use Rattle.dbus_device.specs.Packets.{Packets}
+use Rattle.dbus_device.specs.declared.packet.Packet.{Packet}
 use Rattle.dbus_device.specs.declared.writing.WrittenOnly.{WrittenOnly}
 use Rattle.cli_options.specs.Named.{IsNamedBy}
 use Rattle.cli_options.specs.Told.{TellsFault}
@@ -77,27 +79,27 @@ Notes held failures false old new (Ok x) = new ≡ old
 Notes held failures false old new (Err n) = ⊥
 Notes held failures true old new result = WritesAll held failures old owner_note new result
 
-module _ {R W E : Type 0} (left : R → Option (List ℕ)) (calls failures : R → ℕ) (old new : ReadAhead R) (w : Writing W) (e : Writing E) where
+module _ {R W E : Type 0} (left : R → Option (List ℕ)) (calls failures : R → ℕ) (packets : R → Option Packets) (packet : R → Option Packet) (old new : ReadAhead R) (w : Writing W) (e : Writing E) where
   -- the task is done with all that the reader gives, or with what follows the handshake of a side;
   -- or none was read, which was told
   abbrev pub DoesTask : Settings → Task → ExitStatus → Type 0
   DoesTask settings task end =
-      ((begun : ReadAhead R) × TakesHandshake left calls failures settings.handshake old begun (Ok tt) × DoesBy (ahead left calls failures begun new) w e settings task end)
+      ((begun : ReadAhead R) × TakesHandshake left calls failures settings.handshake old begun (Ok tt) × DoesBy (ahead left calls failures packets packet begun new) w e settings task end)
       ⊎ ((why : HandshakeFault) × TakesHandshake left calls failures settings.handshake old new (Err why) × (w.new ≡ w.old) × TellsHandshake e.held e.failures e.old e.new why end)
 
-module _ {R W E : Type 0} (left : R → Option (List ℕ)) (calls failures : R → ℕ) (old new : ReadAhead R) (w : Writing W) (e : Writing E) where
+module _ {R W E : Type 0} (left : R → Option (List ℕ)) (calls failures : R → ℕ) (packets : R → Option Packets) (packet : R → Option Packet) (old new : ReadAhead R) (w : Writing W) (e : Writing E) where
   -- a note is written before a command is run; or a write of it failed
   abbrev pub RunsNoted : Settings → Command → ExitStatus → Type 0
   RunsNoted settings command end =
       ((begun : E) × Notes e.held e.failures (settings.explains && lacks_owner command) e.old begun (Ok tt)
-      × DoesTask left calls failures old new w (writing e.held e.failures begun e.new) settings (Run command) end)
+      × DoesTask left calls failures packets packet old new w (writing e.held e.failures begun e.new) settings (Run command) end)
       ⊎ ((new ≡ old) × (w.new ≡ w.old) × (end ≡ status.Failed) × (n : WrittenOnly) × Notes e.held e.failures (settings.explains && lacks_owner command) e.old e.new (Err n))
 
   -- what is done for a command by its settings, for `count`, for the side whose handshake is
   -- listed, or for words that name nothing
   abbrev pub Does : Result Asked UsageFault → ExitStatus → Type 0
   Does (Ok (Messages command settings)) end = RunsNoted settings command end
-  Does (Ok (Count settings form)) end = DoesTask left calls failures old new w e settings (CountAll form) end
+  Does (Ok (Count settings form)) end = DoesTask left calls failures packets packet old new w e settings (CountAll form) end
   Does (Ok (Handshake side)) end = Lists left calls failures old new w e side end
   Does (Err Memory) end = (new ≡ old) × (w.new ≡ w.old) × StopsBy e.held e.failures e.old e.new cause.Memory end
   Does (Err (Help text)) end = (new ≡ old) × ShowsText w e (string_bytes text) end

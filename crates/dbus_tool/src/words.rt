@@ -58,7 +58,7 @@ pub fn run_words<R: Source, W: Sink, E: Sink>(
     first: &mut W,
     second: &mut E,
 ) -> ExitStatus
-    ensures { RunsWords R.left R.calls R.failures reader.old reader.new
+    ensures { RunsWords R.left R.calls R.failures R.packets R.packet reader.old reader.new
         (writing W.held W.failures first.old first.new)
         (writing E.held E.failures second.old second.new)
         (map string_bytes words.now) result }
@@ -115,7 +115,7 @@ fn do_task<R: Source, W: Sink, E: Sink>(
     first: &mut W,
     second: &mut E,
 ) -> ExitStatus
-    ensures { DoesTask R.left R.calls R.failures reader.old reader.new
+    ensures { DoesTask R.left R.calls R.failures R.packets R.packet reader.old reader.new
         (writing W.held W.failures first.old first.new)
         (writing E.held E.failures second.old second.new)
         settings task result }

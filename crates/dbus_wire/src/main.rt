@@ -53,7 +53,8 @@ fn run<R: Source, W: Sink, E: Sink>(
     first: &mut W,
     second: &mut E,
 ) -> ExitStatus
-    ensures runs { IfOk words (λ said. RunsWords R.left R.calls R.failures reader.old reader.new
+    ensures runs { IfOk words (λ said. RunsWords R.left R.calls R.failures R.packets
+        R.packet reader.old reader.new
         (writing W.held W.failures first.old first.new)
         (writing E.held E.failures second.old second.new)
         (map string_bytes said.items) result) }

@@ -13,7 +13,7 @@ returns-in-Ok-write_tables g c =
     let source : c.pass_through-ended.result.1.now ≡ c.reader-1.given.0 = search rules in
     let second : c.pass_through-ended.new.visitor.second.now ≡ c.second-1.given.0 = search rules in
     let tables = rw c.into_parts-counts.ensures.counts at c.in-Ok-write_tables.ensures in
-    inl (counts_all g.R.Source.left g.R.Source.calls g.R.Source.failures g.E.Sink.held g.E.Sink.failures (writing g.W.Sink.held g.W.Sink.failures c.args.first.now c.write_tables.new.first) c.args.settings c.args.form _
+    inl (counts_all g.R.Source.left g.R.Source.calls g.R.Source.failures g.R.Source.packets g.E.Sink.held g.E.Sink.failures (writing g.W.Sink.held g.W.Sink.failures c.args.first.now c.write_tables.new.first) c.args.settings c.args.form _
     c.args.reader.now c.pass_through-ended.result.1.now _ c.pass_through-ended.new.visitor source second _ c.in-Ok.status c.in-Ok.status c.new.ensures passes (inl (tables, refl, refl)))
 
 pub returns-in-Ok : goal.returns-in-Ok
@@ -23,6 +23,6 @@ returns-in-Ok g c =
     let source : c.pass_through-ended.result.1.now ≡ c.reader-1.given.0 = search rules in
     let tables = subst (λ (x : Counts). WritesTables (writing g.W.Sink.held g.W.Sink.failures c.args.first.now c.write_tables.new.first) c.args.form (counting_of x) (Err c.in-Err-write_tables.cause))
     c.into_parts-counts.ensures.counts c.in-Err-write_tables.ensures in
-    inl (counts_all g.R.Source.left g.R.Source.calls g.R.Source.failures g.E.Sink.held g.E.Sink.failures (writing g.W.Sink.held g.W.Sink.failures c.args.first.now c.write_tables.new.first) c.args.settings c.args.form _
+    inl (counts_all g.R.Source.left g.R.Source.calls g.R.Source.failures g.R.Source.packets g.E.Sink.held g.E.Sink.failures (writing g.W.Sink.held g.W.Sink.failures c.args.first.now c.write_tables.new.first) c.args.settings c.args.form _
     c.args.reader.now c.pass_through-ended.result.1.now _ c.pass_through-ended.new.visitor source (search rules) c.give_up.new.second c.in-Ok.status c.give_up.result c.new.ensures passes
     (inr (c.in-Err-write_tables.cause, tables, c.give_up.ensures.told, c.give_up.ensures.failed)))

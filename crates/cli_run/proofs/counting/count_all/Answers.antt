@@ -1,4 +1,4 @@
-use Rattle.std.proofs.Common.{◌≡◌, ◌≤◌, ◌<◌, ◌^◌, ◌+◌, ◌++◌, [], drop, Ok, arith, refl, sym, ap, ◌∙◌, subst}
+use Rattle.std.proofs.Common.{◌≡◌, ◌≤◌, ◌<◌, ◌^◌, ◌+◌, ◌++◌, [], drop, None, Ok, arith, refl, sym, ap, ◌∙◌, subst}
 use Rattle.dbus_header.proofs.OutcomeLaws.{whole_inside}
 use Rattle.dbus_stream.specs.CheckReading.{GivesLength, limits_of, Reads, lengths}
 use Rattle.dbus_stream.specs.Cut.{CutMessage, Ended}
@@ -7,7 +7,7 @@ use Rattle.cli_run.specs.ByName.{Tallies, ended_by}
 use Rattle.cli_report.specs.Devices.{reading, taken}
 use Rattle.cli_run.proofs.ReadSteps.{length-sizes}
 use Rattle.cli_run.proofs.HandSteps.{hands_none, hands_more, hands_all, hands_faulted}
-use Rattle.cli_run.proofs.CountSteps.{adds_up, check_faults, counts, tallied}
+use Rattle.cli_run.proofs.CountSteps.{adds_up, check_faults, counts, none_known, tallied}
 use Rattle.cli_run.proofs.counting.count_all.Goals as goal
 use Rattle.cli_run.proofs.counting.count_all.Goals.{In-Ok-Some}
 
@@ -16,7 +16,7 @@ messages-init g c =
     let new = c.requires in (
       [],
       new.kept,
-      hands_none lengths g.R.Source.left g.R.Source.calls g.R.Source.failures counts (limits_of c.args.messages.now) [] 0 adds_up.nothing c.args.messages.now tt refl new.stopped,
+      hands_none lengths g.R.Source.left g.R.Source.calls g.R.Source.failures counts (limits_of c.args.messages.now) [] 0 none_known adds_up.nothing c.args.messages.now tt refl new.stopped,
       refl,
     )
 
@@ -44,7 +44,7 @@ messages-preserved g c =
       drop item.size (c.messages.invariant.0 ++ given.0.bytes),
       gives.kept,
       hands_more adds_up c.messages.invariant.2 given.0 {s2 = tt} tt item gives.whole c.in-Ok-Some.ensures.failed
-          (record { number = c.messages.count + 1; offset = done_of c.messages.messages }) refl refl gives.done gives.unstopped tt,
+          (record { number = c.messages.count + 1; offset = done_of c.messages.messages; time = None }) refl refl (λ packets never. absurd never) gives.done gives.unstopped tt,
       c.next.ensures.same_reference ∙ c.messages.invariant.3,
     )
 
@@ -63,7 +63,7 @@ returns-in-Ok-None-clause-counts g c =
     let read = rw c.in-Ok-None.field-0-is at (c.in-Ok-None.ensures.read rest c.messages.invariant.1) in
     let answer = read.1 h.unstopped in
     λ settings no_more same.
-    tallied g.R.Source.left g.R.Source.calls g.R.Source.failures c.args.messages.now c.next.new.self c.requires settings no_more same (Ok _)
+    tallied g.R.Source.left g.R.Source.calls g.R.Source.failures g.R.Source.packets c.args.messages.now c.next.new.self c.requires settings no_more same (Ok _)
     (hands_all adds_up h read.0 {s2 = tt} tt Ended _ refl c.done.ensures answer.2.done refl answer.0 (λ _. answer.1) c.in-Ok-None.ensures.failed)
 
 pub returns-in-Err-clause-counts : goal.returns-in-Err-clause-counts
@@ -74,6 +74,6 @@ returns-in-Err-clause-counts g c =
     let read = c.in-Err.ensures.read rest c.messages.invariant.1 in
     let answer : c.ended_by.result ≡ ended_by c.messages.count (done_of c.next.new.self) fault = c.ended_by.ensures ∙ ap (λ n. ended_by c.messages.count n fault) c.done-in-Err.ensures in
     λ settings no_more same.
-    subst (λ x. Tallies (taken (reading g.R.Source.left g.R.Source.calls g.R.Source.failures (source_of c.args.messages.now) (source_of c.next.new.self))) settings (most_reads_of c.args.messages.now) x) (sym answer)
-    (tallied g.R.Source.left g.R.Source.calls g.R.Source.failures c.args.messages.now c.next.new.self c.requires settings no_more same (ended_by c.messages.count (done_of c.next.new.self) fault)
+    subst (λ x. Tallies (taken (reading g.R.Source.left g.R.Source.calls g.R.Source.failures g.R.Source.packets (source_of c.args.messages.now) (source_of c.next.new.self))) settings (most_reads_of c.args.messages.now) x) (sym answer)
+    (tallied g.R.Source.left g.R.Source.calls g.R.Source.failures g.R.Source.packets c.args.messages.now c.next.new.self c.requires settings no_more same (ended_by c.messages.count (done_of c.next.new.self) fault)
     (hands_faulted adds_up h read.0 {s2 = tt} tt fault (check_faults (rest ++ read.0.bytes) c.messages.messages c.next.new.self fault (read.1 h.unstopped)) c.in-Err.ensures.failed tt))

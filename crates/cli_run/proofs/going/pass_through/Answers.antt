@@ -13,5 +13,5 @@ hand_parts-ended-requires-clause-new g c =
 pub returns-clause-passes : goal.returns-clause-passes
 returns-clause-passes g c =
     let is = c.within-messages.ensures in
-    transport (λ i. PassesAll (taken (reading g.R.Source.left g.R.Source.calls g.R.Source.failures (is.source i) (sym c.into_source.ensures i))) c.args.settings (is.most_reads i) c.args.is_check g.V.MessageVisitor.takes
+    transport (λ i. PassesAll (taken (reading g.R.Source.left g.R.Source.calls g.R.Source.failures g.R.Source.packets (is.source i) (sym c.into_source.ensures i))) c.args.settings (is.most_reads i) c.args.is_check g.V.MessageVisitor.takes
     g.V.MessageVisitor.leaves c.args.visitor.now c.hand_parts-ended.new.visitor c.hand_parts-ended.result) c.hand_parts-ended.ensures.passes

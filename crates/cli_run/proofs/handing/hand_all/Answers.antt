@@ -2,10 +2,13 @@ use Rattle.std.proofs.Common.{◌≡◌, ◌≤◌, ◌<◌, ◌^◌, ◌+◌, �
 use Rattle.dbus_header.proofs.OutcomeLaws.{whole_inside}
 use Rattle.dbus_stream.specs.Cut.{Ended}
 use Rattle.dbus_stream.specs.Gathering.{gathering}
-use Rattle.dbus_stream.specs.RawReading.{limits_of, done_of, kept}
+use Rattle.dbus_stream.specs.RawReading.{KeepsPackets, limits_of, done_of, kept}
 use Rattle.cli_run.specs.ByName.{stopped_by}
 use Rattle.cli_run.specs.Handing.{GivesNext}
-use Rattle.cli_run.specs.Onward.{RawHandsOn}
+use Rattle.cli_run.specs.Inputs.{time_of}
+use Rattle.cli_run.specs.Onward.{HasKnownPackets, RawHandsOn}
+use Rattle.cli_run.specs.declared.place.MessagePlace.{MessagePlace}
+use Rattle.cli_run.proofs.KnownPackets.{lent_time}
 use Rattle.cli_run.proofs.ReadSteps.{length-sizes}
 use Rattle.cli_run.proofs.HandSteps.{HasHanded, hands_none, hands_more, hands_all, hands_stopped, hands_not, item_of, settled_last, still, took_lent}
 use Rattle.cli_run.proofs.OutputSteps.{lent_validated}
@@ -14,9 +17,11 @@ use Rattle.cli_run.proofs.handing.hand_all.Goals.{In-Ok-Some}
 
 pub messages-init : goal.messages-init
 messages-init g c = (
-  hands_none gathering g.R.Source.left g.R.Source.calls g.R.Source.failures g.V.MessageVisitor.takes c.args.limits (kept c.args.messages.now) c.args.before g.met.V.MessageVisitor.adds_up.nothing
+  hands_none gathering g.R.Source.left g.R.Source.calls g.R.Source.failures g.V.MessageVisitor.takes c.args.limits (kept c.args.messages.now) c.args.before
+      (HasKnownPackets g.R.Source.packets g.R.Source.packet c.args.messages.now) g.met.V.MessageVisitor.adds_up.nothing
       c.args.messages.now.reader c.args.visitor.now c.requires.within c.requires.unstopped,
   refl,
+  λ all has. has,
 )
 
 -- what the reader lends
@@ -44,13 +49,17 @@ messages-preserved g c =
     let given = lent g (goal.at.messages-preserved g c).In-Ok-Some in
     let l = given.2.1 in
     let h = still laws c.args.messages.now c.messages.messages given.0 c.messages.invariant.0 given.1 in
+    let place : MessagePlace = record { number = c.messages.count + 1; offset = c.done-offset.result; time = c.time_of.result } in
     let one = took_lent g.V.MessageVisitor.takes g.V.MessageVisitor.leaves c.next_message.new.visitor c.take.new.self c.args.limits (kept given.0 ++ given.2.0.bytes) c.message.result.now c.in-Ok-Some.validated
-    given.0 new c.message.ensures h.read.limits_are l (record { number = c.messages.count + 1; offset = c.done-offset.result }) (Ok tt) c.in-Ok.ensures in
-    let more = hands_more laws h given.2.0 given.2.3 (item_of l) l.gives.whole given.2.2 (record { number = c.messages.count + 1; offset = c.done-offset.result }) refl (c.done-offset.ensures ∙ sym given.1.done)
+    given.0 new c.message.ensures h.read.limits_are l place (Ok tt) c.in-Ok.ensures in
+    let keeps : KeepsPackets g.R.Source.packets g.R.Source.packet c.args.messages.now new = λ all has. c.next_message.ensures.packets all (c.messages.invariant.2 all has) in
+    let time = lent_time g.R.Source.packets g.R.Source.packet c.args.messages.now given.0 new (kept given.0 ++ given.2.0.bytes) c.in-Ok-Some.validated keeps l c.time_of.result (c.time_of.ensures ∙ ap time_of c.packet.ensures) in
+    let more = hands_more laws h given.2.0 given.2.3 (item_of l) l.gives.whole given.2.2 place refl (c.done-offset.ensures ∙ sym given.1.done) time
     l.gives.done l.gives.unstopped one in (
-      subst (λ v. HasHanded gathering g.R.Source.left g.R.Source.calls g.R.Source.failures g.V.MessageVisitor.takes c.args.limits (kept c.args.messages.now) c.args.before (c.messages.count + 1)
-          c.args.messages.now.reader new.reader v c.args.visitor.now c.take.new.self) (sym l.gives.kept) more,
+      subst (λ v. HasHanded gathering g.R.Source.left g.R.Source.calls g.R.Source.failures g.V.MessageVisitor.takes c.args.limits (kept c.args.messages.now) c.args.before
+          (HasKnownPackets g.R.Source.packets g.R.Source.packet c.args.messages.now) (c.messages.count + 1) c.args.messages.now.reader new.reader v c.args.visitor.now c.take.new.self) (sym l.gives.kept) more,
       c.next_message.ensures.same_reference ∙ c.messages.invariant.1,
+      keeps,
     )
 
 pub messages-smaller : goal.messages-smaller
@@ -66,9 +75,13 @@ returns-in-Err-take-clause-hands g c =
     let laws = g.met.V.MessageVisitor.adds_up in
     let given = lent g (goal.at.returns-in-Err-take-clause-hands g c).In-Ok-Some in
     let h = still laws c.args.messages.now c.messages.messages given.0 c.messages.invariant.0 given.1 in
+    let place : MessagePlace = record { number = c.messages.count + 1; offset = c.done-offset.result; time = c.time_of.result } in
+    let keeps : KeepsPackets g.R.Source.packets g.R.Source.packet c.args.messages.now c.next_message.new.messages = λ all has. c.next_message.ensures.packets all (c.messages.invariant.2 all has) in
+    let time = lent_time g.R.Source.packets g.R.Source.packet c.args.messages.now given.0 c.next_message.new.messages (kept given.0 ++ given.2.0.bytes) c.in-Ok-Some.validated keeps given.2.1 c.time_of.result
+    (c.time_of.ensures ∙ ap time_of c.packet.ensures) in
     let one = took_lent g.V.MessageVisitor.takes g.V.MessageVisitor.leaves c.next_message.new.visitor c.take.new.self c.args.limits (kept given.0 ++ given.2.0.bytes) c.message.result.now c.in-Ok-Some.validated
-    given.0 c.next_message.new.messages c.message.ensures h.read.limits_are given.2.1 (record { number = c.messages.count + 1; offset = c.done-offset.result }) (Err c.in-Err-take.cause) c.in-Err-take.ensures in
-    hands_not laws h given.2.0 given.2.3 (item_of given.2.1) given.2.1.gives.whole given.2.2 (record { number = c.messages.count + 1; offset = c.done-offset.result }) refl (c.done-offset.ensures ∙ sym given.1.done)
+    given.0 c.next_message.new.messages c.message.ensures h.read.limits_are given.2.1 place (Err c.in-Err-take.cause) c.in-Err-take.ensures in
+    hands_not laws h given.2.0 given.2.3 (item_of given.2.1) given.2.1.gives.whole given.2.2 place refl (c.done-offset.ensures ∙ sym given.1.done) time
     c.in-Err-take.cause one
 
 pub returns-in-Ok-None-clause-hands : goal.returns-in-Ok-None-clause-hands
@@ -90,7 +103,7 @@ returns-in-Err-clause-hands g c =
     let stop = c.in-Err.stop in
     let answer : c.stopped_by.result ≡ stopped_by c.messages.count (done_of c.next_message.new.messages) stop
     = c.stopped_by.ensures ∙ ap (λ n. stopped_by c.messages.count n stop) c.done-in-Err.ensures in
-    subst (λ x. RawHandsOn g.R.Source.left g.R.Source.calls g.R.Source.failures g.V.MessageVisitor.takes g.V.MessageVisitor.leaves c.args.limits c.args.before c.args.messages.now c.next_message.new.messages
+    subst (λ x. RawHandsOn g.R.Source.left g.R.Source.calls g.R.Source.failures g.R.Source.packets g.R.Source.packet g.V.MessageVisitor.takes g.V.MessageVisitor.leaves c.args.limits c.args.before c.args.messages.now c.next_message.new.messages
     c.args.visitor.now c.next_message.new.visitor x) (sym answer)
     (hands_stopped g.met.V.MessageVisitor.adds_up c.args.messages.now c.messages.messages c.messages.invariant.0 c.next_message.new.messages c.next_message.new.visitor stop c.in-Err.ensures.gives)
 
@@ -101,3 +114,12 @@ returns-in-Err-clause-settled g c =
     = c.stopped_by.ensures ∙ ap (λ n. stopped_by c.messages.count n stop) c.done-in-Err.ensures in
     subst (λ x. IfOk x (λ _. g.V.MessageVisitor.settled c.next_message.new.visitor)) (sym answer)
     (settled_last g.met.V.MessageVisitor.adds_up c.args.messages.now c.messages.messages c.messages.invariant.0 c.next_message.new.messages c.next_message.new.visitor stop c.in-Err.ensures.gives)
+
+pub returns-in-Err-take-clause-packets : goal.returns-in-Err-take-clause-packets
+returns-in-Err-take-clause-packets g c = λ all has. c.next_message.ensures.packets all (c.messages.invariant.2 all has)
+
+pub returns-in-Ok-None-clause-packets : goal.returns-in-Ok-None-clause-packets
+returns-in-Ok-None-clause-packets g c = λ all has. c.next_message.ensures.packets all (c.messages.invariant.2 all has)
+
+pub returns-in-Err-clause-packets : goal.returns-in-Err-clause-packets
+returns-in-Err-clause-packets g c = λ all has. c.next_message.ensures.packets all (c.messages.invariant.2 all has)

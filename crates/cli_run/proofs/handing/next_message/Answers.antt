@@ -1,4 +1,5 @@
 use Rattle.cli_run.proofs.GivenSteps.{gives_kept, gives_kept_fault, gives_unwritten, looked}
+use Rattle.cli_run.proofs.KnownPackets.{keeps_unread}
 use Rattle.cli_run.proofs.handing.next_message.Goals as goal
 
 pub returns-in-Ok-Some-clause-gives : goal.returns-in-Ok-Some-clause-gives
@@ -21,3 +22,16 @@ pub returns-in-Err-settle-clause-gives : goal.returns-in-Err-settle-clause-gives
 returns-in-Err-settle-clause-gives g c =
     gives_unwritten g.R.Source.left g.R.Source.calls g.R.Source.failures g.met.V.MessageVisitor.adds_up c.args.messages.now c.advance_kept.new.self c.requires c.in-Err.ensures.unread
     c.args.visitor.now c.settle.new.self c.in-Err-settle.ensures.lets_go
+
+pub returns-in-Ok-Some-clause-packets : goal.returns-in-Ok-Some-clause-packets
+returns-in-Ok-Some-clause-packets g c = keeps_unread g.R.Source.packets g.R.Source.packet c.args.messages.now c.advance_kept.new.self c.advance_kept.new.self c.in-Ok-Some.ensures.unread (λ all has. has)
+
+pub returns-in-Ok-None-clause-packets : goal.returns-in-Ok-None-clause-packets
+returns-in-Ok-None-clause-packets g c =
+    keeps_unread g.R.Source.packets g.R.Source.packet c.args.messages.now c.advance_kept.new.self c.read_message.new.messages c.in-Ok-None.ensures.unread c.read_message.ensures.packets
+
+pub returns-in-Ok-clause-packets : goal.returns-in-Ok-clause-packets
+returns-in-Ok-clause-packets g c = keeps_unread g.R.Source.packets g.R.Source.packet c.args.messages.now c.advance_kept.new.self c.advance_kept.new.self c.in-Err.ensures.unread (λ all has. has)
+
+pub returns-in-Err-settle-clause-packets : goal.returns-in-Err-settle-clause-packets
+returns-in-Err-settle-clause-packets g c = keeps_unread g.R.Source.packets g.R.Source.packet c.args.messages.now c.advance_kept.new.self c.advance_kept.new.self c.in-Err.ensures.unread (λ all has. has)

@@ -8,25 +8,25 @@ pub returns-in-Ok-write_count : goal.returns-in-Ok-write_count
 returns-in-Ok-write_count g c =
     let source : c.count_through-counted.result.1.now ≡ c.reader-1.given.0 = search rules in
     let tallies = rw c.in-Ok.is at c.count_through-counted.ensures.counts in
-    line_written (reading g.R.Source.left g.R.Source.calls g.R.Source.failures c.args.reader.now _) (writing g.W.Sink.held g.W.Sink.failures c.args.first.now c.write_count.new.first)
+    line_written (reading g.R.Source.left g.R.Source.calls g.R.Source.failures g.R.Source.packets c.args.reader.now _) (writing g.W.Sink.held g.W.Sink.failures c.args.first.now c.write_count.new.first)
     (writing g.E.Sink.held g.E.Sink.failures c.args.second.now _) c.args.settings c.args.reads c.in-Ok.counted
-    (subst (λ (s : g.row.R.Denot). Tallies (taken (reading g.R.Source.left g.R.Source.calls g.R.Source.failures c.args.reader.now s)) c.args.settings c.args.reads (Ok c.in-Ok.counted)) source tallies)
+    (subst (λ (s : g.row.R.Denot). Tallies (taken (reading g.R.Source.left g.R.Source.calls g.R.Source.failures g.R.Source.packets c.args.reader.now s)) c.args.settings c.args.reads (Ok c.in-Ok.counted)) source tallies)
     c.status_of.result c.in-Ok-write_count.ensures refl c.status_of.ensures
 
 pub returns-in-Err-write_count : goal.returns-in-Err-write_count
 returns-in-Err-write_count g c =
     let source : c.count_through-counted.result.1.now ≡ c.reader-1.given.0 = search rules in
     let tallies = rw c.in-Ok.is at c.count_through-counted.ensures.counts in
-    line_not (reading g.R.Source.left g.R.Source.calls g.R.Source.failures c.args.reader.now _) (writing g.W.Sink.held g.W.Sink.failures c.args.first.now c.write_count.new.first)
+    line_not (reading g.R.Source.left g.R.Source.calls g.R.Source.failures g.R.Source.packets c.args.reader.now _) (writing g.W.Sink.held g.W.Sink.failures c.args.first.now c.write_count.new.first)
     (writing g.E.Sink.held g.E.Sink.failures c.args.second.now c.give_up.new.second) c.args.settings c.args.reads c.in-Ok.counted
-    (subst (λ (s : g.row.R.Denot). Tallies (taken (reading g.R.Source.left g.R.Source.calls g.R.Source.failures c.args.reader.now s)) c.args.settings c.args.reads (Ok c.in-Ok.counted)) source tallies)
+    (subst (λ (s : g.row.R.Denot). Tallies (taken (reading g.R.Source.left g.R.Source.calls g.R.Source.failures g.R.Source.packets c.args.reader.now s)) c.args.settings c.args.reads (Ok c.in-Ok.counted)) source tallies)
     c.in-Err-write_count.cause c.in-Err-write_count.ensures c.give_up.result c.give_up.ensures.failed c.give_up.ensures.told
 
 pub returns-in-Err : goal.returns-in-Err
 returns-in-Err g c =
     let source : c.count_through-counted.result.1.now ≡ c.reader-1.given.0 = search rules in
     let tallies = rw c.in-Err.is at c.count_through-counted.ensures.counts in
-    gave_up (reading g.R.Source.left g.R.Source.calls g.R.Source.failures c.args.reader.now _) (writing g.W.Sink.held g.W.Sink.failures c.args.first.now c.args.first.now)
+    gave_up (reading g.R.Source.left g.R.Source.calls g.R.Source.failures g.R.Source.packets c.args.reader.now _) (writing g.W.Sink.held g.W.Sink.failures c.args.first.now c.args.first.now)
     (writing g.E.Sink.held g.E.Sink.failures c.args.second.now c.give_up-in-Err.new.second) c.args.settings c.args.reads c.in-Err.cause refl
-    (subst (λ (s : g.row.R.Denot). Tallies (taken (reading g.R.Source.left g.R.Source.calls g.R.Source.failures c.args.reader.now s)) c.args.settings c.args.reads (Err c.in-Err.cause)) source tallies)
+    (subst (λ (s : g.row.R.Denot). Tallies (taken (reading g.R.Source.left g.R.Source.calls g.R.Source.failures g.R.Source.packets c.args.reader.now s)) c.args.settings c.args.reads (Err c.in-Err.cause)) source tallies)
     c.give_up-in-Err.result c.give_up-in-Err.ensures.failed c.give_up-in-Err.ensures.told
