@@ -94,10 +94,10 @@ pub(crate) const JSON_USAGE: &str = "dbus-wire json [OPTIONS] < FILE";
 pub(crate) const JSON_MORE: &str = more!(
     going "
   For each message one line on standard output, an object: its number from 1,
-  its offset and its length in bytes, order, type, flags and serial, each header
-  field by its name, fields of other codes in `fields`, and the values of its
-  body in `body`. If the input is refused, `refused at P: NAME` on standard
-  error.
+  its offset in bytes, its time in seconds since 1970 if the file has it, its
+  length, order, type, flags and serial, each header field by its name, fields
+  of other codes in `fields`, and the values of its body in `body`. If the input
+  is refused, `refused at P: NAME` on standard error.
 
   JSON nests as deep as the message does, which can be over 128 levels: some
   parsers refuse that. Integers of 64 bits are written exactly; JavaScript
