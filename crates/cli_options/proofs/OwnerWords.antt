@@ -1,15 +1,13 @@
 -- A bus name has no `=`, so that a word is cut into a name and its owner at the first.
-use Rattle.std.proofs.Common.{◌≡◌, ◌≢◌, ℕ, zero, suc, ◌<◌, Bool, false, true, List, [], ◌∷◌, ◌++◌, length, get_or, Option, IsTrue, inl, inr, refl, sym, ◌∙◌, subst, arith, cond, ap}
+use Rattle.std.proofs.Common.{◌≡◌, ◌≢◌, ℕ, zero, suc, ◌<◌, Bool, false, true, List, [], ◌∷◌, ◌++◌, length, get_or, Option, IsTrue, inl, inr, refl, sym, ◌∙◌, subst, arith}
 use Rattle.std.specs.Borrow.{Bor}
-use Rattle.std.specs.List.{AllByRecursion, filter}
+use Rattle.std.specs.List.{AllByRecursion}
 use Rattle.std.specs.Option.{MatchOption}
 use Rattle.std.proofs.lemmas.Bool.{false≢true}
 use Rattle.std.proofs.lemmas.Str.Pattern.{IsSplitOnceResult, split_after}
-use Rattle.std.specs.declared.alloc.Global.{Global}
 use Rattle.clap.specs.Words.{Text}
 use Rattle.dbus_texts.specs.Kinds.{IsElement, IsJoined, IsBusName, each_after, is_dashed, is_dashed_start}
-use Rattle.dbus_match.specs.Matching.{Ownership, ownership, ownerships}
-use Rattle.dbus_match.specs.declared.owner.Owner.{Owner}
+use Rattle.dbus_match.specs.Matching.{Ownership}
 use Rattle.cli_options.specs.Owners.{IsOwnerWord, IsUnique, IsWellKnown}
 
 abbrev HasNone : List ℕ → Type 0
@@ -67,14 +65,3 @@ owner_made word name unique n u e are p q = record {
   name = subst IsWellKnown (sym p) are.0;
   unique = subst IsUnique (sym q) are.1;
 }
-
--- Owners that are learned.
-
-kept_one : (b : Bool) (x : Owner Global) (xs : List (Owner Global)) → ownerships (cond b (x ∷ xs) xs) ≡ cond b (ownership x ∷ ownerships xs) (ownerships xs)
-kept_one true x xs = refl
-kept_one false x xs = refl
-
--- what is kept of owners by what they say
-pub kept : (test : Ownership → Bool) (xs : List (Owner Global)) → ownerships (filter (λ x. test (ownership x)) xs) ≡ filter test (ownerships xs)
-kept test [] = refl
-kept test (x ∷ xs) = kept_one (test (ownership x)) x (filter (λ x. test (ownership x)) xs) ∙ ap (λ l. cond (test (ownership x)) (ownership x ∷ l) l) (kept test xs)

@@ -1,7 +1,7 @@
 -- The owners of names that the words `--owner NAME=UNIQUE` give.
 -- D-Bus Specification, "Valid Names" ("Bus names").
-use Rattle.std.specs.Prelude.{◌≡◌, ℕ, List, ◌∷◌, ◌++◌, Bool, false, ◌&&◌, not, if◌then◌else◌, [], Option, None, Some, Vec, string_bytes}
-use Rattle.std.specs.List.{AllZip, filter, list_any}
+use Rattle.std.specs.Prelude.{◌≡◌, ℕ, List, ◌∷◌, ◌++◌, Bool, false, ◌&&◌, not, Option, None, Some, string_bytes}
+use Rattle.std.specs.List.{AllZip, list_any}
 use Rattle.std.specs.declared.alloc.Global.{Global}
 use Rattle.std.specs.Str.{bytes_eq}
 use Rattle.clap.specs.Words.{Text}
@@ -9,10 +9,8 @@ use Rattle.dbus_texts.specs.Characters.{colon}
 use Rattle.dbus_texts.specs.Kinds.{IsKind}
 use Rattle.dbus_texts.specs.declared.text_kind.TextKind.TheVariants.{BusName}
 use Rattle.dbus_match.specs.declared.owner.Owner.{Owner}
-use Rattle.dbus_match.specs.Matching.{Ownership, ownership, ownerships}
+use Rattle.dbus_match.specs.Matching.{Ownership, ownership}
 use Rattle.dbus_calls.specs.Answering.{is_ownable}
-use Rattle.dbus_calls.specs.OwnerChanges.{change_of, is_text}
-use Rattle.dbus_message_model.specs.Messages.{MessageTree}
 use Rattle.dbus_rule.specs.declared.rule.Rule.{Rule}
 use Rattle.dbus_rule.specs.Rules.{sender_of}
 use Rattle.dbus_rule.specs.RuleViews.{rule_pairs}
@@ -41,37 +39,6 @@ pub record IsOwnerWord (word : Text) (o : Ownership) : Type 0 where
 -- the words give the owners, one each
 abbrev pub AreOwnersOf : List Text → List (Owner Global) → Type 0
 AreOwnersOf words owners = AllZip (λ word owner. IsOwnerWord word (ownership owner)) words owners
-
--- The owners of well-known names that the bus tells by its signals, and those that are known before
--- each message. D-Bus Specification, "Message Bus Messages"
--- ("org.freedesktop.DBus.NameOwnerChanged").
-
--- some rule asks for messages from this name
-abbrev pub ask_sender : List (Rule Global) → List ℕ → Bool
-ask_sender rules name = list_any (λ rule. is_text (sender_of (rule_pairs rule)) name) rules
-
--- the change, if it is of such a name: a rule does not look at the owner of another
-abbrev pub wanted : List (Rule Global) → Option Ownership → Option Ownership
-wanted rules None = None
-wanted rules (Some o) = if ask_sender rules o.name then Some o else None
-
--- the owners of other names
-abbrev pub others : List ℕ → List Ownership → List Ownership
-others name os = filter (λ o. not (bytes_eq o.name name)) os
-
--- the owners after a change: those of other names, and the new one, if there is one
-abbrev pub changed : Option Ownership → List Ownership → List Ownership
-changed None os = os
-changed (Some o) os = others o.name os ++ (if bytes_eq o.unique [] then [] else o ∷ [])
-
--- the owners that a selection has known since it learned some, else its own
-abbrev pub known : Selection → Option (Vec (Owner Global) Global) → List Ownership
-known selection None = ownerships selection.owners.items
-known selection (Some owners) = ownerships owners.items
-
--- the owners that it knows after a message
-abbrev pub known_after : Selection → List Ownership → MessageTree → List Ownership
-known_after selection os m = if selection.learns then changed (wanted selection.rules.items (change_of m)) os else os
 
 -- The senders that rules ask for by a well-known name of which nobody is known to be the owner.
 -- D-Bus Specification, "Message Bus Names": a bus names each sender by its unique name, and itself

@@ -12,7 +12,6 @@ mod copies;
 mod form;
 mod help;
 pub mod laws;
-mod learning;
 mod limits_named;
 mod owners;
 mod rules;
