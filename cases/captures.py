@@ -189,8 +189,8 @@ def changed(data):
 
 
 def checked(given):
-    """What `check` writes, and how it ends, if the bytes of the packets are messages of the cases, the last of which may be cut. If not, a message is
-    refused, and the run does not come to the file's fault."""
+    """What `check` writes, and how it ends, if the bytes of the packets are messages of the cases, the last of which may be cut. Of others this reader does
+    not know whether they are messages: None."""
     size = len(given.data)
     pieces = [given.data[it : it + MESSAGE] for it in range(0, size, MESSAGE)]
     if not all(any(whole.startswith(it) for whole in MESSAGES) for it in pieces):
@@ -203,8 +203,8 @@ def checked(given):
 
 def is_checked(program, data):
     """Whether `check` finds in a file what the reader does."""
-    ran = subprocess.run([program, "check"], input=data, capture_output=True)
-    return (checked(read(data)) or (ran.stdout, ran.stderr, 1)) == (ran.stdout, ran.stderr, ran.returncode)
+    ran, wanted = subprocess.run([program, "check"], input=data, capture_output=True), checked(read(data))
+    return (ran.stdout, ran.stderr, ran.returncode) == wanted if wanted else ran.returncode in (0, 1)
 
 
 def main(program=None):
