@@ -2,11 +2,10 @@
 use Rattle.std.proofs.Common.{◌≡◌, ℕ, zero, suc, ◌+◌, List, false, true, length, take, drop, Option, None, Some, IfSome, refl, sym, ap, ◌∙◌}
 use Rattle.std.proofs.Common.{subst, zero-add, add-one, [], ◌∷◌, ◌++◌, append_assoc, append-nil}
 use Rattle.std.proofs.lemmas.List.{drop_at, take_at}
-use Rattle.std.specs.List.{flat_map}
 use Rattle.std.proofs.lemmas.List.Concat.{flat_map-append}
-use Rattle.dbus_texts.specs.Types.{TypeTree, TypeTrees, VariantType, ArrayType, StructType, EntryType, NoTypes, MoreTypes, IsShaped}
+use Rattle.dbus_texts.specs.Types.{TypeTree, TypeTrees, EntryType, NoTypes, MoreTypes, IsShaped}
 use Rattle.dbus_texts.specs.Types.{AreShaped, sig, sigs}
-use Rattle.dbus_texts.specs.declared.text_kind.TextKind.TheVariants.{Signature, Single}
+use Rattle.dbus_texts.specs.declared.text_kind.TextKind.TheVariants.{Single}
 use Rattle.dbus_texts.proofs.KindFacts.{shaped_of, are_shaped_of}
 use Rattle.dbus_types.specs.Alignments.{alignment_of}
 use Rattle.dbus_types.specs.SignatureCodes.{IsTypeEnd}

@@ -1,7 +1,7 @@
 -- What is told of a fault are three lines.
-use Rattle.std.proofs.Common.{◌≡◌, ℕ, ◌-◌, List, [], ◌∷◌, ◌++◌, ◌||◌, ◌&&◌, nat_eq, nat_lt, take, drop, codes, decimal, refl, sym, ap, ◌∙◌}
+use Rattle.std.proofs.Common.{◌≡◌, ℕ, zero, suc, ◌-◌, List, [], ◌∷◌, ◌++◌, replicate, chars, IsUtf8, ◌&&◌, nat_eq, nat_lt, take, drop, codes, decimal, refl, sym, ap, ◌∙◌}
 use Rattle.std.proofs.Common.{append_assoc, append-nil, false, ◌≤◌, ◌<◌, ◌+◌, length, get_or, min, ap₂, subst, arith}
-use Rattle.std.specs.List.{All, flat_map}
+use Rattle.std.specs.List.{flat_map}
 use Rattle.std.proofs.lemmas.List.Elements.{All-nil, All-cons}
 use Rattle.std.proofs.Math.Nat.{min_comm}
 use Rattle.std.proofs.lemmas.List.{take_min, take_more, take_rest}
@@ -10,11 +10,13 @@ use Rattle.hex.specs.Hex.{encode_lower}
 use Rattle.dbus_value_model.specs.declared.fault.Reason.{Reason}
 use Rattle.dbus_show.specs.ShownMessages.{line_feeds, field_name}
 use Rattle.dbus_show.specs.ShownValues.{quoted}
-use Rattle.dbus_show.specs.declared.escapes.Escapes.TheVariants.{Shown}
 use Rattle.dbus_show.proofs.LineFeeds.{IsOneLine, line_literal, line_append, line_either, line_flat, line_decimal, line_hex, line_quoted}
 use Rattle.dbus_value_model.specs.declared.fault.Reason.TheVariants.{FieldMissing}
 use Rattle.dbus_show.proofs.FieldTexts.{then}
-use Rattle.dbus_explain.specs.Explained.{bytes_line, place_line, rule_line, blank_of, mark_line, quoted_line, AreLines, byte_text, marked}
+use Rattle.dbus_show.specs.Escapes.{escaped, visible}
+use Rattle.dbus_show.specs.declared.escapes.Escapes.TheVariants.{Shown}
+use Rattle.dbus_explain.proofs.VisibleLines.{line_visible}
+use Rattle.dbus_explain.specs.Explained.{IsMarkAt, bytes_line, place_line, rule_line, mark_line, quoted_line, AreLines, byte_text, marked}
 use Rattle.dbus_explain.specs.Explained.{window}
 use Rattle.dbus_explain.specs.Names.{IsFieldName, in_field, behind_fields, IsValueName, in_value, behind_values, IsNameOf, first, missing}
 use Rattle.dbus_explain.specs.Names.{field, padding, value, code_name, first_part, path_text, step_text, is_missing}
@@ -153,25 +155,24 @@ message_lines refused bytes reason at name rule is one =
     three (place_line refused at name) (bytes_line bytes at) (rule_line rule) _ (line_place refused bytes reason at name is)
     (line_bytes bytes at) (line_rule rule one) (message_text (place_line refused at name) (window bytes at) rule)
 
-line_mark : (text : List ℕ) (at : ℕ) → IsOneLine (mark_line text at)
-line_mark text at =
-    after_literal (codes "   ") (flat_map blank_of (take at text) ++ codes "^") refl
-    (line_append (flat_map blank_of (take at text)) (codes "^") (line_flat blank_of line_blank (take at text)) (literal (codes "^") refl))
-  where
-    line_blank : (b : ℕ) → IsOneLine (blank_of b)
-    line_blank b =
-        line_either (nat_eq b 34 || nat_eq b 92) _ _ (literal (codes "  ") refl)
-        (line_either (nat_lt b 32 || nat_eq b 127) _ _ (literal (codes "    ") refl)
-        (line_either (nat_lt 127 b && nat_lt b 192) [] (codes " ") (literal [] refl) (literal (codes " ") refl)))
+line_blanks : (n : ℕ) → IsOneLine (replicate n 32)
+line_blanks zero = literal [] refl
+line_blanks (suc n) = after_literal (codes " ") (replicate n 32) refl (line_blanks n)
 
-pub rule_lines : (text : List ℕ) (at : ℕ) (allowed : List ℕ) → line_feeds allowed ≡ 0
-    → AreLines (quoted_line text ∷ mark_line text at ∷ rule_line allowed ∷ [])
-    (codes "  " ++ (quoted text ++ (codes "\n" ++ (mark_line text at ++ (codes "\n  " ++ (allowed ++ codes "\n"))))))
-rule_lines text at allowed one =
-    three (quoted_line text) (mark_line text at) (rule_line allowed) _
-    (after_literal (codes "  ") (quoted text) refl (line_quoted Shown refl text)) (line_mark text at)
+line_mark : (front : List ℕ) → IsOneLine (mark_line front)
+line_mark front =
+    let n = length (chars (visible (escaped Shown front))) in
+    after_literal (codes "   ") (replicate n 32 ++ codes "^") refl (line_append (replicate n 32) (codes "^") (line_blanks n) (literal (codes "^") refl))
+
+pub rule_lines : (text : List ℕ) (at : ℕ) (mark allowed : List ℕ) → IsUtf8 (quoted text) → IsMarkAt text at mark → line_feeds allowed ≡ 0
+    → AreLines (quoted_line text ∷ mark ∷ rule_line allowed ∷ [])
+    (codes "  " ++ (visible (quoted text) ++ (codes "\n" ++ (mark ++ (codes "\n  " ++ (allowed ++ codes "\n"))))))
+rule_lines text at mark allowed is_text marked one =
+    three (quoted_line text) mark (rule_line allowed) _
+    (after_literal (codes "  ") (visible (quoted text)) refl (line_visible (quoted text) is_text (line_quoted Shown refl text)))
+    (subst IsOneLine (sym marked.line_is) (line_mark (take marked.n text)))
     (line_rule allowed one)
-    (rule_text (quoted text) (mark_line text at) allowed)
+    (rule_text (visible (quoted text)) mark allowed)
 
 -- Reasons that are no missing field.
 
@@ -210,7 +211,3 @@ window_is bytes front back at start n f b s e =
     let from : take n back ≡ take 8 (drop at bytes) = ap (λ k. take k back) (e ∙ min_comm (length back) 8)
     ∙ (take_min 8 back ∙ ap (take 8) b) in
     ap₂ (λ x y. flat_map byte_text x ++ marked y) before from
-
--- a place past a text's end is marked as the end is
-pub marked_within : (text : List ℕ) (at n : ℕ) → n ≡ min at (length text) → mark_line text n ≡ mark_line text at
-marked_within text at n e = ap (λ front. codes "   " ++ (flat_map blank_of front ++ codes "^")) (ap (λ k. take k text) e ∙ take_min at text)

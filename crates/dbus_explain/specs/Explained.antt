@@ -1,10 +1,12 @@
 -- The lines that explain why a message is refused. Which text says the rule is not stated.
-use Rattle.std.specs.Prelude.{◌≡◌, ℕ, List, ◌++◌, codes, ◌-◌, [], ◌∷◌, take, drop, length, decimal, min, ◌||◌, ◌&&◌, nat_eq, nat_lt, if◌then◌else◌}
+use Rattle.std.specs.Prelude.{◌≡◌, ℕ, ◌<◌, ◌≤◌, List, ◌++◌, codes, ◌-◌, [], ◌∷◌, take, drop, length, replicate, decimal, min, chars, IsCharBoundary}
 use Rattle.std.specs.List.{All, flat_map}
 use Rattle.dbus_show.specs.ShownMessages.{line_feeds}
 use Rattle.hex.specs.Hex.{encode_lower}
 use Rattle.dbus_value_model.specs.declared.fault.Fault.{Fault}
+use Rattle.dbus_show.specs.Escapes.{escaped, visible}
 use Rattle.dbus_show.specs.ShownValues.{quoted}
+use Rattle.dbus_show.specs.declared.escapes.Escapes.TheVariants.{Shown}
 use Rattle.dbus_explain.specs.Names.{IsNameOf}
 use Rattle.dbus_explain.specs.declared.message.Refused.{Refused}
 
@@ -57,24 +59,29 @@ pub record IsExplained (refused : Refused) (text : List ℕ) : Type 0 where
 -- The lines that explain why a match rule is refused. Which text says what may be there is not
 -- stated.
 
--- A blank for each character that shows a byte of a text: 34 is a quotation mark and 92 a
--- backslash, which stand after a backslash; the bytes below 32 and 127 stand as four characters. A
--- byte from 128 to 191 is within a character, which has its blank already.
-abbrev pub blank_of : ℕ → List ℕ
-blank_of b =
-    if nat_eq b 34 || nat_eq b 92 then codes "  "
-    else if nat_lt b 32 || nat_eq b 127 then codes "    "
-    else if nat_lt 127 b && nat_lt b 192 then [] else codes " "
+-- a blank for each character of a text
+abbrev pub blanks : List ℕ → List ℕ
+blanks text = replicate (length (chars text)) 32
 
--- the rule as a text is shown
+-- the rule as a text is shown, with hidden characters seen
 abbrev pub quoted_line : (text : List ℕ) → List ℕ
-quoted_line text = codes "  " ++ quoted text
+quoted_line text = codes "  " ++ visible (quoted text)
 
--- a mark under the character at the place
-abbrev pub mark_line : (text : List ℕ) → (at : ℕ) → List ℕ
-mark_line text at = codes "   " ++ (flat_map blank_of (take at text) ++ codes "^")
+-- a mark under the character behind a text, which is shown so
+abbrev pub mark_line : (front : List ℕ) → List ℕ
+mark_line front = codes "   " ++ (blanks (visible (escaped Shown front)) ++ codes "^")
+
+-- a mark under the character of a text in which the place is, or under the end
+pub record IsMarkAt (text : List ℕ) (at : ℕ) (line : List ℕ) : Type 0 where
+  pub n : ℕ
+  pub bound : n ≤ at
+  pub begins : IsCharBoundary text n
+  pub nearest : (i : ℕ) → n < i → i ≤ at → IsCharBoundary text i → ⊥
+  pub line_is : line ≡ mark_line (take n text)
 
 -- the rule, the mark, and a line of what may be there
 pub record IsExplainedRule (text : List ℕ) (at : ℕ) (explained : List ℕ) : Type 0 where
+  pub mark : List ℕ
+  pub marked_at : IsMarkAt text at mark
   pub allowed : List ℕ
-  pub lines : AreLines (quoted_line text ∷ mark_line text at ∷ rule_line allowed ∷ []) explained
+  pub lines : AreLines (quoted_line text ∷ mark ∷ rule_line allowed ∷ []) explained

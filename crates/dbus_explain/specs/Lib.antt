@@ -1,3 +1,5 @@
 pub mod Explained
 pub mod Places
 pub mod Names
+pub mod Blanking
+pub mod BlankingLaws

@@ -1,6 +1,6 @@
 -- In which value of a message a place is, by the values before it.
 -- D-Bus Specification, "Marshaling (Wire Format)", "Header Fields".
-use Rattle.std.specs.Prelude.{◌≡◌, ℕ, zero, suc, ◌+◌, ◌<◌, ◌≤◌, List, [], ◌∷◌, length, nat_eq, if◌then◌else◌, slice_index, take, drop, true}
+use Rattle.std.specs.Prelude.{◌≡◌, ℕ, zero, suc, ◌+◌, ◌<◌, List, [], ◌∷◌, length, nat_eq, if◌then◌else◌, slice_index, take, drop, true}
 use Rattle.dbus_texts.specs.Types.{TypeTree, TypeTrees, BYTE, NumberType, VariantType, ArrayType, StructType, EntryType, NoTypes, MoreTypes}
 use Rattle.dbus_texts.specs.Types.{sig, sigs, IsShaped}
 use Rattle.dbus_texts.specs.declared.text_kind.TextKind.{TextKind}

@@ -7,6 +7,7 @@
 //! They write to a `Draft`.
 #![tactic(auto)]
 
+mod blanks;
 mod message;
 mod path;
 mod places;

@@ -1,4 +1,4 @@
-use Rattle.std.proofs.Common.{◌++◌, ℕ, codes, min, subst}
+use Rattle.std.proofs.Common.{◌++◌, ℕ, codes, subst}
 use Rattle.dbus_show.proofs.FieldTexts.{then}
 use Rattle.dbus_explain.specs.Explained.{place_in, place_line, window}
 use Rattle.dbus_explain.specs.Names.{IsNameOf}

@@ -1,4 +1,4 @@
-use Rattle.std.proofs.Common.{rules, ◌≡◌, ℕ, ◌+◌, ◌<◌, length, refl, ap, subst, arith, slice_index_or}
+use Rattle.std.proofs.Common.{◌≡◌, ℕ, ◌+◌, ◌<◌, length, refl, ap, subst, arith, slice_index_or}
 use Rattle.dbus_value_model.specs.Bytes.{gap_to}
 use Rattle.dbus_explain.specs.Places.{field_type}
 use Rattle.dbus_explain.proofs.places.field_code.Goals as goal

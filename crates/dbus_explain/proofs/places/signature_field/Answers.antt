@@ -1,4 +1,4 @@
-use Rattle.std.proofs.Common.{rules, ◌≡◌, ℕ, ◌+◌, refl, ap, sym, ◌∙◌, subst, slice_index_or}
+use Rattle.std.proofs.Common.{◌≡◌, ℕ, ◌+◌, refl, ap, sym, ◌∙◌, subst, slice_index_or}
 use Rattle.dbus_value_model.specs.Bytes.{gap_to}
 use Rattle.dbus_texts.specs.declared.text_kind.TextKind.TheVariants.{Signature}
 use Rattle.dbus_explain.specs.Places.{IsTyped, field_type}

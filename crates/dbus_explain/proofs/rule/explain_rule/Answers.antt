@@ -1,8 +1,8 @@
-use Rattle.std.proofs.Common.{◌++◌, List, ℕ, codes, subst}
+use Rattle.std.proofs.Common.{◌++◌, codes}
+use Rattle.dbus_show.specs.Escapes.{visible}
 use Rattle.dbus_show.specs.ShownValues.{quoted}
 use Rattle.dbus_show.proofs.FieldTexts.{then}
-use Rattle.dbus_explain.specs.Explained.{mark_line}
-use Rattle.dbus_explain.proofs.ThreeLines.{marked_within, rule_lines}
+use Rattle.dbus_explain.proofs.ThreeLines.{rule_lines}
 use Rattle.dbus_explain.proofs.rule.explain_rule.Goals as goal
 
 pub returns : goal.returns
@@ -11,8 +11,8 @@ returns g c =
     let text = c.args.text.now in
     let gains = g.D.Draft.gains in
     let joins = g.met.D.Draft.joins in
-    let mark = subst (λ (line : List ℕ). gains c.push_str-2.new.self line c.write_mark.new.draft) (marked_within text c.args.at c.min-at.result c.min-at.ensures) c.write_mark.ensures in (
-      codes "  " ++ (quoted text ++ (codes "\n" ++ (mark_line text c.args.at ++ (codes "\n  " ++ (allowed ++ codes "\n"))))),
-      record { allowed = allowed; lines = rule_lines text c.args.at allowed c.allowed_at.ensures },
-      then gains joins c.push_str.ensures (then gains joins c.write_quoted.ensures (then gains joins c.push_str-2.ensures (then gains joins mark (then gains joins c.push_str-3.ensures (then gains joins c.push_str-4.ensures c.push_str-5.ensures))))),
+    let mark = c.write_mark.ensures in (
+      codes "  " ++ (visible (quoted text) ++ (codes "\n" ++ (mark.0 ++ (codes "\n  " ++ (allowed ++ codes "\n"))))),
+      record { mark = mark.0; marked_at = mark.1; allowed = allowed; lines = rule_lines text c.args.at mark.0 allowed c.write_rule.ensures.is_text mark.1 c.allowed_at.ensures },
+      then gains joins c.push_str.ensures (then gains joins c.write_rule.ensures.shown (then gains joins c.push_str-2.ensures (then gains joins mark.2 (then gains joins c.push_str-3.ensures (then gains joins c.push_str-4.ensures c.push_str-5.ensures))))),
     )

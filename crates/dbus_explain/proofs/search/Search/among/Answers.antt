@@ -1,4 +1,4 @@
-use Rattle.std.proofs.Common.{rules, ◌≡◌, ℕ, zero, suc, ◌+◌, List, length, sym, subst, arith, zero-add, add-zero, refl}
+use Rattle.std.proofs.Common.{◌≡◌, ℕ, suc, length, sym, subst, arith, zero-add, add-zero, refl}
 use Rattle.dbus_explain.specs.Places.{IsAmong}
 use Rattle.dbus_explain.proofs.Searching.{among_first, among_later, split_types}
 use Rattle.dbus_explain.proofs.search.Search.among.Goals as goal

@@ -1,7 +1,7 @@
-use Rattle.std.proofs.Common.{rules, ◌≡◌, ℕ, get_or, refl, sym, ◌∙◌, subst}
+use Rattle.std.proofs.Common.{ℕ, refl, sym, ◌∙◌, subst}
 use Rattle.dbus_texts.specs.Types.{ArrayType}
 use Rattle.dbus_types.proofs.TypeCodes.{code_is}
-use Rattle.dbus_explain.specs.Places.{Pass, first_element}
+use Rattle.dbus_explain.specs.Places.{Pass}
 use Rattle.dbus_explain.proofs.Searching.{element_at}
 use Rattle.dbus_explain.proofs.search.Search.element.Goals as goal
 
