@@ -26,6 +26,7 @@ COMMANDS = {
     "show": ("show",),
     "json": ("json",),
     "count": ("count",),
+    "calls": ("calls",),
 }
 # A method return in little endian, whose body is one array of 64,000,000 bytes.
 LONG_HEADER = (

@@ -184,12 +184,13 @@ class Run:
 
 
 def ask_failing(case, folder):
-    """A run of which each read, each write and each growth fails in turn, and which asks for so many growths at least."""
+    """A run of which each read and each write fails in turn; and each growth, if the case says how many it asks for at least."""
     _, words, column, status, first, second, least = case
     data, first, second = (read_parts(it, folder) for it in (column, first, second))
     run = Run(read_words(words), data, status, first, second)
     yield from run.ask_failing()
-    yield from run.ask_refused(int(least))
+    if least:
+        yield from run.ask_refused(int(least))
 
 
 def ask_copies(case, folder):

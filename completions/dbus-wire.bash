@@ -21,7 +21,7 @@ _dbus_wire_rule() {
 
 _dbus_wire() {
     local word=${COMP_WORDS[COMP_CWORD]} option=${COMP_WORDS[COMP_CWORD-1]}
-    local commands='show json check count swap filter handshake help'
+    local commands='show json check count calls swap filter handshake help'
     local options='--explain --max-message --max-array --max-depth --fds --handshake -h --help'
     COMPREPLY=()
     # A redirection names a file, which bash completes.
@@ -73,6 +73,9 @@ _dbus_wire() {
             ;;
         count)
             COMPREPLY=($(compgen -W "--json --keep-going $options" -- "$word"))
+            ;;
+        calls)
+            COMPREPLY=($(compgen -W "--json --unanswered --errors --keep-going $options" -- "$word"))
             ;;
         handshake)
             COMPREPLY=($(compgen -W '--side -h --help' -- "$word"))

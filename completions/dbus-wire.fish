@@ -14,20 +14,21 @@ function __dbus_wire_rule
     end
 end
 
-set -l commands show json check count swap filter handshake help
+set -l commands show json check count calls swap filter handshake help
 
 complete -c dbus-wire -n "not __fish_seen_subcommand_from $commands" -f
 complete -c dbus-wire -n "not __fish_seen_subcommand_from $commands" -a show -d 'Write each message as text'
 complete -c dbus-wire -n "not __fish_seen_subcommand_from $commands" -a json -d 'Write each message as a line of JSON'
 complete -c dbus-wire -n "not __fish_seen_subcommand_from $commands" -a check -d 'Say whether the whole input is messages'
 complete -c dbus-wire -n "not __fish_seen_subcommand_from $commands" -a count -d 'Count the messages of each type, sender, member and so on'
+complete -c dbus-wire -n "not __fish_seen_subcommand_from $commands" -a calls -d 'List the calls, and what came of each'
 complete -c dbus-wire -n "not __fish_seen_subcommand_from $commands" -a swap -d 'Write each message in another byte order'
 complete -c dbus-wire -n "not __fish_seen_subcommand_from $commands" -a filter -d 'Write the messages that match a rule'
 complete -c dbus-wire -n "not __fish_seen_subcommand_from $commands" -a handshake -d 'List the lines before the messages'
 complete -c dbus-wire -n "not __fish_seen_subcommand_from $commands" -a help -d 'Write the help'
 complete -c dbus-wire -s h -l help -f -d 'Write the help'
 complete -c dbus-wire -n "not __fish_seen_subcommand_from $commands" -s V -l version -f -d 'Write the version'
-complete -c dbus-wire -n '__fish_seen_subcommand_from help' -f -a 'show json check count swap filter handshake help'
+complete -c dbus-wire -n '__fish_seen_subcommand_from help' -f -a 'show json check count calls swap filter handshake help'
 complete -c dbus-wire -n '__fish_seen_subcommand_from swap' -l to -x -a 'l B' -d 'The byte order to write'
 complete -c dbus-wire -n '__fish_seen_subcommand_from handshake' -l side -x -a 'client server' -d 'Whose lines they are'
 complete -c dbus-wire -n '__fish_seen_subcommand_from filter' -l invert -f -d 'Write the messages that match no rule'
@@ -36,9 +37,12 @@ complete -c dbus-wire -n '__fish_seen_subcommand_from filter' -l learn-owners -f
 complete -c dbus-wire -n '__fish_seen_subcommand_from filter' -f -a '(__dbus_wire_rule)'
 complete -c dbus-wire -n '__fish_seen_subcommand_from show json filter' -l skip -x -d 'Messages to skip first'
 complete -c dbus-wire -n '__fish_seen_subcommand_from show json filter' -l limit -x -d 'Most messages to write'
-complete -c dbus-wire -n '__fish_seen_subcommand_from show json check count filter' -l keep-going -f -d 'Go on after a refused message'
+complete -c dbus-wire -n '__fish_seen_subcommand_from show json check count calls filter' -l keep-going -f -d 'Go on after a refused message'
 complete -c dbus-wire -n '__fish_seen_subcommand_from count' -l json -f -d 'Write each line of the tables as JSON'
-for command in show json check count swap filter
+complete -c dbus-wire -n '__fish_seen_subcommand_from calls' -l json -f -d 'Write each line as JSON'
+complete -c dbus-wire -n '__fish_seen_subcommand_from calls' -l unanswered -f -d 'List the calls without a reply'
+complete -c dbus-wire -n '__fish_seen_subcommand_from calls' -l errors -f -d 'List the calls that an error answered'
+for command in show json check count calls swap filter
     complete -c dbus-wire -n "__fish_seen_subcommand_from $command" -l explain -f -d 'Explain what is refused'
     complete -c dbus-wire -n "__fish_seen_subcommand_from $command" -l max-message -x -d 'Most bytes of a message'
     complete -c dbus-wire -n "__fish_seen_subcommand_from $command" -l max-array -x -d 'Most bytes of an array'

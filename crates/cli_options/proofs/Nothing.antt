@@ -10,7 +10,7 @@ use Rattle.cli_options.proofs.Numbers.{each_can}
 use Rattle.cli_options.specs.Told.{IsNoCommand, NamesNothing}
 use Rattle.dbus_handshake_input.specs.declared.side.Side.{Side}
 use Rattle.cli_options.specs.declared.asked.Asked.{Asked}
-use Rattle.cli_options.specs.declared.asked.Asked.TheVariants.{Messages, Count, Handshake}
+use Rattle.cli_options.specs.declared.asked.Asked.TheVariants.{Messages, Count, Calls, Handshake}
 use Rattle.cli_options.specs.declared.command.Command.{Command}
 use Rattle.cli_options.specs.declared.command.Command.TheVariants.{Show, Json, Check, Swap, Filter}
 use Rattle.cli_options.specs.declared.selection.Selection.{Selection}
@@ -21,17 +21,19 @@ module _ (sub : Text × List Row) (other : sub.0 ≡ codes "handshake" → ⊥) 
   unset : ((settings : Settings) → HasSettings sub.1 settings → ⊥) → (asked : Asked) → Names (Some sub) asked → ⊥
   unset none (Messages command settings) named = none settings named.1
   unset none (Count settings form) named = none settings named.1
+  unset none (Calls settings wanted) named = none settings named.1
   unset none (Handshake side) named = other named.0
 
   -- with options that name no settings
   pub unset_names_nothing : ((settings : Settings) → HasSettings sub.1 settings → ⊥) → NamesNothing (Some sub)
   unset_names_nothing none = record { none_asked = unset none; no_rule = λ refused found. none found.1.0 found.1.1 }
 
-  -- and than `count`
-  module _ (uncounted : sub.0 ≡ codes "count" → ⊥) where
+  -- and than `count` and `calls`
+  module _ (uncounted : sub.0 ≡ codes "count" → ⊥) (unlisted : sub.0 ≡ codes "calls" → ⊥) where
     unnamed : IsNoCommand sub.0 sub.1 → (asked : Asked) → Names (Some sub) asked → ⊥
     unnamed none (Messages command settings) named = none.no_command command named.0
     unnamed none (Count settings form) named = uncounted named.0
+    unnamed none (Calls settings wanted) named = unlisted named.0
     unnamed none (Handshake side) named = other named.0
 
     -- of a command, with words that name none
@@ -50,6 +52,7 @@ module _ (rows : List Row) (no_side : (side : Side) → first_of (codes "side") 
   unsided : (asked : Asked) → Names (Some (codes "handshake", rows)) asked → ⊥
   unsided (Messages command settings) named = no_messages command named.0
   unsided (Count settings form) named = let bad : ◌≡◌ {A = ℕ} 104 99 = ap (λ t. slice_index t 0) named.0 in absurd (omega arith)
+  unsided (Calls settings wanted) named = let bad : ◌≡◌ {A = ℕ} 104 99 = ap (λ t. slice_index t 0) named.0 in absurd (omega arith)
   unsided (Handshake side) named = no_side side named.1
 
   pub unsided_names_nothing : NamesNothing (Some (codes "handshake", rows))

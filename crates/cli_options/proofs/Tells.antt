@@ -118,13 +118,13 @@ told_without_settings sub (Usage text) other h = unset_names_nothing sub other h
 told_without_settings sub (Rule refused) other h = absurd h
 
 -- what is told of the words after a name, where they name settings
-pub told_under_settings : (sub : Text × List Row) (settings : Settings) (told : UsageFault) → (sub.0 ≡ codes "handshake" → ⊥) → (sub.0 ≡ codes "count" → ⊥) → HasSettings sub.1 settings → TellsCommand sub.0 sub.1 (Err told)
+pub told_under_settings : (sub : Text × List Row) (settings : Settings) (told : UsageFault) → (sub.0 ≡ codes "handshake" → ⊥) → (sub.0 ≡ codes "count" → ⊥) → (sub.0 ≡ codes "calls" → ⊥) → HasSettings sub.1 settings → TellsCommand sub.0 sub.1 (Err told)
     → Tells (Some sub) (Err told)
-told_under_settings sub settings Memory other uncounted given h = tt
-told_under_settings sub settings (Help text) other uncounted given h = h
-told_under_settings sub settings (Version text) other uncounted given h = h
-told_under_settings sub settings (Usage text) other uncounted given h = no_command_names_nothing sub other uncounted h
-told_under_settings sub settings (Rule refused) other uncounted given h = (h, (settings, given))
+told_under_settings sub settings Memory other uncounted unlisted given h = tt
+told_under_settings sub settings (Help text) other uncounted unlisted given h = h
+told_under_settings sub settings (Version text) other uncounted unlisted given h = h
+told_under_settings sub settings (Usage text) other uncounted unlisted given h = no_command_names_nothing sub other uncounted unlisted h
+told_under_settings sub settings (Rule refused) other uncounted unlisted given h = (h, (settings, given))
 
 pub named_of_matches : (words : List Text) (sub : Option (Text × List Row)) (answer : Result Asked UsageFault) → subcommand_of wire_app words ≡ sub
     → Tells sub answer → IfOk answer (IsNamedBy words)

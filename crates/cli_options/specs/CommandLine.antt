@@ -74,6 +74,9 @@ filter_app = with_window (with_rule (with_rule (with_rule (with_rule (new_app (c
 abbrev pub count_app : App
 count_app = with_keep_going (with_rule (new_app (codes "count")) (flag_rule (codes "json")))
 
+abbrev pub calls_app : App
+calls_app = with_keep_going (with_rule (with_rule (with_rule (new_app (codes "calls")) (flag_rule (codes "json"))) (flag_rule (codes "unanswered"))) (flag_rule (codes "errors")))
+
 abbrev pub handshake_app : App
 handshake_app = with_rule (new_app (codes "handshake")) (needed_rule (codes "side"))
 
@@ -81,13 +84,13 @@ handshake_app = with_rule (new_app (codes "handshake")) (needed_rule (codes "sid
 abbrev pub bare_app : App
 bare_app = on_top (λ s. record s { subcommand_required = true; has_version = true }) (new_app (codes "dbus-wire"))
 
--- the program, with its seven subcommands
+-- the program, with its eight subcommands
 abbrev pub wire_app : App
 wire_app = with_subcommand
     (with_subcommand
     (with_subcommand
-    (with_subcommand (with_subcommand (with_subcommand (with_subcommand bare_app show_app.top) json_app.top) check_app.top) count_app.top)
-    swap_app.top) filter_app.top) handshake_app.top
+    (with_subcommand (with_subcommand (with_subcommand (with_subcommand (with_subcommand bare_app show_app.top) json_app.top) check_app.top) count_app.top)
+    calls_app.top) swap_app.top) filter_app.top) handshake_app.top
 
 -- clap reads this of the argument, which no subcommand shares
 pub record IsArg (rule : Rule) (arg : Arg) : Type 0 where

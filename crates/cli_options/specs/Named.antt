@@ -18,12 +18,13 @@ use Rattle.cli_options.specs.CommandLine.{wire_app}
 use Rattle.cli_options.specs.Limiting.{HasLimits, HasWindow}
 use Rattle.cli_options.specs.Owners.{AreOwnersOf, IsOwnerWord}
 use Rattle.cli_options.specs.declared.asked.Asked.{Asked}
-use Rattle.cli_options.specs.declared.asked.Asked.TheVariants.{Messages, Count, Handshake}
+use Rattle.cli_options.specs.declared.asked.Asked.TheVariants.{Messages, Count, Calls, Handshake}
 use Rattle.cli_options.specs.declared.command.Command.{Command}
 use Rattle.cli_options.specs.declared.command.Command.TheVariants.{Show, Json, Check, Swap, Filter}
 use Rattle.cli_options.specs.declared.selection.Selection.{Selection}
 use Rattle.cli_options.specs.declared.settings.Settings.{Settings}
 use Rattle.cli_options.specs.declared.usage_fault.RefusedRule.{RefusedRule}
+use Rattle.cli_options.specs.declared.wanted_calls.WantedCalls.{WantedCalls}
 
 -- the word that stands for a byte order
 abbrev pub order_word : Order → Text
@@ -93,12 +94,19 @@ pub record HasSettings (rows : List Row) (settings : Settings) : Type 0 where
 abbrev pub HasForm : List Row → CountForm → Type 0
 HasForm rows form = (form ≡ written.Json) ↔ IsGiven (codes "json") rows
 
+-- what `calls` is to list has each flag that is given
+pub record HasWanted (rows : List Row) (wanted : WantedCalls) : Type 0 where
+  pub as_json : (wanted.as_json ≡ true) ↔ IsGiven (codes "json") rows
+  pub unanswered : (wanted.unanswered ≡ true) ↔ IsGiven (codes "unanswered") rows
+  pub errors : (wanted.errors ≡ true) ↔ IsGiven (codes "errors") rows
+
 -- the subcommand and the words after it name a command and its settings, the settings and the form
--- of `count`, or the side whose handshake is listed
+-- of `count`, the settings of `calls` and what it lists, or the side whose handshake is listed
 abbrev pub Names : Option (Text × List Row) → Asked → Type 0
 Names None asked = ⊥
 Names (Some sub) (Messages command settings) = NamesCommand sub.0 sub.1 command × HasSettings sub.1 settings
 Names (Some sub) (Count settings form) = (sub.0 ≡ codes "count") × HasSettings sub.1 settings × HasForm sub.1 form
+Names (Some sub) (Calls settings wanted) = (sub.0 ≡ codes "calls") × HasSettings sub.1 settings × HasWanted sub.1 wanted
 Names (Some sub) (Handshake side) = (sub.0 ≡ codes "handshake") × (first_of (codes "side") sub.1 ≡ Some (side_word side))
 
 -- it is what the words name

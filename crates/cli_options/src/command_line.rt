@@ -1,7 +1,7 @@
 //! The command that the words of a command line name.
 ghost use Rattle.std.specs.Prelude.{◌≡◌, ◌↔◌, true, List, Some, IfOk, MatchOption, map, string_bytes, codes};
 ghost use Rattle.clap.specs.Words.{found_of, kind_of, rows_of, subcommand_rows_of};
-ghost use Rattle.cli_options.specs.Named.{HasForm, HasSettings, HasSide, IsGiven, IsNamedBy, IsOrderOf, IsSideOf, words_of};
+ghost use Rattle.cli_options.specs.Named.{HasForm, HasSettings, HasSide, HasWanted, IsGiven, IsNamedBy, IsOrderOf, IsSideOf, words_of};
 ghost use Rattle.cli_options.specs.Limiting.{TellsNamed};
 ghost use Rattle.cli_options.specs.Told.{TellsKind, Tells, TellsCommand, TellsFault, TellsOwners};
 
@@ -14,6 +14,7 @@ use crate::rules::rules_spelled;
 use crate::selection::Selection;
 use crate::settings::Settings;
 use crate::usage_fault::{UsageFault, bad_value, usage};
+use crate::wanted_calls::WantedCalls;
 use crate::wire::wire;
 use clap::ArgMatches;
 use clap::error::ErrorKind;
@@ -27,9 +28,10 @@ use std::alloc::Global;
 /// `--max-array`, in bytes, `--max-depth`, in open containers, and `--fds`, a rule on indexes of
 /// descriptors, name the limits; one that they do not name is that of the specification. The flags
 /// `--explain`, and `--keep-going` of all commands but `swap`, are set if they are among the words,
-/// and `--json` of `count` is its form. `--handshake` names the side whose handshake comes before
-/// the messages. `--skip` and `--limit`, of `show`, `json` and `filter`, are the numbers of the
-/// window; without them it leaves no message out.
+/// and `--json` of `count` is its form.
+/// `--json`, `--unanswered` and `--errors` of `calls` say what it lists. `--handshake` names the
+/// side whose handshake comes before the messages. `--skip` and `--limit`, of `show`, `json` and
+/// `filter`, are the numbers of the window; without them it leaves no message out.
 ///
 /// `Usage`: the words name no command of the program, or have what it does not take, a limit over
 /// that of the specification, a number of messages over 4294967295 and an owner that is no
@@ -66,6 +68,9 @@ fn command_named(alloc: Global, matches: &ArgMatches) -> Result<Asked, UsageFaul
     if name == "count" {
         return Ok(Asked::Count(settings, form_named(inner)));
     }
+    if name == "calls" {
+        return Ok(Asked::Calls(settings, wanted_named(inner)));
+    }
     let command = command_with(alloc, name, inner)?;
     Ok(Asked::Messages(command, settings))
 }
@@ -91,6 +96,17 @@ fn form_named(inner: &ArgMatches) -> CountForm
         CountForm::Json
     } else {
         CountForm::Text
+    }
+}
+
+// What `calls` is to list.
+fn wanted_named(inner: &ArgMatches) -> WantedCalls
+    ensures { HasWanted (rows_of (found_of inner.now)) result }
+{
+    WantedCalls {
+        as_json: is_given(inner, "json"),
+        unanswered: is_given(inner, "unanswered"),
+        errors: is_given(inner, "errors"),
     }
 }
 

@@ -143,6 +143,41 @@ pub(crate) const COUNT_MORE: &str = more!(
 /// What `--json` of `count` does.
 pub(crate) const COUNT_JSON: &str = "Writes each line of the tables as JSON";
 
+/// What `calls` does.
+pub(crate) const CALLS: &str = "Lists the calls, and what came of each";
+
+/// How `calls` is called.
+pub(crate) const CALLS_USAGE: &str = "dbus-wire calls [OPTIONS] < FILE";
+
+/// What follows the help of `calls`.
+pub(crate) const CALLS_MORE: &str = more!(
+    going "
+  For each method call a line on standard output,
+  `NUMBER SENDER > DESTINATION MEMBER OUTCOME`, once it is known what came of it:
+  `reply #N`, `error #N NAME`, `no reply wanted`, `no reply: the caller left` or
+  `no reply: its serial was used again`; and at the end of the input `no reply`
+  for each call that waits. `-` is in place of what a call does not say. With
+  --unanswered or --errors only calls of these outcomes are listed, with both
+  those of both. If the input is refused, `refused at P: NAME` on standard error,
+  and then the calls that wait there are listed. Memory is allocated for calls
+  that wait.
+
+  A reply answers the call of its serial, if its sender is the call's
+  destination or the bus, or if that destination is a well-known name. Calls
+  from before the capture are not seen, and their replies are not listed.",
+    "
+  dbus-wire calls --unanswered < capture"
+);
+
+/// What `--json` of `calls` does.
+pub(crate) const CALLS_JSON: &str = "Writes each line as JSON";
+
+/// What `--unanswered` of `calls` does.
+pub(crate) const UNANSWERED: &str = "Lists the calls that want a reply and have none";
+
+/// What `--errors` of `calls` does.
+pub(crate) const ERRORS: &str = "Lists the calls that an error answered";
+
 /// What `swap` does.
 pub(crate) const SWAP: &str = "Writes each message in one byte order";
 
@@ -201,7 +236,7 @@ pub(crate) const LEARN_OWNERS: &str = "Learns owners from the bus's signals, fro
 /// What `--explain` does.
 pub(crate) const EXPLAIN: &str = "Explains what is refused, in three more lines";
 
-/// What `--keep-going` of `show`, `json`, `check` and `filter` does.
+/// What `--keep-going` of all commands but `swap` does.
 pub(crate) const KEEP_GOING: &str = "Goes on after a refused message";
 
 /// How many messages are skipped.

@@ -19,6 +19,7 @@ mod selection;
 mod settings;
 mod unowned;
 mod usage_fault;
+mod wanted_calls;
 mod window;
 mod wire;
 
@@ -30,4 +31,5 @@ pub use form::CountForm;
 pub use selection::Selection;
 pub use settings::Settings;
 pub use usage_fault::{RefusedRule, UsageFault};
+pub use wanted_calls::WantedCalls;
 pub use window::Window;

@@ -2,7 +2,7 @@
 ghost use Rattle.std.specs.Prelude.{◌≡◌, IfOk, pos};
 ghost use Rattle.clap.specs.Words.{App, Rule, app_of, new_app, with_rule, with_subcommand};
 ghost use Rattle.clap.specs.declared.builder.value_parser.ValueParser.TheVariants.{Signed};
-ghost use Rattle.cli_options.specs.CommandLine.{IsArg, IsLocal, flag_rule, limit_rule, needed_rule, owner_rule, text_rule, word_rule, with_keep_going, with_options, with_window, wire_app, bare_app, show_app, json_app, check_app, count_app, swap_app, filter_app, handshake_app};
+ghost use Rattle.cli_options.specs.CommandLine.{IsArg, IsLocal, flag_rule, limit_rule, needed_rule, owner_rule, text_rule, word_rule, with_keep_going, with_options, with_window, wire_app, bare_app, show_app, json_app, check_app, count_app, calls_app, swap_app, filter_app, handshake_app};
 
 use crate::help;
 use clap::builder::ValueParser;
@@ -195,6 +195,23 @@ fn count_command<'a>(alloc: Global) -> Result<Command<'a>, AllocError>
     with_keep_going(alloc, formed)
 }
 
+// `calls`, with its flags.
+fn calls_command<'a>(alloc: Global) -> Result<Command<'a>, AllocError>
+    ensures { IfOk result (IsLocal calls_app) }
+{
+    let calls = bare(
+        alloc,
+        "calls",
+        help::CALLS,
+        help::CALLS_USAGE,
+        help::CALLS_MORE,
+    );
+    let formed = with_arg(calls, flag(alloc, "json", help::CALLS_JSON));
+    let waiting = with_arg(formed, flag(alloc, "unanswered", help::UNANSWERED));
+    let failing = with_arg(waiting, flag(alloc, "errors", help::ERRORS));
+    with_keep_going(alloc, failing)
+}
+
 // `swap`, with its order.
 fn swap_command<'a>(alloc: Global) -> Result<Command<'a>, AllocError>
     ensures { IfOk result (IsLocal swap_app) }
@@ -268,7 +285,8 @@ pub(crate) fn wire<'a>(alloc: Global) -> Result<Command<'a>, AllocError>
     let listing = with_command(showing, json_command(alloc));
     let checking = with_command(listing, check_command(alloc));
     let counting = with_command(checking, count_command(alloc));
-    let swapping = with_command(counting, swap_command(alloc));
+    let pairing = with_command(counting, calls_command(alloc));
+    let swapping = with_command(pairing, swap_command(alloc));
     let filtering = with_command(swapping, filter_command(alloc));
     with_command(filtering, handshake_command(alloc))
 }

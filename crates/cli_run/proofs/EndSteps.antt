@@ -33,6 +33,14 @@ pub stops_as : {t : Taken} {settings : Settings} {most : ℕ} {is_check : Bool} 
     → ((items : List Placed) (told : List ℕ) → P items told stop → Q items told stop) → StopsWithin t settings most is_check P stop → StopsWithin t settings most is_check Q stop
 stops_as f s = record { parts = s.parts; rest = s.rest; told = s.told; covers = s.covers; more = s.more; all = s.all; caused = s.caused; messages = s.messages; placed = s.placed; came = f _ _ s.came }
 
+-- what the first writer got, if nothing was gathered before
+pub got_first : {W : Type 0} (held : W → Option (List ℕ)) (failures : W → ℕ) (g : List ℕ) (w0 w1 : W) → g ≡ [] → (c : Bool) (stop : RunStop) (bytes : List ℕ) → LeavesFirst held failures c stop bytes g w0 w1
+    → GotFirst held failures c stop bytes w0 w1
+got_first held failures g w0 w1 none c (ByCause WriteFailed) bytes p = subst (λ (x : List ℕ). Breaks held failures bytes x w0 w1) none p
+got_first held failures g w0 w1 none c (ByCause cause) bytes p = passes_whole held failures bytes g [] w0 w1 none refl p
+got_first held failures g w0 w1 none true Untold bytes p = subst (λ (x : List ℕ). Breaks held failures bytes x w0 w1) none p
+got_first held failures g w0 w1 none false Untold bytes p = passes_whole held failures bytes g [] w0 w1 none refl p
+
 -- nothing is read for want of memory
 pub unread : {R W E : Type 0} (left : R → Option (List ℕ)) (calls read_failures : R → ℕ) (packets : R → Option Packets) (r : R) (held : W → Option (List ℕ)) (failures : W → ℕ) (w : W) (second_held : E → Option (List ℕ)) (second_failures : E → ℕ) (e0 e1 : E)
     (settings : Settings) (most : ℕ) (command : Command) (end : ExitStatus) → end ≡ status.Failed → Told second_held second_failures e0 e1 Memory
@@ -86,21 +94,12 @@ module _ {A W E : Type 0} (held : W → Option (List ℕ)) (failures : W → ℕ
     second = transport (λ i. Wrote second_held second_failures a.second.now (second_of (is_check (own i)) told) (second i)) h.tells;
   }
 
-  broken : (bytes : List ℕ) → Breaks held failures bytes (gathered_bytes a.gathered) a.first.now b.first.now → Breaks held failures bytes [] a.first.now b.first.now
-  broken bytes p = subst (λ (g : List ℕ). Breaks held failures bytes g a.first.now b.first.now) none p
-
-  first_as : (c : Bool) (stop : RunStop) (bytes : List ℕ) → LeavesFirst held failures c stop bytes (gathered_bytes a.gathered) a.first.now b.first.now → GotFirst held failures c stop bytes a.first.now b.first.now
-  first_as c (ByCause WriteFailed) bytes p = broken bytes p
-  first_as c (ByCause cause) bytes p = passes_whole held failures bytes (gathered_bytes a.gathered) [] a.first.now b.first.now none refl p
-  first_as true Untold bytes p = broken bytes p
-  first_as false Untold bytes p = passes_whole held failures bytes (gathered_bytes a.gathered) [] a.first.now b.first.now none refl p
-
   leaves_as : (stop : RunStop) (items : List Placed) (told : List ℕ) → LeavesWritten held failures second_held second_failures a b items told stop → WritesSome w e settings command items told stop
   leaves_as stop items told h = record {
     texts = h.texts;
     made = made_as items h.texts h.made;
     first = transport (λ i. GotFirst held failures (is_check (own i)) stop (first_of (is_check (own i)) (written (carried i).window h.texts) told) a.first.now (first i))
-        (first_as (is_check (command_of a.output)) stop _ h.leaves);
+        (got_first held failures (gathered_bytes a.gathered) a.first.now b.first.now none (is_check (command_of a.output)) stop _ h.leaves);
     second = transport (λ i. GotSecond second_held second_failures (is_check (own i)) stop (second_of (is_check (own i)) told) a.second.now (second i)) h.tells;
   }
 

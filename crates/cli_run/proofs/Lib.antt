@@ -14,4 +14,5 @@ pub mod EndSteps
 pub mod RunSteps
 pub mod SameParts
 pub mod SameOutputs
+pub mod CallSteps
 pub mod SameRuns

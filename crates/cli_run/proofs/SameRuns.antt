@@ -1,5 +1,5 @@
 -- Two runs that read the same input, and do not fail, end alike.
-use Rattle.std.proofs.Common.{◌≡◌, ℕ, ◌+◌, Bool, false, List, [], ◌∷◌, ◌++◌, length, drop, take, None, Some, Option, Ok, refl, sym, ap, ◌∙◌, subst, inl, inr, take-append-drop, ◌≢◌}
+use Rattle.std.proofs.Common.{◌≡◌, ℕ, ◌+◌, Bool, false, List, [], ◌∷◌, ◌++◌, length, drop, take, None, Some, Option, Result, Ok, Err, refl, sym, ap, ◌∙◌, subst, inl, inr, take-append-drop, ◌≢◌}
 use Rattle.std.proofs.Math.Path.{transport}
 use Rattle.std.specs.Io.KnownBytes.{Consumes, IsAtEnd}
 use Rattle.dbus_device.specs.Device.{Wrote}
@@ -10,16 +10,19 @@ use Rattle.dbus_value_model.specs.declared.fault.Fault.{Fault}
 use Rattle.dbus_value_model.specs.declared.limits.Limits.{Limits}
 use Rattle.dbus_count.specs.Counting.{Counting}
 use Rattle.dbus_count.specs.Tables.{AreTables, words, OneTable}
-use Rattle.dbus_count.specs.declared.form.Form.{Form}
+use Rattle.dbus_call_lines.specs.Listing.{AreListed, Numbered, rows_text}
+use Rattle.dbus_call_lines.proofs.Rows.{one_list}
 use Rattle.dbus_stream.specs.Cut.{IsOutcome, BeginWith, CutMessage, CutOutcome, Refused, IsCut}
 use Rattle.dbus_stream.specs.CutEnds.{fault_at_end, sizes}
 use Rattle.dbus_stream.proofs.CutLaws.{IsCut-one, BeginWith-more}
 use Rattle.cli_options.specs.declared.settings.Settings.{Settings}
 use Rattle.cli_report.specs.Devices.{Taken, Writing, taken, writing}
+use Rattle.cli_report.specs.declared.ending.Cause.{Cause}
 use Rattle.cli_report.specs.declared.ending.ExitStatus.{ExitStatus}
 use Rattle.cli_report.specs.declared.ending.ExitStatus.TheVariants as status
-use Rattle.cli_run.specs.Laws.{ExplainsNone, OneCount, OneRun, OneWithin}
-use Rattle.cli_run.specs.ByName.{EndsCount, WritesTables, counting}
+use Rattle.cli_run.specs.Laws.{ExplainsNone, OneCalls, OneCount, OneRun, OneWithin}
+use Rattle.cli_run.specs.ByName.{EndsBy, WritesTables, counting}
+use Rattle.cli_run.specs.CallListing.{WritesCalls, numbered}
 use Rattle.cli_run.specs.Going.{GoesThrough, IsThrough, IsToldLast, closing_line, passed_count, status_at, tally_of}
 use Rattle.cli_run.specs.Inputs.{ArePlaced, BeginWithParts, Part, Placed, size_of, sizes_of, wholes}
 use Rattle.cli_run.specs.Output.{is_check, check_line, fault_line, last_line, second_output, status_of, written}
@@ -27,7 +30,7 @@ use Rattle.cli_run.specs.Running.{Writes, TellsLine}
 use Rattle.cli_run.specs.Told.{first_of, second_of}
 use Rattle.cli_run.specs.declared.tally.Tally.{Tally}
 use Rattle.cli_run.proofs.PartLaws.{is_last, parts_more, parts_of}
-use Rattle.cli_run.proofs.SameOutputs.{acts_as, are_passed, bare_placed, bare_tally, none_last, none_refused, none_told, one_placed, same_counts, same_last, same_outputs, same_told}
+use Rattle.cli_run.proofs.SameOutputs.{acts_as, are_passed, bare_placed, bare_tally, none_last, none_refused, none_told, one_placed, same_counts, same_last, same_numbers, same_outputs, same_told}
 use Rattle.cli_run.proofs.SameParts.{AreSame, EndsHere, bare, ends_here, same_parts}
 use Rattle.std.specs.List.{concat}
 
@@ -157,25 +160,28 @@ one_run R S W V E F r s w v e f settings most more command copy end other same i
   | inr gave_up ↦ absurd (is.done gave_up.failed)
 ]
 
--- the tables were written
-ended : {W E : Type 0} (w : Writing W) (e : Writing E) (form : Form) (c : Counting) (due end : ExitStatus) → (end ≡ status.Failed → ⊥) → EndsCount w e form c due end
-    → WritesTables w form c (Ok tt) × (e.new ≡ e.old) × (end ≡ due)
-ended w e form c due end done ends = elim ends [ inl all ↦ all | inr some ↦ absurd (done some.3) ]
+-- what is due was written
+ended : {E : Type 0} (Writes : Result (Unit {0}) Cause → Type 0) (e : Writing E) (due end : ExitStatus) → (end ≡ status.Failed → ⊥) → EndsBy Writes e due end → Writes (Ok tt) × (e.new ≡ e.old) × (end ≡ due)
+ended Writes e due end done ends = elim ends [ inl all ↦ all | inr some ↦ absurd (done some.3) ]
+
+-- nothing is explained, also by the status that was due
+due_explains : (settings : Settings) (due end : ExitStatus) → end ≡ due → ExplainsNone settings end → ExplainsNone settings due
+due_explains settings due end is none = elim none [ inl off ↦ inl off | inr all ↦ inr (sym is ∙ all) ]
 
 pub one_count : (R S W V E F : Type 0) → OneTable → OneCount R S W V E F
 one_count R S W V E F one_table r s w v e f settings form most more end other is counts counted = elim counts [
   | inl g ↦ elim counted [
     | inl h ↦ (
         let input = is.input in
-        let due = (ended w (writing e.held e.failures g.before e.new) form _ g.due end is.done g.through.came.1).2 in
-        let explains : ExplainsNone settings g.due = elim is.explains [ inl off ↦ inl off | inr all ↦ inr (sym due ∙ all) ] in
+        let due = (ended (WritesTables w form _) (writing e.held e.failures g.before e.new) g.due end is.done g.through.came.1).2 in
+        let explains = due_explains settings g.due end due is.explains in
         let all = goes_alike settings false input.0 input.1 g.through h.through explains input.2 input.3 in
         let told = all.0 in
         let items = g.through.messages in
         let also = h.through.messages in
         let counts_too = λ (name : List ℕ). same_counts (s.packets s.old) (r.packets r.old) 1 0 all.4 also items name None all.6 all.5 in
-        let one = ended w (writing e.held e.failures g.before e.new) form (counting items) g.due end is.done all.1.1 in
-        let too = ended v (writing f.held f.failures h.before f.new) form (counting also) h.due other is.other_done all.2.1 in
+        let one = ended (WritesTables w form (counting items)) (writing e.held e.failures g.before e.new) g.due end is.done all.1.1 in
+        let too = ended (WritesTables v form (counting also)) (writing f.held f.failures h.before f.new) h.due other is.other_done all.2.1 in
         let same = subst (λ (c : Counting). AreTables form c words too.0.0) (λ i name. counts_too name i) too.0.1 in
         let table = one_table form (counting items) words one.0.0 too.0.0 one.0.1 same in
         record {
@@ -191,6 +197,36 @@ one_count R S W V E F one_table r s w v e f settings form most more end other is
     | inr gave_up ↦ absurd (is.other_done gave_up.0.failed)
   ]
   | inr gave_up ↦ absurd (is.done gave_up.0.failed)
+]
+
+pub one_calls : (R S W V E F : Type 0) → OneCalls R S W V E F
+one_calls R S W V E F r s w v e f settings wanted most more end other is lists listed = elim lists [
+  | inl g ↦ elim listed [
+    | inl h ↦ (
+        let input = is.input in
+        let items = g.through.messages in
+        let also = h.through.messages in
+        let due = (ended (WritesCalls w wanted items) (writing e.held e.failures g.before e.new) g.due end is.done g.through.came.1).2 in
+        let explains = due_explains settings g.due end due is.explains in
+        let all = goes_alike settings false input.0 input.1 g.through h.through explains input.2 input.3 in
+        let told = all.0 in
+        let one = ended (WritesCalls w wanted items) (writing e.held e.failures g.before e.new) g.due end is.done all.1.1 in
+        let too = ended (WritesCalls v wanted also) (writing f.held f.failures h.before f.new) h.due other is.other_done all.2.1 in
+        let listed_too = subst (λ (l : List Numbered). AreListed [] l too.0.0) (same_numbers (s.packets s.old) (r.packets r.old) 1 0 all.4 also items all.6 all.5) too.0.1 in
+        let text : rows_text wanted one.0.0 ≡ rows_text wanted too.0.0 = ap (rows_text wanted) (one_list (numbered items) one.0.0 too.0.0 one.0.1 listed_too) in
+        record {
+          status_is = too.2 ∙ (all.3 ∙ sym one.2);
+          first = (rows_text wanted one.0.0, one.0.2, subst (λ l. Wrote v.held v.failures v.old l v.new) (sym text) too.0.2);
+          second = (
+            told,
+            subst (λ (x : E). Wrote e.held e.failures e.old told x) (sym one.1) all.1.0,
+            subst (λ (x : F). Wrote f.held f.failures f.old told x) (sym too.1) all.2.0,
+          );
+        }
+        )
+    | inr gave_up ↦ absurd (is.other_done gave_up.failed)
+  ]
+  | inr gave_up ↦ absurd (is.done gave_up.failed)
 ]
 
 -- ---- runs under limits alone

@@ -60,10 +60,14 @@ WritesTables w form c (Err Memory) = w.new ≡ w.old
 WritesTables w form c (Err WriteFailed) = (text : List ℕ) × AreTables form c words text × (n : ℕ) × Stopped w.held w.failures w.old text n w.new
 WritesTables w form c (Err cause) = ⊥
 
--- the tables were written, and this is how the run ends; or they were not, which was told
+-- what is due at the end was written, and this is how the run ends; or it was not, which was told
+abbrev pub EndsBy : {E : Type 0} → (Writes : Result (Unit {0}) Cause → Type 0) → Writing E → (due end : ExitStatus) → Type 0
+EndsBy Writes e due end = (Writes (Ok tt) × (e.new ≡ e.old) × (end ≡ due))
+    ⊎ ((cause : Cause) × Writes (Err cause) × Told e.held e.failures e.old e.new cause × (end ≡ status.Failed))
+
+-- of the tables
 abbrev pub EndsCount : {W E : Type 0} → Writing W → Writing E → Form → Counting → (due end : ExitStatus) → Type 0
-EndsCount w e form c due end = (WritesTables w form c (Ok tt) × (e.new ≡ e.old) × (end ≡ due))
-    ⊎ ((cause : Cause) × WritesTables w form c (Err cause) × Told e.held e.failures e.old e.new cause × (end ≡ status.Failed))
+EndsCount w e form c due end = EndsBy (WritesTables w form c) e due end
 
 -- all was told, and then the tables of all messages were written
 pub record CountsThrough {R W E : Type 0} (r : Reading R) (w : Writing W) (e : Writing E) (settings : Settings) (form : Form) (most : ℕ) (end : ExitStatus) : Type 0 where

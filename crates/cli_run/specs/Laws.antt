@@ -19,7 +19,9 @@ use Rattle.cli_options.specs.Selections.{AreSameCommand}
 use Rattle.cli_report.specs.declared.ending.ExitStatus.TheVariants as status
 use Rattle.cli_run.specs.Running.{Runs, RunsWith, Writes}
 use Rattle.cli_run.specs.Output.{IsExact, IsFirstOutput, IsFront}
+use Rattle.dbus_call_lines.specs.declared.wanted.Wanted.{Wanted}
 use Rattle.cli_run.specs.ByName.{CountsByName}
+use Rattle.cli_run.specs.CallListing.{ListsCalls}
 use Rattle.cli_run.specs.Inputs.{Placed}
 
 -- of each list of messages, and a fault after them or none, the command has an output, whatever the
@@ -104,3 +106,8 @@ OneWithin R S W V E F = (r : Reading R) (s : Reading S) (w : Writing W) (v : Wri
 abbrev pub OneCount : (R S W V E F : Type 0) → Type 0
 OneCount R S W V E F = (r : Reading R) (s : Reading S) (w : Writing W) (v : Writing V) (e : Writing E) (f : Writing F) (settings : Settings) (form : Form) (most more : ℕ) (end other : ExitStatus)
     → AreOfOneInput r s settings end other → CountsByName r w e settings form most end → CountsByName s v f settings form more other → EndAlike w v e f end other
+
+-- two runs that list calls
+abbrev pub OneCalls : (R S W V E F : Type 0) → Type 0
+OneCalls R S W V E F = (r : Reading R) (s : Reading S) (w : Writing W) (v : Writing V) (e : Writing E) (f : Writing F) (settings : Settings) (wanted : Wanted) (most more : ℕ) (end other : ExitStatus)
+    → AreOfOneInput r s settings end other → ListsCalls r w e settings wanted most end → ListsCalls s v f settings wanted more other → EndAlike w v e f end other

@@ -10,5 +10,7 @@ pub mod Handing
 pub mod Onward
 pub mod Going
 pub mod Running
+pub mod CallListing
 pub mod VisitorLaws
+pub mod CallLaws
 pub mod Laws

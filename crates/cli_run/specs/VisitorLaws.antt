@@ -181,7 +181,7 @@ module _ {W : Type 0} (held : W → Option (List ℕ)) (failures : W → ℕ) wh
   leaves_both WriteFailed a b g0 g1 w0 w1 w2 p q = breaks_after held failures a b g0 g1 w0 w1 w2 p q
   leaves_both cause a b g0 g1 w0 w1 w2 p q = passes_both held failures a b g0 g1 [] w0 w1 w2 p q
 
-  first_after : (is_check : Bool) (stop : RunStop) (a b g0 g1 : List ℕ) (w0 w1 w2 : W) → Passes held failures a g0 g1 w0 w1 → LeavesFirst held failures is_check stop b g1 w1 w2
+  pub first_after : (is_check : Bool) (stop : RunStop) (a b g0 g1 : List ℕ) (w0 w1 w2 : W) → Passes held failures a g0 g1 w0 w1 → LeavesFirst held failures is_check stop b g1 w1 w2
       → LeavesFirst held failures is_check stop (a ++ b) g0 w0 w2
   first_after is_check (ByCause cause) a b g0 g1 w0 w1 w2 p q = leaves_both cause a b g0 g1 w0 w1 w2 p q
   first_after true Untold a b g0 g1 w0 w1 w2 p q = breaks_after held failures a b g0 g1 w0 w1 w2 p q

@@ -2,7 +2,7 @@
 //! and it does nothing when it runs.
 #![tactic(auto)]
 
-ghost use Rattle.cli_run.specs.Laws.{OneCount, OneRun, OneWithin, OneFront, OneOutput, PlainRuns, SomeOutput};
+ghost use Rattle.cli_run.specs.Laws.{OneCalls, OneCount, OneRun, OneWithin, OneFront, OneOutput, PlainRuns, SomeOutput};
 
 use dbus_count::laws::one_table;
 use dbus_stream::{Sink, Source};
@@ -50,3 +50,8 @@ pub fn one_count<R, S, W, V, E, F>()
 {
     one_table();
 }
+
+/// The same of two runs that list calls.
+pub fn one_calls<R, S, W, V, E, F>()
+    ensures { OneCalls R S W V E F }
+{}

@@ -1,11 +1,13 @@
 //! The commands of the program `dbus-wire` over messages, with any reader and two writers.
 //!
 //! [`run_within`] runs a command under limits, with at most a given number of reads, [`run_with`]
-//! by settings, and [`count_by_name`] counts messages by their names. Each returns the exit status.
-//! `specs/` states what a command writes: of all but `Json` it is a function of what it reads.
+//! by settings, [`count_by_name`] counts messages by their names, and [`list_calls`] lists their
+//! calls. Each returns the exit status. `specs/` states what a command writes: of all but `Json` it
+//! is a function of what it reads.
 #![tactic(auto)]
 
 mod by_name;
+mod call_listing;
 mod closing;
 mod counted;
 mod counting;
@@ -26,4 +28,5 @@ mod visitor;
 mod window;
 
 pub use by_name::count_by_name;
+pub use call_listing::list_calls;
 pub use running::{run, run_reads, run_with, run_within};

@@ -90,9 +90,9 @@ impl<A: Allocator + Copy, W: Sink, E: Sink> MessageVisitor for OutputWriter<'_, 
     ghost adds_up = { output_adds_up W.held W.failures E.held E.failures };
 }
 
-// Why a run fails that fails by this cause. If memory ran out, what is gathered is written first,
-// and if that write fails, the run fails by it.
-fn fail_by<W: Sink>(cause: Cause, gathered: &mut OutputBuffer, first: &mut W) -> Cause
+/// Why a run fails that fails by this cause. If memory ran out, what is gathered is written first,
+/// and if that write fails, the run fails by it.
+pub(crate) fn fail_by<W: Sink>(cause: Cause, gathered: &mut OutputBuffer, first: &mut W) -> Cause
     ensures { FailsBy W.held W.failures cause (gathered_bytes gathered.old)
         (gathered_bytes gathered.new)
         first.old first.new result }

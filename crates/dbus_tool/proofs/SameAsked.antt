@@ -23,17 +23,18 @@ use Rattle.dbus_match.specs.Matching.{Ownership, ownership, ownerships}
 use Rattle.dbus_rule.specs.RuleViews.{rule_pairs}
 use Rattle.cli_options.specs.CommandLine.{wire_app}
 use Rattle.cli_options.specs.Limiting.{HasLimits, HasWindow, IsGivenNumber, IsNumberOf, IsRuleOf, fds_word}
-use Rattle.cli_options.specs.Named.{AreRulesOf, HasSettings, IsNamedBy, IsSelectionGiven, Names, NamesCommand, order_word, side_word, words_of}
+use Rattle.cli_options.specs.Named.{AreRulesOf, HasSettings, HasWanted, IsNamedBy, IsSelectionGiven, Names, NamesCommand, order_word, side_word, words_of}
 use Rattle.cli_options.specs.Owners.{AreOwnersOf, IsOwnerWord}
 use Rattle.cli_options.specs.Selections.{AreSameCommand, AreSameSelection}
 use Rattle.cli_options.specs.declared.asked.Asked.{Asked}
-use Rattle.cli_options.specs.declared.asked.Asked.TheVariants.{Messages, Count, Handshake}
+use Rattle.cli_options.specs.declared.asked.Asked.TheVariants.{Messages, Count, Calls, Handshake}
 use Rattle.cli_options.specs.declared.command.Command.{Command}
 use Rattle.cli_options.specs.declared.command.Command.TheVariants.{Show, Json, Check, Swap, Filter}
 use Rattle.cli_options.specs.declared.form.CountForm.{CountForm}
 use Rattle.cli_options.specs.declared.form.CountForm.TheVariants as written
 use Rattle.cli_options.specs.declared.selection.Selection.{Selection}
 use Rattle.cli_options.specs.declared.settings.Settings.{Settings}
+use Rattle.cli_options.specs.declared.wanted_calls.WantedCalls.{WantedCalls}
 use Rattle.cli_options.specs.declared.window.Window.{Window}
 use Rattle.dbus_handshake_input.specs.Heard.{HeardLine, Reads, heard}
 use Rattle.dbus_handshake_input.specs.declared.fault.HandshakeFault.{HandshakeFault}
@@ -53,6 +54,7 @@ use Rattle.dbus_tool.specs.Handshaking.{GathersLines, IsListed, PutsLines, Write
 abbrev pub AreSameAsked : Asked → Asked → Type 0
 AreSameAsked (Messages c s) (Messages d t) = AreSameCommand c d × (s ≡ t)
 AreSameAsked (Count s f) (Count t g) = (s ≡ t) × (f ≡ g)
+AreSameAsked (Calls s f) (Calls t g) = (s ≡ t) × (f ≡ g)
 AreSameAsked (Handshake a) (Handshake b) = a ≡ b
 AreSameAsked a b = ⊥
 
@@ -247,12 +249,26 @@ same_form written.Text written.Text p q = refl
 same_form written.Json written.Text p q = sym (q.1 (p.0 refl))
 same_form written.Text written.Json p q = p.1 (q.0 refl)
 
+same_wanted : (rows : List Row) (a b : WantedCalls) → HasWanted rows a → HasWanted rows b → a ≡ b
+same_wanted rows a b p q =
+    let as_json = same_flag a.as_json b.as_json p.as_json q.as_json in
+    let unanswered = same_flag a.unanswered b.unanswered p.unanswered q.unanswered in
+    let errors = same_flag a.errors b.errors p.errors q.errors in
+    λ i. record { as_json = as_json i; unanswered = unanswered i; errors = errors i }
+
 no_count : (name : Text) (rows : List Row) (command : Command) → NamesCommand name rows command → name ≡ codes "count" → ⊥
 no_count name rows Show p e = omega (arith, marked name rows Show p, ap mark e)
 no_count name rows Json p e = omega (arith, marked name rows Json p, ap mark e)
 no_count name rows Check p e = omega (arith, marked name rows Check p, ap mark e)
 no_count name rows (Swap order) p e = omega (arith, ap mark p.0, ap mark e)
 no_count name rows (Filter selection) p e = omega (arith, ap mark p.0, ap mark e)
+
+no_calls : (name : Text) (rows : List Row) (command : Command) → NamesCommand name rows command → name ≡ codes "calls" → ⊥
+no_calls name rows Show p e = omega (arith, marked name rows Show p, ap mark e)
+no_calls name rows Json p e = omega (arith, marked name rows Json p, ap mark e)
+no_calls name rows Check p e = omega (arith, marked name rows Check p, ap mark e)
+no_calls name rows (Swap order) p e = omega (arith, ap mark p.0, ap mark e)
+no_calls name rows (Filter selection) p e = omega (arith, ap mark p.0, ap mark e)
 
 no_handshake : (name : Text) (rows : List Row) (command : Command) → NamesCommand name rows command → name ≡ codes "handshake" → ⊥
 no_handshake name rows Show p e = omega (arith, marked name rows Show p, ap mark e)
@@ -265,11 +281,18 @@ same_named : (sub : Option (Text × List Row)) (a b : Asked) → Names sub a →
 same_named None a b p q = absurd p
 same_named (Some sub) (Messages c s) (Messages d t) p q = (same_command sub.0 sub.1 c d p.0 q.0, same_settings sub.1 s t p.1 q.1)
 same_named (Some sub) (Count s f) (Count t g) p q = (same_settings sub.1 s t p.1 q.1, same_form f g p.2 q.2)
+same_named (Some sub) (Calls s f) (Calls t g) p q = (same_settings sub.1 s t p.1 q.1, same_wanted sub.1 f g p.2 q.2)
 same_named (Some sub) (Handshake x) (Handshake y) p q = same_side_word x y (some_is (side_word x) (side_word y) (sym p.1 ∙ q.1))
 same_named (Some sub) (Messages c s) (Count t g) p q = no_count sub.0 sub.1 c p.0 q.0
 same_named (Some sub) (Messages c s) (Handshake y) p q = no_handshake sub.0 sub.1 c p.0 q.0
 same_named (Some sub) (Count s f) (Messages d t) p q = no_count sub.0 sub.1 d q.0 p.0
 same_named (Some sub) (Handshake x) (Messages d t) p q = no_handshake sub.0 sub.1 d q.0 p.0
+same_named (Some sub) (Messages c s) (Calls t g) p q = no_calls sub.0 sub.1 c p.0 q.0
+same_named (Some sub) (Calls s f) (Messages d t) p q = no_calls sub.0 sub.1 d q.0 p.0
+same_named (Some sub) (Count s f) (Calls t g) p q = absurd (let e = sym (ap mark p.0) ∙ ap mark q.0 in omega (arith, e))
+same_named (Some sub) (Calls s f) (Count t g) p q = absurd (let e = sym (ap mark p.0) ∙ ap mark q.0 in omega (arith, e))
+same_named (Some sub) (Calls s f) (Handshake y) p q = absurd (let e = sym (ap mark p.0) ∙ ap mark q.0 in omega (arith, e))
+same_named (Some sub) (Handshake x) (Calls t g) p q = absurd (let e = sym (ap mark p.0) ∙ ap mark q.0 in omega (arith, e))
 same_named (Some sub) (Count s f) (Handshake y) p q = absurd (let e = sym (ap mark p.0) ∙ ap mark q.0 in omega (arith, e))
 same_named (Some sub) (Handshake x) (Count t g) p q = absurd (let e = sym (ap mark p.0) ∙ ap mark q.0 in omega (arith, e))
 

@@ -28,12 +28,13 @@ use Rattle.cli_options.specs.Selections.{AreSameCommand}
 use Rattle.cli_options.specs.Told.{TellsFault}
 use Rattle.cli_options.specs.Owners.{lacks_owner}
 use Rattle.cli_options.specs.declared.asked.Asked.{Asked}
-use Rattle.cli_options.specs.declared.asked.Asked.TheVariants.{Messages, Count, Handshake}
+use Rattle.cli_options.specs.declared.asked.Asked.TheVariants.{Messages, Count, Calls, Handshake}
 use Rattle.cli_options.specs.declared.form.CountForm.{CountForm}
 use Rattle.dbus_handshake_input.specs.declared.side.Side.{Side}
 use Rattle.cli_options.specs.declared.command.Command.{Command}
 use Rattle.cli_options.specs.declared.command.Command.TheVariants.{Filter}
 use Rattle.cli_options.specs.declared.settings.Settings.{Settings}
+use Rattle.cli_options.specs.declared.wanted_calls.WantedCalls.{WantedCalls}
 use Rattle.cli_options.specs.declared.usage_fault.RefusedRule.{RefusedRule}
 use Rattle.cli_options.specs.declared.usage_fault.UsageFault.{UsageFault}
 use Rattle.cli_options.specs.declared.usage_fault.UsageFault.TheVariants.{Memory, Help, Version, Usage, Rule as BadRule}
@@ -46,12 +47,12 @@ use Rattle.cli_run.specs.Laws.{EndAlike, GotAlike, ReadAlike}
 use Rattle.cli_run.specs.Output.{IsExact}
 use Rattle.cli_run.proofs.SameOutputs.{acts_as}
 use Rattle.cli_run.specs.VisitorLaws.{wrote_nothing}
-use Rattle.cli_run.proofs.SameRuns.{one_count, one_run}
+use Rattle.cli_run.proofs.SameRuns.{one_calls, one_count, one_run}
 use Rattle.dbus_tool.specs.Alike.{IsOneWay, NameOneWay, OneProgram}
 use Rattle.dbus_tool.specs.Handshaking.{TakesHandshake, TellsHandshake, ahead, handshake_line, EndsList, IsListed, Lengthens, Lists, WritesLines, last_line}
-use Rattle.dbus_tool.specs.Words.{Does, DoesBy, DoesTask, Notes, RunsNoted, table_form}
+use Rattle.dbus_tool.specs.Words.{Does, DoesBy, DoesTask, Notes, RunsNoted, calls_wanted, table_form}
 use Rattle.dbus_tool.specs.declared.words.Task.{Task}
-use Rattle.dbus_tool.specs.declared.words.Task.TheVariants.{Run, CountAll}
+use Rattle.dbus_tool.specs.declared.words.Task.TheVariants.{Run, CountAll, ListAll}
 use Rattle.dbus_tool.proofs.SameAsked.{AreSameAsked, marked, mark, same_asked}
 
 -- ---- words that name something have no rule that is refused
@@ -74,6 +75,7 @@ no_fault (Some sub) (Messages (Filter selection) settings) refused p h =
     not_both (string_bytes refused.text) (rule_pairs at.0) refused.reason refused.at at.1 first.fault
 no_fault (Some sub) (Messages command settings) refused p h = omega (arith, marked sub.0 sub.1 command p.0, ap mark h.0.named)
 no_fault (Some sub) (Count settings form) refused p h = omega (arith, ap mark p.0, ap mark h.0.named)
+no_fault (Some sub) (Calls settings wanted) refused p h = omega (arith, ap mark p.0, ap mark h.0.named)
 no_fault (Some sub) (Handshake side) refused p h = omega (arith, ap mark p.0, ap mark h.0.named)
 
 module _ {R W E : Type 0} (left : R → Option (List ℕ)) (calls failures : R → ℕ) (packets : R → Option Packets) (packet : R → Option Packet) (old new : ReadAhead R) (w : Writing W) (e : Writing E) (words : List Text) (one : NameOneWay words) (end : ExitStatus) (done : end ≢ status.Failed) where
@@ -94,7 +96,14 @@ module _ {R W E : Type 0} (left : R → Option (List ℕ)) (calls failures : R �
 one_way_too : (a b : Asked) → AreSameAsked a b → IsOneWay a → IsOneWay b
 one_way_too (Messages c s) (Messages d t) h one = ((acts_as c d h.0).exact one.0, subst (λ (x : Settings). x.explains ≡ false) h.1 one.1)
 one_way_too (Count s f) (Count t g) h one = subst (λ (x : Settings). x.explains ≡ false) h.0 one
+one_way_too (Calls s f) (Calls t g) h one = subst (λ (x : Settings). x.explains ≡ false) h.0 one
 one_way_too (Handshake a) (Handshake b) h one = tt
+one_way_too (Handshake a) (Calls t g) h one = absurd h
+one_way_too (Messages c s) (Calls t g) h one = absurd h
+one_way_too (Count s f) (Calls t g) h one = absurd h
+one_way_too (Calls s f) (Messages d t) h one = absurd h
+one_way_too (Calls s f) (Count t g) h one = absurd h
+one_way_too (Calls s f) (Handshake b) h one = absurd h
 one_way_too (Handshake a) (Messages d t) h one = absurd h
 one_way_too (Handshake a) (Count t g) h one = absurd h
 one_way_too (Messages c s) (Count t g) h one = absurd h
@@ -249,6 +258,12 @@ module _ {R S W V E F : Type 0} (one_table : OneTable) (left : R → Option (Lis
       one_count (ReadAhead R) (ReadAhead S) W V E F one_table (ahead left calls failures packets packet r r1) (ahead other_left other_calls other_failures other_packets other_packet s s1) w v e f settings (table_form form) _ _ end other
       (record { input = here; explains = inl off; done = done; other_done = other_done }) does doing)
 
+  called_alike : (settings : Settings) (wanted : WantedCalls) → settings.explains ≡ false → DoesTask left calls failures packets packet r0 r1 w e settings (ListAll wanted) end
+      → DoesTask other_left other_calls other_failures other_packets other_packet s0 s1 v f settings (ListAll wanted) other → EndAlike w v e f end other
+  called_alike settings wanted off = tasks_alike settings (ListAll wanted) (ListAll wanted) (λ r s here does doing.
+      one_calls (ReadAhead R) (ReadAhead S) W V E F (ahead left calls failures packets packet r r1) (ahead other_left other_calls other_failures other_packets other_packet s s1) w v e f settings (calls_wanted wanted) _ _ end other
+      (record { input = here; explains = inl off; done = done; other_done = other_done }) does doing)
+
   alike : (a b : Asked) → AreSameAsked a b → IsOneWay a → Does left calls failures packets packet r0 r1 w e (Ok a) end → Does other_left other_calls other_failures other_packets other_packet s0 s1 v f (Ok b) other → EndAlike w v e f end other
   alike (Messages c settings) (Messages d t) same one does doing =
       let there = subst (λ (x : Settings). Does other_left other_calls other_failures other_packets other_packet s0 s1 v f (Ok (Messages d x)) other) (sym same.1) doing in
@@ -257,6 +272,9 @@ module _ {R S W V E F : Type 0} (one_table : OneTable) (left : R → Option (Lis
   alike (Count settings form) (Count t g) same one does doing =
       let there = subst (λ (x : Settings). Does other_left other_calls other_failures other_packets other_packet s0 s1 v f (Ok (Count x g)) other) (sym same.0) doing in
       counts_alike settings form one does (subst (λ (x : CountForm). Does other_left other_calls other_failures other_packets other_packet s0 s1 v f (Ok (Count settings x)) other) (sym same.1) there)
+  alike (Calls settings wanted) (Calls t g) same one does doing =
+      let there = subst (λ (x : Settings). Does other_left other_calls other_failures other_packets other_packet s0 s1 v f (Ok (Calls x g)) other) (sym same.0) doing in
+      called_alike settings wanted one does (subst (λ (x : WantedCalls). Does other_left other_calls other_failures other_packets other_packet s0 s1 v f (Ok (Calls settings x)) other) (sym same.1) there)
   alike (Handshake side) (Handshake b) same one does doing =
       listed_alike side does (subst (λ (x : Side). Does other_left other_calls other_failures other_packets other_packet s0 s1 v f (Ok (Handshake x)) other) (sym same) doing)
   alike (Handshake side) (Messages d u) same one does doing = absurd same
@@ -265,6 +283,12 @@ module _ {R S W V E F : Type 0} (one_table : OneTable) (left : R → Option (Lis
   alike (Messages c t) (Handshake b) same one does doing = absurd same
   alike (Count t g) (Messages d u) same one does doing = absurd same
   alike (Count t g) (Handshake b) same one does doing = absurd same
+  alike (Count t g) (Calls u k) same one does doing = absurd same
+  alike (Messages c t) (Calls u k) same one does doing = absurd same
+  alike (Handshake side) (Calls u k) same one does doing = absurd same
+  alike (Calls t g) (Messages d u) same one does doing = absurd same
+  alike (Calls t g) (Count u k) same one does doing = absurd same
+  alike (Calls t g) (Handshake b) same one does doing = absurd same
 
 pub one_program : (R S W V E F : Type 0) → OneTable → OneProgram R S W V E F
 one_program R S W V E F one_table left calls failures packets packet other_left other_calls other_failures other_packets other_packet r0 r1 s0 s1 w v e f words end other one input done other_done runs ran =

@@ -8,7 +8,7 @@ use Rattle.dbus_handshake_input.specs.declared.read_ahead.ReadAhead.{ReadAhead}
 use Rattle.cli_options.specs.CommandLine.{wire_app}
 use Rattle.cli_options.specs.Named.{IsNamedBy}
 use Rattle.cli_options.specs.declared.asked.Asked.{Asked}
-use Rattle.cli_options.specs.declared.asked.Asked.TheVariants.{Messages, Count, Handshake}
+use Rattle.cli_options.specs.declared.asked.Asked.TheVariants.{Messages, Count, Calls, Handshake}
 use Rattle.cli_report.specs.Devices.{Writing}
 use Rattle.cli_report.specs.declared.ending.ExitStatus.{ExitStatus}
 use Rattle.cli_report.specs.declared.ending.ExitStatus.TheVariants as status
@@ -21,6 +21,7 @@ use Rattle.dbus_tool.specs.Words.{RunsWords}
 abbrev pub IsOneWay : Asked → Type 0
 IsOneWay (Messages command settings) = IsExact command × (settings.explains ≡ false)
 IsOneWay (Count settings form) = settings.explains ≡ false
+IsOneWay (Calls settings wanted) = settings.explains ≡ false
 IsOneWay (Handshake side) = Unit {0}
 
 -- words in which clap finds no fault name this

@@ -1,5 +1,5 @@
 -- What the program does for the words of its command line.
-use Rattle.std.specs.Prelude.{◌≡◌, ℕ, List, ◌++◌, Bool, true, false, codes, decimal, string_bytes, ◌⊎◌, ◌^◌, ◌&&◌, Option, Result, Ok, Err, IfOk}
+use Rattle.std.specs.Prelude.{◌≡◌, ℕ, List, ◌++◌, Bool, true, false, codes, decimal, string_bytes, ◌⊎◌, ◌^◌, ◌&&◌, Option, Result, Ok, Err, IfOk, if◌then◌else◌}
 use Rattle.dbus_rule.specs.declared.fault.RuleReason.{RuleReason}
 use Rattle.dbus_rule.specs.Faults.{rule_reason_text}
 use Rattle.cli_options.specs.declared.usage_fault.RefusedRule.{RefusedRule}
@@ -13,19 +13,23 @@ use Rattle.cli_options.specs.Named.{IsNamedBy}
 use Rattle.cli_options.specs.Told.{TellsFault}
 use Rattle.cli_options.specs.Owners.{lacks_owner}
 use Rattle.cli_run.specs.ByName.{CountsByName}
+use Rattle.cli_run.specs.CallListing.{ListsCalls}
 use Rattle.cli_report.specs.Devices.{Reading, Writing, writing}
 use Rattle.cli_run.specs.Running.{RunsWith}
 use Rattle.cli_report.specs.Telling.{Told}
 use Rattle.dbus_handshake_input.specs.declared.fault.HandshakeFault.{HandshakeFault}
 use Rattle.dbus_handshake_input.specs.declared.read_ahead.ReadAhead.{ReadAhead}
 use Rattle.cli_options.specs.declared.asked.Asked.{Asked}
-use Rattle.cli_options.specs.declared.asked.Asked.TheVariants.{Messages, Count, Handshake}
+use Rattle.cli_options.specs.declared.asked.Asked.TheVariants.{Messages, Count, Calls, Handshake}
 use Rattle.cli_options.specs.declared.command.Command.{Command}
 use Rattle.cli_options.specs.declared.form.CountForm.{CountForm}
 use Rattle.cli_options.specs.declared.form.CountForm.TheVariants as asked
 use Rattle.dbus_count.specs.declared.form.Form as tables
 use Rattle.dbus_count.specs.declared.form.Form.TheVariants as written
+use Rattle.dbus_call_lines.specs.declared.form.Form.TheVariants.{Text as InWords, Json as InJson}
+use Rattle.dbus_call_lines.specs.declared.wanted.Wanted.{Wanted}
 use Rattle.cli_options.specs.declared.settings.Settings.{Settings}
+use Rattle.cli_options.specs.declared.wanted_calls.WantedCalls.{WantedCalls}
 use Rattle.cli_options.specs.declared.usage_fault.UsageFault.{UsageFault}
 use Rattle.cli_options.specs.declared.usage_fault.UsageFault.TheVariants.{Memory, Help, Version, Usage, Rule}
 use Rattle.cli_report.specs.declared.ending.ExitStatus.{ExitStatus}
@@ -33,7 +37,7 @@ use Rattle.cli_report.specs.declared.ending.ExitStatus.TheVariants as status
 use Rattle.cli_report.specs.declared.ending.Cause.TheVariants as cause
 use Rattle.dbus_tool.specs.Handshaking.{Shows, StopsBy, TakesHandshake, TellsHandshake, ahead, Lists}
 use Rattle.dbus_tool.specs.declared.words.Task.{Task}
-use Rattle.dbus_tool.specs.declared.words.Task.TheVariants.{Run, CountAll}
+use Rattle.dbus_tool.specs.declared.words.Task.TheVariants.{Run, CountAll, ListAll}
 
 -- What is written of a rule that is refused.
 
@@ -64,10 +68,16 @@ abbrev pub table_form : CountForm → tables.Form
 table_form asked.Text = written.Text
 table_form asked.Json = written.Json
 
--- what is done with messages by settings: a command is run, or they are counted by their names
+-- the list that `calls` asks for
+abbrev pub calls_wanted : WantedCalls → Wanted
+calls_wanted wanted = record { form = if wanted.as_json then InJson else InWords; unanswered = wanted.unanswered; errors = wanted.errors }
+
+-- what is done with messages by settings: a command is run, they are counted by their names, or
+-- their calls are listed
 abbrev pub DoesBy : {R W E : Type 0} → Reading R → Writing W → Writing E → Settings → Task → ExitStatus → Type 0
 DoesBy r w e settings (Run command) end = RunsWith r w e settings (2 ^ 32) command end
 DoesBy r w e settings (CountAll form) end = CountsByName r w e settings (table_form form) (2 ^ 32) end
+DoesBy r w e settings (ListAll wanted) end = ListsCalls r w e settings (calls_wanted wanted) (2 ^ 32) end
 
 -- what is said of a rule whose sender has no owner
 abbrev pub owner_note : List ℕ
@@ -95,11 +105,12 @@ module _ {R W E : Type 0} (left : R → Option (List ℕ)) (calls failures : R �
       × DoesTask left calls failures packets packet old new w (writing e.held e.failures begun e.new) settings (Run command) end)
       ⊎ ((new ≡ old) × (w.new ≡ w.old) × (end ≡ status.Failed) × (n : WrittenOnly) × Notes e.held e.failures (settings.explains && lacks_owner command) e.old e.new (Err n))
 
-  -- what is done for a command by its settings, for `count`, for the side whose handshake is
-  -- listed, or for words that name nothing
+  -- what is done for a command by its settings, for `count`, for `calls`, for the side whose
+  -- handshake is listed, or for words that name nothing
   abbrev pub Does : Result Asked UsageFault → ExitStatus → Type 0
   Does (Ok (Messages command settings)) end = RunsNoted settings command end
   Does (Ok (Count settings form)) end = DoesTask left calls failures packets packet old new w e settings (CountAll form) end
+  Does (Ok (Calls settings wanted)) end = DoesTask left calls failures packets packet old new w e settings (ListAll wanted) end
   Does (Ok (Handshake side)) end = Lists left calls failures old new w e side end
   Does (Err Memory) end = (new ≡ old) × (w.new ≡ w.old) × StopsBy e.held e.failures e.old e.new cause.Memory end
   Does (Err (Help text)) end = (new ≡ old) × ShowsText w e (string_bytes text) end

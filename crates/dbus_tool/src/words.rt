@@ -3,14 +3,17 @@ ghost use Rattle.std.specs.Prelude.{◌≡◌, ◌&&◌, map, string_bytes};
 ghost use Rattle.cli_options.specs.Owners.{lacks_owner};
 ghost use Rattle.cli_report.specs.Devices.{writing};
 ghost use Rattle.dbus_tool.specs.Handshaking.{Shows, TakesHandshake, TellsHandshake, Lists};
-ghost use Rattle.dbus_tool.specs.Words.{DoesTask, Notes, RefusesRule, RunsWords, ShowsText, table_form};
+ghost use Rattle.dbus_tool.specs.Words.{DoesTask, Notes, RefusesRule, RunsWords, ShowsText, calls_wanted, table_form};
 
 use crate::lines::handshake_line;
 use crate::listing::write_lines;
 use crate::rule_lines::rule_text;
-use cli_options::{Asked, Command, CountForm, RefusedRule, Settings, UsageFault, command_of};
+use cli_options::{
+    Asked, Command, CountForm, RefusedRule, Settings, UsageFault, WantedCalls, command_of,
+};
 use cli_report::{Cause, ExitStatus, Unwritten, give_up};
-use cli_run::{count_by_name, run_with};
+use cli_run::{count_by_name, list_calls, run_with};
+use dbus_call_lines::{Form, Wanted};
 use dbus_handshake_input::{HandshakeFault, ReadAhead, Side, pass_handshake};
 use dbus_stream::{MOST_READS, Sink, Source, WrittenOnly, write_all};
 use std::alloc::Global;
@@ -41,6 +44,9 @@ const OWNER_NOTE: &str =
 /// and then the first gets the tables of the number of messages with each name, as
 /// [`dbus_count::Counts::tables`] says.
 ///
+/// If they name `calls`, the first writer gets the lines of the calls in the messages, as from
+/// [`cli_run::list_calls`].
+///
 /// If they name `handshake` with a side, the first writer gets a line for each line of the side's
 /// handshake, its offset, the line and what it says, and then `ok N lines B bytes`; or, if the
 /// input begins with none, the lines before that place, and the second writer what is said above.
@@ -70,6 +76,16 @@ pub fn run_words<R: Source, W: Sink, E: Sink>(
         },
         Ok(Asked::Count(settings, form)) => {
             do_task(alloc, Task::CountAll(form), settings, reader, first, second)
+        }
+        Ok(Asked::Calls(settings, wanted)) => {
+            do_task(
+                alloc,
+                Task::ListAll(wanted),
+                settings,
+                reader,
+                first,
+                second,
+            )
         }
         Ok(Asked::Handshake(side)) => list_handshake(alloc, side, reader, first, second),
         Err(UsageFault::Memory) => give_up(Cause::Memory, second),
@@ -104,6 +120,8 @@ enum Task {
     Run(Command),
     // The messages are counted by their names, for tables in this form.
     CountAll(CountForm),
+    // Their calls are listed.
+    ListAll(WantedCalls),
 }
 
 // Does it by the settings, after the handshake if they name its side.
@@ -127,6 +145,9 @@ fn do_task<R: Source, W: Sink, E: Sink>(
             }
             Task::CountAll(form) => {
                 count_by_name(alloc, settings, table_form(form), reader, first, second)
+            }
+            Task::ListAll(wanted) => {
+                list_calls(alloc, settings, calls_wanted(wanted), reader, first, second)
             }
         },
         Err(fault) => refuse_handshake(alloc, fault, second),
@@ -154,6 +175,21 @@ fn table_form(form: CountForm) -> dbus_count::Form
     match form {
         CountForm::Text => dbus_count::Form::Text,
         CountForm::Json => dbus_count::Form::Json,
+    }
+}
+
+// The list that `calls` asks for.
+fn calls_wanted(wanted: WantedCalls) -> Wanted
+    ensures { result ≡ calls_wanted wanted }
+{
+    Wanted {
+        form: if wanted.as_json {
+            Form::Json
+        } else {
+            Form::Text
+        },
+        unanswered: wanted.unanswered,
+        errors: wanted.errors,
     }
 }
 

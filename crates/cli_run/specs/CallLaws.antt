@@ -1,0 +1,112 @@
+-- The laws of the visitor that lists calls. They are here, and not in proofs/, because the trait's
+-- law names them.
+use Rattle.std.proofs.Common.{◌≡◌, ℕ, false, List, [], ◌∷◌, ◌++◌, Option, map, refl, sym, ap, ◌∙◌, subst, append-nil, append_assoc}
+use Rattle.dbus_call_lines.specs.Keeping.{Keeps}
+use Rattle.dbus_call_lines.specs.Listing.{AreListedBy, AreRising, Numbered, Row, nth, rows_text}
+use Rattle.dbus_call_lines.specs.declared.call_list.CallList.{CallList}
+use Rattle.dbus_call_lines.specs.declared.wanted.Wanted.{Wanted}
+use Rattle.dbus_call_lines.proofs.Along.{listed_both}
+use Rattle.dbus_call_lines.proofs.Some.{front_rises}
+use Rattle.dbus_call_lines.proofs.Steps.{lines_both}
+use Rattle.cli_report.specs.Gathering.{Passes, gathered_bytes}
+use Rattle.cli_report.specs.PageLaws.{passes_both, passes_none}
+use Rattle.cli_run.specs.CallListing.{LeavesCalls, TakesCalls, numbered}
+use Rattle.cli_report.specs.declared.ending.Cause.TheVariants.{Memory, ReadFailed, TooManyReads}
+use Rattle.cli_run.specs.Inputs.{Placed}
+use Rattle.cli_run.specs.OutputWriting.{LeavesFirst}
+use Rattle.cli_run.specs.Told.{GotSecond}
+use Rattle.cli_run.specs.Visiting.{AddsUp}
+use Rattle.cli_run.specs.VisitorLaws.{first_after, second_after, wrote_both, wrote_nothing}
+use Rattle.cli_run.specs.declared.call_listing.Lister.{Lister}
+use Rattle.cli_run.specs.declared.visitor.RunStop.{RunStop}
+use Rattle.cli_run.specs.declared.visitor.RunStop.TheVariants.{Cause as ByCause}
+
+numbered_both : (s t : List Placed) → numbered (s ++ t) ≡ numbered s ++ numbered t
+numbered_both [] t = refl
+numbered_both (m ∷ s) t = ap (λ l. nth m.place.number m.item.message ∷ l) (numbered_both s t)
+
+-- the numbers of messages and of others rise
+module _ (before : List Numbered) (s t : List Placed) where
+  pub after_both : before ++ numbered (s ++ t) ≡ (before ++ numbered s) ++ numbered t
+  after_both = ap (λ l. before ++ l) (numbered_both s t) ∙ sym (append_assoc before (numbered s) (numbered t))
+
+  rises_both : AreRising (before ++ numbered (s ++ t)) → AreRising ((before ++ numbered s) ++ numbered t)
+  rises_both up = subst AreRising after_both up
+
+  rises_first : AreRising (before ++ numbered (s ++ t)) → AreRising (before ++ numbered s)
+  rises_first up = front_rises (before ++ numbered s) (numbered t) (rises_both up)
+
+  by_both : (a b : List Row) → AreListedBy before (numbered s) a → AreListedBy (before ++ numbered s) (numbered t) b → AreListedBy before (numbered (s ++ t)) (a ++ b)
+  by_both a b h k = subst (λ (l : List Numbered). AreListedBy before l (a ++ b)) (sym (numbered_both s t)) (listed_both before (numbered s) (numbered t) a b h k)
+
+module _ {W E : Type 0} (held : W → Option (List ℕ)) (failures : W → ℕ) (second_held : E → Option (List ℕ)) (second_failures : E → ℕ) where
+  abbrev Takes : Lister W E → Lister W E → List Placed → (told : List ℕ) → Type 0
+  Takes a b s p = TakesCalls held failures second_held second_failures a b s p
+
+  abbrev Leaves : Lister W E → Lister W E → List Placed → (told : List ℕ) → RunStop → Type 0
+  Leaves a b s p stop = LeavesCalls held failures second_held second_failures a b s p stop
+
+  none_taken : (a : Lister W E) → Takes a a [] []
+  none_taken a = record {
+    same_first = refl;
+    same_second = refl;
+    lists = λ wanted before keeps rising.
+        (subst (λ (l : List Numbered). Keeps wanted l a.list) (sym (append-nil before)) keeps, [], refl, passes_none held failures (gathered_bytes a.gathered) a.first.now);
+    tells = wrote_nothing second_held second_failures a.second.now;
+  }
+
+  both_taken : (a b c : Lister W E) (s t : List Placed) (p q : List ℕ) → Takes a b s p → Takes b c t q → Takes a c (s ++ t) (p ++ q)
+  both_taken a b c s t p q h k = record {
+    same_first = k.same_first ∙ h.same_first;
+    same_second = k.same_second ∙ h.same_second;
+    lists = λ wanted before keeps rising.
+        let first = h.lists wanted before keeps (rises_first before s t rising) in
+        let more = k.lists wanted (before ++ numbered s) first.0 (rises_both before s t rising) in (
+          subst (λ (l : List Numbered). Keeps wanted l c.list) (sym (after_both before s t)) more.0,
+          first.1 ++ more.1,
+          by_both before s t first.1 more.1 first.2 more.2,
+          subst (λ (l : List ℕ). Passes held failures l (gathered_bytes a.gathered) (gathered_bytes c.gathered) a.first.now c.first.now) (sym (lines_both wanted first.1 more.1))
+              (passes_both held failures (rows_text wanted first.1) (rows_text wanted more.1) (gathered_bytes a.gathered) (gathered_bytes b.gathered) (gathered_bytes c.gathered) a.first.now b.first.now c.first.now first.3 more.3),
+        );
+    tells = wrote_both second_held second_failures p q a.second.now b.second.now c.second.now h.tells k.tells;
+  }
+
+  left_after : (a b c : Lister W E) (s t : List Placed) (p q : List ℕ) (stop : RunStop) → Takes a b s p → Leaves b c t q stop → Leaves a c (s ++ t) (p ++ q) stop
+  left_after a b c s t p q stop h k = record {
+    same_first = k.same_first ∙ h.same_first;
+    same_second = k.same_second ∙ h.same_second;
+    lists = λ wanted before keeps rising.
+        let first = h.lists wanted before keeps (rises_first before s t rising) in
+        let more = k.lists wanted (before ++ numbered s) first.0 (rises_both before s t rising) in (
+          first.1 ++ more.0,
+          by_both before s t first.1 more.0 first.2 more.1,
+          subst (λ (l : List ℕ). LeavesFirst held failures false stop l (gathered_bytes a.gathered) a.first.now c.first.now) (sym (lines_both wanted first.1 more.0))
+              (first_after held failures false stop (rows_text wanted first.1) (rows_text wanted more.0) (gathered_bytes a.gathered) (gathered_bytes b.gathered) a.first.now b.first.now c.first.now first.3 more.2),
+        );
+    tells = second_after second_held second_failures false stop p q a.second.now b.second.now c.second.now h.tells k.tells;
+  }
+
+  -- nothing is held back
+  rests_by : (a b : Lister W E) (s : List Placed) (p : List ℕ) → Takes a b s p → gathered_bytes b.gathered ≡ [] → (stop : RunStop)
+      → ((bytes : List ℕ) → Passes held failures bytes (gathered_bytes a.gathered) [] a.first.now b.first.now → LeavesFirst held failures false stop bytes (gathered_bytes a.gathered) a.first.now b.first.now)
+      → GotSecond second_held second_failures false stop p a.second.now b.second.now → Leaves a b s p stop
+  rests_by a b s p h none stop first second = record {
+    same_first = h.same_first;
+    same_second = h.same_second;
+    lists = λ wanted before keeps rising.
+        let l = h.lists wanted before keeps rising in
+        (l.1, l.2, first (rows_text wanted l.1) (subst (λ (g : List ℕ). Passes held failures (rows_text wanted l.1) (gathered_bytes a.gathered) g a.first.now b.first.now) none l.3));
+    tells = second;
+  }
+
+  pub lister_adds_up : AddsUp Takes Leaves (λ a. gathered_bytes a.gathered ≡ [])
+  lister_adds_up = record {
+    nothing = none_taken;
+    joins = both_taken;
+    leaves_after = left_after;
+    rests = λ a b s p h none. (
+      rests_by a b s p h none (ByCause Memory) (λ bytes q. q) h.tells,
+      rests_by a b s p h none (ByCause ReadFailed) (λ bytes q. q) h.tells,
+      rests_by a b s p h none (ByCause TooManyReads) (λ bytes q. q) h.tells,
+    );
+  }

@@ -1,0 +1,86 @@
+-- What `calls` writes: the lines of the calls in an input, each once it is known what came of it,
+-- and what is told of messages that are refused.
+use Rattle.std.specs.Prelude.{◌≡◌, ◌⊎◌, ℕ, false, List, [], ◌∷◌, ◌++◌, map, Option, Result, Ok, Err}
+use Rattle.dbus_device.specs.Device.{Wrote}
+use Rattle.dbus_call_lines.specs.Keeping.{Keeps}
+use Rattle.dbus_call_lines.specs.Listing.{AreListed, AreListedBy, AreRising, Numbered, Row, nth, rows_text}
+use Rattle.dbus_call_lines.specs.declared.wanted.Wanted.{Wanted}
+use Rattle.cli_options.specs.declared.settings.Settings.{Settings}
+use Rattle.cli_report.specs.Devices.{Reading, Writing, taken, writing}
+use Rattle.cli_report.specs.Gathering.{Breaks, Passes, gathered_bytes}
+use Rattle.cli_report.specs.declared.ending.Cause.{Cause}
+use Rattle.cli_report.specs.declared.ending.Cause.TheVariants.{Memory, WriteFailed}
+use Rattle.cli_report.specs.declared.ending.ExitStatus.{ExitStatus}
+use Rattle.cli_run.specs.ByName.{EndsBy}
+use Rattle.cli_run.specs.Going.{GivesUp, GoesThrough}
+use Rattle.cli_run.specs.Inputs.{Placed}
+use Rattle.cli_run.specs.OutputWriting.{LeavesFirst}
+use Rattle.cli_run.specs.Told.{GotFirst, GotSecond}
+use Rattle.cli_run.specs.declared.call_listing.Lister.{Lister}
+use Rattle.cli_run.specs.declared.visitor.RunStop.{RunStop}
+
+-- the messages, each with its number
+abbrev pub numbered : List Placed → List Numbered
+numbered items = map (λ m. nth m.place.number m.item.message) items
+
+-- for want of memory nothing is done; else nothing but a write fails
+abbrev pub StaysIfShort : {W : Type 0} → Writing W → (g0 g1 : List ℕ) → Result (Unit {0}) Cause → Type 0
+StaysIfShort w g0 g1 (Ok x) = Unit {0}
+StaysIfShort w g0 g1 (Err Memory) = (w.new ≡ w.old) × (g1 ≡ g0)
+StaysIfShort w g0 g1 (Err WriteFailed) = Unit {0}
+StaysIfShort w g0 g1 (Err cause) = ⊥
+
+module _ {W : Type 0} (w : Writing W) (wanted : Wanted) where
+  -- such rows are listed: their lines were written or gathered, or a write failed. g0 and g1 are
+  -- what is gathered before and after
+  abbrev pub GathersRows : (Are : List Row → Type 0) → (g0 g1 : List ℕ) → Result (Unit {0}) Cause → Type 0
+  GathersRows Are g0 g1 (Ok x) = (rows : List Row) × Are rows × Passes w.held w.failures (rows_text wanted rows) g0 g1 w.old w.new
+  GathersRows Are g0 g1 (Err WriteFailed) = (rows : List Row) × Are rows × Breaks w.held w.failures (rows_text wanted rows) g0 w.old w.new
+  GathersRows Are g0 g1 (Err cause) = Unit {0}
+
+  -- their lines were written, or a write failed; or for want of memory nothing was written
+  abbrev pub WritesRows : (Are : List Row → Type 0) → Result (Unit {0}) Cause → Type 0
+  WritesRows Are (Ok x) = (rows : List Row) × Are rows × Wrote w.held w.failures w.old (rows_text wanted rows) w.new
+  WritesRows Are (Err Memory) = w.new ≡ w.old
+  WritesRows Are (Err WriteFailed) = (rows : List Row) × Are rows × Breaks w.held w.failures (rows_text wanted rows) [] w.old w.new
+  WritesRows Are (Err cause) = ⊥
+
+  -- the lines of all calls in messages were written, or of a prefix of these if a write failed; or
+  -- for want of memory those of the calls that do not wait at the end
+  abbrev pub WritesCalls : List Placed → Result (Unit {0}) Cause → Type 0
+  WritesCalls items (Ok x) = (rows : List Row) × AreListed [] (numbered items) rows × Wrote w.held w.failures w.old (rows_text wanted rows) w.new
+  WritesCalls items (Err Memory) = (rows : List Row) × AreListedBy [] (numbered items) rows × Wrote w.held w.failures w.old (rows_text wanted rows) w.new
+  WritesCalls items (Err WriteFailed) = (rows : List Row) × AreListed [] (numbered items) rows × Breaks w.held w.failures (rows_text wanted rows) [] w.old w.new
+  WritesCalls items (Err cause) = ⊥
+
+module _ {W E : Type 0} (held : W → Option (List ℕ)) (failures : W → ℕ) (second_held : E → Option (List ℕ)) (second_failures : E → ℕ) where
+  -- a list took messages, the lines that were due were written or gathered, and this was told
+  pub record TakesCalls (old new : Lister W E) (items : List Placed) (told : List ℕ) : Type 0 where
+    pub same_first : new.first.ghost_name ≡ old.first.ghost_name
+    pub same_second : new.second.ghost_name ≡ old.second.ghost_name
+    pub lists : (wanted : Wanted) (before : List Numbered) → Keeps wanted before old.list → AreRising (before ++ numbered items)
+        → Keeps wanted (before ++ numbered items) new.list × (rows : List Row) × AreListedBy before (numbered items) rows
+        × Passes held failures (rows_text wanted rows) (gathered_bytes old.gathered) (gathered_bytes new.gathered) old.first.now new.first.now
+    pub tells : Wrote second_held second_failures old.second.now told new.second.now
+
+  -- the same, as far as this stop let it come
+  pub record LeavesCalls (old new : Lister W E) (items : List Placed) (told : List ℕ) (stop : RunStop) : Type 0 where
+    pub same_first : new.first.ghost_name ≡ old.first.ghost_name
+    pub same_second : new.second.ghost_name ≡ old.second.ghost_name
+    pub lists : (wanted : Wanted) (before : List Numbered) → Keeps wanted before old.list → AreRising (before ++ numbered items)
+        → (rows : List Row) × AreListedBy before (numbered items) rows
+        × LeavesFirst held failures false stop (rows_text wanted rows) (gathered_bytes old.gathered) old.first.now new.first.now
+    pub tells : GotSecond second_held second_failures false stop told old.second.now new.second.now
+
+-- all was told, and the calls of all messages were listed
+pub record ListsThrough {R W E : Type 0} (r : Reading R) (w : Writing W) (e : Writing E) (settings : Settings) (wanted : Wanted) (most : ℕ) (end : ExitStatus) : Type 0 where
+  pub due : ExitStatus
+  pub before : E
+  pub through : GoesThrough (taken r) settings most false
+      (λ items told. Wrote e.held e.failures e.old told before × EndsBy (WritesCalls w wanted items) (writing e.held e.failures before e.new) due end) due
+
+-- or reading or telling was given up, and the lines that were due before were written
+abbrev pub ListsCalls : {R W E : Type 0} → Reading R → Writing W → Writing E → Settings → Wanted → (most : ℕ) → ExitStatus → Type 0
+ListsCalls r w e settings wanted most end = ListsThrough r w e settings wanted most end
+    ⊎ GivesUp (taken r) settings most false e (λ before items told stop. (rows : List Row) × AreListedBy [] (numbered items) rows
+    × GotFirst w.held w.failures false stop (rows_text wanted rows) w.old w.new × GotSecond e.held e.failures false stop told e.old before) end

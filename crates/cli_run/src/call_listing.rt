@@ -1,0 +1,196 @@
+//! The calls of a source, and what came of them, listed.
+ghost use Rattle.std.specs.Prelude.{◌≡◌, ◌^◌, ◌++◌, [], ◌∷◌, List, OnOk, length};
+ghost use Rattle.dbus_value_model.specs.declared.order.Order.{Order};
+ghost use Rattle.dbus_message_model.specs.Messages.{MessageTree};
+ghost use Rattle.dbus_header.specs.MessageOutcomes.{IsWhole};
+ghost use Rattle.dbus_validate.specs.Validating.{IsValidatedWhole};
+ghost use Rattle.dbus_call_lines.specs.Keeping.{Keeps};
+ghost use Rattle.dbus_call_lines.specs.Listing.{AreRising, ListsAfter, ListsOpen, Numbered, nth};
+ghost use Rattle.dbus_call_lines.specs.declared.wanted.Wanted.{Wanted};
+ghost use Rattle.cli_report.specs.Devices.{reading, writing};
+ghost use Rattle.cli_report.specs.Gathering.{gathered_bytes};
+ghost use Rattle.cli_run.specs.CallLaws.{lister_adds_up};
+ghost use Rattle.cli_run.specs.CallListing.{GathersRows, LeavesCalls, ListsCalls, StaysIfShort, TakesCalls, WritesRows};
+
+use crate::going::{pass_through, tell_stop};
+use crate::output_writer::{First, fail_by};
+use crate::place::Lent;
+use crate::visitor::{MessageVisitor, write_text};
+use cli_options::Settings;
+use cli_report::{Cause, ExitStatus, OutputBuffer, Page, Unwritten, give_up, write_out};
+use dbus_call_lines::{CallList, Wanted};
+use dbus_stream::{MOST_READS, Sink, Source};
+use dbus_view::MessageView;
+use std::alloc::{AllocError, Global};
+
+/// Lists the calls of messages, and tells the second writer of those that are refused.
+#[derive(Drop)]
+pub(crate) struct Lister<'a, 'b, W, E> {
+    /// The list.
+    pub(crate) list: CallList,
+    /// What is gathered for the first writer.
+    pub(crate) gathered: OutputBuffer,
+    /// The writers.
+    pub(crate) first: &'a mut W,
+    pub(crate) second: &'b mut E,
+}
+
+impl<'a, 'b, W, E> Lister<'a, 'b, W, E> {
+    /// The list, and the writers.
+    fn into_parts(self) -> (CallList, First<'a, W>, &'b mut E)
+        ensures list { result.0 ≡ self.entry.list }
+        ensures same_first { result.1.0.ghost_name ≡ self.entry.first.ghost_name }
+        ensures first { result.1.0.now ≡ self.entry.first.now }
+        ensures same_second { result.2.ghost_name ≡ self.entry.second.ghost_name }
+        ensures second { result.2.now ≡ self.entry.second.now }
+    {
+        (self.list, First(self.first), self.second)
+    }
+}
+
+impl<W: Sink, E: Sink> MessageVisitor for Lister<'_, '_, W, E> {
+    ghost takes = { TakesCalls W.held W.failures E.held E.failures };
+
+    ghost leaves = { LeavesCalls W.held W.failures E.held E.failures };
+
+    ghost settled = { λ a. gathered_bytes a.gathered ≡ [] };
+
+    fn settle(&mut self) -> Result<(), Unwritten> {
+        write_out(&mut self.gathered, self.first)
+    }
+
+    fn take(&mut self, lent: &Lent<'_>) -> Result<(), Cause> {
+        match list_message(&mut self.list, lent, &mut self.gathered, self.first) {
+            Ok(()) => Ok(()),
+            Err(cause) => Err(fail_by(cause, &mut self.gathered, self.first)),
+        }
+    }
+
+    fn tell(&mut self, text: &str) -> Result<(), Unwritten> {
+        write_text(self.second, text)
+    }
+
+    ghost adds_up = { lister_adds_up W.held W.failures E.held E.failures };
+}
+
+// Takes a message, and writes or gathers the lines that are due then.
+fn list_message<W: Sink>(
+    list: &mut CallList,
+    lent: &Lent<'_>,
+    gathered: &mut OutputBuffer,
+    first: &mut W,
+) -> Result<(), Cause>
+    requires { IsValidatedWhole lent.now.limits lent.now.bytes.now lent.now.validated }
+    ensures lists { (order : Order) (m : MessageTree) →
+        IsWhole lent.now.limits lent.now.bytes.now order m (length lent.now.bytes.now) →
+        (wanted : Wanted) (before : List Numbered) → Keeps wanted before list.old →
+        AreRising (before ++ nth lent.now.place.number m ∷ []) →
+        OnOk result (Keeps wanted (before ++ nth lent.now.place.number m ∷ []) list.new) ×
+        GathersRows (writing W.held W.failures first.old first.new) wanted
+        (ListsAfter before (nth lent.now.place.number m))
+        (gathered_bytes gathered.old) (gathered_bytes gathered.new) result }
+    ensures stays { StaysIfShort (writing W.held W.failures first.old first.new)
+        (gathered_bytes gathered.old) (gathered_bytes gathered.new) result }
+{
+    let view = MessageView::of_validated(lent.bytes, lent.limits, lent.validated);
+    let mut page = Page {
+        gathered,
+        first,
+        failed: false,
+    };
+    match list.take(&mut page, lent.place.number, &view) {
+        Ok(()) => {
+            if page.failed {
+                Err(Cause::WriteFailed)
+            } else {
+                Ok(())
+            }
+        }
+        Err(AllocError) => Err(Cause::Memory),
+    }
+}
+
+/// Lists the calls in the messages of a source and what came of them on the first writer, with at
+/// most 2^32 reads, and tells the second writer of messages that are refused, as
+/// [`crate::run_with`] does. The line of a call is written once it is known what came of it, at the
+/// latest before more is read; those of calls that wait at the end follow in their order. A message
+/// that is refused is no call and no reply.
+///
+/// `Done`, `Refused`: all was written, and whether anything was refused. `Failed`: a read or a
+/// write failed, as many reads were made as may be, or memory ran out; if it was not a write to the
+/// second writer, that is told there.
+pub fn list_calls<R: Source, W: Sink, E: Sink>(
+    alloc: Global,
+    settings: Settings,
+    wanted: Wanted,
+    reader: &mut R,
+    first: &mut W,
+    second: &mut E,
+) -> ExitStatus
+    ensures { ListsCalls (reading R.left R.calls R.failures R.packets reader.old reader.new)
+        (writing W.held W.failures first.old first.new)
+        (writing E.held E.failures second.old second.new)
+        settings wanted (2 ^ 32) result }
+{
+    let mut lister = Lister {
+        list: CallList::new(alloc, wanted),
+        gathered: OutputBuffer::new(),
+        first,
+        second: &mut *second,
+    };
+    let (ended, _source) = pass_through(alloc, settings, false, MOST_READS, reader, &mut lister);
+    let (list, first_writer, _second) = lister.into_parts();
+    let writer = first_writer.into_inner();
+    match ended {
+        Ok(status) => match write_waiting(list, writer) {
+            Ok(()) => status,
+            Err(cause) => give_up(cause, second),
+        },
+        Err(stop) => tell_stop(stop, false, second),
+    }
+}
+
+// Writes the lines of the calls that wait at the end.
+fn write_waiting<W: Sink>(list: CallList, first: &mut W) -> Result<(), Cause>
+    ensures { (wanted : Wanted) (before : List Numbered) → Keeps wanted before list →
+        AreRising before → WritesRows (writing W.held W.failures first.old first.new) wanted
+        (ListsOpen before) result }
+{
+    let mut gathered = OutputBuffer::new();
+    match gather_waiting(list, &mut gathered, first) {
+        Ok(()) => match write_out(&mut gathered, first) {
+            Ok(()) => Ok(()),
+            Err(Unwritten) => Err(Cause::WriteFailed),
+        },
+        Err(cause) => Err(cause),
+    }
+}
+
+// Writes or gathers these lines.
+fn gather_waiting<W: Sink>(
+    list: CallList,
+    gathered: &mut OutputBuffer,
+    first: &mut W,
+) -> Result<(), Cause>
+    ensures lists { (wanted : Wanted) (before : List Numbered) → Keeps wanted before list →
+        AreRising before → GathersRows (writing W.held W.failures first.old first.new) wanted
+        (ListsOpen before) (gathered_bytes gathered.old) (gathered_bytes gathered.new) result }
+    ensures stays { StaysIfShort (writing W.held W.failures first.old first.new)
+        (gathered_bytes gathered.old) (gathered_bytes gathered.new) result }
+{
+    let mut page = Page {
+        gathered,
+        first,
+        failed: false,
+    };
+    match list.finish(&mut page) {
+        Ok(()) => {
+            if page.failed {
+                Err(Cause::WriteFailed)
+            } else {
+                Ok(())
+            }
+        }
+        Err(AllocError) => Err(Cause::Memory),
+    }
+}
