@@ -154,13 +154,14 @@ pub(crate) const CALLS_MORE: &str = more!(
     going "
   For each method call a line on standard output,
   `NUMBER SENDER > DESTINATION MEMBER OUTCOME`, once it is known what came of it:
-  `reply #N`, `error #N NAME`, `no reply wanted`, `no reply: the caller left` or
-  `no reply: its serial was used again`; and at the end of the input `no reply`
-  for each call that waits. `-` is in place of what a call does not say. With
-  --unanswered or --errors only calls of these outcomes are listed, with both
-  those of both. If the input is refused, `refused at P: NAME` on standard error,
-  and then the calls that wait there are listed. Memory is allocated for calls
-  that wait.
+  `reply #N T ms`, `error #N T ms NAME`, `no reply wanted`,
+  `no reply: the caller left` or `no reply: its serial was used again`; and at
+  the end of the input `no reply` for each call that waits. `T ms` is the time
+  from the call to the reply, if the file has times. `-` is in place of what a
+  call does not say. With --unanswered or --errors only calls of these outcomes
+  are listed, with both those of both. If the input is refused,
+  `refused at P: NAME` on standard error, and then the calls that wait there are
+  listed. Memory is allocated for calls that wait.
 
   A reply answers the call of its serial, if its sender is the call's
   destination or the bus, or if that destination is a well-known name. Calls

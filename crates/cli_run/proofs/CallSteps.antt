@@ -29,7 +29,7 @@ use Rattle.cli_report.specs.declared.ending.ExitStatus.TheVariants as status
 use Rattle.cli_report.specs.declared.gathering.Unwritten.{Unwritten}
 use Rattle.cli_report.proofs.GatherSteps.{breaks_before, breaks_nothing, passes_nothing, passes_whole}
 use Rattle.cli_run.specs.ByName.{EndsBy}
-use Rattle.cli_run.specs.CallListing.{GathersRows, LeavesCalls, ListsThrough, StaysIfShort, TakesCalls, WritesCalls, WritesRows, numbered}
+use Rattle.cli_run.specs.CallListing.{GathersRows, LeavesCalls, ListsThrough, StaysIfShort, TakesCalls, WritesCalls, WritesRows, number_and_time, numbered}
 use Rattle.cli_run.specs.Going.{GoesThrough, StopsWithin}
 use Rattle.cli_run.specs.Inputs.{ArePlaced, IsPlaced, Part, PassedOver, Placed, Whole}
 use Rattle.cli_run.specs.OutputWriting.{FailsBy, LeavesFirst}
@@ -79,7 +79,7 @@ module _ {W E : Type 0} (held : W → Option (List ℕ)) (failures : W → ℕ) 
     (same_first : b.first.ghost_name ≡ a.first.ghost_name) (same_second : b.second.ghost_name ≡ a.second.ghost_name) (order : Order) (m : MessageTree) (place : MessagePlace) (size : ℕ)
     (same : b.second.now ≡ a.second.now) where
   abbrev x : Numbered
-  x = nth place.number m
+  x = nth (number_and_time place) m
 
   abbrev item : Placed
   item = record { place = place; item = record { order = order; message = m; size = size } }
@@ -169,8 +169,8 @@ number_above : (m n : ℕ) (item : CutMessage) (packets : Option Packets) (offse
 number_above m n item packets offset p less is = subst (λ (x : ℕ). nat_cmp m x ≡ Less) (sym is.number_is) (below m n less)
 
 placed_above : (packets : Option Packets) (m n offset : ℕ) (parts : List Part) (messages : List Placed) → m < n → ArePlaced packets n offset parts messages
-    → AllByRecursion (λ y. nat_cmp m y.number ≡ Less) (numbered messages)
-placed_above packets m n offset [] messages less p = subst (λ (l : List Placed). AllByRecursion (λ y. nat_cmp m y.number ≡ Less) (numbered l)) (sym p) tt
+    → AllByRecursion (λ y. nat_cmp m y.place.number ≡ Less) (numbered messages)
+placed_above packets m n offset [] messages less p = subst (λ (l : List Placed). AllByRecursion (λ y. nat_cmp m y.place.number ≡ Less) (numbered l)) (sym p) tt
 placed_above packets m n offset (Whole item ∷ parts) [] less p = absurd p
 placed_above packets m n offset (Whole item ∷ parts) (x ∷ messages) less p =
     (number_above m n item packets offset x less p.0, placed_above packets m (n + 1) (offset + item.size) parts messages (omega (arith, less)) p.1)
@@ -178,10 +178,10 @@ placed_above packets m n offset (PassedOver kept fault size ∷ parts) messages 
 
 pub placed_rise : (packets : Option Packets) (n offset : ℕ) (parts : List Part) (messages : List Placed) → ArePlaced packets n offset parts messages → AreRising (numbered messages)
 unfolding IsStrictlySortedBy
-placed_rise packets n offset [] messages p = subst (λ (l : List Placed). IsStrictlySortedBy (λ a b. nat_cmp a.number b.number) (numbered l)) (sym p) tt
+placed_rise packets n offset [] messages p = subst (λ (l : List Placed). IsStrictlySortedBy (λ a b. nat_cmp a.place.number b.place.number) (numbered l)) (sym p) tt
 placed_rise packets n offset (Whole item ∷ parts) [] p = absurd p
 placed_rise packets n offset (Whole item ∷ parts) (x ∷ messages) p = (
-  subst (λ (k : ℕ). AllByRecursion (λ y. nat_cmp k y.number ≡ Less) (numbered messages)) (sym p.0.number_is) (placed_above packets n (n + 1) (offset + item.size) parts messages (omega arith) p.1),
+  subst (λ (k : ℕ). AllByRecursion (λ y. nat_cmp k y.place.number ≡ Less) (numbered messages)) (sym p.0.number_is) (placed_above packets n (n + 1) (offset + item.size) parts messages (omega arith) p.1),
   placed_rise packets (n + 1) (offset + item.size) parts messages p.1,
 )
 placed_rise packets n offset (PassedOver kept fault size ∷ parts) messages p = placed_rise packets (n + 1) (offset + size) parts messages p

@@ -17,7 +17,6 @@ use Rattle.dbus_rule.specs.Rules.{sender_of, Pair}
 use Rattle.dbus_rule.specs.RuleViews.{rule_pairs}
 use Rattle.dbus_rule_set.specs.Owners.{OwnerSet, owners_in}
 use Rattle.dbus_calls.specs.OwnerChanges.{change_of, is_text}
-use Rattle.dbus_call_lines.specs.Listing.{nth}
 use Rattle.cli_options.specs.Selections.{AreSameCommand, AreSameSelection, OrInverted, SelectsBy, SomeMatches}
 use Rattle.cli_options.specs.declared.command.Command.{Command}
 use Rattle.cli_options.specs.declared.command.Command.TheVariants.{Show, Json, Check, Swap, Filter}
@@ -28,7 +27,6 @@ use Rattle.cli_report.specs.declared.telling.RefusedMessage.{RefusedMessage}
 use Rattle.cli_report.specs.declared.ending.ExitStatus.TheVariants as status
 use Rattle.cli_run.specs.Learning.{ask_sender, changed, known_after}
 use Rattle.cli_run.specs.ByName.{after_messages}
-use Rattle.cli_run.specs.CallListing.{numbered}
 use Rattle.cli_run.specs.Inputs.{ArePlaced, Part, PassedOver, Placed, Whole}
 use Rattle.cli_run.specs.Output.{IsExact, IsOutputOf, IsOutputOfAll, IsTextOf, Picks, is_check, owners_after, owners_known}
 use Rattle.cli_run.specs.Going.{AreTold, IsTold, IsToldLast, passed_count, status_at, tally_of}
@@ -68,18 +66,6 @@ same_counts packets others n offset (Whole item ∷ parts) (m ∷ a) (l ∷ b) n
     let same : m.item ≡ l.item = p.0.item_is ∙ sym q.0.item_is in
     same_counts packets others (n + 1) (offset + item.size) parts a b name _ p.1 q.1 ∙ ap (λ (x : CutMessage). after_messages b name (with_names (names_of x.message) x.size name c)) same
 same_counts packets others n offset (PassedOver kept fault size ∷ parts) a b name c p q = same_counts packets others (n + 1) (offset + size) parts a b name c p q
-
--- and have the same numbers
-pub same_numbers : (packets others : Option Packets) (n offset : ℕ) (parts : List Part) (a b : List Placed) → ArePlaced packets n offset parts a → ArePlaced others n offset parts b → numbered a ≡ numbered b
-same_numbers packets others n offset [] a b p q = ap numbered (p ∙ sym q)
-same_numbers packets others n offset (Whole item ∷ parts) [] b p q = absurd p
-same_numbers packets others n offset (Whole item ∷ parts) (m ∷ a) [] p q = absurd q
-same_numbers packets others n offset (Whole item ∷ parts) (m ∷ a) (l ∷ b) p q =
-    let number : m.place.number ≡ l.place.number = p.0.number_is ∙ sym q.0.number_is in
-    let same : m.item ≡ l.item = p.0.item_is ∙ sym q.0.item_is in
-    let more = same_numbers packets others (n + 1) (offset + item.size) parts a b p.1 q.1 in
-    λ i. nth (number i) (same i).message ∷ more i
-same_numbers packets others n offset (PassedOver kept fault size ∷ parts) a b p q = same_numbers packets others (n + 1) (offset + size) parts a b p q
 
 pub bare_tally : (parts : List Part) → tally_of parts ≡ tally_of (bare parts)
 bare_tally [] = refl

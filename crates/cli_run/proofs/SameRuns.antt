@@ -10,7 +10,7 @@ use Rattle.dbus_value_model.specs.declared.fault.Fault.{Fault}
 use Rattle.dbus_value_model.specs.declared.limits.Limits.{Limits}
 use Rattle.dbus_count.specs.Counting.{Counting}
 use Rattle.dbus_count.specs.Tables.{AreTables, words, OneTable}
-use Rattle.dbus_call_lines.specs.Listing.{AreListed, Numbered, rows_text}
+use Rattle.dbus_call_lines.specs.Listing.{AreListed, rows_text}
 use Rattle.dbus_call_lines.proofs.Rows.{one_list}
 use Rattle.dbus_stream.specs.Cut.{IsOutcome, BeginWith, CutMessage, CutOutcome, Refused, IsCut}
 use Rattle.dbus_stream.specs.CutEnds.{fault_at_end, sizes}
@@ -30,7 +30,7 @@ use Rattle.cli_run.specs.Running.{Writes, TellsLine}
 use Rattle.cli_run.specs.Told.{first_of, second_of}
 use Rattle.cli_run.specs.declared.tally.Tally.{Tally}
 use Rattle.cli_run.proofs.PartLaws.{is_last, parts_more, parts_of}
-use Rattle.cli_run.proofs.SameOutputs.{acts_as, are_passed, bare_placed, bare_tally, none_last, none_refused, none_told, one_placed, same_counts, same_last, same_numbers, same_outputs, same_told}
+use Rattle.cli_run.proofs.SameOutputs.{acts_as, are_passed, bare_placed, bare_tally, none_last, none_refused, none_told, one_placed, same_counts, same_last, same_outputs, same_told}
 use Rattle.cli_run.proofs.SameParts.{AreSame, EndsHere, bare, ends_here, same_parts}
 use Rattle.std.specs.List.{concat}
 
@@ -200,7 +200,7 @@ one_count R S W V E F one_table r s w v e f settings form most more end other is
 ]
 
 pub one_calls : (R S W V E F : Type 0) → OneCalls R S W V E F
-one_calls R S W V E F r s w v e f settings wanted most more end other is lists listed = elim lists [
+one_calls R S W V E F r s w v e f settings wanted most more end other is packets lists listed = elim lists [
   | inl g ↦ elim listed [
     | inl h ↦ (
         let input = is.input in
@@ -212,7 +212,10 @@ one_calls R S W V E F r s w v e f settings wanted most more end other is lists l
         let told = all.0 in
         let one = ended (WritesCalls w wanted items) (writing e.held e.failures g.before e.new) g.due end is.done all.1.1 in
         let too = ended (WritesCalls v wanted also) (writing f.held f.failures h.before f.new) h.due other is.other_done all.2.1 in
-        let listed_too = subst (λ (l : List Numbered). AreListed [] l too.0.0) (same_numbers (s.packets s.old) (r.packets r.old) 1 0 all.4 also items all.6 all.5) too.0.1 in
+        let here = subst (λ (p : Option Packets). ArePlaced p 1 0 all.4 items) packets.one all.5 in
+        let there = subst (λ (p : Option Packets). ArePlaced p 1 0 all.4 also) packets.same all.6 in
+        let same = one_placed packets.all 1 0 all.4 also items there here in
+        let listed_too = subst (λ (l : List Placed). AreListed [] (numbered l) too.0.0) same too.0.1 in
         let text : rows_text wanted one.0.0 ≡ rows_text wanted too.0.0 = ap (rows_text wanted) (one_list (numbered items) one.0.0 too.0.0 one.0.1 listed_too) in
         record {
           status_is = too.2 ∙ (all.3 ∙ sym one.2);

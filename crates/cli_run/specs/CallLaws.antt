@@ -10,7 +10,7 @@ use Rattle.dbus_call_lines.proofs.Some.{front_rises}
 use Rattle.dbus_call_lines.proofs.Steps.{lines_both}
 use Rattle.cli_report.specs.Gathering.{Passes, gathered_bytes}
 use Rattle.cli_report.specs.PageLaws.{passes_both, passes_none}
-use Rattle.cli_run.specs.CallListing.{LeavesCalls, TakesCalls, numbered}
+use Rattle.cli_run.specs.CallListing.{LeavesCalls, TakesCalls, number_and_time, numbered}
 use Rattle.cli_report.specs.declared.ending.Cause.TheVariants.{Memory, ReadFailed, TooManyReads}
 use Rattle.cli_run.specs.Inputs.{Placed}
 use Rattle.cli_run.specs.OutputWriting.{LeavesFirst}
@@ -23,7 +23,7 @@ use Rattle.cli_run.specs.declared.visitor.RunStop.TheVariants.{Cause as ByCause}
 
 numbered_both : (s t : List Placed) → numbered (s ++ t) ≡ numbered s ++ numbered t
 numbered_both [] t = refl
-numbered_both (m ∷ s) t = ap (λ l. nth m.place.number m.item.message ∷ l) (numbered_both s t)
+numbered_both (m ∷ s) t = ap (λ l. nth (number_and_time m.place) m.item.message ∷ l) (numbered_both s t)
 
 -- the numbers of messages and of others rise
 module _ (before : List Numbered) (s t : List Placed) where

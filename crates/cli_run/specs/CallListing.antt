@@ -4,6 +4,7 @@ use Rattle.std.specs.Prelude.{◌≡◌, ◌⊎◌, ℕ, false, List, [], ◌∷
 use Rattle.dbus_device.specs.Device.{Wrote}
 use Rattle.dbus_call_lines.specs.Keeping.{Keeps}
 use Rattle.dbus_call_lines.specs.Listing.{AreListed, AreListedBy, AreRising, Numbered, Row, nth, rows_text}
+use Rattle.dbus_call_lines.specs.declared.place.Place.{Place}
 use Rattle.dbus_call_lines.specs.declared.wanted.Wanted.{Wanted}
 use Rattle.cli_options.specs.declared.settings.Settings.{Settings}
 use Rattle.cli_report.specs.Devices.{Reading, Writing, taken, writing}
@@ -17,11 +18,16 @@ use Rattle.cli_run.specs.Inputs.{Placed}
 use Rattle.cli_run.specs.OutputWriting.{LeavesFirst}
 use Rattle.cli_run.specs.Told.{GotFirst, GotSecond}
 use Rattle.cli_run.specs.declared.call_listing.Lister.{Lister}
+use Rattle.cli_run.specs.declared.place.MessagePlace.{MessagePlace}
 use Rattle.cli_run.specs.declared.visitor.RunStop.{RunStop}
 
--- the messages, each with its number
+-- the place of a message, without where it begins
+abbrev pub number_and_time : MessagePlace → Place
+number_and_time place = record { number = place.number; time = place.time }
+
+-- the messages, each with its number and its time
 abbrev pub numbered : List Placed → List Numbered
-numbered items = map (λ m. nth m.place.number m.item.message) items
+numbered items = map (λ m. nth (number_and_time m.place) m.item.message) items
 
 -- for want of memory nothing is done; else nothing but a write fails
 abbrev pub StaysIfShort : {W : Type 0} → Writing W → (g0 g1 : List ℕ) → Result (Unit {0}) Cause → Type 0

@@ -107,7 +107,7 @@ abbrev pub OneCount : (R S W V E F : Type 0) → Type 0
 OneCount R S W V E F = (r : Reading R) (s : Reading S) (w : Writing W) (v : Writing V) (e : Writing E) (f : Writing F) (settings : Settings) (form : Form) (most more : ℕ) (end other : ExitStatus)
     → AreOfOneInput r s settings end other → CountsByName r w e settings form most end → CountsByName s v f settings form more other → EndAlike w v e f end other
 
--- two runs that list calls
+-- two runs that list calls, of the same packets: a line has the time of its call's packet
 abbrev pub OneCalls : (R S W V E F : Type 0) → Type 0
 OneCalls R S W V E F = (r : Reading R) (s : Reading S) (w : Writing W) (v : Writing V) (e : Writing E) (f : Writing F) (settings : Settings) (wanted : Wanted) (most more : ℕ) (end other : ExitStatus)
-    → AreOfOneInput r s settings end other → ListsCalls r w e settings wanted most end → ListsCalls s v f settings wanted more other → EndAlike w v e f end other
+    → AreOfOneInput r s settings end other → AreOfSamePackets r s → ListsCalls r w e settings wanted most end → ListsCalls s v f settings wanted more other → EndAlike w v e f end other

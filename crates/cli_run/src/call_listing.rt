@@ -10,7 +10,7 @@ ghost use Rattle.dbus_call_lines.specs.declared.wanted.Wanted.{Wanted};
 ghost use Rattle.cli_report.specs.Devices.{reading, writing};
 ghost use Rattle.cli_report.specs.Gathering.{gathered_bytes};
 ghost use Rattle.cli_run.specs.CallLaws.{lister_adds_up};
-ghost use Rattle.cli_run.specs.CallListing.{GathersRows, LeavesCalls, ListsCalls, StaysIfShort, TakesCalls, WritesRows};
+ghost use Rattle.cli_run.specs.CallListing.{GathersRows, LeavesCalls, ListsCalls, StaysIfShort, TakesCalls, WritesRows, number_and_time};
 
 use crate::going::{pass_through, tell_stop};
 use crate::output_writer::{First, fail_by};
@@ -18,7 +18,7 @@ use crate::place::Lent;
 use crate::visitor::{MessageVisitor, write_text};
 use cli_options::Settings;
 use cli_report::{Cause, ExitStatus, OutputBuffer, Page, Unwritten, give_up, write_out};
-use dbus_call_lines::{CallList, Wanted};
+use dbus_call_lines::{CallList, Place, Wanted};
 use dbus_stream::{MOST_READS, Sink, Source};
 use dbus_view::MessageView;
 use std::alloc::{AllocError, Global};
@@ -84,10 +84,10 @@ fn list_message<W: Sink>(
     ensures lists { (order : Order) (m : MessageTree) →
         IsWhole lent.now.limits lent.now.bytes.now order m (length lent.now.bytes.now) →
         (wanted : Wanted) (before : List Numbered) → Keeps wanted before list.old →
-        AreRising (before ++ nth lent.now.place.number m ∷ []) →
-        OnOk result (Keeps wanted (before ++ nth lent.now.place.number m ∷ []) list.new) ×
+        AreRising (before ++ nth (number_and_time lent.now.place) m ∷ []) →
+        OnOk result (Keeps wanted (before ++ nth (number_and_time lent.now.place) m ∷ []) list.new) ×
         GathersRows (writing W.held W.failures first.old first.new) wanted
-        (ListsAfter before (nth lent.now.place.number m))
+        (ListsAfter before (nth (number_and_time lent.now.place) m))
         (gathered_bytes gathered.old) (gathered_bytes gathered.new) result }
     ensures stays { StaysIfShort (writing W.held W.failures first.old first.new)
         (gathered_bytes gathered.old) (gathered_bytes gathered.new) result }
@@ -98,7 +98,11 @@ fn list_message<W: Sink>(
         first,
         failed: false,
     };
-    match list.take(&mut page, lent.place.number, &view) {
+    let place = Place {
+        number: lent.place.number,
+        time: lent.place.time,
+    };
+    match list.take(&mut page, place, &view) {
         Ok(()) => {
             if page.failed {
                 Err(Cause::WriteFailed)

@@ -51,7 +51,7 @@ pub fn one_count<R, S, W, V, E, F>()
     one_table();
 }
 
-/// The same of two runs that list calls.
+/// The same of two runs that list calls, if their inputs are of the same packets.
 pub fn one_calls<R, S, W, V, E, F>()
     ensures { OneCalls R S W V E F }
 {}

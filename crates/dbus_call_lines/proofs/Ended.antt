@@ -58,7 +58,7 @@ module _ (before : List Numbered) (x : Numbered) (e : Event) (is : e ≡ event_o
   to_list : (p : Option Numbered) (call : Numbered) → p ≡ Some call → Contains (as_list p) call
   to_list p call same = subst (λ (q : Option Numbered). Contains (as_list q) call) (sym same) (here call [])
 
-  one_rises : (p : Option Numbered) → IsStrictlySortedBy (λ a b. nat_cmp a.number b.number) (as_list p)
+  one_rises : (p : Option Numbered) → IsStrictlySortedBy (λ a b. nat_cmp a.place.number b.place.number) (as_list p)
   unfolding IsStrictlySortedBy
   one_rises None = tt
   one_rises (Some c) = (tt, tt)
@@ -74,7 +74,7 @@ module _ (before : List Numbered) (x : Numbered) (e : Event) (is : e ≡ event_o
 
   -- its line, if the message has none of its own
   pub lists_one : (wanted : Wanted) {S : Type 0} (gains : S → List ℕ → S → Type 0) (old new : S) (outcome : Outcome) (o : Option WaitingCall) (p : Option Numbered) → IsKept wanted o p
-      → ((call : Numbered) → IsTaken w e call ↔ (p ≡ Some call)) → outcome ≡ outcome_by x.number x.message → WantsNone e ≡ false → gains old (kept_text wanted outcome (as_list (option_map kept o))) new
+      → ((call : Numbered) → IsTaken w e call ↔ (p ≡ Some call)) → outcome ≡ outcome_by x.place x.message → WantsNone e ≡ false → gains old (kept_text wanted outcome (as_list (option_map kept o))) new
       → (rows : List Row) × ListsAfter before x rows × gains old (rows_text wanted rows) new
   lists_one wanted {S} gains old new outcome o p same takes by none g =
       let own : own_row before x ≡ [] = ap (λ b. if b then row Unwanted x ∷ [] else []) (not_unwanted x e is none) in
@@ -85,7 +85,7 @@ module _ (before : List Numbered) (x : Numbered) (e : Event) (is : e ≡ event_o
         record {
           calls = as_list p;
           calls_are = those p takes;
-          rows_are = ap (λ (y : Outcome). map (row y) (as_list p)) by ∙ (sym (append-nil (map (row (outcome_by x.number x.message)) (as_list p))) ∙ ap (λ l. map (row (outcome_by x.number x.message)) (as_list p) ++ l) (sym own));
+          rows_are = ap (λ (y : Outcome). map (row y) (as_list p)) by ∙ (sym (append-nil (map (row (outcome_by x.place x.message)) (as_list p))) ∙ ap (λ l. map (row (outcome_by x.place x.message)) (as_list p) ++ l) (sym own));
         },
         subst (λ (t : List ℕ). gains old t new) text g,
       )

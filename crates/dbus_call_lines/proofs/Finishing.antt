@@ -84,8 +84,8 @@ module _ (wanted : Wanted) (before : List Numbered) (rising : AreRising before) 
   abbrev WasOpen : Numbered → Type 0
   WasOpen n = IsOpen message_of before n
 
-  one : (a b : Numbered) → WasOpen a → WasOpen b → a.number ≡ b.number → a ≡ b
-  one a b p q number = one_number before rising a b (open_among before a p) (open_among before b q) (numbers_same a.number b.number number)
+  one : (a b : Numbered) → WasOpen a → WasOpen b → a.place.number ≡ b.place.number → a ≡ b
+  one a b p q number = one_number before rising a b (open_among before a p) (open_among before b q) (numbers_same a.place.number b.place.number number)
 
   -- one of this caller
   abbrev IsOf : List ℕ → Numbered → Type 0
@@ -100,7 +100,7 @@ module _ (wanted : Wanted) (before : List Numbered) (rising : AreRising before) 
 
   both_known : (a b : String Global) (c d : WaitingCall) → KnownOf (string_bytes a) c → KnownOf (string_bytes b) d → eq_by_cmp string_cmp a b ≡ false → same c d ≡ false
   both_known a b c d h k apart = none_same (same c d) (λ alike.
-      let number : h.0.number ≡ k.0.number = sym (ap (λ z. z.number) h.2) ∙ (same_numbers c.number d.number alike ∙ ap (λ z. z.number) k.2) in
+      let number : h.0.place.number ≡ k.0.place.number = sym (ap (λ z. z.place.number) h.2) ∙ (same_numbers c.place.number d.place.number alike ∙ ap (λ z. z.place.number) k.2) in
       let call : h.0 ≡ k.0 = one h.0 k.0 h.1.0 k.1.0 number in
       no_both (eq_by_cmp string_cmp a b) (text_same a b (h.1.1 ∙ (ap (λ (n : Numbered). caller_of n.message) call ∙ sym k.1.1))) apart)
 
@@ -130,7 +130,7 @@ module _ (wanted : Wanted) (before : List Numbered) (rising : AreRising before) 
         let name : List ℕ = string_bytes e.0 in
         let closed : (s : ℕ) → call_at e.1 s ≡ u name s = λ s. ap (λ (m : Option Calls). call_in m s) (sym got) ∙ kept_are name s in
         let by_key : (s : ℕ) (n : Numbered) → w name s ≡ Some n → IsOf name n = λ s n at. (let o = (keeps_open message_of before name s n).0 at in (o.0, o.1)) in
-        let one_of : (a b : Numbered) → IsOf name a → IsOf name b → a.number ≡ b.number → a ≡ b = λ a b p q number. one a b p.0 q.0 number in
+        let one_of : (a b : Numbered) → IsOf name a → IsOf name b → a.place.number ≡ b.place.number → a ≡ b = λ a b p q number. one a b p.0 q.0 number in
         (apart_of wanted before (IsOf name) one_of name e.1 is.0 is.1 u are closed by_key, each_of wanted before (IsOf name) one_of name e.1 is.0 is.1 u are closed by_key)
 
     callers_are : AllByRecursion IsCaller callers.entries

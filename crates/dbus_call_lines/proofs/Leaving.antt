@@ -18,6 +18,7 @@ use Rattle.dbus_call_lines.specs.Listing.{AreRising, IsEnded, IsTaken, Numbered,
 use Rattle.dbus_call_lines.specs.Outcomes.{Outcome, or_dash, outcome_by}
 use Rattle.dbus_call_lines.specs.Outcomes.Outcome.{Reply, Error, Unwanted, Left, Replaced}
 use Rattle.dbus_call_lines.specs.declared.call_list.CallList.{CallList}
+use Rattle.dbus_call_lines.specs.declared.place.Place.{Place}
 use Rattle.dbus_call_lines.specs.declared.waiting_call.WaitingCall.{WaitingCall}
 use Rattle.dbus_call_lines.specs.declared.wanted.Wanted.{Wanted}
 use Rattle.dbus_call_lines.proofs.Ended.{are_kept, keeps_next, not_unwanted}
@@ -31,17 +32,17 @@ numbers_same : (a b : ℕ) → a ≡ b → nat_eq a b ≡ true
 numbers_same a b is = grind arith
 
 -- by what is neither a call nor a reply a call ends without one
-left_kind : (b r e : Bool) (c caller to : List ℕ) (serial to_serial number : ℕ) (wants : Bool) (sender : Option (List ℕ)) (name : List ℕ) (rest : Event)
+left_kind : (b r e : Bool) (c caller to : List ℕ) (serial to_serial : ℕ) (at : Place) (wants : Bool) (sender : Option (List ℕ)) (name : List ℕ) (rest : Event)
     → Leaves c ≡ (if b then Calls caller serial wants else if r || e then Replies to to_serial sender else rest)
-    → Left ≡ (if r then Reply number else if e then Error number name else if b then Replaced else Left)
-left_kind true r e c caller to serial to_serial number wants sender name rest is = cc
-left_kind false true e c caller to serial to_serial number wants sender name rest is = cc
-left_kind false false true c caller to serial to_serial number wants sender name rest is = cc
-left_kind false false false c caller to serial to_serial number wants sender name rest is = refl
+    → Left ≡ (if r then Reply at else if e then Error at name else if b then Replaced else Left)
+left_kind true r e c caller to serial to_serial at wants sender name rest is = cc
+left_kind false true e c caller to serial to_serial at wants sender name rest is = cc
+left_kind false false true c caller to serial to_serial at wants sender name rest is = cc
+left_kind false false false c caller to serial to_serial at wants sender name rest is = refl
 
-left_by : (x : Numbered) (c : List ℕ) → Leaves c ≡ event_of x.message → Left ≡ outcome_by x.number x.message
+left_by : (x : Numbered) (c : List ℕ) → Leaves c ≡ event_of x.message → Left ≡ outcome_by x.place x.message
 left_by x c is = left_kind (x.message.kind == message.METHOD_CALL) (x.message.kind == message.METHOD_RETURN) (x.message.kind == message.ERROR) c (caller_of x.message) (replied_to x.message) x.message.serial
-    (reply_serial_of x.message) x.number (wants_reply x.message) (sender_of x.message) (or_dash (text_at field.ERROR_NAME x.message)) (departed (change_of x.message)) is
+    (reply_serial_of x.message) x.place (wants_reply x.message) (sender_of x.message) (or_dash (text_at field.ERROR_NAME x.message)) (departed (change_of x.message)) is
 
 module _ (before : List Numbered) (x : Numbered) {S : Type 0} (gains : S → List ℕ → S → Type 0) (joins : (a b c : S) (s t : List ℕ) → gains a s b → gains b t c → gains a (s ++ t) c) (old new : S) (list list' : CallList)
     (wanted : Wanted) (keeps : Keeps wanted before list) (same : list'.wanted ≡ list.wanted) (name : List ℕ) (is : Leaves name ≡ event_of x.message)
@@ -54,8 +55,8 @@ module _ (before : List Numbered) (x : Numbered) {S : Type 0} (gains : S → Lis
   abbrev Ended : Numbered → Type 0
   Ended n = IsEnded before x n
 
-  one : (a b : Numbered) → Ended a → Ended b → a.number ≡ b.number → a ≡ b
-  one a b p q number = one_number (before ++ x ∷ []) rising a b (Contains-append_left before (x ∷ []) a (open_among before a p.0)) (Contains-append_left before (x ∷ []) b (open_among before b q.0)) (numbers_same a.number b.number number)
+  one : (a b : Numbered) → Ended a → Ended b → a.place.number ≡ b.place.number → a ≡ b
+  one a b p q number = one_number (before ++ x ∷ []) rising a b (Contains-append_left before (x ∷ []) a (open_among before a p.0)) (Contains-append_left before (x ∷ []) b (open_among before b q.0)) (numbers_same a.place.number b.place.number number)
 
   by_key : (s : ℕ) (n : Numbered) → w name s ≡ Some n → Ended n
   by_key s n at = (takes_ended before x n).1 (subst (λ e. IsTaken w e n) is (s, at))
@@ -78,7 +79,7 @@ module _ (before : List Numbered) (x : Numbered) {S : Type 0} (gains : S → Lis
           calls = l.0;
           calls_are = l.1;
           rows_are = ap (λ (y : Outcome). map (row y) l.0) (left_by x name is)
-              ∙ (sym (append-nil (map (row (outcome_by x.number x.message)) l.0)) ∙ ap (λ r. map (row (outcome_by x.number x.message)) l.0 ++ r) (sym own));
+              ∙ (sym (append-nil (map (row (outcome_by x.place x.message)) l.0)) ∙ ap (λ r. map (row (outcome_by x.place x.message)) l.0 ++ r) (sym own));
         },
         l.2,
       ))

@@ -7,10 +7,14 @@ use Rattle.dbus_texts.specs.Types.{TextCode}
 use Rattle.dbus_value_model.specs.Values.{ValueTree, TextValue}
 use Rattle.dbus_message_model.specs.declared.field_code.TheConstants as field
 use Rattle.dbus_json.specs.JsonValues.{listed, member, plain, string}
+use Rattle.dbus_json.specs.Times.{time_members}
 use Rattle.dbus_match.specs.Matching.{text_of}
+use Rattle.dbus_value_text.specs.Forms.{led}
 use Rattle.dbus_calls.specs.Events.{destination_of, sender_of, text_at}
+use Rattle.dbus_call_lines.specs.Durations.{exact_text}
 use Rattle.dbus_call_lines.specs.CallLines.{HasTwoParts, behind_commas, member_if, outcome_members}
 use Rattle.dbus_call_lines.specs.Outcomes.{or_dash}
+use Rattle.dbus_call_lines.specs.declared.elapsed.Elapsed.{Elapsed}
 use Rattle.dbus_call_lines.specs.declared.form.Form.TheVariants.{Text, Json}
 
 -- the text that a view gives of a field
@@ -28,9 +32,9 @@ pub dash_seen : (seen : Option (Bor (List ℕ))) (dash text : Bor (List ℕ)) (k
 dash_seen seen dash text kind value is same at = ap (λ (b : Bor (List ℕ)). b.now) same ∙ (dash_at seen dash is ∙ ap or_dash (text_seen seen kind value at))
 
 -- the members after the first, each behind a comma
-abbrev pub more_members : (serial : ℕ) (sender destination path interface name : Option (List ℕ)) → List (List ℕ)
-more_members serial sender destination path interface name = member (codes "serial") (decimal serial)
-    ∷ (member_if (codes "sender") sender ++ (member_if (codes "destination") destination ++ (member_if (codes "path") path ++ (member_if (codes "interface") interface ++ member_if (codes "member") name))))
+abbrev pub more_members : (time : Option ℕ) (serial : ℕ) (sender destination path interface name : Option (List ℕ)) → List (List ℕ)
+more_members time serial sender destination path interface name = time_members time ++ (member (codes "serial") (decimal serial)
+    ∷ (member_if (codes "sender") sender ++ (member_if (codes "destination") destination ++ (member_if (codes "path") path ++ (member_if (codes "interface") interface ++ member_if (codes "member") name)))))
 
 module _ (name value : List ℕ) where
   comma_pieces : (comma quote colon : List ℕ) → ((comma ++ quote) ++ (name ++ (quote ++ colon))) ++ value ≡ (comma ++ ((quote ++ (name ++ quote)) ++ (colon ++ value))) ++ []
@@ -44,12 +48,23 @@ module _ (name value : List ℕ) where
 pub number_member : (number : ℕ) → codes ",\"reply\":" ++ decimal number ≡ behind_commas (member (codes "reply") (decimal number) ∷ [])
 number_member number = ap (λ t. codes ",\"reply\":" ++ t) (sym (append-nil (decimal number)))
 
-two_pieces : (first second value : List ℕ) → (first ++ []) ++ (second ++ value) ≡ first ++ ((second ++ value) ++ [])
-two_pieces first second value = simp (append-nil)
+-- of how long it took
+pub took_member : (e : Elapsed) → codes ",\"milliseconds\":" ++ exact_text e ≡ behind_commas (member (codes "milliseconds") (exact_text e) ∷ [])
+took_member e = ap (λ t. codes ",\"milliseconds\":" ++ t) (sym (append-nil (exact_text e)))
 
-pub error_members : (number : ℕ) (name : List ℕ) → behind_commas (member (codes "reply") (decimal number) ∷ []) ++ (codes ",\"error_name\":" ++ string name)
-    ≡ behind_commas (member (codes "reply") (decimal number) ∷ member (codes "error_name") (string name) ∷ [])
-error_members number name = two_pieces (codes "," ++ member (codes "reply") (decimal number)) (codes ",\"error_name\":") (string name)
+-- of a reply, and of an error
+reply_pieces : (first more : List ℕ) → (first ++ []) ++ more ≡ first ++ more
+reply_pieces first more = ap (λ t. t ++ more) (append-nil first)
+
+pub replied_members : (number : ℕ) (more : List (List ℕ)) → behind_commas (member (codes "reply") (decimal number) ∷ []) ++ behind_commas more ≡ behind_commas (member (codes "reply") (decimal number) ∷ more)
+replied_members number more = reply_pieces (codes "," ++ member (codes "reply") (decimal number)) (behind_commas more)
+
+error_pieces : (first second value more : List ℕ) → (first ++ []) ++ (second ++ (value ++ more)) ≡ first ++ ((second ++ value) ++ more)
+error_pieces first second value more = simp (append-nil, append_assoc)
+
+pub error_members : (number : ℕ) (name : List ℕ) (more : List (List ℕ)) → behind_commas (member (codes "reply") (decimal number) ∷ []) ++ (codes ",\"error_name\":" ++ (string name ++ behind_commas more))
+    ≡ behind_commas (member (codes "reply") (decimal number) ∷ member (codes "error_name") (string name) ∷ more)
+error_members number name more = error_pieces (codes "," ++ member (codes "reply") (decimal number)) (codes ",\"error_name\":") (string name) (behind_commas more)
 
 end_pieces : (lead word quote more close : List ℕ) → (lead ++ (word ++ quote)) ++ (more ++ close) ≡ ((lead ++ (word ++ quote)) ++ more) ++ close
 end_pieces lead word quote more close = simp (append_assoc)
@@ -68,24 +83,33 @@ five a b c d e =
     ∙ (ap (λ t. behind_commas a ++ t) (sym (flat_map-append with_comma b (c ++ (d ++ e))))
     ∙ sym (flat_map-append with_comma a (b ++ (c ++ (d ++ e))))))
 
-serial_pieces : (begin number lead serial more : List ℕ) → begin ++ (number ++ (lead ++ (serial ++ more))) ≡ begin ++ (number ++ ((lead ++ serial) ++ more))
-serial_pieces begin number lead serial more = simp (append_assoc)
+-- a time, behind its comma
+time_behind : (time : Option ℕ) → led (codes ",") (codes ",") (time_members time) ≡ behind_commas (time_members time)
+time_behind None = refl
+time_behind (Some t) = refl
+
+serial_pieces : (begin number time lead serial more : List ℕ) → begin ++ (number ++ (time ++ (lead ++ (serial ++ more)))) ≡ begin ++ (number ++ (time ++ ((lead ++ serial) ++ more)))
+serial_pieces begin number time lead serial more = simp (append_assoc)
 
 -- the first members of a line
-pub members_are : (number serial : ℕ) (a b c d e : List (List ℕ))
-    → codes "{\"number\":" ++ (decimal number ++ (codes ",\"serial\":" ++ (decimal serial ++ (behind_commas a ++ (behind_commas b ++ (behind_commas c ++ (behind_commas d ++ behind_commas e)))))))
-    ≡ codes "{" ++ listed (member (codes "number") (decimal number) ∷ member (codes "serial") (decimal serial) ∷ (a ++ (b ++ (c ++ (d ++ e)))))
-members_are number serial a b c d e =
-    ap (λ t. codes "{\"number\":" ++ (decimal number ++ (codes ",\"serial\":" ++ (decimal serial ++ t)))) (five a b c d e)
-    ∙ serial_pieces (codes "{\"number\":") (decimal number) (codes ",\"serial\":") (decimal serial) (behind_commas (a ++ (b ++ (c ++ (d ++ e)))))
+pub members_are : (number : ℕ) (time : Option ℕ) (serial : ℕ) (a b c d e : List (List ℕ))
+    → codes "{\"number\":" ++ (decimal number ++ (led (codes ",") (codes ",") (time_members time) ++ (codes ",\"serial\":" ++ (decimal serial ++ (behind_commas a ++ (behind_commas b ++ (behind_commas c ++ (behind_commas d ++ behind_commas e))))))))
+    ≡ codes "{" ++ listed (member (codes "number") (decimal number) ∷ (time_members time ++ (member (codes "serial") (decimal serial) ∷ (a ++ (b ++ (c ++ (d ++ e)))))))
+members_are number time serial a b c d e =
+    let with_comma : List ℕ → List ℕ = λ m. codes "," ++ m in
+    let more : List (List ℕ) = a ++ (b ++ (c ++ (d ++ e))) in
+    ap (λ t. codes "{\"number\":" ++ (decimal number ++ (led (codes ",") (codes ",") (time_members time) ++ (codes ",\"serial\":" ++ (decimal serial ++ t))))) (five a b c d e)
+    ∙ (ap (λ t. codes "{\"number\":" ++ (decimal number ++ (t ++ (codes ",\"serial\":" ++ (decimal serial ++ behind_commas more))))) (time_behind time)
+    ∙ (serial_pieces (codes "{\"number\":") (decimal number) (behind_commas (time_members time)) (codes ",\"serial\":") (decimal serial) (behind_commas more)
+    ∙ ap (λ t. codes "{\"number\":" ++ (decimal number ++ t)) (sym (flat_map-append with_comma (time_members time) (member (codes "serial") (decimal serial) ∷ more)))))
 
 joined : (begin first more others close last : List ℕ) → (begin ++ (first ++ more)) ++ (others ++ (close ++ last)) ≡ (begin ++ ((first ++ (more ++ others)) ++ close)) ++ last
 joined begin first more others close last = simp (append_assoc)
 
 pub two_parts : HasTwoParts
-two_parts Text number call outcome = refl
-two_parts Json number call outcome =
-    let more = more_members call.serial (sender_of call) (destination_of call) (text_at field.PATH call) (text_at field.INTERFACE call) (text_at field.MEMBER call) in
-    let first = member (codes "number") (decimal number) in
-    joined (codes "{") first (behind_commas more) (behind_commas (outcome_members outcome)) (codes "}") (codes "\n")
-    ∙ ap (λ t. (codes "{" ++ ((first ++ t) ++ codes "}")) ++ codes "\n") (sym (flat_map-append (λ m. codes "," ++ m) more (outcome_members outcome)))
+two_parts Text place call outcome = refl
+two_parts Json place call outcome =
+    let more = more_members place.time call.serial (sender_of call) (destination_of call) (text_at field.PATH call) (text_at field.INTERFACE call) (text_at field.MEMBER call) in
+    let first = member (codes "number") (decimal place.number) in
+    joined (codes "{") first (behind_commas more) (behind_commas (outcome_members place.time outcome)) (codes "}") (codes "\n")
+    ∙ ap (λ t. (codes "{" ++ ((first ++ t) ++ codes "}")) ++ codes "\n") (sym (flat_map-append (λ m. codes "," ++ m) more (outcome_members place.time outcome)))

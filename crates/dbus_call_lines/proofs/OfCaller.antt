@@ -52,7 +52,7 @@ key_same : (j k : ℕ) → j ≡ k → eq_by_cmp nat_cmp j k ≡ true
 key_same j k is = grind arith
 
 -- Of a map that keeps what waits of a caller, each call is known, and no two are the same.
-module _ (wanted : Wanted) (before : List Numbered) (Is : Numbered → Type 0) (one : (a b : Numbered) → Is a → Is b → a.number ≡ b.number → a ≡ b) (name : List ℕ) (calls : BTreeMap ℕ WaitingCall)
+module _ (wanted : Wanted) (before : List Numbered) (Is : Numbered → Type 0) (one : (a b : Numbered) → Is a → Is b → a.place.number ≡ b.place.number → a ≡ b) (name : List ℕ) (calls : BTreeMap ℕ WaitingCall)
     (ordered : IsOrdered nat_cmp calls) (gets : All (λ e. get nat_cmp calls e.0 ≡ Some e.1) calls.entries) (u : Waiting WaitingCall) (are : AreKept wanted u (run message_of no_calls before))
     (closed : (s : ℕ) → call_at calls s ≡ u name s) (by_key : (s : ℕ) (n : Numbered) → run message_of no_calls before name s ≡ Some n → Is n) where
   abbrev w : Waiting Numbered
@@ -84,7 +84,7 @@ module _ (wanted : Wanted) (before : List Numbered) (Is : Numbered → Type 0) (
       (k.0, value_in (is_at (nat_cmp s)) calls.entries k.0 (closed s ∙ k.1), k.2)
 
 -- The lines of calls that are known, each of which is kept once.
-module _ (wanted : Wanted) (Is : Numbered → Type 0) (one : (a b : Numbered) → Is a → Is b → a.number ≡ b.number → a ≡ b) (values : List WaitingCall) (apart : IsDistinct same values)
+module _ (wanted : Wanted) (Is : Numbered → Type 0) (one : (a b : Numbered) → Is a → Is b → a.place.number ≡ b.place.number → a ≡ b) (values : List WaitingCall) (apart : IsDistinct same values)
     (each : (call : WaitingCall) → Contains values call → Known wanted Is call) (all : (n : Numbered) → Is n → (call : WaitingCall) × Contains values call × (kept call ≡ kept_of wanted n))
     {S : Type 0} (gains : S → List ℕ → S → Type 0) (outcome : Outcome) (old new : S) (h : WritesSorted gains wanted outcome values old new) where
   those_behind : Behind wanted Is h.sorted

@@ -1,5 +1,5 @@
 -- Lines in words are printed.
-use Rattle.std.proofs.Common.{◌≡◌, ℕ, ◌+◌, ◌<◌, ◌^◌, ◌%◌, nat_lt, List, [], ◌∷◌, ◌++◌, Bool, true, false, Option, None, Some, ◌&&◌, ◌==◌, if◌then◌else◌, ⊎_elim, IsTrue, map, codes, decimal, refl, sym, subst, arith, append_assoc}
+use Rattle.std.proofs.Common.{◌≡◌, ℕ, ◌+◌, ◌-◌, ◌/◌, ◌<◌, ◌^◌, ◌%◌, nat_lt, List, [], ◌∷◌, ◌++◌, Bool, true, false, Option, None, Some, IfSome, ◌&&◌, ◌==◌, if◌then◌else◌, ⊎_elim, IsTrue, map, codes, decimal, refl, sym, subst, arith, append_assoc}
 use Rattle.std.specs.Int.{IsInRange}
 use Rattle.std.specs.List.{AllByRecursion, Contains}
 use Rattle.std.proofs.lemmas.Bool.{and_parts}
@@ -20,10 +20,13 @@ use Rattle.dbus_message_model.specs.declared.message_type.TheConstants as messag
 use Rattle.dbus_message_model.proofs.KnownValues.{suits_of}
 use Rattle.dbus_match.specs.Matching.{text_of}
 use Rattle.dbus_calls.specs.Events.{text_at}
-use Rattle.dbus_call_lines.specs.CallLines.{ArePrinted, IsPrintedLine, call_text, line, member_text, outcome_text}
-use Rattle.dbus_call_lines.specs.Listing.{AreListed, AreWithin, Numbered, OnlyPrinted, Row, is_unwanted, own_row, row}
+use Rattle.dbus_call_lines.specs.CallLines.{ArePrinted, IsPrintedLine, call_text, line, member_text, outcome_text, took_text}
+use Rattle.dbus_call_lines.specs.Durations.{between, milliseconds_text, sign, three_digits, time_between}
+use Rattle.dbus_call_lines.specs.Listing.{AreListed, AreWithin, IsPlaceWithin, Numbered, OnlyPrinted, Row, is_unwanted, own_row, row}
 use Rattle.dbus_call_lines.specs.Outcomes.{Outcome, or_dash, outcome_by}
 use Rattle.dbus_call_lines.specs.Outcomes.Outcome.{Reply, Error, Unwanted, Open, Left, Replaced}
+use Rattle.dbus_call_lines.specs.declared.elapsed.Elapsed.{Elapsed}
+use Rattle.dbus_call_lines.specs.declared.place.Place.{Place}
 use Rattle.dbus_call_lines.specs.declared.form.Form.TheVariants.{Text}
 use Rattle.dbus_call_lines.proofs.Rows.{all_at, all_both, here, open_among, there}
 
@@ -128,58 +131,99 @@ module _ (limits : Limits) (order : Order) (m : MessageTree) (is : IsMessage lim
       printed_both (decimal number) _ (decimal_printed number fits) (printed_both (codes " ") _ space (printed_both (or_dash (text_at field.SENDER m)) _ sender_printed
       (printed_both (codes " > ") _ (known_printed (codes " > ") refl) (printed_both (or_dash (text_at field.DESTINATION m)) _ destination_printed (printed_both (codes " ") _ space name)))))
 
+-- ---- how long a call took
+
+digit_printed : (n : ℕ) → IsInRange 32 126 (48 + n % 10)
+digit_printed n = (omega arith, omega arith)
+
+three_printed : (n : ℕ) → ArePrinted (three_digits n)
+three_printed n = (digit_printed (n / 100), (digit_printed (n / 10), (digit_printed (n / 1), tt)))
+
+sign_printed : (b : Bool) → ArePrinted (sign b)
+sign_printed true = known_printed (codes "-") refl
+sign_printed false = tt
+
+fewer : (n : ℕ) → n < 2 ^ 64 → n / 1000000 < 2 ^ 64
+fewer n small = omega (arith, small)
+
+milliseconds_printed : (e : Elapsed) → e.nanoseconds < 2 ^ 64 → ArePrinted (milliseconds_text e)
+milliseconds_printed e small = printed_both (sign e.backwards) _ (sign_printed e.backwards)
+    (printed_both (decimal (e.nanoseconds / 1000000)) _ (decimal_printed (e.nanoseconds / 1000000) (fewer e.nanoseconds small))
+    (printed_both (codes ".") (three_digits (e.nanoseconds / 1000)) (known_printed (codes ".") refl) (three_printed (e.nanoseconds / 1000))))
+
+-- a time of at most 64 bits, if it is known
+abbrev IsSmall : Option ℕ → Type 0
+IsSmall time = IfSome time (λ t. t < 2 ^ 64)
+
+less : (a b : ℕ) → a < 2 ^ 64 → a - b < 2 ^ 64
+less a b small = omega (arith, small)
+
+either_small : (b : Bool) (from to : ℕ) → from < 2 ^ 64 → to < 2 ^ 64
+    → (if b then (let e : Elapsed = record { backwards = true; nanoseconds = from - to } in e) else record { backwards = false; nanoseconds = to - from }).nanoseconds < 2 ^ 64
+either_small true from to p q = less from to p
+either_small false from to p q = less to from q
+
+took_printed : (from to : Option ℕ) → IsSmall from → IsSmall to → ArePrinted (took_text (time_between from to))
+took_printed (Some from) (Some to) p q = printed_both (codes " ") _ (known_printed (codes " ") refl)
+    (printed_both (milliseconds_text (between from to)) (codes " ms") (milliseconds_printed (between from to) (either_small (nat_lt to from) from to p q)) (known_printed (codes " ms") refl))
+took_printed (Some from) None p q = tt
+took_printed None to p q = tt
+
 -- ---- outcomes
 
+-- of a call that was captured at any time, or at none that is known
 abbrev OutcomePrinted : Outcome → Type 0
-OutcomePrinted outcome = ArePrinted (outcome_text outcome)
+OutcomePrinted outcome = (sent : Option ℕ) → IsSmall sent → ArePrinted (outcome_text sent outcome)
 
-reply_printed : (number : ℕ) → number < 2 ^ 64 → OutcomePrinted (Reply number)
-reply_printed number fits = printed_both (codes "reply #") (decimal number) (known_printed (codes "reply #") refl) (decimal_printed number fits)
+reply_printed : (at : Place) → IsPlaceWithin at → OutcomePrinted (Reply at)
+reply_printed at fits = λ sent small. printed_both (codes "reply #") _ (known_printed (codes "reply #") refl)
+    (printed_both (decimal at.number) _ (decimal_printed at.number fits.0) (took_printed sent at.time small fits.1))
 
-error_name_printed : (number : ℕ) (name : List ℕ) → number < 2 ^ 64 → ArePrinted name → OutcomePrinted (Error number name)
-error_name_printed number name fits p = printed_both (codes "error #") _ (known_printed (codes "error #") refl)
-    (printed_both (decimal number) (codes " " ++ name) (decimal_printed number fits) ((omega arith, omega arith), p))
+error_name_printed : (at : Place) (name : List ℕ) → IsPlaceWithin at → ArePrinted name → OutcomePrinted (Error at name)
+error_name_printed at name fits p = λ sent small. printed_both (codes "error #") _ (known_printed (codes "error #") refl)
+    (printed_both (decimal at.number) _ (decimal_printed at.number fits.0)
+    (printed_both (took_text (time_between sent at.time)) (codes " " ++ name) (took_printed sent at.time small fits.1) ((omega arith, omega arith), p)))
 
-by_printed : (b d e : Bool) (number : ℕ) (name : List ℕ) → number < 2 ^ 64 → ArePrinted name → OutcomePrinted (if b then Reply number else if d then Error number name else if e then Replaced else Left)
-by_printed true d e number name fits p = reply_printed number fits
-by_printed false true e number name fits p = error_name_printed number name fits p
-by_printed false false true number name fits p = known_printed (codes "no reply: its serial was used again") refl
-by_printed false false false number name fits p = known_printed (codes "no reply: the caller left") refl
+by_printed : (b d e : Bool) (at : Place) (name : List ℕ) → IsPlaceWithin at → ArePrinted name → OutcomePrinted (if b then Reply at else if d then Error at name else if e then Replaced else Left)
+by_printed true d e at name fits p = reply_printed at fits
+by_printed false true e at name fits p = error_name_printed at name fits p
+by_printed false false true at name fits p = λ sent small. known_printed (codes "no reply: its serial was used again") refl
+by_printed false false false at name fits p = λ sent small. known_printed (codes "no reply: the caller left") refl
 
 -- ---- lines
 
 module _ (limits : Limits) where
   abbrev IsWithin : Numbered → Type 0
-  IsWithin x = (order : Order) × IsMessage limits order x.message × (x.number < 2 ^ 64)
+  IsWithin x = (order : Order) × IsMessage limits order x.message × IsPlaceWithin x.place
 
-  outcome_printed : (x : Numbered) → IsWithin x → OutcomePrinted (outcome_by x.number x.message)
-  outcome_printed x h = by_printed (x.message.kind == message.METHOD_RETURN) (x.message.kind == message.ERROR) (x.message.kind == message.METHOD_CALL) x.number
+  outcome_printed : (x : Numbered) → IsWithin x → OutcomePrinted (outcome_by x.place x.message)
+  outcome_printed x h = by_printed (x.message.kind == message.METHOD_RETURN) (x.message.kind == message.ERROR) (x.message.kind == message.METHOD_CALL) x.place
       (or_dash (text_at field.ERROR_NAME x.message)) h.2 (error_printed limits h.0 x.message h.1)
 
   abbrev IsPrinted : Row → Type 0
-  IsPrinted r = IsPrintedLine (line Text r.call.number r.call.message r.outcome)
+  IsPrinted r = IsPrintedLine (line Text r.call.place r.call.message r.outcome)
 
   row_printed : (outcome : Outcome) → OutcomePrinted outcome → (call : Numbered) → IsWithin call → IsPrinted (row outcome call)
   row_printed outcome p call h =
-      let front = call_text call.number call.message in
-      let rest = codes " " ++ outcome_text outcome in
-      (front ++ rest, printed_both front rest (call_printed limits h.0 call.message h.1 call.number h.2) ((omega arith, omega arith), p), sym (append_assoc front rest (codes "\n")))
+      let front = call_text call.place.number call.message in
+      let rest = codes " " ++ outcome_text call.place.time outcome in
+      (front ++ rest, printed_both front rest (call_printed limits h.0 call.message h.1 call.place.number h.2.0) ((omega arith, omega arith), p call.place.time h.2.1), sym (append_assoc front rest (codes "\n")))
 
   rows_printed : (outcome : Outcome) → OutcomePrinted outcome → (calls : List Numbered) → ((call : Numbered) → Contains calls call → IsWithin call) → AllByRecursion IsPrinted (map (row outcome) calls)
   rows_printed outcome p [] each = tt
   rows_printed outcome p (call ∷ calls) each = (row_printed outcome p call (each call (here call calls)), rows_printed outcome p calls (λ c h. each c (there call calls c h)))
 
   own_printed : (b : Bool) (x : Numbered) → IsWithin x → AllByRecursion IsPrinted (if b then row Unwanted x ∷ [] else [])
-  own_printed true x h = (row_printed Unwanted (known_printed (codes "no reply wanted") refl) x h, tt)
+  own_printed true x h = (row_printed Unwanted (λ sent small. known_printed (codes "no reply wanted") refl) x h, tt)
   own_printed false x h = tt
 
   all_rows_printed : (before xs : List Numbered) (rows : List Row) → AreWithin limits before → AreWithin limits xs → AreListed before xs rows → AllByRecursion IsPrinted rows
   all_rows_printed before [] rows p q h = subst (λ (l : List Row). AllByRecursion IsPrinted l) (sym h.rows_are)
-      (rows_printed Open (known_printed (codes "no reply") refl) h.calls (λ c k. all_at IsWithin before c p (open_among before c ((h.calls_are.all c).0 k))))
+      (rows_printed Open (λ sent small. known_printed (codes "no reply") refl) h.calls (λ c k. all_at IsWithin before c p (open_among before c ((h.calls_are.all c).0 k))))
   all_rows_printed before (x ∷ xs) rows p q h =
       let after = h.2 in
-      let ended = rows_printed (outcome_by x.number x.message) (outcome_printed x q.0) after.calls (λ c k. all_at IsWithin before c p (open_among before c ((after.calls_are.all c).0 k).0)) in
-      let now = subst (λ (l : List Row). AllByRecursion IsPrinted l) (sym after.rows_are) (all_both IsPrinted (map (row (outcome_by x.number x.message)) after.calls) (own_row before x) ended (own_printed (is_unwanted x) x q.0)) in
+      let ended = rows_printed (outcome_by x.place x.message) (outcome_printed x q.0) after.calls (λ c k. all_at IsWithin before c p (open_among before c ((after.calls_are.all c).0 k).0)) in
+      let now = subst (λ (l : List Row). AllByRecursion IsPrinted l) (sym after.rows_are) (all_both IsPrinted (map (row (outcome_by x.place x.message)) after.calls) (own_row before x) ended (own_printed (is_unwanted x) x q.0)) in
       let more = all_rows_printed (before ++ x ∷ []) xs h.1 (all_both IsWithin before (x ∷ []) p (q.0, tt)) q.1 h.3 in
       subst (λ (l : List Row). AllByRecursion IsPrinted l) (sym h.4) (all_both IsPrinted h.0 h.1 now more)
 

@@ -64,10 +64,10 @@ below a b is = let less : a < b = ranked a b Less (sym is) in grind arith
 flipped : (a b : ℕ) → nat_eq a b ≡ false → nat_eq b a ≡ false
 flipped a b is = grind arith
 
-lower : (a b : Numbered) → nat_cmp a.number b.number ≡ Less → same_number a b ≡ false
-lower a b is = below a.number b.number is
+lower : (a b : Numbered) → nat_cmp a.place.number b.place.number ≡ Less → same_number a b ≡ false
+lower a b is = below a.place.number b.place.number is
 
-all_lower : (x : Numbered) (xs : List Numbered) → AllByRecursion (λ y. nat_cmp x.number y.number ≡ Less) xs → AllByRecursion (λ y. same_number x y ≡ false) xs
+all_lower : (x : Numbered) (xs : List Numbered) → AllByRecursion (λ y. nat_cmp x.place.number y.place.number ≡ Less) xs → AllByRecursion (λ y. same_number x y ≡ false) xs
 all_lower x [] all = tt
 all_lower x (y ∷ ys) all = (lower x y all.0, all_lower x ys all.1)
 
@@ -80,7 +80,7 @@ rising_apart : (xs ys : List Numbered) → AreRising (xs ++ ys) → (a b : Numbe
 unfolding IsStrictlySortedBy
 rising_apart [] ys rising a b h k = absurd (none_in a h)
 rising_apart (x ∷ xs) ys rising a b h k = ⊎_elim
-    (λ is. subst (λ (z : Numbered). same_number z b ≡ false) is (lower x b (all_at (λ y. nat_cmp x.number y.number ≡ Less) (xs ++ ys) b rising.0 (Contains-append_right xs ys b k))))
+    (λ is. subst (λ (z : Numbered). same_number z b ≡ false) is (lower x b (all_at (λ y. nat_cmp x.place.number y.place.number ≡ Less) (xs ++ ys) b rising.0 (Contains-append_right xs ys b k))))
     (λ later. rising_apart xs ys rising.1 a b later k) (either x xs a h)
 
 -- of one number there is one
@@ -92,8 +92,8 @@ unfolding IsStrictlySortedBy
 one_number [] rising a b h k same = absurd (none_in a h)
 one_number (x ∷ xs) rising a b h k same = ⊎_elim
     (λ (p : x ≡ a). ⊎_elim (λ (q : x ≡ b). sym p ∙ q)
-    (λ later. absurd (no_both (same_number a b) same (subst (λ (z : Numbered). same_number z b ≡ false) p (lower x b (all_at (λ y. nat_cmp x.number y.number ≡ Less) xs b rising.0 later))))) (either x xs b k))
-    (λ early. ⊎_elim (λ (q : x ≡ b). absurd (no_both (same_number a b) same (subst (λ (z : Numbered). same_number a z ≡ false) q (flipped x.number a.number (lower x a (all_at (λ y. nat_cmp x.number y.number ≡ Less) xs a rising.0 early))))))
+    (λ later. absurd (no_both (same_number a b) same (subst (λ (z : Numbered). same_number z b ≡ false) p (lower x b (all_at (λ y. nat_cmp x.place.number y.place.number ≡ Less) xs b rising.0 later))))) (either x xs b k))
+    (λ early. ⊎_elim (λ (q : x ≡ b). absurd (no_both (same_number a b) same (subst (λ (z : Numbered). same_number a z ≡ false) q (flipped x.place.number a.place.number (lower x a (all_at (λ y. nat_cmp x.place.number y.place.number ≡ Less) xs a rising.0 early))))))
     (λ later. one_number xs rising.1 a b early later same) (either x xs b k)) (either x xs a h)
 
 -- ---- calls
@@ -179,7 +179,7 @@ own_distinct false x = tt
 
 module _ (before : List Numbered) (x : Numbered) (now : List Row) (h : ListsAfter before x now) where
   calls_now : calls_of now ≡ h.calls ++ calls_of (own_row before x)
-  calls_now = ap calls_of h.rows_are ∙ (calls_both (map (row (outcome_by x.number x.message)) h.calls) (own_row before x) ∙ ap (λ l. l ++ calls_of (own_row before x)) (same_calls (outcome_by x.number x.message) h.calls))
+  calls_now = ap calls_of h.rows_are ∙ (calls_both (map (row (outcome_by x.place x.message)) h.calls) (own_row before x) ∙ ap (λ l. l ++ calls_of (own_row before x)) (same_calls (outcome_by x.place x.message) h.calls))
 
   from_now : (call : Numbered) → Contains (calls_of now) call → IsEnded before x call ⊎ ((x ≡ call) × (is_unwanted x ≡ true))
   from_now call k = ⊎_elim (λ ended. inl ((h.calls_are.all call).0 ended)) (λ own. inr (own_is (is_unwanted x) x call own))
@@ -262,7 +262,7 @@ module _ (before xs : List Numbered) (x : Numbered) (rising : AreRising (before 
 
   own_apart : (b : Numbered) → is_unwanted x ≡ true → IsListed (before ++ x ∷ []) xs b → same_number x b ≡ false
   own_apart b is k = ⊎_elim
-      (λ open_after. ⊎_elim (λ old. flipped b.number x.number (from_before b old.0))
+      (λ open_after. ⊎_elim (λ old. flipped b.place.number x.place.number (from_before b old.0))
       (λ new. absurd (no_both (wants_reply x.message) (waits_call x.message (subst (λ (z : Numbered). Waits z.message) (sym new.0) new.1)).1 (unwanted_call x is).1)) (opened before x b open_after))
       (λ among. from_after x b (Contains-append_right before (x ∷ []) x (here x [])) among.0) k
 
@@ -295,19 +295,19 @@ never_both a b p q =
     omega (arith, less, more)
 
 abbrev AllAbove : Numbered → List Numbered → Type 0
-AllAbove x xs = AllByRecursion (λ y. nat_cmp x.number y.number ≡ Less) xs
+AllAbove x xs = AllByRecursion (λ y. nat_cmp x.place.number y.place.number ≡ Less) xs
 
 module _ (x y : Numbered) (xs ys : List Numbered) (above : AllAbove x xs) where
   first_is : AllAbove y ys → Contains (y ∷ ys) x → Contains (x ∷ xs) y → x ≡ y
   first_is others h k = ⊎_elim (λ is. sym is)
       (λ later. ⊎_elim (λ is. is)
-      (λ also. absurd (never_both y.number x.number (all_at (λ z. nat_cmp y.number z.number ≡ Less) ys x others later) (all_at (λ z. nat_cmp x.number z.number ≡ Less) xs y above also))) (either x xs y k))
+      (λ also. absurd (never_both y.place.number x.place.number (all_at (λ z. nat_cmp y.place.number z.place.number ≡ Less) ys x others later) (all_at (λ z. nat_cmp x.place.number z.place.number ≡ Less) xs y above also))) (either x xs y k))
       (either y ys x h)
 
   others_in : x ≡ y → ((z : Numbered) → Contains (x ∷ xs) z → Contains (y ∷ ys) z) → (z : Numbered) → Contains xs z → Contains ys z
   others_in is into z k = ⊎_elim
-      (λ (same : y ≡ z). let itself = subst (λ (w : Numbered). nat_cmp w.number z.number ≡ Less) (is ∙ same) (all_at (λ w. nat_cmp x.number w.number ≡ Less) xs z above k) in
-      absurd (never_both z.number z.number itself itself))
+      (λ (same : y ≡ z). let itself = subst (λ (w : Numbered). nat_cmp w.place.number z.place.number ≡ Less) (is ∙ same) (all_at (λ w. nat_cmp x.place.number w.place.number ≡ Less) xs z above k) in
+      absurd (never_both z.place.number z.place.number itself itself))
       (λ later. later) (either y ys z (into z (there x xs z k)))
 
 -- what rises and has the same is the same
@@ -328,7 +328,7 @@ same_rows : (before xs : List Numbered) (rows others : List Row) → AreListed b
 same_rows before [] rows others h k = h.rows_are ∙ (ap (map (row Open)) (same_those (WasOpen before) h.calls k.calls h.calls_are k.calls_are) ∙ sym k.rows_are)
 same_rows before (x ∷ xs) rows others h k =
     let calls = same_those (IsEnded before x) h.2.calls k.2.calls h.2.calls_are k.2.calls_are in
-    let now : h.0 ≡ k.0 = h.2.rows_are ∙ (ap (λ l. map (row (outcome_by x.number x.message)) l ++ own_row before x) calls ∙ sym k.2.rows_are) in
+    let now : h.0 ≡ k.0 = h.2.rows_are ∙ (ap (λ l. map (row (outcome_by x.place x.message)) l ++ own_row before x) calls ∙ sym k.2.rows_are) in
     let more : h.1 ≡ k.1 = same_rows (before ++ x ∷ []) xs h.1 k.1 h.3 k.3 in
     h.4 ∙ ((λ i. now i ++ more i) ∙ sym k.4)
 

@@ -46,7 +46,7 @@ from_both a b p q = grind arith
 
 -- ---- those before others rise
 
-all_front : (x : Numbered) (xs ys : List Numbered) → AllByRecursion (λ y. nat_cmp x.number y.number ≡ Less) (xs ++ ys) → AllByRecursion (λ y. nat_cmp x.number y.number ≡ Less) xs
+all_front : (x : Numbered) (xs ys : List Numbered) → AllByRecursion (λ y. nat_cmp x.place.number y.place.number ≡ Less) (xs ++ ys) → AllByRecursion (λ y. nat_cmp x.place.number y.place.number ≡ Less) xs
 all_front x [] ys all = tt
 all_front x (z ∷ zs) ys all = (all.0, all_front x zs ys all.1)
 
@@ -70,7 +70,7 @@ module _ (before : List Numbered) (rising : AreRising before) where
   -- it is the call that waits
   abbrev is_this : Option Numbered → Numbered → Bool
   is_this None y = false
-  is_this (Some z) y = nat_eq z.number y.number
+  is_this (Some z) y = nat_eq z.place.number y.place.number
 
   abbrev waits : Numbered → Bool
   waits y = is_this (at y) y
@@ -82,7 +82,7 @@ module _ (before : List Numbered) (rising : AreRising before) where
       subst WasOpen (one_number before rising z y (open_among before z was) h this) was
 
   open_this : (y : Numbered) → WasOpen y → waits y ≡ true
-  open_this y was = ap (λ o. is_this o y) ((keeps_open message_of before (caller_of y.message) y.message.serial y).1 (was, refl, refl)) ∙ number_own y.number
+  open_this y was = ap (λ o. is_this o y) ((keeps_open message_of before (caller_of y.message) y.message.serial y).1 (was, refl, refl)) ∙ number_own y.place.number
 
   -- those that are open, and have a property that a test decides
   those_of : (Is : Numbered → Type 0) (test : Numbered → Bool) → ((y : Numbered) → WasOpen y → test y ≡ true → Is y) → ((y : Numbered) → Is y → WasOpen y × (test y ≡ true))
@@ -97,13 +97,13 @@ module _ (before : List Numbered) (rising : AreRising before) where
           let o = back y is in
           kept_among (λ y. waits y && test y) before y (open_among before y o.0) (from_both (waits y) (test y) (open_this y o.0) o.1),
     );
-    rising = IsStrictlySortedBy-filter (λ a b. nat_cmp a.number b.number) (λ y. waits y && test y) before rising;
+    rising = IsStrictlySortedBy-filter (λ a b. nat_cmp a.place.number b.place.number) (λ y. waits y && test y) before rising;
   }
 
   pub some_after : (x : Numbered) → (rows : List Row) × ListsAfter before x rows
   some_after x =
       let calls : List Numbered = filter (λ y. waits y && ends y.message x.message) before in (
-        map (row (outcome_by x.number x.message)) calls ++ own_row before x,
+        map (row (outcome_by x.place x.message)) calls ++ own_row before x,
         record { calls = calls; calls_are = those_of (IsEnded before x) (λ y. ends y.message x.message) (λ y was is. (was, is)) (λ y is. is); rows_are = refl },
       )
 

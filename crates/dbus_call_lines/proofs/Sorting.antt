@@ -15,10 +15,10 @@ use Rattle.dbus_call_lines.specs.declared.waiting_call.WaitingCall.{WaitingCall}
 use Rattle.dbus_call_lines.proofs.Rows.{all_from, either, here, none_in, there}
 
 abbrev pub same : WaitingCall → WaitingCall → Bool
-same a b = nat_eq a.number b.number
+same a b = nat_eq a.place.number b.place.number
 
 abbrev pub later : WaitingCall → WaitingCall → Bool
-later a b = is_lt (nat_cmp a.number b.number)
+later a b = is_lt (nat_cmp a.place.number b.place.number)
 
 less : (a b : ℕ) → is_lt (nat_cmp b a) ≡ false → nat_eq a b ≡ false → nat_cmp a b ≡ Less
 less a b up apart = grind arith
@@ -27,11 +27,11 @@ flips : (a b : WaitingCall) → same a b ≡ same b a
 flips a b = grind arith
 
 tail_sorted : (w : WaitingCall) (ws : List WaitingCall) → IsSortedBy later (w ∷ ws) → IsSortedBy later ws
-tail_sorted w ws up = λ k d low below. sorted_far later (ranks_by nat_cmp_total (λ (a : WaitingCall). a.number)) (w ∷ ws) up (suc k) (suc (k + 1)) d (omega arith) (omega (arith, below))
+tail_sorted w ws up = λ k d low below. sorted_far later (ranks_by nat_cmp_total (λ (a : WaitingCall). a.place.number)) (w ∷ ws) up (suc k) (suc (k + 1)) d (omega arith) (omega (arith, below))
 
 above : (w : WaitingCall) (ws : List WaitingCall) → IsSortedBy later (w ∷ ws) → (v : WaitingCall) → Contains ws v → later v w ≡ false
 above w ws up v h =
-    let far : later (slice_index_or (w ∷ ws) (suc h.0) v) w ≡ false = sorted_far later (ranks_by nat_cmp_total (λ (a : WaitingCall). a.number)) (w ∷ ws) up 0 (suc h.0) v (omega arith) (omega (arith, h.1)) in
+    let far : later (slice_index_or (w ∷ ws) (suc h.0) v) w ≡ false = sorted_far later (ranks_by nat_cmp_total (λ (a : WaitingCall). a.place.number)) (w ∷ ws) up 0 (suc h.0) v (omega arith) (omega (arith, h.1)) in
     subst (λ (z : WaitingCall). later z w ≡ false) h.2 far
 
 all_apart : (w : WaitingCall) (ws : List WaitingCall) (v : WaitingCall) → AllByRecursion (λ y. same w y ≡ false) ws → Contains ws v → same w v ≡ false
@@ -39,11 +39,11 @@ all_apart w [] v all h = absurd (none_in v h)
 all_apart w (y ∷ ys) v all h = ⊎_elim (λ is. subst (λ (z : WaitingCall). same w z ≡ false) is all.0) (λ rest. all_apart w ys v all.1 rest) (either y ys v h)
 
 -- in the order of their numbers, of which no two are the same
-pub strict : (ws : List WaitingCall) → IsSortedBy later ws → IsDistinct same ws → IsStrictlySortedBy (λ a b. nat_cmp a.number b.number) ws
+pub strict : (ws : List WaitingCall) → IsSortedBy later ws → IsDistinct same ws → IsStrictlySortedBy (λ a b. nat_cmp a.place.number b.place.number) ws
 unfolding IsDistinct IsStrictlySortedBy
 strict [] up apart = tt
 strict (w ∷ ws) up apart = (
-  all_from (λ y. nat_cmp w.number y.number ≡ Less) ws (λ v h. less w.number v.number (above w ws up v h) (all_apart w ws v apart.0 h)),
+  all_from (λ y. nat_cmp w.place.number y.place.number ≡ Less) ws (λ v h. less w.place.number v.place.number (above w ws up v h) (all_apart w ws v apart.0 h)),
   strict ws (tail_sorted w ws up) apart.1,
 )
 
@@ -73,7 +73,7 @@ module _ (wanted : Wanted) (Is : Numbered → Type 0) where
       }
 
   numbers_above : (w : WaitingCall) (ws : List WaitingCall) (n : Numbered) (ns : List Numbered) → kept_of wanted n ≡ kept w → map (kept_of wanted) ns ≡ map kept ws
-      → AllByRecursion (λ (y : WaitingCall). nat_cmp w.number y.number ≡ Less) ws → AllByRecursion (λ (y : Numbered). nat_cmp n.number y.number ≡ Less) ns
+      → AllByRecursion (λ (y : WaitingCall). nat_cmp w.place.number y.place.number ≡ Less) ws → AllByRecursion (λ (y : Numbered). nat_cmp n.place.number y.place.number ≡ Less) ns
   numbers_above w [] n [] is texts all = tt
   numbers_above w [] n (m ∷ ms) is texts all = absurd (no_cons (kept_of wanted m) (map (kept_of wanted) ms) texts)
     where
@@ -83,9 +83,9 @@ module _ (wanted : Wanted) (Is : Numbered → Type 0) where
   numbers_above w (v ∷ vs) n (m ∷ ms) is texts all =
       let heads : kept_of wanted m ≡ kept v = cc in
       let tails : map (kept_of wanted) ms ≡ map kept vs = cc in
-      (ap (λ a. nat_cmp a m.number) (ap (λ k. k.number) is) ∙ (ap (λ a. nat_cmp w.number a) (ap (λ k. k.number) heads) ∙ all.0), numbers_above w vs n ms is tails all.1)
+      (ap (λ a. nat_cmp a m.place.number) (ap (λ k. k.place.number) is) ∙ (ap (λ a. nat_cmp w.place.number a) (ap (λ k. k.place.number) heads) ∙ all.0), numbers_above w vs n ms is tails all.1)
 
-  numbers_rise : (ws : List WaitingCall) (ns : List Numbered) → map (kept_of wanted) ns ≡ map kept ws → IsStrictlySortedBy (λ (a b : WaitingCall). nat_cmp a.number b.number) ws → AreRising ns
+  numbers_rise : (ws : List WaitingCall) (ns : List Numbered) → map (kept_of wanted) ns ≡ map kept ws → IsStrictlySortedBy (λ (a b : WaitingCall). nat_cmp a.place.number b.place.number) ws → AreRising ns
   unfolding IsStrictlySortedBy
   numbers_rise ws [] texts up = tt
   numbers_rise [] (n ∷ ns) texts up = absurd (no_cons (kept_of wanted n) (map (kept_of wanted) ns) texts)
@@ -98,7 +98,7 @@ module _ (wanted : Wanted) (Is : Numbered → Type 0) where
       (numbers_above w ws n ns heads tails up.0, numbers_rise ws ns tails up.1)
 
   -- kept, each once, and sorted: these are all
-  module _ (one : (a b : Numbered) → Is a → Is b → a.number ≡ b.number → a ≡ b) (values sorted : List WaitingCall) (moved : IsPermutation values sorted) (up : IsSortedBy later sorted)
+  module _ (one : (a b : Numbered) → Is a → Is b → a.place.number ≡ b.place.number → a ≡ b) (values sorted : List WaitingCall) (moved : IsPermutation values sorted) (up : IsSortedBy later sorted)
       (apart : IsDistinct same values) (known : (w : WaitingCall) → Contains values w → Known w) (all : (n : Numbered) → Is n → (w : WaitingCall) × Contains values w × (kept w ≡ kept_of wanted n)) where
     pub found : Behind sorted
     found = behind sorted (λ w h. known w (Contains-permutation sorted values w (IsPermutation-sym values sorted moved) h))
@@ -110,7 +110,7 @@ module _ (wanted : Wanted) (Is : Numbered → Type 0) where
         λ is.
             let w = all n is in
             let m = found.each w.0 (Contains-permutation values sorted w.0 moved w.1) in
-            subst (λ (z : Numbered). Contains found.calls z) (one m.0 n (found.are m.0 m.1) is (ap (λ k. k.number) (sym m.2 ∙ w.2))) m.1,
+            subst (λ (z : Numbered). Contains found.calls z) (one m.0 n (found.are m.0 m.1) is (ap (λ k. k.place.number) (sym m.2 ∙ w.2))) m.1,
       );
       rising = numbers_rise sorted found.calls found.texts (strict sorted up (IsDistinct-IsPermutation same flips values sorted moved apart));
     }
@@ -127,7 +127,7 @@ same_numbers a b is = grind (arith, nat_tests)
 
 -- ---- the calls of a map, of which each has its own key
 
-module _ (wanted : Wanted) (Is : Numbered → Type 0) (one : (a b : Numbered) → Is a → Is b → a.number ≡ b.number → a ≡ b) {K : Type 0} (eq : K → K → Bool) (Key : K → Numbered → Type 0)
+module _ (wanted : Wanted) (Is : Numbered → Type 0) (one : (a b : Numbered) → Is a → Is b → a.place.number ≡ b.place.number → a ≡ b) {K : Type 0} (eq : K → K → Bool) (Key : K → Numbered → Type 0)
     (keys : (j k : K) (n : Numbered) → Key j n → Key k n → eq j k ≡ true) where
   abbrev pub KnownAt : K × WaitingCall → Type 0
   KnownAt e = (n : Numbered) × Is n × (kept e.1 ≡ kept_of wanted n) × Key e.0 n
@@ -139,7 +139,7 @@ module _ (wanted : Wanted) (Is : Numbered → Type 0) (one : (a b : Numbered) �
   apart_values e h [] all known = tt
   apart_values e h (f ∷ fs) all known = (
     none_same (same e.1 f.1) (λ alike.
-        let number : h.0.number ≡ known.0.0.number = sym (ap (λ k. k.number) h.2) ∙ (same_numbers e.1.number f.1.number alike ∙ ap (λ k. k.number) known.0.2) in
+        let number : h.0.place.number ≡ known.0.0.place.number = sym (ap (λ k. k.place.number) h.2) ∙ (same_numbers e.1.place.number f.1.place.number alike ∙ ap (λ k. k.place.number) known.0.2) in
         let call : h.0 ≡ known.0.0 = one h.0 known.0.0 h.1 known.0.1 number in
         no_both (eq e.0 f.0) (keys e.0 f.0 known.0.0 (subst (λ (n : Numbered). Key e.0 n) call h.3) known.0.3) all.0),
     apart_values e h fs all.1 known.1,

@@ -90,7 +90,7 @@ module _ (wanted : Wanted) where
   pub lines_kept : (outcome : Outcome) (calls : List Numbered) → kept_text wanted outcome (map (kept_of wanted) calls) ≡ rows_text wanted (map (row outcome) calls)
   lines_kept outcome [] = refl
   lines_kept outcome (x ∷ xs) =
-      ap (λ t. (if is_wanted wanted outcome then t else []) ++ kept_text wanted outcome (map (kept_of wanted) xs)) (two_parts wanted.form x.number x.message outcome)
+      ap (λ t. (if is_wanted wanted outcome then t else []) ++ kept_text wanted outcome (map (kept_of wanted) xs)) (two_parts wanted.form x.place x.message outcome)
       ∙ ap (λ t. row_text wanted (row outcome x) ++ t) (lines_kept outcome xs)
 
   pub lines_both : (a b : List Row) → rows_text wanted (a ++ b) ≡ rows_text wanted a ++ rows_text wanted b
@@ -102,7 +102,7 @@ module _ (wanted : Wanted) where
   list_kept (Some x) = refl
 
   abbrev pub line_now : Outcome → Bor WaitingCall → List ℕ
-  line_now outcome p = kept_line wanted outcome (string_bytes p.now.front)
+  line_now outcome p = kept_line wanted outcome p.now.place.time (string_bytes p.now.front)
 
   abbrev pub text_now : Outcome → List (Bor WaitingCall) → List ℕ
   text_now outcome ps = kept_text wanted outcome (map kept (map (λ c. c.now) ps))
@@ -114,19 +114,19 @@ module _ (wanted : Wanted) where
 -- ---- what is sorted
 
 abbrev pub later_now : Bor WaitingCall → Bor WaitingCall → Bool
-later_now p q = is_lt (nat_cmp p.now.number q.now.number)
+later_now p q = is_lt (nat_cmp p.now.place.number q.now.place.number)
 
 pub now_ranks : IsStrictWeakOrder later_now
-now_ranks = ranks_by nat_cmp_total (λ (p : Bor WaitingCall). p.now.number)
+now_ranks = ranks_by nat_cmp_total (λ (p : Bor WaitingCall). p.now.place.number)
 
 no_less : (k : ℕ) → k + 1 < 0 → ⊥
 no_less k l = omega (arith, l)
 
-pub sorted_now : (ps : List (Bor WaitingCall)) → IsSortedBy later_now ps → IsSortedBy (λ a b. is_lt (nat_cmp a.number b.number)) (map (λ p. p.now) ps)
+pub sorted_now : (ps : List (Bor WaitingCall)) → IsSortedBy later_now ps → IsSortedBy (λ a b. is_lt (nat_cmp a.place.number b.place.number)) (map (λ p. p.now) ps)
 sorted_now [] sorted = λ k d low l. absurd (no_less k l)
 sorted_now (p ∷ ps) sorted = λ k d low l.
     let f : Bor WaitingCall → WaitingCall = λ q. q.now in
     let same : length (map f (p ∷ ps)) ≡ length (p ∷ ps) = length-map (p ∷ ps) f in
     let next : k + 1 < length (p ∷ ps) = subst (λ n. k + 1 < n) same l in
-    ap (λ (a : WaitingCall). is_lt (nat_cmp a.number (slice_index_or (map f (p ∷ ps)) k d).number)) (get_or-map f (p ∷ ps) (k + 1) p d next)
-    ∙ (ap (λ (b : WaitingCall). is_lt (nat_cmp (slice_index_or (p ∷ ps) (k + 1) p).now.number b.number)) (get_or-map f (p ∷ ps) k p d (omega (arith, next))) ∙ sorted k p low next)
+    ap (λ (a : WaitingCall). is_lt (nat_cmp a.place.number (slice_index_or (map f (p ∷ ps)) k d).place.number)) (get_or-map f (p ∷ ps) (k + 1) p d next)
+    ∙ (ap (λ (b : WaitingCall). is_lt (nat_cmp (slice_index_or (p ∷ ps) (k + 1) p).now.place.number b.place.number)) (get_or-map f (p ∷ ps) k p d (omega (arith, next))) ∙ sorted k p low next)

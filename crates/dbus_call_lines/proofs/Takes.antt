@@ -24,7 +24,7 @@ calls_event : (x : Numbered) (c : List ℕ) (s : ℕ) (w : Bool) → Calls c s w
 calls_event x c s w is = first_kind c s w (x.message.kind == message.METHOD_CALL) (is_reply x.message) (caller_of x.message) (replied_to x.message) x.message.serial
     (reply_serial_of x.message) (wants_reply x.message) (sender_of x.message) (departed (change_of x.message)) (none_departed c s w (change_of x.message)) (sym is)
 
-replaced : (x : Numbered) → (x.message.kind == message.METHOD_CALL) ≡ true → Replaced ≡ outcome_by x.number x.message
+replaced : (x : Numbered) → (x.message.kind == message.METHOD_CALL) ≡ true → Replaced ≡ outcome_by x.place x.message
 replaced x is = grind arith
 
 module _ (before : List Numbered) (x : Numbered) {S : Type 0} (gains : S → List ℕ → S → Type 0) (joins : (a b c : S) (s t : List ℕ) → gains a s b → gains b t c → gains a (s ++ t) c) (old new : S) (list list' : CallList) where
@@ -32,7 +32,7 @@ module _ (before : List Numbered) (x : Numbered) {S : Type 0} (gains : S → Lis
   Result wanted = Keeps wanted (before ++ x ∷ []) list' × (rows : List Row) × ListsAfter before x rows × gains old (rows_text wanted rows) new
 
   abbrev pub own_line : Wanted → List ℕ
-  own_line wanted = kept_line wanted Unwanted (front wanted.form x.number x.message)
+  own_line wanted = kept_line wanted Unwanted x.place.time (front wanted.form x.place x.message)
 
   abbrev w : Waiting Numbered
   w = run message_of no_calls before
@@ -61,30 +61,30 @@ module _ (before : List Numbered) (x : Numbered) {S : Type 0} (gains : S → Lis
         let ended : List Row = map (row Replaced) (as_list (w c s)) in
         let first : kept_text list.wanted Replaced (as_list (option_map kept o)) ≡ rows_text list.wanted ended
         = ap (λ (o : Option WaitingCall). kept_text list.wanted Replaced (as_list (option_map kept o))) at ∙ (ap (λ l. kept_text list.wanted Replaced (as_list l)) (are c s) ∙ (ap (kept_text list.wanted Replaced) (list_kept list.wanted (w c s)) ∙ lines_kept list.wanted Replaced (as_list (w c s)))) in
-        let last : own_line list.wanted ≡ rows_text list.wanted (row Unwanted x ∷ []) = ap (λ t. if is_wanted list.wanted Unwanted then t else []) (two_parts list.wanted.form x.number x.message Unwanted) ∙ sym (append-nil _) in (
+        let last : own_line list.wanted ≡ rows_text list.wanted (row Unwanted x ∷ []) = ap (λ t. if is_wanted list.wanted Unwanted then t else []) (two_parts list.wanted.form x.place x.message Unwanted) ∙ sym (append-nil _) in (
           keeps_next before x (Calls c s false) is list.wanted list list' k same (without_call c s (waiting list.open)) closed (without_kept list.wanted (waiting list.open) w are c s),
           ended ++ row Unwanted x ∷ [],
           record {
             calls = as_list (w c s);
             calls_are = those before x (Calls c s false) is (w c s) (λ call. (λ h. h, λ h. h));
-            rows_are = ap (λ y. map (row y) (as_list (w c s)) ++ row Unwanted x ∷ []) (replaced x event.0) ∙ ap (λ l. map (row (outcome_by x.number x.message)) (as_list (w c s)) ++ l) (sym own);
+            rows_are = ap (λ y. map (row y) (as_list (w c s)) ++ row Unwanted x ∷ []) (replaced x event.0) ∙ ap (λ l. map (row (outcome_by x.place x.message)) (as_list (w c s)) ++ l) (sym own);
           },
           subst (λ (t : List ℕ). gains old t new) ((λ i. first i ++ last i) ∙ sym (lines_both list.wanted ended (row Unwanted x ∷ []))) (joins old middle new _ _ g h),
         ))
 
     -- a reply
     pub answers : (sender : Option (List ℕ)) → Replies c s sender ≡ event_of x.message → ((d : List ℕ) (t : ℕ) → waiting list'.open d t ≡ after_reply sent_to (waiting list.open c s) c s sender (waiting list.open) d t)
-        → o ≡ answered sent_to (waiting list.open c s) sender → gains old (kept_text list.wanted (outcome_by x.number x.message) (as_list (option_map kept o))) new → Result wanted
+        → o ≡ answered sent_to (waiting list.open c s) sender → gains old (kept_text list.wanted (outcome_by x.place x.message) (as_list (option_map kept o))) new → Result wanted
     answers sender is left at g = by_wanted wanted keeps (λ k.
         let are = are_kept before x (Replies c s sender) is list.wanted list k in
-        let l = lists_one before x (Replies c s sender) is list.wanted gains old new (outcome_by x.number x.message) o (answered to (w c s) sender) (ap (option_map kept) at ∙ answer_kept list.wanted (waiting list.open) w are c s sender) (λ call. (λ h. h, λ h. h)) refl refl g in
+        let l = lists_one before x (Replies c s sender) is list.wanted gains old new (outcome_by x.place x.message) o (answered to (w c s) sender) (ap (option_map kept) at ∙ answer_kept list.wanted (waiting list.open) w are c s sender) (λ call. (λ h. h, λ h. h)) refl refl g in
         (keeps_next before x (Replies c s sender) is list.wanted list list' k same (after_reply sent_to (waiting list.open c s) c s sender (waiting list.open)) left (reply_kept list.wanted (waiting list.open) w are c s sender), l.0, l.1, l.2))
 
     -- any other message
     pub passes : Passes ≡ event_of x.message → list'.open ≡ list.open → gains old [] new → Result wanted
     passes is left g = by_wanted wanted keeps (λ k.
         let are = are_kept before x Passes is list.wanted list k in
-        let l = lists_one before x Passes is list.wanted gains old new (outcome_by x.number x.message) None None refl (λ call. (λ h. absurd h, λ h. grind arith)) refl refl g in
+        let l = lists_one before x Passes is list.wanted gains old new (outcome_by x.place x.message) None None refl (λ call. (λ h. absurd h, λ h. grind arith)) refl refl g in
         (keeps_next before x Passes is list.wanted list list' k same (waiting list.open) (λ d t. ap (λ z. waiting z d t) left) are, l.0, l.1, l.2))
 
     -- a caller that leaves, of which no call waits
@@ -98,7 +98,7 @@ module _ (before : List Numbered) (x : Numbered) {S : Type 0} (gains : S → Lis
         → ((t : ℕ) → None ≡ waiting list.open c t) → gains old [] new → Result wanted
     leaves_none is left none g = by_wanted wanted keeps (λ k.
         let are = are_kept before x (Leaves c) is list.wanted list k in
-        let l = lists_one before x (Leaves c) is list.wanted gains old new (outcome_by x.number x.message) None None refl (λ call. (λ h. absurd (none_leaves call h.0 (are c h.0) (none h.0) h.1), λ h. absurd (no_none call h))) refl refl g in
+        let l = lists_one before x (Leaves c) is list.wanted gains old new (outcome_by x.place x.message) None None refl (λ call. (λ h. absurd (none_leaves call h.0 (are c h.0) (none h.0) h.1), λ h. absurd (no_none call h))) refl refl g in
         (keeps_next before x (Leaves c) is list.wanted list list' k same (without_caller c (waiting list.open)) left (left_kept list.wanted (waiting list.open) w are c s), l.0, l.1, l.2))
       where
         no_none : (call : Numbered) → ◌≡◌ {A = Option Numbered} None (Some call) → ⊥

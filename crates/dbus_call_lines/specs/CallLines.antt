@@ -6,11 +6,15 @@ use Rattle.std.specs.List.{AllByRecursion, flat_map}
 use Rattle.dbus_message_model.specs.Messages.{MessageTree}
 use Rattle.dbus_message_model.specs.declared.field_code.TheConstants as field
 use Rattle.dbus_json.specs.JsonValues.{listed, member, object, plain, string}
+use Rattle.dbus_json.specs.Times.{time_members}
 use Rattle.dbus_calls.specs.Events.{destination_of, sender_of, text_at}
+use Rattle.dbus_call_lines.specs.Durations.{exact_text, milliseconds_text, time_between}
 use Rattle.dbus_call_lines.specs.Outcomes.{Outcome, or_dash}
 use Rattle.dbus_call_lines.specs.Outcomes.Outcome.{Reply, Error, Unwanted, Open, Left, Replaced}
+use Rattle.dbus_call_lines.specs.declared.elapsed.Elapsed.{Elapsed}
 use Rattle.dbus_call_lines.specs.declared.form.Form.{Form}
 use Rattle.dbus_call_lines.specs.declared.form.Form.TheVariants.{Text, Json}
+use Rattle.dbus_call_lines.specs.declared.place.Place.{Place}
 
 -- ---- in words
 
@@ -25,14 +29,19 @@ call_text number call =
     decimal number ++ (codes " " ++ (or_dash (sender_of call) ++ (codes " > " ++ (or_dash (destination_of call)
     ++ (codes " " ++ member_text (text_at field.INTERFACE call) (text_at field.MEMBER call))))))
 
--- what came of it
-abbrev pub outcome_text : Outcome → List ℕ
-outcome_text (Reply number) = codes "reply #" ++ decimal number
-outcome_text (Error number name) = codes "error #" ++ (decimal number ++ (codes " " ++ name))
-outcome_text Unwanted = codes "no reply wanted"
-outcome_text Open = codes "no reply"
-outcome_text Left = codes "no reply: the caller left"
-outcome_text Replaced = codes "no reply: its serial was used again"
+-- how long it took, if that is known
+abbrev pub took_text : Option Elapsed → List ℕ
+took_text None = []
+took_text (Some e) = codes " " ++ (milliseconds_text e ++ codes " ms")
+
+-- what came of it. sent is when it was captured
+abbrev pub outcome_text : (sent : Option ℕ) → Outcome → List ℕ
+outcome_text sent (Reply at) = codes "reply #" ++ (decimal at.number ++ took_text (time_between sent at.time))
+outcome_text sent (Error at name) = codes "error #" ++ (decimal at.number ++ (took_text (time_between sent at.time) ++ (codes " " ++ name)))
+outcome_text sent Unwanted = codes "no reply wanted"
+outcome_text sent Open = codes "no reply"
+outcome_text sent Left = codes "no reply: the caller left"
+outcome_text sent Replaced = codes "no reply: its serial was used again"
 
 -- ---- as an object of JSON
 
@@ -42,33 +51,39 @@ member_if name None = []
 member_if name (Some text) = member name (string text) ∷ []
 
 -- the call: what it has of these
-abbrev pub call_members : (number : ℕ) → MessageTree → List (List ℕ)
-call_members number call =
-    member (codes "number") (decimal number)
-    ∷ member (codes "serial") (decimal call.serial)
+abbrev pub call_members : Place → MessageTree → List (List ℕ)
+call_members place call =
+    member (codes "number") (decimal place.number)
+    ∷ (time_members place.time
+    ++ (member (codes "serial") (decimal call.serial)
     ∷ (member_if (codes "sender") (sender_of call)
     ++ (member_if (codes "destination") (destination_of call)
     ++ (member_if (codes "path") (text_at field.PATH call)
     ++ (member_if (codes "interface") (text_at field.INTERFACE call)
-    ++ member_if (codes "member") (text_at field.MEMBER call)))))
+    ++ member_if (codes "member") (text_at field.MEMBER call)))))))
 
 -- what came of it
 abbrev pub outcome_word : Outcome → List ℕ
-outcome_word (Reply number) = codes "reply"
-outcome_word (Error number name) = codes "error"
+outcome_word (Reply at) = codes "reply"
+outcome_word (Error at name) = codes "error"
 outcome_word Unwanted = codes "unwanted"
 outcome_word Open = codes "open"
 outcome_word Left = codes "left"
 outcome_word Replaced = codes "replaced"
 
--- the reply, if there is one
-abbrev pub reply_members : Outcome → List (List ℕ)
-reply_members (Reply number) = member (codes "reply") (decimal number) ∷ []
-reply_members (Error number name) = member (codes "reply") (decimal number) ∷ member (codes "error_name") (string name) ∷ []
-reply_members outcome = []
+-- how long it took, if that is known
+abbrev pub took_members : Option Elapsed → List (List ℕ)
+took_members None = []
+took_members (Some e) = member (codes "milliseconds") (exact_text e) ∷ []
 
-abbrev pub outcome_members : Outcome → List (List ℕ)
-outcome_members outcome = member (codes "outcome") (plain (outcome_word outcome)) ∷ reply_members outcome
+-- the reply, if there is one
+abbrev pub reply_members : (sent : Option ℕ) → Outcome → List (List ℕ)
+reply_members sent (Reply at) = member (codes "reply") (decimal at.number) ∷ took_members (time_between sent at.time)
+reply_members sent (Error at name) = member (codes "reply") (decimal at.number) ∷ member (codes "error_name") (string name) ∷ took_members (time_between sent at.time)
+reply_members sent outcome = []
+
+abbrev pub outcome_members : (sent : Option ℕ) → Outcome → List (List ℕ)
+outcome_members sent outcome = member (codes "outcome") (plain (outcome_word outcome)) ∷ reply_members sent outcome
 
 -- ---- the line
 
@@ -76,24 +91,24 @@ outcome_members outcome = member (codes "outcome") (plain (outcome_word outcome)
 abbrev pub behind_commas : List (List ℕ) → List ℕ
 behind_commas members = flat_map (λ m. codes "," ++ m) members
 
-abbrev pub line : Form → (number : ℕ) → MessageTree → Outcome → List ℕ
-line Text number call outcome = call_text number call ++ (codes " " ++ (outcome_text outcome ++ codes "\n"))
-line Json number call outcome = object (call_members number call ++ outcome_members outcome) ++ codes "\n"
+abbrev pub line : Form → Place → MessageTree → Outcome → List ℕ
+line Text place call outcome = call_text place.number call ++ (codes " " ++ (outcome_text place.time outcome ++ codes "\n"))
+line Json place call outcome = object (call_members place call ++ outcome_members place.time outcome) ++ codes "\n"
 
 -- its front, which says nothing of what came of the call, and its end, which says that alone
-abbrev pub front : Form → (number : ℕ) → MessageTree → List ℕ
-front Text number call = call_text number call
-front Json number call = codes "{" ++ listed (call_members number call)
+abbrev pub front : Form → Place → MessageTree → List ℕ
+front Text place call = call_text place.number call
+front Json place call = codes "{" ++ listed (call_members place call)
 
-abbrev pub end : Form → Outcome → List ℕ
-end Text outcome = codes " " ++ (outcome_text outcome ++ codes "\n")
-end Json outcome = behind_commas (outcome_members outcome) ++ codes "}\n"
+abbrev pub end : Form → (sent : Option ℕ) → Outcome → List ℕ
+end Text sent outcome = codes " " ++ (outcome_text sent outcome ++ codes "\n")
+end Json sent outcome = behind_commas (outcome_members sent outcome) ++ codes "}\n"
 
 -- What holds of lines.
 
 -- a line is its front and its end
 abbrev pub HasTwoParts : Type 0
-HasTwoParts = (form : Form) (number : ℕ) (call : MessageTree) (outcome : Outcome) → front form number call ++ end form outcome ≡ line form number call outcome
+HasTwoParts = (form : Form) (place : Place) (call : MessageTree) (outcome : Outcome) → front form place call ++ end form place.time outcome ≡ line form place call outcome
 
 -- What a terminal gets.
 

@@ -1,4 +1,4 @@
--- What a list of calls keeps: of each call that waits its number, its DESTINATION and the front of
+-- What a list of calls keeps: of each call that waits its place, its DESTINATION and the front of
 -- its line.
 use Rattle.std.specs.Prelude.{◌≡◌, ℕ, List, [], ◌∷◌, ◌++◌, Option, None, Some, map, option_map, string_bytes, if◌then◌else◌}
 use Rattle.std.specs.List.{flat_map}
@@ -13,30 +13,32 @@ use Rattle.dbus_call_lines.specs.Listing.{ListsAfter, Numbered, Row, message_of,
 use Rattle.dbus_call_lines.specs.Outcomes.{Outcome, is_wanted}
 use Rattle.dbus_call_lines.specs.declared.wanted.Wanted.{Wanted}
 use Rattle.dbus_call_lines.specs.declared.call_list.CallList.{CallList}
+use Rattle.dbus_call_lines.specs.declared.place.Place.{Place}
 use Rattle.dbus_call_lines.specs.declared.waiting_call.WaitingCall.{WaitingCall}
 
 pub record KeptCall : Type 0 where
-  pub number : ℕ
+  pub place : Place
   pub destination : Option (List ℕ)
   pub front : List ℕ
 
 -- what is kept of a call, and what is to be kept
 abbrev pub kept : WaitingCall → KeptCall
-kept call = record { number = call.number; destination = option_map string_bytes call.destination; front = string_bytes call.front }
+kept call = record { place = call.place; destination = option_map string_bytes call.destination; front = string_bytes call.front }
 
 abbrev pub kept_of : Wanted → Numbered → KeptCall
-kept_of wanted call = record { number = call.number; destination = destination_of call.message; front = front wanted.form call.number call.message }
+kept_of wanted call = record { place = call.place; destination = destination_of call.message; front = front wanted.form call.place call.message }
 
 -- the list is to have what is wanted, and keeps the calls that wait after these messages
 unfoldable pub Keeps : Wanted → (before : List Numbered) → CallList → Type 0
 Keeps wanted before list = (list.wanted ≡ wanted) × ((caller : List ℕ) (serial : ℕ) → option_map kept (waiting list.open caller serial) ≡ option_map (kept_of wanted) (run message_of no_calls before caller serial))
 
--- the lines of those that are wanted of calls that are kept, if this came of them
-abbrev pub kept_line : Wanted → Outcome → (front : List ℕ) → List ℕ
-kept_line wanted outcome front = if is_wanted wanted outcome then front ++ end wanted.form outcome else []
+-- the lines of those that are wanted of calls that are kept, if this came of them. sent is when a
+-- call was captured
+abbrev pub kept_line : Wanted → Outcome → (sent : Option ℕ) → (front : List ℕ) → List ℕ
+kept_line wanted outcome sent front = if is_wanted wanted outcome then front ++ end wanted.form sent outcome else []
 
 abbrev pub kept_text : Wanted → Outcome → List KeptCall → List ℕ
-kept_text wanted outcome calls = flat_map (λ c. kept_line wanted outcome c.front) calls
+kept_text wanted outcome calls = flat_map (λ c. kept_line wanted outcome c.place.time c.front) calls
 
 -- the call, if there is one, as a list
 abbrev pub as_list : {A : Type 0} → Option A → List A
@@ -47,7 +49,7 @@ as_list (Some call) = call ∷ []
 pub record WritesSorted {S : Type 0} (gains : S → List ℕ → S → Type 0) (wanted : Wanted) (outcome : Outcome) (calls : List WaitingCall) (old new : S) : Type 0 where
   pub sorted : List WaitingCall
   pub same : IsPermutation calls sorted
-  pub rising : IsSortedBy (λ a b. is_lt (nat_cmp a.number b.number)) sorted
+  pub rising : IsSortedBy (λ a b. is_lt (nat_cmp a.place.number b.place.number)) sorted
   pub gains_lines : gains old (kept_text wanted outcome (map kept sorted)) new
 
 -- After messages the list took this one too, and the lines of what is listed then are gained.

@@ -1,3 +1,4 @@
+pub mod Durations
 pub mod Outcomes
 pub mod CallLines
 pub mod Listing

@@ -1,6 +1,6 @@
 -- What is listed of the calls in an input: each METHOD_CALL, once it is known what came of it.
 -- D-Bus Specification, "Message Types" ("Method Calls").
-use Rattle.std.specs.Prelude.{◌≡◌, ◌↔◌, ◌<◌, ◌^◌, ℕ, nat_eq, List, [], ◌∷◌, ◌++◌, Bool, true, not, ◌&&◌, ◌==◌, Some, map, if◌then◌else◌}
+use Rattle.std.specs.Prelude.{◌≡◌, ◌↔◌, ◌<◌, ◌^◌, ℕ, nat_eq, List, [], ◌∷◌, ◌++◌, Bool, true, not, ◌&&◌, ◌==◌, Some, IfSome, map, if◌then◌else◌}
 use Rattle.std.specs.List.{AllByRecursion, Contains, IsDistinct, flat_map}
 use Rattle.std.specs.List.Sorted.{IsStrictlySortedBy}
 use Rattle.std.specs.Ordering.{nat_cmp}
@@ -15,17 +15,18 @@ use Rattle.dbus_calls.specs.Waiting.{Waiting, answered, no_calls}
 use Rattle.dbus_call_lines.specs.CallLines.{IsPrintedLine, line}
 use Rattle.dbus_call_lines.specs.Outcomes.{Outcome, is_wanted, outcome_by}
 use Rattle.dbus_call_lines.specs.Outcomes.Outcome.{Unwanted, Open}
+use Rattle.dbus_call_lines.specs.declared.place.Place.{Place}
 use Rattle.dbus_call_lines.specs.declared.wanted.Wanted.{Wanted}
 use Rattle.dbus_call_lines.specs.declared.form.Form.TheVariants.{Text}
 
--- a message, and its number in the input
+-- a message, and its place in the input
 pub record Numbered : Type 0 where
-  pub number : ℕ
+  pub place : Place
   pub message : MessageTree
 
--- the message of this number
-abbrev pub nth : (number : ℕ) → MessageTree → Numbered
-nth number message = record { number = number; message = message }
+-- the message at this place
+abbrev pub nth : Place → MessageTree → Numbered
+nth place message = record { place = place; message = message }
 
 abbrev pub message_of : Numbered → MessageTree
 message_of x = x.message
@@ -48,7 +49,7 @@ is_unwanted x = is_call x && not (wants_reply x.message)
 
 -- their numbers rise
 abbrev pub AreRising : List Numbered → Type 0
-AreRising xs = IsStrictlySortedBy (λ a b. nat_cmp a.number b.number) xs
+AreRising xs = IsStrictlySortedBy (λ a b. nat_cmp a.place.number b.place.number) xs
 
 -- these are all of which it holds, in the order of their numbers
 pub record AreThose (Is : Numbered → Type 0) (xs : List Numbered) : Type 0 where
@@ -69,7 +70,7 @@ module _ (before : List Numbered) (x : Numbered) where
   pub record ListsAfter (rows : List Row) : Type 0 where
     pub calls : List Numbered
     pub calls_are : AreThose IsEnded calls
-    pub rows_are : rows ≡ map (row (outcome_by x.number x.message)) calls ++ own_row
+    pub rows_are : rows ≡ map (row (outcome_by x.place x.message)) calls ++ own_row
 
 -- what is listed at the end: the calls that are open then
 pub record ListsOpen (before : List Numbered) (rows : List Row) : Type 0 where
@@ -89,7 +90,7 @@ AreListedBy before (x ∷ xs) rows = (now more : List Row) × ListsAfter before 
 
 -- the lines of those that are wanted
 abbrev pub row_text : Wanted → Row → List ℕ
-row_text wanted r = if is_wanted wanted r.outcome then line wanted.form r.call.number r.call.message r.outcome else []
+row_text wanted r = if is_wanted wanted r.outcome then line wanted.form r.call.place r.call.message r.outcome else []
 
 abbrev pub rows_text : Wanted → List Row → List ℕ
 rows_text wanted rows = flat_map (row_text wanted) rows
@@ -100,7 +101,7 @@ abbrev pub calls_of : List Row → List Numbered
 calls_of rows = map (λ r. r.call) rows
 
 abbrev pub same_number : Numbered → Numbered → Bool
-same_number a b = nat_eq a.number b.number
+same_number a b = nat_eq a.place.number b.place.number
 
 -- Of an input, each METHOD_CALL is listed, and nothing else; and none is listed twice.
 pub record ListsEachOnce (xs : List Numbered) (rows : List Row) : Type 0 where
@@ -118,12 +119,17 @@ abbrev pub OneList : Type 0
 OneList = (xs : List Numbered) (rows others : List Row) → AreListed [] xs rows → AreListed [] xs others → rows ≡ others
 
 -- Each line in words is printed, whatever the messages hold that are within the limits.
+
+-- its number and its time, if it has one, have at most 64 bits
+abbrev pub IsPlaceWithin : Place → Type 0
+IsPlaceWithin place = (place.number < 2 ^ 64) × IfSome place.time (λ t. t < 2 ^ 64)
+
 abbrev pub AreWithin : Limits → List Numbered → Type 0
-AreWithin limits xs = AllByRecursion (λ x. (order : Order) × IsMessage limits order x.message × (x.number < 2 ^ 64)) xs
+AreWithin limits xs = AllByRecursion (λ x. (order : Order) × IsMessage limits order x.message × IsPlaceWithin x.place) xs
 
 abbrev pub OnlyPrinted : Type 0
 OnlyPrinted = (limits : Limits) (xs : List Numbered) (rows : List Row) → AreWithin limits xs → AreListed [] xs rows
-    → AllByRecursion (λ r. IsPrintedLine (line Text r.call.number r.call.message r.outcome)) rows
+    → AllByRecursion (λ r. IsPrintedLine (line Text r.call.place r.call.message r.outcome)) rows
 
 -- How one pass finds what a message ends: it keeps the calls that wait, and takes these away.
 

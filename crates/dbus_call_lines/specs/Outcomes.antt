@@ -8,14 +8,15 @@ use Rattle.dbus_message_model.specs.declared.message_type.TheConstants as messag
 use Rattle.dbus_calls.specs.Events.{text_at}
 use Rattle.dbus_call_lines.specs.declared.outcome.Outcome.{Outcome as OutcomeSeen}
 use Rattle.dbus_call_lines.specs.declared.outcome.Outcome.TheVariants as seen
+use Rattle.dbus_call_lines.specs.declared.place.Place.{Place}
 use Rattle.dbus_call_lines.specs.declared.wanted.Wanted.{Wanted}
 
 -- what came of a call
 pub data Outcome : Type 0 where
-  -- the METHOD_RETURN of this number answered it
-  Reply : (number : ℕ) → Outcome
-  -- the ERROR of this number and name answered it
-  Error : (number : ℕ) (name : List ℕ) → Outcome
+  -- the METHOD_RETURN at this place answered it
+  Reply : (at : Place) → Outcome
+  -- the ERROR at this place, of this name, answered it
+  Error : (at : Place) (name : List ℕ) → Outcome
   -- it wants no reply
   Unwanted : Outcome
   -- nothing: it is open at the end
@@ -29,18 +30,18 @@ pub data Outcome : Type 0 where
 abbrev pub or_dash : Option (List ℕ) → List ℕ
 or_dash text = unwrap_or text (codes "-")
 
--- what comes of a call that the message of this number ends
-abbrev pub outcome_by : (number : ℕ) → MessageTree → Outcome
-outcome_by number m =
-    if m.kind == message.METHOD_RETURN then Reply number
-    else if m.kind == message.ERROR then Error number (or_dash (text_at field.ERROR_NAME m))
+-- what comes of a call that the message at this place ends
+abbrev pub outcome_by : Place → MessageTree → Outcome
+outcome_by at m =
+    if m.kind == message.METHOD_RETURN then Reply at
+    else if m.kind == message.ERROR then Error at (or_dash (text_at field.ERROR_NAME m))
     else if m.kind == message.METHOD_CALL then Replaced
     else Left
 
 -- what the code says of it
 abbrev pub outcome_seen : OutcomeSeen → Outcome
-outcome_seen (seen.Reply number) = Reply number
-outcome_seen (seen.Error number name) = Error number name.now
+outcome_seen (seen.Reply at) = Reply at
+outcome_seen (seen.Error at name) = Error at name.now
 outcome_seen seen.Unwanted = Unwanted
 outcome_seen seen.Open = Open
 outcome_seen seen.Left = Left
@@ -57,7 +58,7 @@ is_unanswered outcome = false
 
 -- an ERROR came
 abbrev pub is_error : Outcome → Bool
-is_error (Error number name) = true
+is_error (Error at name) = true
 is_error outcome = false
 
 -- all calls, or those of the outcomes that are asked for

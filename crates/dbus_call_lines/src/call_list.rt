@@ -22,6 +22,7 @@ use crate::ending::write_end;
 use crate::form::Form;
 use crate::fronts::write_front;
 use crate::outcome::{Outcome, outcome_of};
+use crate::place::Place;
 use crate::waiting_call::WaitingCall;
 use crate::wanted::Wanted;
 use dbus_calls::{CallSeen, Event, OpenCalls, event_of};
@@ -40,7 +41,7 @@ use std::collections::BTreeMap;
 /// that it has written.
 ///
 /// ```rust
-/// use dbus_call_lines::{CallList, Form, Wanted};
+/// use dbus_call_lines::{CallList, Form, Place, Wanted};
 /// use dbus_message::MessageView;
 /// use dbus_show::StringDraft;
 ///
@@ -48,7 +49,7 @@ use std::collections::BTreeMap;
 /// let mut list = CallList::new(alloc, wanted);
 /// let mut lines = String::new(alloc);
 /// let mut draft = StringDraft::new(&mut lines);
-/// list.take(&mut draft, 1, &MessageView::of(bytes)?)?;
+/// list.take(&mut draft, Place { number: 1, time: None }, &MessageView::of(bytes)?)?;
 /// list.finish(&mut draft)?;
 /// draft.finish()?;
 /// println!(rt; "{lines}")?;
@@ -72,7 +73,7 @@ impl CallList {
         }
     }
 
-    /// Takes the message of the view, which has this number, and appends the lines that are due
+    /// Takes the message of the view, which is at this place, and appends the lines that are due
     /// then: of the calls that it ends, in the order of their numbers, and its own, if it is a call
     /// that wants no reply. Of these it appends the ones that are wanted. D-Bus Specification,
     /// "Message Types" ("Method Calls"). Numbers rise from message to message.
@@ -82,20 +83,20 @@ impl CallList {
     pub fn take<D: Draft>(
         &mut self,
         draft: &mut D,
-        number: u64,
+        place: Place,
         view: &MessageView,
     ) -> Result<(), AllocError>
         ensures takes { (order : Order) (m : MessageTree) → Views view.now order m →
             (wanted : Wanted) (before : List Numbered) → Keeps wanted before self.old →
-            AreRising (before ++ nth number m ∷ []) → OnOk result
-            (TakesNext D.gains wanted before (nth number m) self.new draft.old draft.new) }
+            AreRising (before ++ nth place m ∷ []) → OnOk result
+            (TakesNext D.gains wanted before (nth place m) self.new draft.old draft.new) }
         ensures unwritten { OnErr result (draft.new ≡ draft.old) }
     {
         match event_of(view) {
-            Event::Call(call) => self.take_call(draft, number, call, view),
+            Event::Call(call) => self.take_call(draft, place, call, view),
             Event::Reply(reply) => {
                 let ended = self.open.answer(reply.caller, reply.serial, reply.sender);
-                self.write_ended(draft, &ended, outcome_of(number, view));
+                self.write_ended(draft, &ended, outcome_of(place, view));
                 Ok(())
             }
             Event::Departure(name) => match self.open.close_all(name) {
@@ -110,53 +111,53 @@ impl CallList {
     fn take_call<D: Draft>(
         &mut self,
         draft: &mut D,
-        number: u64,
+        place: Place,
         call: CallSeen<'_>,
         view: &MessageView,
     ) -> Result<(), AllocError>
         ensures takes { (order : Order) (m : MessageTree) → Views view.now order m →
             Calls call.entry.caller.now call.entry.serial call.entry.wants_reply ≡ event_of m →
             (wanted : Wanted) (before : List Numbered) → Keeps wanted before self.old → OnOk result
-            (TakesNext D.gains wanted before (nth number m) self.new draft.old draft.new) }
+            (TakesNext D.gains wanted before (nth place m) self.new draft.old draft.new) }
         ensures unwritten { OnErr result (draft.new ≡ draft.old) }
     {
         if call.wants_reply {
-            let waiting = self.waiting_call(number, view)?;
+            let waiting = self.waiting_call(place, view)?;
             let ended = self.open.open(call.caller, call.serial, waiting)?;
             self.write_ended(draft, &ended, Outcome::Replaced);
         } else {
             let ended = self.open.close(call.caller, call.serial);
             self.write_ended(draft, &ended, Outcome::Replaced);
-            self.write_unwanted(draft, number, view);
+            self.write_unwanted(draft, place, view);
         }
         Ok(())
     }
 
     // Appends the line of a call that wants no reply.
-    fn write_unwanted<D: Draft>(&self, draft: &mut D, number: u64, view: &MessageView)
+    fn write_unwanted<D: Draft>(&self, draft: &mut D, place: Place, view: &MessageView)
         ensures { (order : Order) (m : MessageTree) → Views view.now order m →
             D.gains draft.old
-            (kept_line self.now.wanted Unwanted (front self.now.wanted.form number m)) draft.new }
+            (kept_line self.now.wanted Unwanted place.time (front self.now.wanted.form place m)) draft.new }
     {
         if self.wanted.lists(Outcome::Unwanted) {
-            write_front(draft, self.wanted.form, number, view);
-            write_end(draft, self.wanted.form, Outcome::Unwanted);
+            write_front(draft, self.wanted.form, place, view);
+            write_end(draft, self.wanted.form, place.time, Outcome::Unwanted);
         }
     }
 
     // What is kept of a call.
-    fn waiting_call(&self, number: u64, view: &MessageView) -> Result<WaitingCall, AllocError>
+    fn waiting_call(&self, place: Place, view: &MessageView) -> Result<WaitingCall, AllocError>
         ensures { (order : Order) (m : MessageTree) → Views view.now order m →
-            IfOk result (λ call. kept call ≡ kept_of self.now.wanted (nth number m)) }
+            IfOk result (λ call. kept call ≡ kept_of self.now.wanted (nth place m)) }
     {
         let mut front = String::new(self.alloc);
-        front_into(&mut front, self.wanted.form, number, view)?;
+        front_into(&mut front, self.wanted.form, place, view)?;
         let destination = match view.destination() {
             Some(name) => Some(String::from_str(self.alloc, name)?),
             None => None,
         };
         Ok(WaitingCall {
-            number,
+            place,
             destination,
             front,
         })
@@ -220,25 +221,26 @@ impl CallList {
 fn front_into(
     out: &mut String,
     form: Form,
-    number: u64,
+    place: Place,
     view: &MessageView,
 ) -> Result<(), AllocError>
     ensures { (order : Order) (m : MessageTree) → Views view.now order m →
-        OnOk result (string_bytes out.new ≡ front form number m) }
+        OnOk result (string_bytes out.new ≡ front form place m) }
 {
     let mut draft = StringDraft::new(out);
-    write_front(&mut draft, form, number, view);
+    write_front(&mut draft, form, place, view);
     draft.finish()
 }
 
 // Appends the line of a call that waited, if it is wanted.
 fn write_line<D: Draft>(draft: &mut D, wanted: Wanted, call: &WaitingCall, outcome: Outcome)
     ensures { D.gains draft.old
-        (kept_line wanted (outcome_seen outcome.entry) (string_bytes call.now.front)) draft.new }
+        (kept_line wanted (outcome_seen outcome.entry) call.now.place.time
+        (string_bytes call.now.front)) draft.new }
 {
     if wanted.lists(outcome) {
         draft.push_str(call.front.as_str());
-        write_end(draft, wanted.form, outcome);
+        write_end(draft, wanted.form, call.place.time, outcome);
     }
 }
 
@@ -270,7 +272,7 @@ fn write_sorted<D: Draft>(
         (map (λ call. call.now) rows.old.items) draft.old draft.new) }
     ensures unwritten { OnErr result (draft.new ≡ draft.old) }
 {
-    rows.sort_by(|a, b| a.number.cmp(&b.number))?;
+    rows.sort_by(|a, b| a.place.number.cmp(&b.place.number))?;
     for call in rows.iter() {
         write_line(draft, wanted, call, outcome);
     }

@@ -3,44 +3,50 @@
 
 ghost use Rattle.std.specs.Prelude.{◌≡◌, [], ◌∷◌, codes, decimal};
 ghost use Rattle.dbus_json.specs.JsonValues.{member};
-ghost use Rattle.dbus_call_lines.specs.CallLines.{behind_commas, end, outcome_text, outcome_word, reply_members};
+ghost use Rattle.dbus_call_lines.specs.CallLines.{behind_commas, end, outcome_text, outcome_word, reply_members, took_members, took_text};
+ghost use Rattle.dbus_call_lines.specs.Durations.{time_between};
 ghost use Rattle.dbus_call_lines.specs.Outcomes.{outcome_seen};
 
+use crate::elapsed::{Elapsed, time_between, write_exact, write_milliseconds};
 use crate::form::Form;
 use crate::outcome::Outcome;
 use dbus_json::write_string;
 use dbus_show::{Draft, write_integer};
 
-/// Appends what came of a call, as the end of its line. It allocates nothing.
-pub fn write_end<D: Draft>(draft: &mut D, form: Form, outcome: Outcome)
-    ensures { D.gains draft.old (end form (outcome_seen outcome.entry)) draft.new }
+/// Appends what came of a call, as the end of its line. It says how long a reply took, if the time
+/// is known at which the call was captured, as the reply's is. Both are in nanoseconds. It allocates
+/// nothing.
+pub fn write_end<D: Draft>(draft: &mut D, form: Form, sent: Option<u64>, outcome: Outcome)
+    ensures { D.gains draft.old (end form sent (outcome_seen outcome.entry)) draft.new }
 {
     match form {
         Form::Text => {
             draft.push_str(" ");
-            write_words(draft, outcome);
+            write_words(draft, sent, outcome);
             draft.push_str("\n");
         }
         Form::Json => {
             draft.push_between(",\"outcome\":\"", word_of(outcome), "\"");
-            write_reply(draft, outcome);
+            write_reply(draft, sent, outcome);
             draft.push_str("}\n");
         }
     }
 }
 
 // Appends what came of a call in words.
-fn write_words<D: Draft>(draft: &mut D, outcome: Outcome)
-    ensures { D.gains draft.old (outcome_text (outcome_seen outcome.entry)) draft.new }
+fn write_words<D: Draft>(draft: &mut D, sent: Option<u64>, outcome: Outcome)
+    ensures { D.gains draft.old (outcome_text sent (outcome_seen outcome.entry)) draft.new }
 {
     match outcome {
-        Outcome::Reply(number) => {
+        Outcome::Reply(place) => {
             draft.push_str("reply #");
-            write_integer(draft, number);
+            write_integer(draft, place.number);
+            write_took(draft, time_between(sent, place.time));
         }
-        Outcome::Error(number, name) => {
+        Outcome::Error(place, name) => {
             draft.push_str("error #");
-            write_integer(draft, number);
+            write_integer(draft, place.number);
+            write_took(draft, time_between(sent, place.time));
             draft.push_str(" ");
             draft.push_str(name);
         }
@@ -48,6 +54,17 @@ fn write_words<D: Draft>(draft: &mut D, outcome: Outcome)
         Outcome::Open => draft.push_str("no reply"),
         Outcome::Left => draft.push_str("no reply: the caller left"),
         Outcome::Replaced => draft.push_str("no reply: its serial was used again"),
+    }
+}
+
+// Appends how long a reply took, if that is known.
+fn write_took<D: Draft>(draft: &mut D, took: Option<Elapsed>)
+    ensures { D.gains draft.old (took_text took) draft.new }
+{
+    if let Some(took) = took {
+        draft.push_str(" ");
+        write_milliseconds(draft, took);
+        draft.push_str(" ms");
     }
 }
 
@@ -66,15 +83,19 @@ fn word_of(outcome: Outcome) -> &'static str
 }
 
 // Appends the members of a reply, if there is one, each behind a comma.
-fn write_reply<D: Draft>(draft: &mut D, outcome: Outcome)
-    ensures { D.gains draft.old (behind_commas (reply_members (outcome_seen outcome.entry))) draft.new }
+fn write_reply<D: Draft>(draft: &mut D, sent: Option<u64>, outcome: Outcome)
+    ensures { D.gains draft.old (behind_commas (reply_members sent (outcome_seen outcome.entry))) draft.new }
 {
     match outcome {
-        Outcome::Reply(number) => write_number(draft, number),
-        Outcome::Error(number, name) => {
-            write_number(draft, number);
+        Outcome::Reply(place) => {
+            write_number(draft, place.number);
+            write_milliseconds_member(draft, time_between(sent, place.time));
+        }
+        Outcome::Error(place, name) => {
+            write_number(draft, place.number);
             draft.push_str(",\"error_name\":");
             write_string(draft, name);
+            write_milliseconds_member(draft, time_between(sent, place.time));
         }
         _ => {}
     }
@@ -86,4 +107,14 @@ fn write_number<D: Draft>(draft: &mut D, number: u64)
 {
     draft.push_str(",\"reply\":");
     write_integer(draft, number);
+}
+
+// Appends how long a reply took as a member, behind a comma, if that is known.
+fn write_milliseconds_member<D: Draft>(draft: &mut D, took: Option<Elapsed>)
+    ensures { D.gains draft.old (behind_commas (took_members took)) draft.new }
+{
+    if let Some(took) = took {
+        draft.push_str(",\"milliseconds\":");
+        write_exact(draft, took);
+    }
 }

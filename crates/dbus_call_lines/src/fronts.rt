@@ -9,19 +9,20 @@ ghost use Rattle.dbus_view.specs.Views.{Views};
 ghost use Rattle.dbus_call_lines.specs.CallLines.{behind_commas, call_members, call_text, front, member_if, member_text};
 
 use crate::form::Form;
-use dbus_json::write_string;
+use crate::place::Place;
+use dbus_json::{write_string, write_time};
 use dbus_show::{Draft, write_integer};
 use dbus_view::MessageView;
 
-/// Appends the line of the call of the view, which has this number, as far as it says nothing of
+/// Appends the line of the call of the view, which is at this place, as far as it says nothing of
 /// what came of the call. It allocates nothing. D-Bus Specification, "Header Fields"; RFC 8259.
-pub fn write_front<D: Draft>(draft: &mut D, form: Form, number: u64, view: &MessageView)
+pub fn write_front<D: Draft>(draft: &mut D, form: Form, place: Place, view: &MessageView)
     ensures { (order : Order) (m : MessageTree) → Views view.now order m →
-        D.gains draft.old (front form number m) draft.new }
+        D.gains draft.old (front form place m) draft.new }
 {
     match form {
-        Form::Text => write_call(draft, number, view),
-        Form::Json => write_members(draft, number, view),
+        Form::Text => write_call(draft, place.number, view),
+        Form::Json => write_members(draft, place, view),
     }
 }
 
@@ -51,12 +52,13 @@ fn write_member<D: Draft>(draft: &mut D, interface: Option<&str>, name: Option<&
 }
 
 // Appends what the call has as the first members of an object.
-fn write_members<D: Draft>(draft: &mut D, number: u64, view: &MessageView)
+fn write_members<D: Draft>(draft: &mut D, place: Place, view: &MessageView)
     ensures { (order : Order) (m : MessageTree) → Views view.now order m →
-        D.gains draft.old (codes "{" ++ listed (call_members number m)) draft.new }
+        D.gains draft.old (codes "{" ++ listed (call_members place m)) draft.new }
 {
     draft.push_str("{\"number\":");
-    write_integer(draft, number);
+    write_integer(draft, place.number);
+    write_time(draft, place.time);
     draft.push_str(",\"serial\":");
     write_integer(draft, view.serial());
     write_text(draft, "sender", view.sender());

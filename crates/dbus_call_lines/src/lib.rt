@@ -6,11 +6,13 @@
 #![tactic(auto)]
 
 mod call_list;
+mod elapsed;
 mod ending;
 mod form;
 mod fronts;
 pub mod laws;
 mod outcome;
+mod place;
 mod waiting_call;
 mod wanted;
 
@@ -19,4 +21,5 @@ pub use ending::write_end;
 pub use form::Form;
 pub use fronts::write_front;
 pub use outcome::{Outcome, outcome_of};
+pub use place::Place;
 pub use wanted::Wanted;

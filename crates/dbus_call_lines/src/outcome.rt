@@ -7,16 +7,17 @@ ghost use Rattle.dbus_message_model.specs.Messages.{MessageTree};
 ghost use Rattle.dbus_view.specs.Views.{Views};
 ghost use Rattle.dbus_call_lines.specs.Outcomes.{outcome_by, outcome_seen};
 
+use crate::place::Place;
 use dbus_message_model::message_type::{ERROR, METHOD_CALL, METHOD_RETURN};
 use dbus_view::MessageView;
 
 /// What came of a call. D-Bus Specification, "Message Types".
 #[derive(Clone, Copy, Debug, PartialEq, Eq)]
 pub enum Outcome<'a> {
-    /// The METHOD_RETURN of this number answered it.
-    Reply(u64),
-    /// The ERROR of this number and name answered it.
-    Error(u64, &'a str),
+    /// The METHOD_RETURN at this place answered it.
+    Reply(Place),
+    /// The ERROR at this place answered it, which has this name.
+    Error(Place, &'a str),
     /// It wants no reply: its flag NO_REPLY_EXPECTED is set.
     Unwanted,
     /// No reply came: it is open at the end.
@@ -27,16 +28,16 @@ pub enum Outcome<'a> {
     Replaced,
 }
 
-/// What comes of a call that the message of the view ends, which has this number: its reply, a call
+/// What comes of a call that the message of the view ends, which is at this place: its reply, a call
 /// that uses its serial again, or the signal that its caller left. D-Bus Specification, "Message
 /// Types".
-pub fn outcome_of<'a>(number: u64, view: &MessageView<'a>) -> Outcome<'a>
+pub fn outcome_of<'a>(place: Place, view: &MessageView<'a>) -> Outcome<'a>
     ensures { (order : Order) (m : MessageTree) → Views view.now order m →
-        outcome_seen result ≡ outcome_by number m }
+        outcome_seen result ≡ outcome_by place m }
 {
     match view.kind() {
-        METHOD_RETURN => Outcome::Reply(number),
-        ERROR => Outcome::Error(number, view.error_name().unwrap_or("-")),
+        METHOD_RETURN => Outcome::Reply(place),
+        ERROR => Outcome::Error(place, view.error_name().unwrap_or("-")),
         METHOD_CALL => Outcome::Replaced,
         _ => Outcome::Left,
     }

@@ -3,13 +3,14 @@
 
 ghost use Rattle.std.specs.Prelude.{option_map, string_bytes};
 
+use crate::place::Place;
 use dbus_calls::Sent;
 
 /// A call that waits for its reply, with the front of its line.
 #[derive(Drop)]
 pub(crate) struct WaitingCall {
-    /// Its number in the input.
-    pub(crate) number: u64,
+    /// Its place in the input.
+    pub(crate) place: Place,
     /// Its DESTINATION, if it has one.
     pub(crate) destination: Option<String>,
     /// Its line, as far as it says nothing of what came of the call.

@@ -8,9 +8,9 @@ ghost use Rattle.dbus_json.specs.Times.{digit_at, fraction_digits, time_members}
 use dbus_show::{Draft, write_integer};
 use std::str;
 
-/// The digit of a number at the place of this power of ten.
+/// The digit of a number at the place of this power of ten, in ASCII.
 #[inline]
-fn digit_at(number: u64, power: u64) -> u8
+pub fn digit_at(number: u64, power: u64) -> u8
     requires { 0 < power }
     ensures { result ≡ digit_at number power }
 {
@@ -44,8 +44,10 @@ fn write_fraction<D: Draft>(draft: &mut D, nanoseconds: u64)
     draft.push_str(unsafe { str::from_utf8_unchecked(&fraction) });
 }
 
-/// Appends the time as a member after others, if there is one.
-pub(crate) fn write_time<D: Draft>(draft: &mut D, time: Option<u64>)
+/// Appends the time as the member `time` after others, if there is one: a string of the seconds since
+/// 1970 began in UTC, with nine digits behind the point. The time is in nanoseconds. It allocates
+/// nothing.
+pub fn write_time<D: Draft>(draft: &mut D, time: Option<u64>)
     ensures { D.gains draft.old (led (codes ",") (codes ",") (time_members time)) draft.new }
 {
     if let Some(nanoseconds) = time {

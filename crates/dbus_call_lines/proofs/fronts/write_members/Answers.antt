@@ -24,7 +24,7 @@ returns g c = λ order m views.
     let member = subst (λ (t : Option (List ℕ)). gains c.write_text-4.new.draft (behind_commas (member_if (codes "member") t)) c.write_text-5.new.draft)
     (text_seen c.member.result STRING (field_value field.MEMBER m.fields) (c.member.ensures order m views)) c.write_text-5.ensures in
     subst (λ (t : List ℕ). gains c.args.draft.now t c.write_text-5.new.draft)
-    (members_are c.args.number m.serial (member_if (codes "sender") (sender_of m)) (member_if (codes "destination") (destination_of m)) (member_if (codes "path") (text_at field.PATH m))
+    (members_are c.args.place.number c.args.place.time m.serial (member_if (codes "sender") (sender_of m)) (member_if (codes "destination") (destination_of m)) (member_if (codes "path") (text_at field.PATH m))
     (member_if (codes "interface") (text_at field.INTERFACE m)) (member_if (codes "member") (text_at field.MEMBER m)))
-    (then gains joins c.push_str.ensures (then gains joins c.write_integer.ensures (then gains joins c.push_str-2.ensures (then gains joins serial
-    (then gains joins sender (then gains joins destination (then gains joins path (then gains joins interface member))))))))
+    (then gains joins c.push_str.ensures (then gains joins c.write_integer.ensures (then gains joins c.write_time.ensures (then gains joins c.push_str-2.ensures (then gains joins serial
+    (then gains joins sender (then gains joins destination (then gains joins path (then gains joins interface member)))))))))
