@@ -1,0 +1,2 @@
+mod RoomSteps
+mod Ending

@@ -1,0 +1,5 @@
+pub mod Written
+pub mod Rooms
+pub mod RoomLaws
+pub mod Places
+pub mod Telling

@@ -1,0 +1,18 @@
+-- Where a message stands in the page's input.
+use Rattle.std.specs.Prelude.{◌≡◌, ℕ, List, None, Some, nat_eq, if◌then◌else◌}
+use Rattle.dbus_explain.specs.declared.message.Refused.{Refused}
+use Rattle.dbus_header.specs.NoMessage.{IsFaultAtEnd}
+use Rattle.dbus_json.specs.declared.place.LinePlace.{LinePlace}
+use Rattle.dbus_value_model.specs.Specification.{specification}
+use Rattle.dbus_page.specs.declared.json_line.PagePlace.{PagePlace}
+
+-- as a line of JSON takes it: its time if it has one
+abbrev pub line_place : PagePlace → LinePlace
+line_place p = record { number = p.number; offset = p.offset; time = if nat_eq p.has_time 0 then None else Some p.time }
+
+-- these bytes, which are all that there is, begin with no message, and have this fault
+pub record IsRefusedAt (bytes : List ℕ) (number offset : ℕ) (refused : Refused) : Type 0 where
+  pub bytes_are : refused.bytes.now ≡ bytes
+  pub fault : IsFaultAtEnd specification bytes refused.fault
+  pub number_is : refused.number ≡ number
+  pub offset_is : refused.offset ≡ offset

@@ -1,0 +1,19 @@
+//! Captures read in a browser: calls that a module of WebAssembly exports, over the bytes of the
+//! page. D-Bus Specification, "Message Protocol".
+//!
+//! [`dbus_page_next`] tells whether bytes begin with a message, [`dbus_page_json`] writes the
+//! message as a line of JSON, and [`dbus_page_explain`] writes why there is none. Bytes are given
+//! as an address and a number, and structs as an address, as in C. No call allocates, and the
+//! module imports nothing.
+#![tactic(auto)]
+
+mod answers;
+mod explaining;
+mod json_line;
+mod next;
+mod room;
+
+pub use answers::{NO_ROOM, NO_TEXT, PARTIAL, REFUSED, WHOLE};
+pub use explaining::dbus_page_explain;
+pub use json_line::{PagePlace, dbus_page_json};
+pub use next::{Next, dbus_page_next};
