@@ -26,6 +26,9 @@
 # make crate       packs the crate for Rust, and builds what it packed, in out/; CARGO_PACKAGE_FLAGS=--allow-dirty if not all is committed
 # make test-crate  runs the tests that are packed with it, from a folder of their own
 # make test-completions loads the completions in bash, zsh and fish, and compares what each completes with the texts of help
+# make page        proves and builds the module of the page for browsers, and puts the page together in out/dbus-wire.html, which opens from the disk
+# make test-page   compares what the page gives of the samples and cases with what dbus-wire writes: by its module in Node, of version 20 at least, and by
+#                  the page in a headless Chromium, of version 133 at least, if there is one; BROWSER names another
 # make test-memory runs dbus-wire failing each of its allocations in turn
 # make install     installs what make build and make library proved and built: the program with its manual page and completions, and the
 #                  library for C with the pages of its calls. PREFIX, BINDIR, LIBDIR, INCLUDEDIR, DATADIR, MANDIR, ZSHDIR and DESTDIR say where. install-program and
@@ -54,6 +57,9 @@ ZSHDIR ?= $(DATADIR)/zsh/site-functions
 PYTHONDIR ?= $(PREFIX)/lib/python3/dist-packages
 
 PROGRAM = crates/dbus_wire/out/dbus_wire
+# The page for browsers, and its module.
+PAGE = out/dbus-wire.html
+MODULE = crates/dbus_page/out/dbus_page.wasm
 # Where the library for C is built.
 ROOM = out
 # include/dbus_wire.h says what changes its number.
@@ -93,7 +99,7 @@ INSTALLED = $(BINDIR)/dbus-wire $(MANDIR)/man1/dbus-wire.1 $(addprefix $(DATADIR
 ARGS = check
 FILE = samples/session.dbus
 
-.PHONY: kit run quick-test build library test test-c test-python test-memory gate-times wrong-bodies api graph definitions definitions-check \
+.PHONY: kit run quick-test build library test test-c test-python page test-page test-memory gate-times wrong-bodies api graph definitions definitions-check \
 	doc-examples readme-test peers export-cases instructions bench bench-c install install-program install-c install-shared install-dev install-python install-notices uninstall deb tarball wheel test-wheel crate test-crate test-completions release test-release test-packages test-root
 
 # What rt try builds is gone when it ends. What make build made runs at once, and needs no kit.
@@ -168,6 +174,13 @@ test-wheel: wheel
 
 test-completions:
 	completions/test.py
+
+page: kit
+	bench/build.py dbus_page
+	web/build.py $(MODULE) $(PAGE)
+
+test-page: build page
+	web/test.py $(PROGRAM) $(MODULE) $(PAGE)
 
 test-memory: build
 	bench/refused_memory.py $(PROGRAM) samples/big-endian.dbus

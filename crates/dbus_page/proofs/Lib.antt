@@ -1,2 +1,3 @@
 mod RoomSteps
 mod Ending
+mod PartSteps

@@ -3,3 +3,4 @@ pub mod Rooms
 pub mod RoomLaws
 pub mod Places
 pub mod Telling
+pub mod Parts

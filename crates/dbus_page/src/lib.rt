@@ -12,8 +12,10 @@ mod explaining;
 mod json_line;
 mod next;
 mod room;
+mod unpacking;
 
 pub use answers::{NO_ROOM, NO_TEXT, PARTIAL, REFUSED, WHOLE};
 pub use explaining::dbus_page_explain;
 pub use json_line::{PagePlace, dbus_page_json};
 pub use next::{Next, dbus_page_next};
+pub use unpacking::{PagePart, Unpacked, dbus_page_unpack};

@@ -1,0 +1,21 @@
+-- When bytes were captured, by the parts that are of one packet.
+use Rattle.std.specs.Prelude.{◌≡◌, ℕ, ◌<◌, ◌≤◌, List, [], ◌∷◌, Option, None, Some, nat_eq, if◌then◌else◌}
+use Rattle.dbus_device.specs.Packets.{Packets}
+use Rattle.dbus_device.specs.declared.packet.Packet.{Packet}
+use Rattle.dbus_page.specs.declared.unpacking.PagePart.{PagePart}
+
+-- the time that a packet has, if there is one
+abbrev pub time_in : Option Packet → Option ℕ
+time_in None = None
+time_in (Some packet) = packet.time
+
+abbrev pub time_of : PagePart → Option ℕ
+time_of part = if nat_eq part.has_time 0 then None else Some part.time
+
+-- The parts are those of the bytes from a place on up to another: each begins where the one before
+-- it ends, and has the time of the packet of each of its bytes.
+abbrev pub AreTimed : Packets → (begin : ℕ) → List PagePart → (end : ℕ) → Type 0
+AreTimed packets begin [] end = begin ≡ end
+AreTimed packets begin (part ∷ parts) end =
+    (next : ℕ) × (part.start ≡ begin) × (begin ≤ next) × ((i : ℕ) → begin ≤ i → i < next → time_in (packets i) ≡ time_of part)
+    × AreTimed packets next parts end

@@ -1,0 +1,150 @@
+//! The bytes of messages in a file, captured or not.
+#![tactic(auto)]
+
+ghost use Rattle.std.specs.Prelude.{◌≡◌, ◌≤◌, ◌++◌, ℕ, List, Some, length, take, true, false};
+ghost use Rattle.std.specs.Io.KnownBytes.{Consumes, IsAtEnd};
+ghost use Rattle.dbus_capture.specs.Scans.{fresh};
+ghost use Rattle.dbus_capture.specs.Steps.{given, packet_given};
+ghost use Rattle.dbus_capture.specs.declared.stage.Stage.TheVariants as stages;
+ghost use Rattle.dbus_device.specs.Packets.{Packets};
+ghost use Rattle.dbus_page.specs.Parts.{AreTimed, time_in, time_of};
+ghost use Rattle.dbus_page.specs.declared.answers.TheConstants.{NO_ROOM, WHOLE};
+
+use crate::answers::{NO_ROOM, WHOLE};
+use dbus_capture::Capture;
+use dbus_device::{FromRead, Packet, Source};
+
+/// Bytes in a row that are all of one packet, or of none.
+#[repr(C)]
+#[derive(Clone, Copy)]
+pub struct PagePart {
+    /// The offset of the first among all bytes that were unpacked.
+    pub start: u64,
+    /// When the packet was captured, in nanoseconds since 1970 began in UTC, if that is known.
+    pub time: u64,
+    /// 0 if it is not known, else 1.
+    pub has_time: u64,
+}
+
+/// What was unpacked.
+#[repr(C)]
+#[derive(Drop)]
+pub struct Unpacked {
+    /// The number of bytes.
+    pub length: u64,
+    /// The number of their parts.
+    pub parts: u64,
+    /// Of a fault of the file: its offset, in bytes from the start of the file.
+    pub at: u64,
+    /// 0 if the file has no fault, else 1.
+    pub has_fault: u64,
+}
+
+// How far the room and the parts are filled.
+#[derive(Drop)]
+struct Filled {
+    // The number of bytes.
+    length: usize,
+    // The number of parts.
+    parts: usize,
+    // Whether the source has no bytes left.
+    is_all: bool,
+}
+
+// The part that begins here and is of this packet.
+fn part_of(start: usize, packet: Option<Packet>) -> PagePart
+    ensures begins { result.start ≡ start }
+    ensures timed { time_of result ≡ time_in packet }
+{
+    let time = match packet {
+        Some(packet) => packet.time,
+        None => None,
+    };
+    match time {
+        Some(time) => PagePart {
+            start: start as u64,
+            time,
+            has_time: 1,
+        },
+        None => PagePart {
+            start: start as u64,
+            time: 0,
+            has_time: 0,
+        },
+    }
+}
+
+// Reads what a source gives to the start of the room, and notes the part that each read gives.
+fn read_through<S: Source>(source: &mut S, room: &mut [u8], parts: &mut [PagePart]) -> Filled
+    ensures within { result.length ≤ length room.new }
+    ensures read { Consumes (S.left source.old) (S.left source.new) (take result.length room.new) }
+    ensures all { result.is_all ≡ true → IsAtEnd (S.left source.new) }
+    ensures timed { (packets : Packets) → S.packets source.old ≡ Some packets →
+        AreTimed packets 0 (take result.parts parts.new) result.length }
+{
+    let mut length = 0;
+    for number in 0..parts.len() {
+        match source.read(&mut room[length..]) {
+            Ok(count) => {
+                if count == 0 {
+                    return Filled {
+                        length,
+                        parts: number,
+                        is_all: length < room.len(),
+                    };
+                }
+                parts[number] = part_of(length, source.packet());
+                length += count;
+            }
+            Err(_) => {
+                return Filled {
+                    length,
+                    parts: number,
+                    is_all: false,
+                };
+            }
+        }
+    }
+    Filled {
+        length,
+        parts: parts.len(),
+        is_all: false,
+    }
+}
+
+/// Writes the bytes of messages that a file has to the start of the room: those of the D-Bus
+/// packets of a pcap or pcapng file, one after another, or all bytes of any other file. Notes the
+/// part of one packet that begins at each place, with its time.
+///
+/// [`WHOLE`] if these are all bytes. [`NO_ROOM`] if the room, which has to have one byte more, or
+/// the parts, of which one more is wanted too, did not do for all. The bytes of the room and the
+/// parts behind may change. It allocates nothing, and takes some 150,000 bytes of the stack. "PCAP
+/// Capture File Format"; "PCAP Now Generic (pcapng) Capture File Format".
+#[unsafe(no_mangle)]
+pub extern "C" fn dbus_page_unpack(
+    file: &[u8],
+    room: &mut [u8],
+    parts: &mut [PagePart],
+    unpacked: &mut Unpacked,
+) -> u32
+    ensures front { (rest : List ℕ) ×
+        (given (fresh false stages.Start) file.now ≡ take unpacked.new.length room.new ++ rest) }
+    ensures whole { result ≡ WHOLE →
+        given (fresh false stages.Start) file.now ≡ take unpacked.new.length room.new }
+    ensures timed { AreTimed (packet_given (fresh false stages.Start) file.now) 0
+        (take unpacked.new.parts parts.new) unpacked.new.length }
+{
+    let mut capture = Capture::new(FromRead::new(file), false);
+    let filled = read_through(&mut capture, room, parts);
+    let (at, has_fault) = match capture.fault() {
+        Some(fault) => (fault.at, 1),
+        None => (0, 0),
+    };
+    *unpacked = Unpacked {
+        length: filled.length as u64,
+        parts: filled.parts as u64,
+        at,
+        has_fault,
+    };
+    if filled.is_all { WHOLE } else { NO_ROOM }
+}

@@ -1,0 +1,106 @@
+"use strict";
+// browser.js BROWSER PAGE: what the page gives of each file that a line of standard input names, as a headless Chromium shows it. A line of JSON answers it,
+// with what web/answers.js answers and what is seen of the first row and the last one. It speaks the browser's own protocol over a pipe.
+
+const fs = require("node:fs");
+const os = require("node:os");
+const path = require("node:path");
+const { spawn } = require("node:child_process");
+
+const [program, page] = process.argv.slice(2);
+const MOST_MILLISECONDS = 60000;
+
+class Browser {
+  constructor(folder) {
+    const words = ["--headless", "--no-sandbox", "--disable-gpu", "--remote-debugging-pipe", `--user-data-dir=${folder}`, "about:blank"];
+    this.process = spawn(program, words, { stdio: ["ignore", "ignore", "ignore", "pipe", "pipe"] });
+    this.waiting = new Map();
+    this.said = "";
+    this.faults = [];
+    this.process.stdio[4].on("data", (data) => this.take(data));
+  }
+
+  take(data) {
+    const messages = (this.said + data).split("\0");
+    this.said = messages.pop();
+    for (const message of messages.map((it) => JSON.parse(it))) {
+      if (message.id) {
+        this.waiting.get(message.id)(message);
+        this.waiting.delete(message.id);
+      } else if (/^(Runtime.exceptionThrown|Log.entryAdded|Network.requestWillBeSent)$/.test(message.method)) {
+        this.faults.push(message);
+      }
+    }
+  }
+
+  ask(method, params = {}) {
+    const id = (this.last = (this.last ?? 0) + 1);
+    this.process.stdio[3].write(`${JSON.stringify({ id, method, params, sessionId: this.session })}\0`);
+    return new Promise((resolve, reject) => this.waiting.set(id, (it) => (it.error ? reject(new Error(it.error.message)) : resolve(it.result))));
+  }
+
+  async open() {
+    const { targetId } = await this.ask("Target.createTarget", { url: "about:blank" });
+    this.session = (await this.ask("Target.attachToTarget", { targetId, flatten: true })).sessionId;
+    await Promise.all(["Runtime", "Log", "Page", "DOM"].map((it) => this.ask(`${it}.enable`)));
+    await this.ask("Emulation.setDeviceMetricsOverride", { width: 1500, height: 800, deviceScaleFactor: 1, mobile: false });
+    await this.ask("Page.navigate", { url: `file://${path.resolve(page)}` });
+    await this.until("document.readyState === 'complete' && find('status').textContent.startsWith('Ready')");
+  }
+
+  async value(expression) {
+    const { result, exceptionDetails } = await this.ask("Runtime.evaluate", { expression, awaitPromise: true, returnByValue: true });
+    if (exceptionDetails) {
+      throw new Error(exceptionDetails.exception?.description ?? exceptionDetails.text);
+    }
+    return result.value;
+  }
+
+  async until(condition) {
+    for (const end = Date.now() + MOST_MILLISECONDS; Date.now() < end; ) {
+      if (await this.value(`typeof find === "function" && (${condition})`)) {
+        return;
+      }
+      await new Promise((resume) => setTimeout(resume, 10));
+    }
+    throw new Error(`not within ${MOST_MILLISECONDS} ms: ${condition}`);
+  }
+
+  // Chooses the file as a user does, and waits until all of it is listed.
+  async read(file) {
+    const { root } = await this.ask("DOM.getDocument");
+    const { nodeId } = await this.ask("DOM.querySelector", { nodeId: root.nodeId, selector: "#file" });
+    await this.value("find('count').textContent = ''");
+    await this.ask("DOM.setFileInputFiles", { nodeId, files: [file] });
+    await this.until("find('count').textContent.endsWith(' shown')");
+    return JSON.parse(await this.value(`JSON.stringify({ ...answersOf(state.reader), seen: [0, state.rows.length - 1].map((it) => {
+      choose(it);
+      const row = find(\`row-\${it}\`);
+      return row ? [[...row.children].map((cell) => cell.textContent), find("details").querySelector("pre").textContent] : null;
+    }) })`));
+  }
+}
+
+async function main() {
+  const folder = fs.mkdtempSync(path.join(os.tmpdir(), "dbus-wire-"));
+  const browser = new Browser(folder);
+  try {
+    await browser.open();
+    for (const file of fs.readFileSync(0, "utf8").split("\n").slice(0, -1)) {
+      console.log(JSON.stringify(await browser.read(file)));
+    }
+    if (browser.faults.length) {
+      throw new Error(`the page was at fault: ${JSON.stringify(browser.faults[0])}`);
+    }
+  } finally {
+    const ended = new Promise((resume) => browser.process.once("exit", resume));
+    browser.process.kill();
+    await ended;
+    fs.rmSync(folder, { recursive: true, force: true });
+  }
+}
+
+main().catch((error) => {
+  console.error(error.message);
+  process.exitCode = 1;
+});

@@ -1,0 +1,151 @@
+"use strict";
+// Calls the module of WebAssembly that reads captures: crates/dbus_page says what each call promises. Here are only addresses and numbers.
+
+const WHOLE = 0, PARTIAL = 1, REFUSED = 2, NO_ROOM = 3;
+const PAGE_BYTES = 65536;
+// The bytes of `Unpacked`, `Next`, `PagePlace` and a count, one after another, and of a `PagePart`.
+const UNPACKED = 0, NEXT = 32, PLACE = 48, COUNT = 80, TOLD_BYTES = 128, PART_BYTES = 24;
+const FIRST_TEXT_BYTES = 65536;
+
+// One input, in the memory of an instance of its own.
+class Reader {
+  constructor(instance, file) {
+    this.calls = instance.exports;
+    this.memory = instance.exports.memory;
+    // The module's own data and stack end here, and it never asks for more.
+    this.told = this.memory.buffer.byteLength;
+    // A packet with bytes has 17 in the file, and a read gives 65,536 bytes at most, and more at once only without packets.
+    this.partsRoom = Math.floor(file.length / 17) + Math.ceil(file.length / PAGE_BYTES) + 2;
+    this.parts = this.told + TOLD_BYTES;
+    this.data = this.parts + this.partsRoom * PART_BYTES;
+    this.text = this.data + file.length + 8;
+    this.reach(this.text + Math.max(file.length, FIRST_TEXT_BYTES));
+    this.unpack(file);
+  }
+
+  // Lets the memory reach so far.
+  reach(end) {
+    const missing = end - this.memory.buffer.byteLength;
+    if (missing > 0) {
+      growMemory(this.memory, Math.ceil(missing / PAGE_BYTES));
+    }
+    this.bytes = new Uint8Array(this.memory.buffer);
+    this.view = new DataView(this.memory.buffer);
+  }
+
+  number(place) {
+    return Number(this.view.getBigUint64(this.told + place, true));
+  }
+
+  // Takes the messages' bytes out of the file. The text comes over the file, which is not read again.
+  unpack(file) {
+    this.bytes.set(file, this.text);
+    const answer = this.calls.dbus_page_unpack(
+      ...slice(this.text, file.length), ...slice(this.data, file.length + 1), ...slice(this.parts, this.partsRoom), BigInt(this.told + UNPACKED));
+    if (answer !== WHOLE) {
+      throw new Error("the file has more parts than there is room for");
+    }
+    this.length = this.number(UNPACKED);
+    this.partCount = this.number(UNPACKED + 8);
+    // The fault of a pcap or pcapng file, by its place in it.
+    this.fileFault = this.number(UNPACKED + 24) ? this.number(UNPACKED + 16) : null;
+  }
+
+  // The time of the packet that the byte at the offset is of, in nanoseconds, or null.
+  timeAt(offset) {
+    let low = 0, high = this.partCount;
+    while (high - low > 1) {
+      const middle = (low + high) >> 1;
+      if (Number(this.view.getBigUint64(this.parts + middle * PART_BYTES, true)) <= offset) {
+        low = middle;
+      } else {
+        high = middle;
+      }
+    }
+    const part = this.parts + low * PART_BYTES;
+    return high > low && this.view.getBigUint64(part + 16, true) ? this.view.getBigUint64(part + 8, true) : null;
+  }
+
+  // What begins at the offset: a message of this length; or a fault, or the end of the input within a message, at this place in it.
+  next(offset) {
+    const answer = this.calls.dbus_page_next(...slice(this.data + offset, this.length - offset), BigInt(this.told + NEXT));
+    return { answer, length: this.number(NEXT), at: this.number(NEXT + 8) };
+  }
+
+  // The line of the message at the offset.
+  json(number, offset, length) {
+    const time = this.timeAt(offset + length - 1);
+    [BigInt(number), BigInt(offset), time ?? 0n, time === null ? 0n : 1n].forEach((it, place) => this.view.setBigUint64(this.told + PLACE + 8 * place, it, true));
+    return this.written((room, count) => this.calls.dbus_page_json(...slice(this.data + offset, length), BigInt(this.told + PLACE), ...room, count));
+  }
+
+  // Why no message begins at the offset: the three lines of `dbus-wire check --explain`.
+  explain(number, offset) {
+    return this.written((room, count) =>
+      this.calls.dbus_page_explain(...slice(this.data + offset, this.length - offset), BigInt(number), BigInt(offset), ...room, count));
+  }
+
+  // The text that a call writes, with as much room as it takes.
+  written(call) {
+    for (;;) {
+      const room = this.memory.buffer.byteLength - this.text;
+      const answer = call(slice(this.text, room), BigInt(this.told + COUNT));
+      if (answer !== NO_ROOM) {
+        return new TextDecoder().decode(this.bytes.subarray(this.text, this.text + this.number(COUNT)));
+      }
+      this.reach(this.text + 2 * room);
+    }
+  }
+
+  // A copy of bytes of the input.
+  part(start, end) {
+    return this.bytes.slice(this.data + start, this.data + Math.min(end, this.length));
+  }
+}
+
+// A slice as the module takes it.
+function slice(address, length) {
+  return [BigInt(address), BigInt(length)];
+}
+
+// The pages are a number of 64 bits, but older engines take a plain one.
+function growMemory(memory, pages) {
+  try {
+    memory.grow(BigInt(pages));
+  } catch (error) {
+    if (!(error instanceof TypeError)) {
+      throw error;
+    }
+    memory.grow(pages);
+  }
+}
+
+// Each message of the input, and each place at which there is none. A message that is refused is passed over by the length that it states.
+function* entries(reader) {
+  let offset = 0;
+  for (let number = 1; offset < reader.length; number += 1) {
+    const { answer, length, at } = reader.next(offset);
+    yield { number, offset, length, at, isWhole: answer === WHOLE, isPartial: answer === PARTIAL };
+    if (answer === PARTIAL || length === 0 || offset + length > reader.length) {
+      return;
+    }
+    offset += length;
+  }
+}
+
+// All that the module gives of an input: the lines of its messages, and of what is refused the number, the offset, the place of the fault and the explanation.
+function answersOf(reader) {
+  const answers = { lines: "", refused: [], fault: reader.fileFault };
+  for (const it of entries(reader)) {
+    if (it.isWhole) {
+      answers.lines += reader.json(it.number, it.offset, it.length);
+    } else {
+      answers.refused.push([it.number, it.offset, it.offset + it.at, reader.explain(it.number, it.offset)]);
+    }
+  }
+  return answers;
+}
+
+if (typeof module !== "undefined") {
+  module.exports = { Reader, answersOf };
+}
