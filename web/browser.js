@@ -46,6 +46,8 @@ class Browser {
     await this.ask("Emulation.setDeviceMetricsOverride", { width: 1500, height: 800, deviceScaleFactor: 1, mobile: false });
     await this.ask("Page.navigate", { url: `file://${path.resolve(page)}` });
     await this.until("document.readyState === 'complete' && find('status').textContent.startsWith('Ready')");
+    // From here on the page asks for nothing.
+    await this.ask("Network.enable");
   }
 
   async value(expression) {

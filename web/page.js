@@ -8,7 +8,7 @@ const MOST_LIFELINES = 8, LIFELINE_GAP = 24;
 const COLUMNS = ["number", "time", "kind", "arrow", "sender", "destination", "member", "size"];
 
 const find = (id) => document.getElementById(id);
-const state = { module: null, reader: null, rows: [], shown: [], words: [], active: -1, opened: null, run: 0, texts: new Map(), peers: new Map(), lifelines: [], calls: new Map() };
+const state = { module: null, reader: null, rows: [], shown: [], words: [], active: -1, run: 0, isReading: false, texts: new Map(), peers: new Map(), lifelines: [], calls: new Map() };
 
 // ---- Reading
 
@@ -18,18 +18,25 @@ async function readFile(file) {
 
 async function readBytes(bytes, name) {
   const run = (state.run += 1);
+  state.isReading = true;
   tell(`Reading ${name} …`);
   try {
-    const reader = new Reader(await WebAssembly.instantiate(state.module), bytes);
-    Object.assign(state, { reader, rows: [], shown: [], active: -1, opened: null, texts: new Map(), peers: new Map(), lifelines: [], calls: new Map() });
+    const instance = await WebAssembly.instantiate(state.module);
+    if (run !== state.run) {
+      return;
+    }
+    const reader = new Reader(instance, bytes);
+    Object.assign(state, { reader, rows: [], shown: [], active: -1, texts: new Map(), peers: new Map(), lifelines: [], calls: new Map() });
     find("details").replaceChildren();
     draw();
     await inTurns(run, entries(reader), (entry) => addRow(entry));
   } catch (error) {
+    state.isReading = run !== state.run;
     tell(`${name} was not read: ${error.message}`);
     return;
   }
   if (run === state.run) {
+    state.isReading = false;
     tellEnd(name);
     await filter();
   }
@@ -132,6 +139,10 @@ function tellEnd(name) {
 
 // Of a message, all words have to be in its line of JSON; of what is refused, in its explanation.
 async function filter() {
+  if (state.isReading) {
+    // All of it is filtered once it is read.
+    return;
+  }
   const run = (state.run += 1);
   state.words = find("words").value.toLowerCase().split(/\s+/).filter((it) => it);
   const rows = state.rows;
@@ -313,7 +324,6 @@ function arrowLabel(row) {
 // ---- The details
 
 function openRow(row) {
-  state.opened = row;
   const title = row.isWhole ? `Message ${row.number}` : `No message: number ${row.number}, ${row.kind}`;
   const where = `${row.isWhole ? `${row.length} bytes` : "refused"} at offset ${row.offset}${row.time ? `, captured ${fullTime(row.time)}` : ""}`;
   const parts = [element("h2", title), element("p", where), ...joined(row)];

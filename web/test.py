@@ -27,7 +27,6 @@ REFUSED = re.compile(r"refused at (\d+): \S+ in message (\d+) at (\d+)\n((?:  .*
 FAULT = re.compile(r"^capture refused at (\d+): ", re.M)
 # The files with bytes of messages, and the columns that have them.
 COLUMNS = {"messages": (2, 3), "faults": (2, 3), "streams": (2,), "printed": (2,)}
-# A browser starts and reads each file as a user would: the samples do.
 MOST_REPORTED = 5
 
 

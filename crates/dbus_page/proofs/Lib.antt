@@ -1,3 +1,4 @@
 mod RoomSteps
 mod Ending
 mod PartSteps
+mod FileSteps

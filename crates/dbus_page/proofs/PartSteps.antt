@@ -2,8 +2,9 @@
 use borrow.Rule.Slice.PartMut.{put_mid}
 use Rattle.std.specs.Io.KnownBytes.{Consumes}
 use Rattle.std.proofs.KnownBytes.{Consumes-trans}
-use Rattle.std.proofs.Common.{◌≡◌, ℕ, ◌+◌, ◌-◌, ◌<◌, ◌≤◌, List, [], ◌∷◌, ◌++◌, length, take, drop, Option, None, Some, set, refl, sym, ap, subst, ◌∙◌, arith, length-append}
+use Rattle.std.proofs.Common.{◌≡◌, ℕ, ◌+◌, ◌-◌, ◌<◌, ◌≤◌, List, [], ◌∷◌, ◌++◌, length, take, Option, None, Some, set, refl, sym, ap, subst, ◌∙◌, arith, append-nil, length-append}
 use Rattle.std.proofs.lemmas.List.{length-take, take-append-le, take_more_set}
+use Rattle.std.proofs.lemmas.Slice.{take-put_mid_below}
 use Rattle.std.proofs.Math.Seq.{take-append-add}
 use Rattle.dbus_device.specs.Packets.{Packets, PacketsAfter, AreOfPacket}
 use Rattle.dbus_device.specs.declared.packet.Packet.{Packet}
@@ -50,6 +51,14 @@ pub record ReadsUpTo {S : Type 0} (left : S → Option (List ℕ)) (packets : S 
 module _ {S : Type 0} (left : S → Option (List ℕ)) (packets : S → Option Packets) where
   pub none_read : (old : S) (room : List ℕ) (parts : List PagePart) → Consumes (left old) (left old) [] → ReadsUpTo left packets old old room 0 parts 0
   none_read old room parts none = record { within = omega arith; read = none; after = after_none (packets old); timed = λ p is. refl }
+
+  -- a read that gives no byte
+  pub same_read : (old now new : S) (room part : List ℕ) (size m count : ℕ) (parts : List PagePart) (number : ℕ) → ReadsUpTo left packets old now room size parts number → count ≡ 0
+      → Consumes (left now) (left new) (take count part) → Consumes (left old) (left new) (take size (put_mid size m room part))
+  same_read old now new room part size m count parts number u none consumed =
+      let nothing : take size room ++ take count part ≡ take size room = ap (λ (k : ℕ). take size room ++ take k part) none ∙ append-nil (take size room) in
+      let front : take size (put_mid size m room part) ≡ take size room = take-put_mid_below size m room part size (omega arith) u.within in
+      subst (λ (l : List ℕ). Consumes (left old) (left new) l) (nothing ∙ sym front) (Consumes-trans _ _ _ _ _ u.read consumed)
 
   pub more_read : (old now new : S) (room part : List ℕ) (size m count : ℕ) (parts : List PagePart) (number : ℕ) (x : PagePart) (packet : Option Packet)
       → ReadsUpTo left packets old now room size parts number → count ≤ length part → number < length parts

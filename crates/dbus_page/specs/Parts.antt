@@ -2,7 +2,9 @@
 use Rattle.std.specs.Prelude.{◌≡◌, ℕ, ◌<◌, ◌≤◌, List, [], ◌∷◌, Option, None, Some, nat_eq, if◌then◌else◌}
 use Rattle.dbus_device.specs.Packets.{Packets}
 use Rattle.dbus_device.specs.declared.packet.Packet.{Packet}
+use Rattle.dbus_capture.specs.declared.fault.CaptureFault.{CaptureFault}
 use Rattle.dbus_page.specs.declared.unpacking.PagePart.{PagePart}
+use Rattle.dbus_page.specs.declared.unpacking.Unpacked.{Unpacked}
 
 -- the time that a packet has, if there is one
 abbrev pub time_in : Option Packet → Option ℕ
@@ -19,3 +21,8 @@ AreTimed packets begin [] end = begin ≡ end
 AreTimed packets begin (part ∷ parts) end =
     (next : ℕ) × (part.start ≡ begin) × (begin ≤ next) × ((i : ℕ) → begin ≤ i → i < next → time_in (packets i) ≡ time_of part)
     × AreTimed packets next parts end
+
+-- the place of a file's fault, if it has one
+abbrev pub IsFaultTold : Option CaptureFault → Unpacked → Type 0
+IsFaultTold None told = (told.has_fault ≡ 0) × (told.at ≡ 0)
+IsFaultTold (Some fault) told = (told.has_fault ≡ 1) × (told.at ≡ fault.at)

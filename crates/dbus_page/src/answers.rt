@@ -1,7 +1,7 @@
 //! The answers of the calls: one set for all of them.
 #![tactic(auto)]
 
-/// The bytes begin with a message; or the room has the text, all of it.
+/// The bytes begin with a message; or all of what was asked for is written.
 pub const WHOLE: u32 = 0;
 
 /// The bytes begin with no message, and show no fault yet.
@@ -10,9 +10,8 @@ pub const PARTIAL: u32 = 1;
 /// The bytes are at fault.
 pub const REFUSED: u32 = 2;
 
-/// The room has only the first bytes of the text.
+/// There was room only for the first bytes of what was asked for.
 pub const NO_ROOM: u32 = 3;
 
-/// There is no such text: the bytes begin with no message that could be written, or with one, of
-/// which there is nothing to explain.
+/// There is no such text: no message to write, or nothing to explain.
 pub const NO_TEXT: u32 = 4;

@@ -26,7 +26,7 @@ pub struct Next {
 /// Whether the bytes begin with a message within the limits of the specification: [`WHOLE`] with
 /// its length; [`REFUSED`] with the place of their fault; or [`PARTIAL`], if more bytes are needed,
 /// with the place at which they end. Bytes after the message are not looked at. It allocates
-/// nothing, and takes some 43,000 bytes of the stack. D-Bus Specification, "Message Protocol".
+/// nothing. D-Bus Specification, "Message Protocol".
 #[unsafe(no_mangle)]
 pub extern "C" fn dbus_page_next(bytes: &[u8], next: &mut Next) -> u32
     ensures { Tells bytes.now result next.new }

@@ -11,7 +11,7 @@ use dbus_show::{Draft, copy_bytes};
 pub(crate) struct Room<'a> {
     /// The caller's bytes.
     pub(crate) bytes: &'a mut [u8],
-    /// How many of them the text has so far.
+    /// The number of them that the text has so far.
     pub(crate) len: usize,
     /// Whether the text did not fit.
     pub(crate) is_cut: bool,
@@ -35,7 +35,8 @@ impl<'a> Room<'a> {
         }
     }
 
-    /// Ends the text, and tells how many bytes have it, and whether these are all of it.
+    /// Ends the text: writes the number of its bytes that are there, and returns whether these are
+    /// all.
     pub(crate) fn end(&self, count: &mut u64) -> u32
         ensures counted { count.new ≡ self.now.len }
         ensures answers { result ≡ (if self.now.is_cut then NO_ROOM else WHOLE) }

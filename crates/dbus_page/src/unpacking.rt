@@ -4,14 +4,15 @@
 ghost use Rattle.std.specs.Prelude.{◌≡◌, ◌≤◌, ◌++◌, ℕ, List, Some, length, take, true, false};
 ghost use Rattle.std.specs.Io.KnownBytes.{Consumes, IsAtEnd};
 ghost use Rattle.dbus_capture.specs.Scans.{fresh};
-ghost use Rattle.dbus_capture.specs.Steps.{given, packet_given};
+ghost use Rattle.dbus_capture.specs.Captures.{file_of, left_of, packets_of, scan_of};
+ghost use Rattle.dbus_capture.specs.Steps.{ended, given, packet_given, run};
 ghost use Rattle.dbus_capture.specs.declared.stage.Stage.TheVariants as stages;
 ghost use Rattle.dbus_device.specs.Packets.{Packets};
-ghost use Rattle.dbus_page.specs.Parts.{AreTimed, time_in, time_of};
+ghost use Rattle.dbus_page.specs.Parts.{AreTimed, IsFaultTold, time_in, time_of};
 ghost use Rattle.dbus_page.specs.declared.answers.TheConstants.{NO_ROOM, WHOLE};
 
 use crate::answers::{NO_ROOM, WHOLE};
-use dbus_capture::Capture;
+use dbus_capture::{Capture, CaptureFault};
 use dbus_device::{FromRead, Packet, Source};
 
 /// Bytes in a row that are all of one packet, or of none.
@@ -74,17 +75,25 @@ fn part_of(start: usize, packet: Option<Packet>) -> PagePart
     }
 }
 
-// Reads what a source gives to the start of the room, and notes the part that each read gives.
-fn read_through<S: Source>(source: &mut S, room: &mut [u8], parts: &mut [PagePart]) -> Filled
+// Reads all that a capture gives to the start of the room, and notes each part that a read gives.
+fn read_through<R: Source>(
+    capture: &mut Capture<R>,
+    room: &mut [u8],
+    parts: &mut [PagePart],
+) -> Filled
     ensures within { result.length ≤ length room.new }
-    ensures read { Consumes (S.left source.old) (S.left source.new) (take result.length room.new) }
-    ensures all { result.is_all ≡ true → IsAtEnd (S.left source.new) }
-    ensures timed { (packets : Packets) → S.packets source.old ≡ Some packets →
+    ensures read { Consumes (left_of R.left capture.old) (left_of R.left capture.new)
+        (take result.length room.new) }
+    ensures all { result.is_all ≡ true → IsAtEnd (left_of R.left capture.new) }
+    ensures timed { (packets : Packets) → packets_of R.left capture.old ≡ Some packets →
         AreTimed packets 0 (take result.parts parts.new) result.length }
+    ensures fault { result.is_all ≡ true → (bytes : List ℕ) →
+        file_of R.left capture.old ≡ Some bytes →
+        (ended (run (scan_of capture.old) bytes)).fault ≡ (scan_of capture.new).fault }
 {
     let mut length = 0;
     for number in 0..parts.len() {
-        match source.read(&mut room[length..]) {
+        match capture.read(&mut room[length..]) {
             Ok(count) => {
                 if count == 0 {
                     return Filled {
@@ -93,7 +102,7 @@ fn read_through<S: Source>(source: &mut S, room: &mut [u8], parts: &mut [PagePar
                         is_all: length < room.len(),
                     };
                 }
-                parts[number] = part_of(length, source.packet());
+                parts[number] = part_of(length, capture.packet());
                 length += count;
             }
             Err(_) => {
@@ -112,13 +121,31 @@ fn read_through<S: Source>(source: &mut S, room: &mut [u8], parts: &mut [PagePar
     }
 }
 
+// What was unpacked, of a file with this fault or without one.
+fn unpacked_of(filled: &Filled, fault: Option<CaptureFault>) -> Unpacked
+    ensures length { result.length ≡ filled.now.length }
+    ensures parts { result.parts ≡ filled.now.parts }
+    ensures fault { IsFaultTold fault result }
+{
+    let (at, has_fault) = match fault {
+        Some(fault) => (fault.at, 1),
+        None => (0, 0),
+    };
+    Unpacked {
+        length: filled.length as u64,
+        parts: filled.parts as u64,
+        at,
+        has_fault,
+    }
+}
+
 /// Writes the bytes of messages that a file has to the start of the room: those of the D-Bus
-/// packets of a pcap or pcapng file, one after another, or all bytes of any other file. Notes the
-/// part of one packet that begins at each place, with its time.
+/// packets of a pcap or pcapng file, one after another, or all bytes of any other file. Writes to
+/// `parts` where each part of a packet begins, and when the packet was captured. A fault of the
+/// file ends its bytes, and is reported.
 ///
-/// [`WHOLE`] if these are all bytes. [`NO_ROOM`] if the room, which has to have one byte more, or
-/// the parts, of which one more is wanted too, did not do for all. The bytes of the room and the
-/// parts behind may change. It allocates nothing, and takes some 150,000 bytes of the stack. "PCAP
+/// [`WHOLE`] if these are all bytes. [`NO_ROOM`] if the room or `parts` did not do for all: both
+/// need room for one more than is written, and may change behind that. It allocates nothing. "PCAP
 /// Capture File Format"; "PCAP Now Generic (pcapng) Capture File Format".
 #[unsafe(no_mangle)]
 pub extern "C" fn dbus_page_unpack(
@@ -133,18 +160,11 @@ pub extern "C" fn dbus_page_unpack(
         given (fresh false stages.Start) file.now ≡ take unpacked.new.length room.new }
     ensures timed { AreTimed (packet_given (fresh false stages.Start) file.now) 0
         (take unpacked.new.parts parts.new) unpacked.new.length }
+    ensures fault { result ≡ WHOLE →
+        IsFaultTold (ended (run (fresh false stages.Start) file.now)).fault unpacked.new }
 {
     let mut capture = Capture::new(FromRead::new(file), false);
     let filled = read_through(&mut capture, room, parts);
-    let (at, has_fault) = match capture.fault() {
-        Some(fault) => (fault.at, 1),
-        None => (0, 0),
-    };
-    *unpacked = Unpacked {
-        length: filled.length as u64,
-        parts: filled.parts as u64,
-        at,
-        has_fault,
-    };
+    *unpacked = unpacked_of(&filled, capture.fault());
     if filled.is_all { WHOLE } else { NO_ROOM }
 }
