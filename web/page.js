@@ -37,6 +37,7 @@ async function readBytes(bytes, name) {
   }
   if (run === state.run) {
     state.isReading = false;
+    state.lifelines = lifelines();
     tellEnd(name);
     await filter();
   }
@@ -195,7 +196,6 @@ function firstRow() {
 
 function draw() {
   const list = find("list"), first = firstRow();
-  state.lifelines = lifelines();
   find("space").style.height = `${listHeight()}px`;
   const rows = state.shown.slice(first, first + wholeRows() + 1).map((index, at) => rowElement(state.rows[index], first + at));
   const top = Math.min(list.scrollTop, Math.max(0, listHeight() - rows.length * ROW_HEIGHT));
