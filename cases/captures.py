@@ -1,7 +1,7 @@
 #!/usr/bin/env python3
 """captures.py [PROGRAM]: reads the cases of captures.txt by a reader of its own, and says which differ. It also asks the program dbus-wire, if one is
 given, to check each; of each capture without a fault every front; and of four of these each byte changed in three ways. It compares what the program
-writes with what the reader finds. The exit status is 1 if something differs.
+writes with what the reader finds, and of the runs of captured.txt with their columns. The exit status is 1 if something differs.
 
 The reader is written from the descriptions of both formats ("PCAP Capture File Format", "PCAP Now Generic (pcapng) Capture File Format"), with the faults
 as the manual page of dbus-wire names them.
@@ -15,10 +15,11 @@ import sys
 
 sys.dont_write_bytecode = True
 
-from read_cases import DATA, read_cases, read_parts  # noqa: E402
+from read_cases import DATA, read_cases, read_parts, read_words  # noqa: E402
 
-# What a file gives: the bytes of its D-Bus packets, the time of each in nanoseconds or None, and the place and the reason of its fault, or ().
-Given = collections.namedtuple("Given", "data times fault")
+# What a file gives: the bytes of its D-Bus packets, the time of each in nanoseconds or None, the number of the one of the last byte or None, and the place
+# and the reason of its fault, or ().
+Given = collections.namedtuple("Given", "data times last fault")
 Interface = collections.namedtuple("Interface", "link_type most unit has_offset")
 
 DBUS = 231
@@ -44,7 +45,7 @@ class Reader:
 
     def __init__(self, data):
         self.bytes, self.at, self.order = data, 0, "little"
-        self.data, self.times, self.interfaces = b"", [], []
+        self.data, self.times, self.last, self.interfaces = b"", [], None, []
 
     def take(self, count):
         found = self.bytes[self.at : self.at + count]
@@ -59,7 +60,9 @@ class Reader:
     def hand_on(self, count, time):
         self.times.append(time)
         # A packet that the input ends within is handed on as far as it is there.
-        self.data += self.bytes[self.at : self.at + count]
+        part = self.bytes[self.at : self.at + count]
+        self.data += part
+        self.last = len(self.times) if part else self.last
         self.take(count)
 
     def is_done(self):
@@ -174,7 +177,7 @@ def read(data):
             reader.data = data
     except Refused as it:
         fault = it.args
-    return Given(reader.data, reader.times, fault)
+    return Given(reader.data, reader.times, reader.last, fault)
 
 
 def fronts(data):
@@ -196,7 +199,8 @@ def checked(given):
     if not all(any(whole.startswith(it) for whole in MESSAGES) for it in pieces):
         return None
     is_cut = size % MESSAGE > 0
-    first = f"refused at {size}: Truncated\n" if is_cut else f"ok {size // MESSAGE} messages {size} bytes\n"
+    packet = f" in packet {given.last}" if given.last else ""
+    first = f"refused at {size}: Truncated{packet}\n" if is_cut else f"ok {size // MESSAGE} messages {size} bytes\n"
     second = "capture refused at {}: {}\n".format(*given.fault) if given.fault else ""
     return first.encode(), second.encode(), 1 if is_cut or second else 0
 
@@ -205,6 +209,12 @@ def is_checked(program, data):
     """Whether `check` finds in a file what the reader does."""
     ran, wanted = subprocess.run([program, "check"], input=data, capture_output=True), checked(read(data))
     return (ran.stdout, ran.stderr, ran.returncode) == wanted if wanted else ran.returncode in (0, 1)
+
+
+def is_run(program, words, column, status, first, second):
+    """Whether a run writes and returns what its columns say."""
+    ran = subprocess.run([program, *read_words(words)], input=read_parts(column, DATA), capture_output=True)
+    return (ran.returncode, ran.stdout, ran.stderr) == (int(status), read_parts(first, DATA), read_parts(second, DATA))
 
 
 def main(program=None):
@@ -225,6 +235,9 @@ def main(program=None):
         with futures.ThreadPoolExecutor(os.cpu_count()) as pool:
             answers = pool.map(lambda it: is_checked(program, it[1]), asked)
             wrong += [f"{name}: {data.hex()}" for (name, data), is_right in zip(asked, answers) if not is_right]
+        runs = read_cases(DATA / "captured.txt")
+        wrong += [f"the run {name} differs" for name, *columns in runs if not is_run(program, *columns)]
+        asked += runs
     print(*wrong[:20], f"{len(cases)} captures, {len(asked) if program else 0} runs, {len(wrong)} wrong", sep="\n")
     return 1 if wrong else 0
 

@@ -1,6 +1,6 @@
 -- What is told of a message that is refused. kept are the bytes that were kept from its first one
 -- on.
-use Rattle.std.specs.Prelude.{ℕ, List, ◌++◌, codes, decimal, ◌≡◌, ◌+◌, Bool, true, false, ◌⊎◌, Option}
+use Rattle.std.specs.Prelude.{ℕ, List, [], ◌++◌, codes, decimal, ◌≡◌, ◌+◌, Bool, true, false, ◌⊎◌, Option, None, Some}
 use Rattle.dbus_value_model.specs.declared.fault.Reason.{Reason}
 use Rattle.dbus_value_model.specs.FaultTexts.{reason_text}
 use Rattle.dbus_explain.specs.Explained.{IsExplained}
@@ -14,9 +14,14 @@ use Rattle.cli_report.specs.declared.ending.ExitStatus.TheVariants as status
 
 -- The lines of a fault, and of a cause.
 
--- the offset of a fault and its reason
-abbrev pub refused_line : ℕ → Reason → List ℕ
-refused_line place why = codes "refused at " ++ (decimal place ++ (codes ": " ++ (reason_text why ++ codes "\n")))
+-- the number of its packet, if it is of one
+abbrev pub in_packet : Option ℕ → List ℕ
+in_packet None = []
+in_packet (Some number) = codes " in packet " ++ decimal number
+
+-- the offset of a fault and its reason, and its packet
+abbrev pub refused_line : ℕ → Reason → Option ℕ → List ℕ
+refused_line place why packet = codes "refused at " ++ (decimal place ++ (codes ": " ++ (reason_text why ++ (in_packet packet ++ codes "\n"))))
 
 abbrev pub cause_line : Cause → List ℕ
 cause_line Memory = codes "out of memory\n"
@@ -24,12 +29,12 @@ cause_line ReadFailed = codes "read failed\n"
 cause_line WriteFailed = codes "write failed\n"
 cause_line TooManyReads = codes "too many reads\n"
 
--- the fault's place in the input and its reason; and if the run goes on after it, the message's
--- number there, and where the message begins
+-- the fault's place in the input and its reason; if the run goes on after it, the message's number
+-- there, and where the message begins; and the packet of the fault
 abbrev pub line_of : (goes_on : Bool) → RefusedMessage → List ℕ
-line_of false refusal = refused_line (refusal.offset + refusal.fault.at) refusal.fault.reason
+line_of false refusal = refused_line (refusal.offset + refusal.fault.at) refusal.fault.reason refusal.packet
 line_of true refusal = codes "refused at " ++ (decimal (refusal.offset + refusal.fault.at) ++ (codes ": " ++ (reason_text refusal.fault.reason
-    ++ (codes " in message " ++ (decimal refusal.number ++ (codes " at " ++ (decimal refusal.offset ++ codes "\n")))))))
+    ++ (codes " in message " ++ (decimal refusal.number ++ (codes " at " ++ (decimal refusal.offset ++ (in_packet refusal.packet ++ codes "\n"))))))))
 
 -- the lines that explain it
 pub record Explains (refusal : RefusedMessage) (kept text : List ℕ) : Type 0 where

@@ -4,7 +4,7 @@ ghost use Rattle.dbus_explain.specs.Explained.{IsExplained};
 ghost use Rattle.dbus_stream.specs.RawReading.{kept};
 ghost use Rattle.cli_report.specs.Telling.{Explains, IsToldBy, line_of};
 
-use crate::lines::refused_line;
+use crate::lines::{InPacket, refused_line};
 use dbus_explain::{Refused, explain_message};
 use dbus_show::StringDraft;
 use dbus_stream::{RawReader, Source};
@@ -20,10 +20,13 @@ pub struct RefusedMessage {
     pub offset: u64,
     /// Its fault, whose place counts from its first byte.
     pub fault: Fault,
+    /// The number of the packet that has the byte by which it is refused, if the input has packets.
+    pub packet: Option<u64>,
 }
 
 /// The report of a message that is refused: its line, which has its number if the run goes on after
-/// it, and, if that is wanted, the lines that explain it by the bytes that the reader keeps.
+/// it, and the number of its packet if there is one; and, if that is wanted, the lines that explain
+/// it by the bytes that the reader keeps.
 ///
 /// `AllocError`: an allocation failed.
 pub fn refusal_text<R: Source, A: Allocator + Copy>(
@@ -56,13 +59,15 @@ fn line_of<A: Allocator + Copy>(
         number,
         offset,
         fault,
+        packet,
     } = refusal;
     if !goes_on {
-        return refused_line(alloc, offset, fault);
+        return refused_line(alloc, offset, fault, packet);
     }
     let place = offset as u128 + fault.at as u128;
     let reason = fault.reason;
-    format!(in alloc; "refused at {place}: {reason} in message {number} at {offset}\n")
+    let in_packet = InPacket(packet);
+    format!(in alloc; "refused at {place}: {reason} in message {number} at {offset}{in_packet}\n")
 }
 
 // The lines that explain a message that is refused, by the bytes that the reader keeps.

@@ -1,5 +1,5 @@
 -- How `check` ends if it counts the messages, and writes one line.
-use Rattle.std.proofs.Common.{◌≡◌, ℕ, true, List, [], ◌∷◌, ◌++◌, Ok, Err, take, drop, refl, sym, ap, subst, take-append-drop, inl, inr}
+use Rattle.std.proofs.Common.{◌≡◌, ℕ, true, List, [], ◌∷◌, ◌++◌, Option, Ok, Err, take, drop, refl, sym, ap, subst, take-append-drop, inl, inr}
 use Rattle.std.specs.FinSet.{empty}
 use Rattle.dbus_device.specs.Device.{Wrote, Stopped}
 use Rattle.cli_options.specs.declared.command.Command.TheVariants.{Check}
@@ -57,19 +57,19 @@ module _ {R W E : Type 0} (r : Reading R) (w : Writing W) (e : Writing E) (setti
     second = wrote_nothing e.held e.failures e.old;
   }
 
-  pub gave_up : (cause : Cause) → w.new ≡ w.old → Tallies (taken r) settings most (Err cause) → (end : ExitStatus) → end ≡ status.Failed → Told e.held e.failures e.old e.new cause → Ends end
-  gave_up cause same s end failed told = stops (ByCause cause) end failed told (stops_as (wrote_none cause same) s)
+  pub gave_up : (cause : Cause) (packet : Option ℕ) → w.new ≡ w.old → Tallies (taken r) settings most packet (Err cause) → (end : ExitStatus) → end ≡ status.Failed → Told e.held e.failures e.old e.new cause → Ends end
+  gave_up cause packet same s end failed told = stops (ByCause cause) end failed told (stops_as (wrote_none cause same) s)
 
   -- all messages were counted
-  module _ (counted : Counted) (t : Tallies (taken r) settings most (Ok counted)) where
+  module _ (counted : Counted) (packet : Option ℕ) (t : Tallies (taken r) settings most packet (Ok counted)) where
     abbrev text : List ℕ
-    text = fault_line counted.size counted.fault
+    text = fault_line counted.size counted.fault packet
 
     abbrev all : List ℕ
     all = text ++ closing_line true (tally_of counted) 0 counted.fault
 
     abbrev line : List ℕ
-    line = check_line counted.count counted.size counted.fault
+    line = check_line counted.count counted.size counted.fault packet
 
     some : (messages : List Placed) × ArePlaced (r.packets r.old) 1 0 t.parts messages
     some = some_placed (r.packets r.old) 1 0 t.parts
@@ -77,7 +77,7 @@ module _ {R W E : Type 0} (r : Reading R) (w : Writing W) (e : Writing E) (setti
     -- the line was written, and the second writer got nothing
     pub line_written : (end : ExitStatus) → Wrote w.held w.failures w.old line w.new → e.new ≡ e.old → end ≡ status_of counted.fault → Ends end
     line_written end wrote same end_is =
-        let first = subst (λ (l : List ℕ). Wrote w.held w.failures w.old l w.new) (sym (line_is (tally_of counted) counted.fault)) wrote in
+        let first = subst (λ (l : List ℕ). Wrote w.held w.failures w.old l w.new) (sym (line_is (tally_of counted) counted.fault packet)) wrote in
         let came : Writes w e settings Check some.0 all = record { texts = []; made = no_output some.0; first = first; second = told_nothing e.held e.failures true e.old e.new same } in
         inl (record { tally = tally_of counted; fault = counted.fault; told = []; text = text; through = t; messages = some.0; placed = some.1; came = came; end_is = end_is })
 
@@ -101,7 +101,7 @@ module _ {R W E : Type 0} (r : Reading R) (w : Writing W) (e : Writing E) (setti
     line_not Memory same end failed told =
         stops (ByCause Memory) end failed told (within (ByCause Memory) [] (inl refl) t.read_failed (told_nothing w.held w.failures true w.old w.new same) (wrote_nothing e.held e.failures e.old))
     line_not WriteFailed (n, half) end failed told =
-        let s = subst (λ (l : List ℕ). Stopped w.held w.failures w.old l n w.new) (sym (line_is (tally_of counted) counted.fault)) half in
+        let s = subst (λ (l : List ℕ). Stopped w.held w.failures w.old l n w.new) (sym (line_is (tally_of counted) counted.fault packet)) half in
         let due = inr (t.last, ap (λ (x : Tally). text ++ closing_line true x x.passed counted.fault) t.tally_is) in
         stops Untold end failed told (within Untold all (t.kept, counted.fault, text, t.tells, due) t.read_failed
         (record { written = take n all; appended = s.appended; front = (drop n all, sym (take-append-drop n all)); failed = s.failed }) (wrote_nothing e.held e.failures e.old))

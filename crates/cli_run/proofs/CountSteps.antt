@@ -1,6 +1,6 @@
 -- The messages of a source are counted as if they were handed to a visitor that makes nothing of
 -- them.
-use Rattle.std.proofs.Common.{◌≡◌, ℕ, ◌+◌, false, true, List, [], Option, None, Some, Result, Ok, Err, length, refl, sym, ◌∙◌, inl, inr, arith, subst, ap}
+use Rattle.std.proofs.Common.{◌≡◌, ℕ, ◌+◌, ◌-◌, false, true, List, [], ◌++◌, Option, None, Some, Result, Ok, Err, length, length-append, refl, sym, ◌∙◌, inl, inr, arith, subst, ap}
 use Rattle.std.proofs.Math.Path.{transport}
 use Rattle.std.specs.Io.KnownBytes.{IsAtEnd}
 use Rattle.std.proofs.lemmas.Bool.{or_parts}
@@ -8,12 +8,14 @@ use Rattle.dbus_value_model.specs.declared.fault.Fault.{Fault}
 use Rattle.dbus_value_model.specs.declared.limits.Limits.{Limits}
 use Rattle.dbus_device.specs.Device.{RisesBy, Wrote}
 use Rattle.dbus_device.specs.Packets.{Packets}
+use Rattle.dbus_device.specs.declared.packet.Packet.{Packet}
 use Rattle.dbus_stream.specs.CheckReading.{CheckAnswers, CheckReader, limits_of, lengths}
 use Rattle.dbus_stream.specs.Cut.{CutMessage}
-use Rattle.dbus_stream.specs.CutEnds.{sizes}
-use Rattle.dbus_stream.specs.Reading.{IsNewReader, most_reads_of, source_of}
+use Rattle.dbus_stream.specs.CutEnds.{fault_at_end, sizes}
+use Rattle.dbus_stream.specs.Reading.{IsNewReader, done_of, last_of, most_reads_of, part_of, read_of, source_of}
 use Rattle.dbus_stream.specs.declared.read_fault.ReadFault.{ReadFault}
 use Rattle.dbus_stream.specs.declared.read_fault.ReadFault.TheVariants as read
+use Rattle.dbus_stream.proofs.FaultPackets.{partial_take, shows_last}
 use Rattle.dbus_stream.proofs.NextSteps.{both_ways}
 use Rattle.cli_options.specs.Limiting.{ask_more}
 use Rattle.cli_options.specs.declared.settings.Settings.{Settings}
@@ -27,7 +29,8 @@ use Rattle.dbus_count.specs.declared.form.Form.{Form}
 use Rattle.cli_report.specs.declared.ending.ExitStatus.{ExitStatus}
 use Rattle.cli_run.specs.ByName.{IsUnwritten, Tallies, CountsMessages, CountsThrough, EndsCount, after_messages, counting}
 use Rattle.cli_run.specs.Going.{Covers, IsMore, IsStopOf, IsToldLast, GoesThrough}
-use Rattle.cli_run.specs.Onward.{HasRead, HandsOn, HandsSomeOn}
+use Rattle.cli_run.specs.Onward.{HasPacketsIf, HasRead, HandsAllOn, HandsOn, HandsSomeOn}
+use Rattle.cli_run.specs.Refusals.{IsFaultIn, IsRefusedIn, number_of}
 use Rattle.cli_run.specs.Inputs.{Placed, sizes_of, wholes}
 use Rattle.cli_run.specs.Output.{fault_line}
 use Rattle.cli_run.specs.Visiting.{AddsUp}
@@ -36,6 +39,7 @@ use Rattle.cli_run.specs.declared.visitor.RunStop.{RunStop}
 use Rattle.cli_run.specs.declared.visitor.RunStop.TheVariants.{Cause as ByCause}
 use Rattle.cli_run.proofs.GoSteps.{wholes_tally}
 use Rattle.cli_run.proofs.HandSteps.{Faults}
+use Rattle.cli_run.proofs.KnownPackets.{refused_there}
 use Rattle.cli_run.proofs.PartLaws.{is_last, parts_of, sizes-wholes, some_placed, told_of}
 use Rattle.cli_run.specs.declared.by_name.Counter.{Counter}
 use Rattle.cli_run.proofs.EndSteps.{goes_as}
@@ -59,26 +63,49 @@ adds_up = record {
 abbrev pub none_known : Option Packets → Type 0
 none_known packets = ⊥
 
+-- all that was read and not given is kept
+pub read_kept : {R : Type 0} (w held : List ℕ) (new : CheckReader R) → new.held ≡ length held → w ≡ held ++ part_of new → read_of new ≡ done_of new + length w
+read_kept w held new size bytes =
+    let all = ap length bytes in
+    let both = length-append held (part_of new) in
+    omega (arith, all, both, size)
+
 -- what a fault of the reader says of the bytes that it keeps
 pub check_faults : {R : Type 0} (w : List ℕ) (mid new : CheckReader R) (fault : ReadFault) → CheckAnswers w mid new (Err fault) → Faults lengths w mid new fault
 check_faults w mid new read.Memory a = tt
-check_faults w mid new (read.Format fault) a = (a.0, elim a.2 [ inl refused ↦ inl refused.refused | inr short ↦ inr (short.0, short.1) ])
+check_faults w mid new (read.Format fault) a = elim a.2 [
+  | inl r ↦ (a.0, inl r.refused, read_kept w r.held new r.size r.bytes, shows_last (limits_of mid) new w r.held r.bytes r.unshown)
+  | inr s ↦ (a.0, inr (s.0, s.1), read_kept w s.2.kept.held new s.2.kept.size s.2.kept.bytes, partial_take (limits_of mid) (length w - last_of new) w s.0.1)
+]
 check_faults w mid new read.Device a = a.2
 check_faults w mid new read.TooManyReads a = (a.2, a.3)
 
 -- nothing is told of the fault but its line
-told_last : (settings : Settings) (n offset : ℕ) (kept : List ℕ) (fault : Option Fault) → settings.explains ≡ false → settings.keeps_going ≡ false
-    → IsToldLast settings n offset kept fault (fault_line offset fault)
-told_last settings n offset kept None explains halts = refl
-told_last settings n offset kept (Some fault) explains halts =
-    let refusal : RefusedMessage = record { number = n; offset = offset; fault = fault } in
-    transport (λ i. IsToldBy (sym halts i) (sym explains i) refusal kept (line_of false refusal)) refl
+told_last : (packets : Option Packets) (settings : Settings) (n offset : ℕ) (kept : List ℕ) (fault : Option Fault) (packet : Option ℕ) → settings.explains ≡ false → settings.keeps_going ≡ false
+    → IsFaultIn packets settings.limits offset kept fault packet → IsToldLast packets settings n offset kept fault (fault_line offset fault packet)
+told_last packets settings n offset kept None packet explains halts there = refl
+told_last packets settings n offset kept (Some fault) packet explains halts there =
+    let refusal : RefusedMessage = record { number = n; offset = offset; fault = fault; packet = packet } in
+    (packet, there, transport (λ i. IsToldBy (sym halts i) (sym explains i) refusal kept (line_of false refusal)) refl)
 
 -- of a new reader, which keeps nothing
-module _ {R : Type 0} (left : R → Option (List ℕ)) (calls failures : R → ℕ) (packets : R → Option Packets) (old new : CheckReader R) (is : IsNewReader lengths (source_of old) (most_reads_of old) (limits_of old) old)
-    (settings : Settings) (no_more : ask_more settings ≡ false) where
+module _ {R : Type 0} (left : R → Option (List ℕ)) (calls failures : R → ℕ) (packets : R → Option Packets) (packet : R → Option Packet) (old new : CheckReader R)
+    (is : IsNewReader lengths (source_of old) (most_reads_of old) (limits_of old) old) (known : HasPacketsIf packets packet new (packets (source_of old))) (settings : Settings) (no_more : ask_more settings ≡ false) where
   abbrev Took : Taken
   Took = taken (reading left calls failures packets (source_of old) (source_of new))
+
+  -- the packet of the bytes that were read last
+  abbrev packet_last : Option ℕ
+  packet_last = number_of (packet (source_of new))
+
+  fault_there : (counted : Counted) (a : HandsAllOn lengths left calls settings.limits [] failures counts gives_up 0 none_known counted old new tt tt) → IsFaultIn (packets (source_of old)) settings.limits counted.size a.rest counted.fault packet_last
+  fault_there counted a = by_fault counted.fault a.fault_is
+    where
+      by_fault : (fault : Option Fault) → fault ≡ fault_at_end a.rest a.outcome → IsFaultIn (packets (source_of old)) settings.limits counted.size a.rest fault packet_last
+      by_fault None e = tt
+      by_fault (Some fault) e =
+          subst (λ (n : ℕ). IsRefusedIn (packets (source_of old)) settings.limits n a.rest packet_last) a.done
+          (refused_there packets packet settings.limits new a.rest a.read_all a.shows_last fault (packets (source_of old)) known a.outcome a.outcome_is e)
 
   plain_told : (settings.explains ≡ false) × (settings.keeps_going ≡ false)
   plain_told = or_parts _ _ (or_parts _ _ no_more).0
@@ -89,22 +116,22 @@ module _ {R : Type 0} (left : R → Option (List ℕ)) (calls failures : R → �
     consumed = h.consumed;
     called = (h.count, omega (arith, h.reads, h.most_reads, is.reads, new.few_reads), h.called);
     begin = parts_of settings.limits h.bytes items rest h.messages;
-    tells = told_of settings 1 0 items;
+    tells = told_of (packets (source_of old)) settings 1 0 items;
   }
 
   abbrev HandsSome : Cause → Type 0
   HandsSome cause = HandsSomeOn lengths left calls settings.limits [] failures counts gives_up 0 none_known cause old new tt tt
 
   some_tallied : (cause : Cause) (s : HandsSome cause) → IsMore Took settings (most_reads_of old) true (ByCause cause) (wholes s.items) s.rest [] → IsStopOf Took (most_reads_of old) (ByCause cause)
-      → Tallies Took settings (most_reads_of old) (Err cause)
+      → Tallies Took settings (most_reads_of old) packet_last (Err cause)
   some_tallied cause s all caused =
       let some = some_placed Took.packets 1 0 (wholes s.items) in
       record { parts = wholes s.items; rest = s.rest; told = []; covers = covers s.items s.rest s.read; more = []; all = all; caused = caused; messages = some.0; placed = some.1; came = (s.given_up, refl) }
 
-  tallies : (res : Result Counted Cause) → HandsOn lengths left calls settings.limits [] failures counts gives_up 0 none_known old new tt tt res → Tallies Took settings (most_reads_of old) res
+  tallies : (res : Result Counted Cause) → HandsOn lengths left calls settings.limits [] failures counts gives_up 0 none_known old new tt tt res → Tallies Took settings (most_reads_of old) packet_last res
   tallies (Ok counted) a =
       let size : counted.size ≡ sizes a.items = omega (arith, a.size_is, is.done) in
-      let told = told_last settings (length (wholes a.items) + 1) (sizes_of (wholes a.items)) a.rest counted.fault plain_told.0 plain_told.1 in
+      let told = told_last (packets (source_of old)) settings (length (wholes a.items) + 1) counted.size a.rest counted.fault packet_last plain_told.0 plain_told.1 (fault_there counted a) in
       record {
         parts = wholes a.items;
         rest = a.rest;
@@ -115,7 +142,7 @@ module _ {R : Type 0} (left : R → Option (List ℕ)) (calls failures : R → �
           outcome = a.outcome;
           outcome_is = a.outcome_is;
           fault_is = a.fault_is;
-          told = subst (λ n. IsToldLast settings (length (wholes a.items) + 1) (sizes_of (wholes a.items)) a.rest counted.fault (fault_line n counted.fault)) (sizes-wholes a.items ∙ sym size) told;
+          told = subst (λ n. IsToldLast (packets (source_of old)) settings (length (wholes a.items) + 1) n a.rest counted.fault (fault_line counted.size counted.fault packet_last)) (size ∙ sym (sizes-wholes a.items)) told;
         };
         last = is_last settings.keeps_going settings.limits a.rest a.outcome (IsAtEnd (left (source_of new))) plain_told.1
             (λ none. a.read.at_end (λ e. absurd (both_ways _ e is.ended)) (a.ended none));
@@ -129,7 +156,7 @@ module _ {R : Type 0} (left : R → Option (List ℕ)) (calls failures : R → �
       some_tallied TooManyReads s (inl (s.all, refl)) (s.caused.0, subst (λ n. RisesBy n Took.calls0 Took.calls1) all s.read.called)
 
   pub tallied : settings.limits ≡ limits_of old → (res : Result Counted Cause) → HandsOn lengths left calls (limits_of old) [] failures counts gives_up 0 none_known old new tt tt res
-      → Tallies Took settings (most_reads_of old) res
+      → Tallies Took settings (most_reads_of old) packet_last res
   tallied same res h = tallies res (subst (λ (l : Limits). HandsOn lengths left calls l [] failures counts gives_up 0 none_known old new tt tt res) (sym same) h)
 
 -- How a run ends that counts messages by their names.

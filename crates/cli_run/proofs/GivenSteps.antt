@@ -48,7 +48,7 @@ module _ {R A S : Type 0} (left : R → Option (List ℕ)) (calls failures : R �
 
   kept_fault : (fault : ReadFault) → KeptAnswers old new (Err fault) → Advances (kept old) old new (Err fault)
   kept_fault read.Memory k = k
-  kept_fault (read.Format fault) k = (k.0, k.1, inl k.2)
+  kept_fault (read.Format fault) k = (k.0, k.1, inl k.2, k.3)
   kept_fault fault k = absurd k
 
   -- a fault of what is kept

@@ -21,9 +21,10 @@ use Rattle.dbus_stream.specs.RawReading.{done_of, is_ended, kept, limits_of, mos
 use Rattle.dbus_stream.specs.declared.raw_reader.RawReader.{RawReader}
 use Rattle.dbus_stream.specs.declared.read_fault.ReadFault.{ReadFault}
 use Rattle.dbus_stream.specs.declared.read_fault.ReadFault.TheVariants as read
-use Rattle.cli_run.specs.Going.{Closes, IsAllOf, PassesAll, cause_of, AreTold, HasLastLine, IsTold, closing_line, passed_count, passed_sizes}
+use Rattle.cli_run.specs.Going.{Closes, IsAllOf, PassesAll, cause_of, AreTold, HasLastLine, IsTold, IsToldRefused, closing_line, passed_count, passed_sizes}
 use Rattle.cli_run.specs.Inputs.{BeginWithParts, IsCutOff, IsLast, IsTellable, PassedOver, Placed, sizes_of}
 use Rattle.cli_run.specs.Onward.{HasRead, stop_of}
+use Rattle.cli_run.specs.Refusals.{IsRefusedIn, number_of}
 use Rattle.cli_run.specs.Visiting.{AddsUp, Tells}
 use Rattle.cli_report.specs.declared.ending.Cause.{Cause}
 use Rattle.cli_report.specs.declared.ending.Cause.TheVariants.{Memory, ReadFailed, TooManyReads}
@@ -68,17 +69,20 @@ module _ {R A S : Type 0} {takes : S → S → List Placed → (told : List ℕ)
 
   -- ---- the fault is told
 
-  module _ {fault : Fault} (faulty : counted.fault ≡ Some fault) where
+  module _ {fault : Fault} (faulty : counted.fault ≡ Some fault) (packet : Option ℕ) (packet_is : packet ≡ number_of (run.packet (source_of mid))) where
     -- this is told of it
     abbrev Due : List ℕ → Type 0
-    Due text = IsTold run.settings (record { number = counted.count + 1; offset = counted.size; fault = fault }) (kept mid) text
+    Due text = IsTold run.settings (record { number = counted.count + 1; offset = counted.size; fault = fault; packet = packet }) (kept mid) text
 
     -- by its place among the parts
-    told_at : (n : ℕ) (text : List ℕ) → n ≡ length h.gone.parts + 1 → Due text → IsTold run.settings (record { number = n; offset = sizes_of h.gone.parts; fault = fault }) (kept mid) text
+    told_at : (n : ℕ) (text : List ℕ) → n ≡ length h.gone.parts + 1 → Due text → IsToldRefused (packets_of run) run.settings n (sizes_of h.gone.parts) (kept mid) fault text
     told_at n text e told =
         let number : counted.count + 1 ≡ n = omega (arith, h.count_is, ap (λ (t : Tally). t.count) h.gone.tally_is, e) in
-        let offset : counted.size ≡ sizes_of h.gone.parts = sym h.size_is ∙ ap (λ (t : Tally). t.size) h.gone.tally_is in
-        transport (λ i. IsTold run.settings (record { number = number i; offset = offset i; fault = fault }) (kept mid) text) told
+        let offset : counted.size ≡ sizes_of h.gone.parts = sym h.size_is ∙ ap (λ (t : Tally). t.size) h.gone.tally_is in (
+          packet,
+          transport (λ i. IsRefusedIn (packets_of run) run.settings.limits (h.gone.done i) (kept mid) (sym packet_is i)) (h.refused_in fault faulty),
+          transport (λ i. IsTold run.settings (record { number = number i; offset = offset i; fault = fault; packet = packet }) (kept mid) text) told,
+        )
 
     fault_last : Some fault ≡ fault_at_end (kept mid) h.outcome
     fault_last = sym faulty ∙ h.fault_is
@@ -270,8 +274,8 @@ module _ {R A S : Type 0} {takes : S → S → List Placed → (told : List ℕ)
             let begin : BeginWithParts run.settings.limits (kept mid ++ read.bytes) (part ∷ []) (kept new) = (((r.bytes, refl), met other refusal, states n s, p.there), sym p.kept) in
             let number : 1 + length parts ≡ length parts + 1 = omega arith in
             let offset : sizes_of parts ≡ 0 + sizes_of parts = omega arith in
-            let told_next = subst (λ (o : ℕ). IsTold run.settings (record { number = 1 + length parts; offset = o; fault = fault }) (kept mid) text) offset (told_at (1 + length parts) text number told) in
-            let told_is : AreTold run.settings (1 + length parts) (0 + sizes_of parts) (part ∷ []) text = (text, [], sym (append-nil text), (goes, told_next), refl) in
+            let told_next = subst (λ (o : ℕ). IsToldRefused (packets_of run) run.settings (1 + length parts) o (kept mid) fault text) offset (told_at (1 + length parts) text number told) in
+            let told_is : AreTold (packets_of run) run.settings (1 + length parts) (0 + sizes_of parts) (part ∷ []) text = (text, [], sym (append-nil text), (goes, told_next), refl) in
             let count_is : tally.count + 1 ≡ length (parts ++ part ∷ []) = omega (arith, ap (λ (t : Tally). t.count) is, length-append parts (part ∷ [])) in
             let size_is : done_of new ≡ sizes_of (parts ++ part ∷ []) = omega (arith, p.done, h.gone.done, sizes-both parts (part ∷ [])) in
             let passed_is : tally.passed + 1 ≡ passed_count (parts ++ part ∷ []) = omega (arith, ap (λ (t : Tally). t.passed) is, passed-both parts (part ∷ [])) in

@@ -24,6 +24,7 @@ use Rattle.cli_report.specs.Devices.{reading, taken, Taken}
 use Rattle.cli_run.specs.Going.{Covers, IsMore, IsStopOf, IsThrough, StopsWithin, AreTold, passed_count, passed_sizes, tally_of}
 use Rattle.cli_run.specs.Inputs.{ArePlaced, BeginWithParts, Part, Placed, Whole, sizes_of, wholes}
 use Rattle.cli_run.specs.Onward.{HasKnownPackets, HasRead, HandsRawOn, HandsSomeOn, IsTrueEnd, stop_of}
+use Rattle.cli_run.specs.Refusals.{IsRefusedIn, number_of}
 use Rattle.cli_run.specs.Visiting.{AddsUp}
 use Rattle.cli_report.specs.declared.ending.Cause.{Cause}
 use Rattle.cli_report.specs.declared.ending.Cause.TheVariants.{Memory, ReadFailed, WriteFailed, TooManyReads}
@@ -31,6 +32,7 @@ use Rattle.cli_run.specs.declared.counted.Counted.{Counted}
 use Rattle.cli_run.specs.declared.tally.Tally.{Tally}
 use Rattle.cli_run.specs.declared.visitor.RunStop.{RunStop}
 use Rattle.cli_run.specs.declared.visitor.RunStop.TheVariants.{Cause as ByCause}
+use Rattle.cli_run.proofs.KnownPackets.{refused_there}
 use Rattle.cli_run.proofs.PartLaws.{parts_more, parts_both, parts_of, few_parts, few_passed, few_passed_sizes, stated_some, sizes-both, passed-both, passed_sizes-both, sizes-wholes, passed-wholes, passed_sizes-wholes, placed_both, told_both, told_of}
 
 -- a refusal is no end of the input
@@ -112,12 +114,12 @@ module _ {R A S : Type 0} (run : Begun R A S) where
     pub limits_are : limits_of new ≡ run.settings.limits
     pub at_end : IsTrueEnd run.left new.reader
     pub begin : BeginWithParts run.settings.limits bytes parts rest
-    pub tells : AreTold run.settings 1 0 parts told
+    pub tells : AreTold packets_of run.settings 1 0 parts told
 
   -- more was read, and begins with more parts
   pub covers_read : (mid new : RawReader R A) (parts more : List Part) (from rest told t w : List ℕ) (items : List CutMessage) → HasCovered mid parts from told
       → (r : HasRead gathering run.left run.calls run.settings.limits from mid.reader new.reader items w) → BeginWithParts run.settings.limits (from ++ r.bytes) more rest
-      → AreTold run.settings (1 + length parts) (0 + sizes_of parts) more t → HasCovered new (parts ++ more) rest (told ++ t)
+      → AreTold packets_of run.settings (1 + length parts) (0 + sizes_of parts) more t → HasCovered new (parts ++ more) rest (told ++ t)
   covers_read mid new parts more from rest told t w items h r begin tells = record {
     bytes = h.bytes ++ r.bytes;
     consumed = Consumes-trans _ _ _ _ _ h.consumed r.consumed;
@@ -126,7 +128,7 @@ module _ {R A S : Type 0} (run : Begun R A S) where
     limits_are = r.limits_are;
     at_end = r.at_end h.at_end;
     begin = parts_both run.settings.limits (h.bytes ++ r.bytes) parts more (from ++ r.bytes) rest (parts_more run.settings.limits h.bytes parts from r.bytes h.begin) begin;
-    tells = told_both run.settings 1 0 parts more told t h.tells tells;
+    tells = told_both packets_of run.settings 1 0 parts more told t h.tells tells;
   }
 
   -- as a clause says it
@@ -200,6 +202,8 @@ module _ {R A S : Type 0} (run : Begun R A S) where
       pub fault_is : counted.fault ≡ fault_at_end (kept new) outcome
       pub stopped : stopped_of new ≡ stop_of counted.fault
       pub ended : ((f : Fault) → outcome ≡ Refused f → ⊥) → is_ended new ≡ true
+      -- the fault is of the packet of the bytes that were read last
+      pub refused_in : (fault : Fault) → counted.fault ≡ Some fault → IsRefusedIn packets_of run.settings.limits (done_of new) (kept new) (number_of (run.packet (source_of new)))
 
     -- nothing follows, and all is told but the last line
     pub record HasEnded (new : RawReader R A) (tally : Tally) (fault : Option Fault) (s : S) : Type 0 where
@@ -264,13 +268,14 @@ module _ {R A S : Type 0} {takes : S → S → List Placed → (told : List ℕ)
         subst (λ (l : List ℕ). HasCovered run new (h.parts ++ wholes items) last l) (append-nil h.told)
         (covers_read run mid new h.parts (wholes items) (kept mid) last h.told [] rest items h.covered r
         (subst (λ (l : List ℕ). BeginWithParts run.settings.limits (kept mid ++ r.bytes) (wholes items) l) e (parts_of run.settings.limits (kept mid ++ r.bytes) items rest r.messages))
-        (told_of run.settings (1 + length h.parts) (0 + sizes_of h.parts) items))
+        (told_of (packets_of run) run.settings (1 + length h.parts) (0 + sizes_of h.parts) items))
 
     -- up to a fault, or up to the end
-    pub reach : (counted : Counted) (up : Tally) → up ≡ record tally { count = counted.count; size = counted.size }
+    pub reach : HasKnownPackets run.packets run.packet new (packets_of run) → (counted : Counted) (up : Tally) → up ≡ record tally { count = counted.count; size = counted.size }
         → HandsRawOn run.left run.calls run.failures run.packets run.packet takes leaves run.settings.limits tally.count counted mid new s1 s2 → HasReached run takes new counted up s2
-    reach counted up is a =
+    reach known_new counted up is a =
         let items = a.all.items in
+        let limits = run.settings.limits in
         let more = a.all.messages in
         let size : counted.size ≡ sizes_of h.parts + sizes items = omega (arith, a.all.size_is, h.done) in
         let came = subst (λ (l : List ℕ). takes run.s0 s2 (h.messages ++ more) l) (append-nil h.told) (laws.joins run.s0 s1 s2 h.messages more h.told [] h.came a.all.taken) in
@@ -293,6 +298,9 @@ module _ {R A S : Type 0} {takes : S → S → List Placed → (told : List ℕ)
           fault_is = a.all.fault_is ∙ ap (λ (l : List ℕ). fault_at_end l a.all.outcome) (sym a.kept);
           stopped = a.stopped;
           ended = a.all.ended;
+          refused_in = λ fault e.
+              subst (λ (l : List ℕ). IsRefusedIn (packets_of run) limits (done_of new) l (number_of (run.packet (source_of new)))) (sym a.kept)
+              (refused_there run.packets run.packet limits new.reader a.all.rest a.all.read_all a.all.shows_last fault (packets_of run) known_new a.all.outcome a.all.outcome_is (sym e ∙ a.all.fault_is));
         }
 
     -- not all

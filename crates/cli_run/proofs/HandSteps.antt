@@ -1,23 +1,24 @@
 -- The turns in which a visitor takes the messages of a reader, from where it stands. k is what is
 -- known of its taker, kept is what it kept there, and before is how many messages came before.
-use Rattle.std.proofs.Common.{◌≡◌, ◌⊎◌, IfOk, ℕ, ◌+◌, List, [], ◌∷◌, ◌++◌, true, None, Some, Err, Option, Result, length, drop, refl, sym, ap, ◌∙◌, subst, arith, append-nil, inl, inr}
+use Rattle.std.proofs.Common.{◌≡◌, ◌⊎◌, IfOk, ℕ, ◌+◌, ◌-◌, List, [], ◌∷◌, ◌++◌, true, None, Some, Ok, Err, Option, Result, length, drop, take, refl, sym, ap, ◌∙◌, subst, arith, append-nil, inl, inr}
 use Rattle.dbus_value_model.specs.declared.fault.Fault.{Fault}
 use Rattle.dbus_value_model.specs.declared.limits.Limits.{Limits}
 use Rattle.dbus_value_model.specs.declared.order.Order.{Order}
 use Rattle.dbus_message_model.specs.Messages.{MessageTree}
 use Rattle.dbus_validate.specs.declared.validating.Validated.{Validated}
 use Rattle.dbus_header.specs.MessageOutcomes.{IsWhole, IsRefused, IsPartial}
+use Rattle.dbus_header.proofs.OutcomeLaws.{nothing_partial}
 use Rattle.dbus_device.specs.Device.{one_more}
 use Rattle.dbus_device.specs.Packets.{Packets}
 use Rattle.dbus_device.specs.declared.packet.Packet.{Packet}
-use Rattle.dbus_stream.specs.Cut.{CutMessage, CutOutcome, Unfinished, Refused, IsOutcome}
+use Rattle.dbus_stream.specs.Cut.{CutMessage, CutOutcome, Ended, Unfinished, Refused, IsOutcome}
 use Rattle.dbus_stream.specs.CutEnds.{fault_at_end, sizes}
 use Rattle.dbus_stream.specs.Gathering.{gathering}
 use Rattle.dbus_stream.specs.Next.{DeviceCounts, IsCutShort, Reads}
 use Rattle.dbus_stream.specs.RawReading.{Advances, Lends, kept, lent_of}
 use Rattle.dbus_stream.specs.RawReading as raw
 use Rattle.dbus_stream.specs.declared.raw_reader.RawReader.{RawReader}
-use Rattle.dbus_stream.specs.Reading.{limits_of, source_of, done_of, reads_of, most_reads_of, is_ended, stopped_of}
+use Rattle.dbus_stream.specs.Reading.{limits_of, source_of, done_of, read_of, last_of, reads_of, most_reads_of, is_ended, stopped_of}
 use Rattle.dbus_stream.specs.Taking.{Taking}
 use Rattle.dbus_stream.specs.declared.buffer.Buffer.{Ghosts}
 use Rattle.dbus_stream.specs.declared.reader.Reader.{Reader}
@@ -27,7 +28,7 @@ use Rattle.cli_report.specs.declared.ending.Cause.{Cause}
 use Rattle.cli_report.specs.declared.ending.Cause.TheVariants.{Memory, ReadFailed, WriteFailed, TooManyReads}
 use Rattle.cli_run.specs.ByName.{ended_by, stopped_by}
 use Rattle.cli_run.specs.Handing.{GivesNext, Stays}
-use Rattle.cli_run.specs.Onward.{AreAll, AreHanded, HasKnownPackets, HasRead, HandsAllOn, HandsSomeOn, HandsOn, RawHandsOn, StopsFor}
+use Rattle.cli_run.specs.Onward.{AreAll, AreHanded, HasKnownPackets, HasRead, HandsAllOn, HandsRawOn, HandsSomeOn, HandsOn, RawHandsOn, StopsFor}
 use Rattle.cli_run.specs.Inputs.{IsTimeBefore, Placed}
 use Rattle.cli_run.specs.Visiting.{AddsUp, TakesOne}
 use Rattle.cli_run.specs.declared.counted.Counted.{Counted}
@@ -36,6 +37,7 @@ use Rattle.cli_run.specs.declared.counted.NoMessage.TheVariants.{Reader as FromR
 use Rattle.cli_run.specs.declared.place.MessagePlace.{MessagePlace}
 use Rattle.cli_run.specs.declared.visitor.RunStop.{RunStop}
 use Rattle.cli_run.specs.declared.visitor.RunStop.TheVariants.{Cause as ByCause}
+use Rattle.dbus_stream.proofs.FaultPackets.{partial_take, raw_read}
 use Rattle.dbus_stream.proofs.RawSteps.{starts, unread}
 use Rattle.cli_run.proofs.OutputSteps.{lent_size, lent_whole}
 use Rattle.cli_run.proofs.PartLaws.{placed_last}
@@ -73,6 +75,7 @@ module _ {R T B G S : Type 0} {b : Ghosts B} (k : Taking T G) (left : R → Opti
 abbrev pub Faults : {R T B G : Type 0} {b : Ghosts B} → Taking T G → List ℕ → Reader R T B b → Reader R T B b → ReadFault → Type 0
 Faults k w mid new read.Memory = Unit {0}
 Faults k w mid new (read.Format fault) = (done_of new ≡ done_of mid) × (IsRefused (limits_of k mid) w fault ⊎ (IsCutShort (limits_of k mid) w fault × (is_ended new ≡ true)))
+    × (read_of new ≡ done_of new + length w) × IsPartial (limits_of k mid) (take (length w - last_of new) w)
 Faults k w mid new read.Device = IsPartial (limits_of k mid) w
 Faults k w mid new read.TooManyReads = IsPartial (limits_of k mid) w × (reads_of new ≡ most_reads_of new)
 
@@ -176,13 +179,16 @@ module _ {R T B G S : Type 0} {b : Ghosts B} {k : Taking T G} {left : R → Opti
     -- no further message comes
     abbrev pub hands_all : (outcome : CutOutcome) (counted : Counted) → counted.count ≡ count → counted.size ≡ done_of new → done_of new ≡ done_of mid
         → counted.fault ≡ fault_at_end (rest ++ r.bytes) outcome → IsOutcome limits (rest ++ r.bytes) outcome → (((f : Fault) → outcome ≡ Refused f → ⊥) → is_ended new ≡ true)
-        → failures (source_of new) ≡ failures (source_of mid) → HandsAllOn k left calls limits kept failures takes leaves before Are counted old new s0 s2
-    hands_all outcome counted count_is size done fault is ended same = record {
+        → failures (source_of new) ≡ failures (source_of mid) → read_of new ≡ done_of new + length (rest ++ r.bytes) → IsPartial limits (take (length (rest ++ r.bytes) - last_of new) (rest ++ r.bytes))
+        → HandsAllOn k left calls limits kept failures takes leaves before Are counted old new s0 s2
+    hands_all outcome counted count_is size done fault is ended same read shows = record {
       items = h.items;
       rest = rest ++ r.bytes;
       outcome = outcome;
       read = read_more k left calls limits kept old mid new h.items rest h.read r;
       outcome_is = is;
+      read_all = read;
+      shows_last = shows;
       ended = ended;
       count_is = count_is ∙ h.count_is;
       size_is = size ∙ (done ∙ h.done);
@@ -197,16 +203,25 @@ module _ {R T B G S : Type 0} {b : Ghosts B} {k : Taking T G} {left : R → Opti
     -- the bytes are no message, or end within one
     pub hands_refused : (fault : Fault) → Faults k (rest ++ r.bytes) mid new (read.Format fault) → failures (source_of new) ≡ failures (source_of mid)
         → (a : HandsAllOn k left calls limits kept failures takes leaves before Are (record { count = count; size = done_of new; fault = Some fault }) old new s0 s2) × (a.rest ≡ rest ++ r.bytes)
-    hands_refused fault answer same = elim answer.1 [
-      | inl refused ↦ (
-        hands_all (Refused fault) _ refl refl answer.0 refl (subst (λ l. IsRefused l (rest ++ r.bytes) fault) h.read.limits_are refused) (λ none. absurd (none fault refl)) same,
-        refl,
-      )
-      | inr short ↦ (
-        hands_all Unfinished _ refl refl answer.0 (ap Some short.0.2) (short.0.0, subst (λ l. IsPartial l (rest ++ r.bytes)) h.read.limits_are short.0.1) (λ _. short.1) same,
-        refl,
-      )
-    ]
+    hands_refused fault answer same =
+        let shows = subst (λ l. IsPartial l (take (length (rest ++ r.bytes) - last_of new) (rest ++ r.bytes))) h.read.limits_are answer.3 in
+        elim answer.1 [
+          | inl refused ↦ (
+            hands_all (Refused fault) _ refl refl answer.0 refl (subst (λ l. IsRefused l (rest ++ r.bytes) fault) h.read.limits_are refused) (λ none. absurd (none fault refl)) same answer.2 shows,
+            refl,
+          )
+          | inr short ↦ (
+            hands_all Unfinished _ refl refl answer.0 (ap Some short.0.2) (short.0.0, subst (λ l. IsPartial l (rest ++ r.bytes)) h.read.limits_are short.0.1) (λ _. short.1) same answer.2 shows,
+            refl,
+          )
+        ]
+
+    -- the end of the input, if nothing is kept
+    abbrev pub hands_ended : (counted : Counted) → counted.count ≡ count → counted.size ≡ done_of new → done_of new ≡ done_of mid → counted.fault ≡ None → rest ++ r.bytes ≡ [] → is_ended new ≡ true
+        → failures (source_of new) ≡ failures (source_of mid) → read_of new ≡ done_of new + length (rest ++ r.bytes) → HandsAllOn k left calls limits kept failures takes leaves before Are counted old new s0 s2
+    hands_ended counted count_is size done fault none ended same read =
+        hands_all Ended counted count_is size done fault none (λ _. ended) same read
+        (subst (λ (l : List ℕ). IsPartial limits (take (length l - last_of new) l)) (sym none) (partial_take limits (0 - last_of new) [] (nothing_partial limits)))
 
     -- the reader has a fault
     pub hands_faulted : (fault : ReadFault) → Faults k (rest ++ r.bytes) mid new fault → DeviceCounts {T = Option G} (failures (source_of mid)) (failures (source_of new)) (Err fault)
@@ -218,7 +233,10 @@ module _ {R T B G S : Type 0} {b : Ghosts B} {k : Taking T G} {left : R → Opti
     hands_faulted read.TooManyReads answer same o =
         hands_some TooManyReads (subst (λ l. IsPartial l (rest ++ r.bytes)) h.read.limits_are answer.0) (laws.rests s0 s2 h.messages [] taken o).2 (same ∙ h.failed, answer.1)
 
--- a reader of raw messages
+-- all that a reader of raw messages read and did not give is kept
+pub raw_kept : {R A : Type 0} (w : List ℕ) (new : RawReader R A) → kept new ≡ w → raw.read_of new ≡ raw.done_of new + length w
+raw_kept w new e = raw_read new ∙ ap (λ (l : List ℕ). raw.done_of new + length l) e
+
 module _ {R A S : Type 0} {left : R → Option (List ℕ)} {calls failures : R → ℕ} {takes : S → S → List Placed → (told : List ℕ) → Type 0}
     {leaves : S → S → List Placed → (told : List ℕ) → RunStop → Type 0} {settled : S → Type 0} (laws : AddsUp takes leaves settled) {limits : Limits} {before : ℕ} where
   -- so it is if the reader looks at what it keeps
@@ -242,7 +260,7 @@ module _ {R A S : Type 0} {left : R → Option (List ℕ)} {calls failures : R �
       (h : HasHanded gathering left calls failures takes limits (kept old) before (HasKnownPackets packets packet old) count old.reader mid.reader (kept mid) s0 s1) (new : RawReader R A) (s2 : S) where
     faults : (w : List ℕ) (fault : ReadFault) (from : RawReader R A) → Advances w from new (Err fault) → Faults gathering w from.reader new.reader fault
     faults w read.Memory from a = tt
-    faults w (read.Format fault) from a = (a.0.done, a.2)
+    faults w (read.Format fault) from a = (a.0.done, a.2, raw_kept w new a.0.kept, a.3)
     faults w read.Device from a = a.2
     faults w read.TooManyReads from a = (a.2, a.3)
 
@@ -264,3 +282,12 @@ module _ {R A S : Type 0} {left : R → Option (List ℕ)} {calls failures : R �
         record { all = all.0; kept = a.0.kept ∙ sym all.1; stopped = a.1 }
     hands_stopped (FromReader fault) given = faulted fault given
     hands_stopped Writer (from, there, (r, back, same)) = hands_unwritten laws (still old mid from h there) r back same
+
+    -- the input ends after a message
+    pub hands_end : (size : ℕ) → size ≡ raw.done_of new → GivesNext left calls failures takes leaves settled mid new s1 s2 (Ok None)
+        → HandsRawOn left calls failures packets packet takes leaves limits before (record { count = count; size = size; fault = None }) old new s0 s2
+    hands_end size is (from, there, (r, ends, same, go, rests)) = record {
+      all = hands_ended laws (still old mid from h there) r go _ refl is ends.2.done refl ends.0 ends.1 same (raw_kept _ new ends.2.kept);
+      kept = ends.2.kept;
+      stopped = ends.3;
+    }

@@ -5,6 +5,7 @@ use Rattle.std.proofs.lemmas.List.{map-append}
 use Rattle.std.proofs.lemmas.List.Folds.{concat-append}
 use Rattle.dbus_device.specs.Packets.{Packets}
 use Rattle.dbus_value_model.specs.declared.fault.Fault.{Fault}
+use Rattle.dbus_value_model.specs.declared.limits.Limits.{Limits}
 use Rattle.dbus_value_model.specs.declared.order.Order.{Order}
 use Rattle.dbus_message_model.specs.Messages.{MessageTree, message_bytes}
 use Rattle.dbus_stream.specs.Cut.{CutMessage}
@@ -53,30 +54,30 @@ some_of_all command os (m ∷ items) =
     (one.0 ++ more.0, (one.0, more.0, refl, one.1, more.1))
 
 pub some_output : SomeOutput
-some_output packets command items fault =
+some_output packets command items fault packet =
     let some = some_placed packets 1 0 (wholes items) in
     let all = some_of_all command (owners_known command None) some.0 in
-    (concat all.0 ++ last_line command (length items) (sizes items) fault, record { messages = some.0; placed = some.1; texts = all.0; each = all.1; joined = refl })
+    (concat all.0 ++ last_line command (length items) (sizes items) fault packet, record { messages = some.0; placed = some.1; texts = all.0; each = all.1; joined = refl })
 
 -- a prefix of what is written of the first messages is one of what the first writer gets
-pub front_of_first : (packets : Option Packets) (command : Command) (items more all : List CutMessage) (fault : Option Fault) (messages : List Placed) (texts : List (List ℕ)) (front : List ℕ) → all ≡ items ++ more
-    → ArePlaced packets 1 0 (wholes items) messages → IsOutputOfAll command (owners_known command None) messages texts → IsPrefixTo front (concat texts) → IsFront packets command all fault front
-front_of_first packets command items more all fault messages texts front e p o prefix =
+pub front_of_first : (packets : Option Packets) (limits : Limits) (command : Command) (items more all : List CutMessage) (rest : List ℕ) (fault : Option Fault) (messages : List Placed) (texts : List (List ℕ)) (front : List ℕ) → all ≡ items ++ more
+    → ArePlaced packets 1 0 (wholes items) messages → IsOutputOfAll command (owners_known command None) messages texts → IsPrefixTo front (concat texts) → IsFront packets limits command all rest fault front
+front_of_first packets limits command items more all rest fault messages texts front e p o prefix =
     let os = owners_known command None in
     let others = some_placed packets (1 + length (wholes items)) (0 + sizes_of (wholes items)) (wholes more) in
-    let rest = some_of_all command (owners_after_all command os messages) others.0 in
-    let last = last_line command (length all) (sizes all) fault in
-    let tail = concat rest.0 in
+    let later = some_of_all command (owners_after_all command os messages) others.0 in
+    let last = last_line command (length all) (sizes all) fault None in
+    let tail = concat later.0 in
     let both : wholes items ++ wholes more ≡ wholes all = sym (map-append Whole items more) ∙ ap wholes (sym e) in
-    let placed = subst (λ (l : List Part). ArePlaced packets 1 0 l (messages ++ others.0)) both (placed_both packets 1 0 (wholes items) (wholes more) messages others.0 p others.1) in (
-      concat (texts ++ rest.0) ++ last,
-      record { messages = messages ++ others.0; placed = placed; texts = texts ++ rest.0; each = output_both command os messages others.0 texts rest.0 o rest.1; joined = refl },
-      (
-        prefix.0 ++ (tail ++ last),
-        ap (λ l. l ++ last) (concat-append texts rest.0)
-            ∙ (append_assoc (concat texts) tail last ∙ (ap (λ l. l ++ (tail ++ last)) prefix.1 ∙ append_assoc front prefix.0 (tail ++ last))),
-      ),
-    )
+    let placed = subst (λ (l : List Part). ArePlaced packets 1 0 l (messages ++ others.0)) both (placed_both packets 1 0 (wholes items) (wholes more) messages others.0 p others.1) in
+    let texts_prefix : concat (texts ++ later.0) ≡ front ++ (prefix.0 ++ tail) = concat-append texts later.0 ∙ (ap (λ l. l ++ tail) prefix.1 ∙ append_assoc front prefix.0 tail) in
+    record {
+      packet = None;
+      out = concat (texts ++ later.0) ++ last;
+      output = record { messages = messages ++ others.0; placed = placed; texts = texts ++ later.0; each = output_both command os messages others.0 texts later.0 o later.1; joined = refl };
+      prefix = ((prefix.0 ++ tail) ++ last, ap (λ l. l ++ last) texts_prefix ∙ append_assoc front (prefix.0 ++ tail) last);
+      packet_is = inl (prefix.0 ++ tail, texts_prefix);
+    }
 
 -- ---- and no other, of an exact command
 
@@ -115,9 +116,10 @@ output_all_one packets others command os n offset (PassedOver kept fault size �
     output_all_one packets others command os (n + 1) (offset + size) parts items also a b exact p q h k
 
 pub one_output : OneOutput
-one_output packets others command items fault x y exact h k =
+one_output packets others command items fault packet x y exact h k =
     let texts = output_all_one packets others command (owners_known command None) 1 0 (wholes items) h.messages k.messages h.texts k.texts exact h.placed k.placed h.each k.each in
-    h.joined ∙ ap (λ a. concat a ++ last_line command (length items) (sizes items) fault) texts ∙ sym k.joined
+    h.joined ∙ ap (λ a. concat a ++ last_line command (length items) (sizes items) fault packet) texts ∙ sym k.joined
 
 pub one_front : OneFront
-one_front packets others command items fault front out exact is whole = subst (λ l. IsPrefixTo front l) (one_output packets others command items fault is.0 out exact is.1 whole) is.2
+one_front packets others limits command items rest fault front out exact is whole =
+    subst (λ l. IsPrefixTo front l) (one_output packets others command items fault is.packet is.out out exact is.output whole) is.prefix

@@ -110,26 +110,27 @@ few_passed_sizes (PassedOver kept fault size ∷ parts) = omega (arith, few_pass
 -- ---- texts
 
 -- those of parts after others
-pub told_both : (settings : Settings) (n offset : ℕ) (parts more : List Part) (a b : List ℕ) → AreTold settings n offset parts a
-    → AreTold settings (n + length parts) (offset + sizes_of parts) more b → AreTold settings n offset (parts ++ more) (a ++ b)
-told_both settings n offset [] more a b p q =
-    let number : n + 0 ≡ n = omega arith in
-    let place : offset + 0 ≡ offset = omega arith in
-    transport (λ i. AreTold settings (number i) (place i) more (sym p i ++ b)) q
-told_both settings n offset (part ∷ parts) more a b p q =
-    let number : n + suc (length parts) ≡ n + 1 + length parts = omega arith in
-    let place : offset + (size_of part + sizes_of parts) ≡ offset + size_of part + sizes_of parts = omega arith in
-    let rest = transport (λ i. AreTold settings (number i) (place i) more b) q in
-    (p.0, p.1 ++ b, ap (λ l. l ++ b) p.2 ∙ append_assoc p.0 p.1 b, p.3, told_both settings (n + 1) (offset + size_of part) parts more p.1 b p.4 rest)
+module _ (packets : Option Packets) (settings : Settings) where
+  pub told_both : (n offset : ℕ) (parts more : List Part) (a b : List ℕ) → AreTold packets settings n offset parts a
+      → AreTold packets settings (n + length parts) (offset + sizes_of parts) more b → AreTold packets settings n offset (parts ++ more) (a ++ b)
+  told_both n offset [] more a b p q =
+      let number : n + 0 ≡ n = omega arith in
+      let place : offset + 0 ≡ offset = omega arith in
+      transport (λ i. AreTold packets settings (number i) (place i) more (sym p i ++ b)) q
+  told_both n offset (part ∷ parts) more a b p q =
+      let number : n + suc (length parts) ≡ n + 1 + length parts = omega arith in
+      let place : offset + (size_of part + sizes_of parts) ≡ offset + size_of part + sizes_of parts = omega arith in
+      let rest = transport (λ i. AreTold packets settings (number i) (place i) more b) q in
+      (p.0, p.1 ++ b, ap (λ l. l ++ b) p.2 ∙ append_assoc p.0 p.1 b, p.3, told_both (n + 1) (offset + size_of part) parts more p.1 b p.4 rest)
 
-pub told_of : (settings : Settings) (n offset : ℕ) (items : List CutMessage) → AreTold settings n offset (wholes items) []
-told_of settings n offset [] = refl
-told_of settings n offset (item ∷ items) = ([], [], refl, refl, told_of settings (n + 1) (offset + item.size) items)
+  pub told_of : (n offset : ℕ) (items : List CutMessage) → AreTold packets settings n offset (wholes items) []
+  told_of n offset [] = refl
+  told_of n offset (item ∷ items) = ([], [], refl, refl, told_of (n + 1) (offset + item.size) items)
 
 -- `check` writes the line of the fault, or else the last line
-pub line_is : (t : Tally) (fault : Option Fault) → fault_line t.size fault ++ closing_line true t 0 fault ≡ check_line t.count t.size fault
-line_is t None = refl
-line_is t (Some fault) = append-nil (fault_line t.size (Some fault))
+pub line_is : (t : Tally) (fault : Option Fault) (packet : Option ℕ) → fault_line t.size fault packet ++ closing_line true t 0 fault ≡ check_line t.count t.size fault packet
+line_is t None packet = refl
+line_is t (Some fault) packet = append-nil (fault_line t.size (Some fault) packet)
 
 -- ---- the messages among them
 

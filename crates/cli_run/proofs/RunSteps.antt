@@ -26,6 +26,7 @@ use Rattle.cli_report.specs.Gathering.{Breaks, IsPrefixTo}
 use Rattle.cli_report.specs.Telling.{cause_line, Told}
 use Rattle.cli_run.specs.Inputs.{ArePlaced, BeginWithParts, IsLast, IsTellable, Part, PassedOver, Placed, Whole, sizes_of, wholes}
 use Rattle.cli_run.specs.Output.{IsFirstOutput, IsFront, IsOutputOfAll, check_line, fault_line, is_check, last_line, owners_known, second_output, written}
+use Rattle.cli_run.specs.Refusals.{IsFaultIn}
 use Rattle.cli_run.specs.Told.{GotFirst, GotSecond, TellsStop, first_of, second_of}
 use Rattle.cli_run.specs.VisitorLaws.{first_nothing, second_nothing, wrote_both, wrote_stopped}
 use Rattle.cli_report.specs.declared.ending.ExitStatus.{ExitStatus}
@@ -58,14 +59,15 @@ first_due Check items texts line made = ap (λ (l : List (List ℕ)). concat l +
 first_due command items texts line made = written_all texts ∙ sym (append-nil (concat texts))
 
 -- of what is told at the end: of `check` one line, and of another command no last line
-first_line : (is_check : Bool) (t : Tally) (fault : Option Fault) → first_of is_check [] (fault_line t.size fault ++ closing_line is_check t 0 fault) ≡ first_of is_check [] (check_line t.count t.size fault)
-first_line true t fault = line_is t fault
-first_line false t fault = refl
+module _ (packet : Option ℕ) where
+  first_line : (is_check : Bool) (t : Tally) (fault : Option Fault) → first_of is_check [] (fault_line t.size fault packet ++ closing_line is_check t 0 fault) ≡ first_of is_check [] (check_line t.count t.size fault packet)
+  first_line true t fault = line_is t fault packet
+  first_line false t fault = refl
 
-second_line : (is_check : Bool) (t : Tally) (fault : Option Fault) → second_of is_check (fault_line t.size fault ++ closing_line is_check t 0 fault) ≡ second_of is_check (fault_line t.size fault)
-second_line true t fault = refl
-second_line false t None = refl
-second_line false t (Some fault) = append-nil (fault_line t.size (Some fault))
+  second_line : (is_check : Bool) (t : Tally) (fault : Option Fault) → second_of is_check (fault_line t.size fault packet ++ closing_line is_check t 0 fault) ≡ second_of is_check (fault_line t.size fault packet)
+  second_line true t fault = refl
+  second_line false t None = refl
+  second_line false t (Some fault) = append-nil (fault_line t.size (Some fault) packet)
 
 -- nothing was passed over, so the parts are messages
 record AreMessages (limits : Limits) (bytes : List ℕ) (parts : List Part) (rest told : List ℕ) : Type 0 where
@@ -75,11 +77,11 @@ record AreMessages (limits : Limits) (bytes : List ℕ) (parts : List Part) (res
   none_told : told ≡ []
   none_passed : passed_count parts ≡ 0
 
-are_messages : (asked : Settings) (n offset : ℕ) (bytes : List ℕ) (parts : List Part) (rest told : List ℕ) → BeginWithParts asked.limits bytes parts rest → AreTold (plain asked) n offset parts told
-    → AreMessages asked.limits bytes parts rest told
-are_messages asked n offset bytes [] rest told b t = record { items = []; messages = b; parts_are = refl; none_told = t; none_passed = refl }
-are_messages asked n offset bytes (Whole item ∷ parts) rest told b t =
-    let more = are_messages asked (n + 1) (offset + item.size) (drop item.size bytes) parts rest t.1 b.1 t.4 in
+are_messages : (packets : Option Packets) (asked : Settings) (n offset : ℕ) (bytes : List ℕ) (parts : List Part) (rest told : List ℕ) → BeginWithParts asked.limits bytes parts rest
+    → AreTold packets (plain asked) n offset parts told → AreMessages asked.limits bytes parts rest told
+are_messages packets asked n offset bytes [] rest told b t = record { items = []; messages = b; parts_are = refl; none_told = t; none_passed = refl }
+are_messages packets asked n offset bytes (Whole item ∷ parts) rest told b t =
+    let more = are_messages packets asked (n + 1) (offset + item.size) (drop item.size bytes) parts rest t.1 b.1 t.4 in
     record {
       items = item ∷ more.items;
       messages = (b.0, more.messages);
@@ -87,7 +89,7 @@ are_messages asked n offset bytes (Whole item ∷ parts) rest told b t =
       none_told = t.2 ∙ (λ i. t.3 i ++ more.none_told i);
       none_passed = more.none_passed;
     }
-are_messages asked n offset bytes (PassedOver kept fault size ∷ parts) rest told b t = absurd (false≢true t.3.0)
+are_messages packets asked n offset bytes (PassedOver kept fault size ∷ parts) rest told b t = absurd (false≢true t.3.0)
 
 -- then another command has no last line
 no_closing : (is_check : Bool) (tally : Tally) (fault : Option Fault) → is_check ≡ false → tally.passed ≡ 0 → closing_line is_check tally tally.passed fault ≡ []
@@ -108,9 +110,11 @@ last_shown : (limits : Limits) (kept rest : List ℕ) (outcome : CutOutcome) (at
 last_shown limits kept rest (Refused fault) at_end shown = inl (shown, λ goes. absurd (false≢true goes))
 last_shown limits kept rest outcome at_end shown = shown
 
-told_line : (asked : Settings) (n offset : ℕ) (kept text : List ℕ) (fault : Option Fault) → IsToldLast (plain asked) n offset kept fault text → text ≡ fault_line offset fault
-told_line asked n offset kept text None told = told
-told_line asked n offset kept text (Some fault) told = told
+-- the line of the fault is told, with its packet
+told_line : (packets : Option Packets) (asked : Settings) (n offset : ℕ) (kept text : List ℕ) (fault : Option Fault) → IsToldLast packets (plain asked) n offset kept fault text
+    → (packet : Option ℕ) × IsFaultIn packets asked.limits offset kept fault packet × (text ≡ fault_line offset fault packet)
+told_line packets asked n offset kept text None told = (None, tt, told)
+told_line packets asked n offset kept text (Some fault) told = told
 
 module _ {R W E : Type 0} (r : Reading R) (w : Writing W) (e : Writing E) (asked : Settings) (most : ℕ) (command : Command) where
   abbrev limits : Limits
@@ -132,16 +136,23 @@ module _ {R W E : Type 0} (r : Reading R) (w : Writing W) (e : Writing E) (asked
     closing = closing_line (is_check command) tally tally.passed fault
 
     messages : AreMessages limits h.covers.bytes h.parts h.rest told
-    messages = are_messages asked 1 0 h.covers.bytes h.parts h.rest told h.covers.begin h.covers.tells
+    messages = are_messages packets asked 1 0 h.covers.bytes h.parts h.rest told h.covers.begin h.covers.tells
 
     abbrev last_fault : Option Fault
     last_fault = fault_at_end h.rest h.tells.outcome
 
+    fault_told : (packet : Option ℕ) × IsFaultIn packets limits (sizes_of h.parts) h.kept fault packet × (text ≡ fault_line (sizes_of h.parts) fault packet)
+    fault_told = told_line packets asked (length h.parts + 1) (sizes_of h.parts) h.kept text fault h.tells.told
+
+    -- the packet of its fault
+    abbrev last_packet : Option ℕ
+    last_packet = fault_told.0
+
     abbrev last_of : List ℕ
-    last_of = last_line command (length messages.items) (sizes messages.items) last_fault
+    last_of = last_line command (length messages.items) (sizes messages.items) last_fault last_packet
 
     abbrev line_of : List ℕ
-    line_of = second_output command (sizes messages.items) last_fault
+    line_of = second_output command (sizes messages.items) last_fault last_packet
 
     rest_kept : (h.rest ≡ h.kept) × (((f : Fault) → h.tells.outcome ≡ Refused f → ⊥) → IsAtEnd (r.left r.new))
     rest_kept = rest_is limits h.kept h.rest h.tells.outcome (IsAtEnd (r.left r.new)) h.last
@@ -158,13 +169,18 @@ module _ {R W E : Type 0} (r : Reading R) (w : Writing W) (e : Writing E) (asked
     size_is : tally.size ≡ sizes messages.items
     size_is = ap (λ (t : Tally). t.size) h.tally_is ∙ (ap sizes_of messages.parts_are ∙ sizes-wholes messages.items)
 
-    all_due : (told ++ text) ++ closing ≡ fault_line tally.size fault ++ closing_line (is_check command) tally 0 fault
+    packet_is : IsFaultIn packets limits (sizes messages.items) h.rest last_fault last_packet
+    packet_is =
+        let place : sizes_of h.parts ≡ sizes messages.items = ap (λ (t : Tally). t.size) (sym h.tally_is) ∙ size_is in
+        transport (λ i. IsFaultIn packets limits (place i) (sym rest_kept.0 i) (fault_is i) last_packet) fault_told.1
+
+    all_due : (told ++ text) ++ closing ≡ fault_line tally.size fault last_packet ++ closing_line (is_check command) tally 0 fault
     all_due =
-        let line = told_line asked (length h.parts + 1) (sizes_of h.parts) h.kept text fault h.tells.told ∙ ap (λ (t : Tally). fault_line t.size fault) (sym h.tally_is) in
+        let line = fault_told.2 ∙ ap (λ (t : Tally). fault_line t.size fault last_packet) (sym h.tally_is) in
         λ i. (messages.none_told i ++ line i) ++ closing_line (is_check command) tally (passed_is i) fault
 
     second_is : second_of (is_check command) ((told ++ text) ++ closing) ≡ line_of
-    second_is = ap (second_of (is_check command)) all_due ∙ (second_line (is_check command) tally fault ∙ (λ i. second_of (is_check command) (fault_line (size_is i) (fault_is i))))
+    second_is = ap (second_of (is_check command)) all_due ∙ (second_line last_packet (is_check command) tally fault ∙ (λ i. second_of (is_check command) (fault_line (size_is i) (fault_is i) last_packet)))
 
     cut : IsCut limits h.covers.bytes messages.items h.rest h.tells.outcome
     cut = record { messages = messages.messages; outcome_is = subst (λ (l : List ℕ). IsOutcome limits l h.tells.outcome) (sym rest_kept.0) h.tells.outcome_is }
@@ -174,10 +190,10 @@ module _ {R W E : Type 0} (r : Reading R) (w : Writing W) (e : Writing E) (asked
       first_is : first_part texts ((told ++ text) ++ closing) ≡ concat texts ++ last_of
       first_is =
           first_due command handed texts ((told ++ text) ++ closing) made
-          ∙ ap (λ l. concat texts ++ l) (ap (first_of (is_check command) []) all_due ∙ (first_line (is_check command) tally fault
-          ∙ (λ i. first_of (is_check command) [] (check_line (count_is i) (size_is i) (fault_is i)))))
+          ∙ ap (λ l. concat texts ++ l) (ap (first_of (is_check command) []) all_due ∙ (first_line last_packet (is_check command) tally fault
+          ∙ (λ i. first_of (is_check command) [] (check_line (count_is i) (size_is i) (fault_is i) last_packet))))
 
-      output : IsFirstOutput packets command messages.items last_fault (concat texts ++ last_of)
+      output : IsFirstOutput packets command messages.items last_fault last_packet (concat texts ++ last_of)
       output = record { messages = handed; placed = subst (λ (l : List Part). ArePlaced packets 1 0 l handed) messages.parts_are placed; texts = texts; each = made; joined = refl }
 
       answers : (end : ExitStatus) → Wrote w.held w.failures w.old (concat texts ++ last_of) w.new → TellsLine e line_of last_fault end → Answers r w e limits most command end
@@ -192,6 +208,8 @@ module _ {R W E : Type 0} (r : Reading R) (w : Writing W) (e : Writing E) (asked
         read_failed = h.read_failed;
         cut = cut;
         at_end = rest_kept.1;
+        packet = last_packet;
+        packet_is = packet_is;
         output = output;
         first = first;
         second = second;
@@ -208,7 +226,9 @@ module _ {R W E : Type 0} (r : Reading R) (w : Writing W) (e : Writing E) (asked
         front = λ items rest outcome other.
             let one = IsCut-one limits h.covers.bytes messages.items items h.rest rest h.tells.outcome outcome cut other in
             let all = prefix.1 ∙ (ap (λ l. l ++ prefix.0) b.front.1 ∙ append_assoc b.written b.front.0 prefix.0) in
-            transport (λ i. IsFront packets command (one.0 i) (fault_at_end (one.1 i) (one.2 i)) b.written) (concat texts ++ last_of, output, (b.front.0 ++ prefix.0, all));
+            let first : IsFront packets limits command messages.items h.rest last_fault b.written
+            = record { packet = last_packet; out = concat texts ++ last_of; output = output; prefix = (b.front.0 ++ prefix.0, all); packet_is = inr packet_is } in
+            transport (λ i. IsFront packets limits command (one.0 i) (one.1 i) (fault_at_end (one.1 i) (one.2 i)) b.written) first;
         before = tt;
         read_caused = h.read_failed;
         write_caused = b.failed;
@@ -228,13 +248,13 @@ module _ {R W E : Type 0} (r : Reading R) (w : Writing W) (e : Writing E) (asked
     Within stop = StopsWithin (taken r) (plain asked) most (is_check command) (WritesSome w (writing e.held e.failures e.old before) (plain asked) command) stop
 
     abbrev messages_of : (stop : RunStop) (s : Within stop) → AreMessages limits s.covers.bytes s.parts s.rest s.told
-    messages_of stop s = are_messages asked 1 0 s.covers.bytes s.parts s.rest s.told s.covers.begin s.covers.tells
+    messages_of stop s = are_messages packets asked 1 0 s.covers.bytes s.parts s.rest s.told s.covers.begin s.covers.tells
 
     -- nothing is told
     none_more : (cause : Cause) (s : Within (ByCause cause)) → s.more ≡ []
     none_more Memory s = elim s.all [
       | inl none ↦ none
-      | inr lacks ↦ none_last (plain asked) (length s.parts + 1) (sizes_of s.parts) lacks.0 lacks.1 s.more (lacks.4 (messages_of (ByCause Memory) s).none_passed).0 lacks.2.told
+      | inr lacks ↦ none_last (plain asked) packets (length s.parts + 1) (sizes_of s.parts) lacks.0 lacks.1 s.more (lacks.4 (messages_of (ByCause Memory) s).none_passed).0 lacks.2.told
     ]
     none_more WriteFailed s = s.all
     none_more cause s = elim s.all [ inl none ↦ none.1 | inr cut ↦ absurd (false≢true cut.4) ]
@@ -259,7 +279,7 @@ module _ {R W E : Type 0} (r : Reading R) (w : Writing W) (e : Writing E) (asked
       front = λ items rest outcome cut.
           let m = messages_of (ByCause cause) s in
           let more = BeginWith-first limits s.covers.bytes m.items items s.rest rest outcome m.messages cut.messages cut.outcome_is in
-          front_of_first packets command m.items more.0 items (fault_at_end rest outcome) s.messages s.came.texts front more.1
+          front_of_first packets limits command m.items more.0 items rest (fault_at_end rest outcome) s.messages s.came.texts front more.1
           (subst (λ (l : List Part). ArePlaced packets 1 0 l s.messages) m.parts_are s.placed) s.came.made prefix;
       before = before;
       read_caused = s.caused;

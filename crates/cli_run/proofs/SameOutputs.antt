@@ -1,13 +1,13 @@
 -- What is made and told of parts that are the same but for what was kept: the messages among them,
 -- the tally, and what is told if nothing is explained; and of the messages the texts that commands
 -- make that are the same, and exact.
-use Rattle.std.proofs.Common.{◌≡◌, ◌↔◌, ℕ, zero, suc, ◌+◌, Bool, true, false, ◌||◌, List, [], ◌∷◌, ◌++◌, map, None, Some, Option, refl, sym, ap, ◌∙◌, subst, arith, inl, inr}
+use Rattle.std.proofs.Common.{◌≡◌, ◌↔◌, ℕ, zero, suc, ◌+◌, Bool, true, false, ◌||◌, List, [], ◌∷◌, ◌++◌, drop, map, None, Some, Option, refl, sym, ap, ◌∙◌, subst, arith, inl, inr}
 use Rattle.std.specs.FinSet.{from_list}
 use Rattle.std.specs.declared.alloc.Global.{Global}
 use Rattle.dbus_count.specs.Counting.{names_of, with_names}
 use Rattle.dbus_count.specs.declared.count.Count.{Count}
 use Rattle.dbus_device.specs.Packets.{Packets}
-use Rattle.dbus_stream.specs.Cut.{CutMessage}
+use Rattle.dbus_stream.specs.Cut.{CutMessage, CutOutcome}
 use Rattle.dbus_value_model.specs.declared.fault.Fault.{Fault}
 use Rattle.dbus_value_model.specs.declared.order.Order.{Order}
 use Rattle.dbus_message_model.specs.Messages.{MessageTree}
@@ -27,12 +27,12 @@ use Rattle.cli_report.specs.declared.telling.RefusedMessage.{RefusedMessage}
 use Rattle.cli_report.specs.declared.ending.ExitStatus.TheVariants as status
 use Rattle.cli_run.specs.Learning.{ask_sender, changed, known_after}
 use Rattle.cli_run.specs.ByName.{after_messages}
-use Rattle.cli_run.specs.Inputs.{ArePlaced, Part, PassedOver, Placed, Whole}
+use Rattle.cli_run.specs.Inputs.{ArePlaced, BeginWithParts, Part, PassedOver, Placed, Whole}
 use Rattle.cli_run.specs.Output.{IsExact, IsOutputOf, IsOutputOfAll, IsTextOf, Picks, is_check, owners_after, owners_known}
 use Rattle.cli_run.specs.Going.{AreTold, IsTold, IsToldLast, passed_count, status_at, tally_of}
 use Rattle.cli_run.specs.declared.place.MessagePlace.{MessagePlace}
 use Rattle.cli_run.proofs.Outputs.{output_all_one}
-use Rattle.cli_run.proofs.SameParts.{ArePassed, AreSame, bare}
+use Rattle.cli_run.proofs.SameParts.{ArePassed, AreSame, IsKeptOf, bare, one_packet, packet_by}
 
 -- ---- parts
 
@@ -76,10 +76,10 @@ bare_tally (PassedOver kept fault size ∷ parts) =
 -- ---- what is told
 
 -- a part is passed over only if the run is to go on
-pub are_passed : (settings : Settings) (n offset : ℕ) (parts : List Part) (told : List ℕ) → AreTold settings n offset parts told → ArePassed settings.keeps_going parts
-are_passed settings n offset [] told t = tt
-are_passed settings n offset (Whole item ∷ parts) told t = are_passed settings (n + 1) (offset + item.size) parts t.1 t.4
-are_passed settings n offset (PassedOver kept fault size ∷ parts) told t = (t.3.0, are_passed settings (n + 1) (offset + size) parts t.1 t.4)
+pub are_passed : (packets : Option Packets) (settings : Settings) (n offset : ℕ) (parts : List Part) (told : List ℕ) → AreTold packets settings n offset parts told → ArePassed settings.keeps_going parts
+are_passed packets settings n offset [] told t = tt
+are_passed packets settings n offset (Whole item ∷ parts) told t = are_passed packets settings (n + 1) (offset + item.size) parts t.1 t.4
+are_passed packets settings n offset (PassedOver kept fault size ∷ parts) told t = (t.3.0, are_passed packets settings (n + 1) (offset + size) parts t.1 t.4)
 
 module _ (settings : Settings) where
   -- without explanations it is a line
@@ -87,36 +87,56 @@ module _ (settings : Settings) where
     line_is : (refusal : RefusedMessage) (kept text : List ℕ) → IsTold settings refusal kept text → text ≡ line_of settings.keeps_going refusal
     line_is refusal kept text t = subst (λ b. IsToldBy settings.keeps_going b refusal kept text) off t
 
-    bare_told : (n offset : ℕ) (parts : List Part) (text : List ℕ) → AreTold settings n offset parts text → AreTold settings n offset (bare parts) text
-    bare_told n offset [] text t = t
-    bare_told n offset (Whole item ∷ parts) text t = (t.0, t.1, t.2, t.3, bare_told (n + 1) (offset + item.size) parts t.1 t.4)
-    bare_told n offset (PassedOver kept fault size ∷ parts) text t =
-        let line = subst (λ b. IsToldBy settings.keeps_going b (record { number = n; offset = offset; fault = fault }) [] t.0) (sym off) (line_is _ kept t.0 t.3.1) in
-        (t.0, t.1, t.2, (t.3.0, line), bare_told (n + 1) (offset + size) parts t.1 t.4)
+    -- of a message with one fault, whose packet is one
+    one_line : (n m offset at : ℕ) (fault other : Fault) (packet same : Option ℕ) (kept also a b : List ℕ) → n ≡ m → offset ≡ at → fault ≡ other → packet ≡ same
+        → IsTold settings (record { number = n; offset = offset; fault = fault; packet = packet }) kept a → IsTold settings (record { number = m; offset = at; fault = other; packet = same }) also b → a ≡ b
+    one_line n m offset at fault other packet same kept also a b number place one there p q =
+        line_is _ kept a p
+        ∙ ((λ i. line_of settings.keeps_going (record { number = number i; offset = place i; fault = one i; packet = there i })) ∙ sym (line_is _ also b q))
 
-    one_told : (n offset : ℕ) (parts : List Part) (a b : List ℕ) → AreTold settings n offset parts a → AreTold settings n offset parts b → a ≡ b
-    one_told n offset [] a b p q = p ∙ sym q
-    one_told n offset (Whole item ∷ parts) a b p q = p.2 ∙ ((λ i. (p.3 ∙ sym q.3) i ++ one_told (n + 1) (offset + item.size) parts p.1 q.1 p.4 q.4 i) ∙ sym q.2)
-    one_told n offset (PassedOver kept fault size ∷ parts) a b p q =
-        let one : p.0 ≡ q.0 = line_is _ kept p.0 p.3.1 ∙ sym (line_is _ kept q.0 q.3.1) in
-        p.2 ∙ ((λ i. one i ++ one_told (n + 1) (offset + size) parts p.1 q.1 p.4 q.4 i) ∙ sym q.2)
+    module _ (all : Packets) where
+      -- parts of the same bytes are told alike
+      pub same_told : (n offset : ℕ) (bytes : List ℕ) (parts others : List Part) (rest last a b : List ℕ) → AreSame parts others → BeginWithParts settings.limits bytes parts rest
+          → BeginWithParts settings.limits bytes others last → AreTold (Some all) settings n offset parts a → AreTold (Some all) settings n offset others b → a ≡ b
+      same_told n offset bytes [] [] rest last a b same x y p q = p ∙ sym q
+      same_told n offset bytes [] (Whole item ∷ others) rest last a b same x y p q = absurd cc
+      same_told n offset bytes [] (PassedOver kept fault size ∷ others) rest last a b same x y p q = absurd cc
+      same_told n offset bytes (Whole item ∷ parts) [] rest last a b same x y p q = absurd cc
+      same_told n offset bytes (PassedOver kept fault size ∷ parts) [] rest last a b same x y p q = absurd cc
+      same_told n offset bytes (Whole item ∷ parts) (PassedOver kept fault size ∷ others) rest last a b same x y p q = absurd cc
+      same_told n offset bytes (PassedOver kept fault size ∷ parts) (Whole item ∷ others) rest last a b same x y p q = absurd cc
+      same_told n offset bytes (Whole item ∷ parts) (Whole other ∷ others) rest last a b same x y p q =
+          let one : item ≡ other = cc in
+          let more : AreSame parts others = cc in
+          let there = subst (λ (i : CutMessage). BeginWithParts settings.limits (drop i.size bytes) others last) (sym one) y.1 in
+          let told = subst (λ (i : CutMessage). AreTold (Some all) settings (n + 1) (offset + i.size) others q.1) (sym one) q.4 in
+          p.2 ∙ ((λ i. (p.3 ∙ sym q.3) i ++ same_told (n + 1) (offset + item.size) (drop item.size bytes) parts others rest last p.1 q.1 more x.1 there p.4 told i) ∙ sym q.2)
+      same_told n offset bytes (PassedOver kept fault size ∷ parts) (PassedOver also other wide ∷ others) rest last a b same x y p q =
+          let one : fault ≡ other = cc in
+          let long : size ≡ wide = cc in
+          let more : AreSame parts others = cc in
+          let there = subst (λ k. BeginWithParts settings.limits (drop k bytes) others last) (sym long) y.1 in
+          let told = subst (λ k. AreTold (Some all) settings (n + 1) (offset + k) others q.1) (sym long) q.4 in
+          let packet = one_packet settings.limits all offset bytes kept also fault other p.3.1.0 q.3.1.0 x.0.0 y.0.0 x.0.1 y.0.1 p.3.1.1 q.3.1.1 in
+          let line : p.0 ≡ q.0 = one_line n n offset offset fault other p.3.1.0 q.3.1.0 kept also p.0 q.0 refl refl one packet p.3.1.2 q.3.1.2 in
+          p.2 ∙ ((λ i. line i ++ same_told (n + 1) (offset + size) (drop size bytes) parts others rest last p.1 q.1 more x.1 there p.4 told i) ∙ sym q.2)
 
-    pub same_told : (n offset : ℕ) (parts others : List Part) (a b : List ℕ) → AreSame parts others → AreTold settings n offset parts a → AreTold settings n offset others b → a ≡ b
-    same_told n offset parts others a b same p q =
-        one_told n offset (bare others) a b (subst (λ l. AreTold settings n offset l a) same (bare_told n offset parts a p)) (bare_told n offset others b q)
-
-    pub same_last : (n offset : ℕ) (kept other : List ℕ) (fault : Option Fault) (a b : List ℕ) → IsToldLast settings n offset kept fault a → IsToldLast settings n offset other fault b → a ≡ b
-    same_last n offset kept other None a b p q = p ∙ sym q
-    same_last n offset kept other (Some fault) a b p q = line_is _ kept a p ∙ sym (line_is _ other b q)
+      -- and the rest after them
+      pub same_last : (n offset : ℕ) (w kept also : List ℕ) (outcome : CutOutcome) (fault : Option Fault) (a b : List ℕ) → IsKeptOf settings.limits outcome kept w → IsKeptOf settings.limits outcome also w
+          → IsToldLast (Some all) settings n offset kept fault a → IsToldLast (Some all) settings n offset also fault b → a ≡ b
+      same_last n offset w kept also outcome None a b x y p q = p ∙ sym q
+      same_last n offset w kept also outcome (Some fault) a b x y p q =
+          one_line n n offset offset fault fault p.0 q.0 kept also a b refl refl refl (packet_by settings.limits all offset w kept also outcome p.0 q.0 x y p.1 q.1) p.2 q.2
 
   -- nothing is told where nothing is refused
-  pub none_told : (n offset : ℕ) (parts : List Part) (a : List ℕ) → passed_count parts ≡ 0 → AreTold settings n offset parts a → a ≡ []
-  none_told n offset [] a none p = p
-  none_told n offset (Whole x ∷ parts) a none p = p.2 ∙ (λ i. p.3 i ++ none_told (n + 1) (offset + x.size) parts p.1 none p.4 i)
-  none_told n offset (PassedOver k f m ∷ parts) a none p = absurd (omega (arith, none))
+  module _ (packets : Option Packets) where
+    pub none_told : (n offset : ℕ) (parts : List Part) (a : List ℕ) → passed_count parts ≡ 0 → AreTold packets settings n offset parts a → a ≡ []
+    none_told n offset [] a none p = p
+    none_told n offset (Whole x ∷ parts) a none p = p.2 ∙ (λ i. p.3 i ++ none_told (n + 1) (offset + x.size) parts p.1 none p.4 i)
+    none_told n offset (PassedOver k f m ∷ parts) a none p = absurd (omega (arith, none))
 
-  pub none_last : (n offset : ℕ) (kept : List ℕ) (fault : Option Fault) (a : List ℕ) → fault ≡ None → IsToldLast settings n offset kept fault a → a ≡ []
-  none_last n offset kept fault a none p = subst (λ (f : Option Fault). IsToldLast settings n offset kept f a) none p
+    pub none_last : (n offset : ℕ) (kept : List ℕ) (fault : Option Fault) (a : List ℕ) → fault ≡ None → IsToldLast packets settings n offset kept fault a → a ≡ []
+    none_last n offset kept fault a none p = subst (λ (f : Option Fault). IsToldLast packets settings n offset kept f a) none p
 
 pub none_refused : (passed : ℕ) (fault : Option Fault) → status_at passed fault ≡ status.Done → (passed ≡ 0) × (fault ≡ None)
 none_refused zero None e = (refl, refl)

@@ -1,8 +1,10 @@
 -- An input has one list of parts, and one rest after them that ends a run; but what was kept of a
 -- part that is passed over is as much as happened to be read.
-use Rattle.std.proofs.Common.{◌≡◌, ℕ, ◌≤◌, Bool, true, List, [], ◌∷◌, ◌++◌, length, drop, take, refl, sym, ap, ◌∙◌, subst, arith, append-nil, append_assoc, inl, inr, take-append-drop}
+use Rattle.std.proofs.Common.{◌≡◌, ℕ, ◌-◌, ◌<◌, ◌≤◌, Bool, true, List, [], ◌∷◌, ◌++◌, Option, Some, length, drop, take, refl, sym, ap, ◌∙◌, subst, arith, append-nil, append_assoc, inl, inr, take-append-drop}
 use Rattle.std.proofs.lemmas.Bool.{cases_lt}
-use Rattle.std.proofs.lemmas.List.{length-take, length-take-le, take_all, take-take}
+use Rattle.std.proofs.lemmas.List.{length-take, length-take-le, take_all, take_at, take-append-le, take-take}
+use Rattle.dbus_device.specs.Packets.{Packets}
+use Rattle.dbus_device.specs.declared.packet.Packet.{Packet}
 use Rattle.dbus_value_model.specs.ByteNumbers.{IsBytes}
 use Rattle.dbus_value_model.proofs.Numbers.{IsBytes-front}
 use Rattle.dbus_value_model.specs.declared.fault.Fault.{Fault}
@@ -19,10 +21,13 @@ use Rattle.dbus_header.proofs.OutcomeLaws.{not_both, nothing_partial, one_fault,
 use Rattle.dbus_header.proofs.StatedLengths.{header_faulty, header_partial, header_short, header_states, one_stated}
 use Rattle.dbus_stream.specs.Cut.{CutMessage, CutOutcome, Ended, Unfinished, Refused, IsOutcome}
 use Rattle.dbus_stream.specs.CutEnds.{fault_at_end}
+use Rattle.dbus_stream.specs.Packets.{ShowsIn}
 use Rattle.dbus_stream.specs.Passing.{StatesAll}
+use Rattle.dbus_stream.proofs.FaultPackets.{partial_take}
 use Rattle.dbus_stream.proofs.PassSteps.{states_front}
 use Rattle.cli_report.specs.Gathering.{IsPrefixTo}
 use Rattle.cli_run.specs.Inputs.{BeginWithParts, IsLast, IsPart, Part, PassedOver, Whole}
+use Rattle.cli_run.specs.Refusals.{IsRefusedIn, number_of}
 use Rattle.dbus_stream.proofs.MessageEnds.{partial_short, refused_reason}
 
 -- parts but for what was kept
@@ -33,6 +38,68 @@ bare (PassedOver kept fault n ∷ parts) = PassedOver [] fault n ∷ bare parts
 
 abbrev pub AreSame : List Part → List Part → Type 0
 AreSame parts others = bare parts ≡ bare others
+
+-- what was kept of the rest when it was found that nothing follows
+abbrev pub IsKeptOf : Limits → CutOutcome → (kept w : List ℕ) → Type 0
+IsKeptOf limits (Refused fault) kept w = IsPrefixTo kept w × IsRefused limits kept fault
+IsKeptOf limits outcome kept w = kept ≡ w
+
+-- ---- one packet
+
+-- the packet of a byte that both have
+both_have : (all : Packets) (limits : Limits) (offset : ℕ) (kept also : List ℕ) (one other : Option Packet) (i : ℕ) → (s : ShowsIn all limits offset kept one) → (t : ShowsIn all limits offset also other)
+    → s.before ≤ i → i < length kept → t.before ≤ i → i < length also → one ≡ other
+both_have all limits offset kept also one other i s t from there after too = sym (s.in_packet i from there) ∙ t.in_packet i after too
+
+-- the number of one packet, or of none
+same_number : (one other : Option Packet) (p q : Option ℕ) → p ≡ number_of one → q ≡ number_of other → one ≡ other → p ≡ q
+same_number one other p q is too same = is ∙ (ap number_of same ∙ sym too)
+
+module _ (limits : Limits) (all : Packets) (offset : ℕ) where
+  packet_of_both : (kept : List ℕ) (p q : Option ℕ) → IsRefusedIn (Some all) limits offset kept p → IsRefusedIn (Some all) limits offset kept q → p ≡ q
+  packet_of_both kept p q x y =
+      let first = x.1.some in
+      let second = y.1.some in
+      same_number x.0 y.0 p q x.2 y.2
+      (both_have all limits offset kept kept x.0 y.0 (length kept - 1) x.1 y.1 (omega (arith, first)) (omega (arith, first)) (omega (arith, second)) (omega (arith, first)))
+
+  -- of bytes that are refused the last one is not among the first of more that show no fault
+  last_later : (kept also w : List ℕ) (fault : Fault) (n : ℕ) → IsPrefixTo kept w → IsPrefixTo also w → length kept ≤ length also → IsRefused limits kept fault → IsPartial limits (take n also) → n < length kept
+  last_later kept also w fault n x y less refused unshown = elim (cases_lt n (length kept)) [
+    | inl before ↦ before
+    | inr after ↦ (
+        let m = length kept in
+        let front : kept ≡ take m also = sym (take_at kept x.0 m refl) ∙ (ap (take m) (sym x.1 ∙ y.1) ∙ take-append-le m also y.0 less) in
+        let both : take m (take n also) ≡ take m also = take-take m n also after in
+        let partial = subst (λ l. IsPartial limits l) (both ∙ sym front) (partial_take limits m (take n also) unshown) in
+        absurd ((one_outcome limits kept).2 fault refused partial)
+        )
+  ]
+
+  -- however much was kept of bytes that are refused, their fault is of one packet
+  pub one_packet : (w kept also : List ℕ) (fault other : Fault) (p q : Option ℕ) → IsPrefixTo kept w → IsPrefixTo also w → IsRefused limits kept fault → IsRefused limits also other
+      → IsRefusedIn (Some all) limits offset kept p → IsRefusedIn (Some all) limits offset also q → p ≡ q
+  one_packet w kept also fault other p q x y one too s t =
+      let first = s.1.some in
+      let second = t.1.some in
+      let same = same_number s.0 t.0 p q s.2 t.2 in
+      elim (cases_lt (length kept) (length also)) [
+        | inl less ↦ (
+            let le : length kept ≤ length also = omega (arith, less) in
+            let later = last_later kept also w fault t.1.before x y le one t.1.unshown in
+            same (both_have all limits offset kept also s.0 t.0 (length kept - 1) s.1 t.1 (omega (arith, first)) (omega (arith, first)) (omega (arith, later)) (omega (arith, first, less)))
+            )
+        | inr more ↦ (
+            let later = last_later also kept w other s.1.before y x more too s.1.unshown in
+            same (both_have all limits offset kept also s.0 t.0 (length also - 1) s.1 t.1 (omega (arith, later)) (omega (arith, second, more)) (omega (arith, second)) (omega (arith, second)))
+            )
+      ]
+
+  -- and so is that of the rest, if it has one
+  pub packet_by : (w kept also : List ℕ) (outcome : CutOutcome) (p q : Option ℕ) → IsKeptOf limits outcome kept w → IsKeptOf limits outcome also w → IsRefusedIn (Some all) limits offset kept p
+      → IsRefusedIn (Some all) limits offset also q → p ≡ q
+  packet_by w kept also (Refused fault) p q x y s t = one_packet w kept also fault fault p q x.0 y.0 x.1 y.1 s t
+  packet_by w kept also outcome p q x y s t = packet_of_both kept p q s (subst (λ (l : List ℕ). IsRefusedIn (Some all) limits offset l q) (y ∙ sym x) t)
 
 -- if any is passed over, the run goes on
 abbrev pub ArePassed : (goes_on : Bool) → List Part → Type 0
@@ -140,6 +207,7 @@ module _ (limits : Limits) where
 
   pub ends_here : (goes_on : Bool) (kept rest more : List ℕ) (outcome : CutOutcome) (at_end : Type 0) → (at_end → more ≡ []) → IsBytes (rest ++ more)
       → IsOutcome limits kept outcome → IsLast goes_on limits kept rest outcome at_end → EndsHere goes_on (rest ++ more) outcome × (fault_at_end kept outcome ≡ fault_at_end (rest ++ more) outcome)
+      × IsKeptOf limits outcome kept (rest ++ more)
   ends_here goes_on kept rest more Ended at_end none bytes o last =
       let all : rest ++ more ≡ kept = (λ i. last.0 i ++ none last.1 i) ∙ append-nil kept in (
         record {
@@ -147,12 +215,14 @@ module _ (limits : Limits) where
           none_passed = λ fault n refused goes s le. (one_outcome limits (rest ++ more)).2 fault refused (subst (λ l. IsPartial limits l) (sym (all ∙ o)) (nothing_partial limits));
         },
         refl,
+        sym all,
       )
   ends_here goes_on kept rest more Unfinished at_end none bytes o last =
       let all : rest ++ more ≡ kept = (λ i. last.0 i ++ none last.1 i) ∙ append-nil kept in
       let same = subst (λ l. IsOutcome limits l Unfinished) (sym all) o in (
         record { outcome_is = same; none_passed = λ fault n refused goes s le. (one_outcome limits (rest ++ more)).2 fault refused same.1 },
         ap (λ l. fault_at_end l Unfinished) (sym all),
+        sym all,
       )
   ends_here goes_on kept rest more (Refused fault) at_end none bytes o last = elim last [
     | inl all ↦ (
@@ -164,6 +234,7 @@ module _ (limits : Limits) where
                 (states_all kept more fault n kept_bytes o (subst (λ l. StatesLength limits l n) same s));
           },
           refl,
+          ((more, same), o),
         )
         )
     | inr cut ↦ (
@@ -178,6 +249,7 @@ module _ (limits : Limits) where
                 omega (arith, le, size, long, short);
           },
           refl,
+          (front, o),
         )
         )
   ]

@@ -1,5 +1,5 @@
 -- Two runs that read the same input, and do not fail, end alike.
-use Rattle.std.proofs.Common.{◌≡◌, ℕ, ◌+◌, Bool, false, List, [], ◌∷◌, ◌++◌, length, drop, take, None, Some, Option, Result, Ok, Err, refl, sym, ap, ◌∙◌, subst, inl, inr, take-append-drop, ◌≢◌}
+use Rattle.std.proofs.Common.{◌≡◌, ◌⊎◌, ℕ, ◌+◌, Bool, false, List, [], ◌∷◌, ◌++◌, length, drop, take, None, Some, Option, Result, Ok, Err, refl, sym, ap, ◌∙◌, subst, inl, inr, take-append-drop, ◌≢◌}
 use Rattle.std.proofs.Math.Path.{transport}
 use Rattle.std.specs.Io.KnownBytes.{Consumes, IsAtEnd}
 use Rattle.dbus_device.specs.Device.{Wrote}
@@ -16,22 +16,23 @@ use Rattle.dbus_stream.specs.Cut.{IsOutcome, BeginWith, CutMessage, CutOutcome, 
 use Rattle.dbus_stream.specs.CutEnds.{fault_at_end, sizes}
 use Rattle.dbus_stream.proofs.CutLaws.{IsCut-one, BeginWith-more}
 use Rattle.cli_options.specs.declared.settings.Settings.{Settings}
-use Rattle.cli_report.specs.Devices.{Taken, Writing, taken, writing}
+use Rattle.cli_report.specs.Devices.{Reading, Taken, Writing, taken, writing}
 use Rattle.cli_report.specs.declared.ending.Cause.{Cause}
 use Rattle.cli_report.specs.declared.ending.ExitStatus.{ExitStatus}
 use Rattle.cli_report.specs.declared.ending.ExitStatus.TheVariants as status
-use Rattle.cli_run.specs.Laws.{ExplainsNone, OneCalls, OneCount, OneRun, OneWithin}
+use Rattle.cli_run.specs.Laws.{AreToldAlike, ExplainsNone, OneCalls, OneCount, OneRun, OneWithin}
 use Rattle.cli_run.specs.ByName.{EndsBy, WritesTables, counting}
 use Rattle.cli_run.specs.CallListing.{WritesCalls, numbered}
-use Rattle.cli_run.specs.Going.{GoesThrough, IsThrough, IsToldLast, closing_line, passed_count, status_at, tally_of}
+use Rattle.cli_run.specs.Going.{AreTold, GoesThrough, IsThrough, IsToldLast, closing_line, passed_count, status_at, tally_of}
 use Rattle.cli_run.specs.Inputs.{ArePlaced, BeginWithParts, Part, Placed, size_of, sizes_of, wholes}
 use Rattle.cli_run.specs.Output.{is_check, check_line, fault_line, last_line, second_output, status_of, written}
+use Rattle.cli_run.specs.Refusals.{IsFaultIn}
 use Rattle.cli_run.specs.Running.{Writes, TellsLine}
 use Rattle.cli_run.specs.Told.{first_of, second_of}
 use Rattle.cli_run.specs.declared.tally.Tally.{Tally}
 use Rattle.cli_run.proofs.PartLaws.{is_last, parts_more, parts_of}
 use Rattle.cli_run.proofs.SameOutputs.{acts_as, are_passed, bare_placed, bare_tally, none_last, none_refused, none_told, one_placed, same_counts, same_last, same_outputs, same_told}
-use Rattle.cli_run.proofs.SameParts.{AreSame, EndsHere, bare, ends_here, same_parts}
+use Rattle.cli_run.proofs.SameParts.{AreSame, EndsHere, IsKeptOf, bare, ends_here, packet_by, same_parts}
 use Rattle.std.specs.List.{concat}
 
 -- ---- what a run reads is the input up to where it ends
@@ -47,12 +48,20 @@ parts_bytes limits bytes (part ∷ parts) rest b are =
     let n = size_of part in
     parts_bytes limits (drop n bytes) parts rest b.1 (IsBytes-rest bytes (take n bytes) (drop n bytes) (sym (take-append-drop n bytes)) are)
 
+-- both inputs are of the same packets, or nothing is refused
+abbrev AreTakenAlike : Taken → Taken → ExitStatus → Type 0
+AreTakenAlike t u end = ((all : Packets) × (t.packets ≡ Some all) × (u.packets ≡ Some all)) ⊎ (end ≡ status.Done)
+
+taken_alike : {R S : Type 0} (r : Reading R) (s : Reading S) (end due : ExitStatus) → due ≡ end → AreToldAlike r s end → AreTakenAlike (taken r) (taken s) due
+taken_alike r s end due is told = elim told [ inl packets ↦ inl (packets.all, packets.one, packets.same) | inr done ↦ inr (is ∙ done) ]
+
 module _ (settings : Settings) (is_check : Bool) (input : List ℕ) (bytes : IsBytes input) where
   record IsReached {t : Taken} {most : ℕ} {tally : Tally} {fault : Option Fault} {told text : List ℕ} (h : IsThrough t settings most is_check tally fault told text) : Type 0 where
     last : List ℕ
     begin : BeginWithParts settings.limits input h.parts last
     ends : EndsHere settings.limits settings.keeps_going last h.tells.outcome
     fault_is : fault ≡ fault_at_end last h.tells.outcome
+    kept_is : IsKeptOf settings.limits h.tells.outcome h.kept last
 
   reached : {t : Taken} {most : ℕ} {tally : Tally} {fault : Option Fault} {told text : List ℕ} (h : IsThrough t settings most is_check tally fault told text) → t.left0 ≡ Some input → IsReached h
   reached {t} h known =
@@ -61,12 +70,12 @@ module _ (settings : Settings) (is_check : Bool) (input : List ℕ) (bytes : IsB
       let begin = subst (λ l. BeginWithParts settings.limits l h.parts last) (sym after.2) (parts_more settings.limits h.covers.bytes h.parts h.rest after.0 h.covers.begin) in
       let none : IsAtEnd t.left1 → after.0 ≡ [] = λ e. subst IsAtEnd after.1 e in
       let all = ends_here settings.limits settings.keeps_going h.kept h.rest after.0 h.tells.outcome (IsAtEnd t.left1) none (parts_bytes settings.limits input h.parts last begin bytes) h.tells.outcome_is h.last in
-      record { last = last; begin = begin; ends = all.0; fault_is = h.tells.fault_is ∙ all.1 }
+      record { last = last; begin = begin; ends = all.0; fault_is = h.tells.fault_is ∙ all.1; kept_is = all.2 }
 
   -- ---- two runs
 
   module _ {t u : Taken} {most more : ℕ} {P Q : List Placed → (told : List ℕ) → Type 0} {end other : ExitStatus} (g : GoesThrough t settings most is_check P end) (h : GoesThrough u settings more is_check Q other)
-      (explains : ExplainsNone settings end) (known : t.left0 ≡ Some input) (known_too : u.left0 ≡ Some input) where
+      (explains : ExplainsNone settings end) (known : t.left0 ≡ Some input) (known_too : u.left0 ≡ Some input) (alike : AreTakenAlike t u end) where
     a : IsReached g.through
     a = reached g.through known
 
@@ -75,7 +84,7 @@ module _ (settings : Settings) (is_check : Bool) (input : List ℕ) (bytes : IsB
 
     same : AreSame g.through.parts h.through.parts × (a.last ≡ b.last)
     same = same_parts settings.limits settings.keeps_going input g.through.parts h.through.parts a.last b.last g.through.tells.outcome h.through.tells.outcome a.begin b.begin
-        (are_passed settings 1 0 g.through.parts g.told g.through.covers.tells) (are_passed settings 1 0 h.through.parts h.told h.through.covers.tells) a.ends b.ends
+        (are_passed t.packets settings 1 0 g.through.parts g.told g.through.covers.tells) (are_passed u.packets settings 1 0 h.through.parts h.told h.through.covers.tells) a.ends b.ends
 
     outcome_is : g.through.tells.outcome ≡ h.through.tells.outcome
     outcome_is =
@@ -91,26 +100,37 @@ module _ (settings : Settings) (is_check : Bool) (input : List ℕ) (bytes : IsB
     tally_is : g.tally ≡ h.tally
     tally_is = g.through.tally_is ∙ (parts_tally ∙ sym h.through.tally_is)
 
-    told_last : IsToldLast settings (length g.through.parts + 1) (sizes_of g.through.parts) h.through.kept g.fault h.text
-    told_last = transport (λ i. let t = sym parts_tally i in IsToldLast settings (t.count + 1) t.size h.through.kept (sym fault_is i) h.text) h.through.tells.told
+    told_last : IsToldLast u.packets settings (length g.through.parts + 1) (sizes_of g.through.parts) h.through.kept g.fault h.text
+    told_last = transport (λ i. let t = sym parts_tally i in IsToldLast u.packets settings (t.count + 1) t.size h.through.kept (sym fault_is i) h.text) h.through.tells.told
+
+    -- nothing is refused
+    none_is : end ≡ status.Done → g.told ++ g.text ≡ h.told ++ h.text
+    none_is done =
+        let none = none_refused g.tally.passed g.fault (sym g.end_is ∙ done) in
+        let passed : passed_count g.through.parts ≡ 0 = ap (λ (t : Tally). t.passed) (sym g.through.tally_is) ∙ none.0 in
+        let passed_too : passed_count h.through.parts ≡ 0 = ap (λ (t : Tally). t.passed) (sym parts_tally) ∙ passed in
+        let first = none_told settings t.packets 1 0 g.through.parts g.told passed g.through.covers.tells in
+        let first_too = none_told settings u.packets 1 0 h.through.parts h.told passed_too h.through.covers.tells in
+        let last = none_last settings t.packets (length g.through.parts + 1) (sizes_of g.through.parts) g.through.kept g.fault g.text none.1 g.through.tells.told in
+        let last_too = none_last settings u.packets (length g.through.parts + 1) (sizes_of g.through.parts) h.through.kept g.fault h.text none.1 told_last in
+        (λ i. first i ++ last i) ∙ sym (λ i. first_too i ++ last_too i)
+
+    -- or what is refused is of the same packets, and is not explained
+    line_is : settings.explains ≡ false → (all : Packets) → t.packets ≡ Some all → u.packets ≡ Some all → g.told ++ g.text ≡ h.told ++ h.text
+    line_is off all one too =
+        let parts = subst (λ (p : Option Packets). AreTold p settings 1 0 g.through.parts g.told) one g.through.covers.tells in
+        let parts_too = subst (λ (p : Option Packets). AreTold p settings 1 0 h.through.parts h.told) too h.through.covers.tells in
+        let first = same_told settings off all 1 0 input g.through.parts h.through.parts a.last b.last g.told h.told same.0 a.begin b.begin parts parts_too in
+        let text = subst (λ (p : Option Packets). IsToldLast p settings (length g.through.parts + 1) (sizes_of g.through.parts) g.through.kept g.fault g.text) one g.through.tells.told in
+        let text_too = subst (λ (p : Option Packets). IsToldLast p settings (length g.through.parts + 1) (sizes_of g.through.parts) h.through.kept g.fault h.text) too told_last in
+        let kept = transport (λ i. IsKeptOf settings.limits (sym outcome_is i) h.through.kept (sym same.1 i)) b.kept_is in
+        let last = same_last settings off all (length g.through.parts + 1) (sizes_of g.through.parts) a.last g.through.kept h.through.kept g.through.tells.outcome g.fault g.text h.text a.kept_is kept text text_too in
+        λ i. first i ++ last i
 
     told_is : g.told ++ g.text ≡ h.told ++ h.text
     told_is = elim explains [
-      | inl off ↦ (
-          let first = same_told settings off 1 0 g.through.parts h.through.parts g.told h.told same.0 g.through.covers.tells h.through.covers.tells in
-          let last = same_last settings off (length g.through.parts + 1) (sizes_of g.through.parts) g.through.kept h.through.kept g.fault g.text h.text g.through.tells.told told_last in
-          λ i. first i ++ last i
-          )
-      | inr done ↦ (
-          let none = none_refused g.tally.passed g.fault (sym g.end_is ∙ done) in
-          let passed : passed_count g.through.parts ≡ 0 = ap (λ (t : Tally). t.passed) (sym g.through.tally_is) ∙ none.0 in
-          let passed_too : passed_count h.through.parts ≡ 0 = ap (λ (t : Tally). t.passed) (sym parts_tally) ∙ passed in
-          let first = none_told settings 1 0 g.through.parts g.told passed g.through.covers.tells in
-          let first_too = none_told settings 1 0 h.through.parts h.told passed_too h.through.covers.tells in
-          let last = none_last settings (length g.through.parts + 1) (sizes_of g.through.parts) g.through.kept g.fault g.text none.1 g.through.tells.told in
-          let last_too = none_last settings (length g.through.parts + 1) (sizes_of g.through.parts) h.through.kept g.fault h.text none.1 told_last in
-          (λ i. first i ++ last i) ∙ sym (λ i. first_too i ++ last_too i)
-          )
+      | inl off ↦ elim alike [ inl packets ↦ line_is off packets.0 packets.1 packets.2 | inr done ↦ none_is done ]
+      | inr done ↦ none_is done
     ]
 
     goes_alike : (told : List ℕ) × P g.messages told × Q h.messages told × (other ≡ end) × (parts : List Part) × ArePlaced t.packets 1 0 parts g.messages × ArePlaced u.packets 1 0 parts h.messages
@@ -136,7 +156,7 @@ one_run R S W V E F r s w v e f settings most more command copy end other same i
         let checks = acts.checks in
         let input = is.input in
         let k = subst (λ c. GoesThrough (taken s) settings more c (Writes v f settings copy) other) (sym checks) h in
-        let all = goes_alike settings (is_check command) input.0 input.1 g k is.explains input.2 input.3 in
+        let all = goes_alike settings (is_check command) input.0 input.1 g k is.explains input.2 input.3 (taken_alike r s end end refl is.told) in
         let told = all.0 in (
           λ packets.
               let here = subst (λ (p : Option Packets). ArePlaced p 1 0 all.4 g.messages) packets.one all.5 in
@@ -175,7 +195,7 @@ one_count R S W V E F one_table r s w v e f settings form most more end other is
         let input = is.input in
         let due = (ended (WritesTables w form _) (writing e.held e.failures g.before e.new) g.due end is.done g.through.came.1).2 in
         let explains = due_explains settings g.due end due is.explains in
-        let all = goes_alike settings false input.0 input.1 g.through h.through explains input.2 input.3 in
+        let all = goes_alike settings false input.0 input.1 g.through h.through explains input.2 input.3 (taken_alike r s end g.due (sym due) is.told) in
         let told = all.0 in
         let items = g.through.messages in
         let also = h.through.messages in
@@ -208,7 +228,7 @@ one_calls R S W V E F r s w v e f settings wanted most more end other is packets
         let also = h.through.messages in
         let due = (ended (WritesCalls w wanted items) (writing e.held e.failures g.before e.new) g.due end is.done g.through.came.1).2 in
         let explains = due_explains settings g.due end due is.explains in
-        let all = goes_alike settings false input.0 input.1 g.through h.through explains input.2 input.3 in
+        let all = goes_alike settings false input.0 input.1 g.through h.through explains input.2 input.3 (taken_alike r s end g.due (sym due) is.told) in
         let told = all.0 in
         let one = ended (WritesCalls w wanted items) (writing e.held e.failures g.before e.new) g.due end is.done all.1.1 in
         let too = ended (WritesCalls v wanted also) (writing f.held f.failures h.before f.new) h.due other is.other_done all.2.1 in
@@ -236,7 +256,7 @@ one_calls R S W V E F r s w v e f settings wanted most more end other is packets
 
 whole_cut : (limits : Limits) (input bytes rest : List ℕ) (left0 left1 : Option (List ℕ)) (items : List CutMessage) (outcome : CutOutcome) → left0 ≡ Some input → IsBytes input → Consumes left0 left1 bytes
     → IsCut limits bytes items rest outcome → (((f : Fault) → outcome ≡ Refused f → ⊥) → IsAtEnd left1)
-    → (last : List ℕ) × IsCut limits input items last outcome × (fault_at_end rest outcome ≡ fault_at_end last outcome)
+    → (last : List ℕ) × IsCut limits input items last outcome × (fault_at_end rest outcome ≡ fault_at_end last outcome) × IsKeptOf limits outcome rest last
 whole_cut limits input bytes rest left0 left1 items outcome known are consumed cut at_end =
     let after = left_over left0 left1 input bytes known consumed in
     let last = rest ++ after.0 in
@@ -244,14 +264,34 @@ whole_cut limits input bytes rest left0 left1 items outcome known are consumed c
     let all = parts_bytes limits input (wholes items) last (parts_of limits input items last begin) are in
     let none : IsAtEnd left1 → after.0 ≡ [] = λ e. subst IsAtEnd after.1 e in
     let ends = ends_here limits false rest rest after.0 outcome (IsAtEnd left1) none all cut.outcome_is (is_last false limits rest outcome (IsAtEnd left1) refl at_end) in
-    (last, record { messages = begin; outcome_is = ends.0.outcome_is }, ends.1)
+    (last, record { messages = begin; outcome_is = ends.0.outcome_is }, ends.1, ends.2)
+
+-- the lines of a fault are the same if its packet is
+lines_alike : (count size : ℕ) (fault : Option Fault) (p q : Option ℕ) → ((f : Fault) → fault ≡ Some f → p ≡ q)
+    → (check_line count size fault p ≡ check_line count size fault q) × (fault_line size fault p ≡ fault_line size fault q)
+lines_alike count size None p q one = (refl, refl)
+lines_alike count size (Some fault) p q one = let is = one fault refl in (ap (check_line count size (Some fault)) is, ap (fault_line size (Some fault)) is)
+
+-- what has a fault is refused
+not_done : (fault : Option Fault) (f : Fault) (end : ExitStatus) → fault ≡ Some f → end ≡ status_of fault → end ≡ status.Done → ⊥
+not_done None f end is by done = absurd cc
+not_done (Some fault) f end is by done = let never : status.Refused ≡ status.Done = sym by ∙ done in absurd cc
+
+-- the fault of the rest is of one packet
+packets_alike : (limits : Limits) (all : Packets) (packets others : Option Packets) (w rest last : List ℕ) (size long : ℕ) (outcome ending : CutOutcome) (fault because : Option Fault) (f : Fault) (p q : Option ℕ)
+    → packets ≡ Some all → others ≡ Some all → long ≡ size → ending ≡ outcome → fault ≡ Some f → because ≡ Some f → IsKeptOf limits outcome rest w → IsKeptOf limits ending last w
+    → IsFaultIn packets limits size rest fault p → IsFaultIn others limits long last because q → p ≡ q
+packets_alike limits all packets others w rest last size long outcome ending fault because f p q one too place same is by kept also x y =
+    let here = transport (λ i. IsFaultIn (one i) limits size rest (is i) p) x in
+    let there = transport (λ i. IsFaultIn (too i) limits (place i) last (by i) q) y in
+    packet_by limits all size w rest last outcome p q kept (subst (λ (o : CutOutcome). IsKeptOf limits o last w) same also) here there
 
 told_line : {E : Type 0} (e : Writing E) (line : List ℕ) (fault : Option Fault) (end : ExitStatus) → end ≢ status.Failed → TellsLine e line fault end
     → Wrote e.held e.failures e.old line e.new × (end ≡ status_of fault)
 told_line e line fault end done tells = elim tells [ inl all ↦ all | inr some ↦ absurd (done some.2) ]
 
 pub one_within : (R S W V E F : Type 0) → OneWithin R S W V E F
-one_within R S W V E F r s w v e f limits most more command copy end other same exact input done other_done runs ran = elim runs [
+one_within R S W V E F r s w v e f limits most more command copy end other same exact input alike done other_done runs ran = elim runs [
   | inl a ↦ elim ran [
     | inl b ↦ (
         let acts = acts_as command copy same in
@@ -262,17 +302,25 @@ one_within R S W V E F r s w v e f limits most more command copy end other same 
         let there = subst (λ (l : List CutMessage). ArePlaced (s.packets s.old) 1 0 (wholes l) b.output.messages) (sym cut.0) b.output.placed in
         let texts = same_outputs command copy acts exact (r.packets r.old) (s.packets s.old) (wholes a.items) a.output.messages b.output.messages a.output.texts b.output.texts a.output.placed there
         a.output.each b.output.each in
-        let last : last_line command (length a.items) (sizes a.items) (fault_at_end a.rest a.outcome) ≡ last_line copy (length b.items) (sizes b.items) (fault_at_end b.rest b.outcome)
-        = λ i. first_of (acts.checks i) [] (check_line (length (cut.0 i)) (sizes (cut.0 i)) (fault i)) in
-        let out : a.out ≡ b.out = a.output.joined ∙ ((λ i. concat (texts i) ++ last i) ∙ sym b.output.joined) in
-        let line : second_output command (sizes a.items) (fault_at_end a.rest a.outcome) ≡ second_output copy (sizes b.items) (fault_at_end b.rest b.outcome)
-        = λ i. second_of (acts.checks i) (fault_line (sizes (cut.0 i)) (fault i)) in
         let told = told_line e _ _ end done a.second in
         let told_too = told_line f _ _ other other_done b.second in
+        let size : sizes b.items ≡ sizes a.items = ap sizes (sym cut.0) in
+        let kept_too = subst (λ (l : List ℕ). IsKeptOf limits b.outcome b.rest l) (sym cut.1) too.3 in
+        let packet : (why : Fault) → fault_at_end a.rest a.outcome ≡ Some why → a.packet ≡ b.packet = λ why is. elim alike [
+          | inl both ↦ packets_alike limits both.all (r.packets r.old) (s.packets s.old) one.0 a.rest b.rest (sizes a.items) (sizes b.items) a.outcome b.outcome (fault_at_end a.rest a.outcome) (fault_at_end b.rest b.outcome) why
+              a.packet b.packet both.one both.same size (sym cut.2) is (sym fault ∙ is) one.3 kept_too a.packet_is b.packet_is
+          | inr all ↦ absurd (not_done (fault_at_end a.rest a.outcome) why end is told.1 all)
+        ] in
+        let lines = lines_alike (length a.items) (sizes a.items) (fault_at_end a.rest a.outcome) a.packet b.packet packet in
+        let last : last_line command (length a.items) (sizes a.items) (fault_at_end a.rest a.outcome) a.packet ≡ last_line copy (length b.items) (sizes b.items) (fault_at_end b.rest b.outcome) b.packet
+        = ap (first_of (is_check command) []) lines.0 ∙ (λ i. first_of (acts.checks i) [] (check_line (length (cut.0 i)) (sizes (cut.0 i)) (fault i) b.packet)) in
+        let out : a.out ≡ b.out = a.output.joined ∙ ((λ i. concat (texts i) ++ last i) ∙ sym b.output.joined) in
+        let line : second_output command (sizes a.items) (fault_at_end a.rest a.outcome) a.packet ≡ second_output copy (sizes b.items) (fault_at_end b.rest b.outcome) b.packet
+        = ap (second_of (is_check command)) lines.1 ∙ (λ i. second_of (acts.checks i) (fault_line (sizes (cut.0 i)) (fault i) b.packet)) in
         record {
           status_is = told_too.1 ∙ (ap status_of (sym fault) ∙ sym told.1);
           first = (a.out, a.first, subst (λ l. Wrote v.held v.failures v.old l v.new) (sym out) b.first);
-          second = (second_output command (sizes a.items) (fault_at_end a.rest a.outcome), told.0, subst (λ l. Wrote f.held f.failures f.old l f.new) (sym line) told_too.0);
+          second = (second_output command (sizes a.items) (fault_at_end a.rest a.outcome) a.packet, told.0, subst (λ l. Wrote f.held f.failures f.old l f.new) (sym line) told_too.0);
         }
         )
     | inr gave_up ↦ absurd (other_done gave_up.failed)

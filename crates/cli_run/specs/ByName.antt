@@ -96,9 +96,9 @@ stopped_by count size (Reader fault) = ended_by count size fault
 stopped_by count size Writer = Err WriteFailed
 
 -- by settings that ask for no more all messages were counted, up to the end of the input or a
--- fault, and the line of the fault is due; or reading was given up. most is how many reads may be
--- made
-abbrev pub Tallies : Taken → Settings → (most : ℕ) → Result Counted Cause → Type 0
-Tallies t settings most (Ok counted) =
-    IsThrough t settings most true (record { count = counted.count; size = counted.size; passed = 0; passed_size = 0 }) counted.fault [] (fault_line counted.size counted.fault)
-Tallies t settings most (Err cause) = StopsWithin t settings most true (λ items told stop. IsUnwritten stop × (told ≡ [])) (ByCause cause)
+-- fault, and the line of the fault is due, with this packet; or reading was given up. most is how
+-- many reads may be made
+abbrev pub Tallies : Taken → Settings → (most : ℕ) → (packet : Option ℕ) → Result Counted Cause → Type 0
+Tallies t settings most packet (Ok counted) =
+    IsThrough t settings most true (record { count = counted.count; size = counted.size; passed = 0; passed_size = 0 }) counted.fault [] (fault_line counted.size counted.fault packet)
+Tallies t settings most packet (Err cause) = StopsWithin t settings most true (λ items told stop. IsUnwritten stop × (told ≡ [])) (ByCause cause)

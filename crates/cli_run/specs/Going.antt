@@ -11,6 +11,7 @@ use Rattle.cli_report.specs.declared.ending.ExitStatus.{ExitStatus}
 use Rattle.cli_report.specs.declared.ending.ExitStatus.TheVariants as status
 use Rattle.dbus_header.specs.MessageOutcomes.{IsRefused, IsPartial}
 use Rattle.dbus_device.specs.Device.{one_more, RisesBy}
+use Rattle.dbus_device.specs.Packets.{Packets}
 use Rattle.dbus_stream.specs.Cut.{CutOutcome, IsOutcome}
 use Rattle.dbus_stream.specs.CutEnds.{fault_at_end}
 use Rattle.dbus_stream.specs.declared.read_fault.ReadFault.{ReadFault}
@@ -21,6 +22,7 @@ use Rattle.cli_report.specs.declared.ending.Cause.TheVariants.{Memory, ReadFaile
 use Rattle.cli_run.specs.Inputs.{Part, Whole, PassedOver, size_of, sizes_of, BeginWithParts, IsCutOff, IsLast, IsTellable, ArePlaced, Placed}
 use Rattle.cli_run.specs.Output.{counts_line, ok_line, status_of}
 use Rattle.cli_run.specs.declared.tally.Tally.{Tally}
+use Rattle.cli_run.specs.Refusals.{IsRefusedIn}
 use Rattle.cli_run.specs.Told.{TellsStop}
 use Rattle.cli_run.specs.declared.visitor.RunStop.{RunStop}
 use Rattle.cli_run.specs.declared.visitor.RunStop.TheVariants.{Cause as ByCause, Untold}
@@ -31,21 +33,27 @@ use Rattle.cli_run.specs.declared.visitor.RunStop.TheVariants.{Cause as ByCause,
 abbrev pub IsTold : Settings → RefusedMessage → (kept text : List ℕ) → Type 0
 IsTold settings refusal kept text = IsToldBy settings.keeps_going settings.explains refusal kept text
 
--- what is told of a part: of a message nothing. One is passed over only if the run is to go on
-abbrev pub IsToldOf : Settings → (n offset : ℕ) → Part → List ℕ → Type 0
-IsToldOf settings n offset (Whole item) text = text ≡ []
-IsToldOf settings n offset (PassedOver kept fault size) text = (settings.keeps_going ≡ true) × IsTold settings (record { number = n; offset = offset; fault = fault }) kept text
+module _ (packets : Option Packets) (settings : Settings) where
+  -- of the n-th one of an input, which begins at this offset: also the packet of its fault
+  abbrev pub IsToldRefused : (n offset : ℕ) → (kept : List ℕ) → Fault → List ℕ → Type 0
+  IsToldRefused n offset kept fault text = (packet : Option ℕ) × IsRefusedIn packets settings.limits offset kept packet
+      × IsTold settings (record { number = n; offset = offset; fault = fault; packet = packet }) kept text
 
--- of several
-abbrev pub AreTold : Settings → (n offset : ℕ) → List Part → List ℕ → Type 0
-AreTold settings n offset [] text = text ≡ []
-AreTold settings n offset (part ∷ parts) text = (one : List ℕ) × (more : List ℕ) × (text ≡ one ++ more)
-    × IsToldOf settings n offset part one × AreTold settings (n + 1) (offset + size_of part) parts more
+  -- what is told of a part: of a message nothing. One is passed over only if the run is to go on
+  abbrev pub IsToldOf : (n offset : ℕ) → Part → List ℕ → Type 0
+  IsToldOf n offset (Whole item) text = text ≡ []
+  IsToldOf n offset (PassedOver kept fault size) text = (settings.keeps_going ≡ true) × IsToldRefused n offset kept fault text
 
--- what is told of the fault after them
-abbrev pub IsToldLast : Settings → (n offset : ℕ) → List ℕ → Option Fault → List ℕ → Type 0
-IsToldLast settings n offset kept None text = text ≡ []
-IsToldLast settings n offset kept (Some fault) text = IsTold settings (record { number = n; offset = offset; fault = fault }) kept text
+  -- of several
+  abbrev pub AreTold : (n offset : ℕ) → List Part → List ℕ → Type 0
+  AreTold n offset [] text = text ≡ []
+  AreTold n offset (part ∷ parts) text = (one : List ℕ) × (more : List ℕ) × (text ≡ one ++ more)
+      × IsToldOf n offset part one × AreTold (n + 1) (offset + size_of part) parts more
+
+  -- what is told of the fault after them
+  abbrev pub IsToldLast : (n offset : ℕ) → List ℕ → Option Fault → List ℕ → Type 0
+  IsToldLast n offset kept None text = text ≡ []
+  IsToldLast n offset kept (Some fault) text = IsToldRefused n offset kept fault text
 
 -- how many parts are passed over, and how many bytes these have
 abbrev pub passed_count : List Part → ℕ
@@ -100,14 +108,14 @@ module _ (t : Taken) (settings : Settings) (most : ℕ) (is_check : Bool) where
     pub consumed : Consumes t.left0 t.left1 bytes
     pub called : RisesAtMost most t.calls0 t.calls1
     pub begin : BeginWithParts settings.limits bytes parts rest
-    pub tells : AreTold settings 1 0 parts told
+    pub tells : AreTold t.packets settings 1 0 parts told
 
   -- this is told of the fault of the rest, if it has one
   pub record TellsRest (parts : List Part) (kept : List ℕ) (fault : Option Fault) (text : List ℕ) : Type 0 where
     pub outcome : CutOutcome
     pub outcome_is : IsOutcome settings.limits kept outcome
     pub fault_is : fault ≡ fault_at_end kept outcome
-    pub told : IsToldLast settings (length parts + 1) (sizes_of parts) kept fault text
+    pub told : IsToldLast t.packets settings (length parts + 1) (sizes_of parts) kept fault text
 
   -- all of the input was read, or all up to a message that is not passed over: this is told of its
   -- parts, and of the rest
@@ -137,7 +145,7 @@ module _ (t : Taken) (settings : Settings) (most : ℕ) (is_check : Bool) where
   -- message was told of which not all bytes came
   abbrev pub IsAllOf : List Part → (rest more : List ℕ) → Type 0
   IsAllOf parts rest more = (IsPartial settings.limits rest × (more ≡ [])) ⊎ ((kept : List ℕ) × (fault : Fault) × IsRefused settings.limits kept fault × IsCutOff settings.limits kept rest
-      × (settings.keeps_going ≡ true) × IsToldLast settings (length parts + 1) (sizes_of parts) kept (Some fault) more)
+      × (settings.keeps_going ≡ true) × IsToldLast t.packets settings (length parts + 1) (sizes_of parts) kept (Some fault) more)
 
   -- this was told after the parts, or was to be told if a write of it failed
   abbrev pub IsMore : RunStop → List Part → (rest more : List ℕ) → Type 0

@@ -24,20 +24,20 @@ use Rattle.cli_run.specs.ByName.{CountsByName}
 use Rattle.cli_run.specs.CallListing.{ListsCalls}
 use Rattle.cli_run.specs.Inputs.{Placed}
 
--- of each list of messages, and a fault after them or none, the command has an output, whatever the
--- packets are
+-- of each list of messages, and a fault after them or none, which is of this packet, the command has
+-- an output, whatever the packets are
 abbrev pub SomeOutput : Type 0
-SomeOutput = (packets : Option Packets) (command : Command) (items : List CutMessage) (fault : Option Fault) → (out : List ℕ) × IsFirstOutput packets command items fault out
+SomeOutput = (packets : Option Packets) (command : Command) (items : List CutMessage) (fault : Option Fault) (packet : Option ℕ) → (out : List ℕ) × IsFirstOutput packets command items fault packet out
 
--- and no other, if the command is exact: it does not depend on the packets
+-- and no other, if the command is exact: it depends on no other packet
 abbrev pub OneOutput : Type 0
-OneOutput = (packets others : Option Packets) (command : Command) (items : List CutMessage) (fault : Option Fault) (x y : List ℕ)
-    → IsExact command → IsFirstOutput packets command items fault x → IsFirstOutput others command items fault y → x ≡ y
+OneOutput = (packets others : Option Packets) (command : Command) (items : List CutMessage) (fault : Option Fault) (packet : Option ℕ) (x y : List ℕ)
+    → IsExact command → IsFirstOutput packets command items fault packet x → IsFirstOutput others command items fault packet y → x ≡ y
 
 -- so what is a prefix of an output then is one of each
 abbrev pub OneFront : Type 0
-OneFront = (packets others : Option Packets) (command : Command) (items : List CutMessage) (fault : Option Fault) (front out : List ℕ)
-    → IsExact command → IsFront packets command items fault front → IsFirstOutput others command items fault out → IsPrefixTo front out
+OneFront = (packets others : Option Packets) (limits : Limits) (command : Command) (items : List CutMessage) (rest : List ℕ) (fault : Option Fault) (front out : List ℕ)
+    → IsExact command → (is : IsFront packets limits command items rest fault front) → IsFirstOutput others command items fault is.packet out → IsPrefixTo front out
 
 -- by settings that ask for no more, a command does what it does under their limits alone
 abbrev pub PlainRuns : {R W E : Type 0} → (left : R → Option (List ℕ)) → (calls failures : R → ℕ) → (packets : R → Option Packets) → (held : W → Option (List ℕ)) → (write_failures : W → ℕ) → (second_held : E → Option (List ℕ))
@@ -77,18 +77,24 @@ pub record MadeAlike {W V E F : Type 0} (w : Writing W) (v : Writing V) (e : Wri
   pub one : Writes w e settings command items told
   pub same : Writes v f settings copy items told
 
--- two runs by the same settings read the same input, and did not fail
-pub record AreOfOneInput {R S : Type 0} (r : Reading R) (s : Reading S) (settings : Settings) (end other : ExitStatus) : Type 0 where
-  pub input : ReadAlike r s
-  pub explains : ExplainsNone settings end
-  pub done : end ≢ status.Failed
-  pub other_done : other ≢ status.Failed
-
 -- both inputs are of the same packets: a line of JSON has the time of its message's packet
 pub record AreOfSamePackets {R S : Type 0} (r : Reading R) (s : Reading S) : Type 0 where
   pub all : Packets
   pub one : r.packets r.old ≡ Some all
   pub same : s.packets s.old ≡ Some all
+
+-- the same is told: the inputs are of the same packets, or nothing is refused. What is told of a
+-- refused message has the packet of its fault
+abbrev pub AreToldAlike : {R S : Type 0} → Reading R → Reading S → ExitStatus → Type 0
+AreToldAlike r s end = AreOfSamePackets r s ⊎ (end ≡ status.Done)
+
+-- two runs by the same settings read the same input, and did not fail
+pub record AreOfOneInput {R S : Type 0} (r : Reading R) (s : Reading S) (settings : Settings) (end other : ExitStatus) : Type 0 where
+  pub input : ReadAlike r s
+  pub told : AreToldAlike r s end
+  pub explains : ExplainsNone settings end
+  pub done : end ≢ status.Failed
+  pub other_done : other ≢ status.Failed
 
 -- two runs of a command
 abbrev pub OneRun : (R S W V E F : Type 0) → Type 0
@@ -99,7 +105,7 @@ OneRun R S W V E F = (r : Reading R) (s : Reading S) (w : Writing W) (v : Writin
 -- two runs of a command under the same limits alone
 abbrev pub OneWithin : (R S W V E F : Type 0) → Type 0
 OneWithin R S W V E F = (r : Reading R) (s : Reading S) (w : Writing W) (v : Writing V) (e : Writing E) (f : Writing F) (limits : Limits) (most more : ℕ) (command copy : Command) (end other : ExitStatus)
-    → AreSameCommand command copy → IsExact command → ReadAlike r s → end ≢ status.Failed → other ≢ status.Failed → Runs r w e limits most command end → Runs s v f limits more copy other
+    → AreSameCommand command copy → IsExact command → ReadAlike r s → AreToldAlike r s end → end ≢ status.Failed → other ≢ status.Failed → Runs r w e limits most command end → Runs s v f limits more copy other
     → EndAlike w v e f end other
 
 -- two runs that count messages by their names

@@ -1,6 +1,7 @@
 pub mod RuleLists
 pub mod Learning
 pub mod Output
+pub mod Refusals
 pub mod Inputs
 pub mod Told
 pub mod ByName

@@ -2,7 +2,7 @@
 -- the visitor. kept is what the reader keeps there, and before is how many messages came before. k
 -- is what is known of its taker, and limits are those that each message keeps. Are says what is known
 -- of the packets of the input.
-use Rattle.std.specs.Prelude.{◌≡◌, ℕ, ◌+◌, List, [], ◌++◌, true, length, Option, None, Some, Result, Ok, Err}
+use Rattle.std.specs.Prelude.{◌≡◌, ℕ, ◌+◌, ◌-◌, List, [], ◌++◌, true, length, take, Option, None, Some, Result, Ok, Err}
 use Rattle.std.specs.Io.KnownBytes.{Consumes, IsAtEnd}
 use Rattle.dbus_value_model.specs.declared.fault.Fault.{Fault}
 use Rattle.dbus_value_model.specs.declared.limits.Limits.{Limits}
@@ -13,8 +13,9 @@ use Rattle.dbus_device.specs.declared.packet.Packet.{Packet}
 use Rattle.dbus_stream.specs.Cut.{CutMessage, BeginWith, CutOutcome, Refused, IsOutcome}
 use Rattle.dbus_stream.specs.CutEnds.{fault_at_end, sizes}
 use Rattle.dbus_stream.specs.Gathering.{gathering}
+use Rattle.dbus_stream.specs.Packets.{HasPackets}
 use Rattle.dbus_stream.specs.RawReading as raw
-use Rattle.dbus_stream.specs.Reading.{limits_of, source_of, done_of, reads_of, most_reads_of, is_ended}
+use Rattle.dbus_stream.specs.Reading.{limits_of, source_of, done_of, read_of, last_of, reads_of, most_reads_of, is_ended}
 use Rattle.dbus_stream.specs.Taking.{Taking}
 use Rattle.dbus_stream.specs.declared.buffer.Buffer.{Ghosts}
 use Rattle.dbus_stream.specs.declared.raw_reader.RawReader.{RawReader}
@@ -77,6 +78,9 @@ module _ {R T B G : Type 0} {b : Ghosts B} (k : Taking T G) (left : R → Option
       pub outcome : CutOutcome
       pub read : HasRead old new items rest
       pub outcome_is : IsOutcome limits rest outcome
+      -- all that was read and not given is the rest, whose fault shows in what the last read gave
+      pub read_all : read_of new ≡ done_of new + length rest
+      pub shows_last : IsPartial limits (take (length rest - last_of new) rest)
       -- without a fault that bytes show, all was read
       pub ended : ((f : Fault) → outcome ≡ Refused f → ⊥) → is_ended new ≡ true
       pub count_is : counted.count ≡ before + length items
@@ -103,11 +107,15 @@ module _ {R T B G : Type 0} {b : Ghosts B} (k : Taking T G) (left : R → Option
     HandsOn old new s0 s1 (Ok counted) = HandsAllOn counted old new s0 s1
     HandsOn old new s0 s1 (Err cause) = HandsSomeOn cause old new s0 s1
 
-module _ {R A : Type 0} (packets : R → Option Packets) (packet : R → Option Packet) where
+module _ {R T B : Type 0} {b : Ghosts B} (packets : R → Option Packets) (packet : R → Option Packet) where
   -- the bytes of the input are of these packets, if they are known
+  abbrev pub HasPacketsIf : Reader R T B b → Option Packets → Type 0
+  HasPacketsIf r None = Unit {0}
+  HasPacketsIf r (Some all) = HasPackets packets packet all r
+
+module _ {R A : Type 0} (packets : R → Option Packets) (packet : R → Option Packet) where
   abbrev pub HasKnownPackets : RawReader R A → Option Packets → Type 0
-  HasKnownPackets r None = Unit {0}
-  HasKnownPackets r (Some all) = raw.HasPackets packets packet all r
+  HasKnownPackets r known = HasPacketsIf packets packet r.reader known
 
 module _ {R A S : Type 0} (left : R → Option (List ℕ)) (calls failures : R → ℕ) (packets : R → Option Packets) (packet : R → Option Packet)
     (takes : S → S → List Placed → (told : List ℕ) → Type 0) (leaves : S → S → List Placed → (told : List ℕ) → RunStop → Type 0) (limits : Limits) (before : ℕ) where

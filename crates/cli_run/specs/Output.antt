@@ -4,6 +4,7 @@ use Rattle.std.specs.FinSet.{empty}
 use Rattle.std.specs.List.{concat}
 use Rattle.dbus_device.specs.Packets.{Packets}
 use Rattle.dbus_value_model.specs.declared.fault.Fault.{Fault}
+use Rattle.dbus_value_model.specs.declared.limits.Limits.{Limits}
 use Rattle.dbus_value_model.specs.declared.order.Order.{Order}
 use Rattle.dbus_message_model.specs.Messages.{MessageTree, message_bytes}
 use Rattle.dbus_stream.specs.Cut.{CutMessage}
@@ -22,6 +23,7 @@ use Rattle.cli_report.specs.declared.ending.ExitStatus.TheVariants as status
 use Rattle.cli_options.specs.declared.window.Window.{Window}
 use Rattle.cli_run.specs.Inputs.{ArePlaced, Placed, wholes}
 use Rattle.cli_run.specs.Learning.{known, known_after}
+use Rattle.cli_run.specs.Refusals.{IsFaultIn}
 use Rattle.cli_run.specs.Told.{first_of, second_of}
 use Rattle.cli_run.specs.declared.place.MessagePlace.{MessagePlace}
 use Rattle.cli_run.specs.declared.output.Output.{Output}
@@ -100,34 +102,41 @@ abbrev pub counts_line : (count size passed passed_size : ℕ) → List ℕ
 counts_line count size passed passed_size = decimal count ++ (codes " messages " ++ (decimal size ++ (codes " bytes, "
     ++ (decimal passed ++ (codes " passed over " ++ (decimal passed_size ++ codes " bytes\n"))))))
 
--- how many messages of how many bytes, or the fault, whose place counts from the start of the input
-abbrev pub check_line : ℕ → ℕ → Option Fault → List ℕ
-check_line count size None = ok_line count size
-check_line count size (Some fault) = refused_line (size + fault.at) fault.reason
+-- how many messages of how many bytes, or the fault, whose place counts from the start of the
+-- input, with the number of its packet
+abbrev pub check_line : ℕ → ℕ → Option Fault → (packet : Option ℕ) → List ℕ
+check_line count size None packet = ok_line count size
+check_line count size (Some fault) packet = refused_line (size + fault.at) fault.reason packet
 
 -- what is written after so many messages of so many bytes: only `check` writes a line there
-abbrev pub last_line : Command → ℕ → ℕ → Option Fault → List ℕ
-last_line command count size fault = first_of (is_check command) [] (check_line count size fault)
+abbrev pub last_line : Command → ℕ → ℕ → Option Fault → (packet : Option ℕ) → List ℕ
+last_line command count size fault packet = first_of (is_check command) [] (check_line count size fault packet)
 
--- what the first writer gets, if the bytes of the input are of these packets
-pub record IsFirstOutput (packets : Option Packets) (command : Command) (items : List CutMessage) (fault : Option Fault) (out : List ℕ) : Type 0 where
+-- what the first writer gets, if the bytes of the input are of these packets, and its fault of the
+-- one of this number
+pub record IsFirstOutput (packets : Option Packets) (command : Command) (items : List CutMessage) (fault : Option Fault) (packet : Option ℕ) (out : List ℕ) : Type 0 where
   pub messages : List Placed
   pub placed : ArePlaced packets 1 0 (wholes items) messages
   pub texts : List (List ℕ)
   pub each : IsOutputOfAll command (owners_known command None) messages texts
-  pub joined : out ≡ concat texts ++ last_line command (length items) (sizes items) fault
+  pub joined : out ≡ concat texts ++ last_line command (length items) (sizes items) fault packet
 
--- a prefix of what the first writer gets
-abbrev pub IsFront : Option Packets → Command → List CutMessage → Option Fault → List ℕ → Type 0
-IsFront packets command items fault front = (out : List ℕ) × IsFirstOutput packets command items fault out × IsPrefixTo front out
+-- a prefix of what the first writer gets of an input that these messages begin, and then the rest
+pub record IsFront (packets : Option Packets) (limits : Limits) (command : Command) (items : List CutMessage) (rest : List ℕ) (fault : Option Fault) (front : List ℕ) : Type 0 where
+  pub packet : Option ℕ
+  pub out : List ℕ
+  pub output : IsFirstOutput packets command items fault packet out
+  pub prefix : IsPrefixTo front out
+  -- a line of the fault that was begun has its packet
+  pub packet_is : IsPrefixTo front (concat output.texts) ⊎ IsFaultIn packets limits (sizes items) rest fault packet
 
-abbrev pub fault_line : ℕ → Option Fault → List ℕ
-fault_line size None = []
-fault_line size (Some fault) = refused_line (size + fault.at) fault.reason
+abbrev pub fault_line : ℕ → Option Fault → (packet : Option ℕ) → List ℕ
+fault_line size None packet = []
+fault_line size (Some fault) packet = refused_line (size + fault.at) fault.reason packet
 
 -- what the second writer gets: the fault, which `check` tells the first
-abbrev pub second_output : Command → ℕ → Option Fault → List ℕ
-second_output command size fault = second_of (is_check command) (fault_line size fault)
+abbrev pub second_output : Command → ℕ → Option Fault → (packet : Option ℕ) → List ℕ
+second_output command size fault packet = second_of (is_check command) (fault_line size fault packet)
 
 abbrev pub status_of : Option Fault → ExitStatus
 status_of None = status.Done

@@ -9,6 +9,7 @@ use Rattle.cli_options.specs.declared.settings.Settings.{Settings}
 use Rattle.cli_run.specs.Going.{GivesUp, GoesThrough, IsStopOf}
 use Rattle.cli_run.specs.Inputs.{ArePlaced, Placed, wholes}
 use Rattle.cli_run.specs.Output.{IsOutputOfAll, is_check, owners_known, IsFirstOutput, IsFront, second_output, status_of, written}
+use Rattle.cli_run.specs.Refusals.{IsFaultIn}
 use Rattle.cli_run.specs.Told.{GotFirst, GotSecond, first_of, second_of}
 use Rattle.cli_report.specs.Devices.{Reading, Writing, taken, writing, RisesAtMost}
 use Rattle.cli_report.specs.declared.ending.ExitStatus.{ExitStatus}
@@ -69,9 +70,11 @@ module _ {R W E : Type 0} (r : Reading R) (w : Writing W) (e : Writing E) (limit
     pub cut : IsCut limits bytes items rest outcome
     -- without a fault that bytes show, all was read
     pub at_end : ((f : Fault) → outcome ≡ Refused f → ⊥) → IsAtEnd (r.left r.new)
-    pub output : IsFirstOutput (r.packets r.old) command items (fault_at_end rest outcome) out
+    pub packet : Option ℕ
+    pub packet_is : IsFaultIn (r.packets r.old) limits (sizes items) rest (fault_at_end rest outcome) packet
+    pub output : IsFirstOutput (r.packets r.old) command items (fault_at_end rest outcome) packet out
     pub first : Wrote w.held w.failures w.old out w.new
-    pub second : TellsLine e (second_output command (sizes items) (fault_at_end rest outcome)) (fault_at_end rest outcome) end
+    pub second : TellsLine e (second_output command (sizes items) (fault_at_end rest outcome) packet) (fault_at_end rest outcome) end
 
   -- the first writer got a prefix of what the command makes of what was read
   pub record Fails (cause : Cause) : Type 0 where
@@ -81,7 +84,7 @@ module _ {R W E : Type 0} (r : Reading R) (w : Writing W) (e : Writing E) (limit
     pub called : RisesAtMost most (r.calls r.old) (r.calls r.new)
     pub appended : Appends (w.held w.old) (w.held w.new) written
     pub front : (items : List CutMessage) (rest : List ℕ) (outcome : CutOutcome) → IsCut limits bytes items rest outcome
-        → IsFront (r.packets r.old) command items (fault_at_end rest outcome) written
+        → IsFront (r.packets r.old) limits command items rest (fault_at_end rest outcome) written
     pub before : WritesBefore (r.packets r.old) limits command cause bytes written
     -- the devices count the one call that failed, or none
     pub read_caused : IsStopOf (taken r) most (ByCause cause)

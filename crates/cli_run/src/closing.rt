@@ -1,24 +1,27 @@
 //! What is written after the messages of an input.
 ghost use Rattle.std.specs.Prelude.{◌≡◌, IfOk, string_bytes};
 ghost use Rattle.cli_run.specs.Output.{check_line, counts_line, ok_line, status_of};
+ghost use Rattle.cli_run.specs.Refusals.{number_of};
 ghost use Rattle.cli_run.specs.Told.{WritesLine};
 
 use crate::counted::Counted;
 use cli_report::{Cause, ExitStatus, refused_line};
-use dbus_stream::{Sink, WrittenOnly, write_all};
+use dbus_stream::{Packet, Sink, WrittenOnly, write_all};
 use dbus_value_model::Fault;
 use std::alloc::{AllocError, Allocator};
 
-/// Writes the line of what was counted.
+/// Writes the line of what was counted, whose fault is of this packet.
 pub(crate) fn write_count<A: Allocator + Copy, W: Sink>(
     alloc: A,
     counted: Counted,
+    packet: Option<u64>,
     first: &mut W,
 ) -> Result<(), Cause>
-    ensures { WritesLine W.held W.failures (check_line counted.count counted.size counted.fault)
+    ensures { WritesLine W.held W.failures
+        (check_line counted.count counted.size counted.fault packet)
         first.old first.new result }
 {
-    match check_line(alloc, counted) {
+    match check_line(alloc, counted, packet) {
         Ok(line) => match write_all(first, line.as_bytes()) {
             Ok(()) => Ok(()),
             Err(WrittenOnly(_)) => Err(Cause::WriteFailed),
@@ -28,13 +31,27 @@ pub(crate) fn write_count<A: Allocator + Copy, W: Sink>(
 }
 
 // The line of what was counted.
-fn check_line<A: Allocator + Copy>(alloc: A, counted: Counted) -> Result<String<A>, AllocError>
+fn check_line<A: Allocator + Copy>(
+    alloc: A,
+    counted: Counted,
+    packet: Option<u64>,
+) -> Result<String<A>, AllocError>
     ensures { IfOk result (λ line.
-        string_bytes line ≡ check_line counted.count counted.size counted.fault) }
+        string_bytes line ≡ check_line counted.count counted.size counted.fault packet) }
 {
     match counted.fault {
         None => ok_line(alloc, counted.count, counted.size),
-        Some(fault) => refused_line(alloc, counted.size, fault),
+        Some(fault) => refused_line(alloc, counted.size, fault, packet),
+    }
+}
+
+/// The number of a packet, if there is one.
+pub(crate) fn number_of(packet: Option<Packet>) -> Option<u64>
+    ensures { result ≡ number_of packet }
+{
+    match packet {
+        Some(packet) => Some(packet.number),
+        None => None,
     }
 }
 

@@ -5,6 +5,7 @@ ghost use Rattle.dbus_stream.specs.Reading.{IsNewReader, most_reads_of, source_o
 ghost use Rattle.cli_options.specs.Limiting.{ask_more};
 ghost use Rattle.cli_options.specs.declared.settings.Settings.{Settings};
 ghost use Rattle.cli_run.specs.ByName.{Tallies};
+ghost use Rattle.cli_run.specs.Refusals.{number_of};
 ghost use Rattle.cli_report.specs.Devices.{reading, taken};
 
 use crate::counted::Counted;
@@ -21,7 +22,8 @@ fn count_all<R: Source>(messages: &mut CheckReader<R>) -> Result<Counted, Cause>
         settings.limits ≡ limits_of messages.old → Tallies
         (taken (reading R.left R.calls R.failures R.packets (source_of messages.old)
         (source_of messages.new)))
-        settings (most_reads_of messages.old) result }
+        settings (most_reads_of messages.old) (number_of (R.packet (source_of messages.new)))
+        result }
     ensures same_reference { R.reference (source_of messages.new) ≡
         R.reference (source_of messages.old) }
 {
@@ -51,7 +53,7 @@ pub(crate) fn count_through<R: Source + Drop>(
     requires few { reads ≤ 2 ^ 32 }
     requires no_more { ask_more settings ≡ false }
     ensures counts { Tallies (taken (reading R.left R.calls R.failures R.packets source result.1))
-        settings reads result.0 }
+        settings reads (number_of (R.packet result.1)) result.0 }
     ensures same_reference { R.reference result.1 ≡ R.reference source }
 {
     let mut messages = CheckReader::within(source, reads, settings.limits);

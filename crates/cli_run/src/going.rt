@@ -7,6 +7,7 @@ ghost use Rattle.cli_run.specs.Going.{Closes, PassesAll, cause_of, IsTold};
 ghost use Rattle.cli_run.specs.Told.{TellsStop};
 ghost use Rattle.cli_run.specs.Visiting.{Tells};
 
+use crate::closing::number_of;
 use crate::handing::hand_all;
 use crate::tally::{Tally, closing_line};
 use crate::visitor::{MessageVisitor, RunStop};
@@ -79,6 +80,7 @@ fn hand_parts<R: Source, A: Allocator + Copy, V: MessageVisitor>(
             number: counted.count + 1,
             offset: counted.size,
             fault,
+            packet: number_of(messages.packet()),
         };
         match tell(alloc, settings, refusal, messages, visitor) {
             Ok(()) => {}

@@ -7,8 +7,8 @@ ghost use Rattle.cli_run.specs.Laws.{OneCalls, OneCount, OneRun, OneWithin, OneF
 use dbus_count::laws::one_table;
 use dbus_stream::{Sink, Source};
 
-/// Of each list of messages, and a fault after them or none, a command has an output, whatever the
-/// packets of the input are.
+/// Of each list of messages, and a fault after them of some packet, or none, a command has an
+/// output, whatever the packets of the input are.
 #[tactic(auto, using(crate::proofs::Outputs::some_output))]
 pub fn some_output()
     ensures { SomeOutput }
@@ -35,6 +35,7 @@ pub fn plain_run<R: Source, W: Sink, E: Sink>()
 /// end with the same status, and their writers got the same bytes; but what is explained of a
 /// message that is refused shows its bytes as far as they happened to be read, and `Json` may write
 /// a DOUBLE by other digits that read back as its bits, and other times if the packets are others.
+/// They are the same if a message is refused, since its line has the packet of its fault.
 pub fn one_run<R, S, W, V, E, F>()
     ensures { OneRun R S W V E F }
 {}

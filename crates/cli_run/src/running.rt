@@ -5,7 +5,7 @@ ghost use Rattle.cli_options.specs.Limiting.{ask_more};
 ghost use Rattle.cli_report.specs.Devices.{reading, writing};
 ghost use Rattle.cli_run.specs.Running.{Runs, RunsWith};
 
-use crate::closing::{status_of, write_count};
+use crate::closing::{number_of, status_of, write_count};
 use crate::counting::count_through;
 use crate::going::{pass_through, tell_stop};
 use crate::output::{is_check, output_of};
@@ -70,8 +70,10 @@ pub fn run_reads<A: Allocator + Copy, R: Source, W: Sink, E: Sink>(
 /// message in the order that it names. `Filter` writes each message that is selected, in its own
 /// order. Where the bytes after the messages are none within the limits or too few, each of these
 /// writes `refused at P: NAME` on the second writer, with the place from the start of the input and
-/// the name of the reason. `Check` writes that line on the first writer; or, if the input is
-/// messages alone, `ok N messages B bytes`, how many they are and of how many bytes.
+/// the name of the reason; and ` in packet K` if the reader reports packets: the number of the one
+/// that has the byte by which they are refused. `Check` writes that line on the first writer; or,
+/// if the input is messages alone, `ok N messages B bytes`, how many they are and of how many
+/// bytes.
 ///
 /// If the run fails, it stops at the first cause that it meets, and writes `read failed`, `write
 /// failed`, `too many reads` or `out of memory` on the second writer. Each line ends in LF. What is
@@ -121,9 +123,9 @@ pub fn run_within<A: Allocator + Copy, R: Source, W: Sink, E: Sink>(
 ///
 /// If they keep going, a message that is refused is passed over if its first 16 bytes state a
 /// length within the limits. What came before it is written, and then the line `refused at P: NAME
-/// in message N at O`: the place of the fault, and where the message begins, from the start of the
-/// input, and its number among all messages of the input. The numbers and offsets of those after it
-/// count it. A message that states no such length, or that the input ends within, is told by that
+/// in message N at O`, with ` in packet K` as above: the place of the fault, and where the message
+/// begins, from the start of the input, and its number among all messages of the input. The numbers
+/// and offsets of those after it count it. A message that states no such length, or that the input ends within, is told by that
 /// line too, and ends the run. If any was passed over, the last line is `N messages B bytes, K
 /// passed over C bytes`.
 ///
@@ -193,9 +195,10 @@ fn check<A: Allocator + Copy, R: Source, W: Sink, E: Sink>(
         (writing E.held E.failures second.old second.new)
         settings reads Command.Check result }
 {
-    let (counted, _source) = count_through(settings, reads, reader);
+    let (counted, source) = count_through(settings, reads, reader);
+    let packet = number_of(source.packet());
     match counted {
-        Ok(counted) => match write_count(alloc, counted, first) {
+        Ok(counted) => match write_count(alloc, counted, packet, first) {
             Ok(()) => status_of(counted.fault),
             Err(cause) => give_up(cause, second),
         },

@@ -68,4 +68,4 @@ module _ (old : GathererState) (piece : List ℕ) where
       (subst (λ s. Takes gathering old (under_way old.whole old.held) piece s (Err Memory) given) (sym g) (tt, record { holds = refl; rests = (refl, refl) }))
   fails w new (Format fault) given holds g =
       subst (λ v. Takes gathering old v piece new (Err (Format fault)) given) holds
-      (subst (λ s. Takes gathering old (under_way old.whole old.held) piece s (Err (Format fault)) given) (sym g.1) (g.0, (refl, (refl, refl))))
+      (subst (λ s. Takes gathering old (under_way old.whole old.held) piece s (Err (Format fault)) given) (sym g.2) (g.0, g.1, (refl, (refl, refl))))

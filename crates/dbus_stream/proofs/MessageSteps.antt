@@ -5,6 +5,7 @@ use Rattle.dbus_value_model.specs.declared.order.Order.{Order}
 use Rattle.dbus_value_model.specs.declared.fault.Fault.{Fault}
 use Rattle.dbus_message_model.specs.declared.message.Message.{Message}
 use Rattle.dbus_message_model.specs.MessageViews.{message_tree}
+use Rattle.dbus_header.specs.MessageOutcomes.{IsPartial}
 use Rattle.dbus_stream.specs.Cutting.{CutterState, TakeAnswers, Takes as CutterTakes}
 use Rattle.dbus_stream.specs.CutterTaking.{cutting}
 use Rattle.dbus_stream.specs.MessageReaders.{kept, stopped_of}
@@ -35,9 +36,9 @@ cuts {A} old piece new n None t some = subst (λ s. Takes {G = Order × Message 
 
 -- what a cutter that refuses a piece is then
 pub refuses : {A : Type 0} (old : CutterState) (piece : List ℕ) (new : CutterState) (fault : StreamFault) (given : Option (Order × Message A)) → TakeAnswers {A = A} old piece new (Err fault)
-    → old.fault ≡ None → Takes (cutting A) old old.held piece new (Err fault) given
-refuses {A} old piece new refusals.Memory given t open_ = subst (λ s. Takes (cutting A) old old.held piece s (Err refusals.Memory) given) (sym t) (tt, record { holds = (refl, open_); rests = tt })
-refuses {A} old piece new (refusals.Format fault) given t open_ = subst (λ s. Takes (cutting A) old old.held piece s (Err (refusals.Format fault)) given) (sym t.1) (t.0, refl)
+    → old.fault ≡ None → IsPartial old.limits old.held → Takes (cutting A) old old.held piece new (Err fault) given
+refuses {A} old piece new refusals.Memory given t open_ unshown = subst (λ s. Takes (cutting A) old old.held piece s (Err refusals.Memory) given) (sym t) (tt, record { holds = (refl, open_); rests = tt })
+refuses {A} old piece new (refusals.Format fault) given t open_ unshown = subst (λ s. Takes (cutting A) old old.held piece s (Err (refusals.Format fault)) given) (sym t.1) (t.0, unshown, refl)
 
 -- its limits stay, whether or not it met a fault before
 pub limits_stay : {A : Type 0} (old : CutterState) (piece : List ℕ) (new : CutterState) (n : ℕ) (given : Option (Order × Message A)) (fault : Option Fault) → old.fault ≡ fault

@@ -229,7 +229,8 @@ module _ {R T B G : Type 0} {b : Ghosts B} (k : Taking T G) where
     answers_taken v mid new (Err Memory) some e d t = (t.0, keeps_since v mid new d t.1, t.2)
     answers_taken v mid new (Err (Format fault)) some e d t =
         let refused = subst (λ limits. IsRefused limits v fault) e t.2.refused in
-        (t.0 ∙ d, t.1, inl (record { refused = refused; held = t.2.held; keeps = t.2.keeps; size = t.2.size; bytes = t.2.bytes }))
+        let unshown = subst (λ limits. IsPartial limits t.2.held) e t.2.unshown in
+        (t.0 ∙ d, t.1, inl (record { refused = refused; held = t.2.held; unshown = unshown; keeps = t.2.keeps; size = t.2.size; bytes = t.2.bytes }))
     answers_taken v mid new (Err Device) some e d t = absurd t
     answers_taken v mid new (Err TooManyReads) some e d t = absurd t
 

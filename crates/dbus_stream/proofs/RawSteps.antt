@@ -11,7 +11,7 @@ use Rattle.dbus_validate.specs.declared.validating.Validated.{Validated}
 use Rattle.dbus_validate.specs.Validating.{IsValidatedWhole}
 use Rattle.dbus_stream.specs.Gathering.{GathererState, gathering, under_way, Rests}
 use Rattle.dbus_stream.specs.Next as next
-use Rattle.dbus_stream.specs.RawReading.{Advances, CopyAnswers, KeptAnswers, Reads, ReadsNothing, KeepsAll, Lends, GivesLent, IsNewReader, HasPackets, limits_of, kept, lent_of, done_of, read_of, stopped_of, whole_or}
+use Rattle.dbus_stream.specs.RawReading.{Advances, CopyAnswers, KeptAnswers, Reads, ReadsNothing, KeepsAll, Lends, GivesLent, IsNewReader, HasPackets, limits_of, kept, lent_of, done_of, read_of, last_of, stopped_of, whole_or}
 use Rattle.dbus_stream.specs.Reading as reading
 use Rattle.dbus_stream.specs.declared.buffer.Buffer.{Ghosts}
 use Rattle.dbus_stream.specs.declared.raw_reader.RawReader.{RawReader}
@@ -19,6 +19,7 @@ use Rattle.dbus_stream.specs.declared.read_fault.ReadFault.{ReadFault}
 use Rattle.dbus_stream.specs.declared.read_fault.ReadFault.TheVariants.{Memory, Format, Device, TooManyReads}
 use Rattle.dbus_stream.specs.declared.reader.Reader.{Reader}
 use Rattle.dbus_stream.proofs.CutLaws.{no_part}
+use Rattle.dbus_stream.proofs.FaultPackets.{partial_take, shows_last}
 use Rattle.dbus_stream.proofs.NextSteps as steps
 
 module _ {R B : Type 0} {b : Ghosts B} where
@@ -135,8 +136,8 @@ module _ {R A : Type 0} where
   advances w old new (Ok None) same a = (a.0, a.1, keeps_all w old new a.2, a.3)
   advances w old new (Err Memory) same a = (keeps_all w old new a.1, a.2)
   advances w old new (Err (Format fault)) same a = elim a.2 [
-    | inl r ↦ (refuses w fault old new a.0 r, a.1, inl r.refused)
-    | inr s ↦ (keeps_all w old new s.2, a.1, inr (s.0, s.1))
+    | inl r ↦ (refuses w fault old new a.0 r, a.1, inl r.refused, shows_last (limits_of old) new.reader w r.held r.bytes r.unshown)
+    | inr s ↦ (keeps_all w old new s.2, a.1, inr (s.0, s.1), partial_take (limits_of old) (length w - last_of new) w s.0.1)
   ]
   advances w old new (Err Device) same a = (keeps_all w old new a.0, a.1, a.2)
   advances w old new (Err TooManyReads) same a = (keeps_all w old new a.0, a.1, a.2, a.3, a.4)
@@ -146,7 +147,7 @@ module _ {R A : Type 0} where
   answers_kept old new (Ok (Some j)) same a = lends (kept old) j old new same a
   answers_kept old new (Ok None) same a = (keeps_all (kept old) old new a.0, a.1, a.2)
   answers_kept old new (Err Memory) same a = (keeps_all (kept old) old new a.1, a.2)
-  answers_kept old new (Err (Format fault)) same a = (refuses (kept old) fault old new a.0 a.2, a.1, a.2.refused)
+  answers_kept old new (Err (Format fault)) same a = (refuses (kept old) fault old new a.0 a.2, a.1, a.2.refused, shows_last (limits_of old) new.reader (kept old) a.2.held a.2.bytes a.2.unshown)
   answers_kept old new (Err Device) same a = absurd a
   answers_kept old new (Err TooManyReads) same a = absurd a
 

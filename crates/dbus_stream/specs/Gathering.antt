@@ -65,7 +65,7 @@ abbrev pub Gathers : GathererState → List ℕ → GathererState → Result (Op
 Gathers old piece new (Ok (Some n)) = Gathered old piece n new
 Gathers old piece new (Ok None) = IsPartial old.limits (old.held ++ piece) × (new ≡ record old { held = old.held ++ piece })
 Gathers old piece new (Err Memory) = new ≡ old
-Gathers old piece new (Err (Format fault)) = IsRefused old.limits (old.held ++ piece) fault × (new ≡ old)
+Gathers old piece new (Err (Format fault)) = IsRefused old.limits (old.held ++ piece) fault × IsPartial old.limits old.held × (new ≡ old)
 
 -- it holds these bytes of the message under way, and lends no message
 abbrev pub Rests : GathererState → Type 0

@@ -91,10 +91,12 @@ module _ {R T B G : Type 0} {b : Ghosts B} (k : Taking T G) where
   abbrev pub GivesOf : List ℕ → G → Reader R T B b → Reader R T B b → Type 0
   GivesOf w given old new = (size : ℕ) × Gives w size old new × k.gives new.taker w size given × LendsThere w size new
 
-  -- w is at fault, and what the taker keeps of it, and then what is left of the buffer, is w still
+  -- w is at fault, and what the taker keeps of it, which shows no fault, and then what is left of
+  -- the buffer, is w still
   pub record Refuses (w : List ℕ) (fault : Fault) (old new : Reader R T B b) : Type 0 where
     pub refused : IsRefused (limits_of k old) w fault
     pub held : List ℕ
+    pub unshown : IsPartial (limits_of k old) held
     pub keeps : k.keeps new.taker held
     pub size : new.held ≡ length held
     pub bytes : w ≡ held ++ part_of new

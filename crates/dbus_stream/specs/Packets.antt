@@ -1,8 +1,10 @@
--- Of which packet a message is that a reader gives: that of its last byte. The device says of which
--- packet each byte is.
-use Rattle.std.specs.Prelude.{◌≡◌, ℕ, ◌+◌, ◌<◌, ◌≤◌, Option, Some}
+-- Of which packet a message is that a reader gives: that of its last byte; and of which its fault
+-- is, if it is refused. The device says of which packet each byte is.
+use Rattle.std.specs.Prelude.{◌≡◌, ℕ, ◌+◌, ◌<◌, ◌≤◌, List, length, take, Option, Some}
 use Rattle.dbus_device.specs.Packets.{Packets, PacketsAfter}
 use Rattle.dbus_device.specs.declared.packet.Packet.{Packet}
+use Rattle.dbus_value_model.specs.declared.limits.Limits.{Limits}
+use Rattle.dbus_header.specs.MessageOutcomes.{IsPartial}
 use Rattle.dbus_stream.specs.Reading.{source_of, read_of, last_of}
 use Rattle.dbus_stream.specs.declared.buffer.Buffer.{Ghosts}
 use Rattle.dbus_stream.specs.declared.reader.Reader.{Reader}
@@ -22,3 +24,11 @@ module _ {R T B : Type 0} {b : Ghosts B} (packets : R → Option Packets) (packe
   -- it is so still, whatever the packets are
   abbrev pub KeepsPackets : Reader R T B b → Reader R T B b → Type 0
   KeepsPackets old new = (all : Packets) → HasPackets all old → HasPackets all new
+
+-- A message at this offset is refused, or the input ends within it, by a byte of this packet. kept
+-- was read of it: the first bytes of that show no fault, and all others are of the packet.
+pub record ShowsIn (all : Packets) (limits : Limits) (offset : ℕ) (kept : List ℕ) (packet : Option Packet) : Type 0 where
+  pub before : ℕ
+  pub some : before < length kept
+  pub unshown : IsPartial limits (take before kept)
+  pub in_packet : (i : ℕ) → before ≤ i → i < length kept → all (offset + i) ≡ packet

@@ -134,6 +134,10 @@ module _ {R A : Type 0} where
     pub bytes_are : bytes ≡ take size w
     pub lent : lent_of new ≡ []
 
+  -- what was kept before the last read shows no fault
+  abbrev pub ShowsLast : Limits → List ℕ → RawReader R A → Type 0
+  ShowsLast limits w new = IsPartial limits (take (length w - last_of new) w)
+
   -- what it comes to that there is no message to give
   abbrev pub Ends : List ℕ → RawReader R A → RawReader R A → Type 0
   Ends w old new = (w ≡ []) × (is_ended new ≡ true) × KeepsAll w old new × (stopped_of new ≡ None)
@@ -142,6 +146,7 @@ module _ {R A : Type 0} where
   Fails w old new Memory = KeepsAll w old new × (stopped_of new ≡ None)
   Fails w old new (Format fault) = KeepsAll w old new × (stopped_of new ≡ Some (Format fault))
       × (IsRefused (limits_of old) w fault ⊎ (next.IsCutShort (limits_of old) w fault × (is_ended new ≡ true)))
+      × ShowsLast (limits_of old) w new
   Fails w old new Device = KeepsAll w old new × (stopped_of new ≡ None) × IsPartial (limits_of old) w
   Fails w old new TooManyReads = KeepsAll w old new × (stopped_of new ≡ Some TooManyReads) × IsPartial (limits_of old) w
       × (reads_of new ≡ most_reads_of new) × (is_ended new ≡ false)
@@ -164,6 +169,7 @@ module _ {R A : Type 0} where
   KeptAnswers old new (Ok None) = KeepsAll (kept old) old new × (stopped_of new ≡ None) × IsPartial (limits_of old) (kept old)
   KeptAnswers old new (Err Memory) = KeepsAll (kept old) old new × (stopped_of new ≡ None)
   KeptAnswers old new (Err (Format fault)) = KeepsAll (kept old) old new × (stopped_of new ≡ Some (Format fault)) × IsRefused (limits_of old) (kept old) fault
+      × ShowsLast (limits_of old) (kept old) new
   KeptAnswers old new _ = ⊥
 
   -- the message that is lent was copied, and is lent no more

@@ -47,4 +47,5 @@ module _ {T G : Type 0} (k : Taking T G) where
   Takes old w piece new (Ok n) (Some given) = Completes old w piece new n given
   Takes old w piece new (Ok n) None = IsPartial (k.limits old) (w ++ piece) × (n ≡ length piece) × Waits (w ++ piece) new
   Takes old w piece new (Err Memory) given = k.grows × Waits w new
-  Takes old w piece new (Err (Format fault)) given = IsRefused (k.limits old) (w ++ piece) fault × k.keeps new w
+  -- what it held shows no fault, so the piece does
+  Takes old w piece new (Err (Format fault)) given = IsRefused (k.limits old) (w ++ piece) fault × IsPartial (k.limits old) w × k.keeps new w

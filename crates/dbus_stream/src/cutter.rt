@@ -2,6 +2,7 @@
 ghost use Rattle.std.specs.Prelude.{◌≡◌, ◌<◌, ◌≤◌, [], length, None, Some, Ok, Err, IfOk, IfSome};
 ghost use Rattle.dbus_value_model.specs.Specification.{specification};
 ghost use Rattle.dbus_value_model.specs.declared.fault.Fault.{Fault};
+ghost use Rattle.dbus_header.specs.MessageOutcomes.{IsPartial};
 ghost use Rattle.dbus_stream.specs.CutEnds.{truncated};
 ghost use Rattle.dbus_stream.specs.Cutting.{fresh, Takes, TakeAnswers};
 ghost use Rattle.dbus_stream.specs.CutterTaking.{cutting};
@@ -96,6 +97,8 @@ impl<A: Allocator + Copy> Cutter<A> {
         ensures moves { IfOk result (λ r. 0 < length piece.now → 0 < r.0) }
         // A message ends with a byte of the piece.
         ensures ends { IfOk result (λ r. IfSome r.1 (λ given. 0 < r.0)) }
+        // A fault shows in the piece.
+        ensures unshown { IsPartial self.old.limits self.old.held }
     {
         if let Some(fault) = self.fault {
             return Err(StreamFault::Format(fault));

@@ -1,10 +1,14 @@
 //! Laws of streams. Each function's contract is one, and it does nothing at run time.
-ghost use Rattle.std.specs.Prelude.{◌≡◌, ◌<◌, ◌+◌, ◌-◌, ℕ, Some};
+ghost use Rattle.std.specs.Prelude.{◌≡◌, ◌<◌, ◌+◌, ◌-◌, ℕ, List, Option, Some, length, take};
 ghost use Rattle.dbus_device.specs.Packets.{Packets};
+ghost use Rattle.dbus_device.specs.declared.packet.Packet.{Packet};
+ghost use Rattle.dbus_header.specs.MessageOutcomes.{IsPartial, IsRefused};
+ghost use Rattle.dbus_value_model.specs.declared.fault.Fault.{Fault};
 ghost use Rattle.dbus_value_model.specs.declared.limits.Limits.{Limits};
 ghost use Rattle.dbus_stream.specs.CutEnds.{CutOfPrefix, EachCut, NoneTruncated, OneCut, StatedSuffice};
 ghost use Rattle.dbus_stream.specs.Headline.{Headline};
-ghost use Rattle.dbus_stream.specs.RawReading.{HasPackets, IsNewReader, KeepsPackets, ReadsNothing, done_of, last_of, read_of, source_of};
+ghost use Rattle.dbus_stream.specs.Packets.{ShowsIn};
+ghost use Rattle.dbus_stream.specs.RawReading.{HasPackets, IsNewReader, KeepsPackets, ReadsNothing, ShowsLast, done_of, kept, last_of, read_of, source_of};
 ghost use Rattle.dbus_stream.specs.declared.raw_reader.RawReader.{RawReader};
 
 use dbus_device::Source;
@@ -69,4 +73,24 @@ pub fn packets_of_messages<R: Source, A: Allocator>()
         KeepsPackets R.packets R.packet old new }
     ensures given { (r : RawReader R A) (all : Packets) → HasPackets R.packets R.packet all r →
         read_of r < done_of r + last_of r → R.packet (source_of r) ≡ all (done_of r - 1) }
+{}
+
+/// So is the packet of a fault. If a message is refused, what was kept of it before the last read
+/// shows no fault, as the call's clause says, so [`RawReader::packet`] returns the packet of the
+/// byte with which its bytes are refused. If the input ends within a message, it returns that of
+/// its last byte.
+///
+/// [`RawReader::packet`]: crate::RawReader::packet
+pub fn packets_of_faults<R: Source, A: Allocator>()
+    ensures refused { (r : RawReader R A) (all : Packets) (limits : Limits) (fault : Fault) →
+        HasPackets R.packets R.packet all r → IsRefused limits (kept r) fault →
+        ShowsLast limits (kept r) r →
+        ShowsIn all limits (done_of r) (kept r) (R.packet (source_of r)) }
+    ensures ended { (r : RawReader R A) (all : Packets) (limits : Limits) →
+        HasPackets R.packets R.packet all r → 0 < length (kept r) → IsPartial limits (kept r) →
+        ShowsIn all limits (done_of r) (kept r) (R.packet (source_of r)) }
+    ensures shown { (all : Packets) (limits : Limits) (offset : ℕ) (bytes : List ℕ)
+        (packet : Option Packet) (i : ℕ) (fault : Fault) →
+        ShowsIn all limits offset bytes packet → i < length bytes →
+        IsRefused limits (take (i + 1) bytes) fault → all (offset + i) ≡ packet }
 {}

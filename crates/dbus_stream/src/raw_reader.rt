@@ -104,7 +104,7 @@ impl<R: Source, A: Allocator + Copy> RawReader<R, A> {
 
     /// The packet of the bytes that were read last, if the source says that they were of one. It is
     /// that of the last byte of the message that the last call gave; and after `Format` that of the
-    /// last byte that was read.
+    /// byte that shows the fault, or of the last byte of an input that ends within a message.
     pub fn packet(&self) -> Option<Packet>
         ensures { result ≡ R.packet (source_of self.now) }
     {

@@ -43,12 +43,12 @@ use Rattle.cli_report.specs.declared.ending.ExitStatus.{ExitStatus}
 use Rattle.cli_report.specs.declared.ending.ExitStatus.TheVariants as status
 use Rattle.cli_report.specs.Gathering.{Passes}
 use Rattle.cli_report.specs.declared.gathering.Unwritten.{Unwritten}
-use Rattle.cli_run.specs.Laws.{EndAlike, GotAlike, ReadAlike}
+use Rattle.cli_run.specs.Laws.{AreToldAlike, EndAlike, GotAlike, ReadAlike}
 use Rattle.cli_run.specs.Output.{IsExact}
 use Rattle.cli_run.proofs.SameOutputs.{acts_as}
 use Rattle.cli_run.specs.VisitorLaws.{wrote_nothing}
 use Rattle.cli_run.proofs.SameRuns.{one_calls, one_count, one_run}
-use Rattle.dbus_tool.specs.Alike.{AreOfSamePacketsAfter, IsOneWay, NameOneWay, OneProgram}
+use Rattle.dbus_tool.specs.Alike.{AreOfSamePacketsFrom, AskAlike, IsOneWay, NameOneWay, OneProgram, TellAlike}
 use Rattle.dbus_tool.specs.Handshaking.{TakesHandshake, TellsHandshake, ahead, handshake_line, EndsList, IsListed, Lengthens, Lists, WritesLines, last_line}
 use Rattle.dbus_tool.specs.Words.{Does, DoesBy, DoesTask, Notes, RunsNoted, calls_wanted, table_form}
 use Rattle.dbus_tool.specs.declared.words.Task.{Task}
@@ -78,7 +78,7 @@ no_fault (Some sub) (Count settings form) refused p h = omega (arith, ap mark p.
 no_fault (Some sub) (Calls settings wanted) refused p h = omega (arith, ap mark p.0, ap mark h.0.named)
 no_fault (Some sub) (Handshake side) refused p h = omega (arith, ap mark p.0, ap mark h.0.named)
 
-module _ {R W E : Type 0} (left : R → Option (List ℕ)) (calls failures : R → ℕ) (packets : R → Option Packets) (packet : R → Option Packet) (old new : ReadAhead R) (w : Writing W) (e : Writing E) (words : List Text) (OfSamePackets : Option Side → Type 0) (one : NameOneWay OfSamePackets words) (end : ExitStatus) (done : end ≢ status.Failed) where
+module _ {R W E : Type 0} (left : R → Option (List ℕ)) (calls failures : R → ℕ) (packets : R → Option Packets) (packet : R → Option Packet) (old new : ReadAhead R) (w : Writing W) (e : Writing E) (words : List Text) (one : NameOneWay words) (end : ExitStatus) (done : end ≢ status.Failed) where
   answer_is : (answer : Result Asked UsageFault) → IfOk answer (IsNamedBy words) → TellsFault words answer → Does left calls failures packets packet old new w e answer end
       → (asked : Asked) × IsNamedBy words asked × Does left calls failures packets packet old new w e (Ok asked) end
   answer_is (Ok asked) named told does = (asked, named, does)
@@ -93,23 +93,23 @@ module _ {R W E : Type 0} (left : R → Option (List ℕ)) (calls failures : R �
 
 -- ---- what is done in one way
 
-one_way_too : (OfSamePackets : Option Side → Type 0) (a b : Asked) → AreSameAsked a b → IsOneWay OfSamePackets a → IsOneWay OfSamePackets b
-one_way_too P (Messages c s) (Messages d t) h one = ((acts_as c d h.0).exact one.0, subst (λ (x : Settings). x.explains ≡ false) h.1 one.1)
-one_way_too P (Count s f) (Count t g) h one = subst (λ (x : Settings). x.explains ≡ false) h.0 one
-one_way_too P (Calls s f) (Calls t g) h one = subst (λ (x : Settings). (x.explains ≡ false) × P x.handshake) h.0 one
-one_way_too P (Handshake a) (Handshake b) h one = tt
-one_way_too P (Handshake a) (Calls t g) h one = absurd h
-one_way_too P (Messages c s) (Calls t g) h one = absurd h
-one_way_too P (Count s f) (Calls t g) h one = absurd h
-one_way_too P (Calls s f) (Messages d t) h one = absurd h
-one_way_too P (Calls s f) (Count t g) h one = absurd h
-one_way_too P (Calls s f) (Handshake b) h one = absurd h
-one_way_too P (Handshake a) (Messages d t) h one = absurd h
-one_way_too P (Handshake a) (Count t g) h one = absurd h
-one_way_too P (Messages c s) (Count t g) h one = absurd h
-one_way_too P (Messages c s) (Handshake b) h one = absurd h
-one_way_too P (Count s f) (Messages d t) h one = absurd h
-one_way_too P (Count s f) (Handshake b) h one = absurd h
+one_way_too : (a b : Asked) → AreSameAsked a b → IsOneWay a → IsOneWay b
+one_way_too (Messages c s) (Messages d t) h one = ((acts_as c d h.0).exact one.0, subst (λ (x : Settings). x.explains ≡ false) h.1 one.1)
+one_way_too (Count s f) (Count t g) h one = subst (λ (x : Settings). x.explains ≡ false) h.0 one
+one_way_too (Calls s f) (Calls t g) h one = subst (λ (x : Settings). x.explains ≡ false) h.0 one
+one_way_too (Handshake a) (Handshake b) h one = tt
+one_way_too (Handshake a) (Calls t g) h one = absurd h
+one_way_too (Messages c s) (Calls t g) h one = absurd h
+one_way_too (Count s f) (Calls t g) h one = absurd h
+one_way_too (Calls s f) (Messages d t) h one = absurd h
+one_way_too (Calls s f) (Count t g) h one = absurd h
+one_way_too (Calls s f) (Handshake b) h one = absurd h
+one_way_too (Handshake a) (Messages d t) h one = absurd h
+one_way_too (Handshake a) (Count t g) h one = absurd h
+one_way_too (Messages c s) (Count t g) h one = absurd h
+one_way_too (Messages c s) (Handshake b) h one = absurd h
+one_way_too (Count s f) (Messages d t) h one = absurd h
+one_way_too (Count s f) (Handshake b) h one = absurd h
 
 -- without a note
 module _ {R W E : Type 0} (left : R → Option (List ℕ)) (calls failures : R → ℕ) (packets : R → Option Packets) (packet : R → Option Packet) (old new : ReadAhead R) (w : Writing W) (e : Writing E) (settings : Settings) where
@@ -192,9 +192,6 @@ module _ {R S W V E F : Type 0} (one_table : OneTable) (left : R → Option (Lis
     (other_packets : S → Option Packets) (other_packet : S → Option Packet) (r0 r1 : ReadAhead R)
     (s0 s1 : ReadAhead S) (w : Writing W) (v : Writing V) (e : Writing E) (f : Writing F) (end other : ExitStatus) (input : ReadAlike (ahead left calls failures packets packet r0 r1) (ahead other_left other_calls other_failures other_packets other_packet s0 s1))
     (done : end ≢ status.Failed) (other_done : other ≢ status.Failed) where
-  abbrev SamePackets : Option Side → Type 0
-  SamePackets side = AreOfSamePacketsAfter left calls failures packets packet other_left other_calls other_failures other_packets other_packet r0 s0 side
-
   -- what follows in both sources is the same
   abbrev FromHere : ReadAhead R → ReadAhead S → Type 0
   FromHere r s = ReadAlike (ahead left calls failures packets packet r r1) (ahead other_left other_calls other_failures other_packets other_packet s s1)
@@ -212,6 +209,18 @@ module _ {R S W V E F : Type 0} (one_table : OneTable) (left : R → Option (Lis
       begun : (a : Result (Unit {0}) HandshakeFault) → IfOk a (λ x. (bytes : List ℕ) × FollowsAlike left other_left input.0 bytes r s) → IfOk a (λ x. FromHere r s)
       begun (Ok x) g = (g.1.0, IsBytes-rest input.0 g.0 g.1.0 g.1.1 input.1, g.1.2, g.1.3)
       begun (Err why) g = tt
+
+  -- both inputs are of the same packets from where the messages begin
+  abbrev SameFrom : Settings → Type 0
+  SameFrom settings = AreOfSamePacketsFrom left calls failures packets packet other_left other_calls other_failures other_packets other_packet r0 r1 s0 s1 end settings
+
+  -- what is told of refused messages is the same
+  abbrev Told : Settings → Type 0
+  Told settings = TellAlike left calls failures packets packet other_left other_calls other_failures other_packets other_packet r0 r1 s0 s1 end settings
+
+  told_from : (settings : Settings) (r : ReadAhead R) (s : ReadAhead S) → TakesHandshake left calls failures settings.handshake r0 r (Ok tt) → TakesHandshake other_left other_calls other_failures settings.handshake s0 s (Ok tt)
+      → Told settings → AreToldAlike (ahead left calls failures packets packet r r1) (ahead other_left other_calls other_failures other_packets other_packet s s1) end
+  told_from settings r s h k told = elim told [ inl same ↦ inl (same r s h k) | inr all ↦ inr all ]
 
   tasks_alike : (settings : Settings) (task copy : Task)
       → ((r : ReadAhead R) (s : ReadAhead S) → TakesHandshake left calls failures settings.handshake r0 r (Ok tt) → TakesHandshake other_left other_calls other_failures settings.handshake s0 s (Ok tt)
@@ -250,53 +259,53 @@ module _ {R S W V E F : Type 0} (one_table : OneTable) (left : R → Option (Lis
       let ends = lists_alike e f end other done other_done h.read k.read one.1 h.ends k.ends in
       record { status_is = ends.0; first = (h.text ++ last_line h.read, h.wrote, subst (λ l. Wrote v.held v.failures v.old l v.new) (sym all) k.wrote); second = ends.1 }
 
-  runs_alike : (c d : Command) (settings : Settings) → AreSameCommand c d → IsExact c → settings.explains ≡ false → DoesTask left calls failures packets packet r0 r1 w e settings (Run c) end
+  runs_alike : (c d : Command) (settings : Settings) → Told settings → AreSameCommand c d → IsExact c → settings.explains ≡ false → DoesTask left calls failures packets packet r0 r1 w e settings (Run c) end
       → DoesTask other_left other_calls other_failures other_packets other_packet s0 s1 v f settings (Run d) other → EndAlike w v e f end other
-  runs_alike c d settings same exact off = tasks_alike settings (Run c) (Run d) (λ r s taken also here does doing.
+  runs_alike c d settings told same exact off = tasks_alike settings (Run c) (Run d) (λ r s taken also here does doing.
       (one_run (ReadAhead R) (ReadAhead S) W V E F (ahead left calls failures packets packet r r1) (ahead other_left other_calls other_failures other_packets other_packet s s1) w v e f settings _ _ c d end other same
-      (record { input = here; explains = inl off; done = done; other_done = other_done }) does doing).1 exact)
+      (record { input = here; told = told_from settings r s taken also told; explains = inl off; done = done; other_done = other_done }) does doing).1 exact)
 
-  counts_alike : (settings : Settings) (form : CountForm) → settings.explains ≡ false → DoesTask left calls failures packets packet r0 r1 w e settings (CountAll form) end
+  counts_alike : (settings : Settings) (form : CountForm) → Told settings → settings.explains ≡ false → DoesTask left calls failures packets packet r0 r1 w e settings (CountAll form) end
       → DoesTask other_left other_calls other_failures other_packets other_packet s0 s1 v f settings (CountAll form) other → EndAlike w v e f end other
-  counts_alike settings form off = tasks_alike settings (CountAll form) (CountAll form) (λ r s taken also here does doing.
+  counts_alike settings form told off = tasks_alike settings (CountAll form) (CountAll form) (λ r s taken also here does doing.
       one_count (ReadAhead R) (ReadAhead S) W V E F one_table (ahead left calls failures packets packet r r1) (ahead other_left other_calls other_failures other_packets other_packet s s1) w v e f settings (table_form form) _ _ end other
-      (record { input = here; explains = inl off; done = done; other_done = other_done }) does doing)
+      (record { input = here; told = told_from settings r s taken also told; explains = inl off; done = done; other_done = other_done }) does doing)
 
-  called_alike : (settings : Settings) (wanted : WantedCalls) → settings.explains ≡ false → SamePackets settings.handshake → DoesTask left calls failures packets packet r0 r1 w e settings (ListAll wanted) end
+  called_alike : (settings : Settings) (wanted : WantedCalls) → SameFrom settings → settings.explains ≡ false → DoesTask left calls failures packets packet r0 r1 w e settings (ListAll wanted) end
       → DoesTask other_left other_calls other_failures other_packets other_packet s0 s1 v f settings (ListAll wanted) other → EndAlike w v e f end other
-  called_alike settings wanted off same = tasks_alike settings (ListAll wanted) (ListAll wanted) (λ r s taken also here does doing.
+  called_alike settings wanted same off = tasks_alike settings (ListAll wanted) (ListAll wanted) (λ r s taken also here does doing.
       one_calls (ReadAhead R) (ReadAhead S) W V E F (ahead left calls failures packets packet r r1) (ahead other_left other_calls other_failures other_packets other_packet s s1) w v e f settings (calls_wanted wanted) _ _ end other
-      (record { input = here; explains = inl off; done = done; other_done = other_done }) (let packets = same r s taken also in record { all = packets.all; one = packets.one; same = packets.same }) does doing)
+      (record { input = here; told = inl (same r s taken also); explains = inl off; done = done; other_done = other_done }) (same r s taken also) does doing)
 
-  alike : (a b : Asked) → AreSameAsked a b → IsOneWay SamePackets a → Does left calls failures packets packet r0 r1 w e (Ok a) end → Does other_left other_calls other_failures other_packets other_packet s0 s1 v f (Ok b) other → EndAlike w v e f end other
-  alike (Messages c settings) (Messages d t) same one does doing =
+  alike : (a b : Asked) → AreSameAsked a b → IsOneWay a → AskAlike left calls failures packets packet other_left other_calls other_failures other_packets other_packet r0 r1 s0 s1 end a → Does left calls failures packets packet r0 r1 w e (Ok a) end → Does other_left other_calls other_failures other_packets other_packet s0 s1 v f (Ok b) other → EndAlike w v e f end other
+  alike (Messages c settings) (Messages d t) same one told does doing =
       let there = subst (λ (x : Settings). Does other_left other_calls other_failures other_packets other_packet s0 s1 v f (Ok (Messages d x)) other) (sym same.1) doing in
-      runs_alike c d settings same.0 one.0 one.1 (unnoted left calls failures packets packet r0 r1 w e settings c end done one.1 does)
+      runs_alike c d settings told same.0 one.0 one.1 (unnoted left calls failures packets packet r0 r1 w e settings c end done one.1 does)
       (unnoted other_left other_calls other_failures other_packets other_packet s0 s1 v f settings d other other_done one.1 there)
-  alike (Count settings form) (Count t g) same one does doing =
+  alike (Count settings form) (Count t g) same one told does doing =
       let there = subst (λ (x : Settings). Does other_left other_calls other_failures other_packets other_packet s0 s1 v f (Ok (Count x g)) other) (sym same.0) doing in
-      counts_alike settings form one does (subst (λ (x : CountForm). Does other_left other_calls other_failures other_packets other_packet s0 s1 v f (Ok (Count settings x)) other) (sym same.1) there)
-  alike (Calls settings wanted) (Calls t g) same one does doing =
+      counts_alike settings form told one does (subst (λ (x : CountForm). Does other_left other_calls other_failures other_packets other_packet s0 s1 v f (Ok (Count settings x)) other) (sym same.1) there)
+  alike (Calls settings wanted) (Calls t g) same one told does doing =
       let there = subst (λ (x : Settings). Does other_left other_calls other_failures other_packets other_packet s0 s1 v f (Ok (Calls x g)) other) (sym same.0) doing in
-      called_alike settings wanted one.0 one.1 does (subst (λ (x : WantedCalls). Does other_left other_calls other_failures other_packets other_packet s0 s1 v f (Ok (Calls settings x)) other) (sym same.1) there)
-  alike (Handshake side) (Handshake b) same one does doing =
+      called_alike settings wanted told one does (subst (λ (x : WantedCalls). Does other_left other_calls other_failures other_packets other_packet s0 s1 v f (Ok (Calls settings x)) other) (sym same.1) there)
+  alike (Handshake side) (Handshake b) same one told does doing =
       listed_alike side does (subst (λ (x : Side). Does other_left other_calls other_failures other_packets other_packet s0 s1 v f (Ok (Handshake x)) other) (sym same) doing)
-  alike (Handshake side) (Messages d u) same one does doing = absurd same
-  alike (Handshake side) (Count u g) same one does doing = absurd same
-  alike (Messages c t) (Count u g) same one does doing = absurd same
-  alike (Messages c t) (Handshake b) same one does doing = absurd same
-  alike (Count t g) (Messages d u) same one does doing = absurd same
-  alike (Count t g) (Handshake b) same one does doing = absurd same
-  alike (Count t g) (Calls u k) same one does doing = absurd same
-  alike (Messages c t) (Calls u k) same one does doing = absurd same
-  alike (Handshake side) (Calls u k) same one does doing = absurd same
-  alike (Calls t g) (Messages d u) same one does doing = absurd same
-  alike (Calls t g) (Count u k) same one does doing = absurd same
-  alike (Calls t g) (Handshake b) same one does doing = absurd same
+  alike (Handshake side) (Messages d u) same one told does doing = absurd same
+  alike (Handshake side) (Count u g) same one told does doing = absurd same
+  alike (Messages c t) (Count u g) same one told does doing = absurd same
+  alike (Messages c t) (Handshake b) same one told does doing = absurd same
+  alike (Count t g) (Messages d u) same one told does doing = absurd same
+  alike (Count t g) (Handshake b) same one told does doing = absurd same
+  alike (Count t g) (Calls u k) same one told does doing = absurd same
+  alike (Messages c t) (Calls u k) same one told does doing = absurd same
+  alike (Handshake side) (Calls u k) same one told does doing = absurd same
+  alike (Calls t g) (Messages d u) same one told does doing = absurd same
+  alike (Calls t g) (Count u k) same one told does doing = absurd same
+  alike (Calls t g) (Handshake b) same one told does doing = absurd same
 
 pub one_program : (R S W V E F : Type 0) → OneTable → OneProgram R S W V E F
-one_program R S W V E F one_table left calls failures packets packet other_left other_calls other_failures other_packets other_packet r0 r1 s0 s1 w v e f words end other one input done other_done runs ran =
-    let a = answer_is left calls failures packets packet r0 r1 w e words _ one end done runs.answer runs.named runs.told runs.does in
-    let b = answer_is other_left other_calls other_failures other_packets other_packet s0 s1 v f words _ one other other_done ran.answer ran.named ran.told ran.does in
+one_program R S W V E F one_table left calls failures packets packet other_left other_calls other_failures other_packets other_packet r0 r1 s0 s1 w v e f words end other one input told done other_done runs ran =
+    let a = answer_is left calls failures packets packet r0 r1 w e words one end done runs.answer runs.named runs.told runs.does in
+    let b = answer_is other_left other_calls other_failures other_packets other_packet s0 s1 v f words one other other_done ran.answer ran.named ran.told ran.does in
     alike one_table left calls failures packets packet other_left other_calls other_failures other_packets other_packet r0 r1 s0 s1 w v e f end other input done other_done a.0 b.0 (same_asked words a.0 b.0 a.1 b.1)
-    (one_way_too _ one.asked a.0 (same_asked words one.asked a.0 one.named a.1) one.one_way) a.2 b.2
+    (one_way_too one.asked a.0 (same_asked words one.asked a.0 one.named a.1) one.one_way) (told a.0 a.1) a.2 b.2

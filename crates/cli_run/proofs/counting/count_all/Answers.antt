@@ -1,13 +1,15 @@
 use Rattle.std.proofs.Common.{◌≡◌, ◌≤◌, ◌<◌, ◌^◌, ◌+◌, ◌++◌, [], drop, None, Ok, arith, refl, sym, ap, ◌∙◌, subst}
 use Rattle.dbus_header.proofs.OutcomeLaws.{whole_inside}
 use Rattle.dbus_stream.specs.CheckReading.{GivesLength, limits_of, Reads, lengths}
-use Rattle.dbus_stream.specs.Cut.{CutMessage, Ended}
+use Rattle.dbus_stream.specs.Cut.{CutMessage}
 use Rattle.dbus_stream.specs.Reading.{done_of, most_reads_of, source_of}
 use Rattle.cli_run.specs.ByName.{Tallies, ended_by}
 use Rattle.cli_report.specs.Devices.{reading, taken}
 use Rattle.cli_run.proofs.ReadSteps.{length-sizes}
-use Rattle.cli_run.proofs.HandSteps.{hands_none, hands_more, hands_all, hands_faulted}
-use Rattle.cli_run.proofs.CountSteps.{adds_up, check_faults, counts, none_known, tallied}
+use Rattle.cli_run.specs.Refusals.{number_of}
+use Rattle.cli_run.proofs.HandSteps.{hands_none, hands_more, hands_ended, hands_faulted}
+use Rattle.cli_run.proofs.KnownPackets.{check_begins, keeps_if}
+use Rattle.cli_run.proofs.CountSteps.{adds_up, check_faults, counts, none_known, read_kept, tallied}
 use Rattle.cli_run.proofs.counting.count_all.Goals as goal
 use Rattle.cli_run.proofs.counting.count_all.Goals.{In-Ok-Some}
 
@@ -18,6 +20,7 @@ messages-init g c =
       new.kept,
       hands_none lengths g.R.Source.left g.R.Source.calls g.R.Source.failures counts (limits_of c.args.messages.now) [] 0 none_known adds_up.nothing c.args.messages.now tt refl new.stopped,
       refl,
+      check_begins g.R.Source.packets g.R.Source.packet c.args.messages.now _ _ new,
     )
 
 -- what the reader gave
@@ -46,6 +49,7 @@ messages-preserved g c =
       hands_more adds_up c.messages.invariant.2 given.0 {s2 = tt} tt item gives.whole c.in-Ok-Some.ensures.failed
           (record { number = c.messages.count + 1; offset = done_of c.messages.messages; time = None }) refl refl (λ packets never. absurd never) gives.done gives.unstopped tt,
       c.next.ensures.same_reference ∙ c.messages.invariant.3,
+      keeps_if g.R.Source.packets g.R.Source.packet c.messages.messages c.next.new.self _ c.next.ensures.packets c.messages.invariant.4,
     )
 
 pub messages-smaller : goal.messages-smaller
@@ -62,9 +66,11 @@ returns-in-Ok-None-clause-counts g c =
     let h = c.messages.invariant.2 in
     let read = rw c.in-Ok-None.field-0-is at (c.in-Ok-None.ensures.read rest c.messages.invariant.1) in
     let answer = read.1 h.unstopped in
+    let known = keeps_if g.R.Source.packets g.R.Source.packet c.messages.messages c.next.new.self _ c.next.ensures.packets c.messages.invariant.4 in
+    let kept = answer.2.kept in
     λ settings no_more same.
-    tallied g.R.Source.left g.R.Source.calls g.R.Source.failures g.R.Source.packets c.args.messages.now c.next.new.self c.requires settings no_more same (Ok _)
-    (hands_all adds_up h read.0 {s2 = tt} tt Ended _ refl c.done.ensures answer.2.done refl answer.0 (λ _. answer.1) c.in-Ok-None.ensures.failed)
+    tallied g.R.Source.left g.R.Source.calls g.R.Source.failures g.R.Source.packets g.R.Source.packet c.args.messages.now c.next.new.self c.requires known settings no_more same (Ok _)
+    (hands_ended adds_up h read.0 {s2 = tt} tt _ refl c.done.ensures answer.2.done refl answer.0 answer.1 c.in-Ok-None.ensures.failed (read_kept _ kept.held c.next.new.self kept.size kept.bytes))
 
 pub returns-in-Err-clause-counts : goal.returns-in-Err-clause-counts
 returns-in-Err-clause-counts g c =
@@ -73,7 +79,9 @@ returns-in-Err-clause-counts g c =
     let fault = c.in-Err.fault in
     let read = c.in-Err.ensures.read rest c.messages.invariant.1 in
     let answer : c.ended_by.result ≡ ended_by c.messages.count (done_of c.next.new.self) fault = c.ended_by.ensures ∙ ap (λ n. ended_by c.messages.count n fault) c.done-in-Err.ensures in
+    let known = keeps_if g.R.Source.packets g.R.Source.packet c.messages.messages c.next.new.self _ c.next.ensures.packets c.messages.invariant.4 in
     λ settings no_more same.
-    subst (λ x. Tallies (taken (reading g.R.Source.left g.R.Source.calls g.R.Source.failures g.R.Source.packets (source_of c.args.messages.now) (source_of c.next.new.self))) settings (most_reads_of c.args.messages.now) x) (sym answer)
-    (tallied g.R.Source.left g.R.Source.calls g.R.Source.failures g.R.Source.packets c.args.messages.now c.next.new.self c.requires settings no_more same (ended_by c.messages.count (done_of c.next.new.self) fault)
+    subst (λ x. Tallies (taken (reading g.R.Source.left g.R.Source.calls g.R.Source.failures g.R.Source.packets (source_of c.args.messages.now) (source_of c.next.new.self))) settings (most_reads_of c.args.messages.now)
+    (number_of (g.R.Source.packet (source_of c.next.new.self))) x) (sym answer)
+    (tallied g.R.Source.left g.R.Source.calls g.R.Source.failures g.R.Source.packets g.R.Source.packet c.args.messages.now c.next.new.self c.requires known settings no_more same (ended_by c.messages.count (done_of c.next.new.self) fault)
     (hands_faulted adds_up h read.0 {s2 = tt} tt fault (check_faults (rest ++ read.0.bytes) c.messages.messages c.next.new.self fault (read.1 h.unstopped)) c.in-Err.ensures.failed tt))

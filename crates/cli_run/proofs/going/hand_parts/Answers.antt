@@ -1,5 +1,6 @@
-use Rattle.std.proofs.Common.{◌≡◌, Bool, not, true, false, arith, refl, sym, ◌∙◌}
+use Rattle.std.proofs.Common.{◌≡◌, Bool, not, true, false, ap, arith, refl, sym, ◌∙◌}
 use Rattle.dbus_stream.specs.RawReading.{done_of}
+use Rattle.cli_run.specs.Refusals.{number_of}
 use Rattle.cli_run.proofs.GoEnds.{breaks, closes, finished, goes_on, halts, not_told, stays}
 use Rattle.cli_run.proofs.KnownPackets.{known_first, known_still}
 use Rattle.cli_run.proofs.GoSteps.{gone_none, within, done_small, grows, reach, stop_hand}
@@ -29,49 +30,56 @@ returns-in-Err-clause-passes g c =
 pub returns-in-None-clause-passes : goal.returns-in-None-clause-passes
 returns-in-None-clause-passes g c =
     let laws = g.met.V.MessageVisitor.adds_up in
-    let r = reach c.parts.invariant.0 laws c.parts.invariant.4 c.hand_all.new.messages c.hand_all.new.visitor c.in-Ok.counted c.up_to-tally.result c.up_to-tally.ensures c.in-Ok.ensures.hands in
+    let r = reach c.parts.invariant.0 laws c.parts.invariant.4 c.hand_all.new.messages c.hand_all.new.visitor
+    (known_still g.R.Source.packets g.R.Source.packet c.parts.messages c.hand_all.new.messages _ c.hand_all.ensures.packets c.parts.invariant.4) c.in-Ok.counted c.up_to-tally.result c.up_to-tally.ensures c.in-Ok.ensures.hands in
     closes (finished laws r c.in-None.is) laws c.in-Ok.ensures.settled c.close.new.visitor c.close.result c.close.ensures.closes
 
 pub overflow_add-refusal : goal.overflow_add-refusal
 overflow_add-refusal g c =
-    let r = reach c.parts.invariant.0 g.met.V.MessageVisitor.adds_up c.parts.invariant.4 c.hand_all.new.messages c.hand_all.new.visitor c.in-Ok.counted c.up_to-tally.result c.up_to-tally.ensures c.in-Ok.ensures.hands in
+    let r = reach c.parts.invariant.0 g.met.V.MessageVisitor.adds_up c.parts.invariant.4 c.hand_all.new.messages c.hand_all.new.visitor
+    (known_still g.R.Source.packets g.R.Source.packet c.parts.messages c.hand_all.new.messages _ c.hand_all.ensures.packets c.parts.invariant.4) c.in-Ok.counted c.up_to-tally.result c.up_to-tally.ensures c.in-Ok.ensures.hands in
     let far = within r.gone in
     omega (arith, far.count, far.small, r.count_is)
 
 pub returns-in-Err-tell-clause-passes : goal.returns-in-Err-tell-clause-passes
 returns-in-Err-tell-clause-passes g c =
     let laws = g.met.V.MessageVisitor.adds_up in
-    let r = reach c.parts.invariant.0 laws c.parts.invariant.4 c.hand_all.new.messages c.hand_all.new.visitor c.in-Ok.counted c.up_to-tally.result c.up_to-tally.ensures c.in-Ok.ensures.hands in
-    not_told laws r c.in-Some.is c.in-Ok.ensures.settled c.tell.new.visitor c.in-Err-tell.stop c.in-Err-tell.ensures.tells
+    let r = reach c.parts.invariant.0 laws c.parts.invariant.4 c.hand_all.new.messages c.hand_all.new.visitor
+    (known_still g.R.Source.packets g.R.Source.packet c.parts.messages c.hand_all.new.messages _ c.hand_all.ensures.packets c.parts.invariant.4) c.in-Ok.counted c.up_to-tally.result c.up_to-tally.ensures c.in-Ok.ensures.hands in
+    not_told laws r c.in-Some.is c.number_of.result (c.number_of.ensures ∙ ap number_of c.packet.ensures) c.in-Ok.ensures.settled c.tell.new.visitor c.in-Err-tell.stop c.in-Err-tell.ensures.tells
 
 pub returns-then-not-settings-clause-passes : goal.returns-then-not-settings-clause-passes
 returns-then-not-settings-clause-passes g c =
     let laws = g.met.V.MessageVisitor.adds_up in
-    let r = reach c.parts.invariant.0 laws c.parts.invariant.4 c.hand_all.new.messages c.hand_all.new.visitor c.in-Ok.counted c.up_to-tally.result c.up_to-tally.ensures c.in-Ok.ensures.hands in
+    let r = reach c.parts.invariant.0 laws c.parts.invariant.4 c.hand_all.new.messages c.hand_all.new.visitor
+    (known_still g.R.Source.packets g.R.Source.packet c.parts.messages c.hand_all.new.messages _ c.hand_all.ensures.packets c.parts.invariant.4) c.in-Ok.counted c.up_to-tally.result c.up_to-tally.ensures c.in-Ok.ensures.hands in
     let told = c.in-Ok-tell.ensures.tells in
-    let ended = halts laws r c.in-Some.is told.0 told.1 told.2 (unset c.args.settings.keeps_going c.if-not-settings.true) in
+    let ended = halts laws r c.in-Some.is c.number_of.result (c.number_of.ensures ∙ ap number_of c.packet.ensures) told.0 told.1 told.2 (unset c.args.settings.keeps_going c.if-not-settings.true) in
     closes ended laws c.in-Ok-tell.ensures.settled c.close-then-not-settings.new.visitor c.close-then-not-settings.result c.close-then-not-settings.ensures.closes
 
 pub returns-in-Ok-false-clause-passes : goal.returns-in-Ok-false-clause-passes
 returns-in-Ok-false-clause-passes g c =
     let laws = g.met.V.MessageVisitor.adds_up in
-    let r = reach c.parts.invariant.0 laws c.parts.invariant.4 c.hand_all.new.messages c.hand_all.new.visitor c.in-Ok.counted c.up_to-tally.result c.up_to-tally.ensures c.in-Ok.ensures.hands in
+    let r = reach c.parts.invariant.0 laws c.parts.invariant.4 c.hand_all.new.messages c.hand_all.new.visitor
+    (known_still g.R.Source.packets g.R.Source.packet c.parts.messages c.hand_all.new.messages _ c.hand_all.ensures.packets c.parts.invariant.4) c.in-Ok.counted c.up_to-tally.result c.up_to-tally.ensures c.in-Ok.ensures.hands in
     let told = c.in-Ok-tell.ensures.tells in
-    let ended = stays laws r c.in-Some.is told.0 told.1 told.2 c.pass_over.new.self (set c.args.settings.keeps_going c.if-not-settings.false) (rw c.in-Ok-false.field-0-test at c.in-Ok-false.ensures.passes) c.in-Ok-false.ensures.failed in
+    let ended = stays laws r c.in-Some.is c.number_of.result (c.number_of.ensures ∙ ap number_of c.packet.ensures) told.0 told.1 told.2 c.pass_over.new.self (set c.args.settings.keeps_going c.if-not-settings.false) (rw c.in-Ok-false.field-0-test at c.in-Ok-false.ensures.passes) c.in-Ok-false.ensures.failed in
     closes ended laws c.in-Ok-tell.ensures.settled c.close-in-Ok-false.new.visitor c.close-in-Ok-false.result c.close-in-Ok-false.ensures.closes
 
 pub returns-in-Err-pass_over-clause-passes : goal.returns-in-Err-pass_over-clause-passes
 returns-in-Err-pass_over-clause-passes g c =
     let laws = g.met.V.MessageVisitor.adds_up in
-    let r = reach c.parts.invariant.0 laws c.parts.invariant.4 c.hand_all.new.messages c.hand_all.new.visitor c.in-Ok.counted c.up_to-tally.result c.up_to-tally.ensures c.in-Ok.ensures.hands in
+    let r = reach c.parts.invariant.0 laws c.parts.invariant.4 c.hand_all.new.messages c.hand_all.new.visitor
+    (known_still g.R.Source.packets g.R.Source.packet c.parts.messages c.hand_all.new.messages _ c.hand_all.ensures.packets c.parts.invariant.4) c.in-Ok.counted c.up_to-tally.result c.up_to-tally.ensures c.in-Ok.ensures.hands in
     let told = c.in-Ok-tell.ensures.tells in
     rw c.cause_of.ensures
-    (breaks laws r c.in-Some.is told.0 told.1 told.2 c.pass_over.new.self c.in-Ok-tell.ensures.settled (set c.args.settings.keeps_going c.if-not-settings.false) c.in-Err-pass_over.fault
+    (breaks laws r c.in-Some.is c.number_of.result (c.number_of.ensures ∙ ap number_of c.packet.ensures) told.0 told.1 told.2 c.pass_over.new.self c.in-Ok-tell.ensures.settled (set c.args.settings.keeps_going c.if-not-settings.false) c.in-Err-pass_over.fault
     c.in-Err-pass_over.ensures.passes c.in-Err-pass_over.ensures.failed)
 
 pub past-tally-requires : goal.past-tally-requires
 past-tally-requires g c =
-    let r = reach c.parts.invariant.0 g.met.V.MessageVisitor.adds_up c.parts.invariant.4 c.hand_all.new.messages c.hand_all.new.visitor c.in-Ok.counted c.up_to-tally.result c.up_to-tally.ensures c.in-Ok.ensures.hands in
+    let r = reach c.parts.invariant.0 g.met.V.MessageVisitor.adds_up c.parts.invariant.4 c.hand_all.new.messages c.hand_all.new.visitor
+    (known_still g.R.Source.packets g.R.Source.packet c.parts.messages c.hand_all.new.messages _ c.hand_all.ensures.packets c.parts.invariant.4) c.in-Ok.counted c.up_to-tally.result c.up_to-tally.ensures c.in-Ok.ensures.hands in
     let far = within r.gone in
     let on = grows g.R.Source.left g.R.Source.calls c.hand_all.new.messages c.pass_over.new.self (rw c.in-Ok-true.field-0-test at c.in-Ok-true.ensures.passes) in
     let small = done_small c.pass_over.new.self in
@@ -86,10 +94,11 @@ past-tally-requires g c =
 pub parts-preserved : goal.parts-preserved
 parts-preserved g c =
     let laws = g.met.V.MessageVisitor.adds_up in
-    let r = reach c.parts.invariant.0 laws c.parts.invariant.4 c.hand_all.new.messages c.hand_all.new.visitor c.in-Ok.counted c.up_to-tally.result c.up_to-tally.ensures c.in-Ok.ensures.hands in
+    let r = reach c.parts.invariant.0 laws c.parts.invariant.4 c.hand_all.new.messages c.hand_all.new.visitor
+    (known_still g.R.Source.packets g.R.Source.packet c.parts.messages c.hand_all.new.messages _ c.hand_all.ensures.packets c.parts.invariant.4) c.in-Ok.counted c.up_to-tally.result c.up_to-tally.ensures c.in-Ok.ensures.hands in
     let told = c.in-Ok-tell.ensures.tells in
     let passes = rw c.in-Ok-true.field-0-test at c.in-Ok-true.ensures.passes in (
-      goes_on laws r c.in-Some.is told.0 told.1 told.2 c.pass_over.new.self c.past-tally.result c.done.result c.done.ensures c.past-tally.ensures
+      goes_on laws r c.in-Some.is c.number_of.result (c.number_of.ensures ∙ ap number_of c.packet.ensures) told.0 told.1 told.2 c.pass_over.new.self c.past-tally.result c.done.result c.done.ensures c.past-tally.ensures
           (set c.args.settings.keeps_going c.if-not-settings.false) passes c.in-Ok-true.ensures.failed,
       (grows g.R.Source.left g.R.Source.calls c.hand_all.new.messages c.pass_over.new.self passes).0,
       c.in-Ok-tell.ensures.settled,

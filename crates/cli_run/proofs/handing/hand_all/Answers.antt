@@ -1,6 +1,5 @@
 use Rattle.std.proofs.Common.{◌≡◌, ◌≤◌, ◌<◌, ◌^◌, ◌+◌, ◌++◌, Err, IfOk, Ok, Some, arith, refl, sym, ap, ◌∙◌, subst}
 use Rattle.dbus_header.proofs.OutcomeLaws.{whole_inside}
-use Rattle.dbus_stream.specs.Cut.{Ended}
 use Rattle.dbus_stream.specs.Gathering.{gathering}
 use Rattle.dbus_stream.specs.RawReading.{KeepsPackets, limits_of, done_of, kept}
 use Rattle.cli_run.specs.ByName.{stopped_by}
@@ -10,7 +9,7 @@ use Rattle.cli_run.specs.Onward.{HasKnownPackets, RawHandsOn}
 use Rattle.cli_run.specs.declared.place.MessagePlace.{MessagePlace}
 use Rattle.cli_run.proofs.KnownPackets.{lent_time}
 use Rattle.cli_run.proofs.ReadSteps.{length-sizes}
-use Rattle.cli_run.proofs.HandSteps.{HasHanded, hands_none, hands_more, hands_all, hands_stopped, hands_not, item_of, settled_last, still, took_lent}
+use Rattle.cli_run.proofs.HandSteps.{HasHanded, hands_none, hands_more, hands_end, hands_stopped, hands_not, item_of, settled_last, still, took_lent}
 use Rattle.cli_run.proofs.OutputSteps.{lent_validated}
 use Rattle.cli_run.proofs.handing.hand_all.Goals as goal
 use Rattle.cli_run.proofs.handing.hand_all.Goals.{In-Ok-Some}
@@ -86,14 +85,8 @@ returns-in-Err-take-clause-hands g c =
 
 pub returns-in-Ok-None-clause-hands : goal.returns-in-Ok-None-clause-hands
 returns-in-Ok-None-clause-hands g c =
-    let laws = g.met.V.MessageVisitor.adds_up in
-    let given = rw c.in-Ok-None.field-0-is at c.in-Ok-None.ensures.gives in
-    let ends = given.2.1 in
-    record {
-      all = hands_all laws (still laws c.args.messages.now c.messages.messages given.0 c.messages.invariant.0 given.1) given.2.0 given.2.3 Ended _ refl c.done.ensures ends.2.done refl ends.0 (λ _. ends.1) given.2.2;
-      kept = ends.2.kept;
-      stopped = ends.3;
-    }
+    hands_end g.met.V.MessageVisitor.adds_up c.args.messages.now c.messages.messages c.messages.invariant.0 c.next_message.new.messages c.next_message.new.visitor c.done.result c.done.ensures
+    (rw c.in-Ok-None.field-0-is at c.in-Ok-None.ensures.gives)
 
 pub returns-in-Ok-None-clause-settled : goal.returns-in-Ok-None-clause-settled
 returns-in-Ok-None-clause-settled g c = c.in-Ok-None.ensures.gives.2.4 c.in-Ok-None.field-0-is

@@ -16,3 +16,6 @@ pub returns-clause-ends : goal.returns-clause-ends
 returns-clause-ends g c =
     answer_ends c.args.self.now c.args.piece.now c.take_on.new.self c.take_on.result
     (subst (λ (s : CutterState). IsPartial s.limits s.held) c.self.view_is c.self.invariant.partial) c.take_on.ensures
+
+pub returns-clause-unshown : goal.returns-clause-unshown
+returns-clause-unshown g c = subst (λ (s : CutterState). IsPartial s.limits s.held) c.self.view_is c.self.invariant.partial

@@ -15,4 +15,4 @@ returns-in-Ok-clause-takes g c = λ w holds size.
 pub returns-in-Err-clause-takes : goal.returns-in-Err-clause-takes
 returns-in-Err-clause-takes g c = λ w holds size.
     subst (λ v. Takes (cutting g.row.A.Denot) c.args.self.now v c.args.piece.now c.take.new.self (Err c.in-Err.fault) c.args.given.now) holds.0
-    (refuses c.args.self.now c.args.piece.now c.take.new.self c.in-Err.fault c.args.given.now (rw c.in-Err.is at (c.take.ensures.takes.answers holds.1)) holds.1)
+    (refuses c.args.self.now c.args.piece.now c.take.new.self c.in-Err.fault c.args.given.now (rw c.in-Err.is at (c.take.ensures.takes.answers holds.1)) holds.1 c.take.ensures.unshown)

@@ -1,7 +1,7 @@
 use Rattle.std.proofs.Common.{rules, ◌≡◌, true, false, ℕ, List, ◌++◌, take, ap, subst, sym, ◌∙◌}
 use Rattle.dbus_check.specs.Checks.{Stands, Takes}
 use Rattle.dbus_check.specs.declared.check.Check.TheVariants as check
-use Rattle.dbus_header.specs.MessageOutcomes.{IsPartial}
+use Rattle.dbus_header.specs.MessageOutcomes.{IsPartial, IsRefused}
 use Rattle.dbus_header.proofs.OutcomeLaws.{nothing_partial}
 use Rattle.dbus_stream.specs.Gathering.{GathererState, Gathered, under_way, IsOneMessage}
 use Rattle.dbus_stream.proofs.CutterSteps.{ends_later, one_message}
@@ -50,3 +50,19 @@ returns-else-is_err-2 g c =
       whole = takes.3;
       state = ap (λ (h : List ℕ). record { limits = old.limits; held = h; whole = true; lent = old.lent }) now_held;
     })
+
+-- what is held shows no fault
+pub returns-in-Refused : goal.returns-in-Refused
+returns-in-Refused g c =
+    let limits = c.self.inside.limits in
+    let held = c.self.inside.held.items in
+    let piece = c.args.piece.now in
+    let fault = c.in-Refused.fault in
+    let open_ : c.self.inside.whole ≡ false = search rules in
+    let stands : Stands c.self.inside.checker held = subst (λ b. Stands c.self.inside.checker (under_way b held)) open_ c.self.invariant.stands in
+    let partial : IsPartial limits held = subst (λ b. IsPartial limits (under_way b held)) open_ c.self.invariant.partial in
+    let refused = subst (λ l. IsRefused l (held ++ piece) fault) c.self.invariant.same_limits (c.in-Refused.ensures.answers held stands) in (
+      subst (λ (s : GathererState). IsRefused s.limits (s.held ++ piece) fault) c.self.view_is refused,
+      subst (λ (s : GathererState). IsPartial s.limits s.held) c.self.view_is partial,
+      c.self.view_is,
+    )

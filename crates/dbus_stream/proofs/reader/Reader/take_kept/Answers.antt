@@ -92,11 +92,11 @@ pub returns-in-Err-Format-clause-takes : goal.returns-in-Err-Format-clause-takes
 returns-in-Err-Format-clause-takes g c = λ w kept.
     let k = g.T.Taker.known in
     let r = c.args.self.now in
-    let there : IsRefused (k.limits r.taker) (kept.held ++ c.part-piece.result.now) c.in-Err-Format.fault × k.keeps c.take_piece.new.self kept.held =
+    let there : IsRefused (k.limits r.taker) (kept.held ++ c.part-piece.result.now) c.in-Err-Format.fault × IsPartial (k.limits r.taker) kept.held × k.keeps c.take_piece.new.self kept.held =
     rw (c.in-Err-Format.is, c.in-Err-Format.field-0-is) at (c.take_piece.ensures.takes kept.held kept.holds kept.size) in
     let whole : kept.held ++ c.part-piece.result.now ≡ w = ap (λ (l : List ℕ). kept.held ++ l) c.part-piece.ensures ∙ sym kept.bytes in
     let refused = subst (λ l. IsRefused (limits_of k r) l c.in-Err-Format.fault) whole there.0 in
-    rw c.in-Err-Format.field-0-is (refl, refl, record { refused = refused; held = kept.held; keeps = there.1; size = kept.size; bytes = kept.bytes })
+    rw c.in-Err-Format.field-0-is (refl, refl, record { refused = refused; held = kept.held; unshown = there.1; keeps = there.2; size = kept.size; bytes = kept.bytes })
 
 pub returns-clause-unread : goal.returns-clause-unread
 returns-clause-unread g c =
