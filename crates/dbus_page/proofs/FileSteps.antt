@@ -1,7 +1,10 @@
 -- What a capture has read of its file, and the fault of the file.
-use Rattle.std.proofs.Common.{◌≡◌, ◌≢◌, ◌⊎◌, ℕ, ◌<◌, List, [], ◌++◌, length, take, true, Option, None, Some, Ok, inl, inr, is_some, refl, sym, ap, ◌∙◌, append-nil}
+use Rattle.std.proofs.Common.{◌≡◌, ◌≢◌, ◌⊎◌, ℕ, ◌<◌, List, [], ◌++◌, length, take, true, Option, None, Some, Ok, Err, arith, length-append, inl, inr, is_some, refl, sym, ap, ◌∙◌, append-nil}
 use Rattle.std.specs.Io.KnownBytes.{Consumes, IsAtEnd, prepend_known}
 use Rattle.std.proofs.KnownBytes.{Consumes-nil, Consumes-trans}
+use Rattle.dbus_device.specs.Device.{one_more}
+use Rattle.dbus_device.specs.declared.device_fault.DeviceFault.{DeviceFault}
+use Rattle.dbus_page.specs.Failing.{MayFail}
 use Rattle.dbus_capture.specs.Captures.{Ends, GivesPart, Reads, ReadsPart, file_of, kept_of, scan_of, source_of}
 use Rattle.dbus_capture.specs.Steps.{ended, run}
 use Rattle.dbus_capture.specs.declared.capture.Capture.{Capture}
@@ -74,9 +77,20 @@ module _ {R : Type 0} (left : R → Option (List ℕ)) where
   none_fault old now new n buffer bytes r none room (inl g) is = stopped_fault old new bytes (ran_more old now new r (take n buffer) g.0.reads) (g.1 none room) is
   none_fault old now new n buffer bytes r none room (inr e) is = ended_fault old now new r bytes e.1 is
 
-module _ {R : Type 0} (left : R → Option (List ℕ)) (failures : R → ℕ) (old now new : Capture R) (n : ℕ) (buffer : List ℕ) (r : Ran left old now) (part : ReadsPart left failures now new (Ok n) buffer) where
-  pub part_ran : n ≢ 0 → Ran left old new
-  part_ran some = some_ran left old now new n buffer r some part.1
+module _ {R : Type 0} (left : R → Option (List ℕ)) (failures : R → ℕ) (old now new : Capture R) (buffer : List ℕ) where
+  pub part_ran : (n : ℕ) → Ran left old now → ReadsPart left failures now new (Ok n) buffer → n ≢ 0 → Ran left old new
+  part_ran n r part some = some_ran left old now new n buffer r some part.1
 
-  pub end_fault : (bytes : List ℕ) → n ≡ 0 → 0 < length buffer → file_of left old ≡ Some bytes → (ended (run (scan_of old) bytes)).fault ≡ (scan_of new).fault
-  end_fault bytes none room is = none_fault left old now new n buffer bytes r none room part.1 is
+  pub end_fault : (n : ℕ) (bytes : List ℕ) → Ran left old now → ReadsPart left failures now new (Ok n) buffer → n ≡ 0 → 0 < length buffer → file_of left old ≡ Some bytes
+      → (ended (run (scan_of old) bytes)).fault ≡ (scan_of new).fault
+  end_fault n bytes r part none room is = none_fault left old now new n buffer bytes r none room part.1 is
+
+  -- a read that fails
+  pub read_fails : (e : DeviceFault) (bytes : List ℕ) → Ran left old now → failures (source_of now) ≡ failures (source_of old) → file_of left old ≡ Some bytes
+      → ReadsPart left failures now new (Err e) buffer → MayFail (failures (source_of old)) (failures (source_of new)) bytes
+  read_fails e bytes r same is (inl s) = inl (s.source ∙ ap one_more same)
+  read_fails e bytes r same is (inr u) =
+      let used = u.reads.used in
+      let all = Consumes-trans (file_of left old) (file_of left now) (file_of left new) r.used used r.consumed u.reads.consumed in
+      let front = front_of (file_of left old) (file_of left new) (r.used ++ used) bytes all is in
+      inr (omega (arith, u.many, ap length front.2, length-append (r.used ++ used) front.0, length-append r.used used))

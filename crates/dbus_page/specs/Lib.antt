@@ -4,3 +4,4 @@ pub mod RoomLaws
 pub mod Places
 pub mod Telling
 pub mod Parts
+pub mod Failing

@@ -1,5 +1,5 @@
 -- When bytes were captured, by the parts that are of one packet.
-use Rattle.std.specs.Prelude.{◌≡◌, ℕ, ◌<◌, ◌≤◌, List, [], ◌∷◌, Option, None, Some, nat_eq, if◌then◌else◌}
+use Rattle.std.specs.Prelude.{◌≡◌, ◌⊎◌, ℕ, ◌<◌, ◌≤◌, length, List, [], ◌∷◌, Option, None, Some, nat_eq, if◌then◌else◌}
 use Rattle.dbus_device.specs.Packets.{Packets}
 use Rattle.dbus_device.specs.declared.packet.Packet.{Packet}
 use Rattle.dbus_capture.specs.declared.fault.CaptureFault.{CaptureFault}
@@ -21,6 +21,10 @@ AreTimed packets begin [] end = begin ≡ end
 AreTimed packets begin (part ∷ parts) end =
     (next : ℕ) × (part.start ≡ begin) × (begin ≤ next) × ((i : ℕ) → begin ≤ i → i < next → time_in (packets i) ≡ time_of part)
     × AreTimed packets next parts end
+
+-- there is no more room: each byte of it, or each part, is filled
+abbrev pub IsFull : (room : List ℕ) → (parts : List PagePart) → (bytes filled : ℕ) → Type 0
+IsFull room parts bytes filled = (bytes ≡ length room) ⊎ (filled ≡ length parts)
 
 -- the place of a file's fault, if it has one
 abbrev pub IsFaultTold : Option CaptureFault → Unpacked → Type 0

@@ -11,6 +11,7 @@
 mod answers;
 mod explaining;
 mod json_line;
+mod memory;
 mod next;
 mod room;
 mod unpacking;

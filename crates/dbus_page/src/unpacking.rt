@@ -1,19 +1,21 @@
 //! The bytes of messages in a file, captured or not.
 #![tactic(auto)]
 
-ghost use Rattle.std.specs.Prelude.{◌≡◌, ◌≤◌, ◌++◌, ℕ, List, Some, length, take, true, false};
+ghost use Rattle.std.specs.Prelude.{◌≡◌, ◌≤◌, ◌++◌, ◌⊎◌, ℕ, List, Some, length, take, true, false};
 ghost use Rattle.std.specs.Io.KnownBytes.{Consumes, IsAtEnd};
 ghost use Rattle.dbus_capture.specs.Scans.{fresh};
-ghost use Rattle.dbus_capture.specs.Captures.{file_of, left_of, packets_of, scan_of};
+ghost use Rattle.dbus_capture.specs.Captures.{file_of, left_of, packets_of, scan_of, source_of};
 ghost use Rattle.dbus_capture.specs.Steps.{ended, given, packet_given, run};
 ghost use Rattle.dbus_capture.specs.declared.stage.Stage.TheVariants as stages;
 ghost use Rattle.dbus_device.specs.Packets.{Packets};
-ghost use Rattle.dbus_page.specs.Parts.{AreTimed, IsFaultTold, time_in, time_of};
+ghost use Rattle.dbus_page.specs.Parts.{AreTimed, IsFaultTold, IsFull, time_in, time_of};
+ghost use Rattle.dbus_page.specs.Failing.{MayFail};
 ghost use Rattle.dbus_page.specs.declared.answers.TheConstants.{NO_ROOM, WHOLE};
 
 use crate::answers::{NO_ROOM, WHOLE};
+use crate::memory::Memory;
 use dbus_capture::{Capture, CaptureFault};
-use dbus_device::{FromRead, Packet, Source};
+use dbus_device::{Packet, Source};
 
 /// Bytes in a row that are all of one packet, or of none.
 #[repr(C)]
@@ -90,6 +92,10 @@ fn read_through<R: Source>(
     ensures fault { result.is_all ≡ true → (bytes : List ℕ) →
         file_of R.left capture.old ≡ Some bytes →
         (ended (run (scan_of capture.old) bytes)).fault ≡ (scan_of capture.new).fault }
+    ensures full { result.is_all ≡ false → (bytes : List ℕ) →
+        file_of R.left capture.old ≡ Some bytes →
+        IsFull room.new parts.new result.length result.parts ⊎
+        MayFail (R.failures (source_of capture.old)) (R.failures (source_of capture.new)) bytes }
 {
     let mut length = 0;
     for number in 0..parts.len() {
@@ -144,9 +150,9 @@ fn unpacked_of(filled: &Filled, fault: Option<CaptureFault>) -> Unpacked
 /// `parts` where each part of a packet begins, and when the packet was captured. A fault of the
 /// file ends its bytes, and is reported.
 ///
-/// [`WHOLE`] if these are all bytes. [`NO_ROOM`] if the room or `parts` did not do for all: both
-/// need room for one more than is written, and may change behind that. It allocates nothing. "PCAP
-/// Capture File Format"; "PCAP Now Generic (pcapng) Capture File Format".
+/// [`WHOLE`] if these are all bytes. [`NO_ROOM`] if the room or `parts` is full: both need room for
+/// one more than is written, and may change behind that. It allocates nothing. "PCAP Capture File
+/// Format"; "PCAP Now Generic (pcapng) Capture File Format".
 #[unsafe(no_mangle)]
 pub extern "C" fn dbus_page_unpack(
     file: &[u8],
@@ -160,10 +166,16 @@ pub extern "C" fn dbus_page_unpack(
         given (fresh false stages.Start) file.now ≡ take unpacked.new.length room.new }
     ensures timed { AreTimed (packet_given (fresh false stages.Start) file.now) 0
         (take unpacked.new.parts parts.new) unpacked.new.length }
+    ensures full { result ≡ NO_ROOM →
+        IsFull room.new parts.new unpacked.new.length unpacked.new.parts }
     ensures fault { result ≡ WHOLE →
         IsFaultTold (ended (run (fresh false stages.Start) file.now)).fault unpacked.new }
 {
-    let mut capture = Capture::new(FromRead::new(file), false);
+    let source = Memory {
+        left: file,
+        calls: 0,
+    };
+    let mut capture = Capture::new(source, false);
     let filled = read_through(&mut capture, room, parts);
     *unpacked = unpacked_of(&filled, capture.fault());
     if filled.is_all { WHOLE } else { NO_ROOM }
