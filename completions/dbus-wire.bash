@@ -65,8 +65,11 @@ _dbus_wire() {
                 _dbus_wire_rule
             fi
             ;;
-        show | json)
-            COMPREPLY=($(compgen -W "--skip --limit --keep-going $options" -- "$word"))
+        show)
+            COMPREPLY=($(compgen -W "--time --skip --limit --keep-going $options" -- "$word"))
+            ;;
+        json)
+            COMPREPLY=($(compgen -W "--no-time --skip --limit --keep-going $options" -- "$word"))
             ;;
         check)
             COMPREPLY=($(compgen -W "--keep-going $options" -- "$word"))

@@ -29,6 +29,8 @@ complete -c dbus-wire -n "not __fish_seen_subcommand_from $commands" -a help -d 
 complete -c dbus-wire -s h -l help -f -d 'Write the help'
 complete -c dbus-wire -n "not __fish_seen_subcommand_from $commands" -s V -l version -f -d 'Write the version'
 complete -c dbus-wire -n '__fish_seen_subcommand_from help' -f -a 'show json check count calls swap filter handshake help'
+complete -c dbus-wire -n '__fish_seen_subcommand_from show' -l time -f -d 'Write the time of each message before it'
+complete -c dbus-wire -n '__fish_seen_subcommand_from json' -l no-time -f -d 'Leave out the times'
 complete -c dbus-wire -n '__fish_seen_subcommand_from swap' -l to -x -a 'l B' -d 'The byte order to write'
 complete -c dbus-wire -n '__fish_seen_subcommand_from handshake' -l side -x -a 'client server' -d 'Whose lines they are'
 complete -c dbus-wire -n '__fish_seen_subcommand_from filter' -l invert -f -d 'Write the messages that match no rule'

@@ -43,8 +43,8 @@ module _ (sub : Text × List Row) (other : sub.0 ≡ codes "handshake" → ⊥) 
 -- `handshake` with no side
 module _ (rows : List Row) (no_side : (side : Side) → first_of (codes "side") rows ≡ Some (side_word side) → ⊥) where
   no_messages : (command : Command) → NamesCommand (codes "handshake") rows command → ⊥
-  no_messages Show named = let bad : ◌≡◌ {A = ℕ} 104 115 = ap (λ t. slice_index t 0) named in absurd (omega arith)
-  no_messages Json named = let bad : ◌≡◌ {A = ℕ} 104 106 = ap (λ t. slice_index t 0) named in absurd (omega arith)
+  no_messages (Show times) named = let bad : ◌≡◌ {A = ℕ} 104 115 = ap (λ t. slice_index t 0) named.0 in absurd (omega arith)
+  no_messages (Json times) named = let bad : ◌≡◌ {A = ℕ} 104 106 = ap (λ t. slice_index t 0) named.0 in absurd (omega arith)
   no_messages Check named = let bad : ◌≡◌ {A = ℕ} 104 99 = ap (λ t. slice_index t 0) named in absurd (omega arith)
   no_messages (Swap order) named = let bad : ◌≡◌ {A = ℕ} 104 115 = ap (λ t. slice_index t 0) named.0 in absurd (omega arith)
   no_messages (Filter selection) named = let bad : ◌≡◌ {A = ℕ} 104 102 = ap (λ t. slice_index t 0) named.0 in absurd (omega arith)
@@ -63,8 +63,8 @@ module _ (rows : List Row) (no_side : (side : Side) → first_of (codes "side") 
 
 module _ (rows : List Row) (no_order : (order : Order) → first_of (codes "to") rows ≡ Some (order_word order) → ⊥) where
   unordered_command : (command : Command) → NamesCommand (codes "swap") rows command → ⊥
-  unordered_command Show named = let bad : ◌≡◌ {A = ℕ} 119 104 = ap (λ t. slice_index t 1) named in absurd (omega arith)
-  unordered_command Json named = let bad : ◌≡◌ {A = ℕ} 115 106 = ap (λ t. slice_index t 0) named in absurd (omega arith)
+  unordered_command (Show times) named = let bad : ◌≡◌ {A = ℕ} 119 104 = ap (λ t. slice_index t 1) named.0 in absurd (omega arith)
+  unordered_command (Json times) named = let bad : ◌≡◌ {A = ℕ} 115 106 = ap (λ t. slice_index t 0) named.0 in absurd (omega arith)
   unordered_command Check named = let bad : ◌≡◌ {A = ℕ} 115 99 = ap (λ t. slice_index t 0) named in absurd (omega arith)
   unordered_command (Swap order) named = no_order order named.1
   unordered_command (Filter selection) named = let bad : ◌≡◌ {A = ℕ} 115 102 = ap (λ t. slice_index t 0) named.0 in absurd (omega arith)
@@ -79,8 +79,8 @@ module _ (rows : List Row) (no_order : (order : Order) → first_of (codes "to")
 -- `filter`, of whose words there are no selection and no fault
 module _ (rows : List Row) (no_selection : (selection : Selection) → IsSelectionGiven rows selection → ⊥) where
   unselected_command : (command : Command) → NamesCommand (codes "filter") rows command → ⊥
-  unselected_command Show named = let bad : ◌≡◌ {A = ℕ} 102 115 = ap (λ t. slice_index t 0) named in absurd (omega arith)
-  unselected_command Json named = let bad : ◌≡◌ {A = ℕ} 102 106 = ap (λ t. slice_index t 0) named in absurd (omega arith)
+  unselected_command (Show times) named = let bad : ◌≡◌ {A = ℕ} 102 115 = ap (λ t. slice_index t 0) named.0 in absurd (omega arith)
+  unselected_command (Json times) named = let bad : ◌≡◌ {A = ℕ} 102 106 = ap (λ t. slice_index t 0) named.0 in absurd (omega arith)
   unselected_command Check named = let bad : ◌≡◌ {A = ℕ} 102 99 = ap (λ t. slice_index t 0) named in absurd (omega arith)
   unselected_command (Swap order) named = let bad : ◌≡◌ {A = ℕ} 102 115 = ap (λ t. slice_index t 0) named.0 in absurd (omega arith)
   unselected_command (Filter selection) named = no_selection selection named.1

@@ -75,12 +75,12 @@ selections_equal a b =
 -- Commands are equal exactly where they are the same.
 
 pub commands_equal : (a b : Command) → Decides (command_eq.ghosts.eq a b) (AreSameCommand a b)
-commands_equal Show b = grind (arith, common_steps)
-commands_equal Json b = grind (arith, common_steps)
+commands_equal (Show a) b = grind (arith, common_steps)
+commands_equal (Json a) b = grind (arith, common_steps)
 commands_equal Check b = grind (arith, common_steps)
 commands_equal (Swap a) b = grind (arith, common_steps)
-commands_equal (Filter r) Show = grind (arith, common_steps)
-commands_equal (Filter r) Json = grind (arith, common_steps)
+commands_equal (Filter r) (Show b) = grind (arith, common_steps)
+commands_equal (Filter r) (Json b) = grind (arith, common_steps)
 commands_equal (Filter r) Check = grind (arith, common_steps)
 commands_equal (Filter r) (Swap b) = grind (arith, common_steps)
 commands_equal (Filter r) (Filter s) = selections_equal r s

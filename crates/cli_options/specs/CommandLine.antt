@@ -57,10 +57,10 @@ abbrev pub with_window : App → App
 with_window app = with_keep_going (with_rule (with_rule app (limit_rule (codes "skip") most_messages)) (limit_rule (codes "limit") most_messages))
 
 abbrev pub show_app : App
-show_app = with_window (new_app (codes "show"))
+show_app = with_window (with_rule (new_app (codes "show")) (flag_rule (codes "time")))
 
 abbrev pub json_app : App
-json_app = with_window (new_app (codes "json"))
+json_app = with_window (with_rule (new_app (codes "json")) (flag_rule (codes "no-time")))
 
 abbrev pub check_app : App
 check_app = with_keep_going (new_app (codes "check"))

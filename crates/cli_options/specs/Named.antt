@@ -1,5 +1,5 @@
 -- The command and the settings that words name, and the rule among them that is refused.
-use Rattle.std.specs.Prelude.{◌≡◌, ◌↔◌, true, List, [], ◌∷◌, ◌++◌, Option, Some, None, option_map, unwrap_or, codes, string_bytes}
+use Rattle.std.specs.Prelude.{◌≡◌, ◌↔◌, true, false, List, [], ◌∷◌, ◌++◌, Option, Some, None, option_map, unwrap_or, codes, string_bytes}
 use Rattle.std.specs.List.{AllByRecursion, AllZip}
 use Rattle.std.specs.declared.alloc.Global.{Global}
 use Rattle.clap.specs.Words.{Row, Text, all_of, first_of, subcommand_of}
@@ -73,10 +73,11 @@ pub record IsSelectionGiven (rows : List Row) (selection : Selection) : Type 0 w
   pub owners : AreOwnersOf (words_of (codes "owner") rows) selection.owners.items
   pub learns : (selection.learns ≡ true) ↔ IsGiven (codes "learn-owners") rows
 
--- the name of a subcommand and the words after it name the command
+-- the name of a subcommand and the words after it name the command; `show` writes times if its flag
+-- is given, and `json` if its flag is not
 abbrev pub NamesCommand : Text → List Row → Command → Type 0
-NamesCommand name rows Show = name ≡ codes "show"
-NamesCommand name rows Json = name ≡ codes "json"
+NamesCommand name rows (Show times) = (name ≡ codes "show") × ((times ≡ true) ↔ IsGiven (codes "time") rows)
+NamesCommand name rows (Json times) = (name ≡ codes "json") × ((times ≡ false) ↔ IsGiven (codes "no-time") rows)
 NamesCommand name rows Check = name ≡ codes "check"
 NamesCommand name rows (Swap order) = (name ≡ codes "swap") × (first_of (codes "to") rows ≡ Some (order_word order))
 NamesCommand name rows (Filter selection) = (name ≡ codes "filter") × IsSelectionGiven rows selection

@@ -64,8 +64,8 @@ abbrev pub selection_lacks_owner : Selection → Bool
 selection_lacks_owner selection = not selection.learns && some_needs_owner selection.owners.items selection.rules.items
 
 abbrev pub lacks_owner : Command → Bool
-lacks_owner Show = false
-lacks_owner Json = false
+lacks_owner (Show times) = false
+lacks_owner (Json times) = false
 lacks_owner Check = false
 lacks_owner (Swap order) = false
 lacks_owner (Filter selection) = selection_lacks_owner selection

@@ -42,11 +42,11 @@ pub record AreSameSelection (a b : Selection) : Type 0 where
 
 -- When two commands are the same: their names are, and so is what belongs to them.
 
--- both are `Show`, both `Json` or both `Check`; or they are `Swap` to one order, or `Filter` by the
--- same selection
+-- both are `Show`, or both `Json`, with times or without; or both are `Check`, `Swap` to one order,
+-- or `Filter` by the same selection
 abbrev pub AreSameCommand : Command → Command → Type 0
-AreSameCommand Show Show = Unit {0}
-AreSameCommand Json Json = Unit {0}
+AreSameCommand (Show a) (Show b) = a ≡ b
+AreSameCommand (Json a) (Json b) = a ≡ b
 AreSameCommand Check Check = Unit {0}
 AreSameCommand (Swap a) (Swap b) = a ≡ b
 AreSameCommand (Filter r) (Filter s) = AreSameSelection r s

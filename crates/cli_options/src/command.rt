@@ -6,9 +6,15 @@ use dbus_value_model::Order;
 #[derive(PartialEq, Eq, Debug, Drop)]
 pub enum Command {
     /// Writes each message as text.
-    Show,
+    Show {
+        /// Whether its time stands before it, if it has one.
+        times: bool,
+    },
     /// Writes each message as a line of JSON.
-    Json,
+    Json {
+        /// Whether its time is written, if it has one.
+        times: bool,
+    },
     /// Checks that the input is messages, and counts them.
     Check,
     /// Writes each message in this byte order.

@@ -29,8 +29,9 @@ use std::alloc::Global;
 /// descriptors, name the limits; one that they do not name is that of the specification. The flags
 /// `--explain`, and `--keep-going` of all commands but `swap`, are set if they are among the words,
 /// and `--json` of `count` is its form.
-/// `--json`, `--unanswered` and `--errors` of `calls` say what it lists. `--handshake` names the
-/// side whose handshake comes before the messages. `--skip` and `--limit`, of `show`, `json` and
+/// `--json`, `--unanswered` and `--errors` of `calls` say what it lists. `--time` of `show` and
+/// `--no-time` of `json` say whether times are written. `--handshake` names the side whose handshake
+/// comes before the messages. `--skip` and `--limit`, of `show`, `json` and
 /// `filter`, are the numbers of the window; without them it leaves no message out.
 ///
 /// `Usage`: the words name no command of the program, or have what it does not take, a limit over
@@ -157,10 +158,12 @@ fn command_with(alloc: Global, name: &str, inner: &ArgMatches) -> Result<Command
     ensures { TellsCommand name.now (rows_of (found_of inner.now)) result }
 {
     if name == "show" {
-        return Ok(Command::Show);
+        let times = is_given(inner, "time");
+        return Ok(Command::Show { times });
     }
     if name == "json" {
-        return Ok(Command::Json);
+        let times = !is_given(inner, "no-time");
+        return Ok(Command::Json { times });
     }
     if name == "check" {
         return Ok(Command::Check);

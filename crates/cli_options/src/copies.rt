@@ -15,8 +15,8 @@ impl Clone for Command {
     /// Returns `AllocError` if an allocation failed, and nothing of the copy is left then.
     fn clone(&self) -> Result<Command, AllocError> {
         match self {
-            Command::Show => Ok(Command::Show),
-            Command::Json => Ok(Command::Json),
+            Command::Show { times } => Ok(Command::Show { times: *times }),
+            Command::Json { times } => Ok(Command::Json { times: *times }),
             Command::Check => Ok(Command::Check),
             Command::Swap(order) => Ok(Command::Swap(*order)),
             Command::Filter(selection) => Ok(Command::Filter(selection.clone()?)),

@@ -79,10 +79,15 @@ pub(crate) const SHOW_MORE: &str = more!(
     going "
   For each message a line on standard output with its number from 1, byte order,
   type, serial, flags and header fields, and below it a line for each value of
-  its body. If the input is refused, `refused at P: NAME` on standard error.",
+  its body. With --time the first line begins with the time of the message, in
+  seconds since 1970, and a space, if the file has it. If the input is refused,
+  `refused at P: NAME` on standard error.",
     "
   dbus-monitor --session --binary | dbus-wire show"
 );
+
+/// What `--time` of `show` does.
+pub(crate) const TIME: &str = "Writes the time of each message before it";
 
 /// What `json` does.
 pub(crate) const JSON: &str = "Writes each message as a line of JSON";
@@ -94,10 +99,11 @@ pub(crate) const JSON_USAGE: &str = "dbus-wire json [OPTIONS] < FILE";
 pub(crate) const JSON_MORE: &str = more!(
     going "
   For each message one line on standard output, an object: its number from 1,
-  its offset in bytes, its time in seconds since 1970 if the file has it, its
-  length, order, type, flags and serial, each header field by its name, fields
-  of other codes in `fields`, and the values of its body in `body`. If the input
-  is refused, `refused at P: NAME` on standard error.
+  its offset in bytes, its time in seconds since 1970 if the file has it and
+  without --no-time, its length, order, type, flags and serial, each header
+  field by its name, fields of other codes in `fields`, and the values of its
+  body in `body`. If the input is refused, `refused at P: NAME` on standard
+  error.
 
   JSON nests as deep as the message does, which can be over 128 levels: some
   parsers refuse that. Integers of 64 bits are written exactly; JavaScript
@@ -105,6 +111,9 @@ pub(crate) const JSON_MORE: &str = more!(
     "
   dbus-monitor --session --binary | dbus-wire json"
 );
+
+/// What `--no-time` of `json` does.
+pub(crate) const NO_TIME: &str = "Leaves out the times";
 
 /// What `check` does.
 pub(crate) const CHECK: &str = "Checks that the input is messages, and counts them";

@@ -144,24 +144,20 @@ fn with_window<'a>(
     with_keep_going(alloc, limited)
 }
 
-// `show`, which takes no words but its options.
+// `show`, with its flag.
 fn show_command<'a>(alloc: Global) -> Result<Command<'a>, AllocError>
     ensures { IfOk result (IsLocal show_app) }
 {
-    with_window(
-        alloc,
-        bare(alloc, "show", help::SHOW, help::SHOW_USAGE, help::SHOW_MORE),
-    )
+    let show = bare(alloc, "show", help::SHOW, help::SHOW_USAGE, help::SHOW_MORE);
+    with_window(alloc, with_arg(show, flag(alloc, "time", help::TIME)))
 }
 
-// `json`, which takes no words but its options.
+// `json`, with its flag.
 fn json_command<'a>(alloc: Global) -> Result<Command<'a>, AllocError>
     ensures { IfOk result (IsLocal json_app) }
 {
-    with_window(
-        alloc,
-        bare(alloc, "json", help::JSON, help::JSON_USAGE, help::JSON_MORE),
-    )
+    let json = bare(alloc, "json", help::JSON, help::JSON_USAGE, help::JSON_MORE);
+    with_window(alloc, with_arg(json, flag(alloc, "no-time", help::NO_TIME)))
 }
 
 // `check`, which takes no words but its options.

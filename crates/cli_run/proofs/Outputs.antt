@@ -1,5 +1,5 @@
 -- Of all messages and the fault after them a command has an output, and exactly one if it is exact.
-use Rattle.std.proofs.Common.{◌≡◌, ◌⊎◌, ℕ, ◌+◌, inl, inr, List, [], ◌∷◌, ◌++◌, length, Option, None, refl, sym, ap, ◌∙◌, subst, append_assoc}
+use Rattle.std.proofs.Common.{◌≡◌, ◌⊎◌, ℕ, ◌+◌, inl, inr, List, [], ◌∷◌, ◌++◌, length, Option, None, true, false, refl, sym, ap, ◌∙◌, subst, append_assoc}
 use Rattle.std.specs.List.{concat}
 use Rattle.std.proofs.lemmas.List.{map-append}
 use Rattle.std.proofs.lemmas.List.Folds.{concat-append}
@@ -18,7 +18,7 @@ use Rattle.cli_options.specs.declared.command.Command.{Command}
 use Rattle.cli_options.specs.declared.command.Command.TheVariants.{Show, Json, Check, Swap, Filter}
 use Rattle.cli_run.specs.Inputs.{ArePlaced, Part, PassedOver, Placed, Whole, sizes_of, wholes}
 use Rattle.cli_run.specs.Laws.{OneFront, OneOutput, SomeOutput}
-use Rattle.cli_run.specs.Output.{IsExact, IsFront, IsOutputOf, IsOutputOfAll, IsTextOf, Picks, last_line, line_place, owners_after, owners_known, owners_after_all}
+use Rattle.cli_run.specs.Output.{IsExact, IsFront, IsOutputOf, IsOutputOfAll, IsTextOf, Picks, last_line, line_place, shown_text, told_place, owners_after, owners_known, owners_after_all}
 use Rattle.cli_report.specs.Gathering.{IsPrefixTo}
 use Rattle.cli_run.specs.declared.place.MessagePlace.{MessagePlace}
 use Rattle.cli_run.specs.VisitorLaws.{output_both}
@@ -32,8 +32,8 @@ picked (Filter selection) os message = selected selection (owners_in os) message
 picked command os message = inl tt
 
 pub some_text : (command : Command) (order : Order) (message : MessageTree) (place : MessagePlace) → (text : List ℕ) × IsTextOf command order message place text
-some_text Show order message place = (message_text order message place.number, refl)
-some_text Json order message place = some_line_each order message (line_place place)
+some_text (Show times) order message place = (shown_text order message (told_place times place), refl)
+some_text (Json times) order message place = some_line_each order message (line_place (told_place times place))
 some_text Check order message place = ([], refl)
 some_text (Swap wanted) order message place = (message_bytes wanted message, refl)
 some_text (Filter selection) order message place = (message_bytes order message, refl)
@@ -81,11 +81,12 @@ front_of_first packets limits command items more all rest fault messages texts f
 
 -- ---- and no other, of an exact command
 
--- it does not depend on the time
+-- it does not depend on the time, which is not written
 text_one : (command : Command) (order : Order) (message : MessageTree) (place other : MessagePlace) (a b : List ℕ) → IsExact command → place.number ≡ other.number
     → IsTextOf command order message place a → IsTextOf command order message other b → a ≡ b
-text_one Json order message place other a b exact number p q = absurd exact
-text_one Show order message place other a b exact number p q = p ∙ (ap (message_text order message) number ∙ sym q)
+text_one (Json times) order message place other a b exact number p q = absurd exact
+text_one (Show true) order message place other a b exact number p q = absurd exact
+text_one (Show false) order message place other a b exact number p q = p ∙ (ap (message_text order message) number ∙ sym q)
 text_one command order message place other a b exact number p q = p ∙ sym q
 
 output_one : (command : Command) (os : OwnerSet) (order : Order) (message : MessageTree) (place other : MessagePlace) (a b : List (List ℕ)) → IsExact command → place.number ≡ other.number

@@ -197,8 +197,8 @@ itself : (a : Command) → ActsAs a a
 itself a = record { checks = refl; exact = λ e. e; picks = λ os m. (λ p. p, λ p. p); texts = λ order m place text t. t; known = refl; learned = λ os m. refl }
 
 pub acts_as : (a b : Command) → AreSameCommand a b → ActsAs a b
-acts_as Show Show h = itself Show
-acts_as Json Json h = itself Json
+acts_as (Show a) (Show b) h = subst (λ (times : Bool). ActsAs (Show a) (Show times)) h (itself (Show a))
+acts_as (Json a) (Json b) h = subst (λ (times : Bool). ActsAs (Json a) (Json times)) h (itself (Json a))
 acts_as Check Check h = itself Check
 acts_as (Swap x) (Swap y) h = subst (λ (o : Order). ActsAs (Swap x) (Swap o)) h (itself (Swap x))
 acts_as (Filter x) (Filter y) h =

@@ -11,6 +11,7 @@ use Rattle.dbus_stream.specs.Cut.{CutMessage}
 use Rattle.dbus_stream.specs.CutEnds.{sizes}
 use Rattle.dbus_show.specs.ShownMessages.{message_text}
 use Rattle.dbus_json.specs.JsonMessages.{IsJsonLine}
+use Rattle.dbus_json.specs.Times.{seconds_text}
 use Rattle.dbus_json.specs.declared.place.LinePlace.{LinePlace}
 use Rattle.dbus_rule_set.specs.Owners.{OwnerSet, owners_in}
 use Rattle.cli_options.specs.Selections.{SelectsBy}
@@ -32,8 +33,8 @@ use Rattle.cli_run.specs.declared.output.Output.TheVariants.{InOrder, JsonLine, 
 -- which command writes what of each message
 abbrev pub command_of : Output → Command
 command_of Nothing = Check
-command_of Text = Show
-command_of JsonLine = Json
+command_of (Text times) = Show times
+command_of (JsonLine times) = Json times
 command_of (InOrder order) = Swap order
 command_of (Matching selector) = Filter selector.selection.now
 
@@ -63,14 +64,32 @@ Picks Check os message = ⊥
 Picks (Filter selection) os message = SelectsBy selection (owners_in os) message
 Picks command os message = Unit {0}
 
+-- the time of a message, if times are wanted
+abbrev pub time_if : Bool → Option ℕ → Option ℕ
+time_if true time = time
+time_if false time = None
+
+-- the place of a message as it is told: without its time, unless times are wanted
+abbrev pub told_place : (times : Bool) → MessagePlace → MessagePlace
+told_place times place = record { number = place.number; offset = place.offset; time = time_if times place.time }
+
+-- what stands before the text of a message: its time and a space, if it has one
+abbrev pub time_text : Option ℕ → List ℕ
+time_text None = []
+time_text (Some nanoseconds) = seconds_text nanoseconds ++ codes " "
+
+-- the text of a message after its time, if it has one
+abbrev pub shown_text : Order → MessageTree → MessagePlace → List ℕ
+shown_text order message place = time_text place.time ++ message_text order message place.number
+
 -- what a line of JSON says of where its message stands
 abbrev pub line_place : MessagePlace → LinePlace
 line_place place = record { number = place.number; offset = place.offset; time = place.time }
 
 -- that text, if the message has this place in its input
 abbrev pub IsTextOf : Command → Order → MessageTree → MessagePlace → List ℕ → Type 0
-IsTextOf Show order message place text = text ≡ message_text order message place.number
-IsTextOf Json order message place text = IsJsonLine order message (line_place place) text
+IsTextOf (Show times) order message place text = text ≡ shown_text order message (told_place times place)
+IsTextOf (Json times) order message place text = IsJsonLine order message (line_place (told_place times place)) text
 IsTextOf Check order message place text = text ≡ []
 IsTextOf (Swap wanted) order message place text = text ≡ message_bytes wanted message
 IsTextOf (Filter selection) order message place text = text ≡ message_bytes order message
@@ -87,10 +106,11 @@ IsOutputOfAll command os [] texts = texts ≡ []
 IsOutputOfAll command os (m ∷ items) texts = (one : List (List ℕ)) × (more : List (List ℕ)) × (texts ≡ one ++ more)
     × IsOutputOf command os m.item.order m.item.message m.place one × IsOutputOfAll command (owners_after command os m.item.message) items more
 
--- the messages and the fault after them determine each byte that the command writes. `json` may
--- write a DOUBLE by any digits that read back as its bits.
+-- the messages and the fault after them determine each byte that the command writes: no time, which
+-- their packets have, and no DOUBLE of `json`, which may be any digits that read back as its bits
 abbrev pub IsExact : Command → Type 0
-IsExact Json = ⊥
+IsExact (Show true) = ⊥
+IsExact (Json times) = ⊥
 IsExact command = Unit {0}
 
 -- how many messages of how many bytes there are

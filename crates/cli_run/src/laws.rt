@@ -14,8 +14,8 @@ pub fn some_output()
     ensures { SomeOutput }
 {}
 
-/// It has no other, also if the packets are others, unless it is `Json`: that writes the times of
-/// packets, and may write a DOUBLE by any digits that read back as its bits.
+/// It has no other, also if the packets are others, unless it is `Show` with times, which are those
+/// of packets, or `Json`, which may write a DOUBLE by any digits that read back as its bits.
 pub fn one_output()
     ensures { OneOutput }
 {}
@@ -33,14 +33,14 @@ pub fn plain_run<R: Source, W: Sink, E: Sink>()
 
 /// Two runs of a command by the same settings, neither of which failed, that read the same input
 /// end with the same status, and their writers got the same bytes; but what is explained of a
-/// message that is refused shows its bytes as far as they happened to be read, and `Json` may write
-/// a DOUBLE by other digits that read back as its bits, and other times if the packets are others.
-/// They are the same if a message is refused, since its line has the packet of its fault.
+/// message that is refused shows its bytes as far as they happened to be read, `Json` may write a
+/// DOUBLE by other digits that read back as its bits, and times are others if the packets are. They
+/// are the same if a message is refused, since its line has the packet of its fault.
 pub fn one_run<R, S, W, V, E, F>()
     ensures { OneRun R S W V E F }
 {}
 
-/// The same of two runs of a command under the same limits alone, but `Json`.
+/// The same of two runs of a command under the same limits alone, but `Json` and `Show` with times.
 pub fn one_within<R, S, W, V, E, F>()
     ensures { OneWithin R S W V E F }
 {}

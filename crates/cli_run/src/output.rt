@@ -27,10 +27,10 @@ use std::alloc::{AllocError, Allocator};
 pub(crate) enum Output<'a> {
     /// Nothing.
     Nothing,
-    /// Its text.
-    Text,
-    /// Its line of JSON.
-    JsonLine,
+    /// Its text, with its time before it or without.
+    Text { times: bool },
+    /// Its line of JSON, with its time or without.
+    JsonLine { times: bool },
     /// Its bytes in this order.
     InOrder(Order),
     /// Its bytes as they are, if it is selected.
@@ -45,8 +45,8 @@ pub(crate) fn output_of(command: &Command) -> Result<Output<'_>, AllocError>
 {
     match command {
         Command::Check => Ok(Output::Nothing),
-        Command::Show => Ok(Output::Text),
-        Command::Json => Ok(Output::JsonLine),
+        Command::Show { times } => Ok(Output::Text { times: *times }),
+        Command::Json { times } => Ok(Output::JsonLine { times: *times }),
         Command::Swap(order) => Ok(Output::InOrder(*order)),
         Command::Filter(selection) => Ok(Output::Matching(Selector::new(selection)?)),
     }
@@ -58,8 +58,8 @@ pub(crate) fn is_check(output: &Output) -> bool
 {
     match output {
         Output::Nothing => true,
-        Output::Text => false,
-        Output::JsonLine => false,
+        Output::Text { .. } => false,
+        Output::JsonLine { .. } => false,
         Output::InOrder(_) => false,
         Output::Matching(_) => false,
     }
@@ -74,8 +74,8 @@ fn picks(output: &Output, lent: &Lent, owners: &mut Option<Owners>) -> Result<bo
 {
     match output {
         Output::Nothing => Ok(false),
-        Output::Text => Ok(true),
-        Output::JsonLine => Ok(true),
+        Output::Text { .. } => Ok(true),
+        Output::JsonLine { .. } => Ok(true),
         Output::InOrder(_) => Ok(true),
         Output::Matching(selector) => select(selector, lent, owners),
     }
@@ -103,8 +103,20 @@ fn write_one<A: Allocator + Copy, W: Sink>(
     let place = lent.place;
     match output {
         Output::Nothing => Ok(()),
-        Output::Text => show(bytes, validated, limits, place.number, gathered, first),
-        Output::JsonLine => write_json_line(bytes, validated, limits, place, gathered, first),
+        Output::Text { times } => {
+            show(
+                bytes,
+                validated,
+                limits,
+                place.told(*times),
+                gathered,
+                first,
+            )
+        }
+        Output::JsonLine { times } => {
+            let told = place.told(*times);
+            write_json_line(bytes, validated, limits, told, gathered, first)
+        }
         Output::InOrder(wanted) => swap(*wanted, bytes, validated, limits, spare, gathered, first),
         Output::Matching(_) => put_out(bytes, gathered, first),
     }

@@ -1,4 +1,7 @@
 //! A message of an input, and which of its messages it is.
+ghost use Rattle.std.specs.Prelude.{◌≡◌};
+ghost use Rattle.cli_run.specs.Output.{told_place};
+
 use cli_options::Window;
 use dbus_rule_set::Owners;
 use dbus_validate::Validated;
@@ -13,6 +16,19 @@ pub(crate) struct MessagePlace {
     pub(crate) offset: u64,
     /// When it was captured, in nanoseconds since 1970 began in UTC, if the input says so.
     pub(crate) time: Option<u64>,
+}
+
+impl MessagePlace {
+    /// What is written of the place: without its time, unless times are wanted.
+    pub(crate) fn told(self, times: bool) -> MessagePlace
+        ensures { result ≡ told_place times self }
+    {
+        if times {
+            self
+        } else {
+            MessagePlace { time: None, ..self }
+        }
+    }
 }
 
 /// What is carried from message to message.

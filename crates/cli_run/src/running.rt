@@ -64,9 +64,9 @@ pub fn run_reads<A: Allocator + Copy, R: Source, W: Sink, E: Sink>(
 /// each by itself. Its output goes to the first writer. At most `reads` reads are made, the one
 /// that finds the end of the input among them.
 ///
-/// `Show` writes each message as text, numbered from 1. `Json` writes each message as one line, an
-/// object of JSON, with that number, the offset at which the message begins in the input, and the
-/// time of the packet that its last byte is of, if the reader reports one. `Swap` writes each
+/// `Show` writes each message as text, numbered from 1, with times after its time. `Json` writes each message as one line, an
+/// object of JSON, with that number, the offset at which the message begins in the input, and, with
+/// times, the time of the packet that its last byte is of, if the reader reports one. `Swap` writes each
 /// message in the order that it names. `Filter` writes each message that is selected, in its own
 /// order. Where the bytes after the messages are none within the limits or too few, each of these
 /// writes `refused at P: NAME` on the second writer, with the place from the start of the input and

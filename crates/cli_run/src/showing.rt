@@ -4,32 +4,43 @@ ghost use Rattle.dbus_value_model.specs.declared.order.Order.{Order};
 ghost use Rattle.dbus_message_model.specs.Messages.{MessageTree};
 ghost use Rattle.dbus_header.specs.MessageOutcomes.{IsWhole};
 ghost use Rattle.dbus_validate.specs.Validating.{IsValidatedWhole};
-ghost use Rattle.dbus_show.specs.ShownMessages.{message_text};
 ghost use Rattle.cli_report.specs.Devices.{writing};
 ghost use Rattle.cli_report.specs.Gathering.{GathersOrNot, gathered_bytes};
 ghost use Rattle.cli_run.specs.Handing.{WritesJson};
+ghost use Rattle.cli_run.specs.Output.{shown_text, time_text};
 
 use crate::place::MessagePlace;
 use cli_report::{Cause, OutputBuffer, Page};
-use dbus_json::{LinePlace, write_json};
+use dbus_json::{LinePlace, write_json, write_seconds};
+use dbus_show::Draft;
 use dbus_show_view::write_message;
 use dbus_stream::Sink;
 use dbus_validate::Validated;
 use dbus_value_model::Limits;
 
-/// Writes or gathers the text of the message that the bytes are.
+// Appends the time that stands before the text of a message, if it has one.
+fn write_time<D: Draft>(draft: &mut D, time: Option<u64>)
+    ensures { D.gains draft.old (time_text time) draft.new }
+{
+    if let Some(nanoseconds) = time {
+        write_seconds(draft, nanoseconds);
+        draft.push_code(b' ');
+    }
+}
+
+/// Writes or gathers the text of the message that the bytes are, after its time if it has one.
 pub(crate) fn show<W: Sink>(
     bytes: &[u8],
     validated: &Validated,
     limits: Limits,
-    number: u64,
+    place: MessagePlace,
     gathered: &mut OutputBuffer,
     first: &mut W,
 ) -> Result<(), Cause>
     requires { IsValidatedWhole limits bytes.now validated.now }
     ensures { (order : Order) (m : MessageTree) →
         IsWhole limits bytes.now order m (length bytes.now) →
-        GathersOrNot W.held W.failures (message_text order m number) (gathered_bytes gathered.old)
+        GathersOrNot W.held W.failures (shown_text order m place) (gathered_bytes gathered.old)
         (gathered_bytes gathered.new) first.old first.new result }
 {
     let mut page = Page {
@@ -37,7 +48,8 @@ pub(crate) fn show<W: Sink>(
         first,
         failed: false,
     };
-    write_message(&mut page, bytes, limits, validated, number);
+    write_time(&mut page, place.time);
+    write_message(&mut page, bytes, limits, validated, place.number);
     if page.failed {
         Err(Cause::WriteFailed)
     } else {

@@ -245,6 +245,5 @@ start_is j m place size same =
     ∙ ap (λ (k : ℕ). text (length (message_bytes j.order m)) m.kind m.flags k) (sym same.2)
 
 -- the text of a time by its parts, as they are written
-pub time_joined : (seconds fraction : List ℕ)
-    → codes ",\"time\":\"" ++ (seconds ++ (fraction ++ codes "\"")) ≡ codes "," ++ (member (codes "time") (plain (seconds ++ fraction)) ++ [])
-time_joined seconds fraction = simp (append_assoc, append-nil)
+pub time_joined : (text : List ℕ) → codes ",\"time\":\"" ++ (text ++ codes "\"") ≡ codes "," ++ (member (codes "time") (plain text) ++ [])
+time_joined text = simp (append_assoc, append-nil)

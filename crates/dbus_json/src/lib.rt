@@ -16,4 +16,4 @@ mod times;
 pub use line::write_json;
 pub use place::LinePlace;
 pub use texts::write_string;
-pub use times::{digit_at, write_time};
+pub use times::{digit_at, write_seconds, write_time};

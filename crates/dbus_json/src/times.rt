@@ -1,9 +1,9 @@
-//! Times as JSON. POSIX.1-2017, Base Definitions, "Seconds Since the Epoch".
+//! Times as text, and as JSON. POSIX.1-2017, Base Definitions, "Seconds Since the Epoch".
 #![tactic(auto)]
 
 ghost use Rattle.std.specs.Prelude.{◌≡◌, ℕ, ◌<◌, ◌∷◌, codes};
 ghost use Rattle.dbus_value_text.specs.Forms.{led};
-ghost use Rattle.dbus_json.specs.Times.{digit_at, fraction_digits, time_members};
+ghost use Rattle.dbus_json.specs.Times.{digit_at, fraction_digits, seconds_text, time_members};
 
 use dbus_show::{Draft, write_integer};
 use std::str;
@@ -44,6 +44,21 @@ fn write_fraction<D: Draft>(draft: &mut D, nanoseconds: u64)
     draft.push_str(unsafe { str::from_utf8_unchecked(&fraction) });
 }
 
+/// Appends so many nanoseconds in seconds, with nine digits behind the point: of a time the seconds
+/// since 1970 began in UTC.
+///
+/// ```text
+/// 1764381228.123456789
+/// ```
+///
+/// POSIX.1-2017, Base Definitions, "Seconds Since the Epoch".
+pub fn write_seconds<D: Draft>(draft: &mut D, nanoseconds: u64)
+    ensures { D.gains draft.old (seconds_text nanoseconds) draft.new }
+{
+    write_integer(draft, nanoseconds / 1_000_000_000);
+    write_fraction(draft, nanoseconds);
+}
+
 /// Appends the time as the member `time` after others, if there is one: a string of the seconds since
 /// 1970 began in UTC, with nine digits behind the point. The time is in nanoseconds. It allocates
 /// nothing.
@@ -52,8 +67,7 @@ pub fn write_time<D: Draft>(draft: &mut D, time: Option<u64>)
 {
     if let Some(nanoseconds) = time {
         draft.push_str(",\"time\":\"");
-        write_integer(draft, nanoseconds / 1_000_000_000);
-        write_fraction(draft, nanoseconds);
+        write_seconds(draft, nanoseconds);
         draft.push_code(b'"');
     }
 }

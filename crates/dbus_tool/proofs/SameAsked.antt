@@ -66,6 +66,12 @@ same_flag true false p q = sym (q.1 (p.0 refl))
 same_flag false true p q = p.1 (q.0 refl)
 same_flag false false p q = refl
 
+same_absent : (a b : Bool) {P : Type 0} → (a ≡ false) ↔ P → (b ≡ false) ↔ P → a ≡ b
+same_absent true true p q = refl
+same_absent true false p q = p.1 (q.0 refl)
+same_absent false true p q = sym (q.1 (p.0 refl))
+same_absent false false p q = refl
+
 same_number : (given : Option Text) (default n m : ℕ) → IsNumberOf given default n → IsNumberOf given default m → n ≡ m
 same_number None default n m p q = p ∙ sym q
 same_number (Some text) default n m p q = p.1 ∙ sym q.1
@@ -220,22 +226,22 @@ abbrev pub mark : Text → ℕ
 mark t = slice_index t 0 * 256 + slice_index t 1
 
 abbrev pub mark_of : Command → ℕ
-mark_of Show = mark (codes "show")
-mark_of Json = mark (codes "json")
+mark_of (Show times) = mark (codes "show")
+mark_of (Json times) = mark (codes "json")
 mark_of Check = mark (codes "check")
 mark_of (Swap order) = mark (codes "swap")
 mark_of (Filter selection) = mark (codes "filter")
 
 pub marked : (name : Text) (rows : List Row) (command : Command) → NamesCommand name rows command → mark name ≡ mark_of command
-marked name rows Show h = ap mark h
-marked name rows Json h = ap mark h
+marked name rows (Show times) h = ap mark h.0
+marked name rows (Json times) h = ap mark h.0
 marked name rows Check h = ap mark h
 marked name rows (Swap order) h = ap mark h.0
 marked name rows (Filter selection) h = ap mark h.0
 
 same_command : (name : Text) (rows : List Row) (a b : Command) → NamesCommand name rows a → NamesCommand name rows b → AreSameCommand a b
-same_command name rows Show Show p q = tt
-same_command name rows Json Json p q = tt
+same_command name rows (Show a) (Show b) p q = same_flag a b p.1 q.1
+same_command name rows (Json a) (Json b) p q = same_absent a b p.1 q.1
 same_command name rows Check Check p q = tt
 same_command name rows (Swap a) (Swap b) p q = same_order_word a b (some_is (order_word a) (order_word b) (sym p.1 ∙ q.1))
 same_command name rows (Filter a) (Filter b) p q = same_selection rows a b p.1 q.1
@@ -257,22 +263,22 @@ same_wanted rows a b p q =
     λ i. record { as_json = as_json i; unanswered = unanswered i; errors = errors i }
 
 no_count : (name : Text) (rows : List Row) (command : Command) → NamesCommand name rows command → name ≡ codes "count" → ⊥
-no_count name rows Show p e = omega (arith, marked name rows Show p, ap mark e)
-no_count name rows Json p e = omega (arith, marked name rows Json p, ap mark e)
+no_count name rows (Show times) p e = omega (arith, ap mark p.0, ap mark e)
+no_count name rows (Json times) p e = omega (arith, ap mark p.0, ap mark e)
 no_count name rows Check p e = omega (arith, marked name rows Check p, ap mark e)
 no_count name rows (Swap order) p e = omega (arith, ap mark p.0, ap mark e)
 no_count name rows (Filter selection) p e = omega (arith, ap mark p.0, ap mark e)
 
 no_calls : (name : Text) (rows : List Row) (command : Command) → NamesCommand name rows command → name ≡ codes "calls" → ⊥
-no_calls name rows Show p e = omega (arith, marked name rows Show p, ap mark e)
-no_calls name rows Json p e = omega (arith, marked name rows Json p, ap mark e)
+no_calls name rows (Show times) p e = omega (arith, ap mark p.0, ap mark e)
+no_calls name rows (Json times) p e = omega (arith, ap mark p.0, ap mark e)
 no_calls name rows Check p e = omega (arith, marked name rows Check p, ap mark e)
 no_calls name rows (Swap order) p e = omega (arith, ap mark p.0, ap mark e)
 no_calls name rows (Filter selection) p e = omega (arith, ap mark p.0, ap mark e)
 
 no_handshake : (name : Text) (rows : List Row) (command : Command) → NamesCommand name rows command → name ≡ codes "handshake" → ⊥
-no_handshake name rows Show p e = omega (arith, marked name rows Show p, ap mark e)
-no_handshake name rows Json p e = omega (arith, marked name rows Json p, ap mark e)
+no_handshake name rows (Show times) p e = omega (arith, ap mark p.0, ap mark e)
+no_handshake name rows (Json times) p e = omega (arith, ap mark p.0, ap mark e)
 no_handshake name rows Check p e = omega (arith, marked name rows Check p, ap mark e)
 no_handshake name rows (Swap order) p e = omega (arith, ap mark p.0, ap mark e)
 no_handshake name rows (Filter selection) p e = omega (arith, ap mark p.0, ap mark e)

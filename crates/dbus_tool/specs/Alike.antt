@@ -18,7 +18,8 @@ use Rattle.cli_run.specs.Output.{IsExact}
 use Rattle.dbus_tool.specs.Handshaking.{TakesHandshake, ahead}
 use Rattle.dbus_tool.specs.Words.{RunsWords}
 
--- what is asked for is done in one way: it is not `json`, and nothing is explained
+-- what is asked for is done in one way: it is not `json` and no `show` with times, and nothing is
+-- explained
 abbrev pub IsOneWay : Asked → Type 0
 IsOneWay (Messages command settings) = IsExact command × (settings.explains ≡ false)
 IsOneWay (Count settings form) = settings.explains ≡ false

@@ -1,4 +1,4 @@
 use Rattle.cli_options.proofs.wire.json_command.Goals as goal
 
 pub returns : goal.returns
-returns c = c.with_window.ensures _ c.bare.ensures
+returns c = c.with_window.ensures _ (c.with_arg.ensures _ _ c.flag.ensures c.bare-json.ensures)

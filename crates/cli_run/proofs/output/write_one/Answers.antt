@@ -1,6 +1,6 @@
 use Rattle.std.proofs.Common.{[], refl}
 use Rattle.dbus_message_model.specs.Messages.{message_bytes}
-use Rattle.dbus_show.specs.ShownMessages.{message_text}
+use Rattle.cli_run.specs.Output.{shown_text, told_place}
 use Rattle.cli_report.specs.Gathering.{gathered_bytes}
 use Rattle.cli_report.specs.PageLaws.{passes_none}
 use Rattle.cli_run.proofs.OutputSteps.{bytes_are}
@@ -10,10 +10,15 @@ pub returns-in-Nothing : goal.returns-in-Nothing
 returns-in-Nothing g c = λ order m whole. rw c.in-Nothing.is ([], refl, passes_none g.W.Sink.held g.W.Sink.failures (gathered_bytes c.args.gathered.now) c.args.first.now)
 
 pub returns-in-Text : goal.returns-in-Text
-returns-in-Text g c = λ order m whole. rw c.in-Text.is (message_text order m c.args.lent.now.place.number, refl, c.show.ensures order m whole)
+returns-in-Text g c = λ order m whole.
+    let place = told_place c.in-Text.times c.args.lent.now.place in
+    let told = rw c.told.ensures at c.show.ensures order m whole in
+    rw c.in-Text.is (shown_text order m place, refl, told)
 
 pub returns-in-JsonLine : goal.returns-in-JsonLine
-returns-in-JsonLine g c = λ order m whole. rw c.in-JsonLine.is (c.write_json_line.ensures order m whole)
+returns-in-JsonLine g c = λ order m whole.
+    let told = rw c.told-told.ensures at c.write_json_line.ensures order m whole in
+    rw c.in-JsonLine.is told
 
 pub returns-in-InOrder : goal.returns-in-InOrder
 returns-in-InOrder g c = λ order m whole. rw c.in-InOrder.is (message_bytes c.in-InOrder.wanted m, refl, c.swap.ensures order m whole)
