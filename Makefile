@@ -59,7 +59,7 @@ PYTHONDIR ?= $(PREFIX)/lib/python3/dist-packages
 PROGRAM = crates/dbus_wire/out/dbus_wire
 # The page for browsers, and its module.
 PAGE = out/dbus-wire.html
-MODULE = crates/dbus_page/out/dbus_page.wasm
+MODULE = out/dbus_page.wasm
 # Where the library for C is built.
 ROOM = out
 # include/dbus_wire.h says what changes its number.
@@ -177,6 +177,7 @@ test-completions:
 
 page: kit
 	bench/build.py dbus_page
+	web/module.py $(MODULE)
 	web/build.py $(MODULE) $(PAGE)
 
 test-page: build page

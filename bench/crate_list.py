@@ -23,12 +23,6 @@ def read_crates():
     return {name: [it for it in line.split(":")[1].split() if it in lines] for name, line in lines.items()}
 
 
-def kind_of(name):
-    """What else than other crates calls a library: `staticlib` of C, `wasm64` of a page in a browser, or nothing."""
-    words = read_lines()[name].split(":")[0].split()
-    return next((it for it in ("staticlib", "wasm64") if it in words), "")
-
-
 def libraries_below(name, uses):
     """The libraries below a crate, each after those that it uses."""
     return list(dict.fromkeys(it for used in uses[name] for it in (*libraries_below(used, uses), used)))

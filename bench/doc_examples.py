@@ -13,7 +13,7 @@ import subprocess
 import sys
 import textwrap
 
-from crate_list import ROOT, folder_of, kind_of, read_crates, read_lines
+from crate_list import ROOT, folder_of, read_crates, read_lines
 
 NAME = "doc_examples"
 APART = ROOT / "out" / NAME
@@ -87,7 +87,7 @@ def first_message(stream):
 def write_program():
     """Lays out the crates and the program, and returns the places of the examples."""
     shutil.rmtree(APART, ignore_errors=True)
-    libraries = [it for it in read_crates() if (folder_of(it) / "src" / "lib.rt").exists() and not kind_of(it)]
+    libraries = [it for it in read_crates() if (folder_of(it) / "src" / "lib.rt").exists() and "staticlib" not in read_lines()[it].split(":")[0]]
     for name in libraries:
         for part in ("src", "specs", "proofs"):
             if (folder_of(name) / part).is_dir():

@@ -9,7 +9,7 @@ import re
 import subprocess
 import tempfile
 
-from crate_list import copy_parts, folder_of, kind_of, lanes, libraries_below, read_crates, read_lines
+from crate_list import copy_parts, folder_of, lanes, libraries_below, read_crates, read_lines
 from edits import all_edits, edited, edits_in, function_at, functions_changed, text_of
 from interfaces import checksums
 
@@ -45,16 +45,14 @@ def check_words(crate, crates):
     kit = pathlib.Path(subprocess.run(["rt", "doc"], capture_output=True, text=True, check=True).stdout.strip()).parent
     built = {it: crates / it / "out" / "rlib" / f"{it}.rlib" for it in libraries_below(crate, read_crates())}
     root = next(it for it in ("main", "lib") if (folder_of(crate) / "src" / f"{it}.rt").exists())
-    uses = read_lines()[crate].partition(":")[2]
+    kind, _, uses = read_lines()[crate].partition(":")
     words = ["nice", kit / "bin/rattle", "check", f"src/{root}.rt", "--crate-name", crate, "-L", f"dependency={kit}/rlibs"]
     for name in ("std", *uses.split()):
         words += ["--extern", f"{name}={built.get(name, kit / 'rlibs' / f'{name}.rlib')}"]
     for rlib in built.values():
         words += ["-L", f"dependency={rlib.parent}"]
-    if kind_of(crate):
+    if "staticlib" in kind:
         words += ["--crate-type", "staticlib"]
-    if kind_of(crate) == "wasm64":
-        words += ["--target", "wasm64-unknown-unknown"]
     words += ["--antt-project", kit / "rattle/logic/antt-project.json", "--logic-built", kit / "logic_built"]
     return [*words, "--incremental", crates / crate / "out" / "incremental"]
 
