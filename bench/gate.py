@@ -73,6 +73,13 @@ def read_captures(copy, program):
     return is_well
 
 
+def compare_lines(copy, program):
+    """Whether the program lists all messages as a second writer does."""
+    is_well = program.exists() and run_in(copy, "cases/lines.py", str(program))[0] == 0
+    print(f"{program.name}: {'all lines right' if is_well else 'lines wrong, or it is not there'}", flush=True)
+    return is_well
+
+
 def main(*words):
     if words not in ((), ("--all",)):
         print(__doc__, file=sys.stderr)
@@ -87,6 +94,7 @@ def main(*words):
         answered = [ask(copy, name, program) for name in asked_programs() for program in built(copy, name)]
         answered += [make(program, run) for name, run in stored_runs() for program in built(copy, name)]
         answered += [read_captures(copy, program) for program in built(copy, "dbus_wire")]
+        answered += [compare_lines(copy, program) for program in built(copy, "dbus_wire")]
         missed = rounds.missed()
     passed += answered.count(True) + len(edits) - missed
     failed += answered.count(False) + missed

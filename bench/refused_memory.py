@@ -21,6 +21,7 @@ COMMAND_LINES = (
     (("check",), 1),
     (("show",), 1),
     (("json",), 1),
+    (("list",), 1),
     (("swap", "--to", "B"), 1),
     (("filter", "type='signal',path_namespace='/org',arg0='x'"), 1),
     (("check", "--max-array", "1000"), 1),

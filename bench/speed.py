@@ -25,6 +25,7 @@ COMMANDS = {
     "swap B": ("swap", "--to", "B"),
     "show": ("show",),
     "json": ("json",),
+    "list": ("list",),
     "count": ("count",),
     "calls": ("calls",),
 }

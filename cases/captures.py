@@ -17,9 +17,9 @@ sys.dont_write_bytecode = True
 
 from read_cases import DATA, read_cases, read_parts, read_words  # noqa: E402
 
-# What a file gives: the bytes of its D-Bus packets, the time of each in nanoseconds or None, the number of the one of the last byte or None, and the place
-# and the reason of its fault, or ().
-Given = collections.namedtuple("Given", "data times last fault")
+# What a file gives: the bytes of its D-Bus packets, the time of each in nanoseconds or None, how many bytes there are up to the end of each packet, the
+# number of the packet of the last byte or None, and the place and the reason of its fault, or ().
+Given = collections.namedtuple("Given", "data times ends last fault")
 Interface = collections.namedtuple("Interface", "link_type most unit has_offset")
 
 DBUS = 231
@@ -45,7 +45,7 @@ class Reader:
 
     def __init__(self, data):
         self.bytes, self.at, self.order = data, 0, "little"
-        self.data, self.times, self.last, self.interfaces = b"", [], None, []
+        self.data, self.times, self.ends, self.last, self.interfaces = b"", [], [], None, []
 
     def take(self, count):
         found = self.bytes[self.at : self.at + count]
@@ -62,6 +62,7 @@ class Reader:
         # A packet that the input ends within is handed on as far as it is there.
         part = self.bytes[self.at : self.at + count]
         self.data += part
+        self.ends.append(len(self.data))
         self.last = len(self.times) if part else self.last
         self.take(count)
 
@@ -177,7 +178,7 @@ def read(data):
             reader.data = data
     except Refused as it:
         fault = it.args
-    return Given(reader.data, reader.times, reader.last, fault)
+    return Given(reader.data, reader.times, reader.ends, reader.last, fault)
 
 
 def fronts(data):

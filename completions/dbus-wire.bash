@@ -21,7 +21,7 @@ _dbus_wire_rule() {
 
 _dbus_wire() {
     local word=${COMP_WORDS[COMP_CWORD]} option=${COMP_WORDS[COMP_CWORD-1]}
-    local commands='show json check count calls swap filter handshake help'
+    local commands='show json list check count calls swap filter handshake help'
     local options='--explain --max-message --max-array --max-depth --fds --handshake -h --help'
     COMPREPLY=()
     # A redirection names a file, which bash completes.
@@ -49,7 +49,7 @@ _dbus_wire() {
             COMPREPLY=($(compgen -W 'client server' -- "$word"))
             return
             ;;
-        --max-* | --skip | --limit | --owner)
+        --max-* | --skip | --limit | --width | --owner)
             # A number, or NAME=UNIQUE.
             return
             ;;
@@ -70,6 +70,9 @@ _dbus_wire() {
             ;;
         json)
             COMPREPLY=($(compgen -W "--no-time --skip --limit --keep-going $options" -- "$word"))
+            ;;
+        list)
+            COMPREPLY=($(compgen -W "--width --skip --limit --keep-going $options" -- "$word"))
             ;;
         check)
             COMPREPLY=($(compgen -W "--keep-going $options" -- "$word"))

@@ -14,11 +14,12 @@ function __dbus_wire_rule
     end
 end
 
-set -l commands show json check count calls swap filter handshake help
+set -l commands show json list check count calls swap filter handshake help
 
 complete -c dbus-wire -n "not __fish_seen_subcommand_from $commands" -f
 complete -c dbus-wire -n "not __fish_seen_subcommand_from $commands" -a show -d 'Write each message as text'
 complete -c dbus-wire -n "not __fish_seen_subcommand_from $commands" -a json -d 'Write each message as a line of JSON'
+complete -c dbus-wire -n "not __fish_seen_subcommand_from $commands" -a list -d 'Write each message as one line'
 complete -c dbus-wire -n "not __fish_seen_subcommand_from $commands" -a check -d 'Say whether the whole input is messages'
 complete -c dbus-wire -n "not __fish_seen_subcommand_from $commands" -a count -d 'Count the messages of each type, sender, member and so on'
 complete -c dbus-wire -n "not __fish_seen_subcommand_from $commands" -a calls -d 'List the calls, and what came of each'
@@ -28,7 +29,7 @@ complete -c dbus-wire -n "not __fish_seen_subcommand_from $commands" -a handshak
 complete -c dbus-wire -n "not __fish_seen_subcommand_from $commands" -a help -d 'Write the help'
 complete -c dbus-wire -s h -l help -f -d 'Write the help'
 complete -c dbus-wire -n "not __fish_seen_subcommand_from $commands" -s V -l version -f -d 'Write the version'
-complete -c dbus-wire -n '__fish_seen_subcommand_from help' -f -a 'show json check count calls swap filter handshake help'
+complete -c dbus-wire -n '__fish_seen_subcommand_from help' -f -a 'show json list check count calls swap filter handshake help'
 complete -c dbus-wire -n '__fish_seen_subcommand_from show' -l time -f -d 'Write the time of each message before it'
 complete -c dbus-wire -n '__fish_seen_subcommand_from json' -l no-time -f -d 'Leave out the times'
 complete -c dbus-wire -n '__fish_seen_subcommand_from swap' -l to -x -a 'l B' -d 'The byte order to write'
@@ -37,14 +38,15 @@ complete -c dbus-wire -n '__fish_seen_subcommand_from filter' -l invert -f -d 'W
 complete -c dbus-wire -n '__fish_seen_subcommand_from filter' -l owner -x -d 'The owner of a well-known name, NAME=UNIQUE'
 complete -c dbus-wire -n '__fish_seen_subcommand_from filter' -l learn-owners -f -d 'Learn owners from signals of the bus'
 complete -c dbus-wire -n '__fish_seen_subcommand_from filter' -f -a '(__dbus_wire_rule)'
-complete -c dbus-wire -n '__fish_seen_subcommand_from show json filter' -l skip -x -d 'Messages to skip first'
-complete -c dbus-wire -n '__fish_seen_subcommand_from show json filter' -l limit -x -d 'Most messages to write'
-complete -c dbus-wire -n '__fish_seen_subcommand_from show json check count calls filter' -l keep-going -f -d 'Go on after a refused message'
+complete -c dbus-wire -n '__fish_seen_subcommand_from show json list filter' -l skip -x -d 'Messages to skip first'
+complete -c dbus-wire -n '__fish_seen_subcommand_from show json list filter' -l limit -x -d 'Most messages to write'
+complete -c dbus-wire -n '__fish_seen_subcommand_from show json list check count calls filter' -l keep-going -f -d 'Go on after a refused message'
+complete -c dbus-wire -n '__fish_seen_subcommand_from list' -l width -x -d 'Cells of a line'
 complete -c dbus-wire -n '__fish_seen_subcommand_from count' -l json -f -d 'Write each line of the tables as JSON'
 complete -c dbus-wire -n '__fish_seen_subcommand_from calls' -l json -f -d 'Write each line as JSON'
 complete -c dbus-wire -n '__fish_seen_subcommand_from calls' -l unanswered -f -d 'List the calls without a reply'
 complete -c dbus-wire -n '__fish_seen_subcommand_from calls' -l errors -f -d 'List the calls that an error answered'
-for command in show json check count calls swap filter
+for command in show json list check count calls swap filter
     complete -c dbus-wire -n "__fish_seen_subcommand_from $command" -l explain -f -d 'Explain what is refused'
     complete -c dbus-wire -n "__fish_seen_subcommand_from $command" -l max-message -x -d 'Most bytes of a message'
     complete -c dbus-wire -n "__fish_seen_subcommand_from $command" -l max-array -x -d 'Most bytes of an array'

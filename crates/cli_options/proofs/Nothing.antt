@@ -7,12 +7,13 @@ use Rattle.dbus_match.specs.Matching.{Ownership, ownership}
 use Rattle.cli_options.specs.Named.{HasSettings, Names, NamesCommand, IsSelectionGiven, order_word, side_word, words_of}
 use Rattle.cli_options.specs.Owners.{IsOwnerWord}
 use Rattle.cli_options.proofs.Numbers.{each_can}
+use Rattle.cli_options.specs.Limiting.{HasWidth}
 use Rattle.cli_options.specs.Told.{IsNoCommand, NamesNothing}
 use Rattle.dbus_handshake_input.specs.declared.side.Side.{Side}
 use Rattle.cli_options.specs.declared.asked.Asked.{Asked}
 use Rattle.cli_options.specs.declared.asked.Asked.TheVariants.{Messages, Count, Calls, Handshake}
 use Rattle.cli_options.specs.declared.command.Command.{Command}
-use Rattle.cli_options.specs.declared.command.Command.TheVariants.{Show, Json, Check, Swap, Filter}
+use Rattle.cli_options.specs.declared.command.Command.TheVariants.{Show, Json, List as Listing, Check, Swap, Filter}
 use Rattle.cli_options.specs.declared.selection.Selection.{Selection}
 use Rattle.cli_options.specs.declared.settings.Settings.{Settings}
 
@@ -45,6 +46,7 @@ module _ (rows : List Row) (no_side : (side : Side) → first_of (codes "side") 
   no_messages : (command : Command) → NamesCommand (codes "handshake") rows command → ⊥
   no_messages (Show times) named = let bad : ◌≡◌ {A = ℕ} 104 115 = ap (λ t. slice_index t 0) named.0 in absurd (omega arith)
   no_messages (Json times) named = let bad : ◌≡◌ {A = ℕ} 104 106 = ap (λ t. slice_index t 0) named.0 in absurd (omega arith)
+  no_messages (Listing width) named = let bad : ◌≡◌ {A = ℕ} 104 108 = ap (λ t. slice_index t 0) named.0 in absurd (omega arith)
   no_messages Check named = let bad : ◌≡◌ {A = ℕ} 104 99 = ap (λ t. slice_index t 0) named in absurd (omega arith)
   no_messages (Swap order) named = let bad : ◌≡◌ {A = ℕ} 104 115 = ap (λ t. slice_index t 0) named.0 in absurd (omega arith)
   no_messages (Filter selection) named = let bad : ◌≡◌ {A = ℕ} 104 102 = ap (λ t. slice_index t 0) named.0 in absurd (omega arith)
@@ -65,6 +67,7 @@ module _ (rows : List Row) (no_order : (order : Order) → first_of (codes "to")
   unordered_command : (command : Command) → NamesCommand (codes "swap") rows command → ⊥
   unordered_command (Show times) named = let bad : ◌≡◌ {A = ℕ} 119 104 = ap (λ t. slice_index t 1) named.0 in absurd (omega arith)
   unordered_command (Json times) named = let bad : ◌≡◌ {A = ℕ} 115 106 = ap (λ t. slice_index t 0) named.0 in absurd (omega arith)
+  unordered_command (Listing width) named = let bad : ◌≡◌ {A = ℕ} 115 108 = ap (λ t. slice_index t 0) named.0 in absurd (omega arith)
   unordered_command Check named = let bad : ◌≡◌ {A = ℕ} 115 99 = ap (λ t. slice_index t 0) named in absurd (omega arith)
   unordered_command (Swap order) named = no_order order named.1
   unordered_command (Filter selection) named = let bad : ◌≡◌ {A = ℕ} 115 102 = ap (λ t. slice_index t 0) named.0 in absurd (omega arith)
@@ -76,11 +79,28 @@ module _ (rows : List Row) (no_order : (order : Order) → first_of (codes "to")
     no_fault = λ refused found. let bad : ◌≡◌ {A = ℕ} 115 102 = ap (λ t. slice_index t 0) found.named in absurd (omega arith);
   }
 
+module _ (rows : List Row) (no_width : (width : ℕ) → HasWidth rows width → ⊥) where
+  unwide_command : (command : Command) → NamesCommand (codes "list") rows command → ⊥
+  unwide_command (Show times) named = let bad : ◌≡◌ {A = ℕ} 108 115 = ap (λ t. slice_index t 0) named.0 in absurd (omega arith)
+  unwide_command (Json times) named = let bad : ◌≡◌ {A = ℕ} 108 106 = ap (λ t. slice_index t 0) named.0 in absurd (omega arith)
+  unwide_command (Listing width) named = no_width width named.1
+  unwide_command Check named = let bad : ◌≡◌ {A = ℕ} 108 99 = ap (λ t. slice_index t 0) named in absurd (omega arith)
+  unwide_command (Swap order) named = let bad : ◌≡◌ {A = ℕ} 108 115 = ap (λ t. slice_index t 0) named.0 in absurd (omega arith)
+  unwide_command (Filter selection) named = let bad : ◌≡◌ {A = ℕ} 108 102 = ap (λ t. slice_index t 0) named.0 in absurd (omega arith)
+
+  -- `list` with no width
+  pub unwide_is_no_command : IsNoCommand (codes "list") rows
+  unwide_is_no_command = record {
+    no_command = unwide_command;
+    no_fault = λ refused found. let bad : ◌≡◌ {A = ℕ} 108 102 = ap (λ t. slice_index t 0) found.named in absurd (omega arith);
+  }
+
 -- `filter`, of whose words there are no selection and no fault
 module _ (rows : List Row) (no_selection : (selection : Selection) → IsSelectionGiven rows selection → ⊥) where
   unselected_command : (command : Command) → NamesCommand (codes "filter") rows command → ⊥
   unselected_command (Show times) named = let bad : ◌≡◌ {A = ℕ} 102 115 = ap (λ t. slice_index t 0) named.0 in absurd (omega arith)
   unselected_command (Json times) named = let bad : ◌≡◌ {A = ℕ} 102 106 = ap (λ t. slice_index t 0) named.0 in absurd (omega arith)
+  unselected_command (Listing width) named = let bad : ◌≡◌ {A = ℕ} 102 108 = ap (λ t. slice_index t 0) named.0 in absurd (omega arith)
   unselected_command Check named = let bad : ◌≡◌ {A = ℕ} 102 99 = ap (λ t. slice_index t 0) named in absurd (omega arith)
   unselected_command (Swap order) named = let bad : ◌≡◌ {A = ℕ} 102 115 = ap (λ t. slice_index t 0) named.0 in absurd (omega arith)
   unselected_command (Filter selection) named = no_selection selection named.1

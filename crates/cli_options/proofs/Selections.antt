@@ -21,7 +21,7 @@ use Rattle.cli_options.specs.Selections.{AreSameSelection, OrInverted, SelectsBy
 use Rattle.cli_options.specs.contracts.selection.SelectionPartialEq.TheImpl as selection_eq
 use Rattle.cli_options.specs.declared.selection.Selection.{Selection}
 use Rattle.cli_options.specs.declared.command.Command.{Command}
-use Rattle.cli_options.specs.declared.command.Command.TheVariants.{Show, Json, Check, Swap, Filter}
+use Rattle.cli_options.specs.declared.command.Command.TheVariants.{Show, Json, List as Listing, Check, Swap, Filter}
 use Rattle.cli_options.specs.contracts.command.CommandPartialEq.TheImpl as command_eq
 
 -- ---- which messages are selected
@@ -77,10 +77,12 @@ selections_equal a b =
 pub commands_equal : (a b : Command) → Decides (command_eq.ghosts.eq a b) (AreSameCommand a b)
 commands_equal (Show a) b = grind (arith, common_steps)
 commands_equal (Json a) b = grind (arith, common_steps)
+commands_equal (Listing a) b = grind (arith, common_steps)
 commands_equal Check b = grind (arith, common_steps)
 commands_equal (Swap a) b = grind (arith, common_steps)
 commands_equal (Filter r) (Show b) = grind (arith, common_steps)
 commands_equal (Filter r) (Json b) = grind (arith, common_steps)
+commands_equal (Filter r) (Listing b) = grind (arith, common_steps)
 commands_equal (Filter r) Check = grind (arith, common_steps)
 commands_equal (Filter r) (Swap b) = grind (arith, common_steps)
 commands_equal (Filter r) (Filter s) = selections_equal r s

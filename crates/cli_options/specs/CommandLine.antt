@@ -52,7 +52,7 @@ with_options app = with_rule
 abbrev pub with_keep_going : App → App
 with_keep_going app = with_options (with_rule app (flag_rule (codes "keep-going")))
 
--- and with `--skip` and `--limit`, which `show`, `json` and `filter` have
+-- and with `--skip` and `--limit`, which `show`, `json`, `list` and `filter` have
 abbrev pub with_window : App → App
 with_window app = with_keep_going (with_rule (with_rule app (limit_rule (codes "skip") most_messages)) (limit_rule (codes "limit") most_messages))
 
@@ -61,6 +61,13 @@ show_app = with_window (with_rule (new_app (codes "show")) (flag_rule (codes "ti
 
 abbrev pub json_app : App
 json_app = with_window (with_rule (new_app (codes "json")) (flag_rule (codes "no-time")))
+
+-- the most cells that `--width` names: the greatest number of 16 bits
+abbrev pub most_cells : ℕ
+most_cells = 65535
+
+abbrev pub list_app : App
+list_app = with_window (with_rule (new_app (codes "list")) (limit_rule (codes "width") most_cells))
 
 abbrev pub check_app : App
 check_app = with_keep_going (new_app (codes "check"))
@@ -84,12 +91,12 @@ handshake_app = with_rule (new_app (codes "handshake")) (needed_rule (codes "sid
 abbrev pub bare_app : App
 bare_app = on_top (λ s. record s { subcommand_required = true; has_version = true }) (new_app (codes "dbus-wire"))
 
--- the program, with its eight subcommands
+-- the program, with its nine subcommands
 abbrev pub wire_app : App
 wire_app = with_subcommand
     (with_subcommand
     (with_subcommand
-    (with_subcommand (with_subcommand (with_subcommand (with_subcommand (with_subcommand bare_app show_app.top) json_app.top) check_app.top) count_app.top)
+    (with_subcommand (with_subcommand (with_subcommand (with_subcommand (with_subcommand (with_subcommand bare_app show_app.top) json_app.top) list_app.top) check_app.top) count_app.top)
     calls_app.top) swap_app.top) filter_app.top) handshake_app.top
 
 -- clap reads this of the argument, which no subcommand shares

@@ -57,6 +57,14 @@ pub record HasWindow (rows : List Row) (window : Window) : Type 0 where
   pub few : window.skip < 2 ^ 32
   pub limit : IsGivenNumber (one_of (codes "limit") rows) window.limit
 
+-- the cells of a line are as many as its option says, else 80, and a number of 16 bits
+abbrev pub HasWidth : List Row → ℕ → Type 0
+HasWidth rows width = IsNumberOf (one_of (codes "width") rows) 80 width × (width < 2 ^ 16)
+
+abbrev pub GivesWidth : List Row → Option ℕ → Type 0
+GivesWidth rows (Some width) = HasWidth rows width
+GivesWidth rows None = (width : ℕ) → HasWidth rows width → ⊥
+
 abbrev pub GivesWindow : List Row → Option Window → Type 0
 GivesWindow rows (Some window) = HasWindow rows window
 GivesWindow rows None = (window : Window) → HasWindow rows window → ⊥

@@ -15,12 +15,12 @@ use Rattle.cli_options.specs.declared.form.CountForm.TheVariants as written
 use Rattle.dbus_handshake_input.specs.declared.side.Side.{Side}
 use Rattle.dbus_handshake_input.specs.declared.side.Side.TheVariants.{Client, Server}
 use Rattle.cli_options.specs.CommandLine.{wire_app}
-use Rattle.cli_options.specs.Limiting.{HasLimits, HasWindow}
+use Rattle.cli_options.specs.Limiting.{HasLimits, HasWidth, HasWindow}
 use Rattle.cli_options.specs.Owners.{AreOwnersOf, IsOwnerWord}
 use Rattle.cli_options.specs.declared.asked.Asked.{Asked}
 use Rattle.cli_options.specs.declared.asked.Asked.TheVariants.{Messages, Count, Calls, Handshake}
 use Rattle.cli_options.specs.declared.command.Command.{Command}
-use Rattle.cli_options.specs.declared.command.Command.TheVariants.{Show, Json, Check, Swap, Filter}
+use Rattle.cli_options.specs.declared.command.Command.TheVariants.{Show, Json, List as Listing, Check, Swap, Filter}
 use Rattle.cli_options.specs.declared.selection.Selection.{Selection}
 use Rattle.cli_options.specs.declared.settings.Settings.{Settings}
 use Rattle.cli_options.specs.declared.usage_fault.RefusedRule.{RefusedRule}
@@ -78,6 +78,7 @@ pub record IsSelectionGiven (rows : List Row) (selection : Selection) : Type 0 w
 abbrev pub NamesCommand : Text → List Row → Command → Type 0
 NamesCommand name rows (Show times) = (name ≡ codes "show") × ((times ≡ true) ↔ IsGiven (codes "time") rows)
 NamesCommand name rows (Json times) = (name ≡ codes "json") × ((times ≡ false) ↔ IsGiven (codes "no-time") rows)
+NamesCommand name rows (Listing width) = (name ≡ codes "list") × HasWidth rows width
 NamesCommand name rows Check = name ≡ codes "check"
 NamesCommand name rows (Swap order) = (name ≡ codes "swap") × (first_of (codes "to") rows ≡ Some (order_word order))
 NamesCommand name rows (Filter selection) = (name ≡ codes "filter") × IsSelectionGiven rows selection

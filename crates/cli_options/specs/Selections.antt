@@ -8,7 +8,7 @@ use Rattle.dbus_match.specs.Matching.{Matches, Ownership, ownerships}
 use Rattle.dbus_rule.specs.RuleViews.{rule_pairs}
 use Rattle.cli_options.specs.declared.selection.Selection.{Selection}
 use Rattle.cli_options.specs.declared.command.Command.{Command}
-use Rattle.cli_options.specs.declared.command.Command.TheVariants.{Show, Json, Check, Swap, Filter}
+use Rattle.cli_options.specs.declared.command.Command.TheVariants.{Show, Json, List as Listing, Check, Swap, Filter}
 
 -- some rule of the list matches the message with these owners
 abbrev pub SomeMatches : List (Rule Global) → MessageTree → List Ownership → Type 0
@@ -42,11 +42,12 @@ pub record AreSameSelection (a b : Selection) : Type 0 where
 
 -- When two commands are the same: their names are, and so is what belongs to them.
 
--- both are `Show`, or both `Json`, with times or without; or both are `Check`, `Swap` to one order,
--- or `Filter` by the same selection
+-- both are `Show`, or both `Json`, with times or without; or both are `Check`; or `List` of one width,
+-- `Swap` to one order, or `Filter` by the same selection
 abbrev pub AreSameCommand : Command → Command → Type 0
 AreSameCommand (Show a) (Show b) = a ≡ b
 AreSameCommand (Json a) (Json b) = a ≡ b
+AreSameCommand (Listing a) (Listing b) = a ≡ b
 AreSameCommand Check Check = Unit {0}
 AreSameCommand (Swap a) (Swap b) = a ≡ b
 AreSameCommand (Filter r) (Filter s) = AreSameSelection r s

@@ -8,7 +8,7 @@ ghost use Rattle.cli_options.specs.Told.{TellsKind, Tells, TellsCommand, TellsFa
 use crate::asked::Asked;
 use crate::command::Command;
 use crate::form::CountForm;
-use crate::limits_named::{limits_named, window_named};
+use crate::limits_named::{limits_named, width_named, window_named};
 use crate::owners::owners_given;
 use crate::rules::rules_spelled;
 use crate::selection::Selection;
@@ -28,17 +28,17 @@ use std::alloc::Global;
 /// `--max-array`, in bytes, `--max-depth`, in open containers, and `--fds`, a rule on indexes of
 /// descriptors, name the limits; one that they do not name is that of the specification. The flags
 /// `--explain`, and `--keep-going` of all commands but `swap`, are set if they are among the words,
-/// and `--json` of `count` is its form.
-/// `--json`, `--unanswered` and `--errors` of `calls` say what it lists. `--time` of `show` and
-/// `--no-time` of `json` say whether times are written. `--handshake` names the side whose handshake
-/// comes before the messages. `--skip` and `--limit`, of `show`, `json` and
-/// `filter`, are the numbers of the window; without them it leaves no message out.
+/// and `--json` of `count` is its form. `--json`, `--unanswered` and `--errors` of `calls` say what
+/// it lists. `--time` of `show` and `--no-time` of `json` say whether times are written.
+/// `--handshake` names the side whose handshake comes before the messages. `--skip` and `--limit`,
+/// of `show`, `json`, `list` and `filter`, are the numbers of the window; without them it leaves no
+/// message out. `--width` of `list` is the number of cells of its lines; without it they have 80.
 ///
 /// `Usage`: the words name no command of the program, or have what it does not take, a limit over
-/// that of the specification, a number of messages over 4294967295 and an owner that is no
-/// NAME=UNIQUE of two bus names among it. `Rule`: they name `filter`, with a text that spells no
-/// rule; it is the first such text. `Help`, `Version`: they ask for help, or for the version.
-/// `Memory`: an allocation failed.
+/// that of the specification, a number of messages over 4294967295, a width over 65535 and an owner
+/// that is no NAME=UNIQUE of two bus names among it. `Rule`: they name `filter`, with a text that
+/// spells no rule; it is the first such text. `Help`, `Version`: they ask for help, or for the
+/// version. `Memory`: an allocation failed.
 pub fn command_of(alloc: Global, words: &[String]) -> Result<Asked, UsageFault>
     // What is returned is what the words name: a command and its settings, or a side.
     ensures named { IfOk result (IsNamedBy (map string_bytes words.now)) }
@@ -165,6 +165,9 @@ fn command_with(alloc: Global, name: &str, inner: &ArgMatches) -> Result<Command
         let times = !is_given(inner, "no-time");
         return Ok(Command::Json { times });
     }
+    if name == "list" {
+        return list_named(alloc, inner);
+    }
     if name == "check" {
         return Ok(Command::Check);
     }
@@ -175,6 +178,16 @@ fn command_with(alloc: Global, name: &str, inner: &ArgMatches) -> Result<Command
         return selection_named(alloc, inner);
     }
     Err(usage(alloc, "error: no such command\n"))
+}
+
+// `list`, with the width that it is given.
+fn list_named(alloc: Global, inner: &ArgMatches) -> Result<Command, UsageFault>
+    ensures { TellsCommand (codes "list") (rows_of (found_of inner.now)) result }
+{
+    match width_named(inner) {
+        Some(width) => Ok(Command::List(width)),
+        None => Err(usage(alloc, "error: no width\n")),
+    }
 }
 
 // The order that `swap` is given.

@@ -17,6 +17,7 @@ impl Clone for Command {
         match self {
             Command::Show { times } => Ok(Command::Show { times: *times }),
             Command::Json { times } => Ok(Command::Json { times: *times }),
+            Command::List(width) => Ok(Command::List(*width)),
             Command::Check => Ok(Command::Check),
             Command::Swap(order) => Ok(Command::Swap(*order)),
             Command::Filter(selection) => Ok(Command::Filter(selection.clone()?)),

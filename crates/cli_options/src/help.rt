@@ -115,6 +115,31 @@ pub(crate) const JSON_MORE: &str = more!(
 /// What `--no-time` of `json` does.
 pub(crate) const NO_TIME: &str = "Leaves out the times";
 
+/// What `list` does.
+pub(crate) const LIST: &str = "Writes each message as one line that fits a terminal";
+
+/// How `list` is called.
+pub(crate) const LIST_USAGE: &str = "dbus-wire list [OPTIONS] < FILE";
+
+/// What follows the help of `list`.
+pub(crate) const LIST_MORE: &str = more!(
+    going "
+  For each message one line on standard output: its number from 1, the time of
+  day in UTC if the file has it, its size in bytes, `SENDER > DESTINATION`, and
+  of a call or a signal its member with the types of its values, of a reply the
+  serial of the call, and the values. `*` is the destination of a signal to all,
+  and `-` is in place of what a message does not say. What does not fit the
+  width is cut, and `~` ends the line; `~` begins a name of which only the last
+  elements are written. Characters that a terminal obeys or does not draw are
+  written as \\x1b or \\u{202e}. If the input is refused, `refused at P: NAME` on
+  standard error.",
+    "
+  dbus-wire list --width $COLUMNS < capture"
+);
+
+/// What `--width` of `list` is.
+pub(crate) const WIDTH: &str = "Cells of a line: 80, the default; 0 for no bound; to 65535";
+
 /// What `check` does.
 pub(crate) const CHECK: &str = "Checks that the input is messages, and counts them";
 

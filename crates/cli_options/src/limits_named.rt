@@ -1,12 +1,15 @@
-//! The limits and the window that the options of a command name.
+//! The limits, the window and the width that the options of a command name.
 ghost use Rattle.clap.specs.Words.{found_of, one_of, rows_of};
-ghost use Rattle.cli_options.specs.Limiting.{GivesGiven, GivesNumber, GivesNumbers, GivesWindow, HasLimits, HasWindow, IsFdsOf, TellsNamed};
+ghost use Rattle.cli_options.specs.Limiting.{GivesGiven, GivesNumber, GivesNumbers, GivesWidth, GivesWindow, HasLimits, HasWindow, IsFdsOf, TellsNamed};
 
 use crate::usage_fault::{UsageFault, bad_value, usage};
 use crate::window::Window;
 use clap::ArgMatches;
 use dbus_value_model::{ARRAY_LIMIT, DEPTH_LIMIT, FdRule, Limits, MESSAGE_LIMIT};
 use std::alloc::Global;
+
+// The cells of a line, if no width is given: those of most terminals.
+const USUAL_WIDTH: u32 = 80;
 
 /// The limits that the options name. `Usage`: one of them is given what it may not be. `Memory`: an
 /// allocation failed.
@@ -76,6 +79,17 @@ fn window_of(inner: &ArgMatches) -> Option<Window>
     let skip = number_named(inner, "skip", 0)?;
     let limit = given_named(inner, "limit")?;
     Some(Window { skip, limit })
+}
+
+/// The cells of a line that the options name, 80 if they name none. Nothing, if they are given no
+/// number of 16 bits.
+pub(crate) fn width_named(inner: &ArgMatches) -> Option<u16>
+    ensures { GivesWidth (rows_of (found_of inner.now)) result }
+{
+    match number_named(inner, "width", USUAL_WIDTH) {
+        Some(width) => u16::try_from(width).ok(),
+        None => None,
+    }
 }
 
 // The rule on indexes of file descriptors that a word stands for.

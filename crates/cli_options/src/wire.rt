@@ -2,13 +2,16 @@
 ghost use Rattle.std.specs.Prelude.{◌≡◌, IfOk, pos};
 ghost use Rattle.clap.specs.Words.{App, Rule, app_of, new_app, with_rule, with_subcommand};
 ghost use Rattle.clap.specs.declared.builder.value_parser.ValueParser.TheVariants.{Signed};
-ghost use Rattle.cli_options.specs.CommandLine.{IsArg, IsLocal, flag_rule, limit_rule, needed_rule, owner_rule, text_rule, word_rule, with_keep_going, with_options, with_window, wire_app, bare_app, show_app, json_app, check_app, count_app, calls_app, swap_app, filter_app, handshake_app};
+ghost use Rattle.cli_options.specs.CommandLine.{IsArg, IsLocal, flag_rule, limit_rule, needed_rule, owner_rule, text_rule, word_rule, with_keep_going, with_options, with_window, wire_app, bare_app, show_app, json_app, list_app, check_app, count_app, calls_app, swap_app, filter_app, handshake_app};
 
 use crate::help;
 use clap::builder::ValueParser;
 use clap::{Arg, ArgAction, Command};
 use dbus_value_model::{ARRAY_LIMIT, DEPTH_LIMIT, MESSAGE_LIMIT};
 use std::alloc::{AllocError, Global};
+
+// The most cells of a line: the greatest number of 16 bits.
+const MOST_CELLS: u32 = 65_535;
 
 // A number from 0 up to this one.
 fn number_up_to<'a>(most: u32) -> ValueParser<'a>
@@ -160,6 +163,15 @@ fn json_command<'a>(alloc: Global) -> Result<Command<'a>, AllocError>
     with_window(alloc, with_arg(json, flag(alloc, "no-time", help::NO_TIME)))
 }
 
+// `list`, with its width.
+fn list_command<'a>(alloc: Global) -> Result<Command<'a>, AllocError>
+    ensures { IfOk result (IsLocal list_app) }
+{
+    let list = bare(alloc, "list", help::LIST, help::LIST_USAGE, help::LIST_MORE);
+    let wide = with_arg(list, limit_option(alloc, "width", MOST_CELLS, help::WIDTH));
+    with_window(alloc, wide)
+}
+
 // `check`, which takes no words but its options.
 fn check_command<'a>(alloc: Global) -> Result<Command<'a>, AllocError>
     ensures { IfOk result (IsLocal check_app) }
@@ -278,7 +290,8 @@ pub(crate) fn wire<'a>(alloc: Global) -> Result<Command<'a>, AllocError>
     ensures { IfOk result (λ c. app_of c ≡ wire_app) }
 {
     let showing = with_command(bare_command(alloc), show_command(alloc));
-    let listing = with_command(showing, json_command(alloc));
+    let spelling = with_command(showing, json_command(alloc));
+    let listing = with_command(spelling, list_command(alloc));
     let checking = with_command(listing, check_command(alloc));
     let counting = with_command(checking, count_command(alloc));
     let pairing = with_command(counting, calls_command(alloc));

@@ -12,10 +12,11 @@ use Rattle.dbus_stream.specs.Cut.{CutMessage}
 use Rattle.dbus_stream.specs.CutEnds.{sizes}
 use Rattle.dbus_show.specs.ShownMessages.{message_text}
 use Rattle.dbus_json.proofs.SomeLines.{some_line_each}
+use Rattle.dbus_list.proofs.SomeLines.{some_line_each as some_listed}
 use Rattle.dbus_rule_set.specs.Owners.{OwnerSet, owners_in}
 use Rattle.cli_options.proofs.Selections.{selected}
 use Rattle.cli_options.specs.declared.command.Command.{Command}
-use Rattle.cli_options.specs.declared.command.Command.TheVariants.{Show, Json, Check, Swap, Filter}
+use Rattle.cli_options.specs.declared.command.Command.TheVariants.{Show, Json, List as Listing, Check, Swap, Filter}
 use Rattle.cli_run.specs.Inputs.{ArePlaced, Part, PassedOver, Placed, Whole, sizes_of, wholes}
 use Rattle.cli_run.specs.Laws.{OneFront, OneOutput, SomeOutput}
 use Rattle.cli_run.specs.Output.{IsExact, IsFront, IsOutputOf, IsOutputOfAll, IsTextOf, Picks, last_line, line_place, shown_text, told_place, owners_after, owners_known, owners_after_all}
@@ -34,6 +35,7 @@ picked command os message = inl tt
 pub some_text : (command : Command) (order : Order) (message : MessageTree) (place : MessagePlace) → (text : List ℕ) × IsTextOf command order message place text
 some_text (Show times) order message place = (shown_text order message (told_place times place), refl)
 some_text (Json times) order message place = some_line_each order message (line_place (told_place times place))
+some_text (Listing width) order message place = some_listed width (line_place place) order message
 some_text Check order message place = ([], refl)
 some_text (Swap wanted) order message place = (message_bytes wanted message, refl)
 some_text (Filter selection) order message place = (message_bytes order message, refl)
@@ -85,6 +87,7 @@ front_of_first packets limits command items more all rest fault messages texts f
 text_one : (command : Command) (order : Order) (message : MessageTree) (place other : MessagePlace) (a b : List ℕ) → IsExact command → place.number ≡ other.number
     → IsTextOf command order message place a → IsTextOf command order message other b → a ≡ b
 text_one (Json times) order message place other a b exact number p q = absurd exact
+text_one (Listing width) order message place other a b exact number p q = absurd exact
 text_one (Show true) order message place other a b exact number p q = absurd exact
 text_one (Show false) order message place other a b exact number p q = p ∙ (ap (message_text order message) number ∙ sym q)
 text_one command order message place other a b exact number p q = p ∙ sym q

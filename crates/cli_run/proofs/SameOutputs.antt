@@ -19,7 +19,7 @@ use Rattle.dbus_rule_set.specs.Owners.{OwnerSet, owners_in}
 use Rattle.dbus_calls.specs.OwnerChanges.{change_of, is_text}
 use Rattle.cli_options.specs.Selections.{AreSameCommand, AreSameSelection, OrInverted, SelectsBy, SomeMatches}
 use Rattle.cli_options.specs.declared.command.Command.{Command}
-use Rattle.cli_options.specs.declared.command.Command.TheVariants.{Show, Json, Check, Swap, Filter}
+use Rattle.cli_options.specs.declared.command.Command.TheVariants.{Show, Json, List as Listing, Check, Swap, Filter}
 use Rattle.cli_options.specs.declared.selection.Selection.{Selection}
 use Rattle.cli_options.specs.declared.settings.Settings.{Settings}
 use Rattle.cli_report.specs.Telling.{IsToldBy, line_of}
@@ -199,6 +199,7 @@ itself a = record { checks = refl; exact = λ e. e; picks = λ os m. (λ p. p, �
 pub acts_as : (a b : Command) → AreSameCommand a b → ActsAs a b
 acts_as (Show a) (Show b) h = subst (λ (times : Bool). ActsAs (Show a) (Show times)) h (itself (Show a))
 acts_as (Json a) (Json b) h = subst (λ (times : Bool). ActsAs (Json a) (Json times)) h (itself (Json a))
+acts_as (Listing x) (Listing y) h = subst (λ (w : ℕ). ActsAs (Listing x) (Listing w)) h (itself (Listing x))
 acts_as Check Check h = itself Check
 acts_as (Swap x) (Swap y) h = subst (λ (o : Order). ActsAs (Swap x) (Swap o)) h (itself (Swap x))
 acts_as (Filter x) (Filter y) h =

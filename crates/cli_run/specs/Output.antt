@@ -13,10 +13,11 @@ use Rattle.dbus_show.specs.ShownMessages.{message_text}
 use Rattle.dbus_json.specs.JsonMessages.{IsJsonLine}
 use Rattle.dbus_json.specs.Times.{seconds_text}
 use Rattle.dbus_json.specs.declared.place.LinePlace.{LinePlace}
+use Rattle.dbus_list.specs.Lines.{IsLine}
 use Rattle.dbus_rule_set.specs.Owners.{OwnerSet, owners_in}
 use Rattle.cli_options.specs.Selections.{SelectsBy}
 use Rattle.cli_options.specs.declared.command.Command.{Command}
-use Rattle.cli_options.specs.declared.command.Command.TheVariants.{Show, Json, Check, Swap, Filter}
+use Rattle.cli_options.specs.declared.command.Command.TheVariants.{Show, Json, List as Listing, Check, Swap, Filter}
 use Rattle.cli_report.specs.Gathering.{IsPrefixTo}
 use Rattle.cli_report.specs.Telling.{refused_line}
 use Rattle.cli_report.specs.declared.ending.ExitStatus.{ExitStatus}
@@ -28,13 +29,14 @@ use Rattle.cli_run.specs.Refusals.{IsFaultIn}
 use Rattle.cli_run.specs.Told.{first_of, second_of}
 use Rattle.cli_run.specs.declared.place.MessagePlace.{MessagePlace}
 use Rattle.cli_run.specs.declared.output.Output.{Output}
-use Rattle.cli_run.specs.declared.output.Output.TheVariants.{InOrder, JsonLine, Matching, Nothing, Text}
+use Rattle.cli_run.specs.declared.output.Output.TheVariants.{InOrder, JsonLine, Line, Matching, Nothing, Text}
 
 -- which command writes what of each message
 abbrev pub command_of : Output → Command
 command_of Nothing = Check
 command_of (Text times) = Show times
 command_of (JsonLine times) = Json times
+command_of (Line width) = Listing width
 command_of (InOrder order) = Swap order
 command_of (Matching selector) = Filter selector.selection.now
 
@@ -82,7 +84,7 @@ time_text (Some nanoseconds) = seconds_text nanoseconds ++ codes " "
 abbrev pub shown_text : Order → MessageTree → MessagePlace → List ℕ
 shown_text order message place = time_text place.time ++ message_text order message place.number
 
--- what a line of JSON says of where its message stands
+-- what a line says of where its message stands
 abbrev pub line_place : MessagePlace → LinePlace
 line_place place = record { number = place.number; offset = place.offset; time = place.time }
 
@@ -90,6 +92,7 @@ line_place place = record { number = place.number; offset = place.offset; time =
 abbrev pub IsTextOf : Command → Order → MessageTree → MessagePlace → List ℕ → Type 0
 IsTextOf (Show times) order message place text = text ≡ shown_text order message (told_place times place)
 IsTextOf (Json times) order message place text = IsJsonLine order message (line_place (told_place times place)) text
+IsTextOf (Listing width) order message place text = IsLine width (line_place place) order message text
 IsTextOf Check order message place text = text ≡ []
 IsTextOf (Swap wanted) order message place text = text ≡ message_bytes wanted message
 IsTextOf (Filter selection) order message place text = text ≡ message_bytes order message
@@ -107,10 +110,12 @@ IsOutputOfAll command os (m ∷ items) texts = (one : List (List ℕ)) × (more 
     × IsOutputOf command os m.item.order m.item.message m.place one × IsOutputOfAll command (owners_after command os m.item.message) items more
 
 -- the messages and the fault after them determine each byte that the command writes: no time, which
--- their packets have, and no DOUBLE of `json`, which may be any digits that read back as its bits
+-- their packets have, and no DOUBLE of `json` and `list`, which may be any digits that read back as
+-- its bits
 abbrev pub IsExact : Command → Type 0
 IsExact (Show true) = ⊥
 IsExact (Json times) = ⊥
+IsExact (Listing width) = ⊥
 IsExact command = Unit {0}
 
 -- how many messages of how many bytes there are

@@ -14,8 +14,9 @@ pub fn some_output()
     ensures { SomeOutput }
 {}
 
-/// It has no other, also if the packets are others, unless it is `Show` with times, which are those
-/// of packets, or `Json`, which may write a DOUBLE by any digits that read back as its bits.
+/// It has no other, also if the packets are others, unless it is `Show` with times, `Json` or
+/// `List`: times are those of packets, and the latter two may write a DOUBLE by any digits that
+/// read back as its bits.
 pub fn one_output()
     ensures { OneOutput }
 {}
@@ -33,14 +34,16 @@ pub fn plain_run<R: Source, W: Sink, E: Sink>()
 
 /// Two runs of a command by the same settings, neither of which failed, that read the same input
 /// end with the same status, and their writers got the same bytes; but what is explained of a
-/// message that is refused shows its bytes as far as they happened to be read, `Json` may write a
-/// DOUBLE by other digits that read back as its bits, and times are others if the packets are. They
-/// are the same if a message is refused, since its line has the packet of its fault.
+/// message that is refused shows its bytes as far as they happened to be read, `Json` and `List`
+/// may write a DOUBLE by other digits that read back as its bits, and times are others if the
+/// packets are. They are the same if a message is refused, since its line has the packet of its
+/// fault.
 pub fn one_run<R, S, W, V, E, F>()
     ensures { OneRun R S W V E F }
 {}
 
-/// The same of two runs of a command under the same limits alone, but `Json` and `Show` with times.
+/// The same of two runs of a command under the same limits alone, but `Json`, `List` and `Show`
+/// with times.
 pub fn one_within<R, S, W, V, E, F>()
     ensures { OneWithin R S W V E F }
 {}

@@ -2,8 +2,8 @@
 //!
 //! [`run_within`] runs a command under limits, with at most a given number of reads, [`run_with`]
 //! by settings, [`count_by_name`] counts messages by their names, and [`list_calls`] lists their
-//! calls. Each returns the exit status. `specs/` states what a command writes: of all but `Json` it
-//! is a function of what it reads.
+//! calls. Each returns the exit status. `specs/` states what a command writes: of all but `Json`
+//! and `List` it is a function of what it reads.
 #![tactic(auto)]
 
 mod by_name;

@@ -12,7 +12,7 @@ ghost use Rattle.cli_run.specs.Output.{command_of, is_check};
 use crate::filtering::select;
 use crate::place::{Carried, Lent};
 use crate::selector::Selector;
-use crate::showing::{show, write_json_line};
+use crate::showing::{show, write_json_line, write_list_line};
 use crate::swapping::swap;
 use crate::window::lets_through;
 use cli_options::Command;
@@ -31,6 +31,8 @@ pub(crate) enum Output<'a> {
     Text { times: bool },
     /// Its line of JSON, with its time or without.
     JsonLine { times: bool },
+    /// Its line of at most so many cells, for a reader.
+    Line(u16),
     /// Its bytes in this order.
     InOrder(Order),
     /// Its bytes as they are, if it is selected.
@@ -47,6 +49,7 @@ pub(crate) fn output_of(command: &Command) -> Result<Output<'_>, AllocError>
         Command::Check => Ok(Output::Nothing),
         Command::Show { times } => Ok(Output::Text { times: *times }),
         Command::Json { times } => Ok(Output::JsonLine { times: *times }),
+        Command::List(width) => Ok(Output::Line(*width)),
         Command::Swap(order) => Ok(Output::InOrder(*order)),
         Command::Filter(selection) => Ok(Output::Matching(Selector::new(selection)?)),
     }
@@ -60,6 +63,7 @@ pub(crate) fn is_check(output: &Output) -> bool
         Output::Nothing => true,
         Output::Text { .. } => false,
         Output::JsonLine { .. } => false,
+        Output::Line(_) => false,
         Output::InOrder(_) => false,
         Output::Matching(_) => false,
     }
@@ -76,6 +80,7 @@ fn picks(output: &Output, lent: &Lent, owners: &mut Option<Owners>) -> Result<bo
         Output::Nothing => Ok(false),
         Output::Text { .. } => Ok(true),
         Output::JsonLine { .. } => Ok(true),
+        Output::Line(_) => Ok(true),
         Output::InOrder(_) => Ok(true),
         Output::Matching(selector) => select(selector, lent, owners),
     }
@@ -117,6 +122,7 @@ fn write_one<A: Allocator + Copy, W: Sink>(
             let told = place.told(*times);
             write_json_line(bytes, validated, limits, told, gathered, first)
         }
+        Output::Line(width) => write_list_line(*width, lent, gathered, first),
         Output::InOrder(wanted) => swap(*wanted, bytes, validated, limits, spare, gathered, first),
         Output::Matching(_) => put_out(bytes, gathered, first),
     }

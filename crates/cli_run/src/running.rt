@@ -64,16 +64,17 @@ pub fn run_reads<A: Allocator + Copy, R: Source, W: Sink, E: Sink>(
 /// each by itself. Its output goes to the first writer. At most `reads` reads are made, the one
 /// that finds the end of the input among them.
 ///
-/// `Show` writes each message as text, numbered from 1, with times after its time. `Json` writes each message as one line, an
-/// object of JSON, with that number, the offset at which the message begins in the input, and, with
-/// times, the time of the packet that its last byte is of, if the reader reports one. `Swap` writes each
-/// message in the order that it names. `Filter` writes each message that is selected, in its own
-/// order. Where the bytes after the messages are none within the limits or too few, each of these
-/// writes `refused at P: NAME` on the second writer, with the place from the start of the input and
-/// the name of the reason; and ` in packet K` if the reader reports packets: the number of the one
-/// that has the byte by which they are refused. `Check` writes that line on the first writer; or,
-/// if the input is messages alone, `ok N messages B bytes`, how many they are and of how many
-/// bytes.
+/// `Show` writes each message as text, numbered from 1, with times after its time. `Json` writes
+/// each message as one line, an object of JSON, with that number, the offset at which the message
+/// begins in the input, and, with times, the time of the packet that its last byte is of, if the
+/// reader reports one. `List` writes each as one line, with that number and time, that has at most
+/// as many cells as it says. `Swap` writes each message in the order that it names. `Filter` writes
+/// each message that is selected, in its own order. Where the bytes after the messages are none
+/// within the limits or too few, each of these writes `refused at P: NAME` on the second writer,
+/// with the place from the start of the input and the name of the reason; and ` in packet K` if the
+/// reader reports packets: the number of the one that has the byte by which they are refused.
+/// `Check` writes that line on the first writer; or, if the input is messages alone, `ok N messages
+/// B bytes`, how many they are and of how many bytes.
 ///
 /// If the run fails, it stops at the first cause that it meets, and writes `read failed`, `write
 /// failed`, `too many reads` or `out of memory` on the second writer. Each line ends in LF. What is
@@ -125,9 +126,9 @@ pub fn run_within<A: Allocator + Copy, R: Source, W: Sink, E: Sink>(
 /// length within the limits. What came before it is written, and then the line `refused at P: NAME
 /// in message N at O`, with ` in packet K` as above: the place of the fault, and where the message
 /// begins, from the start of the input, and its number among all messages of the input. The numbers
-/// and offsets of those after it count it. A message that states no such length, or that the input ends within, is told by that
-/// line too, and ends the run. If any was passed over, the last line is `N messages B bytes, K
-/// passed over C bytes`.
+/// and offsets of those after it count it. A message that states no such length, or that the input
+/// ends within, is told by that line too, and ends the run. If any was passed over, the last line
+/// is `N messages B bytes, K passed over C bytes`.
 ///
 /// These lines go to the second writer, but of `Check` to the first. `Check` of an input without
 /// fault writes `ok N messages B bytes`. If the settings ask for explanations, to keep going or for

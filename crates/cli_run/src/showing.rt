@@ -1,4 +1,4 @@
-//! A message as text, and as a line of JSON.
+//! A message as text, as a line of JSON, and as a line for a reader.
 ghost use Rattle.std.specs.Prelude.{◌≡◌, ℕ, List, length};
 ghost use Rattle.dbus_value_model.specs.declared.order.Order.{Order};
 ghost use Rattle.dbus_message_model.specs.Messages.{MessageTree};
@@ -6,12 +6,14 @@ ghost use Rattle.dbus_header.specs.MessageOutcomes.{IsWhole};
 ghost use Rattle.dbus_validate.specs.Validating.{IsValidatedWhole};
 ghost use Rattle.cli_report.specs.Devices.{writing};
 ghost use Rattle.cli_report.specs.Gathering.{GathersOrNot, gathered_bytes};
-ghost use Rattle.cli_run.specs.Handing.{WritesJson};
-ghost use Rattle.cli_run.specs.Output.{shown_text, time_text};
+ghost use Rattle.cli_options.specs.declared.command.Command.TheVariants.{List as Listing};
+ghost use Rattle.cli_run.specs.Handing.{WritesJson, WritesOne};
+ghost use Rattle.cli_run.specs.Output.{line_place, shown_text, time_text};
 
-use crate::place::MessagePlace;
+use crate::place::{Lent, MessagePlace};
 use cli_report::{Cause, OutputBuffer, Page};
 use dbus_json::{LinePlace, write_json, write_seconds};
+use dbus_list::write_line;
 use dbus_show::Draft;
 use dbus_show_view::write_message;
 use dbus_stream::Sink;
@@ -57,6 +59,17 @@ pub(crate) fn show<W: Sink>(
     }
 }
 
+/// What a line says of where its message stands.
+fn line_place(place: MessagePlace) -> LinePlace
+    ensures { result ≡ line_place place }
+{
+    LinePlace {
+        number: place.number,
+        offset: place.offset,
+        time: place.time,
+    }
+}
+
 /// Writes or gathers the line of JSON of the message that the bytes are.
 pub(crate) fn write_json_line<W: Sink>(
     bytes: &[u8],
@@ -77,16 +90,41 @@ pub(crate) fn write_json_line<W: Sink>(
         first,
         failed: false,
     };
-    write_json(
+    write_json(&mut page, bytes, limits, validated, line_place(place));
+    if page.failed {
+        Err(Cause::WriteFailed)
+    } else {
+        Ok(())
+    }
+}
+
+/// Writes or gathers the line of the message, of at most so many cells.
+pub(crate) fn write_list_line<W: Sink>(
+    width: u16,
+    lent: &Lent<'_>,
+    gathered: &mut OutputBuffer,
+    first: &mut W,
+) -> Result<(), Cause>
+    requires { IsValidatedWhole lent.now.limits lent.now.bytes.now lent.now.validated }
+    ensures { (order : Order) (m : MessageTree) →
+        IsWhole lent.now.limits lent.now.bytes.now order m (length lent.now.bytes.now) →
+        WritesOne (writing W.held W.failures first.old first.new) (Listing width) order m
+        lent.now.place
+        (gathered_bytes gathered.old) (gathered_bytes gathered.new) result }
+{
+    let mut page = Page {
+        gathered,
+        first,
+        failed: false,
+    };
+    let place = line_place(lent.place);
+    write_line(
         &mut page,
-        bytes,
-        limits,
-        validated,
-        LinePlace {
-            number: place.number,
-            offset: place.offset,
-            time: place.time,
-        },
+        width,
+        lent.bytes,
+        lent.limits,
+        &lent.validated,
+        place,
     );
     if page.failed {
         Err(Cause::WriteFailed)

@@ -1,5 +1,5 @@
 mod Floats
-mod FloatTexts
+pub mod FloatTexts
 mod FieldTexts
 mod OneLines
 pub mod SomeLines

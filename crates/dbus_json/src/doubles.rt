@@ -16,8 +16,9 @@ const SIGN: u64 = 1 << 63;
 /// The bits of positive infinity. Above them, the sign aside, are the NaNs.
 const INFINITY: u64 = 0x7ff0_0000_0000_0000;
 
-/// The float that has these bits, if it is finite.
-fn finite(bits: u64) -> Option<f64>
+/// The float that has the bits of a DOUBLE, if it is finite: neither an infinity nor a NaN. D-Bus
+/// Specification, "Basic types".
+pub fn finite(bits: u64) -> Option<f64>
     ensures { SomeIff result (float_is_finite (from_bits binary64 bits) ≡ true) (from_bits binary64 bits) }
 {
     if bits % SIGN > INFINITY {

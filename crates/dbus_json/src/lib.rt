@@ -13,6 +13,7 @@ mod place;
 mod texts;
 mod times;
 
+pub use doubles::finite;
 pub use line::write_json;
 pub use place::LinePlace;
 pub use texts::write_string;

@@ -29,7 +29,7 @@ use Rattle.cli_options.specs.Selections.{AreSameCommand, AreSameSelection}
 use Rattle.cli_options.specs.declared.asked.Asked.{Asked}
 use Rattle.cli_options.specs.declared.asked.Asked.TheVariants.{Messages, Count, Calls, Handshake}
 use Rattle.cli_options.specs.declared.command.Command.{Command}
-use Rattle.cli_options.specs.declared.command.Command.TheVariants.{Show, Json, Check, Swap, Filter}
+use Rattle.cli_options.specs.declared.command.Command.TheVariants.{Show, Json, List as Listing, Check, Swap, Filter}
 use Rattle.cli_options.specs.declared.form.CountForm.{CountForm}
 use Rattle.cli_options.specs.declared.form.CountForm.TheVariants as written
 use Rattle.cli_options.specs.declared.selection.Selection.{Selection}
@@ -228,6 +228,7 @@ mark t = slice_index t 0 * 256 + slice_index t 1
 abbrev pub mark_of : Command → ℕ
 mark_of (Show times) = mark (codes "show")
 mark_of (Json times) = mark (codes "json")
+mark_of (Listing width) = mark (codes "list")
 mark_of Check = mark (codes "check")
 mark_of (Swap order) = mark (codes "swap")
 mark_of (Filter selection) = mark (codes "filter")
@@ -235,6 +236,7 @@ mark_of (Filter selection) = mark (codes "filter")
 pub marked : (name : Text) (rows : List Row) (command : Command) → NamesCommand name rows command → mark name ≡ mark_of command
 marked name rows (Show times) h = ap mark h.0
 marked name rows (Json times) h = ap mark h.0
+marked name rows (Listing width) h = ap mark h.0
 marked name rows Check h = ap mark h
 marked name rows (Swap order) h = ap mark h.0
 marked name rows (Filter selection) h = ap mark h.0
@@ -242,6 +244,7 @@ marked name rows (Filter selection) h = ap mark h.0
 same_command : (name : Text) (rows : List Row) (a b : Command) → NamesCommand name rows a → NamesCommand name rows b → AreSameCommand a b
 same_command name rows (Show a) (Show b) p q = same_flag a b p.1 q.1
 same_command name rows (Json a) (Json b) p q = same_absent a b p.1 q.1
+same_command name rows (Listing a) (Listing b) p q = same_number _ 80 a b p.1.0 q.1.0
 same_command name rows Check Check p q = tt
 same_command name rows (Swap a) (Swap b) p q = same_order_word a b (some_is (order_word a) (order_word b) (sym p.1 ∙ q.1))
 same_command name rows (Filter a) (Filter b) p q = same_selection rows a b p.1 q.1
@@ -265,6 +268,7 @@ same_wanted rows a b p q =
 no_count : (name : Text) (rows : List Row) (command : Command) → NamesCommand name rows command → name ≡ codes "count" → ⊥
 no_count name rows (Show times) p e = omega (arith, ap mark p.0, ap mark e)
 no_count name rows (Json times) p e = omega (arith, ap mark p.0, ap mark e)
+no_count name rows (Listing width) p e = omega (arith, ap mark p.0, ap mark e)
 no_count name rows Check p e = omega (arith, marked name rows Check p, ap mark e)
 no_count name rows (Swap order) p e = omega (arith, ap mark p.0, ap mark e)
 no_count name rows (Filter selection) p e = omega (arith, ap mark p.0, ap mark e)
@@ -272,6 +276,7 @@ no_count name rows (Filter selection) p e = omega (arith, ap mark p.0, ap mark e
 no_calls : (name : Text) (rows : List Row) (command : Command) → NamesCommand name rows command → name ≡ codes "calls" → ⊥
 no_calls name rows (Show times) p e = omega (arith, ap mark p.0, ap mark e)
 no_calls name rows (Json times) p e = omega (arith, ap mark p.0, ap mark e)
+no_calls name rows (Listing width) p e = omega (arith, ap mark p.0, ap mark e)
 no_calls name rows Check p e = omega (arith, marked name rows Check p, ap mark e)
 no_calls name rows (Swap order) p e = omega (arith, ap mark p.0, ap mark e)
 no_calls name rows (Filter selection) p e = omega (arith, ap mark p.0, ap mark e)
@@ -279,6 +284,7 @@ no_calls name rows (Filter selection) p e = omega (arith, ap mark p.0, ap mark e
 no_handshake : (name : Text) (rows : List Row) (command : Command) → NamesCommand name rows command → name ≡ codes "handshake" → ⊥
 no_handshake name rows (Show times) p e = omega (arith, ap mark p.0, ap mark e)
 no_handshake name rows (Json times) p e = omega (arith, ap mark p.0, ap mark e)
+no_handshake name rows (Listing width) p e = omega (arith, ap mark p.0, ap mark e)
 no_handshake name rows Check p e = omega (arith, marked name rows Check p, ap mark e)
 no_handshake name rows (Swap order) p e = omega (arith, ap mark p.0, ap mark e)
 no_handshake name rows (Filter selection) p e = omega (arith, ap mark p.0, ap mark e)

@@ -3,7 +3,8 @@ use Rattle.cli_options.proofs.wire.wire.Goals as goal
 pub returns : goal.returns
 returns c =
     let showing = c.with_command-showing.ensures _ _ c.bare_command.ensures c.show_command.ensures in
-    let listing = c.with_command-listing.ensures _ _ showing c.json_command.ensures in
+    let spelling = c.with_command-spelling.ensures _ _ showing c.json_command.ensures in
+    let listing = c.with_command-listing.ensures _ _ spelling c.list_command.ensures in
     let checking = c.with_command-checking.ensures _ _ listing c.check_command.ensures in
     let counting = c.with_command-counting.ensures _ _ checking c.count_command.ensures in
     let pairing = c.with_command-pairing.ensures _ _ counting c.calls_command.ensures in

@@ -2,6 +2,7 @@ use Rattle.std.proofs.Common.{◌≡◌, rules, refl, subst}
 use Rattle.std.proofs.Math.Path.{transport}
 use Rattle.dbus_value_model.specs.declared.order.Order.{Order}
 use Rattle.dbus_json.specs.JsonMessages.{IsJsonLine}
+use Rattle.dbus_json.specs.declared.place.LinePlace.{LinePlace}
 use Rattle.cli_report.specs.Gathering.{Breaks, Passes, gathered_bytes}
 use Rattle.cli_run.specs.Output.{line_place}
 use Rattle.cli_run.proofs.OutputSteps.{validated_whole}
@@ -16,7 +17,7 @@ returns-then-page g c = λ order m whole.
     let same = goes.same_first in
     let back : c.write_json.new.draft.first.now ≡ c.first-1.given.0 = search rules in (
       text,
-      subst (λ (o : Order). IsJsonLine o m (line_place c.args.place) text) own.0 written.1,
+      subst (λ (o : Order). IsJsonLine o m (line_place c.args.place) text) own.0 (subst (λ (p : LinePlace). IsJsonLine c.args.validated.now.order m p text) c.line_place.ensures written.1),
       transport (λ i. Breaks g.W.Sink.held g.W.Sink.failures text (gathered_bytes c.args.gathered.now) c.args.first.now (back i)) (goes.breaks refl c.if-page.true),
     )
 
@@ -31,6 +32,6 @@ returns-else-page g c = λ order m whole.
     let back : c.write_json.new.draft.first.now ≡ c.first-1.given.0 = search rules in
     let kept : c.write_json.new.draft.gathered.now ≡ c.gathered-1.given.0 = search rules in (
       text,
-      subst (λ (o : Order). IsJsonLine o m (line_place c.args.place) text) own.0 written.1,
+      subst (λ (o : Order). IsJsonLine o m (line_place c.args.place) text) own.0 (subst (λ (p : LinePlace). IsJsonLine c.args.validated.now.order m p text) c.line_place.ensures written.1),
       transport (λ i. Passes g.W.Sink.held g.W.Sink.failures text (gathered_bytes c.args.gathered.now) (gathered_bytes (kept i)) c.args.first.now (back i)) (goes.passes refl c.if-page.false),
     )

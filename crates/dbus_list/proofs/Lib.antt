@@ -1,0 +1,8 @@
+pub mod CutTexts
+pub mod CutSteps
+pub mod ReadCharacters
+mod Ends
+mod Clocks
+mod Shown
+pub mod SomeLines
+mod Fitting

@@ -1,0 +1,7 @@
+pub mod Cuts
+pub mod Cutting
+pub mod CuttingLaws
+pub mod BriefValues
+pub mod BriefLaws
+pub mod Columns
+pub mod Lines

@@ -1,0 +1,108 @@
+-- The line of a message for a reader. D-Bus Specification, "Message Types" and "Header Fields".
+use Rattle.std.specs.Prelude.{◌≡◌, ℕ, ◌<◌, ◌≤◌, false, List, [], ◌++◌, length, Option, None, Some, codes, decimal, unwrap_or, ◌==◌, if◌then◌else◌}
+use Rattle.std.specs.List.{AllByRecursion}
+use Rattle.std.specs.Str.{IsUtf8, chars}
+use Rattle.dbus_texts.specs.Types.{sigs}
+use Rattle.dbus_value_model.specs.declared.order.Order.{Order}
+use Rattle.dbus_value_model.specs.Values.{types_of}
+use Rattle.dbus_message_model.specs.Messages.{MessageTree, message_bytes}
+use Rattle.dbus_message_model.specs.declared.field_code.TheConstants as field
+use Rattle.dbus_message_model.specs.declared.message_type.TheConstants as message
+use Rattle.dbus_show.specs.Escapes.{is_hidden, visible}
+use Rattle.dbus_value_text.specs.Forms.{led}
+use Rattle.dbus_calls.specs.Events.{destination_of, reply_serial_of, sender_of, text_at, wants_reply}
+use Rattle.dbus_json.specs.declared.place.LinePlace.{LinePlace}
+use Rattle.dbus_list.specs.BriefValues.{AreBrief}
+use Rattle.dbus_list.specs.Columns.{clock, column, name_cells, right, short}
+use Rattle.dbus_list.specs.Cuts.{cut, width}
+
+abbrev pub or_dash : Option (List ℕ) → List ℕ
+or_dash text = unwrap_or text (codes "-")
+
+-- ---- number, time, size, sender and destination
+
+abbrev pub time_part : Option ℕ → List ℕ
+time_part None = []
+time_part (Some nanoseconds) = clock nanoseconds ++ codes " "
+
+-- what stands for a destination that a message does not have: a signal is for all
+abbrev pub nobody : (kind : ℕ) → List ℕ
+nobody kind = if kind == message.SIGNAL then codes "*" else codes "-"
+
+abbrev pub columns : (line : ℕ) → LinePlace → Order → MessageTree → List ℕ
+columns line place order m =
+    right 4 (decimal place.number) ++ (codes " " ++ (time_part place.time ++ (right 5 (decimal (length (message_bytes order m))) ++ (codes " "
+    ++ (column line (or_dash (sender_of m)) ++ (codes " > " ++ (column line (unwrap_or (destination_of m) (nobody m.kind)) ++ codes " ")))))))
+
+-- ---- what the message is
+
+-- the interface, if there is one, as it fits its cells
+abbrev pub interface_part : (line : ℕ) → Option (List ℕ) → List ℕ
+interface_part line None = []
+interface_part line (Some interface) = short (name_cells line) interface ++ codes "."
+
+-- the member behind its interface, and the types of the values that follow
+abbrev pub member_part : (line : ℕ) → (interface member : Option (List ℕ)) → (types : List ℕ) → List ℕ
+member_part line interface member types = interface_part line interface ++ (or_dash member ++ (codes "(" ++ (types ++ codes ")")))
+
+abbrev pub member_of : (line : ℕ) → MessageTree → List ℕ
+member_of line m = member_part line (text_at field.INTERFACE m) (text_at field.MEMBER m) (sigs (types_of m.body))
+
+-- a call says so if it wants no reply
+abbrev pub call_part : (line : ℕ) → MessageTree → List ℕ
+call_part line m = if wants_reply m then member_of line m else member_of line m ++ codes " no reply wanted"
+
+-- the call that a reply is to
+abbrev pub answered_part : MessageTree → List ℕ
+answered_part m = codes "serial " ++ decimal (reply_serial_of m)
+
+abbrev pub error_part : (line : ℕ) → MessageTree → List ℕ
+error_part line m = short (name_cells line) (or_dash (text_at field.ERROR_NAME m)) ++ (codes " to " ++ answered_part m)
+
+abbrev pub about_kind : (kind line : ℕ) → MessageTree → List ℕ
+about_kind kind line m =
+    if kind == message.METHOD_CALL then call_part line m
+    else if kind == message.METHOD_RETURN then codes "reply to " ++ answered_part m
+    else if kind == message.ERROR then codes "error " ++ error_part line m
+    else if kind == message.SIGNAL then codes "signal " ++ member_of line m
+    else codes "type " ++ (decimal kind ++ (codes " " ++ member_of line m))
+
+abbrev pub about : (line : ℕ) → MessageTree → List ℕ
+about line m = about_kind m.kind line m
+
+-- ---- the line
+
+-- The text of a message, of which a line of so many cells has what fits: after the columns, what
+-- the message is, and the values of its body.
+pub record IsListed (line : ℕ) (place : LinePlace) (order : Order) (m : MessageTree) (text : List ℕ) : Type 0 where
+  pub values : List (List ℕ)
+  pub brief : AreBrief m.body values
+  pub is : text ≡ columns line place order m ++ (about line m ++ led (codes " ") (codes ", ") values)
+
+-- a text as it fits so many cells: each hidden character is seen, and what is too much is cut
+abbrev pub fitted : (cells : ℕ) → (text : List ℕ) → List ℕ
+fitted n text = cut n (visible text)
+
+abbrev pub line_of : (cells : ℕ) → (text : List ℕ) → List ℕ
+line_of n text = fitted n text ++ codes "\n"
+
+-- the line of a message
+abbrev pub IsLine : (cells : ℕ) → LinePlace → Order → MessageTree → List ℕ → Type 0
+IsLine n place order m line = (text : List ℕ) × IsListed n place order m text × (line ≡ line_of n text)
+
+-- What holds of lines.
+
+-- Each message has a line, whatever its place.
+abbrev pub IsSomeLineEach : Type 0
+IsSomeLineEach = (cells : ℕ) (place : LinePlace) (order : Order) (m : MessageTree) → (line : List ℕ) × IsLine cells place order m line
+
+-- What fits so many cells has no more of them, if they are not 0.
+abbrev pub Fits : Type 0
+Fits = (n : ℕ) (text : List ℕ) → 0 < n → IsUtf8 text → width (chars (fitted n text)) ≤ n
+
+-- None of its characters is hidden.
+abbrev pub AreSeen : (characters : List ℕ) → Type 0
+AreSeen cs = AllByRecursion (λ c. is_hidden c ≡ false) cs
+
+abbrev pub IsSafe : Type 0
+IsSafe = (n : ℕ) (text : List ℕ) → IsUtf8 text → AreSeen (chars (fitted n text))

@@ -1,0 +1,119 @@
+//! The columns of a line, and names that fit one. D-Bus Specification, "Valid Names".
+#![tactic(auto)]
+
+ghost use Rattle.std.specs.Prelude.{◌≡◌, decimal, length, replicate};
+ghost use Rattle.dbus_list.specs.Columns.{clock, column, ends, first_short, name_cells, right, short};
+
+use dbus_json::digit_at;
+use dbus_show::Draft;
+use itoa::Buffer;
+use std::str;
+
+/// The most bytes of a name. D-Bus Specification, "Valid Names".
+const LONGEST_NAME: usize = 255;
+
+/// The cells of a name's column, if a line has no bound.
+const UNBOUNDED_COLUMN: usize = 20;
+
+/// Appends so many spaces.
+fn write_spaces<D: Draft>(draft: &mut D, count: usize)
+    ensures { D.gains draft.old (replicate count 32) draft.new }
+{
+    for _ in 0..count {
+        draft.push_code(b' ');
+    }
+}
+
+/// Appends a number at the right of a column of so many cells.
+pub(crate) fn write_right<D: Draft>(draft: &mut D, number: u64, cells: usize)
+    ensures { D.gains draft.old (right cells (decimal number)) draft.new }
+{
+    let mut buffer = Buffer::new();
+    let text = buffer.format(number);
+    write_spaces(draft, cells.saturating_sub(text.len()));
+    draft.push_str(text);
+}
+
+/// How many cells a name has in a line of so many.
+pub(crate) fn name_cells(line: u16) -> usize
+    ensures { result ≡ name_cells line }
+{
+    if line == 0 {
+        return LONGEST_NAME;
+    }
+    usize::from(line / 5).saturating_sub(4).min(30).max(6)
+}
+
+/// What follows a dot of a name and has fewer than so many bytes, the longest there is; or if
+/// nothing has, what follows its last dot.
+fn short_end(name: &str, most: usize) -> &str
+    ensures { result.now ≡ first_short most name.now (ends name.now) }
+{
+    let mut rest = name;
+    while let Some((_, end)) = rest.split_once('.') {
+        rest = end;
+        if rest.len() < most {
+            return rest;
+        }
+    }
+    rest
+}
+
+/// Appends a name as it fits so many cells: how many it takes.
+pub(crate) fn write_short<D: Draft>(draft: &mut D, name: &str, most: usize) -> usize
+    ensures written { D.gains draft.old (short most name.now) draft.new }
+    ensures size { result ≡ length (short most name.now) }
+{
+    if name.len() <= most {
+        draft.push_str(name);
+        return name.len();
+    }
+    let end = short_end(name, most);
+    draft.push_code(b'~');
+    draft.push_str(end);
+    end.len() + 1
+}
+
+/// Appends a name in its column of a line of so many cells.
+pub(crate) fn write_column<D: Draft>(draft: &mut D, name: &str, line: u16)
+    ensures { D.gains draft.old (column line name.now) draft.new }
+{
+    let cells = name_cells(line);
+    let taken = write_short(draft, name, cells);
+    let column = if line == 0 { UNBOUNDED_COLUMN } else { cells };
+    write_spaces(draft, column.saturating_sub(taken));
+}
+
+/// The time of day in UTC, so many nanoseconds after 1970 began, in ASCII. POSIX.1-2017, Base
+/// Definitions, "Seconds Since the Epoch".
+fn clock_of(nanoseconds: u64) -> [u8; 12]
+    ensures { result ≡ clock nanoseconds }
+{
+    let hours = nanoseconds / 3_600_000_000_000 % 24;
+    let minutes = nanoseconds / 60_000_000_000 % 60;
+    let seconds = nanoseconds / 1_000_000_000 % 60;
+    let milliseconds = nanoseconds / 1_000_000 % 1_000;
+    [
+        digit_at(hours, 10),
+        digit_at(hours, 1),
+        b':',
+        digit_at(minutes, 10),
+        digit_at(minutes, 1),
+        b':',
+        digit_at(seconds, 10),
+        digit_at(seconds, 1),
+        b'.',
+        digit_at(milliseconds, 100),
+        digit_at(milliseconds, 10),
+        digit_at(milliseconds, 1),
+    ]
+}
+
+/// Appends the time of day in UTC, so many nanoseconds after 1970 began.
+pub(crate) fn write_clock<D: Draft>(draft: &mut D, nanoseconds: u64)
+    ensures { D.gains draft.old (clock nanoseconds) draft.new }
+{
+    let text = clock_of(nanoseconds);
+    // The digits and what is between them are ASCII, so that they are text.
+    draft.push_str(unsafe { str::from_utf8_unchecked(&text) });
+}

@@ -1,0 +1,19 @@
+//! Laws of lines. A function's contract is its law; it does nothing when it runs.
+#![tactic(auto)]
+
+ghost use Rattle.dbus_list.specs.Lines.{Fits, IsSafe, IsSomeLineEach};
+
+/// Each message has a line, whatever its place.
+pub fn some_line_for_a_message()
+    ensures { IsSomeLineEach }
+{}
+
+/// A line has at most as many cells as it may have, whatever the message holds.
+pub fn lines_fit()
+    ensures { Fits }
+{}
+
+/// A line has no hidden character, whatever the message holds.
+pub fn lines_hide_nothing()
+    ensures { IsSafe }
+{}
