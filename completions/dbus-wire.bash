@@ -49,7 +49,7 @@ _dbus_wire() {
             COMPREPLY=($(compgen -W 'client server' -- "$word"))
             return
             ;;
-        --max-* | --skip | --limit | --width | --owner)
+        --max-* | --skip | --limit | --width | --slower | --owner)
             # A number, or NAME=UNIQUE.
             return
             ;;
@@ -81,7 +81,7 @@ _dbus_wire() {
             COMPREPLY=($(compgen -W "--json --keep-going $options" -- "$word"))
             ;;
         calls)
-            COMPREPLY=($(compgen -W "--json --unanswered --errors --keep-going $options" -- "$word"))
+            COMPREPLY=($(compgen -W "--json --unanswered --errors --slower --keep-going $options" -- "$word"))
             ;;
         handshake)
             COMPREPLY=($(compgen -W '--side -h --help' -- "$word"))

@@ -46,6 +46,7 @@ complete -c dbus-wire -n '__fish_seen_subcommand_from count' -l json -f -d 'Writ
 complete -c dbus-wire -n '__fish_seen_subcommand_from calls' -l json -f -d 'Write each line as JSON'
 complete -c dbus-wire -n '__fish_seen_subcommand_from calls' -l unanswered -f -d 'List the calls without a reply'
 complete -c dbus-wire -n '__fish_seen_subcommand_from calls' -l errors -f -d 'List the calls that an error answered'
+complete -c dbus-wire -n '__fish_seen_subcommand_from calls' -l slower -x -d 'List the calls replied to later, in milliseconds'
 for command in show json list check count calls swap filter
     complete -c dbus-wire -n "__fish_seen_subcommand_from $command" -l explain -f -d 'Explain what is refused'
     complete -c dbus-wire -n "__fish_seen_subcommand_from $command" -l max-message -x -d 'Most bytes of a message'

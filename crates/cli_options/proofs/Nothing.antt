@@ -4,7 +4,7 @@ use Rattle.std.specs.List.{AllByRecursion}
 use Rattle.clap.specs.Words.{Row, Text, all_of, first_of}
 use Rattle.dbus_value_model.specs.declared.order.Order.{Order}
 use Rattle.dbus_match.specs.Matching.{Ownership, ownership}
-use Rattle.cli_options.specs.Named.{HasSettings, Names, NamesCommand, IsSelectionGiven, order_word, side_word, words_of}
+use Rattle.cli_options.specs.Named.{HasSettings, HasWanted, Names, NamesCommand, IsSelectionGiven, order_word, side_word, words_of}
 use Rattle.cli_options.specs.Owners.{IsOwnerWord}
 use Rattle.cli_options.proofs.Numbers.{each_can}
 use Rattle.cli_options.specs.Limiting.{HasWidth}
@@ -16,6 +16,7 @@ use Rattle.cli_options.specs.declared.command.Command.{Command}
 use Rattle.cli_options.specs.declared.command.Command.TheVariants.{Show, Json, List as Listing, Check, Swap, Filter}
 use Rattle.cli_options.specs.declared.selection.Selection.{Selection}
 use Rattle.cli_options.specs.declared.settings.Settings.{Settings}
+use Rattle.cli_options.specs.declared.wanted_calls.WantedCalls.{WantedCalls}
 
 -- a name other than `handshake`
 module _ (sub : Text × List Row) (other : sub.0 ≡ codes "handshake" → ⊥) where
@@ -61,6 +62,28 @@ module _ (rows : List Row) (no_side : (side : Side) → first_of (codes "side") 
   unsided_names_nothing = record {
     none_asked = unsided;
     no_rule = λ refused found. let bad : ◌≡◌ {A = ℕ} 104 102 = ap (λ t. slice_index t 0) found.0.named in absurd (omega arith);
+  }
+
+-- `calls` with what it is not to list
+module _ (rows : List Row) (no_wanted : (wanted : WantedCalls) → HasWanted rows wanted → ⊥) where
+  no_calls : (command : Command) → NamesCommand (codes "calls") rows command → ⊥
+  no_calls (Show times) named = let bad : ◌≡◌ {A = ℕ} 99 115 = ap (λ t. slice_index t 0) named.0 in absurd (omega arith)
+  no_calls (Json times) named = let bad : ◌≡◌ {A = ℕ} 99 106 = ap (λ t. slice_index t 0) named.0 in absurd (omega arith)
+  no_calls (Listing width) named = let bad : ◌≡◌ {A = ℕ} 99 108 = ap (λ t. slice_index t 0) named.0 in absurd (omega arith)
+  no_calls Check named = let bad : ◌≡◌ {A = ℕ} 97 104 = ap (λ t. slice_index t 1) named in absurd (omega arith)
+  no_calls (Swap order) named = let bad : ◌≡◌ {A = ℕ} 99 115 = ap (λ t. slice_index t 0) named.0 in absurd (omega arith)
+  no_calls (Filter selection) named = let bad : ◌≡◌ {A = ℕ} 99 102 = ap (λ t. slice_index t 0) named.0 in absurd (omega arith)
+
+  unlisted : (asked : Asked) → Names (Some (codes "calls", rows)) asked → ⊥
+  unlisted (Messages command settings) named = no_calls command named.0
+  unlisted (Count settings form) named = let bad : ◌≡◌ {A = ℕ} 97 111 = ap (λ t. slice_index t 1) named.0 in absurd (omega arith)
+  unlisted (Calls settings wanted) named = no_wanted wanted named.2
+  unlisted (Handshake side) named = let bad : ◌≡◌ {A = ℕ} 99 104 = ap (λ t. slice_index t 0) named.0 in absurd (omega arith)
+
+  pub unlisted_names_nothing : NamesNothing (Some (codes "calls", rows))
+  unlisted_names_nothing = record {
+    none_asked = unlisted;
+    no_rule = λ refused found. let bad : ◌≡◌ {A = ℕ} 99 102 = ap (λ t. slice_index t 0) found.0.named in absurd (omega arith);
   }
 
 module _ (rows : List Row) (no_order : (order : Order) → first_of (codes "to") rows ≡ Some (order_word order) → ⊥) where

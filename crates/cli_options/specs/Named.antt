@@ -2,7 +2,7 @@
 use Rattle.std.specs.Prelude.{◌≡◌, ◌↔◌, true, false, List, [], ◌∷◌, ◌++◌, Option, Some, None, option_map, unwrap_or, codes, string_bytes}
 use Rattle.std.specs.List.{AllByRecursion, AllZip}
 use Rattle.std.specs.declared.alloc.Global.{Global}
-use Rattle.clap.specs.Words.{Row, Text, all_of, first_of, subcommand_of}
+use Rattle.clap.specs.Words.{Row, Text, all_of, first_of, one_of, subcommand_of}
 use Rattle.dbus_value_model.specs.declared.order.Order.{Order}
 use Rattle.dbus_value_model.specs.declared.order.Order.TheVariants.{Little, Big}
 use Rattle.dbus_rule.specs.declared.rule.Rule.{Rule}
@@ -15,7 +15,7 @@ use Rattle.cli_options.specs.declared.form.CountForm.TheVariants as written
 use Rattle.dbus_handshake_input.specs.declared.side.Side.{Side}
 use Rattle.dbus_handshake_input.specs.declared.side.Side.TheVariants.{Client, Server}
 use Rattle.cli_options.specs.CommandLine.{wire_app}
-use Rattle.cli_options.specs.Limiting.{HasLimits, HasWidth, HasWindow}
+use Rattle.cli_options.specs.Limiting.{HasLimits, HasWidth, HasWindow, IsGivenNumber}
 use Rattle.cli_options.specs.Owners.{AreOwnersOf, IsOwnerWord}
 use Rattle.cli_options.specs.declared.asked.Asked.{Asked}
 use Rattle.cli_options.specs.declared.asked.Asked.TheVariants.{Messages, Count, Calls, Handshake}
@@ -96,11 +96,16 @@ pub record HasSettings (rows : List Row) (settings : Settings) : Type 0 where
 abbrev pub HasForm : List Row → CountForm → Type 0
 HasForm rows form = (form ≡ written.Json) ↔ IsGiven (codes "json") rows
 
--- what `calls` is to list has each flag that is given
+-- what `calls` is to list has each flag that is given, and the number of milliseconds
 pub record HasWanted (rows : List Row) (wanted : WantedCalls) : Type 0 where
   pub as_json : (wanted.as_json ≡ true) ↔ IsGiven (codes "json") rows
   pub unanswered : (wanted.unanswered ≡ true) ↔ IsGiven (codes "unanswered") rows
   pub errors : (wanted.errors ≡ true) ↔ IsGiven (codes "errors") rows
+  pub slower : IsGivenNumber (one_of (codes "slower") rows) wanted.slower
+
+abbrev pub GivesWanted : List Row → Option WantedCalls → Type 0
+GivesWanted rows (Some wanted) = HasWanted rows wanted
+GivesWanted rows None = (wanted : WantedCalls) → HasWanted rows wanted → ⊥
 
 -- the subcommand and the words after it name a command and its settings, the settings and the form
 -- of `count`, the settings of `calls` and what it lists, or the side whose handshake is listed

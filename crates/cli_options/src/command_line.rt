@@ -1,14 +1,14 @@
 //! The command that the words of a command line name.
 ghost use Rattle.std.specs.Prelude.{◌≡◌, ◌↔◌, true, List, Some, IfOk, MatchOption, map, string_bytes, codes};
 ghost use Rattle.clap.specs.Words.{found_of, kind_of, rows_of, subcommand_rows_of};
-ghost use Rattle.cli_options.specs.Named.{HasForm, HasSettings, HasSide, HasWanted, IsGiven, IsNamedBy, IsOrderOf, IsSideOf, words_of};
+ghost use Rattle.cli_options.specs.Named.{GivesWanted, HasForm, HasSettings, HasSide, IsGiven, IsNamedBy, IsOrderOf, IsSideOf, words_of};
 ghost use Rattle.cli_options.specs.Limiting.{TellsNamed};
 ghost use Rattle.cli_options.specs.Told.{TellsKind, Tells, TellsCommand, TellsFault, TellsOwners};
 
 use crate::asked::Asked;
 use crate::command::Command;
 use crate::form::CountForm;
-use crate::limits_named::{limits_named, width_named, window_named};
+use crate::limits_named::{given_named, limits_named, width_named, window_named};
 use crate::owners::owners_given;
 use crate::rules::rules_spelled;
 use crate::selection::Selection;
@@ -28,17 +28,18 @@ use std::alloc::Global;
 /// `--max-array`, in bytes, `--max-depth`, in open containers, and `--fds`, a rule on indexes of
 /// descriptors, name the limits; one that they do not name is that of the specification. The flags
 /// `--explain`, and `--keep-going` of all commands but `swap`, are set if they are among the words,
-/// and `--json` of `count` is its form. `--json`, `--unanswered` and `--errors` of `calls` say what
-/// it lists. `--time` of `show` and `--no-time` of `json` say whether times are written.
-/// `--handshake` names the side whose handshake comes before the messages. `--skip` and `--limit`,
-/// of `show`, `json`, `list` and `filter`, are the numbers of the window; without them it leaves no
-/// message out. `--width` of `list` is the number of cells of its lines; without it they have 80.
+/// and `--json` of `count` is its form. `--json`, `--unanswered`, `--errors` and `--slower`, in
+/// milliseconds, of `calls` say what it lists. `--time` of `show` and `--no-time` of `json` say
+/// whether times are written. `--handshake` names the side whose handshake comes before the
+/// messages. `--skip` and `--limit`, of `show`, `json`, `list` and `filter`, are the numbers of the
+/// window; without them it leaves no message out. `--width` of `list` is the number of cells of its
+/// lines; without it they have 80.
 ///
 /// `Usage`: the words name no command of the program, or have what it does not take, a limit over
-/// that of the specification, a number of messages over 4294967295, a width over 65535 and an owner
-/// that is no NAME=UNIQUE of two bus names among it. `Rule`: they name `filter`, with a text that
-/// spells no rule; it is the first such text. `Help`, `Version`: they ask for help, or for the
-/// version. `Memory`: an allocation failed.
+/// that of the specification, a number of messages or milliseconds over 4294967295, a width over
+/// 65535 and an owner that is no NAME=UNIQUE of two bus names among it. `Rule`: they name `filter`,
+/// with a text that spells no rule; it is the first such text. `Help`, `Version`: they ask for help,
+/// or for the version. `Memory`: an allocation failed.
 pub fn command_of(alloc: Global, words: &[String]) -> Result<Asked, UsageFault>
     // What is returned is what the words name: a command and its settings, or a side.
     ensures named { IfOk result (IsNamedBy (map string_bytes words.now)) }
@@ -70,7 +71,7 @@ fn command_named(alloc: Global, matches: &ArgMatches) -> Result<Asked, UsageFaul
         return Ok(Asked::Count(settings, form_named(inner)));
     }
     if name == "calls" {
-        return Ok(Asked::Calls(settings, wanted_named(inner)));
+        return calls_named(alloc, settings, inner);
     }
     let command = command_with(alloc, name, inner)?;
     Ok(Asked::Messages(command, settings))
@@ -100,15 +101,28 @@ fn form_named(inner: &ArgMatches) -> CountForm
     }
 }
 
-// What `calls` is to list.
-fn wanted_named(inner: &ArgMatches) -> WantedCalls
-    ensures { HasWanted (rows_of (found_of inner.now)) result }
+// What `calls` is given, with these settings.
+fn calls_named(alloc: Global, settings: Settings, inner: &ArgMatches) -> Result<Asked, UsageFault>
+    requires { HasSettings (rows_of (found_of inner.now)) settings }
+    ensures { Tells (Some (codes "calls", rows_of (found_of inner.now))) result }
 {
-    WantedCalls {
+    match wanted_named(inner) {
+        Some(wanted) => Ok(Asked::Calls(settings, wanted)),
+        None => Err(usage(alloc, "error: no number of milliseconds\n")),
+    }
+}
+
+// What `calls` is to list, or nothing if an option is given no number that it may be.
+fn wanted_named(inner: &ArgMatches) -> Option<WantedCalls>
+    ensures { GivesWanted (rows_of (found_of inner.now)) result }
+{
+    let slower = given_named(inner, "slower")?;
+    Some(WantedCalls {
         as_json: is_given(inner, "json"),
         unanswered: is_given(inner, "unanswered"),
         errors: is_given(inner, "errors"),
-    }
+        slower,
+    })
 }
 
 // The settings that the options name.

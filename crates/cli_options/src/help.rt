@@ -192,8 +192,8 @@ pub(crate) const CALLS_MORE: &str = more!(
   `no reply: the caller left` or `no reply: its serial was used again`; and at
   the end of the input `no reply` for each call that waits. `T ms` is the time
   from the call to the reply, if the file has times. `-` is in place of what a
-  call does not say. With --unanswered or --errors only calls of these outcomes
-  are listed, with both those of both. If the input is refused,
+  call does not say. With --unanswered, --errors or --slower only calls of these
+  outcomes are listed, with more of these those of each. If the input is refused,
   `refused at P: NAME` on standard error, and then the calls that wait there are
   listed. Memory is allocated for calls that wait.
 
@@ -212,6 +212,9 @@ pub(crate) const UNANSWERED: &str = "Lists the calls that want a reply and have 
 
 /// What `--errors` of `calls` does.
 pub(crate) const ERRORS: &str = "Lists the calls that an error answered";
+
+/// Which calls `--slower` of `calls` lists.
+pub(crate) const SLOWER: &str = "Lists the calls replied to later: 0 to 4294967295 ms";
 
 /// What `swap` does.
 pub(crate) const SWAP: &str = "Writes each message in one byte order";

@@ -1,7 +1,7 @@
 //! What `calls` is to list.
 
-/// What `calls` is to list, and in which form. If neither flag of outcomes is set, it is all calls;
-/// if both are, those of both.
+/// What `calls` is to list, and in which form. If none of these is asked for, it is all calls; else
+/// those of any that is.
 #[derive(Clone, Copy, Debug, PartialEq, Eq)]
 pub struct WantedCalls {
     /// Whether each line is an object of JSON, RFC 8259, in place of words.
@@ -10,4 +10,7 @@ pub struct WantedCalls {
     pub unanswered: bool,
     /// Whether the calls that an ERROR answered are to be listed.
     pub errors: bool,
+    /// The milliseconds that a reply has to come later than after its call, if the calls of such
+    /// replies are to be listed.
+    pub slower: Option<u32>,
 }

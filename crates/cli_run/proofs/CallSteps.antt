@@ -1,6 +1,6 @@
 -- What becomes of a list of calls by a message and by a text that is told, and how a run ends that
 -- lists calls.
-use Rattle.std.proofs.Common.{◌≡◌, ℕ, ◌+◌, ◌<◌, suc, false, List, [], ◌∷◌, ◌++◌, Option, Result, Ok, Err, OnOk, Less, inl, inr, refl, sym, ap, ◌∙◌, subst, arith, append-nil}
+use Rattle.std.proofs.Common.{◌≡◌, ℕ, ◌+◌, ◌<◌, Bool, false, not, ◌||◌, ◌&&◌, is_some, List, [], ◌∷◌, ◌++◌, Option, Result, Ok, Err, OnOk, Less, inl, inr, refl, sym, ap, ◌∙◌, subst, arith, append-nil}
 use Rattle.std.proofs.Math.Path.{transport}
 use Rattle.std.specs.List.{AllByRecursion}
 use Rattle.std.specs.List.Sorted.{IsStrictlySortedBy}
@@ -12,13 +12,12 @@ use Rattle.dbus_device.specs.Packets.{Packets}
 use Rattle.dbus_stream.specs.Cut.{CutMessage}
 use Rattle.dbus_call_lines.specs.Keeping.{Keeps}
 use Rattle.dbus_call_lines.specs.Listing.{AreListedBy, AreRising, ListsAfter, ListsOpen, Numbered, Row, nth, rows_text}
-use Rattle.dbus_call_lines.specs.declared.call_list.CallList.{CallList}
 use Rattle.dbus_call_lines.specs.declared.wanted.Wanted.{Wanted}
 use Rattle.dbus_call_lines.proofs.Along.{listed_end}
 use Rattle.dbus_call_lines.proofs.Some.{front_rises, some_after}
 use Rattle.dbus_call_lines.proofs.Steps.{lines_both}
 use Rattle.cli_options.specs.declared.settings.Settings.{Settings}
-use Rattle.cli_report.specs.Devices.{Taken, Writing, reading, taken, writing}
+use Rattle.cli_report.specs.Devices.{Writing, reading, taken, writing}
 use Rattle.cli_report.specs.Gathering.{Breaks, Gathers, Passes, gathered_bytes}
 use Rattle.cli_report.specs.PageLaws.{breaks_after, passes_none}
 use Rattle.cli_report.specs.Telling.{Told}
@@ -28,8 +27,8 @@ use Rattle.cli_report.specs.declared.ending.ExitStatus.{ExitStatus}
 use Rattle.cli_report.specs.declared.ending.ExitStatus.TheVariants as status
 use Rattle.cli_report.specs.declared.gathering.Unwritten.{Unwritten}
 use Rattle.cli_report.proofs.GatherSteps.{breaks_before, breaks_nothing, passes_nothing, passes_whole}
-use Rattle.cli_run.specs.ByName.{EndsBy}
-use Rattle.cli_run.specs.CallListing.{GathersRows, LeavesCalls, ListsThrough, StaysIfShort, TakesCalls, WritesCalls, WritesRows, number_and_time, numbered}
+use Rattle.cli_run.specs.CallListing.{EndsNoted, GathersRows, LeavesCalls, ListsThrough, StaysIfShort, TakesCalls, TellsNote, WritesCalls, WritesRows, have_time, lack_times, number_and_time, numbered, times_note}
+use Rattle.cli_run.specs.CallLaws.{or_false}
 use Rattle.cli_run.specs.Going.{GoesThrough, StopsWithin}
 use Rattle.cli_run.specs.Inputs.{ArePlaced, IsPlaced, Part, PassedOver, Placed, Whole}
 use Rattle.cli_run.specs.OutputWriting.{FailsBy, LeavesFirst}
@@ -45,13 +44,14 @@ use Rattle.cli_run.proofs.EndSteps.{got_first}
 -- ---- without a message
 
 module _ {W E : Type 0} (held : W → Option (List ℕ)) (failures : W → ℕ) (second_held : E → Option (List ℕ)) (second_failures : E → ℕ) (a b : Lister W E)
-    (same_first : b.first.ghost_name ≡ a.first.ghost_name) (same_second : b.second.ghost_name ≡ a.second.ghost_name) (same : b.list ≡ a.list) where
+    (same_first : b.first.ghost_name ≡ a.first.ghost_name) (same_second : b.second.ghost_name ≡ a.second.ghost_name) (same : b.list ≡ a.list) (timed : b.timed ≡ a.timed) where
   let_out : (told : List ℕ) → Passes held failures [] (gathered_bytes a.gathered) (gathered_bytes b.gathered) a.first.now b.first.now → Wrote second_held second_failures a.second.now told b.second.now
       → TakesCalls held failures second_held second_failures a b [] told
   let_out told passes tells = record {
     same_first = same_first;
     same_second = same_second;
     lists = λ wanted before keeps rising. (transport (λ i. Keeps wanted (sym (append-nil before) i) (sym same i)) keeps, [], refl, passes);
+    timed = timed ∙ or_false a.timed;
     tells = tells;
   }
 
@@ -77,7 +77,7 @@ module _ {W E : Type 0} (held : W → Option (List ℕ)) (failures : W → ℕ) 
 
 module _ {W E : Type 0} (held : W → Option (List ℕ)) (failures : W → ℕ) (second_held : E → Option (List ℕ)) (second_failures : E → ℕ) (a b : Lister W E)
     (same_first : b.first.ghost_name ≡ a.first.ghost_name) (same_second : b.second.ghost_name ≡ a.second.ghost_name) (order : Order) (m : MessageTree) (place : MessagePlace) (size : ℕ)
-    (same : b.second.now ≡ a.second.now) where
+    (same : b.second.now ≡ a.second.now) (timed : b.timed ≡ (a.timed || is_some place.time)) where
   abbrev x : Numbered
   x = nth (number_and_time place) m
 
@@ -100,6 +100,7 @@ module _ {W E : Type 0} (held : W → Option (List ℕ)) (failures : W → ℕ) 
     same_first = same_first;
     same_second = same_second;
     lists = λ wanted before keeps rising. let h = p wanted before keeps rising in (h.0, h.1.0, (h.1.0, [], h.1.1, refl, sym (append-nil h.1.0)), h.1.2);
+    timed = timed ∙ ap (λ z. a.timed || z) (or_false (is_some place.time));
     tells = none_told;
   }
 
@@ -189,16 +190,16 @@ placed_rise packets n offset (PassedOver kept fault size ∷ parts) messages p =
 -- ---- the run
 
 -- how it ends, by what becomes of the calls that wait
-abbrev pub EndsAs : {E : Type 0} → Writing E → (due end : ExitStatus) → Result (Unit {0}) Cause → Type 0
-EndsAs e due end (Ok x) = (e.new ≡ e.old) × (end ≡ due)
-EndsAs e due end (Err cause) = Told e.held e.failures e.old e.new cause × (end ≡ status.Failed)
+abbrev pub EndsAs : {E : Type 0} → Writing E → (note : List ℕ) → (due end : ExitStatus) → Result (Unit {0}) Cause → Type 0
+EndsAs e note due end (Ok x) = TellsNote e note due end
+EndsAs e note due end (Err cause) = Told e.held e.failures e.old e.new cause × (end ≡ status.Failed)
 
-ends_by : {E : Type 0} (Writes : Result (Unit {0}) Cause → Type 0) (e : Writing E) (due end : ExitStatus) (res : Result (Unit {0}) Cause) → Writes res → EndsAs e due end res → EndsBy Writes e due end
-ends_by Writes e due end (Ok x) writes ends = inl (writes, ends.0, ends.1)
-ends_by Writes e due end (Err cause) writes ends = inr (cause, writes, ends.0, ends.1)
+ends_by : {E : Type 0} (Writes : Result (Unit {0}) Cause → Type 0) (e : Writing E) (note : List ℕ) (due end : ExitStatus) (res : Result (Unit {0}) Cause) → Writes res → EndsAs e note due end res → EndsNoted Writes e note due end
+ends_by Writes e note due end (Ok x) writes ends = inl (writes, ends)
+ends_by Writes e note due end (Err cause) writes ends = inr (cause, writes, ends.0, ends.1)
 
 module _ {W E : Type 0} (held : W → Option (List ℕ)) (failures : W → ℕ) (second_held : E → Option (List ℕ)) (second_failures : E → ℕ) (wanted : Wanted) (a b : Lister W E) (keeps : Keeps wanted [] a.list)
-    (none : gathered_bytes a.gathered ≡ []) where
+    (none : gathered_bytes a.gathered ≡ []) (untimed : a.timed ≡ false) where
   -- what was written, and then what waits
   module _ (last : gathered_bytes b.gathered ≡ []) (items : List Placed) (rises : AreRising (numbered items)) (told : List ℕ) (h : TakesCalls held failures second_held second_failures a b items told) (w2 : W) where
     abbrev Lists : Type 0
@@ -243,14 +244,14 @@ module _ {W E : Type 0} (held : W → Option (List ℕ)) (failures : W → ℕ) 
 
     pub lists_all : (w2 : W) (e2 : E) (res : Result (Unit {0}) Cause) (due end : ExitStatus) → gathered_bytes b.gathered ≡ []
         → ((other : Wanted) (before : List Numbered) → Keeps other before b.list → AreRising before → WritesRows (writing held failures b.first.now w2) other (ListsOpen before) res)
-        → EndsAs (writing second_held second_failures e1 e2) due end res
+        → EndsAs (writing second_held second_failures e1 e2) (times_note (is_some wanted.slower && not b.timed)) due end res
         → GoesThrough (taken (reading left calls read_failures packets r0 r1)) settings most false (TakesCalls held failures second_held second_failures a b) due
         → ListsThrough (reading left calls read_failures packets r0 r2) (writing held failures a.first.now w2) (writing second_held second_failures a.second.now e2) settings wanted most end
     lists_all w2 e2 res due end last waits ends g = record {
       due = due;
       before = e1;
       through = subst (λ (y : R). GoesThrough (taken (reading left calls read_failures packets r0 y)) settings most false
-          (λ items told. Wrote second_held second_failures a.second.now told e1 × EndsBy (WritesCalls (writing held failures a.first.now w2) wanted items) (writing second_held second_failures e1 e2) due end) due) source
+          (λ items told. Wrote second_held second_failures a.second.now told e1 × EndsNoted (WritesCalls (writing held failures a.first.now w2) wanted items) (writing second_held second_failures e1 e2) (times_note (lack_times wanted items)) due end) due) source
           (record {
             tally = g.tally;
             fault = g.fault;
@@ -261,8 +262,10 @@ module _ {W E : Type 0} (held : W → Option (List ℕ)) (failures : W → ℕ) 
             placed = g.placed;
             came = (
               told_as _ g.came.tells,
-              ends_by (WritesCalls (writing held failures a.first.now w2) wanted g.messages) (writing second_held second_failures e1 e2) due end res
-                  (written last g.messages (placed_rise (packets r0) 1 0 g.through.parts g.messages g.placed) _ g.came w2 res waits) ends,
+              ends_by (WritesCalls (writing held failures a.first.now w2) wanted g.messages) (writing second_held second_failures e1 e2) (times_note (lack_times wanted g.messages)) due end res
+                  (written last g.messages (placed_rise (packets r0) 1 0 g.through.parts g.messages g.placed) _ g.came w2 res waits)
+                  (subst (λ (t : Bool). EndsAs (writing second_held second_failures e1 e2) (times_note (is_some wanted.slower && not t)) due end res)
+                  (g.came.timed ∙ ap (λ t. t || have_time g.messages) untimed) ends),
             );
             end_is = g.end_is;
           });

@@ -22,13 +22,14 @@ use Rattle.cli_report.specs.declared.ending.ExitStatus.{ExitStatus}
 use Rattle.cli_report.specs.declared.ending.ExitStatus.TheVariants as status
 use Rattle.cli_run.specs.Laws.{AreToldAlike, ExplainsNone, OneCalls, OneCount, OneRun, OneWithin}
 use Rattle.cli_run.specs.ByName.{EndsBy, WritesTables, counting}
-use Rattle.cli_run.specs.CallListing.{WritesCalls, numbered}
+use Rattle.cli_run.specs.CallListing.{EndsNoted, WritesCalls, lack_times, numbered, times_note}
 use Rattle.cli_run.specs.Going.{AreTold, GoesThrough, IsThrough, IsToldLast, closing_line, passed_count, status_at, tally_of}
 use Rattle.cli_run.specs.Inputs.{ArePlaced, BeginWithParts, Part, Placed, size_of, sizes_of, wholes}
 use Rattle.cli_run.specs.Output.{is_check, check_line, fault_line, last_line, second_output, status_of, written}
 use Rattle.cli_run.specs.Refusals.{IsFaultIn}
 use Rattle.cli_run.specs.Running.{Writes, TellsLine}
 use Rattle.cli_run.specs.Told.{first_of, second_of}
+use Rattle.cli_run.specs.VisitorLaws.{wrote_both}
 use Rattle.cli_run.specs.declared.tally.Tally.{Tally}
 use Rattle.cli_run.proofs.PartLaws.{is_last, parts_more, parts_of}
 use Rattle.cli_run.proofs.SameOutputs.{acts_as, are_passed, bare_placed, bare_tally, none_last, none_refused, none_told, one_placed, same_counts, same_last, same_outputs, same_told}
@@ -184,6 +185,14 @@ one_run R S W V E F r s w v e f settings most more command copy end other same i
 ended : {E : Type 0} (Writes : Result (Unit {0}) Cause → Type 0) (e : Writing E) (due end : ExitStatus) → (end ≡ status.Failed → ⊥) → EndsBy Writes e due end → Writes (Ok tt) × (e.new ≡ e.old) × (end ≡ due)
 ended Writes e due end done ends = elim ends [ inl all ↦ all | inr some ↦ absurd (done some.3) ]
 
+-- and this note was told
+ended_noted : {E : Type 0} (Writes : Result (Unit {0}) Cause → Type 0) (e : Writing E) (note : List ℕ) (due end : ExitStatus) → (end ≡ status.Failed → ⊥) → EndsNoted Writes e note due end
+    → Writes (Ok tt) × Wrote e.held e.failures e.old note e.new × (end ≡ due)
+ended_noted Writes e note due end done ends = elim ends [
+  | inl all ↦ elim all.1 [ inl told ↦ (all.0, told.0, told.1) | inr stopped ↦ absurd (done stopped.2) ]
+  | inr some ↦ absurd (done some.3)
+]
+
 -- nothing is explained, also by the status that was due
 due_explains : (settings : Settings) (due end : ExitStatus) → end ≡ due → ExplainsNone settings end → ExplainsNone settings due
 due_explains settings due end is none = elim none [ inl off ↦ inl off | inr all ↦ inr (sym is ∙ all) ]
@@ -226,12 +235,13 @@ one_calls R S W V E F r s w v e f settings wanted most more end other is packets
         let input = is.input in
         let items = g.through.messages in
         let also = h.through.messages in
-        let due = (ended (WritesCalls w wanted items) (writing e.held e.failures g.before e.new) g.due end is.done g.through.came.1).2 in
+        let note = times_note (lack_times wanted items) in
+        let due = (ended_noted (WritesCalls w wanted items) (writing e.held e.failures g.before e.new) note g.due end is.done g.through.came.1).2 in
         let explains = due_explains settings g.due end due is.explains in
         let all = goes_alike settings false input.0 input.1 g.through h.through explains input.2 input.3 (taken_alike r s end g.due (sym due) is.told) in
         let told = all.0 in
-        let one = ended (WritesCalls w wanted items) (writing e.held e.failures g.before e.new) g.due end is.done all.1.1 in
-        let too = ended (WritesCalls v wanted also) (writing f.held f.failures h.before f.new) h.due other is.other_done all.2.1 in
+        let one = ended_noted (WritesCalls w wanted items) (writing e.held e.failures g.before e.new) note g.due end is.done all.1.1 in
+        let too = ended_noted (WritesCalls v wanted also) (writing f.held f.failures h.before f.new) (times_note (lack_times wanted also)) h.due other is.other_done all.2.1 in
         let here = subst (λ (p : Option Packets). ArePlaced p 1 0 all.4 items) packets.one all.5 in
         let there = subst (λ (p : Option Packets). ArePlaced p 1 0 all.4 also) packets.same all.6 in
         let same = one_placed packets.all 1 0 all.4 also items there here in
@@ -241,9 +251,9 @@ one_calls R S W V E F r s w v e f settings wanted most more end other is packets
           status_is = too.2 ∙ (all.3 ∙ sym one.2);
           first = (rows_text wanted one.0.0, one.0.2, subst (λ l. Wrote v.held v.failures v.old l v.new) (sym text) too.0.2);
           second = (
-            told,
-            subst (λ (x : E). Wrote e.held e.failures e.old told x) (sym one.1) all.1.0,
-            subst (λ (x : F). Wrote f.held f.failures f.old told x) (sym too.1) all.2.0,
+            told ++ note,
+            wrote_both e.held e.failures told note e.old g.before e.new all.1.0 one.1,
+            wrote_both f.held f.failures told note f.old h.before f.new all.2.0 (subst (λ (l : List Placed). Wrote f.held f.failures h.before (times_note (lack_times wanted l)) f.new) same too.1),
           );
         }
         )

@@ -1,16 +1,14 @@
 -- The laws of the visitor that lists calls. They are here, and not in proofs/, because the trait's
 -- law names them.
-use Rattle.std.proofs.Common.{◌≡◌, ℕ, false, List, [], ◌∷◌, ◌++◌, Option, map, refl, sym, ap, ◌∙◌, subst, append-nil, append_assoc}
+use Rattle.std.proofs.Common.{◌≡◌, ℕ, Bool, true, false, ◌||◌, is_some, List, [], ◌∷◌, ◌++◌, Option, refl, sym, ap, ◌∙◌, subst, append-nil, append_assoc}
 use Rattle.dbus_call_lines.specs.Keeping.{Keeps}
 use Rattle.dbus_call_lines.specs.Listing.{AreListedBy, AreRising, Numbered, Row, nth, rows_text}
-use Rattle.dbus_call_lines.specs.declared.call_list.CallList.{CallList}
-use Rattle.dbus_call_lines.specs.declared.wanted.Wanted.{Wanted}
 use Rattle.dbus_call_lines.proofs.Along.{listed_both}
 use Rattle.dbus_call_lines.proofs.Some.{front_rises}
 use Rattle.dbus_call_lines.proofs.Steps.{lines_both}
 use Rattle.cli_report.specs.Gathering.{Passes, gathered_bytes}
 use Rattle.cli_report.specs.PageLaws.{passes_both, passes_none}
-use Rattle.cli_run.specs.CallListing.{LeavesCalls, TakesCalls, number_and_time, numbered}
+use Rattle.cli_run.specs.CallListing.{LeavesCalls, TakesCalls, have_time, number_and_time, numbered}
 use Rattle.cli_report.specs.declared.ending.Cause.TheVariants.{Memory, ReadFailed, TooManyReads}
 use Rattle.cli_run.specs.Inputs.{Placed}
 use Rattle.cli_run.specs.OutputWriting.{LeavesFirst}
@@ -24,6 +22,18 @@ use Rattle.cli_run.specs.declared.visitor.RunStop.TheVariants.{Cause as ByCause}
 numbered_both : (s t : List Placed) → numbered (s ++ t) ≡ numbered s ++ numbered t
 numbered_both [] t = refl
 numbered_both (m ∷ s) t = ap (λ l. nth (number_and_time m.place) m.item.message ∷ l) (numbered_both s t)
+
+pub or_false : (x : Bool) → x ≡ (x || false)
+or_false true = refl
+or_false false = refl
+
+or_both : (x y z : Bool) → ((x || y) || z) ≡ (x || (y || z))
+or_both true y z = refl
+or_both false y z = refl
+
+times_both : (x : Bool) (s t : List Placed) → ((x || have_time s) || have_time t) ≡ (x || have_time (s ++ t))
+times_both x [] t = ap (λ z. z || have_time t) (sym (or_false x))
+times_both x (m ∷ s) t = ap (λ z. z || have_time t) (sym (or_both x (is_some m.place.time) (have_time s))) ∙ (times_both (x || is_some m.place.time) s t ∙ or_both x (is_some m.place.time) (have_time (s ++ t)))
 
 -- the numbers of messages and of others rise
 module _ (before : List Numbered) (s t : List Placed) where
@@ -52,6 +62,7 @@ module _ {W E : Type 0} (held : W → Option (List ℕ)) (failures : W → ℕ) 
     same_second = refl;
     lists = λ wanted before keeps rising.
         (subst (λ (l : List Numbered). Keeps wanted l a.list) (sym (append-nil before)) keeps, [], refl, passes_none held failures (gathered_bytes a.gathered) a.first.now);
+    timed = or_false a.timed;
     tells = wrote_nothing second_held second_failures a.second.now;
   }
 
@@ -68,6 +79,7 @@ module _ {W E : Type 0} (held : W → Option (List ℕ)) (failures : W → ℕ) 
           subst (λ (l : List ℕ). Passes held failures l (gathered_bytes a.gathered) (gathered_bytes c.gathered) a.first.now c.first.now) (sym (lines_both wanted first.1 more.1))
               (passes_both held failures (rows_text wanted first.1) (rows_text wanted more.1) (gathered_bytes a.gathered) (gathered_bytes b.gathered) (gathered_bytes c.gathered) a.first.now b.first.now c.first.now first.3 more.3),
         );
+    timed = k.timed ∙ (ap (λ z. z || have_time t) h.timed ∙ times_both a.timed s t);
     tells = wrote_both second_held second_failures p q a.second.now b.second.now c.second.now h.tells k.tells;
   }
 

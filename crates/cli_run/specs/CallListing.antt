@@ -1,7 +1,7 @@
 -- What `calls` writes: the lines of the calls in an input, each once it is known what came of it,
 -- and what is told of messages that are refused.
-use Rattle.std.specs.Prelude.{◌≡◌, ◌⊎◌, ℕ, false, List, [], ◌∷◌, ◌++◌, map, Option, Result, Ok, Err}
-use Rattle.dbus_device.specs.Device.{Wrote}
+use Rattle.std.specs.Prelude.{◌≡◌, ◌⊎◌, ℕ, Bool, false, not, ◌||◌, ◌&&◌, if◌then◌else◌, codes, List, [], ◌∷◌, ◌++◌, map, Option, is_some, Result, Ok, Err}
+use Rattle.dbus_device.specs.Device.{Stopped, Wrote}
 use Rattle.dbus_call_lines.specs.Keeping.{Keeps}
 use Rattle.dbus_call_lines.specs.Listing.{AreListed, AreListedBy, AreRising, Numbered, Row, nth, rows_text}
 use Rattle.dbus_call_lines.specs.declared.place.Place.{Place}
@@ -11,8 +11,9 @@ use Rattle.cli_report.specs.Devices.{Reading, Writing, taken, writing}
 use Rattle.cli_report.specs.Gathering.{Breaks, Passes, gathered_bytes}
 use Rattle.cli_report.specs.declared.ending.Cause.{Cause}
 use Rattle.cli_report.specs.declared.ending.Cause.TheVariants.{Memory, WriteFailed}
+use Rattle.cli_report.specs.Telling.{Told}
 use Rattle.cli_report.specs.declared.ending.ExitStatus.{ExitStatus}
-use Rattle.cli_run.specs.ByName.{EndsBy}
+use Rattle.cli_report.specs.declared.ending.ExitStatus.TheVariants as status
 use Rattle.cli_run.specs.Going.{GivesUp, GoesThrough}
 use Rattle.cli_run.specs.Inputs.{Placed}
 use Rattle.cli_run.specs.OutputWriting.{LeavesFirst}
@@ -28,6 +29,23 @@ number_and_time place = record { number = place.number; time = place.time }
 -- the messages, each with its number and its time
 abbrev pub numbered : List Placed → List Numbered
 numbered items = map (λ m. nth (number_and_time m.place) m.item.message) items
+
+-- one of the messages has a time
+abbrev pub have_time : List Placed → Bool
+have_time [] = false
+have_time (m ∷ items) = is_some m.place.time || have_time items
+
+-- slow calls are wanted, and none of the messages has a time
+abbrev pub lack_times : Wanted → List Placed → Bool
+lack_times wanted items = is_some wanted.slower && not (have_time items)
+
+-- what is told of that
+abbrev pub times_note : (lacks_times : Bool) → List ℕ
+times_note lacks_times = if lacks_times then codes "note: no message has a time, so --slower lists no call\n" else []
+
+-- it was told, and the run ends as was due; or the write of it failed
+abbrev pub TellsNote : {E : Type 0} → Writing E → (note : List ℕ) → (due end : ExitStatus) → Type 0
+TellsNote e note due end = (Wrote e.held e.failures e.old note e.new × (end ≡ due)) ⊎ ((n : ℕ) × Stopped e.held e.failures e.old note n e.new × (end ≡ status.Failed))
 
 -- for want of memory nothing is done; else nothing but a write fails
 abbrev pub StaysIfShort : {W : Type 0} → Writing W → (g0 g1 : List ℕ) → Result (Unit {0}) Cause → Type 0
@@ -67,6 +85,7 @@ module _ {W E : Type 0} (held : W → Option (List ℕ)) (failures : W → ℕ) 
     pub lists : (wanted : Wanted) (before : List Numbered) → Keeps wanted before old.list → AreRising (before ++ numbered items)
         → Keeps wanted (before ++ numbered items) new.list × (rows : List Row) × AreListedBy before (numbered items) rows
         × Passes held failures (rows_text wanted rows) (gathered_bytes old.gathered) (gathered_bytes new.gathered) old.first.now new.first.now
+    pub timed : new.timed ≡ (old.timed || have_time items)
     pub tells : Wrote second_held second_failures old.second.now told new.second.now
 
   -- the same, as far as this stop let it come
@@ -78,12 +97,17 @@ module _ {W E : Type 0} (held : W → Option (List ℕ)) (failures : W → ℕ) 
         × LeavesFirst held failures false stop (rows_text wanted rows) (gathered_bytes old.gathered) old.first.now new.first.now
     pub tells : GotSecond second_held second_failures false stop told old.second.now new.second.now
 
+-- what is due at the end was written, and then this note; or it was not, which was told
+abbrev pub EndsNoted : {E : Type 0} → (Writes : Result (Unit {0}) Cause → Type 0) → Writing E → (note : List ℕ) → (due end : ExitStatus) → Type 0
+EndsNoted Writes e note due end = (Writes (Ok tt) × TellsNote e note due end)
+    ⊎ ((cause : Cause) × Writes (Err cause) × Told e.held e.failures e.old e.new cause × (end ≡ status.Failed))
+
 -- all was told, and the calls of all messages were listed
 pub record ListsThrough {R W E : Type 0} (r : Reading R) (w : Writing W) (e : Writing E) (settings : Settings) (wanted : Wanted) (most : ℕ) (end : ExitStatus) : Type 0 where
   pub due : ExitStatus
   pub before : E
   pub through : GoesThrough (taken r) settings most false
-      (λ items told. Wrote e.held e.failures e.old told before × EndsBy (WritesCalls w wanted items) (writing e.held e.failures before e.new) due end) due
+      (λ items told. Wrote e.held e.failures e.old told before × EndsNoted (WritesCalls w wanted items) (writing e.held e.failures before e.new) (times_note (lack_times wanted items)) due end) due
 
 -- or reading or telling was given up, and the lines that were due before were written
 abbrev pub ListsCalls : {R W E : Type 0} → Reading R → Writing W → Writing E → Settings → Wanted → (most : ℕ) → ExitStatus → Type 0

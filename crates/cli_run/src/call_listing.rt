@@ -10,7 +10,7 @@ ghost use Rattle.dbus_call_lines.specs.declared.wanted.Wanted.{Wanted};
 ghost use Rattle.cli_report.specs.Devices.{reading, writing};
 ghost use Rattle.cli_report.specs.Gathering.{gathered_bytes};
 ghost use Rattle.cli_run.specs.CallLaws.{lister_adds_up};
-ghost use Rattle.cli_run.specs.CallListing.{GathersRows, LeavesCalls, ListsCalls, StaysIfShort, TakesCalls, WritesRows, number_and_time};
+ghost use Rattle.cli_run.specs.CallListing.{GathersRows, LeavesCalls, ListsCalls, StaysIfShort, TakesCalls, TellsNote, WritesRows, number_and_time, times_note};
 
 use crate::going::{pass_through, tell_stop};
 use crate::output_writer::{First, fail_by};
@@ -23,11 +23,16 @@ use dbus_stream::{MOST_READS, Sink, Source};
 use dbus_view::MessageView;
 use std::alloc::{AllocError, Global};
 
+/// What is told if slow calls are wanted, and no message has a time.
+const TIMES_NOTE: &str = "note: no message has a time, so --slower lists no call\n";
+
 /// Lists the calls of messages, and tells the second writer of those that are refused.
 #[derive(Drop)]
 pub(crate) struct Lister<'a, 'b, W, E> {
     /// The list.
     pub(crate) list: CallList,
+    /// Whether a message had a time.
+    pub(crate) timed: bool,
     /// What is gathered for the first writer.
     pub(crate) gathered: OutputBuffer,
     /// The writers.
@@ -60,6 +65,7 @@ impl<W: Sink, E: Sink> MessageVisitor for Lister<'_, '_, W, E> {
     }
 
     fn take(&mut self, lent: &Lent<'_>) -> Result<(), Cause> {
+        self.timed = self.timed | lent.place.time.is_some();
         match list_message(&mut self.list, lent, &mut self.gathered, self.first) {
             Ok(()) => Ok(()),
             Err(cause) => Err(fail_by(cause, &mut self.gathered, self.first)),
@@ -118,7 +124,8 @@ fn list_message<W: Sink>(
 /// most 2^32 reads, and tells the second writer of messages that are refused, as
 /// [`crate::run_with`] does. The line of a call is written once it is known what came of it, at the
 /// latest before more is read; those of calls that wait at the end follow in their order. A message
-/// that is refused is no call and no reply.
+/// that is refused is no call and no reply. If slow calls are wanted and no message has a time, the
+/// second writer is told so at the end.
 ///
 /// `Done`, `Refused`: all was written, and whether anything was refused. `Failed`: a read or a
 /// write failed, as many reads were made as may be, or memory ran out; if it was not a write to the
@@ -138,20 +145,40 @@ pub fn list_calls<R: Source, W: Sink, E: Sink>(
 {
     let mut lister = Lister {
         list: CallList::new(alloc, wanted),
+        timed: false,
         gathered: OutputBuffer::new(),
         first,
         second: &mut *second,
     };
     let (ended, _source) = pass_through(alloc, settings, false, MOST_READS, reader, &mut lister);
+    let lacks_times = wanted.slower.is_some() & !lister.timed;
     let (list, first_writer, _second) = lister.into_parts();
     let writer = first_writer.into_inner();
     match ended {
         Ok(status) => match write_waiting(list, writer) {
-            Ok(()) => status,
+            Ok(()) => tell_times(lacks_times, status, second),
             Err(cause) => give_up(cause, second),
         },
         Err(stop) => tell_stop(stop, false, second),
     }
+}
+
+// Tells that no message has a time, if slow calls are wanted and none has. Returns the status that
+// is due then.
+fn tell_times<E: Sink>(lacks_times: bool, due: ExitStatus, second: &mut E) -> ExitStatus
+    ensures { TellsNote (writing E.held E.failures second.old second.new) (times_note lacks_times) due result }
+{
+    match write_text(second, note_of(lacks_times)) {
+        Ok(()) => due,
+        Err(Unwritten) => ExitStatus::Failed,
+    }
+}
+
+// What is told of that.
+fn note_of(lacks_times: bool) -> &'static str
+    ensures { result.now ≡ times_note lacks_times }
+{
+    if lacks_times { TIMES_NOTE } else { "" }
 }
 
 // Writes the lines of the calls that wait at the end.

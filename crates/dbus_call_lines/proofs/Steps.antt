@@ -90,7 +90,7 @@ module _ (wanted : Wanted) where
   pub lines_kept : (outcome : Outcome) (calls : List Numbered) → kept_text wanted outcome (map (kept_of wanted) calls) ≡ rows_text wanted (map (row outcome) calls)
   lines_kept outcome [] = refl
   lines_kept outcome (x ∷ xs) =
-      ap (λ t. (if is_wanted wanted outcome then t else []) ++ kept_text wanted outcome (map (kept_of wanted) xs)) (two_parts wanted.form x.place x.message outcome)
+      ap (λ t. (if is_wanted wanted x.place.time outcome then t else []) ++ kept_text wanted outcome (map (kept_of wanted) xs)) (two_parts wanted.form x.place x.message outcome)
       ∙ ap (λ t. row_text wanted (row outcome x) ++ t) (lines_kept outcome xs)
 
   pub lines_both : (a b : List Row) → rows_text wanted (a ++ b) ≡ rows_text wanted a ++ rows_text wanted b

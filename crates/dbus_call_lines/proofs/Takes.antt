@@ -61,7 +61,7 @@ module _ (before : List Numbered) (x : Numbered) {S : Type 0} (gains : S → Lis
         let ended : List Row = map (row Replaced) (as_list (w c s)) in
         let first : kept_text list.wanted Replaced (as_list (option_map kept o)) ≡ rows_text list.wanted ended
         = ap (λ (o : Option WaitingCall). kept_text list.wanted Replaced (as_list (option_map kept o))) at ∙ (ap (λ l. kept_text list.wanted Replaced (as_list l)) (are c s) ∙ (ap (kept_text list.wanted Replaced) (list_kept list.wanted (w c s)) ∙ lines_kept list.wanted Replaced (as_list (w c s)))) in
-        let last : own_line list.wanted ≡ rows_text list.wanted (row Unwanted x ∷ []) = ap (λ t. if is_wanted list.wanted Unwanted then t else []) (two_parts list.wanted.form x.place x.message Unwanted) ∙ sym (append-nil _) in (
+        let last : own_line list.wanted ≡ rows_text list.wanted (row Unwanted x ∷ []) = ap (λ t. if is_wanted list.wanted x.place.time Unwanted then t else []) (two_parts list.wanted.form x.place x.message Unwanted) ∙ sym (append-nil _) in (
           keeps_next before x (Calls c s false) is list.wanted list list' k same (without_call c s (waiting list.open)) closed (without_kept list.wanted (waiting list.open) w are c s),
           ended ++ row Unwanted x ∷ [],
           record {

@@ -35,7 +35,7 @@ Keeps wanted before list = (list.wanted ≡ wanted) × ((caller : List ℕ) (ser
 -- the lines of those that are wanted of calls that are kept, if this came of them. sent is when a
 -- call was captured
 abbrev pub kept_line : Wanted → Outcome → (sent : Option ℕ) → (front : List ℕ) → List ℕ
-kept_line wanted outcome sent front = if is_wanted wanted outcome then front ++ end wanted.form sent outcome else []
+kept_line wanted outcome sent front = if is_wanted wanted sent outcome then front ++ end wanted.form sent outcome else []
 
 abbrev pub kept_text : Wanted → Outcome → List KeptCall → List ℕ
 kept_text wanted outcome calls = flat_map (λ c. kept_line wanted outcome c.place.time c.front) calls

@@ -90,7 +90,7 @@ AreListedBy before (x ∷ xs) rows = (now more : List Row) × ListsAfter before 
 
 -- the lines of those that are wanted
 abbrev pub row_text : Wanted → Row → List ℕ
-row_text wanted r = if is_wanted wanted r.outcome then line wanted.form r.call.place r.call.message r.outcome else []
+row_text wanted r = if is_wanted wanted r.call.place.time r.outcome then line wanted.form r.call.place r.call.message r.outcome else []
 
 abbrev pub rows_text : Wanted → List Row → List ℕ
 rows_text wanted rows = flat_map (row_text wanted) rows

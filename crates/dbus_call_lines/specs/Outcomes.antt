@@ -1,11 +1,13 @@
 -- What comes of calls. D-Bus Specification, "Message Types" and "Message Format"
 -- (NO_REPLY_EXPECTED).
-use Rattle.std.specs.Prelude.{ℕ, List, Option, Bool, true, false, ◌||◌, ◌&&◌, ◌==◌, codes, if◌then◌else◌}
+use Rattle.std.specs.Prelude.{ℕ, ◌*◌, nat_lt, List, Option, None, Some, is_some, Bool, true, false, not, ◌||◌, ◌&&◌, ◌==◌, codes, if◌then◌else◌}
 use Rattle.std.specs.Option.{unwrap_or}
 use Rattle.dbus_message_model.specs.Messages.{MessageTree}
 use Rattle.dbus_message_model.specs.declared.field_code.TheConstants as field
 use Rattle.dbus_message_model.specs.declared.message_type.TheConstants as message
 use Rattle.dbus_calls.specs.Events.{text_at}
+use Rattle.dbus_call_lines.specs.Durations.{time_between}
+use Rattle.dbus_call_lines.specs.declared.elapsed.Elapsed.{Elapsed}
 use Rattle.dbus_call_lines.specs.declared.outcome.Outcome.{Outcome as OutcomeSeen}
 use Rattle.dbus_call_lines.specs.declared.outcome.Outcome.TheVariants as seen
 use Rattle.dbus_call_lines.specs.declared.place.Place.{Place}
@@ -61,8 +63,24 @@ abbrev pub is_error : Outcome → Bool
 is_error (Error at name) = true
 is_error outcome = false
 
--- all calls, or those of the outcomes that are asked for
-abbrev pub is_wanted : Wanted → Outcome → Bool
-is_wanted wanted outcome =
-    if wanted.unanswered || wanted.errors then (wanted.unanswered && is_unanswered outcome) || (wanted.errors && is_error outcome)
+-- when the reply was captured, if one came and that is known
+abbrev pub replied_at : Outcome → Option ℕ
+replied_at (Reply at) = at.time
+replied_at (Error at name) = at.time
+replied_at outcome = None
+
+-- it is longer than so many milliseconds, if both are known
+abbrev pub is_longer : (milliseconds : Option ℕ) → Option Elapsed → Bool
+is_longer (Some milliseconds) (Some e) = not e.backwards && nat_lt (milliseconds * 1000000) e.nanoseconds
+is_longer milliseconds e = false
+
+-- a reply came so much later than its call. sent is when that was captured, if that is known
+abbrev pub is_slow : (slower : Option ℕ) → (sent : Option ℕ) → Outcome → Bool
+is_slow slower sent outcome = is_longer slower (time_between sent (replied_at outcome))
+
+-- all calls, or those that are asked for
+abbrev pub is_wanted : Wanted → (sent : Option ℕ) → Outcome → Bool
+is_wanted wanted sent outcome =
+    if wanted.unanswered || wanted.errors || is_some wanted.slower
+    then (wanted.unanswered && is_unanswered outcome) || (wanted.errors && is_error outcome) || is_slow wanted.slower sent outcome
     else true

@@ -45,7 +45,7 @@ use std::collections::BTreeMap;
 /// use dbus_message::MessageView;
 /// use dbus_show::StringDraft;
 ///
-/// let wanted = Wanted { form: Form::Text, unanswered: false, errors: false };
+/// let wanted = Wanted { form: Form::Text, unanswered: false, errors: false, slower: Some(500) };
 /// let mut list = CallList::new(alloc, wanted);
 /// let mut lines = String::new(alloc);
 /// let mut draft = StringDraft::new(&mut lines);
@@ -139,7 +139,7 @@ impl CallList {
             D.gains draft.old
             (kept_line self.now.wanted Unwanted place.time (front self.now.wanted.form place m)) draft.new }
     {
-        if self.wanted.lists(Outcome::Unwanted) {
+        if self.wanted.lists(place.time, Outcome::Unwanted) {
             write_front(draft, self.wanted.form, place, view);
             write_end(draft, self.wanted.form, place.time, Outcome::Unwanted);
         }
@@ -238,7 +238,7 @@ fn write_line<D: Draft>(draft: &mut D, wanted: Wanted, call: &WaitingCall, outco
         (kept_line wanted (outcome_seen outcome.entry) call.now.place.time
         (string_bytes call.now.front)) draft.new }
 {
-    if wanted.lists(outcome) {
+    if wanted.lists(call.place.time, outcome) {
         draft.push_str(call.front.as_str());
         write_end(draft, wanted.form, call.place.time, outcome);
     }

@@ -70,7 +70,7 @@ table_form asked.Json = written.Json
 
 -- the list that `calls` asks for
 abbrev pub calls_wanted : WantedCalls → Wanted
-calls_wanted wanted = record { form = if wanted.as_json then InJson else InWords; unanswered = wanted.unanswered; errors = wanted.errors }
+calls_wanted wanted = record { form = if wanted.as_json then InJson else InWords; unanswered = wanted.unanswered; errors = wanted.errors; slower = wanted.slower }
 
 -- what is done with messages by settings: a command is run, they are counted by their names, or
 -- their calls are listed

@@ -190,6 +190,7 @@ fn calls_wanted(wanted: WantedCalls) -> Wanted
         },
         unanswered: wanted.unanswered,
         errors: wanted.errors,
+        slower: wanted.slower,
     }
 }
 

@@ -4,4 +4,5 @@ pub returns : goal.returns
 returns c =
     let formed = c.with_arg-formed.ensures _ _ c.flag.ensures c.bare-calls.ensures in
     let waiting = c.with_arg-waiting.ensures _ _ c.flag-2.ensures formed in
-    c.with_keep_going.ensures _ (c.with_arg-failing.ensures _ _ c.flag-3.ensures waiting)
+    let failing = c.with_arg-failing.ensures _ _ c.flag-3.ensures waiting in
+    c.with_keep_going.ensures _ (c.with_arg.ensures _ _ c.limit_option-slower.ensures failing)

@@ -1,10 +1,10 @@
-use Rattle.std.proofs.Common.{◌≡◌, List, Ok, Err, rules, inl, inr, refl, subst}
+use Rattle.std.proofs.Common.{◌≡◌, ◌&&◌, Bool, not, List, Ok, Err, rules, inl, inr, refl, subst}
 use Rattle.dbus_call_lines.specs.Keeping.{Keeps}
 use Rattle.dbus_call_lines.specs.Listing.{AreRising, ListsOpen, Numbered}
 use Rattle.dbus_call_lines.specs.declared.call_list.CallList.{CallList}
 use Rattle.dbus_call_lines.specs.declared.wanted.Wanted.{Wanted}
 use Rattle.cli_report.specs.Devices.{writing}
-use Rattle.cli_run.specs.CallListing.{WritesRows}
+use Rattle.cli_run.specs.CallListing.{TellsNote, WritesRows, times_note}
 use Rattle.cli_run.proofs.CallSteps.{gave_up, lists_all}
 use Rattle.cli_run.proofs.call_listing.list_calls.Goals as goal
 
@@ -24,9 +24,11 @@ returns-in-Ok-write_waiting g c =
     (subst (λ (l : CallList). (other : Wanted) (before : List Numbered) → Keeps other before l → AreRising before
     → WritesRows (writing g.W.Sink.held g.W.Sink.failures c.into_inner-writer.result.now c.write_waiting.new.first) other (ListsOpen before) (Ok tt))
     c.into_parts-list.ensures.list c.in-Ok-write_waiting.ensures)) in
-    inl (lists_all g.W.Sink.held g.W.Sink.failures g.E.Sink.held g.E.Sink.failures c.args.wanted _ c.pass_through-ended.new.visitor c.new.ensures c.new-2.ensures
+    let noted = subst (λ (b : Bool). TellsNote (writing g.E.Sink.held g.E.Sink.failures c.second-1.given.0 c.tell_times.new.second) (times_note (b && not c.pass_through-ended.new.visitor.timed)) c.in-Ok.status c.tell_times.result)
+    c.is_some.ensures c.tell_times.ensures in
+    inl (lists_all g.W.Sink.held g.W.Sink.failures g.E.Sink.held g.E.Sink.failures c.args.wanted _ c.pass_through-ended.new.visitor c.new.ensures c.new-2.ensures refl
     g.R.Source.left g.R.Source.calls g.R.Source.failures g.R.Source.packets c.args.settings _ c.args.reader.now c.pass_through-ended.result.1.now source second
-    c.first-1.given.0 _ (Ok tt) c.in-Ok.status c.in-Ok.status (rw c.in-Ok.is at c.pass_through-ended.ensures.settled) waits (refl, refl) passes)
+    c.first-1.given.0 _ (Ok tt) c.in-Ok.status c.tell_times.result (rw c.in-Ok.is at c.pass_through-ended.ensures.settled) waits noted passes)
 
 pub returns-in-Err-write_waiting : goal.returns-in-Err-write_waiting
 returns-in-Err-write_waiting g c =
@@ -43,7 +45,7 @@ returns-in-Err-write_waiting g c =
     (subst (λ (l : CallList). (other : Wanted) (before : List Numbered) → Keeps other before l → AreRising before
     → WritesRows (writing g.W.Sink.held g.W.Sink.failures c.into_inner-writer.result.now c.write_waiting.new.first) other (ListsOpen before) (Err c.in-Err-write_waiting.cause))
     c.into_parts-list.ensures.list c.in-Err-write_waiting.ensures)) in
-    inl (lists_all g.W.Sink.held g.W.Sink.failures g.E.Sink.held g.E.Sink.failures c.args.wanted _ c.pass_through-ended.new.visitor c.new.ensures c.new-2.ensures
+    inl (lists_all g.W.Sink.held g.W.Sink.failures g.E.Sink.held g.E.Sink.failures c.args.wanted _ c.pass_through-ended.new.visitor c.new.ensures c.new-2.ensures refl
     g.R.Source.left g.R.Source.calls g.R.Source.failures g.R.Source.packets c.args.settings _ c.args.reader.now c.pass_through-ended.result.1.now source (search rules)
     c.first-1.given.0 c.give_up.new.second (Err c.in-Err-write_waiting.cause) c.in-Ok.status c.give_up.result (rw c.in-Ok.is at c.pass_through-ended.ensures.settled) waits
     (c.give_up.ensures.told, c.give_up.ensures.failed) passes)
@@ -59,7 +61,7 @@ returns-in-Err g c =
       failed = c.tell_stop.ensures.failed;
       stop = c.in-Err.stop;
       before = c.second-1.given.0;
-      within = gave_up g.W.Sink.held g.W.Sink.failures g.E.Sink.held g.E.Sink.failures c.args.wanted _ c.pass_through-ended.new.visitor c.new.ensures c.new-2.ensures
+      within = gave_up g.W.Sink.held g.W.Sink.failures g.E.Sink.held g.E.Sink.failures c.args.wanted _ c.pass_through-ended.new.visitor c.new.ensures c.new-2.ensures refl
           g.R.Source.left g.R.Source.calls g.R.Source.failures g.R.Source.packets c.args.settings _ c.args.reader.now c.pass_through-ended.result.1.now source second (search rules) passes;
       tells = c.tell_stop.ensures.tells;
     })
