@@ -1,5 +1,5 @@
 -- How `check` ends if it counts the messages, and writes one line.
-use Rattle.std.proofs.Common.{◌≡◌, ℕ, true, List, [], ◌∷◌, ◌++◌, Option, Ok, Err, take, drop, refl, sym, ap, subst, take-append-drop, inl, inr}
+use Rattle.std.proofs.Common.{◌≡◌, ℕ, true, false, List, [], ◌∷◌, ◌++◌, Option, Ok, Err, take, drop, refl, sym, ap, subst, take-append-drop, inl, inr}
 use Rattle.std.specs.FinSet.{empty}
 use Rattle.dbus_device.specs.Device.{Wrote, Stopped}
 use Rattle.cli_options.specs.declared.command.Command.TheVariants.{Check}
@@ -30,7 +30,7 @@ no_output [] = refl
 no_output (m ∷ items) = ([], [], refl, inr (λ never. never, refl), no_output items)
 
 abbrev tally_of : Counted → Tally
-tally_of counted = record { count = counted.count; size = counted.size; passed = 0; passed_size = 0 }
+tally_of counted = record { count = counted.count; size = counted.size; passed = 0; passed_size = 0; is_cut = false }
 
 module _ {R W E : Type 0} (r : Reading R) (w : Writing W) (e : Writing E) (settings : Settings) (most : ℕ) where
   abbrev Ends : ExitStatus → Type 0
@@ -102,7 +102,7 @@ module _ {R W E : Type 0} (r : Reading R) (w : Writing W) (e : Writing E) (setti
         stops (ByCause Memory) end failed told (within (ByCause Memory) [] (inl refl) t.read_failed (told_nothing w.held w.failures true w.old w.new same) (wrote_nothing e.held e.failures e.old))
     line_not WriteFailed (n, half) end failed told =
         let s = subst (λ (l : List ℕ). Stopped w.held w.failures w.old l n w.new) (sym (line_is (tally_of counted) counted.fault packet)) half in
-        let due = inr (t.last, ap (λ (x : Tally). text ++ closing_line true x x.passed counted.fault) t.tally_is) in
+        let due = inr (t.cut, t.last, ap (λ (x : Tally). text ++ closing_line true x x.passed counted.fault) t.tally_is) in
         stops Untold end failed told (within Untold all (t.kept, counted.fault, text, t.tells, due) t.read_failed
         (record { written = take n all; appended = s.appended; front = (drop n all, sym (take-append-drop n all)); failed = s.failed }) (wrote_nothing e.held e.failures e.old))
     line_not cause never end failed told = absurd never

@@ -136,6 +136,7 @@ module _ {R : Type 0} (left : R → Option (List ℕ)) (calls failures : R → �
         parts = wholes a.items;
         rest = a.rest;
         covers = covers a.items a.rest a.read;
+        cut = false;
         tally_is = wholes_tally [] a.items counted.count counted.size _ refl (omega (arith, a.count_is)) (omega (arith, size));
         kept = a.rest;
         tells = record {

@@ -21,7 +21,8 @@ use Rattle.dbus_stream.specs.RawReading.{done_of, is_ended, kept, limits_of, mos
 use Rattle.dbus_stream.specs.declared.raw_reader.RawReader.{RawReader}
 use Rattle.dbus_stream.specs.declared.read_fault.ReadFault.{ReadFault}
 use Rattle.dbus_stream.specs.declared.read_fault.ReadFault.TheVariants as read
-use Rattle.cli_run.specs.Going.{Closes, IsAllOf, PassesAll, cause_of, AreTold, HasLastLine, IsTold, IsToldRefused, closing_line, passed_count, passed_sizes}
+use Rattle.dbus_stream.proofs.FaultPackets.{refused_later}
+use Rattle.cli_run.specs.Going.{Closes, IsAllOf, PassesAll, cause_of, AreTold, HasLastLine, IsTold, IsToldRefused, closing_line, cut_tally, passed_count, passed_sizes, tally_with}
 use Rattle.cli_run.specs.Inputs.{BeginWithParts, IsCutOff, IsLast, IsTellable, PassedOver, Placed, sizes_of}
 use Rattle.cli_run.specs.Onward.{HasRead, stop_of}
 use Rattle.cli_run.specs.Refusals.{IsRefusedIn, number_of}
@@ -56,10 +57,11 @@ module _ {R A S : Type 0} {takes : S → S → List Placed → (told : List ℕ)
           parts = g.parts;
           rest = kept mid;
           covers = covers run mid g.parts (kept mid) g.told g.covered;
+          cut = false;
           tally_is = g.tally_is;
           kept = kept mid;
           tells = record { outcome = h.outcome; outcome_is = h.outcome_is; fault_is = no_fault; told = refl };
-          last = subst (λ o. IsLast run.settings.keeps_going run.settings.limits (kept mid) (kept mid) o (IsAtEnd (run.left (source_of mid)))) (sym ended) (refl, at_end);
+          last = subst (λ o. IsLast false run.settings.keeps_going run.settings.limits (kept mid) (kept mid) o (IsAtEnd (run.left (source_of mid)))) (sym ended) (refl, at_end);
           read_failed = g.failed;
         };
         messages = items;
@@ -91,14 +93,15 @@ module _ {R A S : Type 0} {takes : S → S → List Placed → (told : List ℕ)
     stopped_last = h.stopped ∙ ap stop_of faulty
 
     -- all was read up to the rest
-    abbrev through : (new : RawReader R A) (text rest : List ℕ) (outcome : CutOutcome) → Due text → IsOutcome run.settings.limits (kept mid) outcome → Some fault ≡ fault_at_end (kept mid) outcome
-        → HasCovered run new h.gone.parts rest h.gone.told → IsLast run.settings.keeps_going run.settings.limits (kept mid) rest outcome (IsAtEnd (run.left (source_of new)))
-        → run.failures (source_of new) ≡ run.failures (source_of mid) → Through run new tally (Some fault) h.gone.told text
-    through new text rest outcome told outcome_is fault_is covered last same = record {
+    abbrev through : (new : RawReader R A) (cut : Bool) (ended : Tally) (text rest : List ℕ) (outcome : CutOutcome) → ended ≡ tally_with cut h.gone.parts rest → Due text → IsOutcome run.settings.limits (kept mid) outcome
+        → Some fault ≡ fault_at_end (kept mid) outcome → HasCovered run new h.gone.parts rest h.gone.told → IsLast cut run.settings.keeps_going run.settings.limits (kept mid) rest outcome (IsAtEnd (run.left (source_of new)))
+        → run.failures (source_of new) ≡ run.failures (source_of mid) → Through run new ended (Some fault) h.gone.told text
+    through new cut ended text rest outcome tally_is told outcome_is fault_is covered last same = record {
       parts = h.gone.parts;
       rest = rest;
       covers = covers run new h.gone.parts rest h.gone.told covered;
-      tally_is = h.gone.tally_is;
+      cut = cut;
+      tally_is = tally_is;
       kept = kept mid;
       tells = record { outcome = outcome; outcome_is = outcome_is; fault_is = fault_is; told = told_at (length h.gone.parts + 1) text refl told };
       last = last;
@@ -108,10 +111,9 @@ module _ {R A S : Type 0} {takes : S → S → List Placed → (told : List ℕ)
     -- why nothing follows if nothing was passed over
     last_is : (outcome : CutOutcome) → Some fault ≡ fault_at_end (kept mid) outcome → (((f : Fault) → outcome ≡ Refused f → ⊥) → IsAtEnd (run.left (source_of mid)))
         → (run.settings.keeps_going ≡ true → (other : Fault) (n : ℕ) → IsRefusal (stopped_of mid) other → StatesAll (limits_of mid) (kept mid) n → ⊥)
-        → IsLast run.settings.keeps_going run.settings.limits (kept mid) (kept mid) outcome (IsAtEnd (run.left (source_of mid)))
+        → IsLast false run.settings.keeps_going run.settings.limits (kept mid) (kept mid) outcome (IsAtEnd (run.left (source_of mid)))
     last_is (Refused other) e at_end none =
-        let same : fault ≡ other = cc in
-        inl (
+        let same : fault ≡ other = cc in (
           refl,
           λ goes whole n all. none goes other n (stopped_last ∙ ap (λ (f : Fault). Some (read.Format f)) same, whole)
               (subst (λ (l : Limits). StatesAll l (kept mid) n) (sym h.gone.covered.limits_are) all),
@@ -122,7 +124,7 @@ module _ {R A S : Type 0} {takes : S → S → List Placed → (told : List ℕ)
     abbrev through_there : (text : List ℕ) → Due text → (run.settings.keeps_going ≡ true → (other : Fault) (n : ℕ) → IsRefusal (stopped_of mid) other → StatesAll (limits_of mid) (kept mid) n → ⊥)
         → Through run mid tally (Some fault) h.gone.told text
     through_there text told none =
-        through mid text (kept mid) h.outcome told h.outcome_is fault_last h.gone.covered (last_is h.outcome fault_last (λ not. h.gone.covered.at_end (h.ended not)) none) refl
+        through mid false tally text (kept mid) h.outcome h.gone.tally_is told h.outcome_is fault_last h.gone.covered (last_is h.outcome fault_last (λ not. h.gone.covered.at_end (h.ended not)) none) refl
 
     -- the fault shows
     tellable : (outcome : CutOutcome) → Some fault ≡ fault_at_end (kept mid) outcome → (((f : Fault) → outcome ≡ Refused f → ⊥) → IsAtEnd (run.left (source_of mid)))
@@ -201,31 +203,47 @@ module _ {R A S : Type 0} {takes : S → S → List Placed → (told : List ℕ)
         cut_off : (n : ℕ) (bytes : List ℕ) → StatesLength (limits_of mid) (kept mid) n → FallsShort n (kept mid ++ bytes) mid new → IsCutOff run.settings.limits (kept mid) (kept mid ++ bytes)
         cut_off n bytes s f = record { size = n; front = (bytes, refl); states = states n s; short = f.short }
 
+        -- what is refused has bytes
+        some_kept : IsRefused run.settings.limits (kept mid) fault → 0 < length (kept mid)
+        some_kept refused = refused_later run.settings.limits 0 (kept mid) fault (nothing_partial run.settings.limits) refused
+
         -- the input ends within it
-        ends_short : (goes : run.settings.keeps_going ≡ true) (n : ℕ) (r : ReadsUpTo n run.left run.calls mid new) (other : Fault) → IsRefusal (stopped_of mid) other → StatesLength (limits_of mid) (kept mid) n
-            → FallsShort n (kept mid ++ r.bytes) mid new → is_ended new ≡ true → run.failures (source_of new) ≡ run.failures (source_of mid) → HasEnded run takes new tally (Some fault) s2
-        ends_short goes n r other refusal s short ended same =
+        ends_short : (ended_by : Tally) (end : ℕ) → end ≡ done_of new → (tally.size < end → ended_by ≡ cut_tally tally (end - tally.size)) → (goes : run.settings.keeps_going ≡ true) (n : ℕ) (r : ReadsUpTo n run.left run.calls mid new)
+            (other : Fault) → IsRefusal (stopped_of mid) other → StatesLength (limits_of mid) (kept mid) n → FallsShort n (kept mid ++ r.bytes) mid new → is_ended new ≡ true
+            → run.failures (source_of new) ≡ run.failures (source_of mid) → HasEnded run takes new ended_by (Some fault) s2
+        ends_short ended_by end there cut goes n r other refusal s short ended same =
             let covered = short_covered n r in
+            let size = ap (λ (t : Tally). t.size) h.gone.tally_is in
+            let all = length-append (kept mid) r.bytes in
+            let some = some_kept (met other refusal) in
+            let more : tally.size < end = omega (arith, there, short.done, h.gone.done, size, all, some) in
+            let count : end - tally.size ≡ length (kept mid ++ r.bytes) = omega (arith, there, short.done, h.gone.done, size) in
             record {
               told = h.gone.told;
               text = text;
-              through = through new text (kept mid ++ r.bytes) (Refused fault) told (met other refusal) refl covered (inr (cut_off n r.bytes s short, covered.at_end ended, goes)) same;
+              through = through new true ended_by text (kept mid ++ r.bytes) (Refused fault) (cut more ∙ (λ i. cut_tally (h.gone.tally_is i) (count i))) told (met other refusal) refl covered
+                  (cut_off n r.bytes s short, covered.at_end ended, goes) same;
               messages = items;
               placed = h.gone.placed;
               came = came_told;
             }
 
-        pub stays : run.settings.keeps_going ≡ true → Passing run.left run.calls mid new (Ok false) → run.failures (source_of new) ≡ run.failures (source_of mid) → HasEnded run takes new tally (Some fault) s2
-        stays goes passing same = elim passing [
-          | inl p ↦ ends_short goes p.1 p.4 p.0 p.2 (stated p.0 p.1 p.2 p.3) p.5.0 p.5.1 same
-          | inr none ↦ subst (λ (x : RawReader R A). HasEnded run takes x tally (Some fault) s2) (sym none.2) (record {
-            told = h.gone.told;
-            text = text;
-            through = through_there text told (λ goes other n refusal all. none.0 other n refusal (inl all));
-            messages = items;
-            placed = h.gone.placed;
-            came = came_told;
-          })
+        pub stays : (ended_by : Tally) (end : ℕ) → end ≡ done_of new → (end ≡ tally.size → ended_by ≡ tally) → (tally.size < end → ended_by ≡ cut_tally tally (end - tally.size)) → run.settings.keeps_going ≡ true
+            → Passing run.left run.calls mid new (Ok false) → run.failures (source_of new) ≡ run.failures (source_of mid) → HasEnded run takes new ended_by (Some fault) s2
+        stays ended_by end there stay cut goes passing same = elim passing [
+          | inl p ↦ ends_short ended_by end there cut goes p.1 p.4 p.0 p.2 (stated p.0 p.1 p.2 p.3) p.5.0 p.5.1 same
+          | inr none ↦ (
+              let size = ap (λ (t : Tally). t.size) h.gone.tally_is in
+              let done : end ≡ tally.size = there ∙ (ap done_of none.2 ∙ (h.gone.done ∙ sym size)) in
+              transport (λ i. HasEnded run takes (sym none.2 i) (sym (stay done) i) (Some fault) s2) (record {
+                told = h.gone.told;
+                text = text;
+                through = through_there text told (λ goes other n refusal all. none.0 other n refusal (inl all));
+                messages = items;
+                placed = h.gone.placed;
+                came = came_told;
+              })
+              )
         ]
 
         module _ (rests : settled s2) where
@@ -263,7 +281,7 @@ module _ {R A S : Type 0} {takes : S → S → List Placed → (told : List ℕ)
           breaks goes broken passing counts = elim passing [ inl p ↦ absurd p.5 | inr none ↦ absurd (let e = none.1 in cc) ]
 
         -- the message was passed over
-        over : (past : Tally) (end : ℕ) → end ≡ done_of new → past ≡ record { count = tally.count + 1; size = end; passed = tally.passed + 1; passed_size = tally.passed_size + (end - tally.size) }
+        over : (past : Tally) (end : ℕ) → end ≡ done_of new → past ≡ record { count = tally.count + 1; size = end; passed = tally.passed + 1; passed_size = tally.passed_size + (end - tally.size); is_cut = tally.is_cut }
             → run.settings.keeps_going ≡ true → (n : ℕ) (r : ReadsUpTo n run.left run.calls mid new) (other : Fault) → IsRefusal (stopped_of mid) other → StatesLength (limits_of mid) (kept mid) n
             → PassesOver n (kept mid ++ r.bytes) mid new → run.failures (source_of new) ≡ run.failures (source_of mid) → HasGone run takes new past s2
         over past end there past_is goes n r other refusal s p same =
@@ -285,7 +303,7 @@ module _ {R A S : Type 0} {takes : S → S → List Placed → (told : List ℕ)
               parts = parts ++ part ∷ [];
               told = h.gone.told ++ text;
               covered = covers_read run mid new parts (part ∷ []) (kept mid) (kept new) h.gone.told text (kept mid ++ r.bytes) [] h.gone.covered read begin told_is;
-              tally_is = past_is ∙ (λ i. record { count = count_is i; size = (there ∙ size_is) i; passed = passed_is i; passed_size = passed_size_is i });
+              tally_is = past_is ∙ (λ i. record { count = count_is i; size = (there ∙ size_is) i; passed = passed_is i; passed_size = passed_size_is i; is_cut = (is i).is_cut });
               done = size_is;
               failed = same ∙ h.gone.failed;
               messages = items;
@@ -293,7 +311,7 @@ module _ {R A S : Type 0} {takes : S → S → List Placed → (told : List ℕ)
               came = came_told;
             }
 
-        pub goes_on : (past : Tally) (end : ℕ) → end ≡ done_of new → past ≡ record { count = tally.count + 1; size = end; passed = tally.passed + 1; passed_size = tally.passed_size + (end - tally.size) }
+        pub goes_on : (past : Tally) (end : ℕ) → end ≡ done_of new → past ≡ record { count = tally.count + 1; size = end; passed = tally.passed + 1; passed_size = tally.passed_size + (end - tally.size); is_cut = tally.is_cut }
             → run.settings.keeps_going ≡ true → Passing run.left run.calls mid new (Ok true) → run.failures (source_of new) ≡ run.failures (source_of mid) → HasGone run takes new past s2
         goes_on past end there past_is goes answer same = elim answer [
           | inl p ↦ over past end there past_is goes p.1 p.4 p.0 p.2 (stated p.0 p.1 p.2 p.3) p.5 same
@@ -332,7 +350,7 @@ module _ {R A S : Type 0} {takes : S → S → List Placed → (told : List ℕ)
           told = h.told;
           covers = h.through.covers;
           more = h.text;
-          all = inr (h.through.kept, fault, h.through.tells, h.through.last, subst (λ (n : ℕ). HasLastLine run.is_check n fault) passed c.1);
+          all = inr (h.through.kept, fault, h.through.tells, h.through.cut, h.through.last, subst (λ (n : ℕ). HasLastLine run.is_check n fault) passed c.1);
           caused = h.through.read_failed;
           messages = all;
           placed = h.placed;
@@ -347,7 +365,7 @@ module _ {R A S : Type 0} {takes : S → S → List Placed → (told : List ℕ)
           told = h.told;
           covers = h.through.covers;
           more = h.text ++ line;
-          all = (h.through.kept, fault, h.text, h.through.tells, inr (h.through.last, ap (λ (x : Tally). h.text ++ closing_line run.is_check x x.passed fault) h.through.tally_is));
+          all = (h.through.kept, fault, h.text, h.through.tells, inr (h.through.cut, h.through.last, ap (λ (x : Tally). h.text ++ closing_line run.is_check x x.passed fault) h.through.tally_is));
           caused = h.through.read_failed;
           messages = all;
           placed = h.placed;

@@ -60,6 +60,13 @@ grows left calls mid new passing = elim passing [
   | inr none ↦ absurd (let e = none.1 in cc)
 ]
 
+-- the input ended within it, or nothing was done
+pub not_less : {R A : Type 0} (left : R → Option (List ℕ)) (calls : R → ℕ) (mid new : RawReader R A) → Passing left calls mid new (Ok false) → done_of mid ≤ done_of new
+not_less left calls mid new passing = elim passing [
+  | inl p ↦ omega (arith, p.5.0.done)
+  | inr none ↦ (let same = ap done_of none.2 in omega (arith, same))
+]
+
 pub done_small : {R A : Type 0} (r : RawReader R A) → done_of r ≤ 2 ^ 50
 done_small r = omega (arith, r.reader.counted, r.reader.few_reads, r.reader.low_most)
 
@@ -82,7 +89,8 @@ wholes_tally parts items count size tally is number bytes =
     = omega (arith, ap (λ (t : Tally). t.passed) is, passed-both parts (wholes items), passed-wholes items) in
     let passed_size_is : tally.passed_size ≡ passed_sizes (parts ++ wholes items)
     = omega (arith, ap (λ (t : Tally). t.passed_size) is, passed_sizes-both parts (wholes items), passed_sizes-wholes items) in
-    λ i. record { count = count_is i; size = size_is i; passed = passed_is i; passed_size = passed_size_is i }
+    let cut_is : tally.is_cut ≡ false = ap (λ (t : Tally). t.is_cut) is in
+    λ i. record { count = count_is i; size = size_is i; passed = passed_is i; passed_size = passed_size_is i; is_cut = cut_is i }
 
 -- what a run begins with: the source, and where it and the visitor stand
 pub record Begun (R A S : Type 0) : Type 0 where
@@ -170,7 +178,7 @@ module _ {R A S : Type 0} (run : Begun R A S) where
       pub came : takes run.s0 s messages told
 
     pub gone_none : ((a : S) → takes a a [] []) → IsNewReader (source_of run.old) (most_reads_of run.old) run.settings.limits run.old
-        → HasGone run.old (record { count = 0; size = 0; passed = 0; passed_size = 0 }) run.s0
+        → HasGone run.old (record { count = 0; size = 0; passed = 0; passed_size = 0; is_cut = false }) run.s0
     gone_none nothing new_reader = record {
       parts = [];
       told = [];

@@ -64,8 +64,8 @@ module _ (limits : Limits) where
 
 -- the rest ends a run that is not to go on
 pub is_last : (goes : Bool) (limits : Limits) (rest : List ℕ) (outcome : CutOutcome) (at_end : Type 0) → goes ≡ false → (((f : Fault) → outcome ≡ Refused f → ⊥) → at_end)
-    → IsLast goes limits rest rest outcome at_end
-is_last goes limits rest (Refused fault) at_end halts all = inl (refl, λ on. absurd (false≢true (sym halts ∙ on)))
+    → IsLast false goes limits rest rest outcome at_end
+is_last goes limits rest (Refused fault) at_end halts all = (refl, λ on. absurd (false≢true (sym halts ∙ on)))
 is_last goes limits rest outcome at_end halts all = (refl, all (λ f e. absurd (let both = e in cc)))
 
 -- ---- counts

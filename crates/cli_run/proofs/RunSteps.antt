@@ -21,7 +21,7 @@ use Rattle.cli_options.specs.declared.command.Command.TheVariants.{Check}
 use Rattle.cli_options.specs.declared.settings.Settings.{Settings}
 use Rattle.cli_run.specs.Running.{Answers, CountsWrite, Fails, TellsLine, WritesBefore, WritesMessages, Runs, RunsWith, Writes, WritesSome}
 use Rattle.cli_report.specs.Devices.{Reading, Writing, taken, writing}
-use Rattle.cli_run.specs.Going.{GoesThrough, IsAllOf, IsThrough, StopsWithin, AreTold, IsToldLast, closing_line, passed_count, status_at, tally_of}
+use Rattle.cli_run.specs.Going.{GoesThrough, IsAllOf, IsThrough, StopsWithin, AreTold, IsToldLast, closing_line, passed_count, status_at, tally_of, tally_with}
 use Rattle.cli_report.specs.Gathering.{Breaks, IsPrefixTo}
 use Rattle.cli_report.specs.Telling.{cause_line, Told}
 use Rattle.cli_run.specs.Inputs.{ArePlaced, BeginWithParts, IsLast, IsTellable, Part, PassedOver, Placed, Whole, sizes_of, wholes}
@@ -97,17 +97,16 @@ no_closing is_check tally None other none = λ i. closing_line (other i) tally (
 no_closing is_check tally (Some fault) other none = λ i. closing_line (other i) tally (none i) (Some fault)
 
 -- all that was kept is the rest
-rest_is : (limits : Limits) (kept rest : List ℕ) (outcome : CutOutcome) (at_end : Type 0) → IsLast false limits kept rest outcome at_end
-    → (rest ≡ kept) × (((f : Fault) → outcome ≡ Refused f → ⊥) → at_end)
-rest_is limits kept rest (Refused fault) at_end last = elim last [
-  | inl all ↦ (all.0, λ none. absurd (none fault refl))
-  | inr short ↦ absurd (false≢true short.2)
-]
-rest_is limits kept rest outcome at_end last = (last.0, λ _. last.1)
+rest_is : (cut : Bool) (limits : Limits) (kept rest : List ℕ) (outcome : CutOutcome) (at_end : Type 0) → IsLast cut false limits kept rest outcome at_end
+    → (rest ≡ kept) × (((f : Fault) → outcome ≡ Refused f → ⊥) → at_end) × (cut ≡ false)
+rest_is false limits kept rest (Refused fault) at_end last = (last.0, λ none. absurd (none fault refl), refl)
+rest_is false limits kept rest outcome at_end last = (last.0, λ _. last.1, refl)
+rest_is true limits kept rest (Refused fault) at_end last = absurd (false≢true last.2)
+rest_is true limits kept rest outcome at_end last = absurd last
 
 -- what shows of a fault ends a run that is not to go on
-last_shown : (limits : Limits) (kept rest : List ℕ) (outcome : CutOutcome) (at_end : Type 0) → IsTellable kept rest outcome at_end → IsLast false limits kept rest outcome at_end
-last_shown limits kept rest (Refused fault) at_end shown = inl (shown, λ goes. absurd (false≢true goes))
+last_shown : (limits : Limits) (kept rest : List ℕ) (outcome : CutOutcome) (at_end : Type 0) → IsTellable kept rest outcome at_end → IsLast false false limits kept rest outcome at_end
+last_shown limits kept rest (Refused fault) at_end shown = (shown, λ goes. absurd (false≢true goes))
 last_shown limits kept rest outcome at_end shown = shown
 
 -- the line of the fault is told, with its packet
@@ -154,29 +153,33 @@ module _ {R W E : Type 0} (r : Reading R) (w : Writing W) (e : Writing E) (asked
     abbrev line_of : List ℕ
     line_of = second_output command (sizes messages.items) last_fault last_packet
 
-    rest_kept : (h.rest ≡ h.kept) × (((f : Fault) → h.tells.outcome ≡ Refused f → ⊥) → IsAtEnd (r.left r.new))
-    rest_kept = rest_is limits h.kept h.rest h.tells.outcome (IsAtEnd (r.left r.new)) h.last
+    rest_kept : (h.rest ≡ h.kept) × (((f : Fault) → h.tells.outcome ≡ Refused f → ⊥) → IsAtEnd (r.left r.new)) × (h.cut ≡ false)
+    rest_kept = rest_is h.cut limits h.kept h.rest h.tells.outcome (IsAtEnd (r.left r.new)) h.last
+
+    -- no message is passed over
+    tally_is : tally ≡ tally_of h.parts
+    tally_is = h.tally_is ∙ ap (λ (b : Bool). tally_with b h.parts h.rest) rest_kept.2
 
     fault_is : fault ≡ last_fault
     fault_is = h.tells.fault_is ∙ ap (λ (l : List ℕ). fault_at_end l h.tells.outcome) (sym rest_kept.0)
 
     passed_is : tally.passed ≡ 0
-    passed_is = ap (λ (t : Tally). t.passed) h.tally_is ∙ messages.none_passed
+    passed_is = ap (λ (t : Tally). t.passed) tally_is ∙ messages.none_passed
 
     count_is : tally.count ≡ length messages.items
-    count_is = ap (λ (t : Tally). t.count) h.tally_is ∙ (ap (λ l. length l) messages.parts_are ∙ length-map messages.items Whole)
+    count_is = ap (λ (t : Tally). t.count) tally_is ∙ (ap (λ l. length l) messages.parts_are ∙ length-map messages.items Whole)
 
     size_is : tally.size ≡ sizes messages.items
-    size_is = ap (λ (t : Tally). t.size) h.tally_is ∙ (ap sizes_of messages.parts_are ∙ sizes-wholes messages.items)
+    size_is = ap (λ (t : Tally). t.size) tally_is ∙ (ap sizes_of messages.parts_are ∙ sizes-wholes messages.items)
 
     packet_is : IsFaultIn packets limits (sizes messages.items) h.rest last_fault last_packet
     packet_is =
-        let place : sizes_of h.parts ≡ sizes messages.items = ap (λ (t : Tally). t.size) (sym h.tally_is) ∙ size_is in
+        let place : sizes_of h.parts ≡ sizes messages.items = ap (λ (t : Tally). t.size) (sym tally_is) ∙ size_is in
         transport (λ i. IsFaultIn packets limits (place i) (sym rest_kept.0 i) (fault_is i) last_packet) fault_told.1
 
     all_due : (told ++ text) ++ closing ≡ fault_line tally.size fault last_packet ++ closing_line (is_check command) tally 0 fault
     all_due =
-        let line = fault_told.2 ∙ ap (λ (t : Tally). fault_line t.size fault last_packet) (sym h.tally_is) in
+        let line = fault_told.2 ∙ ap (λ (t : Tally). fault_line t.size fault last_packet) (sym tally_is) in
         λ i. (messages.none_told i ++ line i) ++ closing_line (is_check command) tally (passed_is i) fault
 
     second_is : second_of (is_check command) ((told ++ text) ++ closing) ≡ line_of
@@ -254,7 +257,11 @@ module _ {R W E : Type 0} (r : Reading R) (w : Writing W) (e : Writing E) (asked
     none_more : (cause : Cause) (s : Within (ByCause cause)) → s.more ≡ []
     none_more Memory s = elim s.all [
       | inl none ↦ none
-      | inr lacks ↦ none_last (plain asked) packets (length s.parts + 1) (sizes_of s.parts) lacks.0 lacks.1 s.more (lacks.4 (messages_of (ByCause Memory) s).none_passed).0 lacks.2.told
+      | inr lacks ↦ (
+          let uncut = (rest_is lacks.3 limits lacks.0 s.rest lacks.2.outcome _ lacks.4).2 in
+          let none = ap (λ (b : Bool). (tally_with b s.parts s.rest).passed) uncut ∙ (messages_of (ByCause Memory) s).none_passed in
+          none_last (plain asked) packets (length s.parts + 1) (sizes_of s.parts) lacks.0 lacks.1 s.more (lacks.5 none).0 lacks.2.told
+          )
     ]
     none_more WriteFailed s = s.all
     none_more cause s = elim s.all [ inl none ↦ none.1 | inr cut ↦ absurd (false≢true cut.4) ]
@@ -328,12 +335,23 @@ module _ {R W E : Type 0} (r : Reading R) (w : Writing W) (e : Writing E) (asked
       parts = s.parts;
       rest = s.rest;
       covers = s.covers;
+      cut = false;
       tally_is = refl;
       kept = s.all.0;
       tells = s.all.3;
-      last = elim s.all.4 [ inl shown ↦ last_shown limits s.all.0 s.rest s.all.3.outcome _ shown.0 | inr last ↦ last.0 ];
+      last = elim s.all.4 [
+        | inl shown ↦ last_shown limits s.all.0 s.rest s.all.3.outcome _ shown.0
+        | inr last ↦ subst (λ (b : Bool). IsLast b false limits s.all.0 s.rest s.all.3.outcome _) (rest_is last.0 limits s.all.0 s.rest s.all.3.outcome _ last.1).2 last.1
+      ];
       read_failed = s.caused;
     }
+
+    -- and the last line after it, if it was reached
+    last_due : (s : Within Untold) (cut : Bool) → IsLast cut false limits s.all.0 s.rest s.all.3.outcome (IsAtEnd (r.left r.new))
+        → s.more ≡ s.all.2 ++ closing_line (is_check command) (tally_with cut s.parts s.rest) (tally_with cut s.parts s.rest).passed s.all.1
+        → s.more ≡ s.all.2 ++ closing_line (is_check command) (tally_of s.parts) (passed_count s.parts) s.all.1
+    last_due s cut last more =
+        more ∙ ap (λ (b : Bool). s.all.2 ++ closing_line (is_check command) (tally_with b s.parts s.rest) (tally_with b s.parts s.rest).passed s.all.1) (rest_is cut limits s.all.0 s.rest s.all.3.outcome _ last).2
 
     untold : (b : Bool) → is_check command ≡ b → (end : ExitStatus) → (s : Within Untold) → end ≡ status.Failed → GotFirst w.held w.failures b Untold (first_of b (written (plain asked).window s.came.texts) (s.told ++ s.more)) w.old w.new
         → GotSecond e.held e.failures b Untold (second_of b (s.told ++ s.more)) e.old before → TellsStop e.held e.failures b Untold before e.new → Runs r w e limits most command end
@@ -344,14 +362,14 @@ module _ {R W E : Type 0} (r : Reading R) (w : Writing W) (e : Writing E) (asked
         let out = sym (ap (λ b. first_of b (written (plain asked).window s.came.texts) ((s.told ++ s.all.2) ++ last)) is) ∙ first_is h s.messages s.placed s.came.texts s.came.made in
         let prefix : IsPrefixTo (s.told ++ s.more) (concat s.came.texts ++ last_of h) = elim s.all.4 [
           | inl shown ↦ (last, sym out ∙ ap (λ l. (s.told ++ l) ++ last) (sym shown.1))
-          | inr all ↦ ([], sym out ∙ (append_assoc s.told s.all.2 last ∙ (ap (λ l. s.told ++ l) (sym all.1) ∙ sym (append-nil (s.told ++ s.more)))))
+          | inr all ↦ ([], sym out ∙ (append_assoc s.told s.all.2 last ∙ (ap (λ l. s.told ++ l) (sym (last_due s all.0 all.1 all.2)) ∙ sym (append-nil (s.told ++ s.more)))))
         ] in
         inr (record { failed = failed; cause = WriteFailed; fails = broken h s.messages s.placed s.came.texts s.came.made (s.told ++ s.more) first prefix; told = told_after WriteFailed second tells })
     untold false is end s failed first second tells =
         let h = through s in
         let last = closing h in
         let none : last ≡ [] = no_closing (is_check command) (tally_of s.parts) s.all.1 is (passed_is h) in
-        let more : s.more ≡ s.all.2 ++ last = elim s.all.4 [ inl shown ↦ shown.1 ∙ sym (ap (λ l. s.all.2 ++ l) none ∙ append-nil s.all.2) | inr all ↦ all.1 ] in
+        let more : s.more ≡ s.all.2 ++ last = elim s.all.4 [ inl shown ↦ shown.1 ∙ sym (ap (λ l. s.all.2 ++ l) none ∙ append-nil s.all.2) | inr all ↦ last_due s all.0 all.1 all.2 ] in
         let line : s.told ++ s.more ≡ line_of h
         = ap (λ l. s.told ++ l) more ∙ (sym (append_assoc s.told s.all.2 last) ∙ (sym (ap (λ b. second_of b ((s.told ++ s.all.2) ++ last)) is) ∙ second_is h)) in
         let out = sym (ap (λ b. first_of b (written (plain asked).window s.came.texts) ((s.told ++ s.all.2) ++ last)) is) ∙ first_is h s.messages s.placed s.came.texts s.came.made in

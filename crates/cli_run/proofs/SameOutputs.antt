@@ -69,9 +69,9 @@ same_counts packets others n offset (PassedOver kept fault size ∷ parts) a b n
 
 pub bare_tally : (parts : List Part) → tally_of parts ≡ tally_of (bare parts)
 bare_tally [] = refl
-bare_tally (Whole item ∷ parts) = λ i. let t = bare_tally parts i in record { count = suc t.count; size = item.size + t.size; passed = t.passed; passed_size = t.passed_size }
+bare_tally (Whole item ∷ parts) = λ i. let t = bare_tally parts i in record { count = suc t.count; size = item.size + t.size; passed = t.passed; passed_size = t.passed_size; is_cut = t.is_cut }
 bare_tally (PassedOver kept fault size ∷ parts) =
-    λ i. let t = bare_tally parts i in record { count = suc t.count; size = size + t.size; passed = t.passed + 1; passed_size = t.passed_size + size }
+    λ i. let t = bare_tally parts i in record { count = suc t.count; size = size + t.size; passed = t.passed + 1; passed_size = t.passed_size + size; is_cut = t.is_cut }
 
 -- ---- what is told
 

@@ -1,7 +1,7 @@
 -- An input has one list of parts, and one rest after them that ends a run; but what was kept of a
 -- part that is passed over is as much as happened to be read.
-use Rattle.std.proofs.Common.{◌≡◌, ℕ, ◌-◌, ◌<◌, ◌≤◌, Bool, true, List, [], ◌∷◌, ◌++◌, Option, Some, length, drop, take, refl, sym, ap, ◌∙◌, subst, arith, append-nil, append_assoc, inl, inr, take-append-drop}
-use Rattle.std.proofs.lemmas.Bool.{cases_lt}
+use Rattle.std.proofs.Common.{◌≡◌, ℕ, ◌-◌, ◌<◌, ◌≤◌, Bool, true, false, List, [], ◌∷◌, ◌++◌, Option, Some, length, drop, take, refl, sym, ap, ◌∙◌, subst, arith, append-nil, append_assoc, inl, inr, take-append-drop}
+use Rattle.std.proofs.lemmas.Bool.{cases_lt, false≢true}
 use Rattle.std.proofs.lemmas.List.{length-take, length-take-le, take_all, take_at, take-append-le, take-take}
 use Rattle.dbus_device.specs.Packets.{Packets}
 use Rattle.dbus_device.specs.declared.packet.Packet.{Packet}
@@ -109,8 +109,11 @@ ArePassed goes_on (PassedOver kept fault n ∷ parts) = (goes_on ≡ true) × Ar
 
 module _ (limits : Limits) where
   -- these bytes, which are all that is left of the input, end a run
-  pub record EndsHere (goes_on : Bool) (w : List ℕ) (outcome : CutOutcome) : Type 0 where
+  pub record EndsHere (cut goes_on : Bool) (w : List ℕ) (outcome : CutOutcome) : Type 0 where
     pub outcome_is : IsOutcome limits w outcome
+    -- the input ends within a message that is passed over, or there is none
+    pub cut_off : cut ≡ true → (fault : Fault) × (n : ℕ) × IsRefused limits w fault × (goes_on ≡ true) × StatesLength limits w n
+    pub uncut : cut ≡ false → (fault : Fault) (n : ℕ) → IsRefused limits w fault → goes_on ≡ true → StatesLength limits w n → ⊥
     pub none_passed : (fault : Fault) (n : ℕ) → IsRefused limits w fault → goes_on ≡ true → StatesLength limits w n → n ≤ length w → ⊥
 
   refused_from : (kept w : List ℕ) (fault : Fault) → IsPrefixTo kept w → IsRefused limits kept fault → IsRefused limits w fault
@@ -129,30 +132,37 @@ module _ (limits : Limits) where
   no_whole w Unfinished item o h = (one_outcome limits w).1 item.order item.message item.size h o.1
   no_whole w (Refused fault) item o h = not_both limits w item.order item.message item.size fault h o
 
-  no_part : (goes_on : Bool) (w : List ℕ) (outcome : CutOutcome) (part : Part) (others : List Part) → EndsHere goes_on w outcome → IsPart limits w part → ArePassed goes_on (part ∷ others) → ⊥
-  no_part goes_on w outcome (Whole item) others e p h = no_whole w outcome item e.outcome_is p
-  no_part goes_on w outcome (PassedOver kept fault n) others e p h = e.none_passed fault n (refused_from kept w fault p.0 p.1) h.0 (states_from kept w n p.0 p.2) p.3
+  no_part : (cut goes_on : Bool) (w : List ℕ) (outcome : CutOutcome) (part : Part) (others : List Part) → EndsHere cut goes_on w outcome → IsPart limits w part → ArePassed goes_on (part ∷ others) → ⊥
+  no_part cut goes_on w outcome (Whole item) others e p h = no_whole w outcome item e.outcome_is p
+  no_part cut goes_on w outcome (PassedOver kept fault n) others e p h = e.none_passed fault n (refused_from kept w fault p.0 p.1) h.0 (states_from kept w n p.0 p.2) p.3
 
-  pub same_parts : (goes_on : Bool) (bytes : List ℕ) (parts others : List Part) (rest last : List ℕ) (a b : CutOutcome) → BeginWithParts limits bytes parts rest → BeginWithParts limits bytes others last
-      → ArePassed goes_on parts → ArePassed goes_on others → EndsHere goes_on rest a → EndsHere goes_on last b → AreSame parts others × (rest ≡ last)
-  same_parts goes_on bytes [] [] rest last a b p q g h e f = (refl, sym p ∙ q)
-  same_parts goes_on bytes [] (part ∷ others) rest last a b p q g h e f = absurd (no_part goes_on bytes a part others (subst (λ l. EndsHere goes_on l a) (sym p) e) q.0 h)
-  same_parts goes_on bytes (part ∷ parts) [] rest last a b p q g h e f = absurd (no_part goes_on bytes b part parts (subst (λ l. EndsHere goes_on l b) (sym q) f) p.0 g)
-  same_parts goes_on bytes (Whole x ∷ parts) (Whole y ∷ others) rest last a b p q g h e f =
+  pub same_parts : (cut snip goes_on : Bool) (bytes : List ℕ) (parts others : List Part) (rest last : List ℕ) (a b : CutOutcome) → BeginWithParts limits bytes parts rest → BeginWithParts limits bytes others last
+      → ArePassed goes_on parts → ArePassed goes_on others → EndsHere cut goes_on rest a → EndsHere snip goes_on last b → AreSame parts others × (rest ≡ last)
+  same_parts cut snip goes_on bytes [] [] rest last a b p q g h e f = (refl, sym p ∙ q)
+  same_parts cut snip goes_on bytes [] (part ∷ others) rest last a b p q g h e f = absurd (no_part cut goes_on bytes a part others (subst (λ l. EndsHere cut goes_on l a) (sym p) e) q.0 h)
+  same_parts cut snip goes_on bytes (part ∷ parts) [] rest last a b p q g h e f = absurd (no_part snip goes_on bytes b part parts (subst (λ l. EndsHere snip goes_on l b) (sym q) f) p.0 g)
+  same_parts cut snip goes_on bytes (Whole x ∷ parts) (Whole y ∷ others) rest last a b p q g h e f =
       let one = one_whole limits bytes x.order y.order x.message y.message x.size y.size p.0 q.0 in
       let there = subst (λ n. BeginWithParts limits (drop n bytes) others last) (sym one.2) q.1 in
-      let more = same_parts goes_on (drop x.size bytes) parts others rest last a b p.1 there g h e f in
+      let more = same_parts cut snip goes_on (drop x.size bytes) parts others rest last a b p.1 there g h e f in
       ((λ i. Whole (record { order = one.0 i; message = one.1 i; size = one.2 i }) ∷ more.0 i), more.1)
-  same_parts goes_on bytes (Whole x ∷ parts) (PassedOver k f n ∷ others) rest last a b p q g h d e = absurd (not_both limits bytes x.order x.message x.size f p.0 (refused_from k bytes f q.0.0 q.0.1))
-  same_parts goes_on bytes (PassedOver k f n ∷ parts) (Whole y ∷ others) rest last a b p q g h d e = absurd (not_both limits bytes y.order y.message y.size f q.0 (refused_from k bytes f p.0.0 p.0.1))
-  same_parts goes_on bytes (PassedOver k x n ∷ parts) (PassedOver l y m ∷ others) rest last a b p q g h e f =
+  same_parts cut snip goes_on bytes (Whole x ∷ parts) (PassedOver k f n ∷ others) rest last a b p q g h d e = absurd (not_both limits bytes x.order x.message x.size f p.0 (refused_from k bytes f q.0.0 q.0.1))
+  same_parts cut snip goes_on bytes (PassedOver k f n ∷ parts) (Whole y ∷ others) rest last a b p q g h d e = absurd (not_both limits bytes y.order y.message y.size f q.0 (refused_from k bytes f p.0.0 p.0.1))
+  same_parts cut snip goes_on bytes (PassedOver k x n ∷ parts) (PassedOver l y m ∷ others) rest last a b p q g h e f =
       let fault : x ≡ y = one_fault limits bytes x y (refused_from k bytes x p.0.0 p.0.1) (refused_from l bytes y q.0.0 q.0.1) in
       let size : n ≡ m = one_length bytes m n (states_from l bytes m q.0.0 q.0.2) (states_from k bytes n p.0.0 p.0.2) in
       let there = subst (λ k. BeginWithParts limits (drop k bytes) others last) (sym size) q.1 in
-      let more = same_parts goes_on (drop n bytes) parts others rest last a b p.1 there g.1 h.1 e f in
+      let more = same_parts cut snip goes_on (drop n bytes) parts others rest last a b p.1 there g.1 h.1 e f in
       ((λ i. PassedOver [] (fault i) (size i) ∷ more.0 i), more.1)
 
   -- ---- where a run ends
+
+  -- an input ends within a message that is passed over, or not
+  pub same_cut : (cut snip goes_on : Bool) (w : List ℕ) (a b : CutOutcome) → EndsHere cut goes_on w a → EndsHere snip goes_on w b → cut ≡ snip
+  same_cut true true goes_on w a b e f = refl
+  same_cut false false goes_on w a b e f = refl
+  same_cut true false goes_on w a b e f = let c = e.cut_off refl in absurd (f.uncut refl c.0 c.1 c.2 c.3 c.4)
+  same_cut false true goes_on w a b e f = let c = f.cut_off refl in absurd (e.uncut refl c.0 c.1 c.2 c.3 c.4)
 
   -- the first sixteen bytes of a refused message state the length that all bytes state
   states_sixteen : (kept more : List ℕ) (fault : Fault) (n : ℕ) → IsBytes kept → IsRefused limits kept fault → StatesLength limits (kept ++ more) n → StatesLength limits (take 16 kept) n
@@ -205,51 +215,69 @@ module _ (limits : Limits) where
         ],
       )
 
-  pub ends_here : (goes_on : Bool) (kept rest more : List ℕ) (outcome : CutOutcome) (at_end : Type 0) → (at_end → more ≡ []) → IsBytes (rest ++ more)
-      → IsOutcome limits kept outcome → IsLast goes_on limits kept rest outcome at_end → EndsHere goes_on (rest ++ more) outcome × (fault_at_end kept outcome ≡ fault_at_end (rest ++ more) outcome)
-      × IsKeptOf limits outcome kept (rest ++ more)
-  ends_here goes_on kept rest more Ended at_end none bytes o last =
-      let all : rest ++ more ≡ kept = (λ i. last.0 i ++ none last.1 i) ∙ append-nil kept in (
+  pub ends_here : (cut goes_on : Bool) (kept rest more : List ℕ) (outcome : CutOutcome) (at_end : Type 0) → (at_end → more ≡ []) → IsBytes (rest ++ more)
+      → IsOutcome limits kept outcome → IsLast cut goes_on limits kept rest outcome at_end → EndsHere cut goes_on (rest ++ more) outcome × (fault_at_end kept outcome ≡ fault_at_end (rest ++ more) outcome)
+      × IsKeptOf limits outcome kept (rest ++ more) × (cut ≡ true → rest ++ more ≡ rest)
+  ends_here true goes_on kept rest more Ended at_end none bytes o last = absurd last
+  ends_here true goes_on kept rest more Unfinished at_end none bytes o last = absurd last
+  ends_here false goes_on kept rest more Ended at_end none bytes o last =
+      let all : rest ++ more ≡ kept = (λ i. last.0 i ++ none last.1 i) ∙ append-nil kept in
+      let never : (fault : Fault) → IsRefused limits (rest ++ more) fault → ⊥ = λ fault refused. (one_outcome limits (rest ++ more)).2 fault refused (subst (λ l. IsPartial limits l) (sym (all ∙ o)) (nothing_partial limits)) in (
         record {
           outcome_is = all ∙ o;
-          none_passed = λ fault n refused goes s le. (one_outcome limits (rest ++ more)).2 fault refused (subst (λ l. IsPartial limits l) (sym (all ∙ o)) (nothing_partial limits));
+          cut_off = λ cut. absurd (false≢true cut);
+          uncut = λ _ fault n refused goes s. never fault refused;
+          none_passed = λ fault n refused goes s le. never fault refused;
         },
         refl,
         sym all,
+        λ cut. absurd (false≢true cut),
       )
-  ends_here goes_on kept rest more Unfinished at_end none bytes o last =
+  ends_here false goes_on kept rest more Unfinished at_end none bytes o last =
       let all : rest ++ more ≡ kept = (λ i. last.0 i ++ none last.1 i) ∙ append-nil kept in
-      let same = subst (λ l. IsOutcome limits l Unfinished) (sym all) o in (
-        record { outcome_is = same; none_passed = λ fault n refused goes s le. (one_outcome limits (rest ++ more)).2 fault refused same.1 },
+      let same = subst (λ l. IsOutcome limits l Unfinished) (sym all) o in
+      let never : (fault : Fault) → IsRefused limits (rest ++ more) fault → ⊥ = λ fault refused. (one_outcome limits (rest ++ more)).2 fault refused same.1 in (
+        record {
+          outcome_is = same;
+          cut_off = λ cut. absurd (false≢true cut);
+          uncut = λ _ fault n refused goes s. never fault refused;
+          none_passed = λ fault n refused goes s le. never fault refused;
+        },
         ap (λ l. fault_at_end l Unfinished) (sym all),
         sym all,
+        λ cut. absurd (false≢true cut),
       )
-  ends_here goes_on kept rest more (Refused fault) at_end none bytes o last = elim last [
-    | inl all ↦ (
-        let same : rest ++ more ≡ kept ++ more = ap (λ l. l ++ more) all.0 in
-        let kept_bytes = IsBytes-front (rest ++ more) kept more same bytes in (
-          record {
-            outcome_is = refused_from kept (rest ++ more) fault (more, same) o;
-            none_passed = λ other n refused goes s le. all.1 goes (refused_reason limits kept fault kept_bytes o) n
-                (states_all kept more fault n kept_bytes o (subst (λ l. StatesLength limits l n) same s));
-          },
-          refl,
-          ((more, same), o),
-        )
-        )
-    | inr cut ↦ (
-        let front : IsPrefixTo kept (rest ++ more) = (cut.0.front.0 ++ more, ap (λ l. l ++ more) cut.0.front.1 ∙ append_assoc kept cut.0.front.0 more) in
-        let all : rest ++ more ≡ rest = ap (λ l. rest ++ l) (none cut.1) ∙ append-nil rest in (
-          record {
-            outcome_is = refused_from kept (rest ++ more) fault front o;
-            none_passed = λ other n refused goes s le.
-                let size = one_length (rest ++ more) n cut.0.size s (states_from kept (rest ++ more) cut.0.size front cut.0.states) in
-                let long = ap length all in
-                let short = cut.0.short in
-                omega (arith, le, size, long, short);
-          },
-          refl,
-          (front, o),
-        )
-        )
-  ]
+  ends_here false goes_on kept rest more (Refused fault) at_end none bytes o last =
+      let same : rest ++ more ≡ kept ++ more = ap (λ l. l ++ more) last.0 in
+      let kept_bytes = IsBytes-front (rest ++ more) kept more same bytes in
+      let never : (n : ℕ) → goes_on ≡ true → StatesLength limits (rest ++ more) n → ⊥ = λ n goes s.
+      last.1 goes (refused_reason limits kept fault kept_bytes o) n (states_all kept more fault n kept_bytes o (subst (λ l. StatesLength limits l n) same s)) in (
+        record {
+          outcome_is = refused_from kept (rest ++ more) fault (more, same) o;
+          cut_off = λ cut. absurd (false≢true cut);
+          uncut = λ _ other n refused goes s. never n goes s;
+          none_passed = λ other n refused goes s le. never n goes s;
+        },
+        refl,
+        ((more, same), o),
+        λ cut. absurd (false≢true cut),
+      )
+  ends_here true goes_on kept rest more (Refused fault) at_end none bytes o last =
+      let front : IsPrefixTo kept (rest ++ more) = (last.0.front.0 ++ more, ap (λ l. l ++ more) last.0.front.1 ∙ append_assoc kept last.0.front.0 more) in
+      let all : rest ++ more ≡ rest = ap (λ l. rest ++ l) (none last.1) ∙ append-nil rest in
+      let refused = refused_from kept (rest ++ more) fault front o in
+      let states = states_from kept (rest ++ more) last.0.size front last.0.states in (
+        record {
+          outcome_is = refused;
+          cut_off = λ _. (fault, last.0.size, refused, last.2, states);
+          uncut = λ cut. absurd (false≢true (sym cut));
+          none_passed = λ other n refused goes s le.
+              let size = one_length (rest ++ more) n last.0.size s states in
+              let long = ap length all in
+              let short = last.0.short in
+              omega (arith, le, size, long, short);
+        },
+        refl,
+        (front, o),
+        λ _. all,
+      )

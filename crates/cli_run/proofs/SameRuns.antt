@@ -1,6 +1,7 @@
 -- Two runs that read the same input, and do not fail, end alike.
-use Rattle.std.proofs.Common.{◌≡◌, ◌⊎◌, ℕ, ◌+◌, Bool, false, List, [], ◌∷◌, ◌++◌, length, drop, take, None, Some, Option, Result, Ok, Err, refl, sym, ap, ◌∙◌, subst, inl, inr, take-append-drop, ◌≢◌}
+use Rattle.std.proofs.Common.{◌≡◌, ◌⊎◌, ℕ, ◌+◌, Bool, true, false, List, [], ◌∷◌, ◌++◌, arith, length, drop, take, None, Some, Option, Result, Ok, Err, refl, sym, ap, ◌∙◌, subst, inl, inr, take-append-drop, ◌≢◌}
 use Rattle.std.proofs.Math.Path.{transport}
+use Rattle.std.proofs.lemmas.Bool.{false≢true}
 use Rattle.std.specs.Io.KnownBytes.{Consumes, IsAtEnd}
 use Rattle.dbus_device.specs.Device.{Wrote}
 use Rattle.dbus_device.specs.Packets.{Packets}
@@ -23,7 +24,7 @@ use Rattle.cli_report.specs.declared.ending.ExitStatus.TheVariants as status
 use Rattle.cli_run.specs.Laws.{AreToldAlike, ExplainsNone, OneCalls, OneCount, OneRun, OneWithin}
 use Rattle.cli_run.specs.ByName.{EndsBy, WritesTables, counting}
 use Rattle.cli_run.specs.CallListing.{EndsNoted, WritesCalls, lack_times, numbered, times_note}
-use Rattle.cli_run.specs.Going.{AreTold, GoesThrough, IsThrough, IsToldLast, closing_line, passed_count, status_at, tally_of}
+use Rattle.cli_run.specs.Going.{AreTold, GoesThrough, IsThrough, IsToldLast, closing_line, cut_tally, passed_count, status_at, tally_of, tally_with}
 use Rattle.cli_run.specs.Inputs.{ArePlaced, BeginWithParts, Part, Placed, size_of, sizes_of, wholes}
 use Rattle.cli_run.specs.Output.{is_check, check_line, fault_line, last_line, second_output, status_of, written}
 use Rattle.cli_run.specs.Refusals.{IsFaultIn}
@@ -33,7 +34,7 @@ use Rattle.cli_run.specs.VisitorLaws.{wrote_both}
 use Rattle.cli_run.specs.declared.tally.Tally.{Tally}
 use Rattle.cli_run.proofs.PartLaws.{is_last, parts_more, parts_of}
 use Rattle.cli_run.proofs.SameOutputs.{acts_as, are_passed, bare_placed, bare_tally, none_last, none_refused, none_told, one_placed, same_counts, same_last, same_outputs, same_told}
-use Rattle.cli_run.proofs.SameParts.{AreSame, EndsHere, IsKeptOf, bare, ends_here, packet_by, same_parts}
+use Rattle.cli_run.proofs.SameParts.{AreSame, EndsHere, IsKeptOf, bare, ends_here, packet_by, same_cut, same_parts}
 use Rattle.std.specs.List.{concat}
 
 -- ---- what a run reads is the input up to where it ends
@@ -56,11 +57,16 @@ AreTakenAlike t u end = ((all : Packets) × (t.packets ≡ Some all) × (u.packe
 taken_alike : {R S : Type 0} (r : Reading R) (s : Reading S) (end due : ExitStatus) → due ≡ end → AreToldAlike r s end → AreTakenAlike (taken r) (taken s) due
 taken_alike r s end due is told = elim told [ inl packets ↦ inl (packets.all, packets.one, packets.same) | inr done ↦ inr (is ∙ done) ]
 
+none_passed : (cut : Bool) (parts : List Part) (rest : List ℕ) → (tally_with cut parts rest).passed ≡ 0 → passed_count parts ≡ 0
+none_passed false parts rest none = none
+none_passed true parts rest none = absurd (omega (arith, none))
+
 module _ (settings : Settings) (is_check : Bool) (input : List ℕ) (bytes : IsBytes input) where
   record IsReached {t : Taken} {most : ℕ} {tally : Tally} {fault : Option Fault} {told text : List ℕ} (h : IsThrough t settings most is_check tally fault told text) : Type 0 where
     last : List ℕ
     begin : BeginWithParts settings.limits input h.parts last
-    ends : EndsHere settings.limits settings.keeps_going last h.tells.outcome
+    ends : EndsHere settings.limits h.cut settings.keeps_going last h.tells.outcome
+    all_is : h.cut ≡ true → last ≡ h.rest
     fault_is : fault ≡ fault_at_end last h.tells.outcome
     kept_is : IsKeptOf settings.limits h.tells.outcome h.kept last
 
@@ -70,8 +76,8 @@ module _ (settings : Settings) (is_check : Bool) (input : List ℕ) (bytes : IsB
       let last = h.rest ++ after.0 in
       let begin = subst (λ l. BeginWithParts settings.limits l h.parts last) (sym after.2) (parts_more settings.limits h.covers.bytes h.parts h.rest after.0 h.covers.begin) in
       let none : IsAtEnd t.left1 → after.0 ≡ [] = λ e. subst IsAtEnd after.1 e in
-      let all = ends_here settings.limits settings.keeps_going h.kept h.rest after.0 h.tells.outcome (IsAtEnd t.left1) none (parts_bytes settings.limits input h.parts last begin bytes) h.tells.outcome_is h.last in
-      record { last = last; begin = begin; ends = all.0; fault_is = h.tells.fault_is ∙ all.1; kept_is = all.2 }
+      let all = ends_here settings.limits h.cut settings.keeps_going h.kept h.rest after.0 h.tells.outcome (IsAtEnd t.left1) none (parts_bytes settings.limits input h.parts last begin bytes) h.tells.outcome_is h.last in
+      record { last = last; begin = begin; ends = all.0; fault_is = h.tells.fault_is ∙ all.1; kept_is = all.2; all_is = all.3 }
 
   -- ---- two runs
 
@@ -84,7 +90,7 @@ module _ (settings : Settings) (is_check : Bool) (input : List ℕ) (bytes : IsB
     b = reached h.through known_too
 
     same : AreSame g.through.parts h.through.parts × (a.last ≡ b.last)
-    same = same_parts settings.limits settings.keeps_going input g.through.parts h.through.parts a.last b.last g.through.tells.outcome h.through.tells.outcome a.begin b.begin
+    same = same_parts settings.limits g.through.cut h.through.cut settings.keeps_going input g.through.parts h.through.parts a.last b.last g.through.tells.outcome h.through.tells.outcome a.begin b.begin
         (are_passed t.packets settings 1 0 g.through.parts g.told g.through.covers.tells) (are_passed u.packets settings 1 0 h.through.parts h.told h.through.covers.tells) a.ends b.ends
 
     outcome_is : g.through.tells.outcome ≡ h.through.tells.outcome
@@ -98,8 +104,18 @@ module _ (settings : Settings) (is_check : Bool) (input : List ℕ) (bytes : IsB
     parts_tally : tally_of g.through.parts ≡ tally_of h.through.parts
     parts_tally = bare_tally g.through.parts ∙ (ap tally_of same.0 ∙ sym (bare_tally h.through.parts))
 
+    cut_is : g.through.cut ≡ h.through.cut
+    cut_is = same_cut settings.limits g.through.cut h.through.cut settings.keeps_going a.last _ _ a.ends (subst (λ l. EndsHere settings.limits h.through.cut settings.keeps_going l h.through.tells.outcome) (sym same.1) b.ends)
+
+    -- with what the input ends within
+    both_tally : (cut snip : Bool) → cut ≡ snip → (cut ≡ true → a.last ≡ g.through.rest) → (snip ≡ true → b.last ≡ h.through.rest) → tally_with cut g.through.parts g.through.rest ≡ tally_with snip h.through.parts h.through.rest
+    both_tally false false e x y = parts_tally
+    both_tally true true e x y = let there : length g.through.rest ≡ length h.through.rest = ap length (sym (x refl) ∙ (same.1 ∙ y refl)) in λ i. cut_tally (parts_tally i) (there i)
+    both_tally true false e x y = absurd (false≢true (sym e))
+    both_tally false true e x y = absurd (false≢true e)
+
     tally_is : g.tally ≡ h.tally
-    tally_is = g.through.tally_is ∙ (parts_tally ∙ sym h.through.tally_is)
+    tally_is = g.through.tally_is ∙ (both_tally g.through.cut h.through.cut cut_is a.all_is b.all_is ∙ sym h.through.tally_is)
 
     told_last : IsToldLast u.packets settings (length g.through.parts + 1) (sizes_of g.through.parts) h.through.kept g.fault h.text
     told_last = transport (λ i. let t = sym parts_tally i in IsToldLast u.packets settings (t.count + 1) t.size h.through.kept (sym fault_is i) h.text) h.through.tells.told
@@ -108,7 +124,7 @@ module _ (settings : Settings) (is_check : Bool) (input : List ℕ) (bytes : IsB
     none_is : end ≡ status.Done → g.told ++ g.text ≡ h.told ++ h.text
     none_is done =
         let none = none_refused g.tally.passed g.fault (sym g.end_is ∙ done) in
-        let passed : passed_count g.through.parts ≡ 0 = ap (λ (t : Tally). t.passed) (sym g.through.tally_is) ∙ none.0 in
+        let passed : passed_count g.through.parts ≡ 0 = none_passed g.through.cut g.through.parts g.through.rest (ap (λ (t : Tally). t.passed) (sym g.through.tally_is) ∙ none.0) in
         let passed_too : passed_count h.through.parts ≡ 0 = ap (λ (t : Tally). t.passed) (sym parts_tally) ∙ passed in
         let first = none_told settings t.packets 1 0 g.through.parts g.told passed g.through.covers.tells in
         let first_too = none_told settings u.packets 1 0 h.through.parts h.told passed_too h.through.covers.tells in
@@ -273,7 +289,7 @@ whole_cut limits input bytes rest left0 left1 items outcome known are consumed c
     let begin = subst (λ l. BeginWith limits l items last) (sym after.2) (BeginWith-more limits bytes items rest after.0 cut.messages) in
     let all = parts_bytes limits input (wholes items) last (parts_of limits input items last begin) are in
     let none : IsAtEnd left1 → after.0 ≡ [] = λ e. subst IsAtEnd after.1 e in
-    let ends = ends_here limits false rest rest after.0 outcome (IsAtEnd left1) none all cut.outcome_is (is_last false limits rest outcome (IsAtEnd left1) refl at_end) in
+    let ends = ends_here limits false false rest rest after.0 outcome (IsAtEnd left1) none all cut.outcome_is (is_last false limits rest outcome (IsAtEnd left1) refl at_end) in
     (last, record { messages = begin; outcome_is = ends.0.outcome_is }, ends.1, ends.2)
 
 -- the lines of a fault are the same if its packet is

@@ -100,5 +100,5 @@ stopped_by count size Writer = Err WriteFailed
 -- many reads may be made
 abbrev pub Tallies : Taken → Settings → (most : ℕ) → (packet : Option ℕ) → Result Counted Cause → Type 0
 Tallies t settings most packet (Ok counted) =
-    IsThrough t settings most true (record { count = counted.count; size = counted.size; passed = 0; passed_size = 0 }) counted.fault [] (fault_line counted.size counted.fault packet)
+    IsThrough t settings most true (record { count = counted.count; size = counted.size; passed = 0; passed_size = 0; is_cut = false }) counted.fault [] (fault_line counted.size counted.fault packet)
 Tallies t settings most packet (Err cause) = StopsWithin t settings most true (λ items told stop. IsUnwritten stop × (told ≡ [])) (ByCause cause)

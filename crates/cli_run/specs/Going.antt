@@ -1,7 +1,7 @@
 -- What is read and told of an input by settings, whatever takes its messages: whether refused
 -- messages are explained, and whether they are passed over. most is how many reads may be made, and
 -- is_check says whether an input without fault has a last line.
-use Rattle.std.specs.Prelude.{◌≡◌, ℕ, zero, suc, ◌+◌, ◌-◌, Bool, true, false, List, [], ◌∷◌, ◌++◌, length, Option, None, Some, ◌⊎◌, Result, Ok, Err}
+use Rattle.std.specs.Prelude.{◌≡◌, ℕ, zero, suc, ◌+◌, ◌-◌, Bool, true, false, List, [], ◌∷◌, ◌++◌, length, codes, decimal, Option, None, Some, ◌⊎◌, Result, Ok, Err}
 use Rattle.std.specs.Io.KnownBytes.{Consumes, IsAtEnd}
 use Rattle.dbus_value_model.specs.declared.fault.Fault.{Fault}
 use Rattle.cli_options.specs.declared.settings.Settings.{Settings}
@@ -20,7 +20,7 @@ use Rattle.cli_report.specs.Devices.{RisesAtMost, Taken, Writing}
 use Rattle.cli_report.specs.declared.ending.Cause.{Cause}
 use Rattle.cli_report.specs.declared.ending.Cause.TheVariants.{Memory, ReadFailed, WriteFailed, TooManyReads}
 use Rattle.cli_run.specs.Inputs.{Part, Whole, PassedOver, size_of, sizes_of, BeginWithParts, IsCutOff, IsLast, IsTellable, ArePlaced, Placed}
-use Rattle.cli_run.specs.Output.{counts_line, ok_line, status_of}
+use Rattle.cli_run.specs.Output.{ok_line, status_of}
 use Rattle.cli_run.specs.declared.tally.Tally.{Tally}
 use Rattle.cli_run.specs.Refusals.{IsRefusedIn}
 use Rattle.cli_run.specs.Told.{TellsStop}
@@ -67,7 +67,27 @@ passed_sizes (Whole item ∷ parts) = passed_sizes parts
 passed_sizes (PassedOver kept fault size ∷ parts) = passed_sizes parts + size
 
 abbrev pub tally_of : List Part → Tally
-tally_of parts = record { count = length parts; size = sizes_of parts; passed = passed_count parts; passed_size = passed_sizes parts }
+tally_of parts = record { count = length parts; size = sizes_of parts; passed = passed_count parts; passed_size = passed_sizes parts; is_cut = false }
+
+-- with one message more that is passed over, of which there are so many bytes, since the input ends
+-- within it
+abbrev pub cut_tally : Tally → (there : ℕ) → Tally
+cut_tally t there = record { count = t.count + 1; size = t.size + there; passed = t.passed + 1; passed_size = t.passed_size + there; is_cut = true }
+
+-- of the parts, and of such a message after them if there is one
+abbrev pub tally_with : (cut : Bool) → List Part → (rest : List ℕ) → Tally
+tally_with false parts rest = tally_of parts
+tally_with true parts rest = cut_tally (tally_of parts) (length rest)
+
+-- that the input ends within the last one
+abbrev pub cut_text : Bool → List ℕ
+cut_text false = []
+cut_text true = codes ", the last one cut off"
+
+-- how many messages of how many bytes are not passed over, and how many are
+abbrev pub counts_line : Tally → List ℕ
+counts_line t = decimal (t.count - t.passed) ++ (codes " messages " ++ (decimal (t.size - t.passed_size) ++ (codes " bytes, "
+    ++ (decimal t.passed ++ (codes " passed over " ++ (decimal t.passed_size ++ (codes " bytes" ++ (cut_text t.is_cut ++ codes "\n"))))))))
 
 -- the line of an input without fault, if there is one
 abbrev pub whole_line : (is_check : Bool) → (count size : ℕ) → List ℕ
@@ -78,7 +98,7 @@ whole_line false count size = []
 abbrev pub closing_line : (is_check : Bool) → Tally → (passed : ℕ) → Option Fault → List ℕ
 closing_line is_check t zero None = whole_line is_check t.count t.size
 closing_line is_check t zero (Some fault) = []
-closing_line is_check t (suc n) fault = counts_line (t.count - t.passed) (t.size - t.passed_size) t.passed t.passed_size
+closing_line is_check t (suc n) fault = counts_line t
 
 -- there is a last line: a message was passed over, or `check` found no fault
 abbrev pub HasLastLine : (is_check : Bool) → (passed : ℕ) → Option Fault → Type 0
@@ -123,10 +143,11 @@ module _ (t : Taken) (settings : Settings) (most : ℕ) (is_check : Bool) where
     pub parts : List Part
     pub rest : List ℕ
     pub covers : Covers parts rest told
-    pub tally_is : tally ≡ tally_of parts
+    pub cut : Bool
+    pub tally_is : tally ≡ tally_with cut parts rest
     pub kept : List ℕ
     pub tells : TellsRest parts kept fault text
-    pub last : IsLast settings.keeps_going settings.limits kept rest tells.outcome (IsAtEnd t.left1)
+    pub last : IsLast cut settings.keeps_going settings.limits kept rest tells.outcome (IsAtEnd t.left1)
     pub read_failed : t.failures1 ≡ t.failures0
 
   -- these texts are due after the parts: what is told of the fault of the rest, once it shows; and
@@ -134,12 +155,13 @@ module _ (t : Taken) (settings : Settings) (most : ℕ) (is_check : Bool) where
   abbrev pub AreDue : List Part → (rest more : List ℕ) → Type 0
   AreDue parts rest more = (kept : List ℕ) × (fault : Option Fault) × (text : List ℕ) × (tells : TellsRest parts kept fault text)
       × ((IsTellable kept rest tells.outcome (IsAtEnd t.left1) × (more ≡ text))
-      ⊎ (IsLast settings.keeps_going settings.limits kept rest tells.outcome (IsAtEnd t.left1) × (more ≡ text ++ closing_line is_check (tally_of parts) (passed_count parts) fault)))
+      ⊎ ((cut : Bool) × IsLast cut settings.keeps_going settings.limits kept rest tells.outcome (IsAtEnd t.left1)
+      × (more ≡ text ++ closing_line is_check (tally_with cut parts rest) (tally_with cut parts rest).passed fault)))
 
   -- all is told but the last line
   abbrev pub LacksLast : List Part → (rest more : List ℕ) → Type 0
   LacksLast parts rest more = (kept : List ℕ) × (fault : Option Fault) × (tells : TellsRest parts kept fault more)
-      × IsLast settings.keeps_going settings.limits kept rest tells.outcome (IsAtEnd t.left1) × HasLastLine is_check (passed_count parts) fault
+      × (cut : Bool) × IsLast cut settings.keeps_going settings.limits kept rest tells.outcome (IsAtEnd t.left1) × HasLastLine is_check (tally_with cut parts rest).passed fault
 
   -- all that was read was taken and told: the rest is neither a message nor refused, or a refused
   -- message was told of which not all bytes came

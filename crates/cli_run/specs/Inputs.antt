@@ -52,14 +52,15 @@ IsTellable kept rest Unfinished at_end = (rest ≡ kept) × at_end
 IsTellable kept rest (Refused fault) at_end = rest ≡ kept
 
 -- why nothing follows the parts but the rest: the input ends there, or within a message; or a
--- message is refused, and the run is not to go on, or it states no length within the limits, or the
--- input ends within it. kept is what was kept of the rest when that was found
-abbrev pub IsLast : (goes_on : Bool) → Limits → List ℕ → List ℕ → CutOutcome → Type 0 → Type 0
-IsLast goes_on limits kept rest Ended at_end = (rest ≡ kept) × at_end
-IsLast goes_on limits kept rest Unfinished at_end = (rest ≡ kept) × at_end
-IsLast goes_on limits kept rest (Refused fault) at_end =
-    ((rest ≡ kept) × (goes_on ≡ true → is_truncated fault.reason ≡ false → (n : ℕ) → StatesAll limits kept n → ⊥))
-    ⊎ (IsCutOff limits kept rest × at_end × (goes_on ≡ true))
+-- message is refused, and the run is not to go on, or it states no length within the limits; or
+-- cut says that the input ends within one that is passed over. kept is what was kept of the rest
+-- when that was found
+abbrev pub IsLast : (cut goes_on : Bool) → Limits → List ℕ → List ℕ → CutOutcome → Type 0 → Type 0
+IsLast false goes_on limits kept rest Ended at_end = (rest ≡ kept) × at_end
+IsLast false goes_on limits kept rest Unfinished at_end = (rest ≡ kept) × at_end
+IsLast false goes_on limits kept rest (Refused fault) at_end = (rest ≡ kept) × (goes_on ≡ true → is_truncated fault.reason ≡ false → (n : ℕ) → StatesAll limits kept n → ⊥)
+IsLast true goes_on limits kept rest (Refused fault) at_end = IsCutOff limits kept rest × at_end × (goes_on ≡ true)
+IsLast true goes_on limits kept rest outcome at_end = ⊥
 
 -- ---- the messages among the parts
 

@@ -122,11 +122,6 @@ IsExact command = Unit {0}
 abbrev pub ok_line : ℕ → ℕ → List ℕ
 ok_line count size = codes "ok " ++ (decimal count ++ (codes " messages " ++ (decimal size ++ codes " bytes\n")))
 
--- how many messages of how many bytes, and how many were passed over
-abbrev pub counts_line : (count size passed passed_size : ℕ) → List ℕ
-counts_line count size passed passed_size = decimal count ++ (codes " messages " ++ (decimal size ++ (codes " bytes, "
-    ++ (decimal passed ++ (codes " passed over " ++ (decimal passed_size ++ codes " bytes\n"))))))
-
 -- how many messages of how many bytes, or the fault, whose place counts from the start of the
 -- input, with the number of its packet
 abbrev pub check_line : ℕ → ℕ → Option Fault → (packet : Option ℕ) → List ℕ

@@ -1,10 +1,12 @@
 //! What is written after the messages of an input.
 ghost use Rattle.std.specs.Prelude.{◌≡◌, IfOk, string_bytes};
-ghost use Rattle.cli_run.specs.Output.{check_line, counts_line, ok_line, status_of};
+ghost use Rattle.cli_run.specs.Going.{counts_line, cut_text};
+ghost use Rattle.cli_run.specs.Output.{check_line, ok_line, status_of};
 ghost use Rattle.cli_run.specs.Refusals.{number_of};
 ghost use Rattle.cli_run.specs.Told.{WritesLine};
 
 use crate::counted::Counted;
+use crate::tally::Tally;
 use cli_report::{Cause, ExitStatus, refused_line};
 use dbus_stream::{Packet, Sink, WrittenOnly, write_all};
 use dbus_value_model::Fault;
@@ -79,12 +81,26 @@ pub(crate) fn ok_line<A: Allocator + Copy>(
 /// What is written at last if messages were passed over.
 pub(crate) fn counts_line<A: Allocator + Copy>(
     alloc: A,
-    count: u64,
-    size: u64,
-    passed: u64,
-    passed_size: u64,
+    tally: Tally,
 ) -> Result<String<A>, AllocError>
-    ensures { IfOk result (λ line. string_bytes line ≡ counts_line count size passed passed_size) }
+    ensures { IfOk result (λ line. string_bytes line ≡ counts_line tally) }
 {
-    format!(in alloc; "{count} messages {size} bytes, {passed} passed over {passed_size} bytes\n")
+    let Tally {
+        passed,
+        passed_size,
+        ..
+    } = tally;
+    let count = tally.count.saturating_sub(passed);
+    let size = tally.size.saturating_sub(passed_size);
+    let end = cut_text(tally.is_cut);
+    format!(in alloc;
+        "{count} messages {size} bytes, {passed} passed over {passed_size} bytes{end}\n"
+    )
+}
+
+// What says that the input ends within the last message that was passed over.
+fn cut_text(is_cut: bool) -> &'static str
+    ensures { result.now ≡ cut_text is_cut }
+{
+    if is_cut { ", the last one cut off" } else { "" }
 }

@@ -65,6 +65,7 @@ fn hand_parts<R: Source, A: Allocator + Copy, V: MessageVisitor>(
         size: 0,
         passed: 0,
         passed_size: 0,
+        is_cut: false,
     };
     'parts: loop {
         let counted = match hand_all(settings.limits, tally.count, messages, visitor) {
@@ -91,7 +92,10 @@ fn hand_parts<R: Source, A: Allocator + Copy, V: MessageVisitor>(
         }
         match messages.pass_over() {
             Ok(true) => tally = tally.past(messages.done()),
-            Ok(false) => return close(alloc, is_check, tally, Some(fault), visitor),
+            Ok(false) => {
+                let ended = tally.at_end(messages.done());
+                return close(alloc, is_check, ended, Some(fault), visitor);
+            }
             Err(fault) => return Err(RunStop::Cause(cause_of(fault))),
         }
     }

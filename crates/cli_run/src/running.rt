@@ -126,9 +126,10 @@ pub fn run_within<A: Allocator + Copy, R: Source, W: Sink, E: Sink>(
 /// length within the limits. What came before it is written, and then the line `refused at P: NAME
 /// in message N at O`, with ` in packet K` as above: the place of the fault, and where the message
 /// begins, from the start of the input, and its number among all messages of the input. The numbers
-/// and offsets of those after it count it. A message that states no such length, or that the input
-/// ends within, is told by that line too, and ends the run. If any was passed over, the last line
-/// is `N messages B bytes, K passed over C bytes`.
+/// and offsets of those after it count it. A message that states no such length is told by that
+/// line too, and ends the run. If any was passed over, the last line is `N messages B bytes, K
+/// passed over C bytes`, and then `, the last one cut off` if the input ends within that one, of
+/// which the bytes that are there count.
 ///
 /// These lines go to the second writer, but of `Check` to the first. `Check` of an input without
 /// fault writes `ok N messages B bytes`. If the settings ask for explanations, to keep going or for

@@ -1,6 +1,6 @@
 //! What was handed on and passed over of an input, and the last line that tells it.
 ghost use Rattle.std.specs.Prelude.{◌≡◌, ◌≤◌, ◌<◌, ◌+◌, ◌-◌, ◌^◌, IfErr, IfOk, string_bytes, true};
-ghost use Rattle.cli_run.specs.Going.{HasLastLine, closing_line, status_at};
+ghost use Rattle.cli_run.specs.Going.{HasLastLine, closing_line, cut_tally, status_at};
 
 use crate::closing::{counts_line, ok_line};
 use crate::counted::Counted;
@@ -18,6 +18,8 @@ pub(crate) struct Tally {
     /// How many of them were passed over, and how many bytes these have.
     pub(crate) passed: u64,
     pub(crate) passed_size: u64,
+    /// Whether the input ends within the last of these.
+    pub(crate) is_cut: bool,
 }
 
 impl Tally {
@@ -43,6 +45,7 @@ impl Tally {
           size = end;
           passed = self.passed + 1;
           passed_size = self.passed_size + (end - self.size);
+          is_cut = self.is_cut;
         } }
     {
         Tally {
@@ -50,6 +53,26 @@ impl Tally {
             size: end,
             passed: self.passed + 1,
             passed_size: self.passed_size + (end - self.size),
+            ..self
+        }
+    }
+
+    /// The tally at the end of the input. Bytes up to there that were not counted yet are those of
+    /// a message that was to be passed over, which the input ends within.
+    pub(crate) fn at_end(self, end: u64) -> Tally
+        requires few { self.count < 2 ^ 60 }
+        requires few_passed { self.passed ≤ self.count }
+        requires after { self.size ≤ end }
+        requires low { self.passed_size + (end - self.size) < 2 ^ 60 }
+        ensures same { end ≡ self.size → result ≡ self }
+        ensures cut { self.size < end → result ≡ cut_tally self (end - self.size) }
+    {
+        if end == self.size {
+            return self;
+        }
+        Tally {
+            is_cut: true,
+            ..self.past(end)
         }
     }
 
@@ -78,9 +101,7 @@ pub(crate) fn closing_line<A: Allocator + Copy>(
     ensures due { IfErr result (λ _. HasLastLine is_check tally.passed fault) }
 {
     if tally.passed > 0 {
-        let count = tally.count.saturating_sub(tally.passed);
-        let size = tally.size.saturating_sub(tally.passed_size);
-        return counts_line(alloc, count, size, tally.passed, tally.passed_size);
+        return counts_line(alloc, tally);
     }
     if fault.is_none() && is_check {
         return ok_line(alloc, tally.count, tally.size);

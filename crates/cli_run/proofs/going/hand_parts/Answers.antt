@@ -3,7 +3,7 @@ use Rattle.dbus_stream.specs.RawReading.{done_of}
 use Rattle.cli_run.specs.Refusals.{number_of}
 use Rattle.cli_run.proofs.GoEnds.{breaks, closes, finished, goes_on, halts, not_told, stays}
 use Rattle.cli_run.proofs.KnownPackets.{known_first, known_still}
-use Rattle.cli_run.proofs.GoSteps.{gone_none, within, done_small, grows, reach, stop_hand}
+use Rattle.cli_run.proofs.GoSteps.{gone_none, within, done_small, grows, not_less, reach, stop_hand}
 use Rattle.cli_run.proofs.going.hand_parts.Goals as goal
 
 -- a flag that is not set, or is
@@ -63,7 +63,7 @@ returns-in-Ok-false-clause-passes g c =
     let r = reach c.parts.invariant.0 laws c.parts.invariant.4 c.hand_all.new.messages c.hand_all.new.visitor
     (known_still g.R.Source.packets g.R.Source.packet c.parts.messages c.hand_all.new.messages _ c.hand_all.ensures.packets c.parts.invariant.4) c.in-Ok.counted c.up_to-tally.result c.up_to-tally.ensures c.in-Ok.ensures.hands in
     let told = c.in-Ok-tell.ensures.tells in
-    let ended = stays laws r c.in-Some.is c.number_of.result (c.number_of.ensures ∙ ap number_of c.packet.ensures) told.0 told.1 told.2 c.pass_over.new.self (set c.args.settings.keeps_going c.if-not-settings.false) (rw c.in-Ok-false.field-0-test at c.in-Ok-false.ensures.passes) c.in-Ok-false.ensures.failed in
+    let ended = stays laws r c.in-Some.is c.number_of.result (c.number_of.ensures ∙ ap number_of c.packet.ensures) told.0 told.1 told.2 c.pass_over.new.self c.at_end-ended.result c.done-in-Ok-false.result c.done-in-Ok-false.ensures c.at_end-ended.ensures.same c.at_end-ended.ensures.cut (set c.args.settings.keeps_going c.if-not-settings.false) (rw c.in-Ok-false.field-0-test at c.in-Ok-false.ensures.passes) c.in-Ok-false.ensures.failed in
     closes ended laws c.in-Ok-tell.ensures.settled c.close-in-Ok-false.new.visitor c.close-in-Ok-false.result c.close-in-Ok-false.ensures.closes
 
 pub returns-in-Err-pass_over-clause-passes : goal.returns-in-Err-pass_over-clause-passes
@@ -75,6 +75,21 @@ returns-in-Err-pass_over-clause-passes g c =
     rw c.cause_of.ensures
     (breaks laws r c.in-Some.is c.number_of.result (c.number_of.ensures ∙ ap number_of c.packet.ensures) told.0 told.1 told.2 c.pass_over.new.self c.in-Ok-tell.ensures.settled (set c.args.settings.keeps_going c.if-not-settings.false) c.in-Err-pass_over.fault
     c.in-Err-pass_over.ensures.passes c.in-Err-pass_over.ensures.failed)
+
+pub at_end-ended-requires : goal.at_end-ended-requires
+at_end-ended-requires g c =
+    let r = reach c.parts.invariant.0 g.met.V.MessageVisitor.adds_up c.parts.invariant.4 c.hand_all.new.messages c.hand_all.new.visitor
+    (known_still g.R.Source.packets g.R.Source.packet c.parts.messages c.hand_all.new.messages _ c.hand_all.ensures.packets c.parts.invariant.4) c.in-Ok.counted c.up_to-tally.result c.up_to-tally.ensures c.in-Ok.ensures.hands in
+    let far = within r.gone in
+    let on = not_less g.R.Source.left g.R.Source.calls c.hand_all.new.messages c.pass_over.new.self (rw c.in-Ok-false.field-0-test at c.in-Ok-false.ensures.passes) in
+    let small = done_small c.pass_over.new.self in
+    let end : c.done-in-Ok-false.result ≡ done_of c.pass_over.new.self = c.done-in-Ok-false.ensures in
+    record {
+      few = omega (arith, far.count, far.small);
+      few_passed = far.passed;
+      after = omega (arith, far.size, on, end);
+      low = omega (arith, far.size, far.passed_size, on, end, small);
+    }
 
 pub past-tally-requires : goal.past-tally-requires
 past-tally-requires g c =
