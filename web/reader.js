@@ -14,7 +14,7 @@ class Reader {
     this.memory = instance.exports.memory;
     // The module's own data and stack end here, and it never asks for more.
     this.told = this.memory.buffer.byteLength;
-    // A packet with bytes has 17 in the file, and a read gives 65,536 bytes at most, and more at once only without packets.
+    // A part is what one read gives of a packet. A packet with bytes takes 17 of the file at least, and the file is read 65,536 bytes at a time.
     this.partsRoom = Math.floor(file.length / 17) + Math.ceil(file.length / PAGE_BYTES) + 2;
     this.parts = this.told + TOLD_BYTES;
     this.data = this.parts + this.partsRoom * PART_BYTES;
