@@ -42,8 +42,8 @@ pub record AreSameSelection (a b : Selection) : Type 0 where
 
 -- When two commands are the same: their names are, and so is what belongs to them.
 
--- both are `Show`, or both `Json`, with times or without; or both are `Check`; or `List` of one width,
--- `Swap` to one order, or `Filter` by the same selection
+-- both are `Show`, or both `Json`, with times or without; or both are `Check`; or `List` of one
+-- width, `Swap` to one order, or `Filter` by the same selection
 abbrev pub AreSameCommand : Command → Command → Type 0
 AreSameCommand (Show a) (Show b) = a ≡ b
 AreSameCommand (Json a) (Json b) = a ≡ b

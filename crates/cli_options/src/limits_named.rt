@@ -50,7 +50,8 @@ fn number_named(inner: &ArgMatches, name: &str, most: u32) -> Option<u32>
     }
 }
 
-/// The number that an option is given, if it is given. Nothing, if its text is no number of 32 bits.
+/// The number that an option is given, if it is given. Nothing, if its text is no number of 32
+/// bits.
 pub(crate) fn given_named(inner: &ArgMatches, name: &str) -> Option<Option<u32>>
     ensures { GivesGiven (one_of name.now (rows_of (found_of inner.now))) result }
 {

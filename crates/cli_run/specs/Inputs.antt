@@ -87,8 +87,8 @@ pub record IsPlaced (packets : Option Packets) (n offset : ℕ) (item : CutMessa
   pub offset_is : m.place.offset ≡ offset
   pub time_is : IsTimeBefore packets (offset + item.size) m.place.time
 
--- these are the messages among parts, of which the first is the n-th of its input and begins at this
--- offset
+-- these are the messages among parts, of which the first is the n-th of its input and begins at
+-- this offset
 abbrev pub ArePlaced : Option Packets → (n offset : ℕ) → List Part → List Placed → Type 0
 ArePlaced packets n offset [] messages = messages ≡ []
 ArePlaced packets n offset (Whole item ∷ parts) [] = ⊥

@@ -24,8 +24,8 @@ use Rattle.cli_run.specs.ByName.{CountsByName}
 use Rattle.cli_run.specs.CallListing.{ListsCalls}
 use Rattle.cli_run.specs.Inputs.{Placed}
 
--- of each list of messages, and a fault after them or none, which is of this packet, the command has
--- an output, whatever the packets are
+-- of each list of messages, and a fault after them or none, which is of this packet, the command
+-- has an output, whatever the packets are
 abbrev pub SomeOutput : Type 0
 SomeOutput = (packets : Option Packets) (command : Command) (items : List CutMessage) (fault : Option Fault) (packet : Option ℕ) → (out : List ℕ) × IsFirstOutput packets command items fault packet out
 

@@ -1,7 +1,7 @@
 -- What is read if messages are handed to a visitor from where a reader stands, and what becomes of
 -- the visitor. kept is what the reader keeps there, and before is how many messages came before. k
--- is what is known of its taker, and limits are those that each message keeps. Are says what is known
--- of the packets of the input.
+-- is what is known of its taker, and limits are those that each message keeps. Are says what is
+-- known of the packets of the input.
 use Rattle.std.specs.Prelude.{◌≡◌, ℕ, ◌+◌, ◌-◌, List, [], ◌++◌, true, length, take, Option, None, Some, Result, Ok, Err}
 use Rattle.std.specs.Io.KnownBytes.{Consumes, IsAtEnd}
 use Rattle.dbus_value_model.specs.declared.fault.Fault.{Fault}

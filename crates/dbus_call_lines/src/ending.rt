@@ -14,8 +14,8 @@ use dbus_json::write_string;
 use dbus_show::{Draft, write_integer};
 
 /// Appends what came of a call, as the end of its line. It says how long a reply took, if the time
-/// is known at which the call was captured, as the reply's is. Both are in nanoseconds. It allocates
-/// nothing.
+/// is known at which the call was captured, as the reply's is. Both are in nanoseconds. It
+/// allocates nothing.
 pub fn write_end<D: Draft>(draft: &mut D, form: Form, sent: Option<u64>, outcome: Outcome)
     ensures { D.gains draft.old (end form sent (outcome_seen outcome.entry)) draft.new }
 {

@@ -1,8 +1,8 @@
 //! A call of a method and what came of it, as a line.
 //!
-//! [`CallList`] takes the messages of an input, and writes the lines of its calls, of those that are
-//! [`Wanted`]. [`write_front`] writes a line as far as the call says it, and [`write_end`] what came
-//! of the call, an [`Outcome`]. [`laws::two_parts`] says that these are the line.
+//! [`CallList`] takes the messages of an input, and writes the lines of its calls, of those that
+//! are [`Wanted`]. [`write_front`] writes a line as far as the call says it, and [`write_end`] what
+//! came of the call, an [`Outcome`]. [`laws::two_parts`] says that these are the line.
 #![tactic(auto)]
 
 mod call_list;

@@ -28,9 +28,9 @@ pub enum Outcome<'a> {
     Replaced,
 }
 
-/// What comes of a call that the message of the view ends, which is at this place: its reply, a call
-/// that uses its serial again, or the signal that its caller left. D-Bus Specification, "Message
-/// Types".
+/// What comes of a call that the message of the view ends, which is at this place: its reply, a
+/// call that uses its serial again, or the signal that its caller left. D-Bus Specification,
+/// "Message Types".
 pub fn outcome_of<'a>(place: Place, view: &MessageView<'a>) -> Outcome<'a>
     ensures { (order : Order) (m : MessageTree) → Views view.now order m →
         outcome_seen result ≡ outcome_by place m }

@@ -1,5 +1,5 @@
-//! Captures read in a browser: calls that a module of WebAssembly exports, over the bytes of a page.
-//! D-Bus Specification, "Message Protocol".
+//! Captures read in a browser: calls that a module of WebAssembly exports, over the bytes of a
+//! page. D-Bus Specification, "Message Protocol".
 //!
 //! [`dbus_page_unpack`] takes the bytes of messages out of a file, [`dbus_page_next`] returns
 //! whether bytes begin with a message, [`dbus_page_json`] writes the message as a line of JSON, and

@@ -41,8 +41,8 @@ module _ {R S : Type 0} (left : R → Option (List ℕ)) (calls failures : R →
   AreOfSamePacketsFrom settings = (r : ReadAhead R) (s : ReadAhead S) → TakesHandshake left calls failures settings.handshake r0 r (Ok tt) → TakesHandshake other_left other_calls other_failures settings.handshake s0 s (Ok tt)
       → AreOfSamePackets (ahead left calls failures packets packet r r1) (ahead other_left other_calls other_failures other_packets other_packet s s1)
 
-  -- the same is told of refused messages, with the packets of their faults: the packets are the same,
-  -- or nothing is refused
+  -- the same is told of refused messages, with the packets of their faults: the packets are the
+  -- same, or nothing is refused
   abbrev pub TellAlike : Settings → Type 0
   TellAlike settings = AreOfSamePacketsFrom settings ⊎ (end ≡ status.Done)
 
