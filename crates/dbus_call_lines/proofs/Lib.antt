@@ -1,6 +1,6 @@
 mod LineLaws
 pub mod Rows
-mod Printed
+pub mod Printed
 mod Taken
 pub mod Steps
 mod Ended

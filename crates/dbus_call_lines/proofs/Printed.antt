@@ -109,19 +109,19 @@ decimal_printed n fits = decimal_by_steps (λ _ ds. ArePrinted ds) (λ m small. 
     (λ m ds big h. printed_both ds ((48 + m % 10) ∷ []) h ((omega arith, omega arith), tt)) n fits
 
 module _ (limits : Limits) (order : Order) (m : MessageTree) (is : IsMessage limits order m) where
-  sender_printed : ArePrinted (or_dash (text_at field.SENDER m))
+  pub sender_printed : ArePrinted (or_dash (text_at field.SENDER m))
   sender_printed = field_printed kinds.BusName (λ t h. bus_printed t h.0) (field_value field.SENDER m.fields) (suits_of field.SENDER [] m.fields is.fields)
 
-  destination_printed : ArePrinted (or_dash (text_at field.DESTINATION m))
+  pub destination_printed : ArePrinted (or_dash (text_at field.DESTINATION m))
   destination_printed = field_printed kinds.BusName (λ t h. bus_printed t h.0) (field_value field.DESTINATION m.fields) (suits_of field.DESTINATION [] m.fields is.fields)
 
-  interface_is_printed : ArePrinted (or_dash (text_at field.INTERFACE m))
+  pub interface_is_printed : ArePrinted (or_dash (text_at field.INTERFACE m))
   interface_is_printed = field_printed kinds.Interface (λ t h. interface_printed t h.0) (field_value field.INTERFACE m.fields) (suits_of field.INTERFACE [] m.fields is.fields)
 
-  member_is_printed : ArePrinted (or_dash (text_at field.MEMBER m))
+  pub member_is_printed : ArePrinted (or_dash (text_at field.MEMBER m))
   member_is_printed = field_printed kinds.Member (λ t h. member_printed t h.0) (field_value field.MEMBER m.fields) (suits_of field.MEMBER [] m.fields is.fields)
 
-  error_printed : ArePrinted (or_dash (text_at field.ERROR_NAME m))
+  pub error_printed : ArePrinted (or_dash (text_at field.ERROR_NAME m))
   error_printed = field_printed kinds.ErrorName (λ t h. interface_printed t h.0) (field_value field.ERROR_NAME m.fields) (suits_of field.ERROR_NAME [] m.fields is.fields)
 
   call_printed : (number : ℕ) → number < 2 ^ 64 → ArePrinted (call_text number m)

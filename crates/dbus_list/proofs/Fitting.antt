@@ -7,11 +7,12 @@ use Rattle.std.specs.List.{AllByRecursion, flat_map}
 use Rattle.std.specs.Str.{IsAscii, IsUtf8, chars, encode_utf8_all}
 use Rattle.std.proofs.lemmas.Bool.{and_parts, cases_lt}
 use Rattle.std.proofs.lemmas.Bool.Decides.{nat_tests}
-use Rattle.std.proofs.lemmas.Str.{chars-encodes, encodes-IsAscii, encodes-append, scalars-chars}
+use Rattle.std.proofs.lemmas.Str.{chars-encodes, encodes-IsAscii, encodes-append, encodes-chars, scalars-chars}
 use Rattle.dbus_show.specs.Escapes.{is_hidden, visible}
 use Rattle.dbus_show.proofs.EscapedText.{unicode_ascii}
 use Rattle.dbus_list.specs.Cuts.{cells, cut, front, width}
-use Rattle.dbus_list.specs.Lines.{Fits, IsSafe}
+use Rattle.dbus_list.specs.Lines.{ArePlain, ControlNothing, Fits, HideNothing}
+use Rattle.dbus_list.proofs.Controls.{IsPlain, plain_both, plain_chars, plain_text, plain_unicode}
 use Rattle.dbus_list.proofs.CutTexts.{cut_all, cut_wide, front_ends, front_takes, width_both, width_cons}
 
 both_scalars : (a b : List ℕ) → scalars a ≡ true → scalars b ≡ true → scalars (a ++ b) ≡ true
@@ -126,15 +127,31 @@ module _ (text : List ℕ) (utf8 : IsUtf8 text) where
   visible_seen : AllByRecursion IsSeen (chars (visible text))
   visible_seen = subst (AllByRecursion IsSeen) (sym visible_chars) (all_seen (chars text))
 
-cut_seen : (n : ℕ) (text : List ℕ) → IsUtf8 text → AllByRecursion IsSeen (chars text) → AllByRecursion IsSeen (chars (cut n text))
-cut_seen zero text utf8 h = h
-cut_seen (suc most) text utf8 h = elim (cases_lt (suc most) (width (chars text))) [
-  | inl wide ↦ subst (AllByRecursion IsSeen) (sym (cut_chars most text utf8 wide)) (all_both IsSeen (front most (chars text)) (126 ∷ []) (front_all IsSeen most (chars text) h) (refl, tt))
-  | inr fits ↦ subst (λ (t : List ℕ). AllByRecursion IsSeen (chars t)) (sym (cut_all (suc most) text fits)) h
-]
+-- what holds of each character of a text, and of `~`, holds of those that fit
+module _ (P : ℕ → Type 0) (last : P 126) where
+  cut_holds : (n : ℕ) (text : List ℕ) → IsUtf8 text → AllByRecursion P (chars text) → AllByRecursion P (chars (cut n text))
+  cut_holds zero text utf8 h = h
+  cut_holds (suc most) text utf8 h = elim (cases_lt (suc most) (width (chars text))) [
+    | inl wide ↦ subst (AllByRecursion P) (sym (cut_chars most text utf8 wide)) (all_both P (front most (chars text)) (126 ∷ []) (front_all P most (chars text) h) (last, tt))
+    | inr fits ↦ subst (λ (t : List ℕ). AllByRecursion P (chars t)) (sym (cut_all (suc most) text fits)) h
+  ]
+
+shown_plain : (b : Bool) (c : ℕ) → IsPlain c → ArePlain (cond b (escape_unicode c) (c ∷ []))
+shown_plain true c h = plain_unicode c
+shown_plain false c h = (h, tt)
+
+visible_plain : (cs : List ℕ) → ArePlain cs → ArePlain (flat_map shown cs)
+visible_plain [] h = tt
+visible_plain (c ∷ cs) h = plain_both (shown c) (flat_map shown cs) (shown_plain (is_hidden c) c h.0) (visible_plain cs h.1)
 
 pub fits : Fits
 fits n text some utf8 = fits_cells n (visible text) some (visible_utf8 text utf8)
 
-pub is_safe : IsSafe
-is_safe n text utf8 = cut_seen n (visible text) (visible_utf8 text utf8) (visible_seen text utf8)
+pub hide_nothing : HideNothing
+hide_nothing n text utf8 = cut_holds IsSeen refl n (visible text) (visible_utf8 text utf8) (visible_seen text utf8)
+
+pub control_nothing : ControlNothing
+control_nothing limits order m n place text is listed utf8 =
+    let bytes = plain_text limits order m is n place text listed in
+    let characters = plain_chars (chars text) (subst ArePlain (sym (encodes-chars text utf8)) bytes) in
+    cut_holds IsPlain refl n (visible text) (visible_utf8 text utf8) (subst ArePlain (sym (visible_chars text utf8)) (visible_plain (chars text) characters))

@@ -6,3 +6,4 @@ mod Clocks
 mod Shown
 pub mod SomeLines
 mod Fitting
+mod Controls

@@ -1,11 +1,13 @@
 -- The line of a message for a reader. D-Bus Specification, "Message Types" and "Header Fields".
 use Rattle.std.specs.Prelude.{◌≡◌, ℕ, ◌<◌, ◌≤◌, false, List, [], ◌++◌, length, Option, None, Some, codes, decimal, unwrap_or, ◌==◌, if◌then◌else◌}
+use Rattle.std.specs.Char.{is_ascii_control}
 use Rattle.std.specs.List.{AllByRecursion}
 use Rattle.std.specs.Str.{IsUtf8, chars}
 use Rattle.dbus_texts.specs.Types.{sigs}
+use Rattle.dbus_value_model.specs.declared.limits.Limits.{Limits}
 use Rattle.dbus_value_model.specs.declared.order.Order.{Order}
 use Rattle.dbus_value_model.specs.Values.{types_of}
-use Rattle.dbus_message_model.specs.Messages.{MessageTree, message_bytes}
+use Rattle.dbus_message_model.specs.Messages.{IsMessage, MessageTree, message_bytes}
 use Rattle.dbus_message_model.specs.declared.field_code.TheConstants as field
 use Rattle.dbus_message_model.specs.declared.message_type.TheConstants as message
 use Rattle.dbus_show.specs.Escapes.{is_hidden, visible}
@@ -104,5 +106,12 @@ Fits = (n : ℕ) (text : List ℕ) → 0 < n → IsUtf8 text → width (chars (f
 abbrev pub AreSeen : (characters : List ℕ) → Type 0
 AreSeen cs = AllByRecursion (λ c. is_hidden c ≡ false) cs
 
-abbrev pub IsSafe : Type 0
-IsSafe = (n : ℕ) (text : List ℕ) → IsUtf8 text → AreSeen (chars (fitted n text))
+abbrev pub HideNothing : Type 0
+HideNothing = (n : ℕ) (text : List ℕ) → IsUtf8 text → AreSeen (chars (fitted n text))
+
+-- None of them is a control character of ASCII, if the text is of a message within the limits.
+abbrev pub ArePlain : (characters : List ℕ) → Type 0
+ArePlain cs = AllByRecursion (λ c. is_ascii_control c ≡ false) cs
+
+abbrev pub ControlNothing : Type 0
+ControlNothing = (limits : Limits) (order : Order) (m : MessageTree) (n : ℕ) (place : LinePlace) (text : List ℕ) → IsMessage limits order m → IsListed n place order m text → IsUtf8 text → ArePlain (chars (fitted n text))

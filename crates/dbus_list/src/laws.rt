@@ -1,7 +1,7 @@
 //! Laws of lines. A function's contract is its law; it does nothing when it runs.
 #![tactic(auto)]
 
-ghost use Rattle.dbus_list.specs.Lines.{Fits, IsSafe, IsSomeLineEach};
+ghost use Rattle.dbus_list.specs.Lines.{ControlNothing, Fits, HideNothing, IsSomeLineEach};
 
 /// Each message has a line, whatever its place.
 pub fn some_line_for_a_message()
@@ -15,5 +15,11 @@ pub fn lines_fit()
 
 /// A line has no hidden character, whatever the message holds.
 pub fn lines_hide_nothing()
-    ensures { IsSafe }
+    ensures { HideNothing }
+{}
+
+/// The line of a message has no control character of ASCII before the line feed that ends it,
+/// whatever the message holds that is within the limits.
+pub fn lines_control_nothing()
+    ensures { ControlNothing }
 {}
