@@ -1,23 +1,20 @@
 -- A line has no more cells than it may have, and none of its characters is hidden.
-use Rattle.std.proofs.Common.{◌≡◌, ℕ, zero, suc, ◌-◌, ◌<◌, ◌≤◌, List, [], ◌∷◌, ◌++◌, Bool, true, false, cond, inl, inr, refl, sym, ap, subst, ◌∙◌, arith, append-nil}
+use Rattle.std.proofs.Common.{◌≡◌, ℕ, zero, suc, ◌-◌, ◌<◌, ◌≤◌, List, [], ◌∷◌, ◌++◌, Bool, true, false, cond, inl, inr, refl, sym, ap, subst, ◌∙◌, arith}
 use Rattle.std.proofs.Math.Utf8.{scalar, scalars}
 use Rattle.std.specs.Char.{encode_utf8}
 use Rattle.std.specs.Char.Escape.{escape_unicode}
 use Rattle.std.specs.List.{AllByRecursion, flat_map}
-use Rattle.std.specs.Str.{IsAscii, IsUtf8, chars, encode_utf8_all}
+use Rattle.std.specs.Str.{IsUtf8, chars}
 use Rattle.std.proofs.lemmas.Bool.{and_parts, cases_lt}
 use Rattle.std.proofs.lemmas.Bool.Decides.{nat_tests}
-use Rattle.std.proofs.lemmas.Str.{chars-encodes, encodes-IsAscii, encodes-append, encodes-chars, scalars-chars}
+use Rattle.std.proofs.lemmas.Str.{chars-encodes, encodes-append, encodes-chars, scalars-chars}
 use Rattle.dbus_show.specs.Escapes.{is_hidden, visible}
 use Rattle.dbus_show.proofs.EscapedText.{unicode_ascii}
+use Rattle.dbus_show.proofs.VisibleTexts.{all_ascii, are_scalars, both_scalars, shown, visible_chars, visible_utf8}
 use Rattle.dbus_list.specs.Cuts.{cells, cut, front, width}
 use Rattle.dbus_list.specs.Lines.{ArePlain, ControlNothing, Fits, HideNothing}
 use Rattle.dbus_list.proofs.Controls.{IsPlain, plain_both, plain_chars, plain_text, plain_unicode}
 use Rattle.dbus_list.proofs.CutTexts.{cut_all, cut_wide, front_ends, front_takes, width_both, width_cons}
-
-both_scalars : (a b : List ℕ) → scalars a ≡ true → scalars b ≡ true → scalars (a ++ b) ≡ true
-both_scalars [] b p q = q
-both_scalars (c ∷ a) b p q = let h = and_parts (scalar c) (scalars a) p in rw (h.0, both_scalars a b h.1 q) refl
 
 -- ---- the first characters of a text
 
@@ -41,10 +38,6 @@ all_scalar : (cs : List ℕ) → scalars cs ≡ true → AllByRecursion (λ c. s
 all_scalar [] h = tt
 all_scalar (c ∷ cs) h = let p = and_parts (scalar c) (scalars cs) h in (p.0, all_scalar cs p.1)
 
-are_scalars : (cs : List ℕ) → AllByRecursion (λ c. scalar c ≡ true) cs → scalars cs ≡ true
-are_scalars [] h = refl
-are_scalars (c ∷ cs) h = rw (h.0, are_scalars cs h.1) refl
-
 -- a cut text has the characters of its front, and `~`
 cut_chars : (most : ℕ) (text : List ℕ) → IsUtf8 text → suc most < width (chars text) → chars (cut (suc most) text) ≡ front most (chars text) ++ 126 ∷ []
 unfolding encode_utf8
@@ -67,33 +60,11 @@ fits_cells (suc most) text some utf8 = elim (cases_lt (suc most) (width (chars t
 
 -- ---- its characters
 
--- those that stand for a character
-abbrev shown : ℕ → List ℕ
-shown c = cond (is_hidden c) (escape_unicode c) (c ∷ [])
-
-abbrev written : ℕ → List ℕ
-written c = cond (is_hidden c) (escape_unicode c) (encode_utf8 c)
-
-shown_is : (b : Bool) (c : ℕ) → encode_utf8_all (cond b (escape_unicode c) (c ∷ [])) ≡ cond b (escape_unicode c) (encode_utf8 c)
-shown_is true c = encodes-IsAscii (escape_unicode c) (unicode_ascii c)
-shown_is false c = append-nil (encode_utf8 c)
-
-shown_all : (cs : List ℕ) → encode_utf8_all (flat_map shown cs) ≡ flat_map written cs
-shown_all [] = refl
-shown_all (c ∷ cs) = encodes-append (shown c) (flat_map shown cs) ∙ (λ i. shown_is (is_hidden c) c i ++ shown_all cs i)
-
 abbrev IsSeen : ℕ → Type 0
 IsSeen c = is_hidden c ≡ false
 
 ascii_seen : (c : ℕ) → c < 128 → IsSeen c
 ascii_seen c low = grind (arith, nat_tests)
-
-ascii_scalar : (c : ℕ) → c < 128 → scalar c ≡ true
-ascii_scalar c low = grind (arith, nat_tests)
-
-all_ascii : (P : ℕ → Type 0) → ((c : ℕ) → c < 128 → P c) → (text : List ℕ) → IsAscii text → AllByRecursion P text
-all_ascii P low [] ascii = tt
-all_ascii P low (c ∷ cs) ascii = (low c (ascii 0), all_ascii P low cs (λ i. ascii (suc i)))
 
 all_both : (P : ℕ → Type 0) (a b : List ℕ) → AllByRecursion P a → AllByRecursion P b → AllByRecursion P (a ++ b)
 all_both P [] b p q = q
@@ -107,25 +78,9 @@ all_seen : (cs : List ℕ) → AllByRecursion IsSeen (flat_map shown cs)
 all_seen [] = tt
 all_seen (c ∷ cs) = all_both IsSeen (shown c) (flat_map shown cs) (shown_seen (is_hidden c) c refl) (all_seen cs)
 
-shown_scalars : (b : Bool) (c : ℕ) → scalar c ≡ true → scalars (cond b (escape_unicode c) (c ∷ [])) ≡ true
-shown_scalars true c is = are_scalars (escape_unicode c) (all_ascii (λ d. scalar d ≡ true) ascii_scalar (escape_unicode c) (unicode_ascii c))
-shown_scalars false c is = rw is refl
-
-all_scalars : (cs : List ℕ) → scalars cs ≡ true → scalars (flat_map shown cs) ≡ true
-all_scalars [] h = refl
-all_scalars (c ∷ cs) h =
-    let p = and_parts (scalar c) (scalars cs) h in
-    both_scalars (shown c) (flat_map shown cs) (shown_scalars (is_hidden c) c p.0) (all_scalars cs p.1)
-
 module _ (text : List ℕ) (utf8 : IsUtf8 text) where
-  pub visible_chars : chars (visible text) ≡ flat_map shown (chars text)
-  visible_chars = ap chars (sym (shown_all (chars text))) ∙ chars-encodes (flat_map shown (chars text)) (all_scalars (chars text) (scalars-chars text utf8))
-
-  pub visible_utf8 : IsUtf8 (visible text)
-  visible_utf8 = (flat_map shown (chars text), (all_scalars (chars text) (scalars-chars text utf8), shown_all (chars text)))
-
   visible_seen : AllByRecursion IsSeen (chars (visible text))
-  visible_seen = subst (AllByRecursion IsSeen) (sym visible_chars) (all_seen (chars text))
+  visible_seen = subst (AllByRecursion IsSeen) (sym (visible_chars text utf8)) (all_seen (chars text))
 
 -- what holds of each character of a text, and of `~`, holds of those that fit
 module _ (P : ℕ → Type 0) (last : P 126) where

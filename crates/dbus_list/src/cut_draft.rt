@@ -127,6 +127,13 @@ impl<D: Draft> Draft for CutDraft<'_, D> {
         }
     }
 
+    fn is_full(&self) -> bool {
+        match self.room {
+            Room::Full => true,
+            _ => false,
+        }
+    }
+
     ghost nothing = { laws.nothing D.gains };
 
     ghost joins = { laws.joins D.gains };

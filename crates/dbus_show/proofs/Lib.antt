@@ -1,6 +1,7 @@
 pub mod FieldTexts
 pub mod EscapedText
 pub mod LineFeeds
+pub mod VisibleTexts
 mod PlainFronts
 mod PlainRuns
 mod HexBlocks

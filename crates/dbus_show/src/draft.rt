@@ -1,7 +1,7 @@
 //! What a text is written to, piece by piece.
 #![tactic(auto)]
 
-ghost use Rattle.std.specs.Prelude.{◌<◌, ◌∷◌, List, [], ◌++◌, ℕ};
+ghost use Rattle.std.specs.Prelude.{◌≡◌, ◌<◌, ◌∷◌, List, [], ◌++◌, ℕ, IsUtf8, true};
 
 use std::str;
 
@@ -34,6 +34,15 @@ pub trait Draft {
         let text = [code];
         // The code is ASCII, so that it is text.
         self.push_str(unsafe { str::from_utf8_unchecked(&text) });
+    }
+
+    /// Whether it takes no more, so that what follows may be left out. If it does not know, it may
+    /// return false.
+    #[inline]
+    fn is_full(&self) -> bool
+        ensures { result ≡ true → (text : List ℕ) → IsUtf8 text → gains self.now text self.now }
+    {
+        false
     }
 
     // What is left alone gains nothing.

@@ -20,7 +20,13 @@ impl<D: Draft> Draft for Visible<'_, D> {
     ghost gains = { Sees D.gains };
 
     fn push_str(&mut self, text: &str) {
-        write_escaped(self.draft, text, Escapes::Hidden);
+        if !self.draft.is_full() {
+            write_escaped(self.draft, text, Escapes::Hidden);
+        }
+    }
+
+    fn is_full(&self) -> bool {
+        self.draft.is_full()
     }
 
     ghost nothing = { laws.nothing D.gains D.nothing };
