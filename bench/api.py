@@ -16,7 +16,7 @@ from sources import TYPES, all_items, all_types, cases, exports, methods
 PAGE = ROOT / "docs" / "API.md"
 
 # What a program names in its line of crates.txt. A call is listed under the first of them that has it.
-CALLERS = """dbus_c dbus_page dbus_value dbus_message dbus_compose dbus_body dbus_validate dbus_swap dbus_stream dbus_device dbus_capture dbus_match dbus_rule_set dbus_calls dbus_auth dbus_handshake_input
+CALLERS = """dbus_c dbus_page dbus_value dbus_message dbus_compose dbus_body dbus_validate dbus_swap dbus_stream dbus_device dbus_capture dbus_pcap dbus_match dbus_rule_set dbus_calls dbus_auth dbus_handshake_input
     dbus_auth_lines dbus_count dbus_call_lines dbus_list dbus_show dbus_show_handshake dbus_show_view dbus_json dbus_explain dbus_types dbus_texts dbus_tool cli_run
     cli_options cli_report""".split()
 
