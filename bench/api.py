@@ -31,7 +31,7 @@ HEADINGS = {
     "Make a message and encode it": "dbus_compose dbus_build dbus_encode dbus_body dbus_swap",
     "Values alone": "dbus_unmarshal dbus_marshal dbus_value_model",
     "Read and write streams": """dbus_stream/cutter.rt dbus_stream/message_reader.rt dbus_stream/raw_reader.rt dbus_stream/check_reader.rt
-        dbus_stream/writing.rt dbus_device dbus_capture/capture.rt dbus_capture dbus_stream""",
+        dbus_stream/writing.rt dbus_device dbus_capture/capture.rt dbus_capture dbus_pcap dbus_stream""",
     "Match rules": "dbus_rule/parse.rt dbus_rule/to_text.rt dbus_match dbus_rule dbus_rule_set",
     "Calls and replies": "dbus_calls dbus_call_lines",
     "The handshake": "dbus_auth/server_end.rt dbus_auth/client_end.rt dbus_auth dbus_handshake_input dbus_auth_lines",

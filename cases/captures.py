@@ -1,7 +1,8 @@
 #!/usr/bin/env python3
 """captures.py [PROGRAM]: reads the cases of captures.txt by a reader of its own, and says which differ. It also asks the program dbus-wire, if one is
 given, to check each; of each capture without a fault every front; and of four of these each byte changed in three ways. It compares what the program
-writes with what the reader finds, and of the runs of captured.txt with their columns. The exit status is 1 if something differs.
+writes with what the reader finds, and of the runs of captured.txt with their columns, and reads what `filter` and `swap` write of each capture. The exit
+status is 1 if something differs.
 
 The reader is written from the descriptions of both formats ("PCAP Capture File Format", "PCAP Now Generic (pcapng) Capture File Format"), with the faults
 as the manual page of dbus-wire names them.
@@ -32,6 +33,9 @@ END, RESOLUTION, OFFSET = 0, 9, 14
 # The messages of these captures, and how many bytes each has.
 MESSAGES = [read_parts(it, DATA) for it in ("@return", "@big_return")]
 MESSAGE = 24
+# What a pcap file begins with that is written, and the last time that it can hold.
+HEADER = bytes.fromhex("4d3cb2a1 0200 0400 00000000 00000000 00000008 e7000000")
+LAST_TIME = 2**32 * 10**9 - 1
 # The captures of which each byte is changed.
 CHANGED = ("pcap_one", "big_pcap_one", "pcapng_one", "big_pcapng_one")
 
@@ -218,6 +222,39 @@ def is_run(program, words, column, status, first, second):
     return (ran.returncode, ran.stdout, ran.stderr) == (int(status), read_parts(first, DATA), read_parts(second, DATA))
 
 
+def written(given):
+    """The pcap file that `filter` writes of all whole messages of a capture, and these alone."""
+    file, whole = HEADER, given.data[: len(given.data) // MESSAGE * MESSAGE]
+    for at in range(0, len(whole), MESSAGE):
+        time = next((time for time, end in zip(given.times, given.ends) if end >= at + MESSAGE), None)
+        seconds, fraction = divmod(min(time or 0, LAST_TIME), 10**9)
+        file += b"".join(it.to_bytes(4, "little") for it in (seconds, fraction, MESSAGE, MESSAGE)) + whole[at : at + MESSAGE]
+    return (file if whole and given.times else whole), whole
+
+
+def is_written(program, data):
+    """Whether `filter` and `swap` write what they read of a file of messages of the cases, and read what they wrote alike."""
+    given = read(data)
+    if checked(given) is None:
+        return True
+
+    def ran(words, data):
+        return subprocess.run([program, *words], input=data, capture_output=True).stdout
+
+    file, whole = written(given)
+    nothing = ran(("filter", "type=error"), data), ran(("filter", "--limit", "0", ""), data)
+    both = [ran(("swap", "--to", "l"), it) for it in (data, ran(("swap", "--to", "B"), data))]
+    return (
+        ran(("filter", ""), data) == ran(("filter", ""), file) == file
+        and ran(("filter", "--raw", ""), data) == ran(("filter", "--raw", ""), file) == whole
+        and nothing == (HEADER if file != whole else b"",) * 2
+        and both[0] == both[1]
+        and ran(("swap", "--raw", "--to", "l"), data) == read(both[0]).data
+        and read(both[0]).times == read(file).times
+        and read(both[0]).fault == ()
+    )
+
+
 def main(program=None):
     cases, wrong = read_cases(DATA / "captures.txt"), []
     asked = []
@@ -236,6 +273,9 @@ def main(program=None):
         with futures.ThreadPoolExecutor(os.cpu_count()) as pool:
             answers = pool.map(lambda it: is_checked(program, it[1]), asked)
             wrong += [f"{name}: {data.hex()}" for (name, data), is_right in zip(asked, answers) if not is_right]
+            named = [(name, read_parts(column, DATA)) for name, column, *_ in cases]
+            answers = pool.map(lambda it: is_written(program, it[1]), named)
+            wrong += [f"{name} is written otherwise" for (name, _), is_right in zip(named, answers) if not is_right]
         runs = read_cases(DATA / "captured.txt")
         wrong += [f"the run {name} differs" for name, *columns in runs if not is_run(program, *columns)]
         asked += runs

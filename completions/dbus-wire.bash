@@ -56,11 +56,11 @@ _dbus_wire() {
     esac
     case ${COMP_WORDS[1]} in
         swap)
-            COMPREPLY=($(compgen -W "--to $options" -- "$word"))
+            COMPREPLY=($(compgen -W "--to --raw $options" -- "$word"))
             ;;
         filter)
             if [[ $word == -* ]]; then
-                COMPREPLY=($(compgen -W "--invert --owner --learn-owners --skip --limit --keep-going $options" -- "$word"))
+                COMPREPLY=($(compgen -W "--invert --owner --learn-owners --raw --skip --limit --keep-going $options" -- "$word"))
             else
                 _dbus_wire_rule
             fi

@@ -38,6 +38,7 @@ complete -c dbus-wire -n '__fish_seen_subcommand_from filter' -l invert -f -d 'W
 complete -c dbus-wire -n '__fish_seen_subcommand_from filter' -l owner -x -d 'The owner of a well-known name, NAME=UNIQUE'
 complete -c dbus-wire -n '__fish_seen_subcommand_from filter' -l learn-owners -f -d 'Learn owners from signals of the bus'
 complete -c dbus-wire -n '__fish_seen_subcommand_from filter' -f -a '(__dbus_wire_rule)'
+complete -c dbus-wire -n '__fish_seen_subcommand_from swap filter' -l raw -f -d 'Write raw messages, also of a file'
 complete -c dbus-wire -n '__fish_seen_subcommand_from show json list filter' -l skip -x -d 'Messages to skip first'
 complete -c dbus-wire -n '__fish_seen_subcommand_from show json list filter' -l limit -x -d 'Most messages to write'
 complete -c dbus-wire -n '__fish_seen_subcommand_from show json list check count calls filter' -l keep-going -f -d 'Go on after a refused message'

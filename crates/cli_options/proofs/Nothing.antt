@@ -49,8 +49,8 @@ module _ (rows : List Row) (no_side : (side : Side) → first_of (codes "side") 
   no_messages (Json times) named = let bad : ◌≡◌ {A = ℕ} 104 106 = ap (λ t. slice_index t 0) named.0 in absurd (omega arith)
   no_messages (Listing width) named = let bad : ◌≡◌ {A = ℕ} 104 108 = ap (λ t. slice_index t 0) named.0 in absurd (omega arith)
   no_messages Check named = let bad : ◌≡◌ {A = ℕ} 104 99 = ap (λ t. slice_index t 0) named in absurd (omega arith)
-  no_messages (Swap order) named = let bad : ◌≡◌ {A = ℕ} 104 115 = ap (λ t. slice_index t 0) named.0 in absurd (omega arith)
-  no_messages (Filter selection) named = let bad : ◌≡◌ {A = ℕ} 104 102 = ap (λ t. slice_index t 0) named.0 in absurd (omega arith)
+  no_messages (Swap order form) named = let bad : ◌≡◌ {A = ℕ} 104 115 = ap (λ t. slice_index t 0) named.0 in absurd (omega arith)
+  no_messages (Filter selection form) named = let bad : ◌≡◌ {A = ℕ} 104 102 = ap (λ t. slice_index t 0) named.0 in absurd (omega arith)
 
   unsided : (asked : Asked) → Names (Some (codes "handshake", rows)) asked → ⊥
   unsided (Messages command settings) named = no_messages command named.0
@@ -71,8 +71,8 @@ module _ (rows : List Row) (no_wanted : (wanted : WantedCalls) → HasWanted row
   no_calls (Json times) named = let bad : ◌≡◌ {A = ℕ} 99 106 = ap (λ t. slice_index t 0) named.0 in absurd (omega arith)
   no_calls (Listing width) named = let bad : ◌≡◌ {A = ℕ} 99 108 = ap (λ t. slice_index t 0) named.0 in absurd (omega arith)
   no_calls Check named = let bad : ◌≡◌ {A = ℕ} 97 104 = ap (λ t. slice_index t 1) named in absurd (omega arith)
-  no_calls (Swap order) named = let bad : ◌≡◌ {A = ℕ} 99 115 = ap (λ t. slice_index t 0) named.0 in absurd (omega arith)
-  no_calls (Filter selection) named = let bad : ◌≡◌ {A = ℕ} 99 102 = ap (λ t. slice_index t 0) named.0 in absurd (omega arith)
+  no_calls (Swap order form) named = let bad : ◌≡◌ {A = ℕ} 99 115 = ap (λ t. slice_index t 0) named.0 in absurd (omega arith)
+  no_calls (Filter selection form) named = let bad : ◌≡◌ {A = ℕ} 99 102 = ap (λ t. slice_index t 0) named.0 in absurd (omega arith)
 
   unlisted : (asked : Asked) → Names (Some (codes "calls", rows)) asked → ⊥
   unlisted (Messages command settings) named = no_calls command named.0
@@ -92,8 +92,8 @@ module _ (rows : List Row) (no_order : (order : Order) → first_of (codes "to")
   unordered_command (Json times) named = let bad : ◌≡◌ {A = ℕ} 115 106 = ap (λ t. slice_index t 0) named.0 in absurd (omega arith)
   unordered_command (Listing width) named = let bad : ◌≡◌ {A = ℕ} 115 108 = ap (λ t. slice_index t 0) named.0 in absurd (omega arith)
   unordered_command Check named = let bad : ◌≡◌ {A = ℕ} 115 99 = ap (λ t. slice_index t 0) named in absurd (omega arith)
-  unordered_command (Swap order) named = no_order order named.1
-  unordered_command (Filter selection) named = let bad : ◌≡◌ {A = ℕ} 115 102 = ap (λ t. slice_index t 0) named.0 in absurd (omega arith)
+  unordered_command (Swap order form) named = no_order order named.1
+  unordered_command (Filter selection form) named = let bad : ◌≡◌ {A = ℕ} 115 102 = ap (λ t. slice_index t 0) named.0 in absurd (omega arith)
 
   -- `swap` with no order
   pub unordered_is_no_command : IsNoCommand (codes "swap") rows
@@ -108,8 +108,8 @@ module _ (rows : List Row) (no_width : (width : ℕ) → HasWidth rows width →
   unwide_command (Json times) named = let bad : ◌≡◌ {A = ℕ} 108 106 = ap (λ t. slice_index t 0) named.0 in absurd (omega arith)
   unwide_command (Listing width) named = no_width width named.1
   unwide_command Check named = let bad : ◌≡◌ {A = ℕ} 108 99 = ap (λ t. slice_index t 0) named in absurd (omega arith)
-  unwide_command (Swap order) named = let bad : ◌≡◌ {A = ℕ} 108 115 = ap (λ t. slice_index t 0) named.0 in absurd (omega arith)
-  unwide_command (Filter selection) named = let bad : ◌≡◌ {A = ℕ} 108 102 = ap (λ t. slice_index t 0) named.0 in absurd (omega arith)
+  unwide_command (Swap order form) named = let bad : ◌≡◌ {A = ℕ} 108 115 = ap (λ t. slice_index t 0) named.0 in absurd (omega arith)
+  unwide_command (Filter selection form) named = let bad : ◌≡◌ {A = ℕ} 108 102 = ap (λ t. slice_index t 0) named.0 in absurd (omega arith)
 
   -- `list` with no width
   pub unwide_is_no_command : IsNoCommand (codes "list") rows
@@ -125,8 +125,8 @@ module _ (rows : List Row) (no_selection : (selection : Selection) → IsSelecti
   unselected_command (Json times) named = let bad : ◌≡◌ {A = ℕ} 102 106 = ap (λ t. slice_index t 0) named.0 in absurd (omega arith)
   unselected_command (Listing width) named = let bad : ◌≡◌ {A = ℕ} 102 108 = ap (λ t. slice_index t 0) named.0 in absurd (omega arith)
   unselected_command Check named = let bad : ◌≡◌ {A = ℕ} 102 99 = ap (λ t. slice_index t 0) named in absurd (omega arith)
-  unselected_command (Swap order) named = let bad : ◌≡◌ {A = ℕ} 102 115 = ap (λ t. slice_index t 0) named.0 in absurd (omega arith)
-  unselected_command (Filter selection) named = no_selection selection named.1
+  unselected_command (Swap order form) named = let bad : ◌≡◌ {A = ℕ} 102 115 = ap (λ t. slice_index t 0) named.0 in absurd (omega arith)
+  unselected_command (Filter selection form) named = no_selection selection named.1
 
 none_given : (rows : List Row) (texts : List Text) → all_of (codes "rule") rows ≡ None → all_of (codes "rule") rows ≡ Some texts → ⊥
 none_given rows texts no_text given = let bad : None ≡ Some texts = sym no_text ∙ given in cc

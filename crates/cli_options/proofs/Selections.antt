@@ -23,6 +23,8 @@ use Rattle.cli_options.specs.declared.selection.Selection.{Selection}
 use Rattle.cli_options.specs.declared.command.Command.{Command}
 use Rattle.cli_options.specs.declared.command.Command.TheVariants.{Show, Json, List as Listing, Check, Swap, Filter}
 use Rattle.cli_options.specs.contracts.command.CommandPartialEq.TheImpl as command_eq
+use Rattle.cli_options.specs.contracts.file_form.FileFormPartialEq.TheImpl as form_eq
+use Rattle.cli_options.specs.declared.file_form.FileForm.{FileForm}
 
 -- ---- which messages are selected
 
@@ -74,15 +76,18 @@ selections_equal a b =
 
 -- Commands are equal exactly where they are the same.
 
+forms_equal : (a b : FileForm) → Decides (form_eq.ghosts.eq a b) (a ≡ b)
+forms_equal a b = grind (arith, common_steps)
+
 pub commands_equal : (a b : Command) → Decides (command_eq.ghosts.eq a b) (AreSameCommand a b)
 commands_equal (Show a) b = grind (arith, common_steps)
 commands_equal (Json a) b = grind (arith, common_steps)
 commands_equal (Listing a) b = grind (arith, common_steps)
 commands_equal Check b = grind (arith, common_steps)
-commands_equal (Swap a) b = grind (arith, common_steps)
-commands_equal (Filter r) (Show b) = grind (arith, common_steps)
-commands_equal (Filter r) (Json b) = grind (arith, common_steps)
-commands_equal (Filter r) (Listing b) = grind (arith, common_steps)
-commands_equal (Filter r) Check = grind (arith, common_steps)
-commands_equal (Filter r) (Swap b) = grind (arith, common_steps)
-commands_equal (Filter r) (Filter s) = selections_equal r s
+commands_equal (Swap a f) b = grind (arith, common_steps)
+commands_equal (Filter r f) (Show b) = grind (arith, common_steps)
+commands_equal (Filter r f) (Json b) = grind (arith, common_steps)
+commands_equal (Filter r f) (Listing b) = grind (arith, common_steps)
+commands_equal (Filter r f) Check = grind (arith, common_steps)
+commands_equal (Filter r f) (Swap b g) = grind (arith, common_steps)
+commands_equal (Filter r f) (Filter s g) = Decides-and _ _ (selections_equal r s) (forms_equal f g)

@@ -73,10 +73,13 @@ abbrev pub check_app : App
 check_app = with_keep_going (new_app (codes "check"))
 
 abbrev pub swap_app : App
-swap_app = with_options (with_rule (new_app (codes "swap")) (needed_rule (codes "to")))
+swap_app = with_options (with_rule (with_rule (new_app (codes "swap")) (needed_rule (codes "to"))) (flag_rule (codes "raw")))
 
 abbrev pub filter_app : App
-filter_app = with_window (with_rule (with_rule (with_rule (with_rule (new_app (codes "filter")) text_rule) (flag_rule (codes "invert"))) owner_rule) (flag_rule (codes "learn-owners")))
+filter_app = with_window
+    (with_rule
+    (with_rule (with_rule (with_rule (with_rule (new_app (codes "filter")) text_rule) (flag_rule (codes "invert"))) owner_rule) (flag_rule (codes "learn-owners")))
+    (flag_rule (codes "raw")))
 
 abbrev pub count_app : App
 count_app = with_keep_going (with_rule (new_app (codes "count")) (flag_rule (codes "json")))

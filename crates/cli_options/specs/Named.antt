@@ -10,6 +10,8 @@ use Rattle.dbus_rule.specs.Faults.{IsFault}
 use Rattle.dbus_match.specs.Matching.{Ownership}
 use Rattle.dbus_rule.specs.Rules.{Pair, SpellsRule}
 use Rattle.dbus_rule.specs.RuleViews.{rule_pairs}
+use Rattle.cli_options.specs.declared.file_form.FileForm.{FileForm}
+use Rattle.cli_options.specs.declared.file_form.FileForm.TheVariants as files
 use Rattle.cli_options.specs.declared.form.CountForm.{CountForm}
 use Rattle.cli_options.specs.declared.form.CountForm.TheVariants as written
 use Rattle.dbus_handshake_input.specs.declared.side.Side.{Side}
@@ -63,6 +65,10 @@ AreRulesOf texts rules = AllZip (λ text rule. SpellsRule text (rule_pairs rule)
 abbrev pub IsGiven : Text → List Row → Type 0
 IsGiven name rows = first_of name rows ≡ Some (codes "true")
 
+-- the messages are written raw if `--raw` is one of the words
+abbrev pub HasFileForm : List Row → FileForm → Type 0
+HasFileForm rows form = (form ≡ files.Raw) ↔ IsGiven (codes "raw") rows
+
 -- the words after `filter` are texts that spell the rules, in their order; and so are the owners
 -- given, and it learns others if it is to
 pub record IsSelectionGiven (rows : List Row) (selection : Selection) : Type 0 where
@@ -80,8 +86,8 @@ NamesCommand name rows (Show times) = (name ≡ codes "show") × ((times ≡ tru
 NamesCommand name rows (Json times) = (name ≡ codes "json") × ((times ≡ false) ↔ IsGiven (codes "no-time") rows)
 NamesCommand name rows (Listing width) = (name ≡ codes "list") × HasWidth rows width
 NamesCommand name rows Check = name ≡ codes "check"
-NamesCommand name rows (Swap order) = (name ≡ codes "swap") × (first_of (codes "to") rows ≡ Some (order_word order))
-NamesCommand name rows (Filter selection) = (name ≡ codes "filter") × IsSelectionGiven rows selection
+NamesCommand name rows (Swap order form) = (name ≡ codes "swap") × (first_of (codes "to") rows ≡ Some (order_word order)) × HasFileForm rows form
+NamesCommand name rows (Filter selection form) = (name ≡ codes "filter") × IsSelectionGiven rows selection × HasFileForm rows form
 
 -- the words after a subcommand name the limits, the side and the window, and have each flag that is
 -- set and no other

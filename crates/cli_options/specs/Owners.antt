@@ -68,5 +68,5 @@ lacks_owner (Show times) = false
 lacks_owner (Json times) = false
 lacks_owner (Listing width) = false
 lacks_owner Check = false
-lacks_owner (Swap order) = false
-lacks_owner (Filter selection) = selection_lacks_owner selection
+lacks_owner (Swap order form) = false
+lacks_owner (Filter selection form) = selection_lacks_owner selection

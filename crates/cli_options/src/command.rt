@@ -1,4 +1,5 @@
 //! The commands.
+use crate::file_form::FileForm;
 use crate::selection::Selection;
 use dbus_value_model::Order;
 
@@ -19,8 +20,8 @@ pub enum Command {
     List(u16),
     /// Checks that the input is messages, and counts them.
     Check,
-    /// Writes each message in this byte order.
-    Swap(Order),
-    /// Writes the messages that are selected, as they came.
-    Filter(Selection),
+    /// Writes each message in this byte order, in this form.
+    Swap(Order, FileForm),
+    /// Writes the messages that are selected, each in its own byte order, in this form.
+    Filter(Selection, FileForm),
 }

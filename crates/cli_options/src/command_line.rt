@@ -1,12 +1,13 @@
 //! The command that the words of a command line name.
 ghost use Rattle.std.specs.Prelude.{◌≡◌, ◌↔◌, true, List, Some, IfOk, MatchOption, map, string_bytes, codes};
 ghost use Rattle.clap.specs.Words.{found_of, kind_of, rows_of, subcommand_rows_of};
-ghost use Rattle.cli_options.specs.Named.{GivesWanted, HasForm, HasSettings, HasSide, IsGiven, IsNamedBy, IsOrderOf, IsSideOf, words_of};
+ghost use Rattle.cli_options.specs.Named.{GivesWanted, HasFileForm, HasForm, HasSettings, HasSide, IsGiven, IsNamedBy, IsOrderOf, IsSideOf, words_of};
 ghost use Rattle.cli_options.specs.Limiting.{TellsNamed};
 ghost use Rattle.cli_options.specs.Told.{TellsKind, Tells, TellsCommand, TellsFault, TellsOwners};
 
 use crate::asked::Asked;
 use crate::command::Command;
+use crate::file_form::FileForm;
 use crate::form::CountForm;
 use crate::limits_named::{given_named, limits_named, width_named, window_named};
 use crate::owners::owners_given;
@@ -28,7 +29,8 @@ use std::alloc::Global;
 /// `--max-array`, in bytes, `--max-depth`, in open containers, and `--fds`, a rule on indexes of
 /// descriptors, name the limits; one that they do not name is that of the specification. The flags
 /// `--explain`, and `--keep-going` of all commands but `swap`, are set if they are among the words,
-/// and `--json` of `count` is its form. `--json`, `--unanswered`, `--errors` and `--slower`, in
+/// and `--json` of `count` is its form. `--raw`, of `filter` and `swap`, is the form in which they
+/// write messages. `--json`, `--unanswered`, `--errors` and `--slower`, in
 /// milliseconds, of `calls` say what it lists. `--time` of `show` and `--no-time` of `json` say
 /// whether times are written. `--handshake` names the side whose handshake comes before the
 /// messages. `--skip` and `--limit`, of `show`, `json`, `list` and `filter`, are the numbers of the
@@ -212,8 +214,19 @@ fn order_named(alloc: Global, inner: &ArgMatches) -> Result<Command, UsageFault>
         return Err(usage(alloc, "error: no order\n"));
     };
     match order_of(word) {
-        Some(order) => Ok(Command::Swap(order)),
+        Some(order) => Ok(Command::Swap(order, file_form_named(inner))),
         None => Err(bad_value(alloc, word, "--to <ORDER>", "l, B")),
+    }
+}
+
+// The form in which messages are to be written.
+fn file_form_named(inner: &ArgMatches) -> FileForm
+    ensures { HasFileForm (rows_of (found_of inner.now)) result }
+{
+    if is_given(inner, "raw") {
+        FileForm::Raw
+    } else {
+        FileForm::AsRead
     }
 }
 
@@ -239,12 +252,13 @@ fn selection_named(alloc: Global, inner: &ArgMatches) -> Result<Command, UsageFa
     };
     let owners = owners_named(alloc, inner)?;
     let rules = rules_spelled(alloc, texts, is_given(inner, "explain"))?;
-    Ok(Command::Filter(Selection {
+    let selection = Selection {
         rules,
         is_inverted: is_given(inner, "invert"),
         owners,
         learns: is_given(inner, "learn-owners"),
-    }))
+    };
+    Ok(Command::Filter(selection, file_form_named(inner)))
 }
 
 // The owners that `--owner` gives.

@@ -19,8 +19,8 @@ impl Clone for Command {
             Command::Json { times } => Ok(Command::Json { times: *times }),
             Command::List(width) => Ok(Command::List(*width)),
             Command::Check => Ok(Command::Check),
-            Command::Swap(order) => Ok(Command::Swap(*order)),
-            Command::Filter(selection) => Ok(Command::Filter(selection.clone()?)),
+            Command::Swap(order, form) => Ok(Command::Swap(*order, *form)),
+            Command::Filter(selection, form) => Ok(Command::Filter(selection.clone()?, *form)),
         }
     }
 }

@@ -225,8 +225,9 @@ pub(crate) const SWAP_USAGE: &str = "dbus-wire swap [OPTIONS] --to <ORDER> < FIL
 /// What follows the help of `swap`.
 pub(crate) const SWAP_MORE: &str = more!(
     "
-  The raw messages on standard output, each in the byte order that is named.
-  If the input is refused, `refused at P: NAME` on standard error.",
+  The messages on standard output, each in the byte order that is named: raw, or
+  of a pcap or pcapng file as a pcap file with their times. If the input is
+  refused, `refused at P: NAME` on standard error.",
     "",
     "
   dbus-wire swap --to B < capture > big-endian"
@@ -234,6 +235,9 @@ pub(crate) const SWAP_MORE: &str = more!(
 
 /// What the order of `swap` is.
 pub(crate) const ORDER: &str = "The byte order: l is little-endian, B is big-endian";
+
+/// What `--raw` of `swap` and `filter` does.
+pub(crate) const RAW: &str = "Writes raw messages, also of a pcap or pcapng file";
 
 /// What `filter` does.
 pub(crate) const FILTER: &str = "Writes the messages that match a rule, as they came";
@@ -244,11 +248,12 @@ pub(crate) const FILTER_USAGE: &str = "dbus-wire filter [OPTIONS] <RULE>... < FI
 /// What follows the help of `filter`.
 pub(crate) const FILTER_MORE: &str = more!(
     going "
-  The raw messages that match one of the rules, or with --invert none of them,
-  on standard output, each as it came. Each word is a rule: `type=error,member=M`
-  asks for both, and `type=error member=M` for one of the two. If the input is
-  refused, `refused at P: NAME` on standard error. If a rule is refused, the
-  first such rule gives `rule refused at P: NAME` there, with the place in it.
+  The messages that match one of the rules, or with --invert none of them, on
+  standard output, each as it came: raw, or of a pcap or pcapng file as a pcap
+  file with their times. Each word is a rule: `type=error,member=M` asks for
+  both, and `type=error member=M` for one of the two. If the input is refused,
+  `refused at P: NAME` on standard error. If a rule is refused, the first such
+  rule gives `rule refused at P: NAME` there, with the place in it.
 
   Who owns a well-known name is not known, so sender='org.a.B' matches only a
   message that has that name itself. With --owner org.a.B=:1.7 it also matches

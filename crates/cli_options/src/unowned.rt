@@ -18,7 +18,7 @@ impl Command {
         ensures { result ≡ lacks_owner self.now }
     {
         match self {
-            Command::Filter(selection) => selection.lacks_owner(),
+            Command::Filter(selection, _) => selection.lacks_owner(),
             _ => false,
         }
     }

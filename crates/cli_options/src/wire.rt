@@ -221,13 +221,15 @@ fn calls_command<'a>(alloc: Global) -> Result<Command<'a>, AllocError>
     with_keep_going(alloc, with_arg(failing, slower))
 }
 
-// `swap`, with its order.
+// `swap`, with its order, and its flag beside the options of each command.
 fn swap_command<'a>(alloc: Global) -> Result<Command<'a>, AllocError>
     ensures { IfOk result (IsLocal swap_app) }
 {
     let swap = bare(alloc, "swap", help::SWAP, help::SWAP_USAGE, help::SWAP_MORE);
     let to = needed_option(alloc, "to", "ORDER", help::ORDER);
-    with_options(alloc, with_arg(swap, to))
+    let ordered = with_arg(swap, to);
+    let formed = with_arg(ordered, flag(alloc, "raw", help::RAW));
+    with_options(alloc, formed)
 }
 
 // `filter`, with its rules, and its options beside those of each command.
@@ -245,7 +247,8 @@ fn filter_command<'a>(alloc: Global) -> Result<Command<'a>, AllocError>
     let inverting = with_arg(ruled, flag(alloc, "invert", help::INVERT));
     let owning = with_arg(inverting, owner_option(alloc));
     let learning = with_arg(owning, flag(alloc, "learn-owners", help::LEARN_OWNERS));
-    with_window(alloc, learning)
+    let formed = with_arg(learning, flag(alloc, "raw", help::RAW));
+    with_window(alloc, formed)
 }
 
 // `handshake`, with its side.

@@ -1,49 +1,13 @@
 //! Bytes that are gathered before they are written.
 ghost use Rattle.std.specs.Prelude.{◌≡◌, []};
-ghost use Rattle.cli_report.specs.Gathering.{Gathers, GathersOrNot, gathered_bytes};
+ghost use Rattle.cli_report.specs.Gathering.{Gathers, gathered_bytes};
 
-use crate::ending::Cause;
 use crate::output_buffer::OutputBuffer;
 use dbus_stream::{Sink, WrittenOnly, write_all};
 
 /// A write failed, or took none of its bytes.
 #[derive(Clone, Copy, Debug, PartialEq, Eq)]
 pub struct Unwritten;
-
-// Gathers the bytes. If there is no room for them, what is gathered is written, and they are after
-// it.
-fn gather<W: Sink>(
-    bytes: &[u8],
-    gathered: &mut OutputBuffer,
-    first: &mut W,
-) -> Result<(), Unwritten>
-    ensures { Gathers W.held W.failures bytes.now (gathered_bytes gathered.old)
-        (gathered_bytes gathered.new) first.old
-        first.new result }
-{
-    if gathered.push(bytes) {
-        return Ok(());
-    }
-    write_after(bytes, gathered, first)
-}
-
-/// Gathers the bytes. If there is no room for them, what is gathered is written, and they after it.
-///
-/// `WriteFailed`: a write failed, or took none of its bytes.
-pub fn put_out<W: Sink>(
-    bytes: &[u8],
-    gathered: &mut OutputBuffer,
-    first: &mut W,
-) -> Result<(), Cause>
-    ensures { GathersOrNot W.held W.failures bytes.now (gathered_bytes gathered.old)
-        (gathered_bytes gathered.new)
-        first.old first.new result }
-{
-    match gather(bytes, gathered, first) {
-        Ok(()) => Ok(()),
-        Err(Unwritten) => Err(Cause::WriteFailed),
-    }
-}
 
 /// Writes what is gathered, and then these bytes.
 pub(crate) fn write_after<W: Sink>(

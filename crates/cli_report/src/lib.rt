@@ -1,9 +1,8 @@
 //! What a program over messages says on its writers, and how it ends.
 //!
-//! [`OutputBuffer`] holds bytes until there are enough to write: [`put_out`] and [`write_out`] are
-//! its calls, and a [`Page`] is a text that goes there as it comes. [`refusal_text`] is the report
-//! of a message that is refused, [`give_up`] reports why a run failed, and [`ExitStatus`] is how it
-//! ends.
+//! [`OutputBuffer`] holds bytes until there are enough to write, a [`Page`] is what goes there as it
+//! comes, and [`write_out`] writes it. [`refusal_text`] is the report of a message that is refused,
+//! [`give_up`] reports why a run failed, and [`ExitStatus`] is how it ends.
 #![tactic(auto)]
 
 mod ending;
@@ -16,7 +15,7 @@ mod telling;
 
 pub use ending::{Cause, ExitStatus};
 pub use failing::give_up;
-pub use gathering::{Unwritten, put_out, write_out};
+pub use gathering::{Unwritten, write_out};
 pub use lines::refused_line;
 pub use output_buffer::OutputBuffer;
 pub use page::Page;

@@ -10,7 +10,7 @@ use crate::output_buffer::OutputBuffer;
 use dbus_show::Draft;
 use dbus_stream::Sink;
 
-/// A text that goes to a writer by what is gathered for it. Once a write failed, nothing more is
+/// What goes to a writer by what is gathered for it. Once a write failed, nothing more is
 /// written.
 #[derive(Drop)]
 pub struct Page<'a, W> {
@@ -23,13 +23,23 @@ pub struct Page<'a, W> {
 }
 
 impl<W: Sink> Page<'_, W> {
-    /// Writes what is gathered and then a text, which has no room beside it.
+    /// Appends bytes.
+    #[inline]
+    pub fn push_bytes(&mut self, bytes: &[u8])
+        ensures { Goes W.held W.failures self.old bytes.now self.new }
+    {
+        if !self.gathered.push(bytes) {
+            self.push_past(bytes);
+        }
+    }
+
+    /// Writes what is gathered and then bytes, which have no room beside it.
     #[inline(never)]
-    fn push_past(&mut self, text: &str)
-        ensures { Goes W.held W.failures self.old text.now self.new }
+    fn push_past(&mut self, bytes: &[u8])
+        ensures { Goes W.held W.failures self.old bytes.now self.new }
     {
         if !self.failed {
-            self.failed = write_after(text.as_bytes(), self.gathered, self.first).is_err();
+            self.failed = write_after(bytes, self.gathered, self.first).is_err();
         }
     }
 
@@ -49,9 +59,7 @@ impl<W: Sink> Draft for Page<'_, W> {
 
     #[inline]
     fn push_str(&mut self, text: &str) {
-        if !self.gathered.push(text.as_bytes()) {
-            self.push_past(text);
-        }
+        self.push_bytes(text.as_bytes());
     }
 
     #[inline]

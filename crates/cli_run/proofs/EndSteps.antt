@@ -13,7 +13,7 @@ use Rattle.cli_report.specs.Telling.{Told}
 use Rattle.cli_report.specs.declared.ending.Cause.TheVariants.{Memory, WriteFailed}
 use Rattle.cli_report.specs.declared.ending.ExitStatus.{ExitStatus}
 use Rattle.cli_report.specs.declared.ending.ExitStatus.TheVariants as status
-use Rattle.cli_run.specs.Output.{command_of, IsOutputOfAll, is_check, owners_known, written}
+use Rattle.cli_run.specs.Output.{command_of, form_of, IsOutputOfAll, is_check, output_of, owners_known}
 use Rattle.cli_run.specs.Going.{GoesThrough, StopsWithin}
 use Rattle.cli_run.specs.Inputs.{Placed}
 use Rattle.cli_run.specs.OutputWriting.{LeavesFirst, LeavesWritten, WritesAll}
@@ -46,7 +46,7 @@ pub unread : {R W E : Type 0} (left : R → Option (List ℕ)) (calls read_failu
     (settings : Settings) (most : ℕ) (command : Command) (end : ExitStatus) → end ≡ status.Failed → Told second_held second_failures e0 e1 Memory
     → RunsWith (reading left calls read_failures packets r r) (writing held failures w w) (writing second_held second_failures e0 e1) settings most command end
 unread left calls read_failures packets r held failures w second_held second_failures e0 e1 settings most command end failed told =
-    let none : [] ≡ first_of (is_check command) (written settings.window []) [] = sym (ap (λ l. first_of (is_check command) l []) (written_none settings.window) ∙ first_nothing (is_check command)) in
+    let none : [] ≡ first_of (is_check command) (output_of (form_of command) false settings.window [] []) [] = sym (ap (λ l. first_of (is_check command) l []) (written_none settings.window) ∙ first_nothing (is_check command)) in
     inr (record {
       failed = failed;
       stop = ByCause Memory;
@@ -73,7 +73,7 @@ unread left calls read_failures packets r held failures w second_held second_fai
 
 -- the writers at the end are w2 and e2
 module _ {A W E : Type 0} (held : W → Option (List ℕ)) (failures : W → ℕ) (second_held : E → Option (List ℕ)) (second_failures : E → ℕ) (a b : OutputWriter A W E) (settings : Settings) (command : Command)
-    (own : command_of a.output ≡ command) (carried : a.carried ≡ record { window = settings.window; owners = None }) (none : gathered_bytes a.gathered ≡ []) {w2 : W} {e2 : E}
+    (own : command_of a.output ≡ command) (carried : a.carried ≡ record { window = settings.window; begun = false; owners = None }) (none : gathered_bytes a.gathered ≡ []) {w2 : W} {e2 : E}
     (first : b.first.now ≡ w2) (second : b.second.now ≡ e2) where
   abbrev w : Writing W
   w = writing held failures a.first.now w2
@@ -89,7 +89,7 @@ module _ {A W E : Type 0} (held : W → Option (List ℕ)) (failures : W → ℕ
   writes_as last items told h = record {
     texts = h.texts;
     made = made_as items h.texts h.made;
-    first = transport (λ i. Wrote held failures a.first.now (first_of (is_check (own i)) (written (carried i).window h.texts) told) (first i))
+    first = transport (λ i. Wrote held failures a.first.now (first_of (is_check (own i)) (output_of (form_of (own i)) (carried i).begun (carried i).window items h.texts) told) (first i))
         (passes_whole held failures _ (gathered_bytes a.gathered) (gathered_bytes b.gathered) a.first.now b.first.now none last h.passes);
     second = transport (λ i. Wrote second_held second_failures a.second.now (second_of (is_check (own i)) told) (second i)) h.tells;
   }
@@ -98,7 +98,7 @@ module _ {A W E : Type 0} (held : W → Option (List ℕ)) (failures : W → ℕ
   leaves_as stop items told h = record {
     texts = h.texts;
     made = made_as items h.texts h.made;
-    first = transport (λ i. GotFirst held failures (is_check (own i)) stop (first_of (is_check (own i)) (written (carried i).window h.texts) told) a.first.now (first i))
+    first = transport (λ i. GotFirst held failures (is_check (own i)) stop (first_of (is_check (own i)) (output_of (form_of (own i)) (carried i).begun (carried i).window items h.texts) told) a.first.now (first i))
         (got_first held failures (gathered_bytes a.gathered) a.first.now b.first.now none (is_check (command_of a.output)) stop _ h.leaves);
     second = transport (λ i. GotSecond second_held second_failures (is_check (own i)) stop (second_of (is_check (own i)) told) a.second.now (second i)) h.tells;
   }

@@ -29,7 +29,7 @@ use Rattle.cli_report.specs.declared.ending.Cause.TheVariants.{Memory, ReadFaile
 use Rattle.cli_run.specs.ByName.{ended_by, stopped_by}
 use Rattle.cli_run.specs.Handing.{GivesNext, Stays}
 use Rattle.cli_run.specs.Onward.{AreAll, AreHanded, HasKnownPackets, HasRead, HandsAllOn, HandsRawOn, HandsSomeOn, HandsOn, RawHandsOn, StopsFor}
-use Rattle.cli_run.specs.Inputs.{IsTimeBefore, Placed}
+use Rattle.cli_run.specs.Inputs.{IsPacketBefore, IsTimeBefore, Placed}
 use Rattle.cli_run.specs.Visiting.{AddsUp, TakesOne}
 use Rattle.cli_run.specs.declared.counted.Counted.{Counted}
 use Rattle.cli_run.specs.declared.counted.NoMessage.{NoMessage}
@@ -134,7 +134,8 @@ module _ {R T B G S : Type 0} {b : Ghosts B} {k : Taking T G} {left : R → Opti
 
       -- one more message, which is at this place
       module _ (place : MessagePlace) (number : place.number ≡ count + 1) (offset : place.offset ≡ done_of mid)
-          (time : (packets : Option Packets) → Are packets → IsTimeBefore packets (done_of mid + item.size) place.time) where
+          (time : (packets : Option Packets) → Are packets → IsTimeBefore packets (done_of mid + item.size) place.time)
+          (packet : (packets : Option Packets) → Are packets → IsPacketBefore packets (done_of mid + item.size) place.in_packet) where
         abbrev one_more_message : List Placed
         one_more_message = record { place = place; item = item } ∷ []
 
@@ -144,6 +145,7 @@ module _ {R T B G S : Type 0} {b : Ghosts B} {k : Taking T G} {left : R → Opti
           number_is = omega (arith, number, h.count_is);
           offset_is = offset ∙ h.done;
           time_is = subst (λ (n : ℕ). IsTimeBefore packets (n + item.size) place.time) h.done (time packets are);
+          packet_is = subst (λ (n : ℕ). IsPacketBefore packets (n + item.size) place.in_packet) h.done (packet packets are);
         })
 
         pub hands_more : {s3 : S} → done_of new ≡ done_of mid + item.size → stopped_of new ≡ None → takes s2 s3 one_more_message []

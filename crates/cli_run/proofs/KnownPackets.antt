@@ -1,5 +1,5 @@
 -- What a reader knows of the packets of its input.
-use Rattle.std.proofs.Common.{◌≡◌, ◌≢◌, ℕ, ◌+◌, ◌-◌, ◌<◌, List, [], ◌∷◌, Option, None, Some, length, take, refl, sym, ap, ◌∙◌, subst, arith, length-append}
+use Rattle.std.proofs.Common.{◌≡◌, ◌≢◌, ℕ, ◌+◌, ◌-◌, ◌<◌, Bool, is_some, List, [], ◌∷◌, Option, None, Some, length, take, refl, sym, ap, ◌∙◌, subst, arith, length-append}
 use Rattle.dbus_device.specs.Packets.{Packets, PacketsAfter}
 use Rattle.dbus_device.specs.declared.packet.Packet.{Packet}
 use Rattle.dbus_value_model.specs.declared.fault.Fault.{Fault}
@@ -19,7 +19,7 @@ use Rattle.dbus_stream.specs.declared.reader.Reader.{Reader}
 use Rattle.dbus_stream.proofs.FaultPackets.{ends_in, refused_in}
 use Rattle.dbus_stream.proofs.PacketSteps.{of_message, still}
 use Rattle.dbus_stream.proofs.RawSteps.{begins}
-use Rattle.cli_run.specs.Inputs.{IsTimeBefore, time_of}
+use Rattle.cli_run.specs.Inputs.{IsPacketBefore, IsTimeBefore, time_of}
 use Rattle.cli_run.specs.Onward.{HasKnownPackets, HasPacketsIf}
 use Rattle.cli_run.specs.Refusals.{IsRefusedIn, number_of}
 
@@ -45,6 +45,15 @@ module _ {R A : Type 0} (packets : R → Option Packets) (packet : R → Option 
   -- also if it reads nothing at first
   pub keeps_unread : (old mid new : RawReader R A) → ReadsNothing old mid → KeepsPackets packets packet mid new → KeepsPackets packets packet old new
   keeps_unread old mid new n keeps all has = keeps all (still packets packet old.reader mid.reader n.source n.read n.last all has)
+
+  -- and whether that came in a packet
+  pub lent_packet : (old from new : RawReader R A) (w : List ℕ) (j : Validated) → KeepsPackets packets packet old new → (l : Lends w j from new) → (in_packet : Bool) → in_packet ≡ is_some (packet (source_of new))
+      → (known : Option Packets) → HasKnownPackets packets packet old known → IsPacketBefore known (done_of from + l.size) in_packet
+  lent_packet old from new w j keeps l in_packet is None has = tt
+  lent_packet old from new w j keeps l in_packet is (Some all) has =
+      let last = of_message packets packet all new.reader (keeps all has) l.gives.in_last in
+      let there : done_of new - 1 ≡ done_of from + l.size - 1 = omega (arith, l.gives.done) in
+      is ∙ ap is_some (last ∙ ap all there)
 
   -- the time of the message that it lends is that of the packet of its last byte
   pub lent_time : (old from new : RawReader R A) (w : List ℕ) (j : Validated) → KeepsPackets packets packet old new → (l : Lends w j from new) → (time : Option ℕ) → time ≡ time_of (packet (source_of new))

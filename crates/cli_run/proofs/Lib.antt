@@ -16,3 +16,4 @@ pub mod SameParts
 pub mod SameOutputs
 pub mod CallSteps
 pub mod SameRuns
+pub mod Files

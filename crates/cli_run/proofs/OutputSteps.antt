@@ -1,6 +1,6 @@
 -- What becomes of a writer of an output by one message, if it writes what is gathered, and by a
 -- text that it tells.
-use Rattle.std.proofs.Common.{◌≡◌, ℕ, Bool, true, false, List, [], Option, Result, Ok, Err, inl, inr, refl, sym, ap, ◌∙◌, subst, append-nil, zero, suc, ◌<◌, ◌∷◌, ◌++◌, None, Some, drop, arith, length, take}
+use Rattle.std.proofs.Common.{◌≡◌, ℕ, Bool, true, false, List, [], Option, Result, Ok, Err, inl, inr, refl, sym, ap, ◌∙◌, subst, append-nil, zero, suc, ◌<◌, ◌^◌, ◌∷◌, ◌++◌, None, Some, drop, arith, length, take}
 use Rattle.std.proofs.Math.Path.{transport}
 use Rattle.std.proofs.Math.Seq.{drop-nil}
 use Rattle.std.specs.List.{concat}
@@ -27,7 +27,7 @@ use Rattle.dbus_validate.specs.Validating.{IsValidatedWhole}
 use Rattle.dbus_stream.specs.RawReading.{Lends, limits_of, lent_of}
 use Rattle.dbus_stream.specs.declared.raw_reader.RawReader.{RawReader}
 use Rattle.dbus_view.specs.Views.{ViewState, Views, IsViewOf}
-use Rattle.cli_run.specs.Output.{command_of, IsOutputOf, is_check, owners_known, written, at_most}
+use Rattle.cli_run.specs.Output.{begins_file, command_of, form_of, header_if, output_of, IsOutputOf, is_check, owners_known, written, at_most}
 use Rattle.cli_run.specs.Handing.{HandsOne}
 use Rattle.cli_run.specs.VisitorLaws.{lets_out, nothing_first, told_nothing, after_none, written_none, at_most_none}
 use Rattle.cli_run.specs.OutputWriting.{FailsBy, LeavesFirst, LeavesWritten, WritesAll}
@@ -39,12 +39,12 @@ use Rattle.cli_run.specs.declared.place.MessagePlace.{MessagePlace}
 use Rattle.cli_run.specs.declared.visitor.RunStop.TheVariants.{Untold}
 
 -- what the first writer gets of texts: all of them, since `check` makes none
-first_made : (command : Command) (os : OwnerSet) (order : Order) (m : MessageTree) (place : MessagePlace) (window : Window) (texts : List (List ℕ)) → IsOutputOf command os order m place texts
-    → written window texts ≡ first_of (is_check command) (written window texts) []
-first_made Check os order m place window texts made =
+first_made : (command : Command) (os : OwnerSet) (order : Order) (m : MessageTree) (place : MessagePlace) (begun : Bool) (window : Window) (texts : List (List ℕ)) → IsOutputOf command os order m place texts
+    → header_if (begins_file (form_of command) place begun) ++ written window texts ≡ first_of (is_check command) (header_if (begins_file (form_of command) place begun) ++ written window texts) []
+first_made Check os order m place begun window texts made =
     let none : texts ≡ [] = elim made [ inl picked ↦ absurd picked.0 | inr not ↦ not.1 ] in
     ap (λ l. written window l) none ∙ written_none window
-first_made command os order m place window texts made = refl
+first_made command os order m place begun window texts made = refl
 
 module _ {A W E : Type 0} (held : W → Option (List ℕ)) (failures : W → ℕ) (second_held : E → Option (List ℕ)) (second_failures : E → ℕ) (a b : OutputWriter A W E)
     (same_first : b.first.ghost_name ≡ a.first.ghost_name) (same_second : b.second.ghost_name ≡ a.second.ghost_name) (same_output : b.output ≡ a.output) where
@@ -79,21 +79,22 @@ module _ {A W E : Type 0} (held : W → Option (List ℕ)) (failures : W → ℕ
       texts = p.0;
       made = (p.0, [], sym (append-nil p.0), p.1, refl);
       window = p.2.window;
+      begun = p.2.begun;
       owners = p.2.owners;
       passes = subst (λ (l : List ℕ). Passes held failures l (gathered_bytes a.gathered) (gathered_bytes b.gathered) a.first.now b.first.now)
-          (first_made own (owners_known own a.carried.owners) order m place a.carried.window p.0 p.1) p.3;
+          (first_made own (owners_known own a.carried.owners) order m place a.carried.begun a.carried.window p.0 p.1) p.3;
       tells = told_nothing second_held second_failures (is_check own) a.second.now b.second.now same;
     }
 
     broken : (texts : List (List ℕ)) → IsOutputOf own (owners_known own a.carried.owners) order m place texts
-        → Breaks held failures (written a.carried.window texts) (gathered_bytes a.gathered) a.first.now b.first.now → Takes (Err WriteFailed)
+        → Breaks held failures (header_if (begins_file (form_of own) place a.carried.begun) ++ written a.carried.window texts) (gathered_bytes a.gathered) a.first.now b.first.now → Takes (Err WriteFailed)
     broken texts made p = record {
       same_first = same_first;
       same_second = same_second;
       texts = texts;
       made = (texts, [], sym (append-nil texts), made, refl);
       leaves = subst (λ (l : List ℕ). Breaks held failures l (gathered_bytes a.gathered) a.first.now b.first.now)
-          (first_made own (owners_known own a.carried.owners) order m place a.carried.window texts made) p;
+          (first_made own (owners_known own a.carried.owners) order m place a.carried.begun a.carried.window texts made) p;
       tells = told_nothing second_held second_failures (is_check own) a.second.now b.second.now same;
     }
 
@@ -112,7 +113,7 @@ module _ {A W E : Type 0} (held : W → Option (List ℕ)) (failures : W → ℕ
           tells = told_nothing second_held second_failures (is_check own) a.second.now b.second.now same;
         }
     runs_out WriteFailed now g w p q none =
-        broken p.0 p.1 (breaks_before held failures (written a.carried.window p.0) (gathered_bytes a.gathered) a.first.now b.first.now
+        broken p.0 p.1 (breaks_before held failures (header_if (begins_file (form_of own) place a.carried.begun) ++ written a.carried.window p.0) (gathered_bytes a.gathered) a.first.now b.first.now
         (breaks_nothing held failures [] (gathered_bytes a.gathered) g a.first.now w b.first.now p.3 q))
     runs_out cause now g w p q none = absurd q
 
@@ -122,7 +123,7 @@ module _ {A W E : Type 0} (held : W → Option (List ℕ)) (failures : W → ℕ
     fails Memory cause now g w p q = runs_out cause now g w p q.0 q.1
     fails WriteFailed cause now g w p q =
         subst (λ (c : Cause). Takes (Err c)) (sym q.0)
-        (broken p.0 p.1 (subst (λ (x : W). Breaks held failures (written a.carried.window p.0) (gathered_bytes a.gathered) a.first.now x) (sym q.1) p.3))
+        (broken p.0 p.1 (subst (λ (x : W). Breaks held failures (header_if (begins_file (form_of own) place a.carried.begun) ++ written a.carried.window p.0) (gathered_bytes a.gathered) a.first.now x) (sym q.1) p.3))
     fails why cause now g w p q = absurd p.3
 
   -- ---- a text is told
@@ -132,7 +133,7 @@ module _ {A W E : Type 0} (held : W → Option (List ℕ)) (failures : W → ℕ
     Told res = TellsOne (WritesAll held failures second_held second_failures) (LeavesWritten held failures second_held second_failures) a b text res
 
     abbrev line : (is_check : Bool) → List ℕ
-    line is_check = first_of is_check (written a.carried.window []) text
+    line is_check = first_of is_check (output_of (form_of own) a.carried.begun a.carried.window [] []) text
 
     told_all : Passes held failures (line (is_check own)) (gathered_bytes a.gathered) (gathered_bytes b.gathered) a.first.now b.first.now
         → Wrote second_held second_failures a.second.now (second_of (is_check own) text) b.second.now → Told (Ok tt)
@@ -143,6 +144,7 @@ module _ {A W E : Type 0} (held : W → Option (List ℕ)) (failures : W → ℕ
       texts = [];
       made = refl;
       window = ap (λ (c : Carried). c.window) carried ∙ sym (after_none a.carried.window);
+      begun = ap (λ (c : Carried). c.begun) carried;
       owners = ap (λ (c : Carried). owners_known own c.owners) carried;
       passes = passes;
       tells = tells;
@@ -239,6 +241,14 @@ module _ (limits : Limits) where
   -- bytes that are a message are those that it is spelled by
   pub bytes_are : (b : List ℕ) (order : Order) (m : MessageTree) → IsWhole limits b order m (length b) → b ≡ message_bytes order m
   bytes_are b order m whole = sym (take_all (length b) b (omega arith)) ∙ (whole_bytes limits b order m (length b) whole).0
+
+  -- a message has fewer bytes than 32 bits count, in either order
+  pub short : (b : List ℕ) (order : Order) (m : MessageTree) (n : ℕ) → IsWhole limits b order m n → (o : Order) → length (message_bytes o m) < 2 ^ 32
+  short b order m n whole o = let limit = (whole_valid limits b order m n whole o).limit in omega (arith, limit, limits.message_in)
+
+  pub validated_short : (b : List ℕ) (j : Validated) → IsValidatedWhole limits b j → length b < 2 ^ 32
+  unfolding IsWhole
+  validated_short b j v = let w = v.validated.whole in omega (arith, v.all, w.2, w.0.limit, limits.message_in)
 
   -- its order is that of the message
   pub validated_order : (b : List ℕ) (j : Validated) (order : Order) (m : MessageTree) → IsValidatedWhole limits b j → IsWhole limits b order m (length b) → j.order ≡ order

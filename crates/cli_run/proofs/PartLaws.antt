@@ -1,5 +1,5 @@
 -- Parts of an input that follow one another, what is told of them, and the messages among them.
-use Rattle.std.proofs.Common.{◌≡◌, ℕ, suc, ◌+◌, ◌-◌, ◌<◌, ◌≤◌, Bool, true, false, List, [], ◌∷◌, ◌++◌, Option, None, Some, length, drop, refl, sym, ap, ◌∙◌, subst, arith, append_assoc, append-nil, length-append, inl}
+use Rattle.std.proofs.Common.{is_some, ◌≡◌, ℕ, suc, ◌+◌, ◌-◌, ◌<◌, ◌≤◌, Bool, true, false, List, [], ◌∷◌, ◌++◌, Option, None, Some, length, drop, refl, sym, ap, ◌∙◌, subst, arith, append_assoc, append-nil, length-append, inl}
 use Rattle.std.proofs.Math.Path.{transport}
 use Rattle.std.proofs.lemmas.Bool.{false≢true}
 use Rattle.std.proofs.lemmas.List.{drop-append-le}
@@ -11,7 +11,7 @@ use Rattle.dbus_header.proofs.OutcomeLaws.{whole_for_good, whole_inside}
 use Rattle.dbus_stream.specs.Cut.{BeginWith, CutMessage, CutOutcome, Refused}
 use Rattle.dbus_stream.specs.CutEnds.{sizes}
 use Rattle.cli_options.specs.declared.settings.Settings.{Settings}
-use Rattle.cli_run.specs.Inputs.{ArePlaced, IsPlaced, IsTimeBefore, Part, Whole, PassedOver, Placed, size_of, sizes_of, time_of, wholes, IsLast, IsPart, BeginWithParts}
+use Rattle.cli_run.specs.Inputs.{ArePlaced, IsPlaced, IsPacketBefore, IsTimeBefore, Part, Whole, PassedOver, Placed, size_of, sizes_of, time_of, wholes, IsLast, IsPart, BeginWithParts}
 use Rattle.cli_run.specs.Output.{check_line, fault_line}
 use Rattle.cli_run.specs.Going.{AreTold, closing_line, passed_count, passed_sizes}
 use Rattle.cli_run.specs.declared.place.MessagePlace.{MessagePlace}
@@ -134,10 +134,19 @@ line_is t (Some fault) packet = append-nil (fault_line t.size (Some fault) packe
 
 -- ---- the messages among them
 
--- the time of the byte before a place, if the packets are known
+-- the time of the byte before a place, and whether it came in a packet, if the packets are known
 time_before : Option Packets → (end : ℕ) → Option ℕ
 time_before None end = None
 time_before (Some packets) end = time_of (packets (end - 1))
+
+packet_before : Option Packets → (end : ℕ) → Bool
+packet_before None end = false
+packet_before (Some packets) end = is_some (packets (end - 1))
+
+is_packet : (packets : Option Packets) (end : ℕ) → IsPacketBefore packets end (packet_before packets end)
+unfolding packet_before
+is_packet None end = tt
+is_packet (Some packets) end = refl
 
 is_time : (packets : Option Packets) (end : ℕ) → IsTimeBefore packets end (time_before packets end)
 unfolding time_before
@@ -149,9 +158,9 @@ pub some_placed : (packets : Option Packets) (n offset : ℕ) (parts : List Part
 some_placed packets n offset [] = ([], refl)
 some_placed packets n offset (Whole item ∷ parts) =
     let more = some_placed packets (n + 1) (offset + item.size) parts in
-    let place : MessagePlace = record { number = n; offset = offset; time = time_before packets (offset + item.size) } in (
+    let place : MessagePlace = record { number = n; offset = offset; time = time_before packets (offset + item.size); in_packet = packet_before packets (offset + item.size) } in (
       record { place = place; item = item } ∷ more.0,
-      (record { item_is = refl; number_is = refl; offset_is = refl; time_is = is_time packets (offset + item.size) }, more.1),
+      (record { item_is = refl; number_is = refl; offset_is = refl; time_is = is_time packets (offset + item.size); packet_is = is_packet packets (offset + item.size) }, more.1),
     )
 some_placed packets n offset (PassedOver kept fault size ∷ parts) = some_placed packets (n + 1) (offset + size) parts
 

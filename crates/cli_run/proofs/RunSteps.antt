@@ -17,6 +17,7 @@ use Rattle.dbus_stream.specs.CutEnds.{fault_at_end, sizes}
 use Rattle.dbus_stream.proofs.CutLaws.{BeginWith-first, IsCut-one}
 use Rattle.cli_options.specs.Limiting.{ask_more}
 use Rattle.cli_options.specs.declared.command.Command.{Command}
+use Rattle.cli_options.specs.declared.file_form.FileForm.TheVariants.{Raw}
 use Rattle.cli_options.specs.declared.command.Command.TheVariants.{Check}
 use Rattle.cli_options.specs.declared.settings.Settings.{Settings}
 use Rattle.cli_run.specs.Running.{Answers, CountsWrite, Fails, TellsLine, WritesBefore, WritesMessages, Runs, RunsWith, Writes, WritesSome}
@@ -25,7 +26,7 @@ use Rattle.cli_run.specs.Going.{GoesThrough, IsAllOf, IsThrough, StopsWithin, Ar
 use Rattle.cli_report.specs.Gathering.{Breaks, IsPrefixTo}
 use Rattle.cli_report.specs.Telling.{cause_line, Told}
 use Rattle.cli_run.specs.Inputs.{ArePlaced, BeginWithParts, IsLast, IsTellable, Part, PassedOver, Placed, Whole, sizes_of, wholes}
-use Rattle.cli_run.specs.Output.{IsFirstOutput, IsFront, IsOutputOfAll, check_line, fault_line, is_check, last_line, owners_known, second_output, written}
+use Rattle.cli_run.specs.Output.{IsFirstOutput, IsFront, IsOutputOfAll, check_line, fault_line, form_of, header_before, is_check, last_line, output_of, owners_known, second_output, whole_output}
 use Rattle.cli_run.specs.Refusals.{IsFaultIn}
 use Rattle.cli_run.specs.Told.{GotFirst, GotSecond, TellsStop, first_of, second_of}
 use Rattle.cli_run.specs.VisitorLaws.{first_nothing, second_nothing, wrote_both, wrote_stopped}
@@ -53,10 +54,16 @@ no_texts (m ∷ items) texts made =
     let none : made.0 ≡ [] = elim made.3 [ inl some ↦ absurd some.0 | inr none ↦ none.1 ] in
     made.2 ∙ (λ i. none i ++ no_texts items made.1 made.4 i)
 
+no_header : (items : List Placed) → header_before Raw false items ≡ []
+no_header [] = refl
+no_header (m ∷ items) = refl
+
 first_due : (command : Command) (items : List Placed) (texts : List (List ℕ)) (line : List ℕ) → IsOutputOfAll command (owners_known command None) items texts
-    → first_of (is_check command) (written (record { skip = 0; limit = None }) texts) line ≡ concat texts ++ first_of (is_check command) [] line
-first_due Check items texts line made = ap (λ (l : List (List ℕ)). concat l ++ line) (sym (no_texts items texts made))
-first_due command items texts line made = written_all texts ∙ sym (append-nil (concat texts))
+    → first_of (is_check command) (output_of (form_of command) false (record { skip = 0; limit = None }) items texts) line ≡ whole_output (form_of command) items texts ++ first_of (is_check command) [] line
+first_due Check items texts line made =
+    let none : whole_output Raw items texts ≡ [] = λ i. no_header items i ++ concat (no_texts items texts made i) in
+    ap (λ (l : List ℕ). l ++ line) (sym none)
+first_due command items texts line made = ap (λ l. header_before (form_of command) false items ++ l) (written_all texts) ∙ sym (append-nil (whole_output (form_of command) items texts))
 
 -- of what is told at the end: of `check` one line, and of another command no last line
 module _ (packet : Option ℕ) where
@@ -126,8 +133,12 @@ module _ {R W E : Type 0} (r : Reading R) (w : Writing W) (e : Writing E) (asked
   AreOutput handed texts = IsOutputOfAll command (owners_known command None) handed texts
 
   -- what the first writer gets of the texts, and of what is told
-  abbrev first_part : List (List ℕ) → List ℕ → List ℕ
-  first_part texts told = first_of (is_check command) (written (plain asked).window texts) told
+  abbrev first_part : List Placed → List (List ℕ) → List ℕ → List ℕ
+  first_part handed texts told = first_of (is_check command) (output_of (form_of command) false (plain asked).window handed texts) told
+
+  -- what is made of messages by these texts
+  abbrev all_of : List Placed → List (List ℕ) → List ℕ
+  all_of handed texts = whole_output (form_of command) handed texts
 
   -- all messages were handed on
   module _ {tally : Tally} {fault : Option Fault} {told text : List ℕ} (h : IsThrough (taken r) (plain asked) most (is_check command) tally fault told text) where
@@ -190,22 +201,22 @@ module _ {R W E : Type 0} (r : Reading R) (w : Writing W) (e : Writing E) (asked
 
     -- and these texts were made of them
     module _ (handed : List Placed) (placed : ArePlaced packets 1 0 h.parts handed) (texts : List (List ℕ)) (made : AreOutput handed texts) where
-      first_is : first_part texts ((told ++ text) ++ closing) ≡ concat texts ++ last_of
+      first_is : first_part handed texts ((told ++ text) ++ closing) ≡ all_of handed texts ++ last_of
       first_is =
           first_due command handed texts ((told ++ text) ++ closing) made
-          ∙ ap (λ l. concat texts ++ l) (ap (first_of (is_check command) []) all_due ∙ (first_line last_packet (is_check command) tally fault
+          ∙ ap (λ l. all_of handed texts ++ l) (ap (first_of (is_check command) []) all_due ∙ (first_line last_packet (is_check command) tally fault
           ∙ (λ i. first_of (is_check command) [] (check_line (count_is i) (size_is i) (fault_is i) last_packet))))
 
-      output : IsFirstOutput packets command messages.items last_fault last_packet (concat texts ++ last_of)
+      output : IsFirstOutput packets command messages.items last_fault last_packet (all_of handed texts ++ last_of)
       output = record { messages = handed; placed = subst (λ (l : List Part). ArePlaced packets 1 0 l handed) messages.parts_are placed; texts = texts; each = made; joined = refl }
 
-      answers : (end : ExitStatus) → Wrote w.held w.failures w.old (concat texts ++ last_of) w.new → TellsLine e line_of last_fault end → Answers r w e limits most command end
+      answers : (end : ExitStatus) → Wrote w.held w.failures w.old (all_of handed texts ++ last_of) w.new → TellsLine e line_of last_fault end → Answers r w e limits most command end
       answers end first second = record {
         bytes = h.covers.bytes;
         items = messages.items;
         rest = h.rest;
         outcome = h.tells.outcome;
-        out = concat texts ++ last_of;
+        out = all_of handed texts ++ last_of;
         consumed = h.covers.consumed;
         called = h.covers.called;
         read_failed = h.read_failed;
@@ -219,7 +230,7 @@ module _ {R W E : Type 0} (r : Reading R) (w : Writing W) (e : Writing E) (asked
       }
 
       -- a prefix of the output was written, and then a write failed
-      broken : (front : List ℕ) → Breaks w.held w.failures front [] w.old w.new → IsPrefixTo front (concat texts ++ last_of) → Fails r w e limits most command WriteFailed
+      broken : (front : List ℕ) → Breaks w.held w.failures front [] w.old w.new → IsPrefixTo front (all_of handed texts ++ last_of) → Fails r w e limits most command WriteFailed
       broken front b prefix = record {
         bytes = h.covers.bytes;
         written = b.written;
@@ -230,7 +241,7 @@ module _ {R W E : Type 0} (r : Reading R) (w : Writing W) (e : Writing E) (asked
             let one = IsCut-one limits h.covers.bytes messages.items items h.rest rest h.tells.outcome outcome cut other in
             let all = prefix.1 ∙ (ap (λ l. l ++ prefix.0) b.front.1 ∙ append_assoc b.written b.front.0 prefix.0) in
             let first : IsFront packets limits command messages.items h.rest last_fault b.written
-            = record { packet = last_packet; out = concat texts ++ last_of; output = output; prefix = (b.front.0 ++ prefix.0, all); packet_is = inr packet_is } in
+            = record { packet = last_packet; out = all_of handed texts ++ last_of; output = output; prefix = (b.front.0 ++ prefix.0, all); packet_is = inr packet_is } in
             transport (λ i. IsFront packets limits command (one.0 i) (one.1 i) (fault_at_end (one.1 i) (one.2 i)) b.written) first;
         before = tt;
         read_caused = h.read_failed;
@@ -269,13 +280,13 @@ module _ {R W E : Type 0} (r : Reading R) (w : Writing W) (e : Writing E) (asked
     none_told : (cause : Cause) (s : Within (ByCause cause)) → s.told ++ s.more ≡ []
     none_told cause s = λ i. (messages_of (ByCause cause) s).none_told i ++ none_more cause s i
 
-    texts_alone : (cause : Cause) (s : Within (ByCause cause)) → first_part s.came.texts (s.told ++ s.more) ≡ concat s.came.texts
+    texts_alone : (cause : Cause) (s : Within (ByCause cause)) → first_part s.messages s.came.texts (s.told ++ s.more) ≡ all_of s.messages s.came.texts
     texts_alone cause s =
-        ap (λ l. first_part s.came.texts l) (none_told cause s) ∙ (first_due command s.messages s.came.texts [] s.came.made
-        ∙ (ap (λ l. concat s.came.texts ++ l) (first_nothing (is_check command)) ∙ append-nil (concat s.came.texts)))
+        ap (λ l. first_part s.messages s.came.texts l) (none_told cause s) ∙ (first_due command s.messages s.came.texts [] s.came.made
+        ∙ (ap (λ l. all_of s.messages s.came.texts ++ l) (first_nothing (is_check command)) ∙ append-nil (all_of s.messages s.came.texts)))
 
     -- the first writer got a prefix of what is made of the messages
-    some_fail : (cause : Cause) (s : Within (ByCause cause)) (front : List ℕ) → Appends (w.held w.old) (w.held w.new) front → IsPrefixTo front (concat s.came.texts)
+    some_fail : (cause : Cause) (s : Within (ByCause cause)) (front : List ℕ) → Appends (w.held w.old) (w.held w.new) front → IsPrefixTo front (all_of s.messages s.came.texts)
         → WritesBefore packets limits command cause s.covers.bytes front → CountsWrite cause (w.failures w.old) (w.failures w.new) → Fails r w e limits most command cause
     some_fail cause s front appended prefix before counted = record {
       bytes = s.covers.bytes;
@@ -294,12 +305,12 @@ module _ {R W E : Type 0} (r : Reading R) (w : Writing W) (e : Writing E) (asked
     }
 
     -- or all of it
-    all_fail : (cause : Cause) (s : Within (ByCause cause)) → Wrote w.held w.failures w.old (first_part s.came.texts (s.told ++ s.more)) w.new
-        → WritesBefore packets limits command cause s.covers.bytes (concat s.came.texts) → CountsWrite cause (w.failures w.old) (w.failures w.new) → Fails r w e limits most command cause
+    all_fail : (cause : Cause) (s : Within (ByCause cause)) → Wrote w.held w.failures w.old (first_part s.messages s.came.texts (s.told ++ s.more)) w.new
+        → WritesBefore packets limits command cause s.covers.bytes (all_of s.messages s.came.texts) → CountsWrite cause (w.failures w.old) (w.failures w.new) → Fails r w e limits most command cause
     all_fail cause s wrote before counted =
-        some_fail cause s (concat s.came.texts) (subst (λ l. Wrote w.held w.failures w.old l w.new) (texts_alone cause s) wrote).appended ([], sym (append-nil (concat s.came.texts))) before counted
+        some_fail cause s (all_of s.messages s.came.texts) (subst (λ l. Wrote w.held w.failures w.old l w.new) (texts_alone cause s) wrote).appended ([], sym (append-nil (all_of s.messages s.came.texts))) before counted
 
-    all_messages : (cause : Cause) (s : Within (ByCause cause)) → IsAllOf (taken r) (plain asked) most (is_check command) s.parts s.rest s.more → WritesMessages packets limits command s.covers.bytes (concat s.came.texts)
+    all_messages : (cause : Cause) (s : Within (ByCause cause)) → IsAllOf (taken r) (plain asked) most (is_check command) s.parts s.rest s.more → WritesMessages packets limits command s.covers.bytes (all_of s.messages s.came.texts)
     all_messages cause s all =
         let m = messages_of (ByCause cause) s in
         let partial : IsPartial limits s.rest = elim all [ inl none ↦ none.0 | inr cut ↦ absurd (false≢true cut.4) ] in
@@ -353,14 +364,14 @@ module _ {R W E : Type 0} (r : Reading R) (w : Writing W) (e : Writing E) (asked
     last_due s cut last more =
         more ∙ ap (λ (b : Bool). s.all.2 ++ closing_line (is_check command) (tally_with b s.parts s.rest) (tally_with b s.parts s.rest).passed s.all.1) (rest_is cut limits s.all.0 s.rest s.all.3.outcome _ last).2
 
-    untold : (b : Bool) → is_check command ≡ b → (end : ExitStatus) → (s : Within Untold) → end ≡ status.Failed → GotFirst w.held w.failures b Untold (first_of b (written (plain asked).window s.came.texts) (s.told ++ s.more)) w.old w.new
+    untold : (b : Bool) → is_check command ≡ b → (end : ExitStatus) → (s : Within Untold) → end ≡ status.Failed → GotFirst w.held w.failures b Untold (first_of b (output_of (form_of command) false (plain asked).window s.messages s.came.texts) (s.told ++ s.more)) w.old w.new
         → GotSecond e.held e.failures b Untold (second_of b (s.told ++ s.more)) e.old before → TellsStop e.held e.failures b Untold before e.new → Runs r w e limits most command end
     unfolding through
     untold true is end s failed first second tells =
         let h = through s in
         let last = closing h in
-        let out = sym (ap (λ b. first_of b (written (plain asked).window s.came.texts) ((s.told ++ s.all.2) ++ last)) is) ∙ first_is h s.messages s.placed s.came.texts s.came.made in
-        let prefix : IsPrefixTo (s.told ++ s.more) (concat s.came.texts ++ last_of h) = elim s.all.4 [
+        let out = sym (ap (λ b. first_of b (output_of (form_of command) false (plain asked).window s.messages s.came.texts) ((s.told ++ s.all.2) ++ last)) is) ∙ first_is h s.messages s.placed s.came.texts s.came.made in
+        let prefix : IsPrefixTo (s.told ++ s.more) (all_of s.messages s.came.texts ++ last_of h) = elim s.all.4 [
           | inl shown ↦ (last, sym out ∙ ap (λ l. (s.told ++ l) ++ last) (sym shown.1))
           | inr all ↦ ([], sym out ∙ (append_assoc s.told s.all.2 last ∙ (ap (λ l. s.told ++ l) (sym (last_due s all.0 all.1 all.2)) ∙ sym (append-nil (s.told ++ s.more)))))
         ] in
@@ -372,7 +383,7 @@ module _ {R W E : Type 0} (r : Reading R) (w : Writing W) (e : Writing E) (asked
         let more : s.more ≡ s.all.2 ++ last = elim s.all.4 [ inl shown ↦ shown.1 ∙ sym (ap (λ l. s.all.2 ++ l) none ∙ append-nil s.all.2) | inr all ↦ last_due s all.0 all.1 all.2 ] in
         let line : s.told ++ s.more ≡ line_of h
         = ap (λ l. s.told ++ l) more ∙ (sym (append_assoc s.told s.all.2 last) ∙ (sym (ap (λ b. second_of b ((s.told ++ s.all.2) ++ last)) is) ∙ second_is h)) in
-        let out = sym (ap (λ b. first_of b (written (plain asked).window s.came.texts) ((s.told ++ s.all.2) ++ last)) is) ∙ first_is h s.messages s.placed s.came.texts s.came.made in
+        let out = sym (ap (λ b. first_of b (output_of (form_of command) false (plain asked).window s.messages s.came.texts) ((s.told ++ s.all.2) ++ last)) is) ∙ first_is h s.messages s.placed s.came.texts s.came.made in
         let half = subst (λ (l : List ℕ). Stopped e.held e.failures e.old l second.0 before) line second.1 in
         inl (answers h s.messages s.placed s.came.texts s.came.made end (subst (λ (l : List ℕ). Wrote w.held w.failures w.old l w.new) out first)
         (inr (second.0, subst (λ (x : E). Stopped e.held e.failures e.old (line_of h) second.0 x) (sym tells) half, failed)))

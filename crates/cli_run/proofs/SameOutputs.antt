@@ -10,7 +10,8 @@ use Rattle.dbus_device.specs.Packets.{Packets}
 use Rattle.dbus_stream.specs.Cut.{CutMessage, CutOutcome}
 use Rattle.dbus_value_model.specs.declared.fault.Fault.{Fault}
 use Rattle.dbus_value_model.specs.declared.order.Order.{Order}
-use Rattle.dbus_message_model.specs.Messages.{MessageTree}
+use Rattle.dbus_message_model.specs.Messages.{MessageTree, message_bytes}
+use Rattle.std.proofs.Math.Path.{transport}
 use Rattle.dbus_rule.specs.declared.rule.Rule.{Rule}
 use Rattle.dbus_match.specs.Matching.{Matches, Ownership}
 use Rattle.dbus_rule.specs.Rules.{sender_of, Pair}
@@ -20,6 +21,7 @@ use Rattle.dbus_calls.specs.OwnerChanges.{change_of, is_text}
 use Rattle.cli_options.specs.Selections.{AreSameCommand, AreSameSelection, OrInverted, SelectsBy, SomeMatches}
 use Rattle.cli_options.specs.declared.command.Command.{Command}
 use Rattle.cli_options.specs.declared.command.Command.TheVariants.{Show, Json, List as Listing, Check, Swap, Filter}
+use Rattle.cli_options.specs.declared.file_form.FileForm.{FileForm}
 use Rattle.cli_options.specs.declared.selection.Selection.{Selection}
 use Rattle.cli_options.specs.declared.settings.Settings.{Settings}
 use Rattle.cli_report.specs.Telling.{IsToldBy, line_of}
@@ -28,7 +30,7 @@ use Rattle.cli_report.specs.declared.ending.ExitStatus.TheVariants as status
 use Rattle.cli_run.specs.Learning.{ask_sender, changed, known_after}
 use Rattle.cli_run.specs.ByName.{after_messages}
 use Rattle.cli_run.specs.Inputs.{ArePlaced, BeginWithParts, Part, PassedOver, Placed, Whole}
-use Rattle.cli_run.specs.Output.{IsExact, IsOutputOf, IsOutputOfAll, IsTextOf, Picks, is_check, owners_after, owners_known}
+use Rattle.cli_run.specs.Output.{AreAlike, IsExact, form_of, framed, is_framed, IsOutputOf, IsOutputOfAll, IsTextOf, Picks, is_check, owners_after, owners_known}
 use Rattle.cli_run.specs.Going.{AreTold, IsTold, IsToldLast, passed_count, status_at, tally_of}
 use Rattle.cli_run.specs.declared.place.MessagePlace.{MessagePlace}
 use Rattle.cli_run.proofs.Outputs.{output_all_one}
@@ -51,9 +53,10 @@ one_placed packets n offset (Whole item ∷ parts) (m ∷ a) (l ∷ b) p q =
     let number : m.place.number ≡ l.place.number = p.0.number_is ∙ sym q.0.number_is in
     let there : m.place.offset ≡ l.place.offset = p.0.offset_is ∙ sym q.0.offset_is in
     let time : m.place.time ≡ l.place.time = p.0.time_is ∙ sym q.0.time_is in
+    let packet : m.place.in_packet ≡ l.place.in_packet = p.0.packet_is ∙ sym q.0.packet_is in
     let same : m.item ≡ l.item = p.0.item_is ∙ sym q.0.item_is in
     let more = one_placed packets (n + 1) (offset + item.size) parts a b p.1 q.1 in
-    λ i. record { place = record { number = number i; offset = there i; time = time i }; item = same i } ∷ more i
+    λ i. record { place = record { number = number i; offset = there i; time = time i; in_packet = packet i }; item = same i } ∷ more i
 one_placed packets n offset (PassedOver kept fault size ∷ parts) a b p q = one_placed packets (n + 1) (offset + size) parts a b p q
 
 -- the messages of the same parts count alike
@@ -187,6 +190,7 @@ same_after a b os m h = rw (h.learns, same_changed a.rules.items b.rules.items (
 
 pub record ActsAs (a b : Command) : Type 0 where
   pub checks : is_check a ≡ is_check b
+  pub form : form_of a ≡ form_of b
   pub exact : IsExact a → IsExact b
   pub picks : (os : OwnerSet) (m : MessageTree) → Picks a os m ↔ Picks b os m
   pub texts : (order : Order) (m : MessageTree) (place : MessagePlace) (text : List ℕ) → IsTextOf a order m place text → IsTextOf b order m place text
@@ -194,23 +198,25 @@ pub record ActsAs (a b : Command) : Type 0 where
   pub learned : (os : OwnerSet) (m : MessageTree) → owners_after a os m ≡ owners_after b os m
 
 itself : (a : Command) → ActsAs a a
-itself a = record { checks = refl; exact = λ e. e; picks = λ os m. (λ p. p, λ p. p); texts = λ order m place text t. t; known = refl; learned = λ os m. refl }
+itself a = record { checks = refl; form = refl; exact = λ e. e; picks = λ os m. (λ p. p, λ p. p); texts = λ order m place text t. t; known = refl; learned = λ os m. refl }
 
 pub acts_as : (a b : Command) → AreSameCommand a b → ActsAs a b
 acts_as (Show a) (Show b) h = subst (λ (times : Bool). ActsAs (Show a) (Show times)) h (itself (Show a))
 acts_as (Json a) (Json b) h = subst (λ (times : Bool). ActsAs (Json a) (Json times)) h (itself (Json a))
 acts_as (Listing x) (Listing y) h = subst (λ (w : ℕ). ActsAs (Listing x) (Listing w)) h (itself (Listing x))
 acts_as Check Check h = itself Check
-acts_as (Swap x) (Swap y) h = subst (λ (o : Order). ActsAs (Swap x) (Swap o)) h (itself (Swap x))
-acts_as (Filter x) (Filter y) h =
-    let back : AreSameSelection y x = record { rules = sym h.rules; inverted = sym h.inverted; owners = sym h.owners; learns = sym h.learns } in
+acts_as (Swap x f) (Swap y g) h = transport (λ i. ActsAs (Swap x f) (Swap (h.0 i) (h.1 i))) (itself (Swap x f))
+acts_as (Filter x f) (Filter y g) h =
+    let s = h.0 in
+    let back : AreSameSelection y x = record { rules = sym s.rules; inverted = sym s.inverted; owners = sym s.owners; learns = sym s.learns } in
     record {
       checks = refl;
+      form = h.1;
       exact = λ e. e;
-      picks = λ os m. (same_selects x y (owners_in os) m h, same_selects y x (owners_in os) m back);
-      texts = λ order m place text t. t;
-      known = ap from_list h.owners;
-      learned = λ os m. same_after x y os m h;
+      picks = λ os m. (same_selects x y (owners_in os) m s, same_selects y x (owners_in os) m back);
+      texts = λ order m place text t. subst (λ (o : FileForm). text ≡ framed (is_framed o place) place.time (message_bytes order m)) h.1 t;
+      known = ap from_list s.owners;
+      learned = λ os m. same_after x y os m s;
     }
 acts_as a b h = absurd h
 
@@ -224,8 +230,8 @@ module _ (a b : Command) (h : ActsAs a b) where
       ] in
       (p.0, p.1, p.2, one, subst (λ (l : OwnerSet). IsOutputOfAll b l items p.1) (h.learned os m.item.message) (made_too (owners_after a os m.item.message) items p.1 p.4))
 
-  pub same_outputs : IsExact a → (packets others : Option Packets) (parts : List Part) (items also : List Placed) (x y : List (List ℕ)) → ArePlaced packets 1 0 parts items → ArePlaced others 1 0 parts also
+  pub same_outputs : IsExact a → (packets others : Option Packets) → AreAlike (form_of a) packets others → (parts : List Part) (items also : List Placed) (x y : List (List ℕ)) → ArePlaced packets 1 0 parts items → ArePlaced others 1 0 parts also
       → IsOutputOfAll a (owners_known a None) items x → IsOutputOfAll b (owners_known b None) also y → x ≡ y
-  same_outputs exact packets others parts items also x y here there p q =
-      output_all_one packets others b (owners_known b None) 1 0 parts items also x y (h.exact exact) here there
+  same_outputs exact packets others alike parts items also x y here there p q =
+      output_all_one packets others b (owners_known b None) 1 0 parts items also x y (h.exact exact) (subst (λ (f : FileForm). AreAlike f packets others) h.form alike) here there
       (subst (λ (l : OwnerSet). IsOutputOfAll b l items x) h.known (made_too (owners_known a None) items x p)) q

@@ -26,12 +26,14 @@ use Rattle.cli_run.specs.ByName.{EndsBy, WritesTables, counting}
 use Rattle.cli_run.specs.CallListing.{EndsNoted, WritesCalls, lack_times, numbered, times_note}
 use Rattle.cli_run.specs.Going.{AreTold, GoesThrough, IsThrough, IsToldLast, closing_line, cut_tally, passed_count, status_at, tally_of, tally_with}
 use Rattle.cli_run.specs.Inputs.{ArePlaced, BeginWithParts, Part, Placed, size_of, sizes_of, wholes}
-use Rattle.cli_run.specs.Output.{is_check, check_line, fault_line, last_line, second_output, status_of, written}
+use Rattle.cli_run.specs.Output.{is_check, check_line, fault_line, form_of, header_before, last_line, output_of, second_output, status_of, written}
 use Rattle.cli_run.specs.Refusals.{IsFaultIn}
 use Rattle.cli_run.specs.Running.{Writes, TellsLine}
 use Rattle.cli_run.specs.Told.{first_of, second_of}
 use Rattle.cli_run.specs.VisitorLaws.{wrote_both}
 use Rattle.cli_run.specs.declared.tally.Tally.{Tally}
+use Rattle.cli_options.specs.declared.file_form.FileForm.{FileForm}
+use Rattle.cli_run.proofs.Outputs.{header_one}
 use Rattle.cli_run.proofs.PartLaws.{is_last, parts_more, parts_of}
 use Rattle.cli_run.proofs.SameOutputs.{acts_as, are_passed, bare_placed, bare_tally, none_last, none_refused, none_told, one_placed, same_counts, same_last, same_outputs, same_told}
 use Rattle.cli_run.proofs.SameParts.{AreSame, EndsHere, IsKeptOf, bare, ends_here, packet_by, same_cut, same_parts}
@@ -180,14 +182,16 @@ one_run R S W V E F r s w v e f settings most more command copy end other same i
               let there = subst (λ (p : Option Packets). ArePlaced p 1 0 all.4 k.messages) packets.same all.6 in
               let items = one_placed packets.all 1 0 all.4 g.messages k.messages here there in
               record { status_is = all.3; items = g.messages; told = told; one = all.1; same = subst (λ (l : List Placed). Writes v f settings copy l told) (sym items) all.2 },
-          λ exact.
-              let texts = same_outputs command copy acts exact (r.packets r.old) (s.packets s.old) all.4 g.messages k.messages all.1.texts all.2.texts all.5 all.6 all.1.made all.2.made in
-              let first : first_of (is_check command) (written settings.window all.1.texts) told ≡ first_of (is_check copy) (written settings.window all.2.texts) told
-              = λ i. first_of (checks i) (written settings.window (texts i)) told in
+          λ exact alike.
+              let texts = same_outputs command copy acts exact (r.packets r.old) (s.packets s.old) alike all.4 g.messages k.messages all.1.texts all.2.texts all.5 all.6 all.1.made all.2.made in
+              let header : header_before (form_of command) false g.messages ≡ header_before (form_of copy) false k.messages
+              = header_one (form_of command) (r.packets r.old) (s.packets s.old) false 1 0 all.4 g.messages k.messages alike all.5 all.6 ∙ ap (λ (f : FileForm). header_before f false k.messages) acts.form in
+              let first : first_of (is_check command) (output_of (form_of command) false settings.window g.messages all.1.texts) told ≡ first_of (is_check copy) (output_of (form_of copy) false settings.window k.messages all.2.texts) told
+              = λ i. first_of (checks i) (header i ++ written settings.window (texts i)) told in
               let second : second_of (is_check command) told ≡ second_of (is_check copy) told = λ i. second_of (checks i) told in
               record {
                 status_is = all.3;
-                first = (first_of (is_check command) (written settings.window all.1.texts) told, all.1.first, subst (λ l. Wrote v.held v.failures v.old l v.new) (sym first) all.2.first);
+                first = (first_of (is_check command) (output_of (form_of command) false settings.window g.messages all.1.texts) told, all.1.first, subst (λ l. Wrote v.held v.failures v.old l v.new) (sym first) all.2.first);
                 second = (second_of (is_check command) told, all.1.second, subst (λ l. Wrote f.held f.failures f.old l f.new) (sym second) all.2.second);
               },
         )
@@ -317,7 +321,7 @@ told_line : {E : Type 0} (e : Writing E) (line : List ℕ) (fault : Option Fault
 told_line e line fault end done tells = elim tells [ inl all ↦ all | inr some ↦ absurd (done some.2) ]
 
 pub one_within : (R S W V E F : Type 0) → OneWithin R S W V E F
-one_within R S W V E F r s w v e f limits most more command copy end other same exact input alike done other_done runs ran = elim runs [
+one_within R S W V E F r s w v e f limits most more command copy end other same exact placed_alike input alike done other_done runs ran = elim runs [
   | inl a ↦ elim ran [
     | inl b ↦ (
         let acts = acts_as command copy same in
@@ -326,7 +330,7 @@ one_within R S W V E F r s w v e f limits most more command copy end other same 
         let cut = IsCut-one limits input.0 a.items b.items one.0 too.0 a.outcome b.outcome one.1 too.1 in
         let fault : fault_at_end a.rest a.outcome ≡ fault_at_end b.rest b.outcome = one.2 ∙ ((λ i. fault_at_end (cut.1 i) (cut.2 i)) ∙ sym too.2) in
         let there = subst (λ (l : List CutMessage). ArePlaced (s.packets s.old) 1 0 (wholes l) b.output.messages) (sym cut.0) b.output.placed in
-        let texts = same_outputs command copy acts exact (r.packets r.old) (s.packets s.old) (wholes a.items) a.output.messages b.output.messages a.output.texts b.output.texts a.output.placed there
+        let texts = same_outputs command copy acts exact (r.packets r.old) (s.packets s.old) placed_alike (wholes a.items) a.output.messages b.output.messages a.output.texts b.output.texts a.output.placed there
         a.output.each b.output.each in
         let told = told_line e _ _ end done a.second in
         let told_too = told_line f _ _ other other_done b.second in
@@ -340,7 +344,9 @@ one_within R S W V E F r s w v e f limits most more command copy end other same 
         let lines = lines_alike (length a.items) (sizes a.items) (fault_at_end a.rest a.outcome) a.packet b.packet packet in
         let last : last_line command (length a.items) (sizes a.items) (fault_at_end a.rest a.outcome) a.packet ≡ last_line copy (length b.items) (sizes b.items) (fault_at_end b.rest b.outcome) b.packet
         = ap (first_of (is_check command) []) lines.0 ∙ (λ i. first_of (acts.checks i) [] (check_line (length (cut.0 i)) (sizes (cut.0 i)) (fault i) b.packet)) in
-        let out : a.out ≡ b.out = a.output.joined ∙ ((λ i. concat (texts i) ++ last i) ∙ sym b.output.joined) in
+        let header : header_before (form_of command) false a.output.messages ≡ header_before (form_of copy) false b.output.messages
+        = header_one (form_of command) (r.packets r.old) (s.packets s.old) false 1 0 (wholes a.items) a.output.messages b.output.messages placed_alike a.output.placed there ∙ ap (λ (f : FileForm). header_before f false b.output.messages) acts.form in
+        let out : a.out ≡ b.out = a.output.joined ∙ ((λ i. (header i ++ concat (texts i)) ++ last i) ∙ sym b.output.joined) in
         let line : second_output command (sizes a.items) (fault_at_end a.rest a.outcome) a.packet ≡ second_output copy (sizes b.items) (fault_at_end b.rest b.outcome) b.packet
         = ap (second_of (is_check command)) lines.1 ∙ (λ i. second_of (acts.checks i) (fault_line (sizes (cut.0 i)) (fault i) b.packet)) in
         record {

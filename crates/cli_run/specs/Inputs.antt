@@ -1,6 +1,6 @@
 -- What an input is made of: messages, and others that are refused and passed over, by the length
 -- that their first sixteen bytes state. D-Bus Specification, "Message Format".
-use Rattle.std.specs.Prelude.{◌≡◌, ◌⊎◌, ℕ, ◌+◌, ◌-◌, ◌<◌, ◌≤◌, Bool, true, false, List, [], ◌∷◌, length, drop, map, Option, None, Some}
+use Rattle.std.specs.Prelude.{◌≡◌, ◌⊎◌, ℕ, ◌+◌, ◌-◌, ◌<◌, ◌≤◌, Bool, true, false, List, [], ◌∷◌, length, drop, map, Option, None, Some, is_some}
 use Rattle.dbus_device.specs.Packets.{Packets}
 use Rattle.dbus_device.specs.declared.packet.Packet.{Packet}
 use Rattle.dbus_value_model.specs.declared.fault.Fault.{Fault}
@@ -74,18 +74,25 @@ abbrev pub IsTimeBefore : Option Packets → (end : ℕ) → Option ℕ → Type
 IsTimeBefore None end time = Unit {0}
 IsTimeBefore (Some packets) end time = time ≡ time_of (packets (end - 1))
 
+-- this says whether the byte before this place came in a packet, if the packets of the input are
+-- known
+abbrev pub IsPacketBefore : Option Packets → (end : ℕ) → Bool → Type 0
+IsPacketBefore None end in_packet = Unit {0}
+IsPacketBefore (Some packets) end in_packet = in_packet ≡ is_some (packets (end - 1))
+
 -- a message of an input, and its place there
 pub record Placed : Type 0 where
   pub place : MessagePlace
   pub item : CutMessage
 
 -- this is the n-th message of its input and begins at this offset, and its time is that of its last
--- byte
+-- byte, which came in a packet or not
 pub record IsPlaced (packets : Option Packets) (n offset : ℕ) (item : CutMessage) (m : Placed) : Type 0 where
   pub item_is : m.item ≡ item
   pub number_is : m.place.number ≡ n
   pub offset_is : m.place.offset ≡ offset
   pub time_is : IsTimeBefore packets (offset + item.size) m.place.time
+  pub packet_is : IsPacketBefore packets (offset + item.size) m.place.in_packet
 
 -- these are the messages among parts, of which the first is the n-th of its input and begins at
 -- this offset

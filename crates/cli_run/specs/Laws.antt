@@ -1,11 +1,17 @@
 -- The laws over what a command writes: of all messages and the fault after them there is an output,
 -- and of each command but `json` exactly one. And what a command does by its settings is what it
 -- does under limits alone, if they ask for no more.
-use Rattle.std.specs.Prelude.{◌≡◌, ℕ, false, List, Option, ◌≢◌, ◌⊎◌, Some}
+use Rattle.std.specs.Prelude.{◌≡◌, ℕ, Bool, true, false, List, [], ◌∷◌, Option, ◌≢◌, ◌⊎◌, Some}
 use Rattle.dbus_value_model.specs.declared.fault.Fault.{Fault}
 use Rattle.dbus_stream.specs.Cut.{CutMessage}
 use Rattle.cli_options.specs.Limiting.{ask_more}
 use Rattle.cli_options.specs.declared.command.Command.{Command}
+use Rattle.cli_options.specs.declared.command.Command.TheVariants.{Filter, Swap}
+use Rattle.cli_options.specs.declared.file_form.FileForm.TheVariants.{AsRead, Raw}
+use Rattle.cli_options.specs.declared.window.Window.{Window}
+use Rattle.dbus_capture.specs.Reading.{IsRead}
+use Rattle.dbus_message_model.specs.Messages.{IsValidMessage}
+use Rattle.dbus_rule_set.specs.Owners.{OwnerSet}
 use Rattle.cli_options.specs.declared.settings.Settings.{Settings}
 use Rattle.cli_report.specs.Devices.{reading, writing, Reading, Writing}
 use Rattle.cli_report.specs.declared.ending.ExitStatus.{ExitStatus}
@@ -18,7 +24,7 @@ use Rattle.dbus_count.specs.declared.form.Form.{Form}
 use Rattle.cli_options.specs.Selections.{AreSameCommand}
 use Rattle.cli_report.specs.declared.ending.ExitStatus.TheVariants as status
 use Rattle.cli_run.specs.Running.{Runs, RunsWith, Writes}
-use Rattle.cli_run.specs.Output.{IsExact, IsFirstOutput, IsFront}
+use Rattle.cli_run.specs.Output.{AreAlike, IsExact, IsFirstOutput, IsFront, IsOutputOfAll, form_of, output_of}
 use Rattle.dbus_call_lines.specs.declared.wanted.Wanted.{Wanted}
 use Rattle.cli_run.specs.ByName.{CountsByName}
 use Rattle.cli_run.specs.CallListing.{ListsCalls}
@@ -29,15 +35,16 @@ use Rattle.cli_run.specs.Inputs.{Placed}
 abbrev pub SomeOutput : Type 0
 SomeOutput = (packets : Option Packets) (command : Command) (items : List CutMessage) (fault : Option Fault) (packet : Option ℕ) → (out : List ℕ) × IsFirstOutput packets command items fault packet out
 
--- and no other, if the command is exact: it depends on no other packet
+-- and no other, if the command is exact: it depends on other packets only if it writes messages as
+-- they are read
 abbrev pub OneOutput : Type 0
 OneOutput = (packets others : Option Packets) (command : Command) (items : List CutMessage) (fault : Option Fault) (packet : Option ℕ) (x y : List ℕ)
-    → IsExact command → IsFirstOutput packets command items fault packet x → IsFirstOutput others command items fault packet y → x ≡ y
+    → IsExact command → AreAlike (form_of command) packets others → IsFirstOutput packets command items fault packet x → IsFirstOutput others command items fault packet y → x ≡ y
 
 -- so what is a prefix of an output then is one of each
 abbrev pub OneFront : Type 0
 OneFront = (packets others : Option Packets) (limits : Limits) (command : Command) (items : List CutMessage) (rest : List ℕ) (fault : Option Fault) (front out : List ℕ)
-    → IsExact command → (is : IsFront packets limits command items rest fault front) → IsFirstOutput others command items fault is.packet out → IsPrefixTo front out
+    → IsExact command → AreAlike (form_of command) packets others → (is : IsFront packets limits command items rest fault front) → IsFirstOutput others command items fault is.packet out → IsPrefixTo front out
 
 -- by settings that ask for no more, a command does what it does under their limits alone
 abbrev pub PlainRuns : {R W E : Type 0} → (left : R → Option (List ℕ)) → (calls failures : R → ℕ) → (packets : R → Option Packets) → (held : W → Option (List ℕ)) → (write_failures : W → ℕ) → (second_held : E → Option (List ℕ))
@@ -46,6 +53,28 @@ PlainRuns {R} {W} {E} left calls failures packets held write_failures second_hel
     (settings : Settings) (most : ℕ) (command : Command) (r0 r1 : R) (w0 w1 : W) (e0 e1 : E) (end : ExitStatus) → ask_more settings ≡ false
     → RunsWith (reading left calls failures packets r0 r1) (writing held write_failures w0 w1) (writing second_held second_failures e0 e1) settings most command end
     → Runs (reading left calls failures packets r0 r1) (writing held write_failures w0 w1) (writing second_held second_failures e0 e1) settings.limits most command end
+
+-- What is written of captured messages is a file again.
+
+-- the command that writes the same messages raw
+abbrev pub raw_of : Command → Command
+raw_of (Swap wanted form) = Swap wanted Raw
+raw_of (Filter selection form) = Filter selection Raw
+raw_of command = command
+
+-- each is a message within the limits that came in a packet
+abbrev pub AreCaptured : Limits → List Placed → Type 0
+AreCaptured limits [] = Unit {0}
+AreCaptured limits (m ∷ items) = IsValidMessage limits m.item.message × (m.place.in_packet ≡ true) × AreCaptured limits items
+
+-- of such messages, of which there is one at least, a command that writes them as they are read
+-- writes, within any window, a file that a capture reads whole: what it gives is what the command
+-- writes of them raw
+abbrev pub WritesFile : Type 0
+WritesFile = (limits : Limits) (command : Command) (os : OwnerSet) (window : Window) (m : Placed) (items : List Placed) (texts : List (List ℕ))
+    → form_of command ≡ AsRead → AreCaptured limits (m ∷ items) → IsOutputOfAll command os (m ∷ items) texts
+    → (raw : List (List ℕ)) × IsOutputOfAll (raw_of command) os (m ∷ items) raw
+    × ((passes_cut : Bool) → IsRead passes_cut (output_of AsRead false window (m ∷ items) texts) (output_of Raw false window (m ∷ items) raw))
 
 -- One law for all commands and settings: two runs that read the same input end alike.
 
@@ -77,7 +106,8 @@ pub record MadeAlike {W V E F : Type 0} (w : Writing W) (v : Writing V) (e : Wri
   pub one : Writes w e settings command items told
   pub same : Writes v f settings copy items told
 
--- both inputs are of the same packets: a line of JSON has the time of its message's packet
+-- both inputs are of the same packets: a line of JSON has the time of its message's packet, and so
+-- has a message that is written as a packet
 pub record AreOfSamePackets {R S : Type 0} (r : Reading R) (s : Reading S) : Type 0 where
   pub all : Packets
   pub one : r.packets r.old ≡ Some all
@@ -100,12 +130,12 @@ pub record AreOfOneInput {R S : Type 0} (r : Reading R) (s : Reading S) (setting
 abbrev pub OneRun : (R S W V E F : Type 0) → Type 0
 OneRun R S W V E F = (r : Reading R) (s : Reading S) (w : Writing W) (v : Writing V) (e : Writing E) (f : Writing F) (settings : Settings) (most more : ℕ) (command copy : Command) (end other : ExitStatus)
     → AreSameCommand command copy → AreOfOneInput r s settings end other → RunsWith r w e settings most command end → RunsWith s v f settings more copy other
-    → (AreOfSamePackets r s → MadeAlike w v e f settings command copy end other) × (IsExact command → EndAlike w v e f end other)
+    → (AreOfSamePackets r s → MadeAlike w v e f settings command copy end other) × (IsExact command → AreAlike (form_of command) (r.packets r.old) (s.packets s.old) → EndAlike w v e f end other)
 
 -- two runs of a command under the same limits alone
 abbrev pub OneWithin : (R S W V E F : Type 0) → Type 0
 OneWithin R S W V E F = (r : Reading R) (s : Reading S) (w : Writing W) (v : Writing V) (e : Writing E) (f : Writing F) (limits : Limits) (most more : ℕ) (command copy : Command) (end other : ExitStatus)
-    → AreSameCommand command copy → IsExact command → ReadAlike r s → AreToldAlike r s end → end ≢ status.Failed → other ≢ status.Failed → Runs r w e limits most command end → Runs s v f limits more copy other
+    → AreSameCommand command copy → IsExact command → AreAlike (form_of command) (r.packets r.old) (s.packets s.old) → ReadAlike r s → AreToldAlike r s end → end ≢ status.Failed → other ≢ status.Failed → Runs r w e limits most command end → Runs s v f limits more copy other
     → EndAlike w v e f end other
 
 -- two runs that count messages by their names

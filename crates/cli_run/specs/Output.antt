@@ -1,5 +1,5 @@
 -- What a command writes of the messages of its input and the fault after them.
-use Rattle.std.specs.Prelude.{◌≡◌, ℕ, ◌+◌, ◌⊎◌, Bool, true, false, List, [], ◌∷◌, ◌++◌, length, Option, None, Some, codes, decimal, ◌-◌, take, drop, option_map}
+use Rattle.std.specs.Prelude.{◌≡◌, ℕ, ◌+◌, ◌⊎◌, Bool, true, false, ◌&&◌, not, List, [], ◌∷◌, ◌++◌, length, Option, None, Some, codes, decimal, ◌-◌, take, drop, option_map}
 use Rattle.std.specs.FinSet.{empty}
 use Rattle.std.specs.List.{concat}
 use Rattle.dbus_device.specs.Packets.{Packets}
@@ -9,6 +9,8 @@ use Rattle.dbus_value_model.specs.declared.order.Order.{Order}
 use Rattle.dbus_message_model.specs.Messages.{MessageTree, message_bytes}
 use Rattle.dbus_stream.specs.Cut.{CutMessage}
 use Rattle.dbus_stream.specs.CutEnds.{sizes}
+use Rattle.dbus_pcap.specs.Written.{packet_of, written_header}
+use Rattle.dbus_capture.specs.PcapFiles.{header_bytes, packet_header_bytes}
 use Rattle.dbus_show.specs.ShownMessages.{message_text}
 use Rattle.dbus_json.specs.JsonMessages.{IsJsonLine}
 use Rattle.dbus_json.specs.Times.{seconds_text}
@@ -16,6 +18,8 @@ use Rattle.dbus_json.specs.declared.place.LinePlace.{LinePlace}
 use Rattle.dbus_list.specs.Lines.{IsLine}
 use Rattle.dbus_rule_set.specs.Owners.{OwnerSet, owners_in}
 use Rattle.cli_options.specs.Selections.{SelectsBy}
+use Rattle.cli_options.specs.declared.file_form.FileForm.{FileForm}
+use Rattle.cli_options.specs.declared.file_form.FileForm.TheVariants.{AsRead, Raw}
 use Rattle.cli_options.specs.declared.command.Command.{Command}
 use Rattle.cli_options.specs.declared.command.Command.TheVariants.{Show, Json, List as Listing, Check, Swap, Filter}
 use Rattle.cli_report.specs.Gathering.{IsPrefixTo}
@@ -37,8 +41,8 @@ command_of Nothing = Check
 command_of (Text times) = Show times
 command_of (JsonLine times) = Json times
 command_of (Line width) = Listing width
-command_of (InOrder order) = Swap order
-command_of (Matching selector) = Filter selector.selection.now
+command_of (InOrder order form) = Swap order form
+command_of (Matching selector form) = Filter selector.selection.now form
 
 -- the command is `check`, which writes nothing of a message, and tells the first writer of a fault
 abbrev pub is_check : Command → Bool
@@ -47,12 +51,12 @@ is_check command = false
 
 -- the owners of names that a command knows: its own, or those that it has learned since
 abbrev pub owners_known : Command → Option OwnerSet → OwnerSet
-owners_known (Filter selection) learned = known selection learned
+owners_known (Filter selection form) learned = known selection learned
 owners_known command learned = empty
 
 -- the owners that it knows after a message, if it knew these before
 abbrev pub owners_after : Command → OwnerSet → MessageTree → OwnerSet
-owners_after (Filter selection) os message = known_after selection os message
+owners_after (Filter selection form) os message = known_after selection os message
 owners_after command os message = os
 
 -- the owners that a command knows after messages, if it knew these before
@@ -63,7 +67,7 @@ owners_after_all command os (m ∷ items) = owners_after_all command (owners_aft
 -- a command makes a text of the message, if it knows these owners
 abbrev pub Picks : Command → OwnerSet → MessageTree → Type 0
 Picks Check os message = ⊥
-Picks (Filter selection) os message = SelectsBy selection (owners_in os) message
+Picks (Filter selection form) os message = SelectsBy selection (owners_in os) message
 Picks command os message = Unit {0}
 
 -- the time of a message, if times are wanted
@@ -73,7 +77,7 @@ time_if false time = None
 
 -- the place of a message as it is told: without its time, unless times are wanted
 abbrev pub told_place : (times : Bool) → MessagePlace → MessagePlace
-told_place times place = record { number = place.number; offset = place.offset; time = time_if times place.time }
+told_place times place = record { number = place.number; offset = place.offset; time = time_if times place.time; in_packet = place.in_packet }
 
 -- what stands before the text of a message: its time and a space, if it has one
 abbrev pub time_text : Option ℕ → List ℕ
@@ -83,6 +87,45 @@ time_text (Some nanoseconds) = seconds_text nanoseconds ++ codes " "
 -- the text of a message after its time, if it has one
 abbrev pub shown_text : Order → MessageTree → MessagePlace → List ℕ
 shown_text order message place = time_text place.time ++ message_text order message place.number
+
+-- the form in which a command writes messages; of one that writes no messages it is raw
+abbrev pub form_of : Command → FileForm
+form_of (Swap wanted form) = form
+form_of (Filter selection form) = form
+form_of command = Raw
+
+-- a message is written as a packet of a pcap file: it came in a packet, and is written as it is read
+abbrev pub is_framed : FileForm → MessagePlace → Bool
+is_framed Raw place = false
+is_framed AsRead place = place.in_packet
+
+-- the header of the packet that its bytes are, or nothing
+abbrev pub frame_if : Bool → (time : Option ℕ) → List ℕ → List ℕ
+frame_if true time bytes = packet_header_bytes written_header.order (packet_of (record { time = time; bytes = bytes }))
+frame_if false time bytes = []
+
+-- its bytes as they are written
+abbrev pub framed : Bool → (time : Option ℕ) → List ℕ → List ℕ
+framed b time bytes = frame_if b time bytes ++ bytes
+
+-- the header of a file, or nothing
+abbrev pub header_if : Bool → List ℕ
+header_if true = header_bytes written_header
+header_if false = []
+
+-- the header is written before all that is made of messages, if the first of them is written as a
+-- packet; begun says whether one came before it
+abbrev pub begins_file : FileForm → MessagePlace → (begun : Bool) → Bool
+begins_file form place begun = is_framed form place && not begun
+
+abbrev pub header_before : FileForm → (begun : Bool) → List Placed → List ℕ
+header_before form begun [] = []
+header_before form begun (m ∷ items) = header_if (begins_file form m.place begun)
+
+-- a message was looked at, before these or among them
+abbrev pub begun_after : Bool → List Placed → Bool
+begun_after begun [] = begun
+begun_after begun (m ∷ items) = true
 
 -- what a line says of where its message stands
 abbrev pub line_place : MessagePlace → LinePlace
@@ -94,8 +137,8 @@ IsTextOf (Show times) order message place text = text ≡ shown_text order messa
 IsTextOf (Json times) order message place text = IsJsonLine order message (line_place (told_place times place)) text
 IsTextOf (Listing width) order message place text = IsLine width (line_place place) order message text
 IsTextOf Check order message place text = text ≡ []
-IsTextOf (Swap wanted) order message place text = text ≡ message_bytes wanted message
-IsTextOf (Filter selection) order message place text = text ≡ message_bytes order message
+IsTextOf (Swap wanted form) order message place text = text ≡ framed (is_framed form place) place.time (message_bytes wanted message)
+IsTextOf (Filter selection form) order message place text = text ≡ framed (is_framed form place) place.time (message_bytes order message)
 
 -- the texts that it makes of one message: one if it picks it, else none
 abbrev pub IsOutputOf : Command → OwnerSet → Order → MessageTree → MessagePlace → List (List ℕ) → Type 0
@@ -109,14 +152,23 @@ IsOutputOfAll command os [] texts = texts ≡ []
 IsOutputOfAll command os (m ∷ items) texts = (one : List (List ℕ)) × (more : List (List ℕ)) × (texts ≡ one ++ more)
     × IsOutputOf command os m.item.order m.item.message m.place one × IsOutputOfAll command (owners_after command os m.item.message) items more
 
--- the messages and the fault after them determine each byte that the command writes: no time, which
--- their packets have, and no DOUBLE of `json` and `list`, which may be any digits that read back as
--- its bits
+-- all that is written of messages: these texts are made of them, and the header comes first
+abbrev pub whole_output : FileForm → List Placed → List (List ℕ) → List ℕ
+whole_output form items texts = header_before form false items ++ concat texts
+
+-- the messages, with their times if they are written as packets, and the fault after them determine
+-- each byte that the command writes: no other time, which their packets have, and no DOUBLE of
+-- `json` and `list`, which may be any digits that read back as its bits
 abbrev pub IsExact : Command → Type 0
 IsExact (Show true) = ⊥
 IsExact (Json times) = ⊥
 IsExact (Listing width) = ⊥
 IsExact command = Unit {0}
+
+-- the packets of two inputs are known and the same, if they matter to this form
+abbrev pub AreAlike : FileForm → Option Packets → Option Packets → Type 0
+AreAlike Raw packets others = Unit {0}
+AreAlike AsRead packets others = (all : Packets) × (packets ≡ Some all) × (others ≡ Some all)
 
 -- how many messages of how many bytes there are
 abbrev pub ok_line : ℕ → ℕ → List ℕ
@@ -139,7 +191,7 @@ pub record IsFirstOutput (packets : Option Packets) (command : Command) (items :
   pub placed : ArePlaced packets 1 0 (wholes items) messages
   pub texts : List (List ℕ)
   pub each : IsOutputOfAll command (owners_known command None) messages texts
-  pub joined : out ≡ concat texts ++ last_line command (length items) (sizes items) fault packet
+  pub joined : out ≡ whole_output (form_of command) messages texts ++ last_line command (length items) (sizes items) fault packet
 
 -- a prefix of what the first writer gets of an input that these messages begin, and then the rest
 pub record IsFront (packets : Option Packets) (limits : Limits) (command : Command) (items : List CutMessage) (rest : List ℕ) (fault : Option Fault) (front : List ℕ) : Type 0 where
@@ -148,7 +200,7 @@ pub record IsFront (packets : Option Packets) (limits : Limits) (command : Comma
   pub output : IsFirstOutput packets command items fault packet out
   pub prefix : IsPrefixTo front out
   -- a line of the fault that was begun has its packet
-  pub packet_is : IsPrefixTo front (concat output.texts) ⊎ IsFaultIn packets limits (sizes items) rest fault packet
+  pub packet_is : IsPrefixTo front (whole_output (form_of command) output.messages output.texts) ⊎ IsFaultIn packets limits (sizes items) rest fault packet
 
 abbrev pub fault_line : ℕ → Option Fault → (packet : Option ℕ) → List ℕ
 fault_line size None packet = []
@@ -173,6 +225,11 @@ at_most (Some limit) list = take limit list
 -- the texts that are written, one after the other
 unfoldable pub written : Window → List (List ℕ) → List ℕ
 written window texts = concat (at_most window.limit (drop window.skip texts))
+
+-- what is written of messages, if these texts are made of them: the header, and then what the window
+-- lets through
+abbrev pub output_of : FileForm → (begun : Bool) → Window → List Placed → List (List ℕ) → List ℕ
+output_of form begun window items texts = header_before form begun items ++ written window texts
 
 -- the window for the texts after so many
 abbrev pub after : Window → ℕ → Window

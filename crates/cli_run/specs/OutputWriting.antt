@@ -4,7 +4,7 @@ use Rattle.dbus_device.specs.Device.{Wrote}
 use Rattle.cli_report.specs.Gathering.{Breaks, GathersOrNot, Leaves, Passes, gathered_bytes}
 use Rattle.cli_report.specs.declared.ending.Cause.{Cause}
 use Rattle.cli_report.specs.declared.ending.Cause.TheVariants.{Memory, WriteFailed}
-use Rattle.cli_run.specs.Output.{command_of, IsOutputOfAll, is_check, owners_known, owners_after_all, after, written}
+use Rattle.cli_run.specs.Output.{command_of, IsOutputOfAll, is_check, owners_known, owners_after_all, after, begun_after, form_of, output_of}
 use Rattle.cli_run.specs.Inputs.{Placed}
 use Rattle.cli_run.specs.Told.{GotSecond, first_of, second_of}
 use Rattle.cli_run.specs.declared.output_writer.OutputWriter.{OutputWriter}
@@ -36,8 +36,9 @@ module _ {A W E : Type 0} (held : W → Option (List ℕ)) (failures : W → ℕ
     pub texts : List (List ℕ)
     pub made : IsOutputOfAll (command_of old.output) (owners_known (command_of old.output) old.carried.owners) items texts
     pub window : new.carried.window ≡ after old.carried.window (length texts)
+    pub begun : new.carried.begun ≡ begun_after old.carried.begun items
     pub owners : owners_known (command_of old.output) new.carried.owners ≡ owners_after_all (command_of old.output) (owners_known (command_of old.output) old.carried.owners) items
-    pub passes : Passes held failures (first_of (is_check (command_of old.output)) (written old.carried.window texts) told) (gathered_bytes old.gathered) (gathered_bytes new.gathered)
+    pub passes : Passes held failures (first_of (is_check (command_of old.output)) (output_of (form_of (command_of old.output)) old.carried.begun old.carried.window items texts) told) (gathered_bytes old.gathered) (gathered_bytes new.gathered)
         old.first.now new.first.now
     pub tells : Wrote second_held second_failures old.second.now (second_of (is_check (command_of old.output)) told) new.second.now
 
@@ -47,6 +48,6 @@ module _ {A W E : Type 0} (held : W → Option (List ℕ)) (failures : W → ℕ
     pub same_second : new.second.ghost_name ≡ old.second.ghost_name
     pub texts : List (List ℕ)
     pub made : IsOutputOfAll (command_of old.output) (owners_known (command_of old.output) old.carried.owners) items texts
-    pub leaves : LeavesFirst held failures (is_check (command_of old.output)) stop (first_of (is_check (command_of old.output)) (written old.carried.window texts) told) (gathered_bytes old.gathered)
+    pub leaves : LeavesFirst held failures (is_check (command_of old.output)) stop (first_of (is_check (command_of old.output)) (output_of (form_of (command_of old.output)) old.carried.begun old.carried.window items texts) told) (gathered_bytes old.gathered)
         old.first.now new.first.now
     pub tells : GotSecond second_held second_failures (is_check (command_of old.output)) stop (second_of (is_check (command_of old.output)) told) old.second.now new.second.now

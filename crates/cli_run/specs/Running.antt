@@ -1,6 +1,6 @@
 -- What a command does with what it reads, what it writes of it, and why it gives up. limits are
 -- those that each message keeps, and most is how many reads may be made.
-use Rattle.std.specs.Prelude.{◌⊎◌, ℕ, List, None, ◌≡◌, Option}
+use Rattle.std.specs.Prelude.{◌⊎◌, ℕ, false, List, None, ◌≡◌, Option}
 use Rattle.dbus_device.specs.Device.{Wrote, Stopped, one_more}
 use Rattle.dbus_device.specs.Packets.{Packets}
 use Rattle.dbus_value_model.specs.declared.limits.Limits.{Limits}
@@ -8,14 +8,13 @@ use Rattle.cli_options.specs.declared.command.Command.{Command}
 use Rattle.cli_options.specs.declared.settings.Settings.{Settings}
 use Rattle.cli_run.specs.Going.{GivesUp, GoesThrough, IsStopOf}
 use Rattle.cli_run.specs.Inputs.{ArePlaced, Placed, wholes}
-use Rattle.cli_run.specs.Output.{IsOutputOfAll, is_check, owners_known, IsFirstOutput, IsFront, second_output, status_of, written}
+use Rattle.cli_run.specs.Output.{IsOutputOfAll, form_of, is_check, owners_known, IsFirstOutput, IsFront, output_of, second_output, status_of, whole_output}
 use Rattle.cli_run.specs.Refusals.{IsFaultIn}
 use Rattle.cli_run.specs.Told.{GotFirst, GotSecond, first_of, second_of}
 use Rattle.cli_report.specs.Devices.{Reading, Writing, taken, writing, RisesAtMost}
 use Rattle.cli_report.specs.declared.ending.ExitStatus.{ExitStatus}
 use Rattle.cli_run.specs.declared.visitor.RunStop.{RunStop}
 use Rattle.std.specs.Io.KnownBytes.{Appends, Consumes, IsAtEnd}
-use Rattle.std.specs.List.{concat}
 use Rattle.dbus_value_model.specs.declared.fault.Fault.{Fault}
 use Rattle.dbus_header.specs.MessageOutcomes.{IsPartial}
 use Rattle.dbus_stream.specs.Cut.{CutMessage, BeginWith, IsCut, CutOutcome, Refused}
@@ -42,7 +41,7 @@ pub record WritesMessages (packets : Option Packets) (limits : Limits) (command 
   pub placed : ArePlaced packets 1 0 (wholes items) handed
   pub texts : List (List ℕ)
   pub output : IsOutputOfAll command (owners_known command None) handed texts
-  pub written_is : written ≡ concat texts
+  pub written_is : written ≡ whole_output (form_of command) handed texts
 
 -- where reading was given up, all messages that were read were written
 abbrev pub WritesBefore : Option Packets → Limits → Command → Cause → List ℕ → List ℕ → Type 0
@@ -102,19 +101,19 @@ abbrev pub Runs : {R W E : Type 0} → Reading R → Writing W → Writing E →
 Runs r w e limits most command end = Answers r w e limits most command end ⊎ GaveUp r w e limits most command end
 
 module _ {W E : Type 0} (w : Writing W) (e : Writing E) (settings : Settings) (command : Command) where
-  -- what the window lets through of the texts that the command makes of the messages was written,
-  -- and this was told
+  -- the header was written, and what the window lets through of the texts that the command makes of
+  -- the messages; and this was told
   pub record Writes (items : List Placed) (told : List ℕ) : Type 0 where
     pub texts : List (List ℕ)
     pub made : IsOutputOfAll command (owners_known command None) items texts
-    pub first : Wrote w.held w.failures w.old (first_of (is_check command) (written settings.window texts) told) w.new
+    pub first : Wrote w.held w.failures w.old (first_of (is_check command) (output_of (form_of command) false settings.window items texts) told) w.new
     pub second : Wrote e.held e.failures e.old (second_of (is_check command) told) e.new
 
   -- the same, if the run was given up; of the writer to which a write failed a prefix
   pub record WritesSome (items : List Placed) (told : List ℕ) (stop : RunStop) : Type 0 where
     pub texts : List (List ℕ)
     pub made : IsOutputOfAll command (owners_known command None) items texts
-    pub first : GotFirst w.held w.failures (is_check command) stop (first_of (is_check command) (written settings.window texts) told) w.old w.new
+    pub first : GotFirst w.held w.failures (is_check command) stop (first_of (is_check command) (output_of (form_of command) false settings.window items texts) told) w.old w.new
     pub second : GotSecond e.held e.failures (is_check command) stop (second_of (is_check command) told) e.old e.new
 
 -- what a command does with what r reads, by the writers w and e, under these settings

@@ -1,6 +1,6 @@
 -- The laws of the visitors, and of what a writer or a window lets through of more. They are here,
 -- and not in proofs/, because the trait's law names them.
-use Rattle.std.proofs.Common.{◌≡◌, ℕ, ◌+◌, Bool, true, false, List, [], ◌++◌, length, Option, refl, sym, ap, ◌∙◌, subst, arith, length-append, zero, suc, ◌-◌, ◌∷◌, None, Some, option_map, take, drop, length-drop, append_assoc}
+use Rattle.std.proofs.Common.{◌≡◌, ℕ, ◌+◌, Bool, true, false, ◌&&◌, List, [], ◌++◌, length, Option, refl, sym, ap, ◌∙◌, subst, arith, length-append, zero, suc, ◌-◌, ◌∷◌, None, Some, option_map, take, drop, length-drop, append_assoc}
 use Rattle.std.specs.Io.KnownBytes.{Appends}
 use Rattle.std.proofs.KnownBytes.{Appends-nil, Appends-trans}
 use Rattle.std.proofs.Math.Path.{transport}
@@ -12,7 +12,7 @@ use Rattle.cli_run.specs.declared.visitor.RunStop.TheVariants.{Cause as ByCause,
 use Rattle.std.specs.List.{concat}
 use Rattle.std.proofs.lemmas.List.Folds.{concat-append}
 use Rattle.cli_options.specs.declared.window.Window.{Window}
-use Rattle.cli_run.specs.Output.{after, at_most, written, command_of, IsOutputOfAll, is_check, owners_after, owners_after_all, owners_known}
+use Rattle.cli_run.specs.Output.{after, at_most, begun_after, form_of, header_before, header_if, is_framed, output_of, written, command_of, IsOutputOfAll, is_check, owners_after, owners_after_all, owners_known}
 use Rattle.dbus_count.specs.Counting.{with_names, counting_of, names_of}
 use Rattle.dbus_count.specs.declared.count.Count.{Count}
 use Rattle.cli_run.specs.ByName.{CountsMessages, LeavesCounted, after_messages}
@@ -20,6 +20,7 @@ use Rattle.cli_run.specs.Inputs.{Placed}
 use Rattle.cli_run.specs.Visiting.{AddsUp}
 use Rattle.dbus_rule_set.specs.Owners.{OwnerSet}
 use Rattle.cli_options.specs.declared.command.Command.{Command}
+use Rattle.cli_options.specs.declared.file_form.FileForm.{FileForm}
 use Rattle.cli_report.specs.Gathering.{Leaves, Passes, gathered_bytes}
 use Rattle.cli_report.specs.PageLaws.{breaks_after, passes_both, passes_none}
 use Rattle.cli_report.specs.declared.ending.Cause.{Cause}
@@ -165,6 +166,32 @@ after_all_both : (command : Command) (os : OwnerSet) (items more : List Placed)
 after_all_both command os [] more = refl
 after_all_both command os (m ∷ items) more = after_all_both command (owners_after command os m.item.message) items more
 
+-- the header comes before the first message alone
+and_false : (b : Bool) → b && false ≡ false
+and_false true = refl
+and_false false = refl
+
+header_once : (form : FileForm) (items : List Placed) → header_before form true items ≡ []
+header_once form [] = refl
+header_once form (m ∷ items) = ap header_if (and_false (is_framed form m.place))
+
+-- what comes after it goes on
+pub header_both : (form : FileForm) (begun : Bool) (items more : List Placed) (a b : List ℕ) → (items ≡ [] → a ≡ [])
+    → (header_before form begun items ++ a) ++ (header_before form (begun_after begun items) more ++ b) ≡ header_before form begun (items ++ more) ++ (a ++ b)
+header_both form begun [] more a b none =
+    ap (λ l. l ++ (header_before form begun more ++ b)) (none refl) ∙ ap (λ l. header_before form begun more ++ (l ++ b)) (sym (none refl))
+header_both form begun (m ∷ items) more a b none =
+    ap (λ l. (header_before form begun (m ∷ items) ++ a) ++ (l ++ b)) (header_once form more) ∙ append_assoc (header_before form begun (m ∷ items)) a b
+
+pub begun_both : (begun : Bool) (items more : List Placed) → begun_after (begun_after begun items) more ≡ begun_after begun (items ++ more)
+begun_both begun [] more = refl
+begun_both begun (m ∷ items) [] = refl
+begun_both begun (m ∷ items) (l ∷ more) = refl
+
+-- of no messages no texts are made
+pub none_written : (command : Command) (os : OwnerSet) (window : Window) (items : List Placed) (texts : List (List ℕ)) → IsOutputOfAll command os items texts → items ≡ [] → written window texts ≡ []
+none_written command os window items texts made none = ap (λ t. written window t) (subst (λ (l : List Placed). IsOutputOfAll command os l texts) none made) ∙ written_none window
+
 -- what the first writer gets of more
 first_both : (is_check : Bool) (out told more text : List ℕ) → first_of is_check out told ++ first_of is_check more text ≡ first_of is_check (out ++ more) (told ++ text)
 first_both true out told more text = refl
@@ -196,11 +223,19 @@ module _ {A W E : Type 0} (held : W → Option (List ℕ)) (failures : W → ℕ
     os = owners_known own a.carried.owners
 
     -- what the first writer gets of these texts and those that are made from where they leave off
-    first_more : (texts : List (List ℕ)) → first_of (is_check own) (written a.carried.window h.texts) p ++ first_of (is_check own) (written b.carried.window texts) q
-        ≡ first_of (is_check own) (written a.carried.window (h.texts ++ texts)) (p ++ q)
+    first_more : (texts : List (List ℕ)) → first_of (is_check own) (output_of (form_of own) a.carried.begun a.carried.window s h.texts) p ++ first_of (is_check own) (output_of (form_of own) b.carried.begun b.carried.window t texts) q
+        ≡ first_of (is_check own) (output_of (form_of own) a.carried.begun a.carried.window (s ++ t) (h.texts ++ texts)) (p ++ q)
     first_more texts =
-        first_both (is_check own) (written a.carried.window h.texts) p (written b.carried.window texts) q
-        ∙ ap (λ l. first_of (is_check own) l (p ++ q)) (written_more a.carried.window b.carried.window h.texts texts h.window)
+        let form = form_of own in
+        let was = a.carried.begun in
+        let now = b.carried.window in
+        let one = written a.carried.window h.texts in
+        first_both (is_check own) (output_of form was a.carried.window s h.texts) p (output_of form b.carried.begun now t texts) q
+        ∙ ap (λ l. first_of (is_check own) l (p ++ q)) (
+        ap (λ x. (header_before form was s ++ one) ++ (header_before form x t ++ written now texts)) h.begun
+        ∙ header_both form was s t one (written now texts) (none_written own os a.carried.window s h.texts h.made)
+        ∙ ap (λ l. header_before form was (s ++ t) ++ l) (written_more a.carried.window now h.texts texts h.window)
+        )
 
     made_both : (texts : List (List ℕ)) → IsOutputOfAll (command_of b.output) (owners_known (command_of b.output) b.carried.owners) t texts → IsOutputOfAll own os (s ++ t) (h.texts ++ texts)
     made_both texts made =
@@ -211,7 +246,7 @@ module _ {A W E : Type 0} (held : W → Option (List ℕ)) (failures : W → ℕ
     joins k =
         let command : command_of b.output ≡ own = λ i. command_of (h.same_output i) in
         let owners = transport (λ i. owners_known (command i) c.carried.owners ≡ owners_after_all (command i) (owners_known (command i) b.carried.owners) t) k.owners in
-        let passes = transport (λ i. Passes held failures (first_of (is_check (command i)) (written b.carried.window k.texts) q) (gathered_bytes b.gathered) (gathered_bytes c.gathered) b.first.now c.first.now) k.passes in
+        let passes = transport (λ i. Passes held failures (first_of (is_check (command i)) (output_of (form_of (command i)) b.carried.begun b.carried.window t k.texts) q) (gathered_bytes b.gathered) (gathered_bytes c.gathered) b.first.now c.first.now) k.passes in
         let tells = transport (λ i. Wrote second_held second_failures b.second.now (second_of (is_check (command i)) q) c.second.now) k.tells in
         record {
           same_first = k.same_first ∙ h.same_first;
@@ -219,6 +254,7 @@ module _ {A W E : Type 0} (held : W → Option (List ℕ)) (failures : W → ℕ
           same_output = k.same_output ∙ h.same_output;
           texts = h.texts ++ k.texts;
           made = made_both k.texts k.made;
+          begun = k.begun ∙ (ap (λ x. begun_after x t) h.begun ∙ begun_both a.carried.begun s t);
           window = k.window ∙ after_more a.carried.window b.carried.window h.texts k.texts h.window;
           owners = owners ∙ (ap (λ (l : OwnerSet). owners_after_all own l t) h.owners ∙ sym (after_all_both own os s t));
           passes = transport (λ i. Passes held failures (first_more k.texts i) (gathered_bytes a.gathered) (gathered_bytes c.gathered) a.first.now c.first.now)
@@ -230,7 +266,8 @@ module _ {A W E : Type 0} (held : W → Option (List ℕ)) (failures : W → ℕ
     leaves_after : (stop : RunStop) → LeavesWritten held failures second_held second_failures b c t q stop → LeavesWritten held failures second_held second_failures a c (s ++ t) (p ++ q) stop
     leaves_after stop k =
         let check : is_check (command_of b.output) ≡ is_check own = λ i. is_check (command_of (h.same_output i)) in
-        let leaves = transport (λ i. LeavesFirst held failures (check i) stop (first_of (check i) (written b.carried.window k.texts) q) (gathered_bytes b.gathered) b.first.now c.first.now) k.leaves in
+        let form : form_of (command_of b.output) ≡ form_of own = λ i. form_of (command_of (h.same_output i)) in
+        let leaves = transport (λ i. LeavesFirst held failures (check i) stop (first_of (check i) (output_of (form i) b.carried.begun b.carried.window t k.texts) q) (gathered_bytes b.gathered) b.first.now c.first.now) k.leaves in
         let tells = transport (λ i. GotSecond second_held second_failures (check i) stop (second_of (check i) q) b.second.now c.second.now) k.tells in
         record {
           same_first = k.same_first ∙ h.same_first;
@@ -244,7 +281,7 @@ module _ {A W E : Type 0} (held : W → Option (List ℕ)) (failures : W → ℕ
         }
 
   -- what the first writer gets of nothing
-  pub nothing_first : (a : OutputWriter A W E) → [] ≡ first_of (is_check (command_of a.output)) (written a.carried.window []) []
+  pub nothing_first : (a : OutputWriter A W E) → [] ≡ first_of (is_check (command_of a.output)) (output_of (form_of (command_of a.output)) a.carried.begun a.carried.window [] []) []
   nothing_first a = sym (ap (λ l. first_of (is_check (command_of a.output)) l []) (written_none a.carried.window) ∙ first_nothing (is_check (command_of a.output)))
 
   -- what is gathered is written, or not: nothing is made, and nothing is told
@@ -257,6 +294,7 @@ module _ {A W E : Type 0} (held : W → Option (List ℕ)) (failures : W → ℕ
     texts = [];
     made = refl;
     window = ap (λ (c : Carried). c.window) carried ∙ sym (after_none a.carried.window);
+    begun = ap (λ (c : Carried). c.begun) carried;
     owners = ap (λ (c : Carried). owners_known (command_of a.output) c.owners) carried;
     passes = subst (λ (l : List ℕ). Passes held failures l (gathered_bytes a.gathered) (gathered_bytes b.gathered) a.first.now b.first.now) (nothing_first a) passes;
     tells = told_nothing second_held second_failures (is_check (command_of a.output)) a.second.now b.second.now same;
@@ -269,7 +307,7 @@ module _ {A W E : Type 0} (held : W → Option (List ℕ)) (failures : W → ℕ
     leaves_after = λ a b c s t p q stop h. leaves_after a b c s t p q h stop;
     rests = λ a b s p h none.
         let own = command_of a.output in
-        let all = subst (λ (l : List ℕ). Passes held failures (first_of (is_check own) (written a.carried.window h.texts) p) (gathered_bytes a.gathered) l a.first.now b.first.now) none h.passes in (
+        let all = subst (λ (l : List ℕ). Passes held failures (first_of (is_check own) (output_of (form_of own) a.carried.begun a.carried.window s h.texts) p) (gathered_bytes a.gathered) l a.first.now b.first.now) none h.passes in (
           record { same_first = h.same_first; same_second = h.same_second; texts = h.texts; made = h.made; leaves = all; tells = h.tells },
           record { same_first = h.same_first; same_second = h.same_second; texts = h.texts; made = h.made; leaves = all; tells = h.tells },
           record { same_first = h.same_first; same_second = h.same_second; texts = h.texts; made = h.made; leaves = all; tells = h.tells },

@@ -7,6 +7,7 @@ ghost use Rattle.dbus_header.specs.MessageOutcomes.{IsWhole};
 ghost use Rattle.dbus_validate.specs.Validating.{IsValidatedWhole};
 ghost use Rattle.dbus_match.specs.Matching.{ownerships};
 ghost use Rattle.cli_options.specs.declared.command.Command.TheVariants.{Filter};
+ghost use Rattle.cli_options.specs.declared.file_form.FileForm.{FileForm};
 ghost use Rattle.cli_run.specs.Handing.{IsPicked};
 ghost use Rattle.cli_run.specs.Learning.{known};
 
@@ -27,9 +28,9 @@ pub(crate) fn select(
     owners: &mut Option<Owners>,
 ) -> Result<bool, AllocError>
     requires { IsValidatedWhole lent.now.limits lent.now.bytes.now lent.now.validated }
-    ensures { (order : Order) (m : MessageTree) →
+    ensures { (order : Order) (m : MessageTree) (form : FileForm) →
         IsWhole lent.now.limits lent.now.bytes.now order m (length lent.now.bytes.now) →
-        IfOk result (IsPicked (Filter selector.now.selection.now) m owners.old owners.new) }
+        IfOk result (IsPicked (Filter selector.now.selection.now form) m owners.old owners.new) }
 {
     let view = MessageView::of_validated(lent.bytes, lent.limits, lent.validated);
     let selection = selector.selection;

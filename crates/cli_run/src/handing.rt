@@ -89,6 +89,7 @@ pub(crate) fn hand_all<R: Source, A: Allocator + Copy, V: MessageVisitor>(
         match next_message(messages, visitor) {
             Ok(Some(validated)) => {
                 count += 1;
+                let packet = messages.packet();
                 let lent = Lent {
                     bytes: messages.message(),
                     validated,
@@ -96,7 +97,8 @@ pub(crate) fn hand_all<R: Source, A: Allocator + Copy, V: MessageVisitor>(
                     place: MessagePlace {
                         number: count,
                         offset,
-                        time: time_of(messages.packet()),
+                        time: time_of(packet),
+                        in_packet: packet.is_some(),
                     },
                 };
                 match visitor.take(&lent) {

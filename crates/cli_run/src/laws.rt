@@ -2,7 +2,7 @@
 //! and it does nothing when it runs.
 #![tactic(auto)]
 
-ghost use Rattle.cli_run.specs.Laws.{OneCalls, OneCount, OneRun, OneWithin, OneFront, OneOutput, PlainRuns, SomeOutput};
+ghost use Rattle.cli_run.specs.Laws.{OneCalls, OneCount, OneRun, OneWithin, OneFront, OneOutput, PlainRuns, SomeOutput, WritesFile};
 
 use dbus_count::laws::one_table;
 use dbus_stream::{Sink, Source};
@@ -14,9 +14,9 @@ pub fn some_output()
     ensures { SomeOutput }
 {}
 
-/// It has no other, also if the packets are others, unless it is `Show` with times, `Json` or
-/// `List`: times are those of packets, and the latter two may write a DOUBLE by any digits that
-/// read back as its bits.
+/// It has no other, also if the packets are others, unless it writes messages as they are read.
+/// Others have `Show` with times, `Json` and `List`: times are those of packets, and the latter two
+/// may write a DOUBLE by any digits that read back as its bits.
 pub fn one_output()
     ensures { OneOutput }
 {}
@@ -24,6 +24,12 @@ pub fn one_output()
 /// What is a prefix of one of its outputs is then a prefix of each.
 pub fn one_front()
     ensures { OneFront }
+{}
+
+/// What `Swap` and `Filter` write as they are read, of messages that came in packets, is a pcap
+/// file. A capture reads it whole, and gives what they write of these messages raw.
+pub fn file_is_read()
+    ensures { WritesFile }
 {}
 
 /// By settings that ask for no more, a command does what it does under their limits alone.
@@ -37,7 +43,7 @@ pub fn plain_run<R: Source, W: Sink, E: Sink>()
 /// message that is refused shows its bytes as far as they happened to be read, `Json` and `List`
 /// may write a DOUBLE by other digits that read back as its bits, and times are others if the
 /// packets are. They are the same if a message is refused, since its line has the packet of its
-/// fault.
+/// fault; and of `Swap` and `Filter` that write messages as they are read.
 pub fn one_run<R, S, W, V, E, F>()
     ensures { OneRun R S W V E F }
 {}

@@ -12,6 +12,7 @@ mod closing;
 mod counted;
 mod counting;
 mod filtering;
+mod framing;
 mod going;
 mod handing;
 pub mod laws;

@@ -7,16 +7,17 @@ ghost use Rattle.dbus_validate.specs.Validating.{IsValidatedWhole};
 ghost use Rattle.cli_report.specs.Gathering.{gathered_bytes};
 ghost use Rattle.cli_report.specs.Devices.{writing};
 ghost use Rattle.cli_run.specs.Handing.{HandsOne, IsPicked, WritesOne};
-ghost use Rattle.cli_run.specs.Output.{command_of, is_check};
+ghost use Rattle.cli_run.specs.Output.{command_of, form_of, is_check};
 
 use crate::filtering::select;
+use crate::framing::{Front, write_header, write_message};
 use crate::place::{Carried, Lent};
 use crate::selector::Selector;
 use crate::showing::{show, write_json_line, write_list_line};
 use crate::swapping::swap;
 use crate::window::lets_through;
-use cli_options::Command;
-use cli_report::{Cause, OutputBuffer, put_out};
+use cli_options::{Command, FileForm};
+use cli_report::{Cause, OutputBuffer};
 use dbus_rule_set::Owners;
 use dbus_stream::Sink;
 use dbus_value_model::Order;
@@ -33,10 +34,10 @@ pub(crate) enum Output<'a> {
     JsonLine { times: bool },
     /// Its line of at most so many cells, for a reader.
     Line(u16),
-    /// Its bytes in this order.
-    InOrder(Order),
-    /// Its bytes as they are, if it is selected.
-    Matching(Selector<'a>),
+    /// Its bytes in this order, in this form.
+    InOrder(Order, FileForm),
+    /// Its bytes as they are, in this form, if it is selected.
+    Matching(Selector<'a>, FileForm),
 }
 
 /// What the command writes of each message.
@@ -50,8 +51,10 @@ pub(crate) fn output_of(command: &Command) -> Result<Output<'_>, AllocError>
         Command::Show { times } => Ok(Output::Text { times: *times }),
         Command::Json { times } => Ok(Output::JsonLine { times: *times }),
         Command::List(width) => Ok(Output::Line(*width)),
-        Command::Swap(order) => Ok(Output::InOrder(*order)),
-        Command::Filter(selection) => Ok(Output::Matching(Selector::new(selection)?)),
+        Command::Swap(order, form) => Ok(Output::InOrder(*order, *form)),
+        Command::Filter(selection, form) => {
+            Ok(Output::Matching(Selector::new(selection)?, *form))
+        }
     }
 }
 
@@ -64,8 +67,22 @@ pub(crate) fn is_check(output: &Output) -> bool
         Output::Text { .. } => false,
         Output::JsonLine { .. } => false,
         Output::Line(_) => false,
-        Output::InOrder(_) => false,
-        Output::Matching(_) => false,
+        Output::InOrder(_, _) => false,
+        Output::Matching(_, _) => false,
+    }
+}
+
+// The form in which the command writes messages; of one that writes no messages it is raw.
+fn form_of(output: &Output) -> FileForm
+    ensures { result ≡ form_of (command_of output.now) }
+{
+    match output {
+        Output::Nothing => FileForm::Raw,
+        Output::Text { .. } => FileForm::Raw,
+        Output::JsonLine { .. } => FileForm::Raw,
+        Output::Line(_) => FileForm::Raw,
+        Output::InOrder(_, form) => *form,
+        Output::Matching(_, form) => *form,
     }
 }
 
@@ -81,16 +98,18 @@ fn picks(output: &Output, lent: &Lent, owners: &mut Option<Owners>) -> Result<bo
         Output::Text { .. } => Ok(true),
         Output::JsonLine { .. } => Ok(true),
         Output::Line(_) => Ok(true),
-        Output::InOrder(_) => Ok(true),
-        Output::Matching(selector) => select(selector, lent, owners),
+        Output::InOrder(_, _) => Ok(true),
+        Output::Matching(selector, _) => select(selector, lent, owners),
     }
 }
 
-// Writes or gathers the text that the command makes of the message. A message is byteswapped in
+// Writes or gathers the text that the command makes of the message, after the header of a file if
+// that is due: if `begun` says that no message was looked at before. A message is byteswapped in
 // `spare`, so that only a longer one than those before takes memory.
 fn write_one<A: Allocator + Copy, W: Sink>(
     output: &Output,
     lent: &Lent,
+    begun: bool,
     spare: &mut Vec<u8, A>,
     gathered: &mut OutputBuffer,
     first: &mut W,
@@ -98,8 +117,8 @@ fn write_one<A: Allocator + Copy, W: Sink>(
     requires { IsValidatedWhole lent.now.limits lent.now.bytes.now lent.now.validated }
     ensures { (order : Order) (m : MessageTree) →
         IsWhole lent.now.limits lent.now.bytes.now order m (length lent.now.bytes.now) →
-        WritesOne (writing W.held W.failures first.old first.new) (command_of output.now) order m
-        lent.now.place
+        WritesOne (writing W.held W.failures first.old first.new) (command_of output.now) begun
+        order m lent.now.place
         (gathered_bytes gathered.old) (gathered_bytes gathered.new) result }
 {
     let bytes = lent.bytes;
@@ -123,13 +142,19 @@ fn write_one<A: Allocator + Copy, W: Sink>(
             write_json_line(bytes, validated, limits, told, gathered, first)
         }
         Output::Line(width) => write_list_line(*width, lent, gathered, first),
-        Output::InOrder(wanted) => swap(*wanted, bytes, validated, limits, spare, gathered, first),
-        Output::Matching(_) => put_out(bytes, gathered, first),
+        Output::InOrder(wanted, form) => {
+            let front = Front::of(*form, place, begun);
+            swap(*wanted, lent, front, spare, gathered, first)
+        }
+        Output::Matching(_, form) => {
+            let front = Front::of(*form, place, begun);
+            write_message(front, bytes, gathered, first)
+        }
     }
 }
 
-/// Writes or gathers what the window lets through of what the command makes of the message, and
-/// carries on what the next one needs.
+/// Writes or gathers what the window lets through of what the command makes of the message, after
+/// the header of a file if that is due, and carries on what the next one needs.
 pub(crate) fn hand_one<A: Allocator + Copy, W: Sink>(
     output: &Output,
     lent: &Lent,
@@ -148,12 +173,15 @@ pub(crate) fn hand_one<A: Allocator + Copy, W: Sink>(
     let Ok(picked) = picks(output, lent, &mut carried.owners) else {
         return Err(Cause::Memory);
     };
+    let begun = carried.begun;
+    carried.begun = true;
+    let front = Front::of(form_of(output), lent.place, begun);
     if !picked {
-        return Ok(());
+        return write_header(front, gathered, first);
     }
     if lets_through(&mut carried.window) {
-        write_one(output, lent, spare, gathered, first)
+        write_one(output, lent, begun, spare, gathered, first)
     } else {
-        Ok(())
+        write_header(front, gathered, first)
     }
 }

@@ -16,6 +16,8 @@ pub(crate) struct MessagePlace {
     pub(crate) offset: u64,
     /// When it was captured, in nanoseconds since 1970 began in UTC, if the input says so.
     pub(crate) time: Option<u64>,
+    /// Whether it came in a packet of a captured file.
+    pub(crate) in_packet: bool,
 }
 
 impl MessagePlace {
@@ -36,6 +38,8 @@ impl MessagePlace {
 pub(crate) struct Carried {
     /// The window for the messages that follow.
     pub(crate) window: Window,
+    /// Whether a message was looked at.
+    pub(crate) begun: bool,
     /// The owners of names that are known, once a message was looked at. Before, they are those of
     /// the command.
     pub(crate) owners: Option<Owners>,

@@ -69,7 +69,10 @@ pub fn run_reads<A: Allocator + Copy, R: Source, W: Sink, E: Sink>(
 /// begins in the input, and, with times, the time of the packet that its last byte is of, if the
 /// reader reports one. `List` writes each as one line, with that number and time, that has at most
 /// as many cells as it says. `Swap` writes each message in the order that it names. `Filter` writes
-/// each message that is selected, in its own order. Where the bytes after the messages are none
+/// each message that is selected, in its own order. Both write messages as they are read, unless
+/// they are to write raw ones: if the reader reports packets, as those of a pcap file,
+/// `dbus_pcap::packet_header` before each with the time of the packet that its last byte is of, and
+/// `dbus_pcap::file_header` before all, also if none is selected. Where the bytes after the messages are none
 /// within the limits or too few, each of these writes `refused at P: NAME` on the second writer,
 /// with the place from the start of the input and the name of the reason; and ` in packet K` if the
 /// reader reports packets: the number of the one that has the byte by which they are refused.
@@ -164,6 +167,7 @@ pub fn run_with<A: Allocator + Copy, R: Source, W: Sink, E: Sink>(
         output,
         carried: Carried {
             window: settings.window,
+            begun: false,
             owners: None,
         },
         spare: Vec::new(alloc),

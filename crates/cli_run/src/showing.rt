@@ -1,5 +1,5 @@
 //! A message as text, as a line of JSON, and as a line for a reader.
-ghost use Rattle.std.specs.Prelude.{◌≡◌, ℕ, List, length};
+ghost use Rattle.std.specs.Prelude.{◌≡◌, ℕ, List, false, length};
 ghost use Rattle.dbus_value_model.specs.declared.order.Order.{Order};
 ghost use Rattle.dbus_message_model.specs.Messages.{MessageTree};
 ghost use Rattle.dbus_header.specs.MessageOutcomes.{IsWhole};
@@ -108,7 +108,7 @@ pub(crate) fn write_list_line<W: Sink>(
     requires { IsValidatedWhole lent.now.limits lent.now.bytes.now lent.now.validated }
     ensures { (order : Order) (m : MessageTree) →
         IsWhole lent.now.limits lent.now.bytes.now order m (length lent.now.bytes.now) →
-        WritesOne (writing W.held W.failures first.old first.new) (Listing width) order m
+        WritesOne (writing W.held W.failures first.old first.new) (Listing width) false order m
         lent.now.place
         (gathered_bytes gathered.old) (gathered_bytes gathered.new) result }
 {

@@ -29,6 +29,8 @@ use Rattle.cli_options.specs.Selections.{AreSameCommand, AreSameSelection}
 use Rattle.cli_options.specs.declared.asked.Asked.{Asked}
 use Rattle.cli_options.specs.declared.asked.Asked.TheVariants.{Messages, Count, Calls, Handshake}
 use Rattle.cli_options.specs.declared.command.Command.{Command}
+use Rattle.cli_options.specs.declared.file_form.FileForm.{FileForm}
+use Rattle.cli_options.specs.declared.file_form.FileForm.TheVariants as files
 use Rattle.cli_options.specs.declared.command.Command.TheVariants.{Show, Json, List as Listing, Check, Swap, Filter}
 use Rattle.cli_options.specs.declared.form.CountForm.{CountForm}
 use Rattle.cli_options.specs.declared.form.CountForm.TheVariants as written
@@ -230,24 +232,30 @@ mark_of (Show times) = mark (codes "show")
 mark_of (Json times) = mark (codes "json")
 mark_of (Listing width) = mark (codes "list")
 mark_of Check = mark (codes "check")
-mark_of (Swap order) = mark (codes "swap")
-mark_of (Filter selection) = mark (codes "filter")
+mark_of (Swap order form) = mark (codes "swap")
+mark_of (Filter selection form) = mark (codes "filter")
 
 pub marked : (name : Text) (rows : List Row) (command : Command) → NamesCommand name rows command → mark name ≡ mark_of command
 marked name rows (Show times) h = ap mark h.0
 marked name rows (Json times) h = ap mark h.0
 marked name rows (Listing width) h = ap mark h.0
 marked name rows Check h = ap mark h
-marked name rows (Swap order) h = ap mark h.0
-marked name rows (Filter selection) h = ap mark h.0
+marked name rows (Swap order form) h = ap mark h.0
+marked name rows (Filter selection form) h = ap mark h.0
+
+same_file_form : (a b : FileForm) {P : Type 0} → (a ≡ files.Raw) ↔ P → (b ≡ files.Raw) ↔ P → a ≡ b
+same_file_form files.Raw files.Raw p q = refl
+same_file_form files.AsRead files.AsRead p q = refl
+same_file_form files.Raw files.AsRead p q = sym (q.1 (p.0 refl))
+same_file_form files.AsRead files.Raw p q = p.1 (q.0 refl)
 
 same_command : (name : Text) (rows : List Row) (a b : Command) → NamesCommand name rows a → NamesCommand name rows b → AreSameCommand a b
 same_command name rows (Show a) (Show b) p q = same_flag a b p.1 q.1
 same_command name rows (Json a) (Json b) p q = same_absent a b p.1 q.1
 same_command name rows (Listing a) (Listing b) p q = same_number _ 80 a b p.1.0 q.1.0
 same_command name rows Check Check p q = tt
-same_command name rows (Swap a) (Swap b) p q = same_order_word a b (some_is (order_word a) (order_word b) (sym p.1 ∙ q.1))
-same_command name rows (Filter a) (Filter b) p q = same_selection rows a b p.1 q.1
+same_command name rows (Swap a f) (Swap b g) p q = (same_order_word a b (some_is (order_word a) (order_word b) (sym p.1 ∙ q.1)), same_file_form f g p.2 q.2)
+same_command name rows (Filter a f) (Filter b g) p q = (same_selection rows a b p.1 q.1, same_file_form f g p.2 q.2)
 same_command name rows a b p q = absurd (let e = sym (marked name rows a p) ∙ marked name rows b q in omega (arith, e))
 
 -- ---- what is asked for
@@ -271,24 +279,24 @@ no_count name rows (Show times) p e = omega (arith, ap mark p.0, ap mark e)
 no_count name rows (Json times) p e = omega (arith, ap mark p.0, ap mark e)
 no_count name rows (Listing width) p e = omega (arith, ap mark p.0, ap mark e)
 no_count name rows Check p e = omega (arith, marked name rows Check p, ap mark e)
-no_count name rows (Swap order) p e = omega (arith, ap mark p.0, ap mark e)
-no_count name rows (Filter selection) p e = omega (arith, ap mark p.0, ap mark e)
+no_count name rows (Swap order form) p e = omega (arith, ap mark p.0, ap mark e)
+no_count name rows (Filter selection form) p e = omega (arith, ap mark p.0, ap mark e)
 
 no_calls : (name : Text) (rows : List Row) (command : Command) → NamesCommand name rows command → name ≡ codes "calls" → ⊥
 no_calls name rows (Show times) p e = omega (arith, ap mark p.0, ap mark e)
 no_calls name rows (Json times) p e = omega (arith, ap mark p.0, ap mark e)
 no_calls name rows (Listing width) p e = omega (arith, ap mark p.0, ap mark e)
 no_calls name rows Check p e = omega (arith, marked name rows Check p, ap mark e)
-no_calls name rows (Swap order) p e = omega (arith, ap mark p.0, ap mark e)
-no_calls name rows (Filter selection) p e = omega (arith, ap mark p.0, ap mark e)
+no_calls name rows (Swap order form) p e = omega (arith, ap mark p.0, ap mark e)
+no_calls name rows (Filter selection form) p e = omega (arith, ap mark p.0, ap mark e)
 
 no_handshake : (name : Text) (rows : List Row) (command : Command) → NamesCommand name rows command → name ≡ codes "handshake" → ⊥
 no_handshake name rows (Show times) p e = omega (arith, ap mark p.0, ap mark e)
 no_handshake name rows (Json times) p e = omega (arith, ap mark p.0, ap mark e)
 no_handshake name rows (Listing width) p e = omega (arith, ap mark p.0, ap mark e)
 no_handshake name rows Check p e = omega (arith, marked name rows Check p, ap mark e)
-no_handshake name rows (Swap order) p e = omega (arith, ap mark p.0, ap mark e)
-no_handshake name rows (Filter selection) p e = omega (arith, ap mark p.0, ap mark e)
+no_handshake name rows (Swap order form) p e = omega (arith, ap mark p.0, ap mark e)
+no_handshake name rows (Filter selection form) p e = omega (arith, ap mark p.0, ap mark e)
 
 same_named : (sub : Option (Text × List Row)) (a b : Asked) → Names sub a → Names sub b → AreSameAsked a b
 same_named None a b p q = absurd p

@@ -15,6 +15,7 @@ use Rattle.dbus_handshake_input.specs.Alike.{FollowsAlike, IsOfInput}
 use Rattle.dbus_handshake_input.specs.declared.fault.HandshakeFault.{HandshakeFault}
 use Rattle.dbus_handshake_input.specs.declared.fault.HandshakeFault.TheVariants.{Memory as OutOfMemory, Device, Refused}
 use Rattle.dbus_handshake_input.specs.declared.fault.HandshakeReason.{HandshakeReason}
+use Rattle.dbus_handshake_input.specs.Ahead.{packets_of}
 use Rattle.dbus_handshake_input.specs.declared.read_ahead.ReadAhead.{ReadAhead}
 use Rattle.dbus_handshake_input.specs.declared.size.HandshakeSize.{HandshakeSize}
 use Rattle.dbus_handshake_input.proofs.SameHandshakes.{one_handshake, one_passing}
@@ -28,6 +29,8 @@ use Rattle.cli_options.specs.Selections.{AreSameCommand}
 use Rattle.cli_options.specs.Told.{TellsFault}
 use Rattle.cli_options.specs.Owners.{lacks_owner}
 use Rattle.cli_options.specs.declared.asked.Asked.{Asked}
+use Rattle.cli_options.specs.declared.file_form.FileForm.{FileForm}
+use Rattle.cli_options.specs.declared.file_form.FileForm.TheVariants.{AsRead, Raw}
 use Rattle.cli_options.specs.declared.asked.Asked.TheVariants.{Messages, Count, Calls, Handshake}
 use Rattle.cli_options.specs.declared.form.CountForm.{CountForm}
 use Rattle.dbus_handshake_input.specs.declared.side.Side.{Side}
@@ -44,11 +47,11 @@ use Rattle.cli_report.specs.declared.ending.ExitStatus.TheVariants as status
 use Rattle.cli_report.specs.Gathering.{Passes}
 use Rattle.cli_report.specs.declared.gathering.Unwritten.{Unwritten}
 use Rattle.cli_run.specs.Laws.{AreToldAlike, EndAlike, GotAlike, ReadAlike}
-use Rattle.cli_run.specs.Output.{IsExact}
+use Rattle.cli_run.specs.Output.{AreAlike, IsExact, form_of}
 use Rattle.cli_run.proofs.SameOutputs.{acts_as}
 use Rattle.cli_run.specs.VisitorLaws.{wrote_nothing}
 use Rattle.cli_run.proofs.SameRuns.{one_calls, one_count, one_run}
-use Rattle.dbus_tool.specs.Alike.{AreOfSamePacketsFrom, AskAlike, IsOneWay, NameOneWay, OneProgram, TellAlike}
+use Rattle.dbus_tool.specs.Alike.{AreOfSamePacketsFrom, AskAlike, IsOneWay, NameOneWay, OneProgram, RunAlike, TellAlike}
 use Rattle.dbus_tool.specs.Handshaking.{TakesHandshake, TellsHandshake, ahead, handshake_line, EndsList, IsListed, Lengthens, Lists, WritesLines, last_line}
 use Rattle.dbus_tool.specs.Words.{Does, DoesBy, DoesTask, Notes, RunsNoted, calls_wanted, table_form}
 use Rattle.dbus_tool.specs.declared.words.Task.{Task}
@@ -65,7 +68,7 @@ spelled_at (first ∷ before) after text (rule ∷ rules) h = spelled_at before 
 
 no_fault : (sub : Option (Text × List Row)) (asked : Asked) (refused : RefusedRule) → Names sub asked → HasRuleFault sub refused → ⊥
 no_fault None asked refused p h = p
-no_fault (Some sub) (Messages (Filter selection) settings) refused p h =
+no_fault (Some sub) (Messages (Filter selection form) settings) refused p h =
     let given = p.0.1 in
     let fault = h.0 in
     let first = fault.first in
@@ -222,6 +225,19 @@ module _ {R S W V E F : Type 0} (one_table : OneTable) (left : R → Option (Lis
       → Told settings → AreToldAlike (ahead left calls failures packets packet r r1) (ahead other_left other_calls other_failures other_packets other_packet s s1) end
   told_from settings r s h k told = elim told [ inl same ↦ inl (same r s h k) | inr all ↦ inr all ]
 
+  -- and so is what a command writes in this form
+  abbrev Runs : FileForm → Settings → Type 0
+  Runs form settings = RunAlike left calls failures packets packet other_left other_calls other_failures other_packets other_packet r0 r1 s0 s1 end form settings
+
+  told_of : (form : FileForm) (settings : Settings) → Runs form settings → Told settings
+  told_of Raw settings run = run
+  told_of AsRead settings run = inl run
+
+  placed_alike : (form : FileForm) (settings : Settings) → Runs form settings → (r : ReadAhead R) (s : ReadAhead S) → TakesHandshake left calls failures settings.handshake r0 r (Ok tt)
+      → TakesHandshake other_left other_calls other_failures settings.handshake s0 s (Ok tt) → AreAlike form (packets_of packets packet r) (packets_of other_packets other_packet s)
+  placed_alike Raw settings run r s taken also = tt
+  placed_alike AsRead settings run r s taken also = let all = run r s taken also in (all.all, all.one, all.same)
+
   tasks_alike : (settings : Settings) (task copy : Task)
       → ((r : ReadAhead R) (s : ReadAhead S) → TakesHandshake left calls failures settings.handshake r0 r (Ok tt) → TakesHandshake other_left other_calls other_failures settings.handshake s0 s (Ok tt)
       → FromHere r s → DoesBy (ahead left calls failures packets packet r r1) w e settings task end → DoesBy (ahead other_left other_calls other_failures other_packets other_packet s s1) v f settings copy other
@@ -259,11 +275,11 @@ module _ {R S W V E F : Type 0} (one_table : OneTable) (left : R → Option (Lis
       let ends = lists_alike e f end other done other_done h.read k.read one.1 h.ends k.ends in
       record { status_is = ends.0; first = (h.text ++ last_line h.read, h.wrote, subst (λ l. Wrote v.held v.failures v.old l v.new) (sym all) k.wrote); second = ends.1 }
 
-  runs_alike : (c d : Command) (settings : Settings) → Told settings → AreSameCommand c d → IsExact c → settings.explains ≡ false → DoesTask left calls failures packets packet r0 r1 w e settings (Run c) end
+  runs_alike : (c d : Command) (settings : Settings) → Runs (form_of c) settings → AreSameCommand c d → IsExact c → settings.explains ≡ false → DoesTask left calls failures packets packet r0 r1 w e settings (Run c) end
       → DoesTask other_left other_calls other_failures other_packets other_packet s0 s1 v f settings (Run d) other → EndAlike w v e f end other
-  runs_alike c d settings told same exact off = tasks_alike settings (Run c) (Run d) (λ r s taken also here does doing.
+  runs_alike c d settings run same exact off = tasks_alike settings (Run c) (Run d) (λ r s taken also here does doing.
       (one_run (ReadAhead R) (ReadAhead S) W V E F (ahead left calls failures packets packet r r1) (ahead other_left other_calls other_failures other_packets other_packet s s1) w v e f settings _ _ c d end other same
-      (record { input = here; told = told_from settings r s taken also told; explains = inl off; done = done; other_done = other_done }) does doing).1 exact)
+      (record { input = here; told = told_from settings r s taken also (told_of (form_of c) settings run); explains = inl off; done = done; other_done = other_done }) does doing).1 exact (placed_alike (form_of c) settings run r s taken also))
 
   counts_alike : (settings : Settings) (form : CountForm) → Told settings → settings.explains ≡ false → DoesTask left calls failures packets packet r0 r1 w e settings (CountAll form) end
       → DoesTask other_left other_calls other_failures other_packets other_packet s0 s1 v f settings (CountAll form) other → EndAlike w v e f end other

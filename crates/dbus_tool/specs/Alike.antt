@@ -8,13 +8,15 @@ use Rattle.dbus_handshake_input.specs.declared.read_ahead.ReadAhead.{ReadAhead}
 use Rattle.cli_options.specs.CommandLine.{wire_app}
 use Rattle.cli_options.specs.Named.{IsNamedBy}
 use Rattle.cli_options.specs.declared.asked.Asked.{Asked}
+use Rattle.cli_options.specs.declared.file_form.FileForm.{FileForm}
+use Rattle.cli_options.specs.declared.file_form.FileForm.TheVariants.{AsRead, Raw}
 use Rattle.cli_options.specs.declared.asked.Asked.TheVariants.{Messages, Count, Calls, Handshake}
 use Rattle.cli_options.specs.declared.settings.Settings.{Settings}
 use Rattle.cli_report.specs.Devices.{Writing}
 use Rattle.cli_report.specs.declared.ending.ExitStatus.{ExitStatus}
 use Rattle.cli_report.specs.declared.ending.ExitStatus.TheVariants as status
 use Rattle.cli_run.specs.Laws.{AreOfSamePackets, EndAlike, ReadAlike}
-use Rattle.cli_run.specs.Output.{IsExact}
+use Rattle.cli_run.specs.Output.{IsExact, form_of}
 use Rattle.dbus_tool.specs.Handshaking.{TakesHandshake, ahead}
 use Rattle.dbus_tool.specs.Words.{RunsWords}
 
@@ -46,9 +48,15 @@ module _ {R S : Type 0} (left : R → Option (List ℕ)) (calls failures : R →
   abbrev pub TellAlike : Settings → Type 0
   TellAlike settings = AreOfSamePacketsFrom settings ⊎ (end ≡ status.Done)
 
+  -- what a command writes in this form is the same: as they are read, messages have the times of
+  -- packets
+  abbrev pub RunAlike : FileForm → Settings → Type 0
+  RunAlike Raw settings = TellAlike settings
+  RunAlike AsRead settings = AreOfSamePacketsFrom settings
+
   -- what is asked for has one output: `calls` writes the times of packets too
   abbrev pub AskAlike : Asked → Type 0
-  AskAlike (Messages command settings) = TellAlike settings
+  AskAlike (Messages command settings) = RunAlike (form_of command) settings
   AskAlike (Count settings form) = TellAlike settings
   AskAlike (Calls settings wanted) = AreOfSamePacketsFrom settings
   AskAlike (Handshake side) = Unit {0}

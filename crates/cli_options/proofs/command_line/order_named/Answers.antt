@@ -16,7 +16,7 @@ returns-in_default c =
 pub returns-in-Some-order_of : goal.returns-in-Some-order_of
 returns-in-Some-order_of c =
     let given = sym (first_value-rows (found_of c.args.inner.now) (codes "to")) ∙ (sym c.get_str.ensures ∙ ap (option_map (λ s. s.now)) c.in-Some.is) in
-    (refl, given ∙ ap Some c.in-Some-order_of.ensures)
+    (refl, given ∙ ap Some c.in-Some-order_of.ensures, c.file_form_named.ensures)
 
 pub returns-in-None : goal.returns-in-None
 returns-in-None c =

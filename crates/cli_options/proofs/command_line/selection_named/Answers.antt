@@ -35,5 +35,8 @@ returns c =
     let rows = rows_of (found_of c.args.inner.now) in
     let texts : List Text = map (λ v. v.now) c.in-Some.texts.now in
     let given : all_of (codes "rule") rows ≡ Some texts
-    = sym (raw_values-rows (found_of c.args.inner.now) (codes "rule")) ∙ (sym c.get_strs.ensures ∙ ap (option_map (λ s. map (λ v. v.now) s.now)) c.in-Some.is) in
-    (refl, record { texts = texts; given = given; rules = c.in_ok-rules.ensures; inverted = c.is_given-2.ensures; owners = c.in_ok-owners.ensures; learns = c.is_given-3.ensures })
+    = sym (raw_values-rows (found_of c.args.inner.now) (codes "rule")) ∙ (sym c.get_strs.ensures ∙ ap (option_map (λ s. map (λ v. v.now) s.now)) c.in-Some.is) in (
+      refl,
+      record { texts = texts; given = given; rules = c.in_ok-rules.ensures; inverted = c.is_given-2.ensures; owners = c.in_ok-owners.ensures; learns = c.is_given-3.ensures },
+      c.file_form_named.ensures,
+    )

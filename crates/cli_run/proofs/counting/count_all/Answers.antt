@@ -1,4 +1,4 @@
-use Rattle.std.proofs.Common.{◌≡◌, ◌≤◌, ◌<◌, ◌^◌, ◌+◌, ◌++◌, [], drop, None, Ok, arith, refl, sym, ap, ◌∙◌, subst}
+use Rattle.std.proofs.Common.{false, ◌≡◌, ◌≤◌, ◌<◌, ◌^◌, ◌+◌, ◌++◌, [], drop, None, Ok, arith, refl, sym, ap, ◌∙◌, subst}
 use Rattle.dbus_header.proofs.OutcomeLaws.{whole_inside}
 use Rattle.dbus_stream.specs.CheckReading.{GivesLength, limits_of, Reads, lengths}
 use Rattle.dbus_stream.specs.Cut.{CutMessage}
@@ -47,7 +47,7 @@ messages-preserved g c =
       drop item.size (c.messages.invariant.0 ++ given.0.bytes),
       gives.kept,
       hands_more adds_up c.messages.invariant.2 given.0 {s2 = tt} tt item gives.whole c.in-Ok-Some.ensures.failed
-          (record { number = c.messages.count + 1; offset = done_of c.messages.messages; time = None }) refl refl (λ packets never. absurd never) gives.done gives.unstopped tt,
+          (record { number = c.messages.count + 1; offset = done_of c.messages.messages; time = None; in_packet = false }) refl refl (λ packets never. absurd never) (λ packets never. absurd never) gives.done gives.unstopped tt,
       c.next.ensures.same_reference ∙ c.messages.invariant.3,
       keeps_if g.R.Source.packets g.R.Source.packet c.messages.messages c.next.new.self _ c.next.ensures.packets c.messages.invariant.4,
     )

@@ -7,7 +7,7 @@ use Rattle.cli_run.proofs.OutputSteps.{views_it}
 use Rattle.cli_run.proofs.filtering.select.Goals as goal
 
 pub returns : goal.returns
-returns c = λ order m whole.
+returns c = λ order m form whole.
     let views = views_it c.args.lent.now.limits c.args.lent.now.bytes.now c.of_validated-view.result order m c.of_validated-view.ensures.viewed whole in
     let selection = c.args.selector.now.selection.now in
     let owners = c.in_ok-known.ensures in

@@ -1,4 +1,4 @@
-use Rattle.std.proofs.Common.{◌≡◌, ◌≤◌, ◌<◌, ◌^◌, ◌+◌, ◌++◌, Err, IfOk, Ok, Some, arith, refl, sym, ap, ◌∙◌, subst}
+use Rattle.std.proofs.Common.{◌≡◌, ◌≤◌, ◌<◌, ◌^◌, ◌+◌, ◌++◌, Err, IfOk, Ok, Some, is_some, arith, refl, sym, ap, ◌∙◌, subst}
 use Rattle.dbus_header.proofs.OutcomeLaws.{whole_inside}
 use Rattle.dbus_stream.specs.Gathering.{gathering}
 use Rattle.dbus_stream.specs.RawReading.{KeepsPackets, limits_of, done_of, kept}
@@ -7,7 +7,7 @@ use Rattle.cli_run.specs.Handing.{GivesNext}
 use Rattle.cli_run.specs.Inputs.{time_of}
 use Rattle.cli_run.specs.Onward.{HasKnownPackets, RawHandsOn}
 use Rattle.cli_run.specs.declared.place.MessagePlace.{MessagePlace}
-use Rattle.cli_run.proofs.KnownPackets.{lent_time}
+use Rattle.cli_run.proofs.KnownPackets.{lent_packet, lent_time}
 use Rattle.cli_run.proofs.ReadSteps.{length-sizes}
 use Rattle.cli_run.proofs.HandSteps.{HasHanded, hands_none, hands_more, hands_end, hands_stopped, hands_not, item_of, settled_last, still, took_lent}
 use Rattle.cli_run.proofs.OutputSteps.{lent_validated}
@@ -48,12 +48,13 @@ messages-preserved g c =
     let given = lent g (goal.at.messages-preserved g c).In-Ok-Some in
     let l = given.2.1 in
     let h = still laws c.args.messages.now c.messages.messages given.0 c.messages.invariant.0 given.1 in
-    let place : MessagePlace = record { number = c.messages.count + 1; offset = c.done-offset.result; time = c.time_of.result } in
+    let place : MessagePlace = record { number = c.messages.count + 1; offset = c.done-offset.result; time = c.time_of.result; in_packet = c.is_some.result } in
     let one = took_lent g.V.MessageVisitor.takes g.V.MessageVisitor.leaves c.next_message.new.visitor c.take.new.self c.args.limits (kept given.0 ++ given.2.0.bytes) c.message.result.now c.in-Ok-Some.validated
     given.0 new c.message.ensures h.read.limits_are l place (Ok tt) c.in-Ok.ensures in
     let keeps : KeepsPackets g.R.Source.packets g.R.Source.packet c.args.messages.now new = λ all has. c.next_message.ensures.packets all (c.messages.invariant.2 all has) in
-    let time = lent_time g.R.Source.packets g.R.Source.packet c.args.messages.now given.0 new (kept given.0 ++ given.2.0.bytes) c.in-Ok-Some.validated keeps l c.time_of.result (c.time_of.ensures ∙ ap time_of c.packet.ensures) in
-    let more = hands_more laws h given.2.0 given.2.3 (item_of l) l.gives.whole given.2.2 place refl (c.done-offset.ensures ∙ sym given.1.done) time
+    let time = lent_time g.R.Source.packets g.R.Source.packet c.args.messages.now given.0 new (kept given.0 ++ given.2.0.bytes) c.in-Ok-Some.validated keeps l c.time_of.result (c.time_of.ensures ∙ ap time_of c.packet-packet.ensures) in
+    let packet = lent_packet g.R.Source.packets g.R.Source.packet c.args.messages.now given.0 new (kept given.0 ++ given.2.0.bytes) c.in-Ok-Some.validated keeps l c.is_some.result (c.is_some.ensures ∙ ap is_some c.packet-packet.ensures) in
+    let more = hands_more laws h given.2.0 given.2.3 (item_of l) l.gives.whole given.2.2 place refl (c.done-offset.ensures ∙ sym given.1.done) time packet
     l.gives.done l.gives.unstopped one in (
       subst (λ v. HasHanded gathering g.R.Source.left g.R.Source.calls g.R.Source.failures g.V.MessageVisitor.takes c.args.limits (kept c.args.messages.now) c.args.before
           (HasKnownPackets g.R.Source.packets g.R.Source.packet c.args.messages.now) (c.messages.count + 1) c.args.messages.now.reader new.reader v c.args.visitor.now c.take.new.self) (sym l.gives.kept) more,
@@ -74,13 +75,15 @@ returns-in-Err-take-clause-hands g c =
     let laws = g.met.V.MessageVisitor.adds_up in
     let given = lent g (goal.at.returns-in-Err-take-clause-hands g c).In-Ok-Some in
     let h = still laws c.args.messages.now c.messages.messages given.0 c.messages.invariant.0 given.1 in
-    let place : MessagePlace = record { number = c.messages.count + 1; offset = c.done-offset.result; time = c.time_of.result } in
+    let place : MessagePlace = record { number = c.messages.count + 1; offset = c.done-offset.result; time = c.time_of.result; in_packet = c.is_some.result } in
     let keeps : KeepsPackets g.R.Source.packets g.R.Source.packet c.args.messages.now c.next_message.new.messages = λ all has. c.next_message.ensures.packets all (c.messages.invariant.2 all has) in
     let time = lent_time g.R.Source.packets g.R.Source.packet c.args.messages.now given.0 c.next_message.new.messages (kept given.0 ++ given.2.0.bytes) c.in-Ok-Some.validated keeps given.2.1 c.time_of.result
-    (c.time_of.ensures ∙ ap time_of c.packet.ensures) in
+    (c.time_of.ensures ∙ ap time_of c.packet-packet.ensures) in
+    let packet = lent_packet g.R.Source.packets g.R.Source.packet c.args.messages.now given.0 c.next_message.new.messages (kept given.0 ++ given.2.0.bytes) c.in-Ok-Some.validated keeps given.2.1 c.is_some.result
+    (c.is_some.ensures ∙ ap is_some c.packet-packet.ensures) in
     let one = took_lent g.V.MessageVisitor.takes g.V.MessageVisitor.leaves c.next_message.new.visitor c.take.new.self c.args.limits (kept given.0 ++ given.2.0.bytes) c.message.result.now c.in-Ok-Some.validated
     given.0 c.next_message.new.messages c.message.ensures h.read.limits_are given.2.1 place (Err c.in-Err-take.cause) c.in-Err-take.ensures in
-    hands_not laws h given.2.0 given.2.3 (item_of given.2.1) given.2.1.gives.whole given.2.2 place refl (c.done-offset.ensures ∙ sym given.1.done) time
+    hands_not laws h given.2.0 given.2.3 (item_of given.2.1) given.2.1.gives.whole given.2.2 place refl (c.done-offset.ensures ∙ sym given.1.done) time packet
     c.in-Err-take.cause one
 
 pub returns-in-Ok-None-clause-hands : goal.returns-in-Ok-None-clause-hands
