@@ -166,10 +166,13 @@ pub(crate) const COUNT_MORE: &str = more!(
     going "
   Tables on standard output: for each type, sender, destination, interface,
   member and error name a line `N messages B bytes WORD NAME`, those of most
-  messages first. With --json each line is an object: the name behind its word,
-  `messages` and `bytes`. If the input is refused, `refused at P: NAME` on
-  standard error, and the tables are those of the messages before. Memory is
-  allocated for each name, and not for each message.",
+  messages first. If the file has times, the last line is
+  `N messages in S seconds, R a second`, from the earliest to the latest. With
+  --json each line is an object: the name behind its word, `messages` and
+  `bytes`; the last one `seconds`, `messages` and `messages_per_second`. If the
+  input is refused, `refused at P: NAME` on standard error, and the tables are
+  those of the messages before. Memory is allocated for each name, and not for
+  each message.",
     "
   dbus-wire count < capture | grep ' member '"
 );

@@ -24,10 +24,11 @@ use Rattle.cli_report.specs.Telling.{IsToldBy, line_of}
 use Rattle.cli_report.specs.declared.telling.RefusedMessage.{RefusedMessage}
 use Rattle.cli_report.specs.declared.ending.Cause.{Cause}
 use Rattle.cli_report.specs.declared.ending.Cause.TheVariants.{Memory, ReadFailed, WriteFailed, TooManyReads}
-use Rattle.dbus_count.specs.Counting.{Counting, counting_of}
+use Rattle.dbus_count.specs.Counting.{counting_of}
+use Rattle.dbus_count.specs.Spans.{with_times}
 use Rattle.dbus_count.specs.declared.form.Form.{Form}
 use Rattle.cli_report.specs.declared.ending.ExitStatus.{ExitStatus}
-use Rattle.cli_run.specs.ByName.{IsUnwritten, Tallies, CountsMessages, CountsThrough, EndsCount, after_messages, counting}
+use Rattle.cli_run.specs.ByName.{IsUnwritten, Tallies, CountsMessages, CountsThrough, EndsCount, after_messages, counting, span_of, times_of}
 use Rattle.cli_run.specs.Going.{Covers, IsMore, IsStopOf, IsToldLast, GoesThrough}
 use Rattle.cli_run.specs.Onward.{HasPacketsIf, HasRead, HandsAllOn, HandsOn, HandsSomeOn}
 use Rattle.cli_run.specs.Refusals.{IsFaultIn, IsRefusedIn, number_of}
@@ -165,18 +166,18 @@ module _ {R : Type 0} (left : R → Option (List ℕ)) (calls failures : R → �
 module _ {R W E : Type 0} (left : R → Option (List ℕ)) (calls read_failures : R → ℕ) (packets : R → Option Packets) (held : E → Option (List ℕ)) (failures : E → ℕ) (w : Writing W) (settings : Settings) (form : Form) (most : ℕ) (r0 r1 : R)
     (a b : Counter E) {r2 : R} {e1 : E} (source : r1 ≡ r2) (second : b.second.now ≡ e1) where
   -- all was told, and the tables are those of the counts
-  pub counts_all : (e2 : E) (due end : ExitStatus) → ((name : List ℕ) → counting_of a.counts name ≡ None)
-      → GoesThrough (taken (reading left calls read_failures packets r0 r1)) settings most false (CountsMessages held failures a b) due → EndsCount w (writing held failures e1 e2) form (counting_of b.counts) due end
+  pub counts_all : (e2 : E) (due end : ExitStatus) → ((name : List ℕ) → counting_of a.counts name ≡ None) → a.span ≡ None
+      → GoesThrough (taken (reading left calls read_failures packets r0 r1)) settings most false (CountsMessages held failures a b) due → EndsCount w (writing held failures e1 e2) form (counting_of b.counts) b.span due end
       → CountsThrough (reading left calls read_failures packets r0 r2) w (writing held failures a.second.now e2) settings form most end
-  counts_all e2 due end none g ends =
-      let after : (items : List Placed) (told : List ℕ) → CountsMessages held failures a b items told → Wrote held failures a.second.now told e1 × EndsCount w (writing held failures e1 e2) form (counting items) due end
+  counts_all e2 due end none fresh g ends =
+      let after : (items : List Placed) (told : List ℕ) → CountsMessages held failures a b items told → Wrote held failures a.second.now told e1 × EndsCount w (writing held failures e1 e2) form (counting items) (span_of items) due end
       = λ items told h. (
         subst (λ (x : E). Wrote held failures a.second.now told x) second h.tells,
-        subst (λ (c : Counting). EndsCount w (writing held failures e1 e2) form c due end) (λ i name. (h.counts name ∙ ap (λ x. after_messages items name x) (none name)) i) ends,
+        transport (λ i. EndsCount w (writing held failures e1 e2) form (λ name. (h.counts name ∙ ap (λ x. after_messages items name x) (none name)) i) ((h.span ∙ ap (λ x. with_times (times_of items) x) fresh) i) due end) ends,
       ) in
       record {
         due = due;
         before = e1;
         through = subst (λ (x : R). GoesThrough (taken (reading left calls read_failures packets r0 x)) settings most false
-            (λ items told. Wrote held failures a.second.now told e1 × EndsCount w (writing held failures e1 e2) form (counting items) due end) due) source (goes_as after g);
+            (λ items told. Wrote held failures a.second.now told e1 × EndsCount w (writing held failures e1 e2) form (counting items) (span_of items) due end) due) source (goes_as after g);
       }

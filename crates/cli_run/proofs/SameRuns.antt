@@ -10,6 +10,7 @@ use Rattle.dbus_value_model.proofs.Numbers.{IsBytes-rest}
 use Rattle.dbus_value_model.specs.declared.fault.Fault.{Fault}
 use Rattle.dbus_value_model.specs.declared.limits.Limits.{Limits}
 use Rattle.dbus_count.specs.Counting.{Counting}
+use Rattle.dbus_count.specs.Spans.{span_text}
 use Rattle.dbus_count.specs.Tables.{AreTables, words, OneTable}
 use Rattle.dbus_call_lines.specs.Listing.{AreListed, rows_text}
 use Rattle.dbus_call_lines.proofs.Rows.{one_list}
@@ -21,8 +22,8 @@ use Rattle.cli_report.specs.Devices.{Reading, Taken, Writing, taken, writing}
 use Rattle.cli_report.specs.declared.ending.Cause.{Cause}
 use Rattle.cli_report.specs.declared.ending.ExitStatus.{ExitStatus}
 use Rattle.cli_report.specs.declared.ending.ExitStatus.TheVariants as status
-use Rattle.cli_run.specs.Laws.{AreToldAlike, ExplainsNone, OneCalls, OneCount, OneRun, OneWithin}
-use Rattle.cli_run.specs.ByName.{EndsBy, WritesTables, counting}
+use Rattle.cli_run.specs.Laws.{AreToldAlike, ExplainsNone, GotAlike, OneCalls, OneCount, OneRun, OneWithin}
+use Rattle.cli_run.specs.ByName.{EndsBy, WritesTables, counting, span_of}
 use Rattle.cli_run.specs.CallListing.{EndsNoted, WritesCalls, lack_times, numbered, times_note}
 use Rattle.cli_run.specs.Going.{AreTold, GoesThrough, IsThrough, IsToldLast, closing_line, cut_tally, passed_count, status_at, tally_of, tally_with}
 use Rattle.cli_run.specs.Inputs.{ArePlaced, BeginWithParts, Part, Placed, size_of, sizes_of, wholes}
@@ -222,26 +223,39 @@ one_count R S W V E F one_table r s w v e f settings form most more end other is
   | inl g ↦ elim counted [
     | inl h ↦ (
         let input = is.input in
-        let due = (ended (WritesTables w form _) (writing e.held e.failures g.before e.new) g.due end is.done g.through.came.1).2 in
+        let due = (ended (WritesTables w form _ _) (writing e.held e.failures g.before e.new) g.due end is.done g.through.came.1).2 in
         let explains = due_explains settings g.due end due is.explains in
         let all = goes_alike settings false input.0 input.1 g.through h.through explains input.2 input.3 (taken_alike r s end g.due (sym due) is.told) in
         let told = all.0 in
         let items = g.through.messages in
         let also = h.through.messages in
         let counts_too = λ (name : List ℕ). same_counts (s.packets s.old) (r.packets r.old) 1 0 all.4 also items name None all.6 all.5 in
-        let one = ended (WritesTables w form (counting items)) (writing e.held e.failures g.before e.new) g.due end is.done all.1.1 in
-        let too = ended (WritesTables v form (counting also)) (writing f.held f.failures h.before f.new) h.due other is.other_done all.2.1 in
-        let same = subst (λ (c : Counting). AreTables form c words too.0.0) (λ i name. counts_too name i) too.0.1 in
-        let table = one_table form (counting items) words one.0.0 too.0.0 one.0.1 same in
-        record {
-          status_is = too.2 ∙ (all.3 ∙ sym one.2);
-          first = (one.0.0, one.0.2, subst (λ l. Wrote v.held v.failures v.old l v.new) (sym table) too.0.2);
-          second = (
-            told,
-            subst (λ (x : E). Wrote e.held e.failures e.old told x) (sym one.1) all.1.0,
-            subst (λ (x : F). Wrote f.held f.failures f.old told x) (sym too.1) all.2.0,
-          );
-        }
+        let one = ended (WritesTables w form (counting items) (span_of items)) (writing e.held e.failures g.before e.new) g.due end is.done all.1.1 in
+        let too = ended (WritesTables v form (counting also) (span_of also)) (writing f.held f.failures h.before f.new) h.due other is.other_done all.2.1 in
+        let same = subst (λ (c : Counting). AreTables form c words too.0.1.tables) (λ i name. counts_too name i) too.0.1.are in
+        let table = one_table form (counting items) words one.0.1.tables too.0.1.tables one.0.1.are same in
+        let ends : other ≡ end = too.2 ∙ (all.3 ∙ sym one.2) in
+        let second : GotAlike e f = (
+          told,
+          subst (λ (x : E). Wrote e.held e.failures e.old told x) (sym one.1) all.1.0,
+          subst (λ (x : F). Wrote f.held f.failures f.old told x) (sym too.1) all.2.0,
+        ) in (
+          record {
+            status_is = ends;
+            tables = one.0.1.tables;
+            span = span_of items;
+            other_span = span_of also;
+            one = subst (λ l. Wrote w.held w.failures w.old l w.new) one.0.1.is one.0.2;
+            same = subst (λ l. Wrote v.held v.failures v.old l v.new) (too.0.1.is ∙ ap (λ l. l ++ span_text form (span_of also)) (sym table)) too.0.2;
+            second = second;
+          },
+          λ packets.
+              let here = subst (λ (p : Option Packets). ArePlaced p 1 0 all.4 items) packets.one all.5 in
+              let there = subst (λ (p : Option Packets). ArePlaced p 1 0 all.4 also) packets.same all.6 in
+              let placed = one_placed packets.all 1 0 all.4 items also here there in
+              let text : one.0.0 ≡ too.0.0 = one.0.1.is ∙ ((λ i. table i ++ span_text form (span_of (placed i))) ∙ sym too.0.1.is) in
+              record { status_is = ends; first = (one.0.0, one.0.2, subst (λ l. Wrote v.held v.failures v.old l v.new) (sym text) too.0.2); second = second },
+        )
         )
     | inr gave_up ↦ absurd (is.other_done gave_up.0.failed)
   ]

@@ -1,11 +1,14 @@
--- What `count` writes: the tables of the names of the messages of an input, and what is told of
--- those that are refused.
-use Rattle.std.specs.Prelude.{◌≡◌, ◌⊎◌, ℕ, false, List, [], ◌∷◌, Option, None, Result, Ok, Err, true, Some}
+-- What `count` writes: the tables of the names of the messages of an input, from when to when these
+-- were captured, and what is told of those that are refused.
+use Rattle.std.specs.Prelude.{◌≡◌, ◌⊎◌, ℕ, false, List, [], ◌∷◌, ◌++◌, Option, None, Result, Ok, Err, true, Some}
+use Rattle.std.specs.Option.{option_to_list}
 use Rattle.dbus_device.specs.Device.{Wrote, Stopped}
 use Rattle.dbus_count.specs.Counting.{Counting, with_names, counting_of, names_of}
-use Rattle.dbus_count.specs.Tables.{AreTables, words}
+use Rattle.dbus_count.specs.Spans.{with_times}
+use Rattle.dbus_count.specs.Tables.{IsSummary}
 use Rattle.dbus_count.specs.declared.count.Count.{Count}
 use Rattle.dbus_count.specs.declared.form.Form.{Form}
+use Rattle.dbus_count.specs.declared.span.Span.{Span}
 use Rattle.cli_options.specs.declared.settings.Settings.{Settings}
 use Rattle.cli_report.specs.Devices.{Reading, Writing, taken, writing, Taken}
 use Rattle.cli_report.specs.Telling.{Told}
@@ -35,6 +38,15 @@ after_messages (m ∷ items) name c = after_messages items name (with_names (nam
 abbrev pub counting : List Placed → Counting
 counting items name = after_messages items name None
 
+-- the times of messages, of those that have one
+abbrev pub times_of : List Placed → List ℕ
+times_of [] = []
+times_of (m ∷ items) = option_to_list m.place.time ++ times_of items
+
+-- from when to when messages were captured, if one has a time
+abbrev pub span_of : List Placed → Option Span
+span_of items = with_times (times_of items) None
+
 -- no write to the first writer failed
 abbrev pub IsUnwritten : RunStop → Type 0
 IsUnwritten (ByCause WriteFailed) = ⊥
@@ -45,6 +57,7 @@ module _ {E : Type 0} (held : E → Option (List ℕ)) (failures : E → ℕ) wh
   pub record CountsMessages (old new : Counter E) (items : List Placed) (told : List ℕ) : Type 0 where
     pub same_second : new.second.ghost_name ≡ old.second.ghost_name
     pub counts : (name : List ℕ) → counting_of new.counts name ≡ after_messages items name (counting_of old.counts name)
+    pub span : new.span ≡ with_times (times_of items) old.span
     pub tells : Wrote held failures old.second.now told new.second.now
 
   -- this was told, as far as this stop let it
@@ -53,28 +66,29 @@ module _ {E : Type 0} (held : E → Option (List ℕ)) (failures : E → ℕ) wh
     pub unwritten : IsUnwritten stop
     pub tells : GotSecond held failures false stop told old.second.now new.second.now
 
--- the tables were written, or a write failed within them; or for want of memory nothing was written
-abbrev pub WritesTables : {W : Type 0} → Writing W → Form → Counting → Result (Unit {0}) Cause → Type 0
-WritesTables w form c (Ok x) = (text : List ℕ) × AreTables form c words text × Wrote w.held w.failures w.old text w.new
-WritesTables w form c (Err Memory) = w.new ≡ w.old
-WritesTables w form c (Err WriteFailed) = (text : List ℕ) × AreTables form c words text × (n : ℕ) × Stopped w.held w.failures w.old text n w.new
-WritesTables w form c (Err cause) = ⊥
+-- the tables and the line of the span were written, or a write failed within them; or for want of
+-- memory nothing was written
+abbrev pub WritesTables : {W : Type 0} → Writing W → Form → Counting → Option Span → Result (Unit {0}) Cause → Type 0
+WritesTables w form c span (Ok x) = (text : List ℕ) × IsSummary form c span text × Wrote w.held w.failures w.old text w.new
+WritesTables w form c span (Err Memory) = w.new ≡ w.old
+WritesTables w form c span (Err WriteFailed) = (text : List ℕ) × IsSummary form c span text × (n : ℕ) × Stopped w.held w.failures w.old text n w.new
+WritesTables w form c span (Err cause) = ⊥
 
 -- what is due at the end was written, and this is how the run ends; or it was not, which was told
 abbrev pub EndsBy : {E : Type 0} → (Writes : Result (Unit {0}) Cause → Type 0) → Writing E → (due end : ExitStatus) → Type 0
 EndsBy Writes e due end = (Writes (Ok tt) × (e.new ≡ e.old) × (end ≡ due))
     ⊎ ((cause : Cause) × Writes (Err cause) × Told e.held e.failures e.old e.new cause × (end ≡ status.Failed))
 
--- of the tables
-abbrev pub EndsCount : {W E : Type 0} → Writing W → Writing E → Form → Counting → (due end : ExitStatus) → Type 0
-EndsCount w e form c due end = EndsBy (WritesTables w form c) e due end
+-- of the tables and the line of the span
+abbrev pub EndsCount : {W E : Type 0} → Writing W → Writing E → Form → Counting → Option Span → (due end : ExitStatus) → Type 0
+EndsCount w e form c span due end = EndsBy (WritesTables w form c span) e due end
 
--- all was told, and then the tables of all messages were written
+-- all was told, and then the tables of all messages and the line of their span were written
 pub record CountsThrough {R W E : Type 0} (r : Reading R) (w : Writing W) (e : Writing E) (settings : Settings) (form : Form) (most : ℕ) (end : ExitStatus) : Type 0 where
   pub due : ExitStatus
   pub before : E
   pub through : GoesThrough (taken r) settings most false
-      (λ items told. Wrote e.held e.failures e.old told before × EndsCount w (writing e.held e.failures before e.new) form (counting items) due end) due
+      (λ items told. Wrote e.held e.failures e.old told before × EndsCount w (writing e.held e.failures before e.new) form (counting items) (span_of items) due end) due
 
 -- or reading or telling was given up, and no table is written
 abbrev pub CountsByName : {R W E : Type 0} → Reading R → Writing W → Writing E → Settings → Form → (most : ℕ) → ExitStatus → Type 0

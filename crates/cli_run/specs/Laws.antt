@@ -1,7 +1,7 @@
 -- The laws over what a command writes: of all messages and the fault after them there is an output,
 -- and of each command but `json` exactly one. And what a command does by its settings is what it
 -- does under limits alone, if they ask for no more.
-use Rattle.std.specs.Prelude.{◌≡◌, ℕ, Bool, true, false, List, [], ◌∷◌, Option, ◌≢◌, ◌⊎◌, Some}
+use Rattle.std.specs.Prelude.{◌≡◌, ℕ, Bool, true, false, List, [], ◌∷◌, ◌++◌, Option, ◌≢◌, ◌⊎◌, Some}
 use Rattle.dbus_value_model.specs.declared.fault.Fault.{Fault}
 use Rattle.dbus_stream.specs.Cut.{CutMessage}
 use Rattle.cli_options.specs.Limiting.{ask_more}
@@ -20,7 +20,9 @@ use Rattle.dbus_device.specs.Device.{Wrote}
 use Rattle.dbus_device.specs.Packets.{Packets}
 use Rattle.dbus_value_model.specs.ByteNumbers.{IsBytes}
 use Rattle.dbus_value_model.specs.declared.limits.Limits.{Limits}
+use Rattle.dbus_count.specs.Spans.{span_text}
 use Rattle.dbus_count.specs.declared.form.Form.{Form}
+use Rattle.dbus_count.specs.declared.span.Span.{Span}
 use Rattle.cli_options.specs.Selections.{AreSameCommand}
 use Rattle.cli_report.specs.declared.ending.ExitStatus.TheVariants as status
 use Rattle.cli_run.specs.Running.{Runs, RunsWith, Writes}
@@ -138,10 +140,22 @@ OneWithin R S W V E F = (r : Reading R) (s : Reading S) (w : Writing W) (v : Wri
     → AreSameCommand command copy → IsExact command → AreAlike (form_of command) (r.packets r.old) (s.packets s.old) → ReadAlike r s → AreToldAlike r s end → end ≢ status.Failed → other ≢ status.Failed → Runs r w e limits most command end → Runs s v f limits more copy other
     → EndAlike w v e f end other
 
+-- two runs end with one status, the second writers got the same bytes, and the first ones got tables
+-- of the same counts, each with the line of a span, which may be another
+pub record CountAlike {W V E F : Type 0} (w : Writing W) (v : Writing V) (e : Writing E) (f : Writing F) (form : Form) (end other : ExitStatus) : Type 0 where
+  pub status_is : other ≡ end
+  pub tables : List ℕ
+  pub span : Option Span
+  pub other_span : Option Span
+  pub one : Wrote w.held w.failures w.old (tables ++ span_text form span) w.new
+  pub same : Wrote v.held v.failures v.old (tables ++ span_text form other_span) v.new
+  pub second : GotAlike e f
+
 -- two runs that count messages by their names
 abbrev pub OneCount : (R S W V E F : Type 0) → Type 0
 OneCount R S W V E F = (r : Reading R) (s : Reading S) (w : Writing W) (v : Writing V) (e : Writing E) (f : Writing F) (settings : Settings) (form : Form) (most more : ℕ) (end other : ExitStatus)
-    → AreOfOneInput r s settings end other → CountsByName r w e settings form most end → CountsByName s v f settings form more other → EndAlike w v e f end other
+    → AreOfOneInput r s settings end other → CountsByName r w e settings form most end → CountsByName s v f settings form more other
+    → CountAlike w v e f form end other × (AreOfSamePackets r s → EndAlike w v e f end other)
 
 -- two runs that list calls, of the same packets: a line has the time of its call's packet
 abbrev pub OneCalls : (R S W V E F : Type 0) → Type 0

@@ -2,6 +2,7 @@
 -- and not in proofs/, because the trait's law names them.
 use Rattle.std.proofs.Common.{◌≡◌, ℕ, ◌+◌, Bool, true, false, ◌&&◌, List, [], ◌++◌, length, Option, refl, sym, ap, ◌∙◌, subst, arith, length-append, zero, suc, ◌-◌, ◌∷◌, None, Some, option_map, take, drop, length-drop, append_assoc}
 use Rattle.std.specs.Io.KnownBytes.{Appends}
+use Rattle.std.specs.Option.{option_to_list}
 use Rattle.std.proofs.KnownBytes.{Appends-nil, Appends-trans}
 use Rattle.std.proofs.Math.Path.{transport}
 use Rattle.std.proofs.Math.Seq.{drop-nil, take-append-add, take-nil}
@@ -15,7 +16,9 @@ use Rattle.cli_options.specs.declared.window.Window.{Window}
 use Rattle.cli_run.specs.Output.{after, at_most, begun_after, form_of, header_before, header_if, is_framed, output_of, written, command_of, IsOutputOfAll, is_check, owners_after, owners_after_all, owners_known}
 use Rattle.dbus_count.specs.Counting.{with_names, counting_of, names_of}
 use Rattle.dbus_count.specs.declared.count.Count.{Count}
-use Rattle.cli_run.specs.ByName.{CountsMessages, LeavesCounted, after_messages}
+use Rattle.dbus_count.specs.Spans.{with_time, with_times}
+use Rattle.dbus_count.specs.declared.span.Span.{Span}
+use Rattle.cli_run.specs.ByName.{CountsMessages, LeavesCounted, after_messages, times_of}
 use Rattle.cli_run.specs.Inputs.{Placed}
 use Rattle.cli_run.specs.Visiting.{AddsUp}
 use Rattle.dbus_rule_set.specs.Owners.{OwnerSet}
@@ -130,13 +133,23 @@ counted_both : (s t : List Placed) (name : List ℕ) (c : Option Count) → afte
 counted_both [] t name c = refl
 counted_both (m ∷ s) t name c = counted_both s t name (with_names (names_of m.item.message) m.item.size name c)
 
+-- the span after times, and then others
+spans_both : (a b : List ℕ) (span : Option Span) → with_times (a ++ b) span ≡ with_times b (with_times a span)
+spans_both [] b span = refl
+spans_both (time ∷ a) b span = spans_both a b (Some (with_time time span))
+
+times_both : (s t : List Placed) → times_of (s ++ t) ≡ times_of s ++ times_of t
+times_both [] t = refl
+times_both (m ∷ s) t = ap (λ l. option_to_list m.place.time ++ l) (times_both s t) ∙ sym (append_assoc (option_to_list m.place.time) (times_of s) (times_of t))
+
 module _ {E : Type 0} (held : E → Option (List ℕ)) (failures : E → ℕ) where
   pub counter_adds_up : AddsUp (CountsMessages held failures) (LeavesCounted held failures) (λ _. Unit {0})
   counter_adds_up = record {
-    nothing = λ a. record { same_second = refl; counts = λ name. refl; tells = wrote_nothing held failures a.second.now };
+    nothing = λ a. record { same_second = refl; counts = λ name. refl; span = refl; tells = wrote_nothing held failures a.second.now };
     joins = λ a b c s t p q h k. record {
       same_second = k.same_second ∙ h.same_second;
       counts = λ name. k.counts name ∙ (ap (λ x. after_messages t name x) (h.counts name) ∙ sym (counted_both s t name (counting_of a.counts name)));
+      span = k.span ∙ (ap (λ x. with_times (times_of t) x) h.span ∙ (sym (spans_both (times_of s) (times_of t) a.span) ∙ ap (λ l. with_times l a.span) (sym (times_both s t))));
       tells = wrote_both held failures p q a.second.now b.second.now c.second.now h.tells k.tells;
     };
     leaves_after = λ a b c s t p q stop h k. record {

@@ -1,6 +1,8 @@
 //! The messages of a source, counted by their names.
 ghost use Rattle.std.specs.Prelude.{◌≡◌, ◌^◌};
+ghost use Rattle.std.specs.Option.{option_to_list};
 ghost use Rattle.dbus_count.specs.Counting.{counting_of};
+ghost use Rattle.dbus_count.specs.Spans.{with_times};
 ghost use Rattle.cli_run.specs.ByName.{CountsByName, CountsMessages, LeavesCounted, WritesTables};
 ghost use Rattle.cli_run.specs.VisitorLaws.{counter_adds_up};
 ghost use Rattle.cli_report.specs.Devices.{reading, writing};
@@ -10,7 +12,7 @@ use crate::place::Lent;
 use crate::visitor::{MessageVisitor, write_text};
 use cli_options::Settings;
 use cli_report::{Cause, ExitStatus, Unwritten, give_up};
-use dbus_count::{Counts, Form};
+use dbus_count::{Counts, Form, Span};
 use dbus_stream::{MOST_READS, Sink, Source, WrittenOnly, write_all};
 use dbus_view::MessageView;
 use std::alloc::Global;
@@ -20,18 +22,21 @@ use std::alloc::Global;
 pub(crate) struct Counter<'a, E> {
     /// The counts.
     pub(crate) counts: Counts,
+    /// From when to when the messages were captured that have a time.
+    pub(crate) span: Option<Span>,
     /// The second writer.
     pub(crate) second: &'a mut E,
 }
 
 impl<'a, E> Counter<'a, E> {
-    /// The counts, and the writer.
-    fn into_parts(self) -> (Counts, &'a mut E)
+    /// The counts, the span and the writer.
+    fn into_parts(self) -> (Counts, Option<Span>, &'a mut E)
         ensures counts { result.0 ≡ self.entry.counts }
-        ensures same_reference { result.1.ghost_name ≡ self.entry.second.ghost_name }
-        ensures now { result.1.now ≡ self.entry.second.now }
+        ensures span { result.1 ≡ self.entry.span }
+        ensures same_reference { result.2.ghost_name ≡ self.entry.second.ghost_name }
+        ensures now { result.2.now ≡ self.entry.second.now }
     {
-        (self.counts, self.second)
+        (self.counts, self.span, self.second)
     }
 }
 
@@ -49,7 +54,10 @@ impl<E: Sink> MessageVisitor for Counter<'_, E> {
     fn take(&mut self, lent: &Lent<'_>) -> Result<(), Cause> {
         let view = MessageView::of_validated(lent.bytes, lent.limits, lent.validated);
         match self.counts.add(&view) {
-            Ok(()) => Ok(()),
+            Ok(()) => {
+                self.span = span_after(self.span, lent.place.time);
+                Ok(())
+            }
             Err(_) => Err(Cause::Memory),
         }
     }
@@ -61,9 +69,19 @@ impl<E: Sink> MessageVisitor for Counter<'_, E> {
     ghost adds_up = { counter_adds_up E.held E.failures };
 }
 
+// The span after one message more, which has this time or none.
+fn span_after(span: Option<Span>, time: Option<u64>) -> Option<Span>
+    ensures { result ≡ with_times (option_to_list time) span }
+{
+    match time {
+        Some(time) => Some(Span::with_time(span, time)),
+        None => span,
+    }
+}
+
 /// Counts the messages of a source by their names, with at most 2^32 reads, and tells the second
 /// writer of those that are refused, as [`crate::run_with`] does. Then the tables of the counts go
-/// to the first writer, in this form.
+/// to the first writer, in this form, and the line of the span of the messages that have a time.
 ///
 /// `Done`, `Refused`: all was written, and whether anything was refused. `Failed`: a read or a
 /// write failed, as many reads were made as may be, or memory ran out; if it was not a write to the
@@ -83,12 +101,13 @@ pub fn count_by_name<R: Source, W: Sink, E: Sink>(
 {
     let mut counter = Counter {
         counts: Counts::new(alloc),
+        span: None,
         second: &mut *second,
     };
     let (ended, _source) = pass_through(alloc, settings, false, MOST_READS, reader, &mut counter);
-    let (counts, _second) = counter.into_parts();
+    let (counts, span, _second) = counter.into_parts();
     match ended {
-        Ok(status) => match write_tables(&counts, form, first) {
+        Ok(status) => match write_tables(&counts, span, form, first) {
             Ok(()) => status,
             Err(cause) => give_up(cause, second),
         },
@@ -96,11 +115,16 @@ pub fn count_by_name<R: Source, W: Sink, E: Sink>(
     }
 }
 
-// Writes the tables.
-fn write_tables<W: Sink>(counts: &Counts, form: Form, first: &mut W) -> Result<(), Cause>
-    ensures { WritesTables (writing W.held W.failures first.old first.new) form (counting_of counts.now) result }
+// Writes the tables, and the line of the span.
+fn write_tables<W: Sink>(
+    counts: &Counts,
+    span: Option<Span>,
+    form: Form,
+    first: &mut W,
+) -> Result<(), Cause>
+    ensures { WritesTables (writing W.held W.failures first.old first.new) form (counting_of counts.now) span result }
 {
-    match counts.tables(form) {
+    match counts.tables(form, span) {
         Ok(text) => match write_all(first, text.as_bytes()) {
             Ok(()) => Ok(()),
             Err(WrittenOnly(_)) => Err(Cause::WriteFailed),

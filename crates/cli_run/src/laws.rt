@@ -54,7 +54,8 @@ pub fn one_within<R, S, W, V, E, F>()
     ensures { OneWithin R S W V E F }
 {}
 
-/// The same of two runs that count messages by their names.
+/// The same of two runs that count messages by their names; but if the packets are others, the line
+/// of the span may be another.
 pub fn one_count<R, S, W, V, E, F>()
     ensures { OneCount R S W V E F }
 {

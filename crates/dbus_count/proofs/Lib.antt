@@ -2,3 +2,4 @@ mod NameSteps
 mod NamedCounts
 mod OneTable
 mod RowLaws
+mod SpanLaws

@@ -1,3 +1,4 @@
 pub mod Counting
 pub mod Tables
 pub mod NameOrder
+pub mod Spans

@@ -1,5 +1,5 @@
 -- The rows of a table: the names that begin with a word, the most frequent first; and their lines.
-use Rattle.std.specs.Prelude.{◌≡◌, ℕ, nat_eq, List, [], ◌∷◌, ◌++◌, Bool, true, Some, map, drop, length, codes, decimal, if◌then◌else◌}
+use Rattle.std.specs.Prelude.{◌≡◌, ℕ, nat_eq, List, [], ◌∷◌, ◌++◌, Bool, true, Option, Some, map, drop, length, codes, decimal, if◌then◌else◌}
 use Rattle.std.specs.Borrow.{Bor}
 use Rattle.std.specs.Cmp.Lexicographic.{slice_cmp}
 use Rattle.std.specs.List.{All, Contains, IsDistinct, flat_map, starts_with}
@@ -13,6 +13,8 @@ use Rattle.dbus_count.specs.declared.count.Count.{Count}
 use Rattle.dbus_count.specs.declared.form.Form.{Form}
 use Rattle.dbus_count.specs.declared.form.Form.TheVariants.{Text, Json}
 use Rattle.dbus_count.specs.declared.name.Name.{Name}
+use Rattle.dbus_count.specs.declared.span.Span.{Span}
+use Rattle.dbus_count.specs.Spans.{span_text}
 
 -- a name with its count
 abbrev pub Row : Type 0
@@ -67,6 +69,12 @@ module _ (form : Form) (c : Counting) where
 -- the words of the tables, of which none begins with another
 abbrev pub words : List (List ℕ)
 words = codes "type" ∷ codes "sender" ∷ codes "destination" ∷ codes "interface" ∷ codes "member" ∷ codes "error" ∷ []
+
+-- the tables, and after them the line of the span, if there is one
+pub record IsSummary (form : Form) (c : Counting) (span : Option Span) (text : List ℕ) : Type 0 where
+  pub tables : List ℕ
+  pub are : AreTables form c words tables
+  pub is : text ≡ tables ++ span_text form span
 
 -- What holds of tables.
 

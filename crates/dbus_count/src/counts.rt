@@ -22,7 +22,7 @@ use std::collections::BTreeMap;
 ///
 /// let mut counts = Counts::new(alloc);
 /// counts.add(&MessageView::of(bytes)?)?;
-/// println!(rt; "{}", counts.tables(Form::Text)?)?;
+/// println!(rt; "{}", counts.tables(Form::Text, None)?)?;
 /// ```
 #[derive(Drop)]
 pub struct Counts {

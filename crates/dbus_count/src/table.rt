@@ -2,7 +2,7 @@
 ghost use Rattle.std.specs.Prelude.{◌≡◌, IfOk, List, OnOk, ℕ, map, nat_eq, string_bytes};
 ghost use Rattle.std.specs.List.{filter, starts_with};
 ghost use Rattle.std.specs.Map.Iter.{deref_pair};
-ghost use Rattle.dbus_count.specs.Tables.{AreRows, AreTables, Row, as_object, behind, in_words, row_of, row_text, rows_text, words};
+ghost use Rattle.dbus_count.specs.Tables.{AreRows, AreTables, IsSummary, Row, as_object, behind, in_words, row_of, row_text, rows_text, words};
 ghost use Rattle.dbus_count.specs.Counting.{counting_of};
 ghost use Rattle.dbus_count.specs.NameOrder.{bytes_of};
 
@@ -10,6 +10,7 @@ use crate::count::Count;
 use crate::counts::Counts;
 use crate::form::Form;
 use crate::name::Name;
+use crate::span::{Span, write_span};
 use dbus_json::write_string;
 use dbus_show::{Draft, StringDraft, write_integer};
 use std::alloc::AllocError;
@@ -120,29 +121,39 @@ fn write_tables<D: Draft>(draft: &mut D, form: Form, counts: &Counts) -> Result<
     write_table(draft, form, counts, "error")
 }
 
-// Writes all tables in an empty text.
-fn tables_into(out: &mut String, form: Form, counts: &Counts) -> Result<(), AllocError>
-    ensures { OnOk result (AreTables form (counting_of counts.now) words (string_bytes out.new)) }
+// Writes all tables, and the line of the span, in an empty text.
+fn tables_into(
+    out: &mut String,
+    form: Form,
+    counts: &Counts,
+    span: Option<Span>,
+) -> Result<(), AllocError>
+    ensures { OnOk result (IsSummary form (counting_of counts.now) span (string_bytes out.new)) }
 {
     let mut draft = StringDraft::new(out);
     write_tables(&mut draft, form, counts)?;
+    write_span(&mut draft, form, span);
     draft.finish()
 }
 
 impl Counts {
-    ghost use Rattle.dbus_count.specs.Tables.{AreTables, words};
+    ghost use Rattle.dbus_count.specs.Tables.{IsSummary};
 
     /// The tables as text: those of types, senders, destinations, interfaces, members and errors,
     /// one after the other. A table has a line for each name that was counted, in this form. A name
     /// that more messages have comes first; of those that as many have, the one whose bytes come
     /// first. A member has its interface and a dot before it, if it has one.
     ///
+    /// The last line is that of the span, if there is one: how many messages came in how many
+    /// seconds, and with three digits behind the point, rounded down, how many a second these are,
+    /// if it takes any time.
+    ///
     /// `AllocError`: an allocation failed.
-    pub fn tables(&self, form: Form) -> Result<String, AllocError>
-        ensures { IfOk result (λ text. AreTables form (counting_of self.now) words (string_bytes text)) }
+    pub fn tables(&self, form: Form, span: Option<Span>) -> Result<String, AllocError>
+        ensures { IfOk result (λ text. IsSummary form (counting_of self.now) span (string_bytes text)) }
     {
         let mut text = String::new(self.alloc);
-        tables_into(&mut text, form, self)?;
+        tables_into(&mut text, form, self, span)?;
         Ok(text)
     }
 }

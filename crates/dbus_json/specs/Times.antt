@@ -19,6 +19,14 @@ fraction_digits nanoseconds = map (digit_at nanoseconds) powers
 abbrev pub seconds_text : (nanoseconds : ℕ) → List ℕ
 seconds_text nanoseconds = decimal (nanoseconds / 1000000000) ++ (codes "." ++ fraction_digits nanoseconds)
 
+-- the three digits of thousandths behind the point
+abbrev pub thousandths_digits : (thousandths : ℕ) → List ℕ
+thousandths_digits thousandths = map (digit_at thousandths) (100 ∷ 10 ∷ 1 ∷ [])
+
+-- so many thousandths, with three digits behind the point
+abbrev pub thousandths_text : (thousandths : ℕ) → List ℕ
+thousandths_text thousandths = decimal (thousandths / 1000) ++ (codes "." ++ thousandths_digits thousandths)
+
 -- the member for a time, if there is one
 abbrev pub time_members : Option ℕ → List (List ℕ)
 time_members None = []

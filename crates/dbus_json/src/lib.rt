@@ -17,4 +17,4 @@ pub use doubles::finite;
 pub use line::write_json;
 pub use place::LinePlace;
 pub use texts::write_string;
-pub use times::{digit_at, write_seconds, write_time};
+pub use times::{digit_at, write_seconds, write_thousandths, write_time};

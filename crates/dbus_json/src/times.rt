@@ -3,7 +3,7 @@
 
 ghost use Rattle.std.specs.Prelude.{◌≡◌, ℕ, ◌<◌, ◌∷◌, codes};
 ghost use Rattle.dbus_value_text.specs.Forms.{led};
-ghost use Rattle.dbus_json.specs.Times.{digit_at, fraction_digits, seconds_text, time_members};
+ghost use Rattle.dbus_json.specs.Times.{digit_at, fraction_digits, seconds_text, thousandths_digits, thousandths_text, time_members};
 
 use dbus_show::{Draft, write_integer};
 use std::str;
@@ -59,9 +59,35 @@ pub fn write_seconds<D: Draft>(draft: &mut D, nanoseconds: u64)
     write_fraction(draft, nanoseconds);
 }
 
-/// Appends the time as the member `time` after others, if there is one: a string of the seconds since
-/// 1970 began in UTC, with nine digits behind the point. The time is in nanoseconds. It allocates
-/// nothing.
+/// The point, and the three digits of thousandths behind it.
+fn thousandths_of(thousandths: u64) -> [u8; 4]
+    ensures { result ≡ 46 ∷ thousandths_digits thousandths }
+{
+    [
+        b'.',
+        digit_at(thousandths, 100),
+        digit_at(thousandths, 10),
+        digit_at(thousandths, 1),
+    ]
+}
+
+/// Appends a number of thousandths, with three digits behind the point.
+///
+/// ```text
+/// 18.225
+/// ```
+pub fn write_thousandths<D: Draft>(draft: &mut D, thousandths: u64)
+    ensures { D.gains draft.old (thousandths_text thousandths) draft.new }
+{
+    write_integer(draft, thousandths / 1_000);
+    let fraction = thousandths_of(thousandths);
+    // The point and the digits are ASCII, so that they are text.
+    draft.push_str(unsafe { str::from_utf8_unchecked(&fraction) });
+}
+
+/// Appends the time as the member `time` after others, if there is one: a string of the seconds
+/// since 1970 began in UTC, with nine digits behind the point. The time is in nanoseconds. It
+/// allocates nothing.
 pub fn write_time<D: Draft>(draft: &mut D, time: Option<u64>)
     ensures { D.gains draft.old (led (codes ",") (codes ",") (time_members time)) draft.new }
 {

@@ -281,11 +281,11 @@ module _ {R S W V E F : Type 0} (one_table : OneTable) (left : R → Option (Lis
       (one_run (ReadAhead R) (ReadAhead S) W V E F (ahead left calls failures packets packet r r1) (ahead other_left other_calls other_failures other_packets other_packet s s1) w v e f settings _ _ c d end other same
       (record { input = here; told = told_from settings r s taken also (told_of (form_of c) settings run); explains = inl off; done = done; other_done = other_done }) does doing).1 exact (placed_alike (form_of c) settings run r s taken also))
 
-  counts_alike : (settings : Settings) (form : CountForm) → Told settings → settings.explains ≡ false → DoesTask left calls failures packets packet r0 r1 w e settings (CountAll form) end
+  counts_alike : (settings : Settings) (form : CountForm) → SameFrom settings → settings.explains ≡ false → DoesTask left calls failures packets packet r0 r1 w e settings (CountAll form) end
       → DoesTask other_left other_calls other_failures other_packets other_packet s0 s1 v f settings (CountAll form) other → EndAlike w v e f end other
-  counts_alike settings form told off = tasks_alike settings (CountAll form) (CountAll form) (λ r s taken also here does doing.
-      one_count (ReadAhead R) (ReadAhead S) W V E F one_table (ahead left calls failures packets packet r r1) (ahead other_left other_calls other_failures other_packets other_packet s s1) w v e f settings (table_form form) _ _ end other
-      (record { input = here; told = told_from settings r s taken also told; explains = inl off; done = done; other_done = other_done }) does doing)
+  counts_alike settings form same off = tasks_alike settings (CountAll form) (CountAll form) (λ r s taken also here does doing.
+      (one_count (ReadAhead R) (ReadAhead S) W V E F one_table (ahead left calls failures packets packet r r1) (ahead other_left other_calls other_failures other_packets other_packet s s1) w v e f settings (table_form form) _ _ end other
+      (record { input = here; told = inl (same r s taken also); explains = inl off; done = done; other_done = other_done }) does doing).1 (same r s taken also))
 
   called_alike : (settings : Settings) (wanted : WantedCalls) → SameFrom settings → settings.explains ≡ false → DoesTask left calls failures packets packet r0 r1 w e settings (ListAll wanted) end
       → DoesTask other_left other_calls other_failures other_packets other_packet s0 s1 v f settings (ListAll wanted) other → EndAlike w v e f end other

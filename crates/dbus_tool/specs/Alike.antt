@@ -54,10 +54,10 @@ module _ {R S : Type 0} (left : R → Option (List ℕ)) (calls failures : R →
   RunAlike Raw settings = TellAlike settings
   RunAlike AsRead settings = AreOfSamePacketsFrom settings
 
-  -- what is asked for has one output: `calls` writes the times of packets too
+  -- what is asked for has one output: `count` and `calls` write times of packets too
   abbrev pub AskAlike : Asked → Type 0
   AskAlike (Messages command settings) = RunAlike (form_of command) settings
-  AskAlike (Count settings form) = TellAlike settings
+  AskAlike (Count settings form) = AreOfSamePacketsFrom settings
   AskAlike (Calls settings wanted) = AreOfSamePacketsFrom settings
   AskAlike (Handshake side) = Unit {0}
 

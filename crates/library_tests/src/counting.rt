@@ -1,6 +1,6 @@
 //! Counts of messages by their names.
 
-use dbus_count::{Counts, Form};
+use dbus_count::{Counts, Form, Span};
 use dbus_view::MessageView;
 use std::alloc::Global;
 use std::test::Fail;
@@ -25,6 +25,14 @@ const TABLES: &str =
 const OBJECTS: &str =
     "{\"type\":\"signal\",\"messages\":2,\"bytes\":192}\n{\"type\":\"error\",\"messages\":1,\"bytes\":40}\n{\"type\":\"method_call\",\"messages\":1,\"bytes\":80}\n{\"sender\":\":1.7\",\"messages\":1,\"bytes\":80}\n{\"destination\":\":1.2\",\"messages\":1,\"bytes\":80}\n{\"interface\":\"a.b\",\"messages\":2,\"bytes\":192}\n{\"member\":\"a.b.C\",\"messages\":2,\"bytes\":192}\n{\"member\":\"M\",\"messages\":1,\"bytes\":80}\n{\"error\":\"d.e\",\"messages\":1,\"bytes\":40}\n";
 
+// The lines of a message, and of two that come a second and a half apart.
+const ONE: &str = "error d.e\n1 messages in 0.000000000 seconds\n";
+
+const TWO: &str = "error d.e\n2 messages in 1.500000000 seconds, 1.333 a second\n";
+
+const TWO_OBJECTS: &str =
+    "\"bytes\":40}\n{\"seconds\":1.500000000,\"messages\":2,\"messages_per_second\":1.333}\n";
+
 // What counts the messages.
 fn counted(alloc: Global) -> Result<Counts, Fail> {
     let mut counts = Counts::new(alloc);
@@ -40,7 +48,33 @@ fn counted(alloc: Global) -> Result<Counts, Fail> {
 #[test]
 fn messages_are_counted_by_their_names(rt: HostRuntime) -> Result<(), Fail> {
     let counts = counted(rt.alloc())?;
-    assert!(rt; counts.tables(Form::Text)?.as_str() == TABLES);
-    assert!(rt; counts.tables(Form::Json)?.as_str() == OBJECTS);
+    assert!(rt; counts.tables(Form::Text, None)?.as_str() == TABLES);
+    assert!(rt; counts.tables(Form::Json, None)?.as_str() == OBJECTS);
+    Ok(())
+}
+
+#[test]
+fn the_last_line_is_that_of_the_span(rt: HostRuntime) -> Result<(), Fail> {
+    let counts = counted(rt.alloc())?;
+    let one = Span::with_time(None, 2_000_000_000);
+    let two = Span::with_time(Some(one), 500_000_000);
+    assert!(rt;
+        counts
+            .tables(Form::Text, Some(one))?
+            .as_str()
+            .ends_with(ONE)
+    );
+    assert!(rt;
+        counts
+            .tables(Form::Text, Some(two))?
+            .as_str()
+            .ends_with(TWO)
+    );
+    assert!(rt;
+        counts
+            .tables(Form::Json, Some(two))?
+            .as_str()
+            .ends_with(TWO_OBJECTS)
+    );
     Ok(())
 }
