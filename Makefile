@@ -60,6 +60,7 @@ PROGRAM = crates/dbus_wire/out/dbus_wire
 # The page for browsers, and its module.
 PAGE = out/dbus-wire.html
 MODULE = out/dbus_page.wasm
+PAGE_NOTICES = out/page-notices.txt
 # Where the library for C is built.
 ROOM = out
 # include/dbus_wire.h says what changes its number.
@@ -85,7 +86,7 @@ endif
 VERSION = $(shell sed -n 's/.*VERSION: &str = "\(.*\)";/\1/p' crates/cli_options/src/help.rt)
 # The licences of the kit's crates that are linked in. They come from the kit, and what is installed needs no kit.
 NOTICES = out/NOTICES
-WRITE_NOTICES = mkdir -p out && packaging/notices.py $(NOTICES)
+WRITE_NOTICES = mkdir -p out && packaging/notices.py $(NOTICES) dbus_wire dbus_c
 # The kit that everything was proved with, as README says.
 KIT = $(shell sed -n 's/.*Proved with\*\* \([^ ,]*\),.*/\1/p' README.md)
 
@@ -178,7 +179,8 @@ test-completions:
 page: kit
 	bench/build.py dbus_page
 	web/module.py $(MODULE)
-	web/build.py $(MODULE) $(PAGE)
+	packaging/notices.py $(PAGE_NOTICES) dbus_page
+	web/build.py $(MODULE) $(PAGE_NOTICES) $(PAGE)
 
 test-page: build page
 	web/test.py $(PROGRAM) $(MODULE) $(PAGE)

@@ -1,6 +1,5 @@
 #!/usr/bin/env python3
-"""notices.py FILE: writes the licences of what is linked into dbus-wire and its library: of the kit's crates that their crates use, as the kit has
-them."""
+"""notices.py FILE CRATE..: writes the licences of what is linked into these crates: of the kit's crates that they use, as the kit has them."""
 
 import pathlib
 import subprocess
@@ -29,9 +28,9 @@ def kit_crates(names):
     return sorted(found)
 
 
-def notices():
+def notices(crates):
     """The licences, each below the name of its crate and its file."""
-    for name in kit_crates(["dbus_wire", "dbus_c"]):
+    for name in kit_crates(crates):
         licences = sorted((kit_folder() / name).glob("LICENSE*"))
         if not licences:
             sys.exit(f"{name} of the kit has no licence file")
@@ -40,4 +39,4 @@ def notices():
 
 
 if __name__ == "__main__":
-    pathlib.Path(sys.argv[1]).write_text("".join(notices()))
+    pathlib.Path(sys.argv[1]).write_text("".join(notices(sys.argv[2:])))

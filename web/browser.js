@@ -72,14 +72,29 @@ class Browser {
   async read(file) {
     const { root } = await this.ask("DOM.getDocument");
     const { nodeId } = await this.ask("DOM.querySelector", { nodeId: root.nodeId, selector: "#file" });
-    await this.value("find('count').textContent = ''");
+    await this.value("find('count').textContent = find('status').textContent = ''");
     await this.ask("DOM.setFileInputFiles", { nodeId, files: [file] });
-    await this.until("find('count').textContent.endsWith(' shown')");
-    return JSON.parse(await this.value(`JSON.stringify({ ...answersOf(state.reader), seen: [0, state.rows.length - 1].map((it) => {
+    await this.until("find('count').textContent.endsWith(' shown') || find('status').textContent.includes('was not read')");
+    if (await this.value("find('count').textContent === ''")) {
+      return null;
+    }
+    const answers = JSON.parse(await this.value(`JSON.stringify({ ...answersOf(state.reader), seen: [0, state.rows.length - 1].map((it) => {
       choose(it);
       const row = find(\`row-\${it}\`);
       return row ? [[...row.children].map((cell) => cell.textContent), find("details").querySelector("pre").textContent] : null;
     }) })`));
+    return { ...answers, calls: await this.shownBy("type='method_call'") };
+  }
+
+  // The numbers of the messages that are shown by a match rule, which is then taken back.
+  async shownBy(rule) {
+    return this.value(`(async () => {
+      find("rule").value = ${JSON.stringify(rule)};
+      await filter();
+      const shown = state.shown.map((it) => state.rows[it]).filter((it) => it.isWhole).map((it) => it.number);
+      find("rule").value = "";
+      return shown;
+    })()`);
   }
 }
 

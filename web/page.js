@@ -8,7 +8,7 @@ const MOST_LIFELINES = 8, LIFELINE_GAP = 24;
 const COLUMNS = ["number", "time", "kind", "arrow", "sender", "destination", "member", "size"];
 
 const find = (id) => document.getElementById(id);
-const state = { module: null, reader: null, rows: [], shown: [], words: [], active: -1, run: 0, isReading: false, texts: new Map(), peers: new Map(), lifelines: [], calls: new Map() };
+const state = { module: null, reader: null, rows: [], shown: [], words: [], rule: null, skipped: 0, active: -1, run: 0, isReading: false, texts: new Map(), peers: new Map(), lifelines: [], calls: new Map() };
 
 // ---- Reading
 
@@ -21,12 +21,16 @@ async function readBytes(bytes, name) {
   state.isReading = true;
   tell(`Reading ${name} …`);
   try {
+    const skipped = handshakeLength(bytes);
+    if (skipped === null) {
+      throw new Error("it begins as one side of a connection, but its handshake is at fault");
+    }
     const instance = await WebAssembly.instantiate(state.module);
     if (run !== state.run) {
       return;
     }
-    const reader = new Reader(instance, bytes);
-    Object.assign(state, { reader, rows: [], shown: [], active: -1, texts: new Map(), peers: new Map(), lifelines: [], calls: new Map() });
+    const reader = new Reader(instance, bytes.subarray(skipped));
+    Object.assign(state, { reader, skipped, rows: [], shown: [], active: -1, texts: new Map(), peers: new Map(), lifelines: [], calls: new Map() });
     find("details").replaceChildren();
     draw();
     await inTurns(run, entries(reader), (entry) => addRow(entry));
@@ -127,6 +131,9 @@ function tellEnd(name) {
   const bad = state.rows.filter((it) => !it.isWhole).length;
   const fault = state.reader.fileFault;
   const parts = [`${name}: ${state.rows.length - bad} messages, ${state.reader.length} bytes`];
+  if (state.skipped) {
+    parts.push(`after a handshake of ${state.skipped} bytes`);
+  }
   if (bad) {
     parts.push(`${bad} refused or cut off`);
   }
@@ -138,19 +145,19 @@ function tellEnd(name) {
 
 // ---- Filtering
 
-// Of a message, all words have to be in its line of JSON; of what is refused, in its explanation.
+// Of a message, all words have to be in its line of JSON, and the rule has to match it; of what is refused, all words in its explanation.
 async function filter() {
+  readFilters();
   if (state.isReading) {
     // All of it is filtered once it is read.
     return;
   }
   const run = (state.run += 1);
-  state.words = find("words").value.toLowerCase().split(/\s+/).filter((it) => it);
   const rows = state.rows;
   state.shown = [];
   state.active = -1;
   const isDone = await inTurns(run, rows, (row) => {
-    if (state.words.length === 0 || hasWords(row)) {
+    if (isWanted(row)) {
       state.shown.push(row.index);
     }
   });
@@ -159,9 +166,25 @@ async function filter() {
   }
 }
 
-function hasWords(row) {
-  const text = textOf(row).toLowerCase();
-  return state.words.every((it) => text.includes(it));
+// A rule that is at fault is told, and selects nothing out.
+function readFilters() {
+  state.words = find("words").value.toLowerCase().split(/\s+/).filter((it) => it);
+  state.rule = null;
+  find("rule-fault").textContent = "";
+  try {
+    state.rule = readRule(find("rule").value);
+  } catch (fault) {
+    find("rule-fault").textContent = `rule ${fault.message}`;
+  }
+  find("rule").setAttribute("aria-invalid", state.rule === null);
+}
+
+function isWanted(row) {
+  if (state.words.length === 0 && !state.rule?.length) {
+    return true;
+  }
+  const line = textOf(row), text = line.toLowerCase();
+  return state.words.every((it) => text.includes(it)) && (!row.isWhole || !state.rule || matchesRule(state.rule, line));
 }
 
 function textOf(row) {
@@ -437,7 +460,7 @@ function takeDrop(event) {
 }
 
 let typed = 0;
-function typeWords() {
+function typeFilter() {
   clearTimeout(typed);
   typed = setTimeout(filter, 200);
 }
@@ -451,7 +474,8 @@ async function begin() {
   }
   find("file").addEventListener("change", (event) => event.target.files[0] && readFile(event.target.files[0]));
   find("read-hex").addEventListener("click", readHex);
-  find("words").addEventListener("input", typeWords);
+  find("words").addEventListener("input", typeFilter);
+  find("rule").addEventListener("input", typeFilter);
   find("diagram").addEventListener("change", showDiagram);
   find("list").addEventListener("scroll", draw);
   find("list").addEventListener("keydown", pressKey);

@@ -147,5 +147,5 @@ function answersOf(reader) {
 }
 
 if (typeof module !== "undefined") {
-  module.exports = { Reader, answersOf };
+  module.exports = { Reader, answersOf, entries };
 }

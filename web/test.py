@@ -2,11 +2,13 @@
 """test.py PROGRAM MODULE PAGE: compares what the page gives with what dbus-wire writes, over the samples and the bytes of cases: by the module in Node, and
 by the page in a headless Chromium, if there is one. BROWSER names another. The exit status is 1 if something differs.
 
-What is compared of each input: the lines of `json --keep-going`; the number, offset and place of each fault; its explanation, of which the bytes are left
-out if the input is a capture, since dbus-wire shows only those that it has read; and the place of the fault of a file.
+What is compared of each input: the lines of `json --keep-going`, with `--handshake` if it begins as one side of a connection; the number, offset and place of
+each fault; its explanation, of which the bytes are left out if the input is a capture, since dbus-wire shows only those that it has read; and the place of the
+fault of a file. Of rules: which messages of the samples `filter` writes; and what the cases say of rules and of messages that match.
 """
 
 import concurrent.futures as futures
+import functools
 import json
 import os
 import pathlib
@@ -27,6 +29,9 @@ REFUSED = re.compile(r"refused at (\d+): \S+ in message (\d+) at (\d+)(?: in pac
 FAULT = re.compile(r"^capture refused at (\d+): ", re.M)
 # The files with bytes of messages, and the columns that have them.
 COLUMNS = {"messages": (2, 3), "faults": (2, 3), "streams": (2,), "printed": (2,)}
+# What is asked of each message of the samples.
+RULES = ("", "type='error'", "type='signal',sender='org.freedesktop.DBus'", "interface='org.freedesktop.DBus',member='Hello'", "path_namespace='/org'",
+         "destination=':1.4'", "arg0namespace='org.example'", "arg0path='/org/'", "sender=':1.1',eavesdrop='true'", "type='signal',arg0=''")
 MOST_REPORTED = 5
 
 
@@ -41,6 +46,13 @@ def inputs():
                 yield f"{file}.txt {case[0]} {column}", read_bytes(case[column])
     for case in read_cases(DATA / "captures.txt"):
         yield f"captures.txt {case[0]}", read_parts(case[1], DATA)
+    # What each side sends, with messages behind it, and cut off within its last line.
+    message = (ROOT / "samples" / "big-endian.dbus").read_bytes()
+    for case in read_cases(DATA / "handshakes.txt"):
+        for side, column in (("client", 3), ("server", 4)):
+            sent = read_bytes(case[column])
+            yield f"handshakes.txt {case[0]} {side}", sent + message
+            yield f"handshakes.txt {case[0]} {side} cut", sent[:-3]
 
 
 def is_capture(data):
@@ -52,10 +64,18 @@ def without_bytes(explanation):
     return [lines[0], lines[2]] if len(lines) == 3 else lines
 
 
+def side_of(data):
+    """The words by which the program reads the input, as its first byte says."""
+    side = "client" if data[:1] == b"\0" else "server" if data[:1] and data[0] in b"ADEOR" else None
+    return ["--handshake", side] if side else []
+
+
 def written(program, data):
-    """What the program writes of an input, as the module's answers."""
-    ran = subprocess.run([program, "json", "--keep-going", "--explain"], input=data, capture_output=True)
+    """What the program writes of an input, as the module's answers; None if it begins with a handshake that is refused."""
+    ran = subprocess.run([program, "json", "--keep-going", "--explain", *side_of(data)], input=data, capture_output=True)
     said = ran.stderr.decode()
+    if said.startswith("handshake refused"):
+        return None
     refused = [[int(number), int(offset), int(place), why] for place, number, offset, why in REFUSED.findall(said)]
     fault = FAULT.search(said)
     return {"lines": ran.stdout.decode(), "refused": refused, "fault": int(fault[1]) if fault else None}
@@ -63,6 +83,8 @@ def written(program, data):
 
 def compared(answers, data):
     """What of the answers is compared."""
+    if answers is None:
+        return None
     refused = [[*it[:3], without_bytes(it[3]) if is_capture(data) else it[3]] for it in answers["refused"]]
     return {"lines": answers["lines"], "refused": refused, "fault": answers["fault"]}
 
@@ -77,10 +99,15 @@ def differs(kind, all_inputs, wanted, given):
 
 
 def unseen(all_inputs, given):
-    """How many inputs have a first or a last row that shows other than their answers."""
+    """How many inputs have a first or a last row that shows other than their answers, or show other messages by a match rule."""
     wrong = 0
     for (name, _), answers in zip(all_inputs, given):
+        if answers is None:
+            continue
         lines = [json.loads(it) for it in answers["lines"].splitlines()]
+        if answers["calls"] != [it["number"] for it in lines if it["type"] == "method_call"]:
+            wrong += 1
+            print(f"{name}: the page shows {answers['calls']} as calls of methods")
         numbers = sorted([it["number"] for it in lines] + [it[0] for it in answers["refused"]])
         for number, seen in zip((numbers[:1] + numbers[-1:]), answers["seen"]):
             line = next((it for it in lines if it["number"] == number), None)
@@ -90,6 +117,55 @@ def unseen(all_inputs, given):
                 wrong += 1
                 print(f"{name}: the page shows {seen} of message {number}")
     return wrong
+
+
+def matching(program, data, rule):
+    """The numbers of the messages that the program filters out of raw messages."""
+    rest = subprocess.run([program, "filter", rule], input=data, capture_output=True, check=True).stdout
+    lines = subprocess.run([program, "json"], input=data, capture_output=True, check=True).stdout.splitlines()
+    found, end = [], len(data)
+    # Each message that is written is the last one of the input that ends so and was not found yet.
+    for it in map(json.loads, reversed(lines)):
+        bytes_of = data[it["offset"]:end]
+        end = it["offset"]
+        if rest.endswith(bytes_of):
+            rest = rest[:-len(bytes_of)]
+            found.insert(0, it["number"])
+    assert not rest
+    return found
+
+
+def asked_rules(program):
+    """Each input and rule that is asked of it, and the numbers of the messages that match, or why the rule is none."""
+    for path in sorted((ROOT / "samples").glob("*.dbus")):
+        data = path.read_bytes()
+        for rule in RULES:
+            yield data, rule.encode(), matching(program, data, rule)
+    for name, rule, owners, little, big, answer in read_cases(DATA / "matches.txt"):
+        for column in (little, big):
+            if not owners:
+                yield read_bytes(column), read_bytes(rule), [1] if answer == "yes" else []
+    for name, text, said in read_cases(DATA / "rules.txt"):
+        yield b"", read_bytes(text), [] if said.startswith("accepted") else said
+
+
+def rules_differ(program, answers):
+    """How many rules are answered otherwise than the program or the cases do."""
+    asked = [it for it in asked_rules(program) if is_utf8(it[1])]
+    given = answers("".join(f"{data.hex()} {rule.hex()}\n" for data, rule, _ in asked))
+    wrong = [(rule, wanted, it["matching"]) for (_, rule, wanted), it in zip(asked, given, strict=True) if it["matching"] != wanted]
+    for rule, wanted, found in wrong[:MOST_REPORTED]:
+        print(f"{rule.decode()}: the script finds {found}, dbus-wire {wanted}")
+    print(f"the script of rules: {len(asked) - len(wrong)} answers as dbus-wire has them, {len(wrong)} not")
+    return len(wrong)
+
+
+def is_utf8(data):
+    try:
+        data.decode()
+    except UnicodeDecodeError:
+        return False
+    return True
 
 
 def run_node(words, text):
@@ -107,8 +183,9 @@ def main(program, module, page):
     all_inputs = list(inputs())
     with futures.ThreadPoolExecutor(len(os.sched_getaffinity(0))) as pool:
         wanted = list(pool.map(lambda it: written(program, it[1]), all_inputs))
-    given = run_node([*node_words(), HERE / "answers.js", module], "".join(f"{data.hex()}\n" for _, data in all_inputs))
-    wrong = differs("the module in Node", all_inputs, wanted, given)
+    answers = functools.partial(run_node, [*node_words(), HERE / "answers.js", module])
+    given = answers("".join(f"{data.hex()}\n" for _, data in all_inputs))
+    wrong = differs("the module in Node", all_inputs, wanted, given) + rules_differ(program, answers)
     browser = os.environ.get("BROWSER") or shutil.which("chromium") or shutil.which("google-chrome")
     if not browser:
         print("there is no Chromium here: the page was not tried in one")
