@@ -64,7 +64,7 @@ begins_block s kind total m ys order interfaces interfaces' out i k n other e w 
 
 -- ---- a block of another type
 
-other_stage : (kind : ℕ) → kind ≢ 1 → kind ≢ 2 → kind ≢ 3 → kind ≢ 6 → block_stage kind ≡ None
+pub other_stage : (kind : ℕ) → kind ≢ 1 → kind ≢ 2 → kind ≢ 3 → kind ≢ 6 → block_stage kind ≡ None
 other_stage kind a b c d =
     when_false _ _ _ (eq_not kind 1 a) ∙ when_false _ _ _ (eq_not kind 2 b) ∙ when_false _ _ _ (eq_not kind 3 c) ∙ when_false _ _ _ (eq_not kind 6 d)
 

@@ -47,10 +47,10 @@ went_both t xs ys order interfaces total left left' i i' w v = record {
   stands = v.stands;
 }
 
-is_option : (left : ℕ) → 0 < left → after_option left ≡ stages.OptionHead
+pub is_option : (left : ℕ) → 0 < left → after_option left ≡ stages.OptionHead
 is_option left h = when_false _ _ _ (eq_not left 0 (λ e. absurd (omega (arith, h, e))))
 
-ready_as : (t : Scan) (a b : Stage) → a ≡ b → Ready t a → Ready t b
+pub ready_as : (t : Scan) (a b : Stage) → a ≡ b → Ready t a → Ready t b
 ready_as t a b e = subst (Ready t) e
 
 -- ---- an option
@@ -128,7 +128,7 @@ fill_one value filler v f =
     omega (arith, v, f, p)
 
 -- what the head of an option comes to
-not_end : (t : Scan) (code size : ℕ) → code ≢ 0 → padded size ≤ t.rest - 4
+pub not_end : (t : Scan) (code size : ℕ) → code ≢ 0 → padded size ≤ t.rest - 4
     → option_in t code size ≡ cond (code == 9) (cond (size == 1) (record t { head = begun stages.Resolution; next = place (t.next + 4); rest = t.rest - 8 }) (refused t 2 reasons.OptionLength))
     (cond (code == 14) (pass_option t (padded size) (record t.interface { has_offset = true })) (pass_option t (padded size) t.interface))
 not_end t code size c h = when_false _ _ _ (eq_not code 0 c) ∙ when_false _ _ _ (lt_false (t.rest - 4) (padded size) h)

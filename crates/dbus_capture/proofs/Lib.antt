@@ -13,3 +13,12 @@ pub mod BlockTurns
 pub mod BlockLaws
 pub mod InterfaceLaws
 pub mod SectionLaws
+pub mod EndLaws
+pub mod WordLaws
+pub mod TrailerLaws
+pub mod OptionLaws
+pub mod FirstBlocks
+pub mod PacketBlocks
+pub mod InterfaceBlocks
+pub mod SectionBlocks
+pub mod BlockOutcomes

@@ -12,10 +12,8 @@ use Rattle.dbus_capture.specs.Packets.{pcap_packet_reported}
 use Rattle.dbus_capture.proofs.StepLaws.{run-append, given-append, run_gives}
 use Rattle.dbus_capture.proofs.PcapLaws.{Between, after, after_all, begins, head_taken, body_taken, packet_header_size}
 use Rattle.dbus_capture.proofs.PacketSteps.{packet_after}
+use Rattle.dbus_capture.proofs.EndLaws.{place_more}
 use Rattle.dbus_capture.proofs.PcapFileLaws.{head_size, opened_file, file_taken}
-
-place_more : (a n : ℕ) → place (place a + n) ≡ place (a + n)
-place_more a n = omega arith
 
 -- what is known of a state after so many bytes and packets
 record Stands (s : Scan) (order : ByteOrder) (nanoseconds : Bool) (bytes packets : ℕ) : Type 0 where

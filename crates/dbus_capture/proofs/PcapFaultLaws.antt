@@ -24,7 +24,7 @@ use Rattle.dbus_capture.proofs.PcapFileLaws.{between_ends}
 
 -- ---- numbers
 
-lt_true : (a b : ℕ) → a < b → nat_lt a b ≡ true
+pub lt_true : (a b : ℕ) → a < b → nat_lt a b ≡ true
 lt_true a b h = grind (arith, h)
 
 lt_false : (a b : ℕ) → b ≤ a → nat_lt a b ≡ false

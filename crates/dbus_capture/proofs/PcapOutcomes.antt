@@ -57,7 +57,7 @@ u32_in_front o front more k h = ap (u32_of o) (part_of_front front more k 4 h)
 u16_in_front : (o : ByteOrder) (front more : List ℕ) (k : ℕ) → k + 2 ≤ length front → u16_at o k (front ++ more) ≡ u16_at o k front
 u16_in_front o front more k h = ap (u16_of o) (part_of_front front more k 2 h)
 
-u16_respelled : (o : ByteOrder) (bytes : List ℕ) → length bytes ≡ 2 → AreBytes bytes → u16_bytes o (u16_of o bytes) ≡ bytes
+pub u16_respelled : (o : ByteOrder) (bytes : List ℕ) → length bytes ≡ 2 → AreBytes bytes → u16_bytes o (u16_of o bytes) ≡ bytes
 u16_respelled Little bytes size h = le_bytes_2 bytes _ size (byte_at bytes h) refl
 u16_respelled Big bytes size h = be_bytes_2 bytes _ size (byte_at bytes h) refl
 

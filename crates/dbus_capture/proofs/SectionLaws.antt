@@ -14,6 +14,7 @@ use Rattle.dbus_capture.specs.Blocks.{is_length, order_mark, section_by, section
 use Rattle.dbus_capture.specs.Steps.{Turn, Gathers, run, told, given, turn_of, may_end, ended}
 use Rattle.dbus_capture.specs.Reading.{IsRead, Ready, InSection}
 use Rattle.dbus_capture.specs.BlockFiles.{FitsBody, framed_bytes, FileBlock, InterfaceBlock, PacketBlock, ObsoleteBlock, SimpleBlock, OtherBlock, block_bytes, block_body, blocks_bytes, block_payload, blocks_payload, interfaces_after, FitsBlock, AllFitBlocks, FileSection, section_body, section_bytes, FitsSection, sections_bytes, sections_payload, AllFitSections}
+use Rattle.dbus_capture.specs.BlockFaults.{interfaces_all}
 use Rattle.dbus_capture.proofs.NumberLaws.{u32_size, u16_size, u32_after, u16_after, part_after}
 use Rattle.dbus_capture.proofs.StepLaws.{run-append, given-append, opens, turn_gathers}
 use Rattle.dbus_capture.proofs.HeadLaws.{run_head}
@@ -31,10 +32,6 @@ block_read s order interfaces (PacketBlock number high low original bytes rest) 
 block_read s order interfaces (ObsoleteBlock number drops high low original bytes rest) i f b = obsolete_read s order interfaces number drops high low original bytes rest i f b
 block_read s order interfaces (SimpleBlock original bytes rest) i f b = simple_read s order interfaces original bytes rest i f b
 block_read s order interfaces (OtherBlock kind body) i f b = other_read s order interfaces kind body i f b
-
-abbrev interfaces_all : List Interface → List FileBlock → List Interface
-interfaces_all interfaces [] = interfaces
-interfaces_all interfaces (block ∷ blocks) = interfaces_all (interfaces_after interfaces block) blocks
 
 went_then : (s : Scan) (xs ys : List ℕ) (order order' : ByteOrder) (interfaces interfaces' : List Interface) (out more : List ℕ) → (w : Went s xs order interfaces out) → Went w.final ys order' interfaces' more → Went s (xs ++ ys) order' interfaces' (out ++ more)
 went_then s xs ys order order' interfaces interfaces' out more w v = record {
@@ -65,7 +62,7 @@ mark_told : (o : ByteOrder) → order_mark (u32_of Little (u32_bytes o 0x1a2b3c4
 mark_told Little = refl
 mark_told Big = refl
 
-minor_ok : (n : ℕ) → (n ≡ 0) ⊎ (n ≡ 2) → ((n == 0) || (n == 2)) ≡ true
+pub minor_ok : (n : ℕ) → (n ≡ 0) ⊎ (n ≡ 2) → ((n == 0) || (n == 2)) ≡ true
 minor_ok n (inl e) = ap (λ (m : ℕ). (m == 0) || (m == 2)) e
 minor_ok n (inr e) = ap (λ (m : ℕ). (m == 0) || (m == 2)) e
 
@@ -143,7 +140,7 @@ module _ (o : ByteOrder) (minor total : ℕ) (size : List ℕ) (eight : length s
       ∙ ap (λ (n : ℕ). cond (is_length 28 n) (then n) (refused t 4 reasons.BlockLength)) total_at
       ∙ when_true _ _ _ (length_ok 28 total whole least)
 
-decodes_section : (t : Scan) (h : List ℕ) → t.head ≡ begun stages.Section → decoded t h ≡ section_head t h
+pub decodes_section : (t : Scan) (h : List ℕ) → t.head ≡ begun stages.Section → decoded t h ≡ section_head t h
 unfolding decoded
 decodes_section t h e = ap (λ (v : Heading). decoded_by v.stage t h) e
 
@@ -239,7 +236,7 @@ file_read passes x sections f g =
     record { order = more.order; interfaces = more.interfaces; went = went_then s (section_bytes x) (sections_bytes sections) x.order more.order (interfaces_all [] x.blocks) more.interfaces (blocks_payload [] x.blocks) (sections_payload sections) both more.went }
 
 -- between two blocks a file may end
-block_ends : (s : Scan) → Ready s stages.Block → ended s ≡ s
+pub block_ends : (s : Scan) → Ready s stages.Block → ended s ≡ s
 block_ends s r =
     let cut : Scan = record s { fault = Some (record { at = place (s.next + length s.head.bytes + 2 ^ 64 - place (s.give + s.skip)); reason = reasons.Truncated }) } in
     let raw : is_raw s.head.stage ≡ false = ap (λ (v : Heading). is_raw v.stage) r.head in

@@ -45,7 +45,7 @@ turn_gives None true give skip n p q h = cc
 turn_gives None false zero skip n p q h = absurd (omega (arith, h))
 turn_gives None false (suc m) skip n p q h = refl
 
-turn_skips : (f : Option CaptureFault) (raw : Bool) (give skip n : ℕ) → f ≡ None → raw ≡ false → give ≡ 0 → skip ≡ suc n → turn_by f raw give skip ≡ Skips
+pub turn_skips : (f : Option CaptureFault) (raw : Bool) (give skip n : ℕ) → f ≡ None → raw ≡ false → give ≡ 0 → skip ≡ suc n → turn_by f raw give skip ≡ Skips
 turn_skips (Some f) raw give skip n p q h k = cc
 turn_skips None true give skip n p q h k = cc
 turn_skips None false (suc m) skip n p q h k = absurd (omega (arith, h))

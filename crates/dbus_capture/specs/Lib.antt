@@ -9,5 +9,6 @@ pub mod CaptureTexts
 pub mod PcapFiles
 pub mod PcapFaults
 pub mod BlockFiles
+pub mod BlockFaults
 pub mod Packets
 pub mod Reading

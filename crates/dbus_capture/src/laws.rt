@@ -12,6 +12,7 @@ ghost use Rattle.dbus_capture.specs.Reading.{IsRead, InSection};
 ghost use Rattle.dbus_capture.specs.PcapFiles.{PcapHeader, PcapPacket, FitsHeader, FitsPacket, AllFitPackets, packet_header_bytes, pcap_bytes, payload};
 ghost use Rattle.dbus_capture.specs.BlockFiles.{FileBlock, FitsBlock, FitsBody, block_body, FileSection, FitsSection, AllFitSections, sections_bytes, sections_payload};
 ghost use Rattle.dbus_capture.specs.PcapFaults.{AreBytes, IsPcapOutcome};
+ghost use Rattle.dbus_capture.specs.BlockFaults.{IsPcapngOutcome};
 ghost use Rattle.dbus_capture.specs.Packets.{Reports, IsTimed, interface_of, packet_bytes, pcap_packet_reported, block_front, block_packet_reported};
 ghost use Rattle.dbus_capture.specs.declared.scan.Scan.{Scan};
 ghost use Rattle.dbus_capture.specs.declared.byte_order.ByteOrder.{ByteOrder};
@@ -41,6 +42,16 @@ pub fn pcapng_is_read()
     ensures { (passes_cut : Bool) (x : FileSection) (sections : List FileSection) →
         FitsSection x → AllFitSections sections →
         IsRead passes_cut (sections_bytes (x ∷ sections)) (sections_payload (x ∷ sections)) }
+{}
+
+/// Bytes that begin as a pcapng file are such a file, and the capture gives the bytes of its packets
+/// of link type 231; or they have one fault, at one place and for one reason, and the capture gives
+/// the bytes of those packets before it. If the fault is the end of the bytes within a packet's
+/// block, or the length at its end, it also gives those bytes of the packet that are there.
+pub fn pcapng_outcome()
+    ensures { (x : ℕ) (xs : List ℕ) → AreBytes (x ∷ xs) → first_stage x ≡ stages.Section →
+        IsPcapngOutcome (x ∷ xs) (given (fresh false stages.Start) (x ∷ xs))
+        (ended (run (fresh false stages.Start) (x ∷ xs))).fault }
 {}
 
 /// While a capture gives the bytes of a packet of a pcap file, it reports its number, place, time

@@ -1,0 +1,5 @@
+use Rattle.dbus_capture.proofs.BlockOutcomes.{pcapng_outcome}
+use Rattle.dbus_capture.proofs.laws.pcapng_outcome.Goals as goal
+
+pub returns : goal.returns
+returns c = pcapng_outcome
