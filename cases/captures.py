@@ -90,12 +90,12 @@ class Reader:
             self.hand_on(captured, seconds * 10**9 + fraction * unit)
 
     def read_pcapng(self):
-        self.read_section(self.at, self.take(16))
+        self.read_section(self.at, self.take(24))
         while not self.is_done():
             at, head = self.at, self.take(8)
             kind, total = self.number(head, 0), self.number(head, 4)
             if kind == SECTION:
-                self.read_section(at, head + self.take(8))
+                self.read_section(at, head + self.take(16))
                 continue
             if total % 4 or total < LEAST.get(kind, 12):
                 raise Refused(at + 4, "BlockLength")
@@ -126,7 +126,7 @@ class Reader:
         total = self.number(head, 4)
         if total % 4 or total < 28:
             raise Refused(at + 4, "BlockLength")
-        self.take(total - 20)
+        self.take(total - 28)
         self.read_end(total)
 
     def read_interface(self, left):
