@@ -262,7 +262,8 @@ pub(crate) const FILTER_MORE: &str = more!(
   message that has that name itself. With --owner org.a.B=:1.7 it also matches
   what :1.7 sent: `busctl --user list` prints unique names, and GetNameOwner of
   the bus returns them. With --learn-owners the owners are also learned from the
-  signals NameOwnerChanged of the bus in the input, for the messages after each.",
+  signals of the bus in the input, for the messages after each: NameOwnerChanged,
+  NameAcquired and NameLost.",
     "
   dbus-wire filter \"type='signal',member='NameLost'\" < capture | dbus-wire show"
 );

@@ -17,7 +17,7 @@ use Rattle.dbus_match.specs.Matching.{Matches, Ownership}
 use Rattle.dbus_rule.specs.Rules.{sender_of, Pair}
 use Rattle.dbus_rule.specs.RuleViews.{rule_pairs}
 use Rattle.dbus_rule_set.specs.Owners.{OwnerSet, owners_in}
-use Rattle.dbus_calls.specs.OwnerChanges.{change_of, is_text}
+use Rattle.dbus_calls.specs.OwnerChanges.{Change, change_of, is_text, name_of}
 use Rattle.cli_options.specs.Selections.{AreSameCommand, AreSameSelection, OrInverted, SelectsBy, SomeMatches}
 use Rattle.cli_options.specs.declared.command.Command.{Command}
 use Rattle.cli_options.specs.declared.command.Command.TheVariants.{Show, Json, List as Listing, Check, Swap, Filter}
@@ -179,9 +179,9 @@ same_asks (r ∷ rules) (s ∷ others) name e =
     let rest = same_asks rules others name more in
     λ i. is_text (sender_of (one i)) name || rest i
 
-same_changed : (rules others : List (Rule Global)) (change : Option Ownership) (os : OwnerSet) → map rule_pairs rules ≡ map rule_pairs others → changed rules change os ≡ changed others change os
+same_changed : (rules others : List (Rule Global)) (change : Option Change) (os : OwnerSet) → map rule_pairs rules ≡ map rule_pairs others → changed rules change os ≡ changed others change os
 same_changed rules others None os e = refl
-same_changed rules others (Some o) os e = rw (same_asks rules others o.name e) refl
+same_changed rules others (Some change) os e = rw (same_asks rules others (name_of change) e) refl
 
 same_after : (a b : Selection) (os : OwnerSet) (m : MessageTree) → AreSameSelection a b → known_after a os m ≡ known_after b os m
 same_after a b os m h = rw (h.learns, same_changed a.rules.items b.rules.items (change_of m) os h.rules) refl

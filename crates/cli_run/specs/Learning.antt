@@ -1,6 +1,7 @@
 -- The owners of well-known names that a selection knows: its own, and those that the bus tells by
 -- its signals. D-Bus Specification, "Message Bus Messages"
--- ("org.freedesktop.DBus.NameOwnerChanged").
+-- ("org.freedesktop.DBus.NameOwnerChanged", "org.freedesktop.DBus.NameLost",
+-- "org.freedesktop.DBus.NameAcquired").
 use Rattle.std.specs.Prelude.{ℕ, List, Bool, if◌then◌else◌, Option, None, Some}
 use Rattle.std.specs.FinSet.{from_list}
 use Rattle.std.specs.List.{list_any}
@@ -9,19 +10,26 @@ use Rattle.dbus_message_model.specs.Messages.{MessageTree}
 use Rattle.dbus_rule.specs.declared.rule.Rule.{Rule}
 use Rattle.dbus_rule.specs.Rules.{sender_of}
 use Rattle.dbus_rule.specs.RuleViews.{rule_pairs}
-use Rattle.dbus_match.specs.Matching.{Ownership, ownerships}
-use Rattle.dbus_rule_set.specs.Owners.{OwnerSet, owned_anew}
-use Rattle.dbus_calls.specs.OwnerChanges.{change_of, is_text}
+use Rattle.dbus_match.specs.Matching.{ownerships}
+use Rattle.dbus_rule_set.specs.Owners.{OwnerSet, owned_anew, without_owner, without_owners}
+use Rattle.dbus_calls.specs.OwnerChanges.{Change, change_of, is_text, name_of}
+use Rattle.dbus_calls.specs.OwnerChanges.Change.{Owned, Free, Lost}
 use Rattle.cli_options.specs.declared.selection.Selection.{Selection}
 
 -- some rule asks for messages from this name
 abbrev pub ask_sender : List (Rule Global) → List ℕ → Bool
 ask_sender rules name = list_any (λ rule. is_text (sender_of (rule_pairs rule)) name) rules
 
+-- the owners after what is said of one
+abbrev pub owners_by : Change → OwnerSet → OwnerSet
+owners_by (Owned o) os = owned_anew o.name o.unique os
+owners_by (Free name) os = without_owners name os
+owners_by (Lost o) os = without_owner o.name o.unique os
+
 -- the owners after a change, if it is of such a name: a rule does not look at the owner of another
-abbrev pub changed : List (Rule Global) → Option Ownership → OwnerSet → OwnerSet
+abbrev pub changed : List (Rule Global) → Option Change → OwnerSet → OwnerSet
 changed rules None os = os
-changed rules (Some o) os = if ask_sender rules o.name then owned_anew o.name o.unique os else os
+changed rules (Some change) os = if ask_sender rules (name_of change) then owners_by change os else os
 
 -- the owners that a selection has known since it learned some, else its own
 abbrev pub known : Selection → Option OwnerSet → OwnerSet

@@ -4,17 +4,19 @@ ghost use Rattle.dbus_value_model.specs.declared.order.Order.{Order};
 ghost use Rattle.dbus_message_model.specs.Messages.{MessageTree};
 ghost use Rattle.dbus_view.specs.Views.{Views};
 ghost use Rattle.dbus_calls.specs.OwnerChanges.{is_text};
-ghost use Rattle.cli_run.specs.Learning.{ask_sender, known_after};
+ghost use Rattle.dbus_calls.specs.Changes.{change_seen};
+ghost use Rattle.cli_run.specs.Learning.{ask_sender, known_after, owners_by};
 
 use cli_options::Selection;
-use dbus_calls::owner_change;
+use dbus_calls::{OwnerChange, owner_change};
 use dbus_match::Rule;
 use dbus_rule_set::Owners;
 use dbus_view::MessageView;
 use std::alloc::AllocError;
 
-/// If the selection learns, learns the owner of a name that a rule's `sender` is from a signal
-/// `NameOwnerChanged` of the bus. D-Bus Specification, "Message Bus Messages".
+/// If the selection learns, learns who has a name that a rule's `sender` is from a signal
+/// `NameOwnerChanged`, `NameAcquired` or `NameLost` of the bus. D-Bus Specification, "Message Bus
+/// Messages".
 pub(crate) fn learn(
     selection: &Selection,
     view: &MessageView,
@@ -30,10 +32,27 @@ pub(crate) fn learn(
         return Ok(());
     };
     // So no more names are kept than the rules have.
-    if !ask_sender(&selection.rules, change.name) {
+    if !ask_sender(&selection.rules, change.name()) {
         return Ok(());
     }
-    owners.set(change.name, change.unique)
+    note(change, owners)
+}
+
+// Changes the owners by what is said of one.
+fn note(change: OwnerChange<'_>, owners: &mut Owners) -> Result<(), AllocError>
+    ensures { OnOk result (owners.new ≡ owners_by (change_seen change.entry) owners.old) }
+{
+    match change {
+        OwnerChange::Owned(owner) => owners.set(owner.name, owner.unique),
+        OwnerChange::Free(name) => {
+            owners.remove(name);
+            Ok(())
+        }
+        OwnerChange::Lost(owner) => {
+            owners.lose(owner.name, owner.unique);
+            Ok(())
+        }
+    }
 }
 
 // Whether one of the rules asks for messages from this name.

@@ -3,15 +3,14 @@ use Rattle.std.proofs.Common.{◌≡◌, ℕ, ◌<◌, nat_eq, List, [], ◌∷�
 use Rattle.std.specs.List.{AllByRecursion, Contains, IsDistinct}
 use Rattle.std.specs.List.Sorted.{IsStrictlySortedBy}
 use Rattle.std.specs.Ordering.{nat_cmp}
-use Rattle.std.specs.Str.{bytes_eq}
 use Rattle.std.proofs.lemmas.Cmp.{ranked}
 use Rattle.std.proofs.lemmas.List.Elements.{Contains-append_cases, Contains-append_left, Contains-append_right, Contains-push, Contains-push_cases}
 use Rattle.dbus_message_model.specs.Messages.{MessageTree}
 use Rattle.dbus_message_model.specs.declared.message_type.TheConstants as message
-use Rattle.dbus_match.specs.Matching.{Ownership}
 use Rattle.dbus_calls.specs.Events.{Event, caller_of, departed, replied_to, reply_serial_of, sender_of, wants_reply}
-use Rattle.dbus_calls.specs.Events.Event.{Calls, Replies, Leaves, Passes}
-use Rattle.dbus_calls.specs.OwnerChanges.{change_of}
+use Rattle.dbus_calls.specs.Events.Event.{Calls, Replies}
+use Rattle.dbus_calls.specs.OwnerChanges.{Change, change_of}
+use Rattle.dbus_calls.specs.OwnerChanges.Change.{Owned, Free, Lost}
 use Rattle.dbus_calls.specs.Pairing.{IsOpen, Waits, ends}
 use Rattle.dbus_call_lines.specs.Listing.{AreListed, AreRising, AreThose, IsEnded, ListsAfter, Numbered, OneLineEach, OneList, Row, calls_of, is_call, is_unwanted, message_of, own_row, row, same_number}
 use Rattle.dbus_call_lines.specs.Outcomes.{Outcome, outcome_by}
@@ -99,13 +98,11 @@ one_number (x ∷ xs) rising a b h k same = ⊎_elim
 -- ---- calls
 
 module _ (c : List ℕ) (s : ℕ) (w : Bool) where
-  left_or_passes : (b : Bool) (name : List ℕ) → (if b then Leaves name else Passes) ≡ Calls c s w → ⊥
-  left_or_passes true name is = cc
-  left_or_passes false name is = cc
-
-  pub none_departed : (change : Option Ownership) → departed change ≡ Calls c s w → ⊥
+  pub none_departed : (change : Option Change) → departed change ≡ Calls c s w → ⊥
   none_departed None is = cc
-  none_departed (Some change) is = left_or_passes (bytes_eq change.unique []) change.name is
+  none_departed (Some (Owned o)) is = cc
+  none_departed (Some (Free name)) is = cc
+  none_departed (Some (Lost o)) is = cc
 
   pub first_kind : (b d : Bool) (caller to : List ℕ) (serial to_serial : ℕ) (wants : Bool) (sender : Option (List ℕ)) (rest : Event) → (rest ≡ Calls c s w → ⊥)
       → (if b then Calls caller serial wants else if d then Replies to to_serial sender else rest) ≡ Calls c s w → (b ≡ true) × (wants ≡ w)

@@ -1,17 +1,16 @@
 -- The calls of a caller.
-use Rattle.std.proofs.Common.{◌≡◌, ℕ, nat_eq, List, [], Bool, true, false, Option, None, Some, ◌==◌, ◌||◌, ◌&&◌, if◌then◌else◌, refl, arith, ap, ◌∙◌}
+use Rattle.std.proofs.Common.{◌≡◌, ℕ, nat_eq, List, Bool, true, false, Option, None, Some, ◌==◌, ◌||◌, ◌&&◌, if◌then◌else◌, refl, arith, ap, ◌∙◌}
 use Rattle.std.specs.BTreeMap.{BTreeMap, btree_map_len, is_at}
 use Rattle.std.specs.Map.{lookup}
 use Rattle.std.proofs.lemmas.List.{nil_from_length}
 use Rattle.std.specs.Ordering.{nat_cmp}
-use Rattle.std.specs.Str.{bytes_eq}
 use Rattle.dbus_message_model.specs.Messages.{MessageTree}
 use Rattle.dbus_message_model.specs.declared.message_type.TheConstants as message
-use Rattle.dbus_match.specs.Matching.{Ownership}
 use Rattle.dbus_calls.specs.Kept.{call_in, call_at}
-use Rattle.dbus_calls.specs.OwnerChanges.{change_of}
+use Rattle.dbus_calls.specs.OwnerChanges.{Change, change_of}
+use Rattle.dbus_calls.specs.OwnerChanges.Change.{Owned, Free, Lost}
 use Rattle.dbus_calls.specs.Events.{Event, event_of, departed, caller_of, replied_to, reply_serial_of, wants_reply, sender_of}
-use Rattle.dbus_calls.specs.Events.Event.{Calls, Replies, Leaves, Passes}
+use Rattle.dbus_calls.specs.Events.Event.{Calls, Replies}
 
 none_of : {T : Type 0} (x : Option (BTreeMap ℕ T)) (serial s : ℕ) → x ≡ None → call_in x s ≡ (if nat_eq serial s then None else call_in x s)
 none_of x serial s none = grind arith
@@ -27,13 +26,11 @@ idle_has_none calls s none = ap (λ es. lookup (is_at (nat_cmp s)) es) (nil_from
 
 -- Of what a call is seen as, the caller and the serial are its own.
 module _ (c : List ℕ) (s : ℕ) (w : Bool) where
-  left_or_passes : (b : Bool) (name : List ℕ) → (if b then Leaves name else Passes) ≡ Calls c s w → ⊥
-  left_or_passes true name is = cc
-  left_or_passes false name is = cc
-
-  none_departed : (change : Option Ownership) → departed change ≡ Calls c s w → ⊥
+  none_departed : (change : Option Change) → departed change ≡ Calls c s w → ⊥
   none_departed None is = cc
-  none_departed (Some change) is = left_or_passes (bytes_eq change.unique []) change.name is
+  none_departed (Some (Owned o)) is = cc
+  none_departed (Some (Free name)) is = cc
+  none_departed (Some (Lost o)) is = cc
 
   first_kind : (b d : Bool) (caller to : List ℕ) (serial to_serial : ℕ) (wants : Bool) (sender : Option (List ℕ)) (rest : Event) → (rest ≡ Calls c s w → ⊥)
       → (if b then Calls caller serial wants else if d then Replies to to_serial sender else rest) ≡ Calls c s w → (c ≡ caller) × (s ≡ serial)

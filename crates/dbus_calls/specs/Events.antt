@@ -2,7 +2,6 @@
 -- "Message Format" (serials, NO_REPLY_EXPECTED), "Header Fields" (REPLY_SERIAL, DESTINATION,
 -- SENDER) and "Message Bus Messages" ("org.freedesktop.DBus.NameOwnerChanged").
 use Rattle.std.specs.Prelude.{ℕ, List, [], Bool, ◌||◌, ◌==◌, bit_and, Option, None, Some, option_map, unwrap_or, if◌then◌else◌}
-use Rattle.std.specs.Str.{bytes_eq}
 use Rattle.dbus_texts.specs.Types.{UINT32}
 use Rattle.dbus_value_model.specs.Values.{ValueTree, NumberValue}
 use Rattle.dbus_message_model.specs.Messages.{MessageTree}
@@ -10,8 +9,9 @@ use Rattle.dbus_message_model.specs.KnownFields.{field_value}
 use Rattle.dbus_message_model.specs.declared.field_code.TheConstants as field
 use Rattle.dbus_message_model.specs.declared.flag.TheConstants as flag
 use Rattle.dbus_message_model.specs.declared.message_type.TheConstants as message
-use Rattle.dbus_match.specs.Matching.{Ownership, text_of}
-use Rattle.dbus_calls.specs.OwnerChanges.{change_of}
+use Rattle.dbus_match.specs.Matching.{text_of}
+use Rattle.dbus_calls.specs.OwnerChanges.{Change, change_of}
+use Rattle.dbus_calls.specs.OwnerChanges.Change.{Free}
 use Rattle.dbus_calls.specs.declared.event.Event.{Event as EventSeen}
 use Rattle.dbus_calls.specs.declared.event.Event.TheVariants as seen
 
@@ -56,9 +56,9 @@ abbrev pub wants_reply : MessageTree → Bool
 wants_reply call = bit_and call.flags flag.NO_REPLY_EXPECTED == 0
 
 -- a name that has no owner any more
-abbrev pub departed : Option Ownership → Event
-departed None = Passes
-departed (Some change) = if bytes_eq change.unique [] then Leaves change.name else Passes
+abbrev pub departed : Option Change → Event
+departed (Some (Free name)) = Leaves name
+departed change = Passes
 
 abbrev pub event_of : MessageTree → Event
 event_of m =

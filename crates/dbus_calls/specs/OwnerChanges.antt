@@ -1,6 +1,7 @@
 -- What the bus says of the owners of names. D-Bus Specification, "Message Bus Messages"
--- ("org.freedesktop.DBus.NameOwnerChanged").
-use Rattle.std.specs.Prelude.{ℕ, List, Bool, false, ◌&&◌, ◌==◌, Option, None, Some, if◌then◌else◌, codes}
+-- ("org.freedesktop.DBus.NameOwnerChanged", "org.freedesktop.DBus.NameLost",
+-- "org.freedesktop.DBus.NameAcquired").
+use Rattle.std.specs.Prelude.{ℕ, List, [], Bool, false, ◌&&◌, ◌==◌, Option, None, Some, option_map, if◌then◌else◌, codes}
 use Rattle.std.specs.Str.{bytes_eq}
 use Rattle.dbus_value_model.specs.Values.{ValueTree}
 use Rattle.dbus_message_model.specs.Messages.{MessageTree}
@@ -10,6 +11,21 @@ use Rattle.dbus_message_model.specs.declared.message_type.TheConstants as messag
 use Rattle.dbus_match.specs.Matching.{Ownership, string_of, text_of}
 use Rattle.dbus_calls.specs.Answering.{bus}
 
+-- what is said of the owner of a name
+pub data Change : Type 0 where
+  -- it has this owner from now on
+  Owned : Ownership → Change
+  -- nobody has it any more
+  Free : (name : List ℕ) → Change
+  -- this owner has it no longer
+  Lost : Ownership → Change
+
+-- the name that a change is of
+abbrev pub name_of : Change → List ℕ
+name_of (Owned o) = o.name
+name_of (Free name) = name
+name_of (Lost o) = o.name
+
 -- the text is there, and it is this
 abbrev pub is_text : Option (List ℕ) → List ℕ → Bool
 is_text None v = false
@@ -18,16 +34,36 @@ is_text (Some w) v = bytes_eq w v
 abbrev pub has_text : ℕ → MessageTree → List ℕ → Bool
 has_text code m v = is_text (text_of (field_value code m.fields)) v
 
--- the signal by which the bus says that a name has another owner
-abbrev pub is_change : MessageTree → Bool
-is_change m = (m.kind == message.SIGNAL) && (has_text field.SENDER m bus && (has_text field.INTERFACE m bus && has_text field.MEMBER m (codes "NameOwnerChanged")))
+-- a signal of the bus with this member
+abbrev pub is_of_bus : (member : List ℕ) → MessageTree → Bool
+is_of_bus member m = (m.kind == message.SIGNAL) && (has_text field.SENDER m bus && (has_text field.INTERFACE m bus && has_text field.MEMBER m member))
 
--- of three STRINGs the first is the name, the second its old owner and the third its new one, which
--- is empty if it has none
-abbrev pub change_said : (name old new : Option (List ℕ)) (more : Option ValueTree) → Option Ownership
-change_said (Some name) (Some old) (Some new) None = Some (record { name = name; unique = new })
+-- a name has this owner, or nobody has it if that is empty
+abbrev pub owned_or_free : (name unique : List ℕ) → Change
+owned_or_free name unique = if bytes_eq unique [] then Free name else Owned (record { name = name; unique = unique })
+
+-- of three STRINGs the first is the name, the second its old owner and the third its new one
+abbrev pub change_said : (name old new : Option (List ℕ)) (more : Option ValueTree) → Option Change
+change_said (Some name) (Some old) (Some new) None = Some (owned_or_free name new)
 change_said a b c d = None
 
--- the name whose owner a message changes, and its new owner
-abbrev pub change_of : MessageTree → Option Ownership
-change_of m = if is_change m then change_said (string_of (body_value 0 m.body)) (string_of (body_value 1 m.body)) (string_of (body_value 2 m.body)) (body_value 3 m.body) else None
+-- what a signal NameOwnerChanged says
+abbrev pub changed_by : MessageTree → Option Change
+changed_by m = change_said (string_of (body_value 0 m.body)) (string_of (body_value 1 m.body)) (string_of (body_value 2 m.body)) (body_value 3 m.body)
+
+-- of one STRING it is the name, and the signal is to the connection that it is about
+abbrev pub named_to : (name to : Option (List ℕ)) (more : Option ValueTree) → Option Ownership
+named_to (Some name) (Some to) None = Some (record { name = name; unique = to })
+named_to a b c = None
+
+-- the name in a signal NameAcquired or NameLost, and the connection that it is to
+abbrev pub name_told : MessageTree → Option Ownership
+name_told m = named_to (string_of (body_value 0 m.body)) (text_of (field_value field.DESTINATION m.fields)) (body_value 1 m.body)
+
+-- what a message says of the owner of a name
+abbrev pub change_of : MessageTree → Option Change
+change_of m =
+    if is_of_bus (codes "NameOwnerChanged") m then changed_by m
+    else if is_of_bus (codes "NameAcquired") m then option_map Owned (name_told m)
+    else if is_of_bus (codes "NameLost") m then option_map Lost (name_told m)
+    else None

@@ -4,8 +4,8 @@
 ghost use Rattle.std.specs.Prelude.{◌≡◌, option_map};
 ghost use Rattle.dbus_calls.specs.Answering.{is_ownable, is_unique, may_answer};
 
-/// The name of the bus itself, and of its interface.
-pub(crate) const BUS: &str = "org.freedesktop.DBus";
+/// The name of the bus itself, and of its interface. D-Bus Specification, "Message Bus Messages".
+pub const BUS: &str = "org.freedesktop.DBus";
 
 /// Whether a message of this sender may answer a call to this destination, as far as their names
 /// say. The bus may answer each call, and the destination its own. If the destination is a
@@ -28,12 +28,14 @@ pub fn may_answer(destination: Option<&str>, sender: Option<&str>) -> bool
 pub fn is_ownable(name: &str) -> bool
     ensures { result ≡ is_ownable name.now }
 {
-    !is_unique(name.as_bytes()) && name != BUS
+    !is_unique(name) && name != BUS
 }
 
-// Whether a bus name is unique.
-fn is_unique(name: &[u8]) -> bool
+/// Whether a bus name is unique: the bus gave it to one connection. D-Bus Specification, "Message
+/// Bus Names".
+pub fn is_unique(name: &str) -> bool
     ensures { result ≡ is_unique name.now }
 {
-    matches!(name, [b':', ..])
+    let bytes = name.as_bytes();
+    matches!(bytes, [b':', ..])
 }

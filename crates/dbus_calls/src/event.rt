@@ -1,12 +1,11 @@
 //! What a message is to the calls that wait for a reply.
 #![tactic(auto)]
 
-ghost use Rattle.std.specs.Prelude.{◌≡◌, Some, option_map};
+ghost use Rattle.std.specs.Prelude.{◌≡◌, option_map};
 ghost use Rattle.dbus_value_model.specs.declared.order.Order.{Order};
 ghost use Rattle.dbus_message_model.specs.Messages.{MessageTree};
 ghost use Rattle.dbus_view.specs.Views.{Views};
-ghost use Rattle.dbus_calls.specs.Events.{caller_of, departed, event_of, event_seen, replied_to, reply_serial_of, sender_of, wants_reply};
-ghost use Rattle.dbus_calls.specs.Changes.{change_seen};
+ghost use Rattle.dbus_calls.specs.Events.{caller_of, event_of, event_seen, replied_to, reply_serial_of, sender_of, wants_reply};
 
 use crate::changes::{OwnerChange, owner_change};
 use dbus_message_model::flag::NO_REPLY_EXPECTED;
@@ -69,8 +68,8 @@ pub fn event_of<'a>(view: &MessageView<'a>) -> Event<'a>
         METHOD_CALL => Event::Call(call_seen(view)),
         METHOD_RETURN | ERROR => Event::Reply(reply_seen(view)),
         _ => match owner_change(view) {
-            Some(change) => departed(change),
-            None => Event::Other,
+            Some(OwnerChange::Free(name)) => Event::Departure(name),
+            _ => Event::Other,
         },
     }
 }
@@ -100,16 +99,5 @@ fn reply_seen<'a>(view: &MessageView<'a>) -> ReplySeen<'a>
         caller: view.destination().unwrap_or(""),
         serial: view.reply_serial().unwrap_or(0),
         sender: view.sender(),
-    }
-}
-
-// What it is that a name has another owner.
-fn departed<'a>(change: OwnerChange<'a>) -> Event<'a>
-    ensures { event_seen result ≡ departed (Some (change_seen change.entry)) }
-{
-    if change.unique.is_empty() {
-        Event::Departure(change.name)
-    } else {
-        Event::Other
     }
 }

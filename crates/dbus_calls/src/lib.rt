@@ -13,8 +13,8 @@ pub mod laws;
 mod open_calls;
 mod sent;
 
-pub use answering::{is_ownable, may_answer};
-pub use changes::{OwnerChange, owner_change};
+pub use answering::{BUS, is_ownable, is_unique, may_answer};
+pub use changes::{NameOwner, OwnerChange, owner_change};
 pub use event::{CallSeen, Event, ReplySeen, event_of};
 pub use open_calls::OpenCalls;
 pub use sent::Sent;

@@ -6,7 +6,7 @@ use Rattle.std.specs.BTreeSet.{BTreeSet, contains_text}
 use Rattle.std.specs.Cmp.{IsTotalOrder, tied_then}
 use Rattle.std.specs.Cmp.Lexicographic.{slice_cmp}
 use Rattle.std.specs.FinMap.{IsAntisymmetric}
-use Rattle.std.specs.FinSet.{contains, contains-items, contains-from_list, contains-insert, contains-retain, from_list, from_list_push, insert, same_set}
+use Rattle.std.specs.FinSet.{contains, contains-items, contains-from_list, contains-insert, contains-remove, contains-retain, from_list, from_list_push, insert, same_set}
 use Rattle.std.specs.List.{AllByRecursion, flat_map, list_any}
 use Rattle.std.specs.List.Sorted.{IsStrictlySortedBy}
 use Rattle.std.specs.Map.{keys_of, lookup}
@@ -24,7 +24,7 @@ use Rattle.std.proofs.lemmas.Slice.Eq.{bytes_eq-Decides}
 use Rattle.dbus_match.specs.Matching.{IsOwned, Ownership}
 use Rattle.dbus_rule_set.proofs.GroupedTexts.{flip}
 use Rattle.dbus_rule_set.specs.Groups.{Groups, has, owned, owners_by}
-use Rattle.dbus_rule_set.specs.Owners.{OwnerSet, owned_anew, owner_cmp, owners_in, without_owners}
+use Rattle.dbus_rule_set.specs.Owners.{OwnerSet, owned_anew, owner_cmp, owners_in, without_owner, without_owners}
 
 -- ---- the order
 
@@ -108,6 +108,10 @@ same_owners groups ordered s is = same_set owner_total owner_same (owners_by gro
 pub contains_more : (s : OwnerSet) (name unique n u : List ℕ) → contains (insert s (pair name unique)) (pair n u) ≡ (bytes_eq name n && bytes_eq unique u || contains s (pair n u))
 contains_more s name unique n u =
     contains-insert owner_total s (pair name unique) (pair n u) ∙ (λ i. (tied (pair n u) (pair name unique) ∙ (λ j. flip n name j && flip u unique j)) i || contains s (pair n u))
+
+pub contains_lost : (s : OwnerSet) (name unique n u : List ℕ) → contains (without_owner name unique s) (pair n u) ≡ (not (bytes_eq name n && bytes_eq unique u) && contains s (pair n u))
+contains_lost s name unique n u =
+    contains-remove owner_total s (pair name unique) (pair n u) ∙ (λ i. not ((tied (pair n u) (pair name unique) ∙ (λ j. flip n name j && flip u unique j)) i) && contains s (pair n u))
 
 pub contains_less : (s : OwnerSet) (name n u : List ℕ) → contains (without_owners name s) (pair n u) ≡ (contains s (pair n u) && not (bytes_eq name n))
 contains_less s name n u = contains-retain s (λ o. not (bytes_eq name o.name)) (pair n u) (λ x e. ap (λ o. not (bytes_eq name o.name)) (sym (owner_same (pair n u) x e)))

@@ -29,6 +29,10 @@ ownership_code =
 abbrev pub without_owners : List ℕ → OwnerSet → OwnerSet
 without_owners name s = set.retain s (λ o. not (bytes_eq name o.name))
 
+-- the name has this owner no longer
+abbrev pub without_owner : (name unique : List ℕ) → OwnerSet → OwnerSet
+without_owner name unique s = set.remove s (record { name = name; unique = unique })
+
 -- the name has this owner alone, or none if that is empty; other names keep theirs
 abbrev pub owned_anew : (name unique : List ℕ) → OwnerSet → OwnerSet
 owned_anew name unique s = if bytes_eq unique [] then without_owners name s else set.insert (without_owners name s) (record { name = name; unique = unique })

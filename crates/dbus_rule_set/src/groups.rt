@@ -53,8 +53,9 @@ pub(crate) fn forget(group: &mut BTreeSet<String>, text: &str) -> bool
 
 /// The first text has the second no more.
 pub(crate) fn leave(groups: &mut Groups, first: &str, second: &str)
-    ensures { (n u : List ℕ) → has groups.new n u ≡
+    ensures left { (n u : List ℕ) → has groups.new n u ≡
         (not (bytes_eq first.now n && bytes_eq second.now u) && has groups.old n u) }
+    ensures ordered { IsOrdered string_cmp groups.new }
 {
     let Some(group) = groups.get_mut(first) else {
         return;

@@ -55,7 +55,7 @@ impl Owners {
     ghost use Rattle.std.specs.FinSet.{contains, empty, insert};
     ghost use Rattle.std.specs.Option.{option_map_or};
     ghost use Rattle.dbus_match.specs.Matching.{IsOwned};
-    ghost use Rattle.dbus_rule_set.specs.Owners.{owned_anew, owners_in, without_owners};
+    ghost use Rattle.dbus_rule_set.specs.Owners.{owned_anew, owners_in, without_owner, without_owners};
 
     /// No name has an owner. It allocates nothing.
     pub fn new(alloc: Global) -> Owners
@@ -124,6 +124,15 @@ impl Owners {
         if let Some(owners) = self.by_name.remove(name) {
             leave_each(&mut self.by_unique, &owners, name);
         }
+    }
+
+    /// Takes this owner of the name away, if it has it. Its other owners stay, and other names keep
+    /// theirs. It allocates nothing.
+    pub fn lose(&mut self, name: &str, unique: &str)
+        ensures { self.new ≡ without_owner name.now unique.now self.old }
+    {
+        leave(&mut self.by_name, name, unique);
+        leave(&mut self.by_unique, unique, name);
     }
 
     /// The names that the unique name owns, in the order of their bytes; `None` if it owns none.
