@@ -72,7 +72,11 @@ _dbus_wire() {
             COMPREPLY=($(compgen -W "--no-time --skip --limit --keep-going $options" -- "$word"))
             ;;
         list)
-            COMPREPLY=($(compgen -W "--width --skip --limit --keep-going $options" -- "$word"))
+            if [[ $word == -* ]]; then
+                COMPREPLY=($(compgen -W "--width --invert --owner --learn-owners --skip --limit --keep-going $options" -- "$word"))
+            else
+                _dbus_wire_rule
+            fi
             ;;
         check)
             COMPREPLY=($(compgen -W "--keep-going $options" -- "$word"))

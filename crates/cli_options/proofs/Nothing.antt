@@ -1,11 +1,9 @@
 -- Subcommands and words after them that name nothing.
-use Rattle.std.proofs.Common.{◌≡◌, ℕ, List, Some, None, sym, ap, ◌∙◌, codes, slice_index, arith}
-use Rattle.std.specs.List.{AllByRecursion}
-use Rattle.clap.specs.Words.{Row, Text, all_of, first_of}
+use Rattle.std.proofs.Common.{◌≡◌, ℕ, List, Some, inl, inr, refl, sym, ap, ◌∙◌, codes, slice_index, arith}
+use Rattle.clap.specs.Words.{Row, Text, first_of}
 use Rattle.dbus_value_model.specs.declared.order.Order.{Order}
-use Rattle.dbus_match.specs.Matching.{Ownership, ownership}
-use Rattle.cli_options.specs.Named.{HasSettings, HasWanted, Names, NamesCommand, IsSelectionGiven, order_word, side_word, words_of}
-use Rattle.cli_options.specs.Owners.{IsOwnerWord}
+use Rattle.dbus_match.specs.Matching.{ownership}
+use Rattle.cli_options.specs.Named.{GiveOwners, HasSettings, HasWanted, Names, NamesCommand, IsSelectionGiven, TakesRules, order_word, side_word, words_of}
 use Rattle.cli_options.proofs.Numbers.{each_can}
 use Rattle.cli_options.specs.Limiting.{HasWidth}
 use Rattle.cli_options.specs.Told.{IsNoCommand, NamesNothing}
@@ -17,6 +15,11 @@ use Rattle.cli_options.specs.declared.command.Command.TheVariants.{Show, Json, L
 use Rattle.cli_options.specs.declared.selection.Selection.{Selection}
 use Rattle.cli_options.specs.declared.settings.Settings.{Settings}
 use Rattle.cli_options.specs.declared.wanted_calls.WantedCalls.{WantedCalls}
+
+-- a name that does not begin with `f` or `l` is none of a command that takes rules
+takes_none : (name : Text) (rows : List Row) (first : ℕ) → slice_index name 0 ≡ first → (first ≡ 102 → ⊥) → (first ≡ 108 → ⊥) → TakesRules name rows → ⊥
+takes_none name rows first is f l (inl named) = f (sym is ∙ ap (λ t. slice_index t 0) named)
+takes_none name rows first is f l (inr named) = l (sym is ∙ ap (λ t. slice_index t 0) named.0)
 
 -- a name other than `handshake`
 module _ (sub : Text × List Row) (other : sub.0 ≡ codes "handshake" → ⊥) where
@@ -47,7 +50,7 @@ module _ (rows : List Row) (no_side : (side : Side) → first_of (codes "side") 
   no_messages : (command : Command) → NamesCommand (codes "handshake") rows command → ⊥
   no_messages (Show times) named = let bad : ◌≡◌ {A = ℕ} 104 115 = ap (λ t. slice_index t 0) named.0 in absurd (omega arith)
   no_messages (Json times) named = let bad : ◌≡◌ {A = ℕ} 104 106 = ap (λ t. slice_index t 0) named.0 in absurd (omega arith)
-  no_messages (Listing width) named = let bad : ◌≡◌ {A = ℕ} 104 108 = ap (λ t. slice_index t 0) named.0 in absurd (omega arith)
+  no_messages (Listing selection width) named = let bad : ◌≡◌ {A = ℕ} 104 108 = ap (λ t. slice_index t 0) named.0 in absurd (omega arith)
   no_messages Check named = let bad : ◌≡◌ {A = ℕ} 104 99 = ap (λ t. slice_index t 0) named in absurd (omega arith)
   no_messages (Swap order form) named = let bad : ◌≡◌ {A = ℕ} 104 115 = ap (λ t. slice_index t 0) named.0 in absurd (omega arith)
   no_messages (Filter selection form) named = let bad : ◌≡◌ {A = ℕ} 104 102 = ap (λ t. slice_index t 0) named.0 in absurd (omega arith)
@@ -61,7 +64,7 @@ module _ (rows : List Row) (no_side : (side : Side) → first_of (codes "side") 
   pub unsided_names_nothing : NamesNothing (Some (codes "handshake", rows))
   unsided_names_nothing = record {
     none_asked = unsided;
-    no_rule = λ refused found. let bad : ◌≡◌ {A = ℕ} 104 102 = ap (λ t. slice_index t 0) found.0.named in absurd (omega arith);
+    no_rule = λ refused found. takes_none (codes "handshake") rows 104 refl (λ e. omega (arith, e)) (λ e. omega (arith, e)) found.0.named;
   }
 
 -- `calls` with what it is not to list
@@ -69,7 +72,7 @@ module _ (rows : List Row) (no_wanted : (wanted : WantedCalls) → HasWanted row
   no_calls : (command : Command) → NamesCommand (codes "calls") rows command → ⊥
   no_calls (Show times) named = let bad : ◌≡◌ {A = ℕ} 99 115 = ap (λ t. slice_index t 0) named.0 in absurd (omega arith)
   no_calls (Json times) named = let bad : ◌≡◌ {A = ℕ} 99 106 = ap (λ t. slice_index t 0) named.0 in absurd (omega arith)
-  no_calls (Listing width) named = let bad : ◌≡◌ {A = ℕ} 99 108 = ap (λ t. slice_index t 0) named.0 in absurd (omega arith)
+  no_calls (Listing selection width) named = let bad : ◌≡◌ {A = ℕ} 99 108 = ap (λ t. slice_index t 0) named.0 in absurd (omega arith)
   no_calls Check named = let bad : ◌≡◌ {A = ℕ} 97 104 = ap (λ t. slice_index t 1) named in absurd (omega arith)
   no_calls (Swap order form) named = let bad : ◌≡◌ {A = ℕ} 99 115 = ap (λ t. slice_index t 0) named.0 in absurd (omega arith)
   no_calls (Filter selection form) named = let bad : ◌≡◌ {A = ℕ} 99 102 = ap (λ t. slice_index t 0) named.0 in absurd (omega arith)
@@ -83,14 +86,14 @@ module _ (rows : List Row) (no_wanted : (wanted : WantedCalls) → HasWanted row
   pub unlisted_names_nothing : NamesNothing (Some (codes "calls", rows))
   unlisted_names_nothing = record {
     none_asked = unlisted;
-    no_rule = λ refused found. let bad : ◌≡◌ {A = ℕ} 99 102 = ap (λ t. slice_index t 0) found.0.named in absurd (omega arith);
+    no_rule = λ refused found. takes_none (codes "calls") rows 99 refl (λ e. omega (arith, e)) (λ e. omega (arith, e)) found.0.named;
   }
 
 module _ (rows : List Row) (no_order : (order : Order) → first_of (codes "to") rows ≡ Some (order_word order) → ⊥) where
   unordered_command : (command : Command) → NamesCommand (codes "swap") rows command → ⊥
   unordered_command (Show times) named = let bad : ◌≡◌ {A = ℕ} 119 104 = ap (λ t. slice_index t 1) named.0 in absurd (omega arith)
   unordered_command (Json times) named = let bad : ◌≡◌ {A = ℕ} 115 106 = ap (λ t. slice_index t 0) named.0 in absurd (omega arith)
-  unordered_command (Listing width) named = let bad : ◌≡◌ {A = ℕ} 115 108 = ap (λ t. slice_index t 0) named.0 in absurd (omega arith)
+  unordered_command (Listing selection width) named = let bad : ◌≡◌ {A = ℕ} 115 108 = ap (λ t. slice_index t 0) named.0 in absurd (omega arith)
   unordered_command Check named = let bad : ◌≡◌ {A = ℕ} 115 99 = ap (λ t. slice_index t 0) named in absurd (omega arith)
   unordered_command (Swap order form) named = no_order order named.1
   unordered_command (Filter selection form) named = let bad : ◌≡◌ {A = ℕ} 115 102 = ap (λ t. slice_index t 0) named.0 in absurd (omega arith)
@@ -99,49 +102,41 @@ module _ (rows : List Row) (no_order : (order : Order) → first_of (codes "to")
   pub unordered_is_no_command : IsNoCommand (codes "swap") rows
   unordered_is_no_command = record {
     no_command = unordered_command;
-    no_fault = λ refused found. let bad : ◌≡◌ {A = ℕ} 115 102 = ap (λ t. slice_index t 0) found.named in absurd (omega arith);
+    no_fault = λ refused found. takes_none (codes "swap") rows 115 refl (λ e. omega (arith, e)) (λ e. omega (arith, e)) found.named;
   }
 
 module _ (rows : List Row) (no_width : (width : ℕ) → HasWidth rows width → ⊥) where
   unwide_command : (command : Command) → NamesCommand (codes "list") rows command → ⊥
   unwide_command (Show times) named = let bad : ◌≡◌ {A = ℕ} 108 115 = ap (λ t. slice_index t 0) named.0 in absurd (omega arith)
   unwide_command (Json times) named = let bad : ◌≡◌ {A = ℕ} 108 106 = ap (λ t. slice_index t 0) named.0 in absurd (omega arith)
-  unwide_command (Listing width) named = no_width width named.1
+  unwide_command (Listing selection width) named = no_width width named.2
   unwide_command Check named = let bad : ◌≡◌ {A = ℕ} 108 99 = ap (λ t. slice_index t 0) named in absurd (omega arith)
   unwide_command (Swap order form) named = let bad : ◌≡◌ {A = ℕ} 108 115 = ap (λ t. slice_index t 0) named.0 in absurd (omega arith)
   unwide_command (Filter selection form) named = let bad : ◌≡◌ {A = ℕ} 108 102 = ap (λ t. slice_index t 0) named.0 in absurd (omega arith)
 
+  takes_no_rules : TakesRules (codes "list") rows → ⊥
+  takes_no_rules (inl named) = let bad : ◌≡◌ {A = ℕ} 108 102 = ap (λ t. slice_index t 0) named in absurd (omega arith)
+  takes_no_rules (inr named) = no_width named.1 named.2
+
   -- `list` with no width
   pub unwide_is_no_command : IsNoCommand (codes "list") rows
-  unwide_is_no_command = record {
-    no_command = unwide_command;
-    no_fault = λ refused found. let bad : ◌≡◌ {A = ℕ} 108 102 = ap (λ t. slice_index t 0) found.named in absurd (omega arith);
-  }
+  unwide_is_no_command = record { no_command = unwide_command; no_fault = λ refused found. takes_no_rules found.named }
 
--- `filter`, of whose words there are no selection and no fault
-module _ (rows : List Row) (no_selection : (selection : Selection) → IsSelectionGiven rows selection → ⊥) where
-  unselected_command : (command : Command) → NamesCommand (codes "filter") rows command → ⊥
-  unselected_command (Show times) named = let bad : ◌≡◌ {A = ℕ} 102 115 = ap (λ t. slice_index t 0) named.0 in absurd (omega arith)
-  unselected_command (Json times) named = let bad : ◌≡◌ {A = ℕ} 102 106 = ap (λ t. slice_index t 0) named.0 in absurd (omega arith)
-  unselected_command (Listing width) named = let bad : ◌≡◌ {A = ℕ} 102 108 = ap (λ t. slice_index t 0) named.0 in absurd (omega arith)
-  unselected_command Check named = let bad : ◌≡◌ {A = ℕ} 102 99 = ap (λ t. slice_index t 0) named in absurd (omega arith)
-  unselected_command (Swap order form) named = let bad : ◌≡◌ {A = ℕ} 102 115 = ap (λ t. slice_index t 0) named.0 in absurd (omega arith)
-  unselected_command (Filter selection form) named = no_selection selection named.1
+-- a command that takes rules, of whose words one gives no owner
+module _ (name : Text) (rows : List Row) (takes : TakesRules name rows) (no_owners : GiveOwners rows → ⊥) where
+  unselected : (selection : Selection) → IsSelectionGiven rows selection → ⊥
+  unselected selection given = no_owners (each_can _ _ (λ word owner is. (ownership owner, is)) (words_of (codes "owner") rows) selection.owners.items given.owners)
 
-none_given : (rows : List Row) (texts : List Text) → all_of (codes "rule") rows ≡ None → all_of (codes "rule") rows ≡ Some texts → ⊥
-none_given rows texts no_text given = let bad : None ≡ Some texts = sym no_text ∙ given in cc
+  other : (first : ℕ) → slice_index name 0 ≡ first → (first ≡ 102 → ⊥) → (first ≡ 108 → ⊥) → ⊥
+  other first is f l = takes_none name rows first is f l takes
 
--- with no text
-pub bare_is_no_command : (rows : List Row) → all_of (codes "rule") rows ≡ None → IsNoCommand (codes "filter") rows
-bare_is_no_command rows no_text = record {
-  no_command = unselected_command rows (λ selection given. none_given rows given.texts no_text given.given);
-  no_fault = λ refused found. none_given rows found.texts no_text found.given;
-}
+  unselected_command : (command : Command) → NamesCommand name rows command → ⊥
+  unselected_command (Show times) named = other 115 (ap (λ t. slice_index t 0) named.0) (λ e. omega (arith, e)) (λ e. omega (arith, e))
+  unselected_command (Json times) named = other 106 (ap (λ t. slice_index t 0) named.0) (λ e. omega (arith, e)) (λ e. omega (arith, e))
+  unselected_command (Listing selection width) named = unselected selection named.1
+  unselected_command Check named = other 99 (ap (λ t. slice_index t 0) named) (λ e. omega (arith, e)) (λ e. omega (arith, e))
+  unselected_command (Swap order form) named = other 115 (ap (λ t. slice_index t 0) named.0) (λ e. omega (arith, e)) (λ e. omega (arith, e))
+  unselected_command (Filter selection form) named = unselected selection named.1
 
--- with a word that gives no owner
-pub unowned_is_no_command : (rows : List Row) → (AllByRecursion (λ word. (o : Ownership) × IsOwnerWord word o) (words_of (codes "owner") rows) → ⊥) → IsNoCommand (codes "filter") rows
-unowned_is_no_command rows no_owners = record {
-  no_command = unselected_command rows (λ selection given. no_owners
-      (each_can _ _ (λ word owner is. (ownership owner, is)) (words_of (codes "owner") rows) selection.owners.items given.owners));
-  no_fault = λ refused found. no_owners found.owners;
-}
+  pub unowned_is_no_command : IsNoCommand name rows
+  unowned_is_no_command = record { no_command = unselected_command; no_fault = λ refused found. no_owners found.refuses.owners }

@@ -1,6 +1,6 @@
 -- Selections: of each message it is decided whether it is selected, and they are equal exactly if
 -- they say the same.
-use Rattle.std.proofs.Common.{◌≡◌, Bool, true, false, List, [], ◌∷◌, map, inl, inr, refl, sym, arith}
+use Rattle.std.proofs.Common.{◌≡◌, ℕ, nat_eq, Bool, true, false, List, [], ◌∷◌, map, inl, inr, refl, sym, arith}
 use Rattle.std.specs.Bool.{Decides}
 use Rattle.std.specs.List.{AllZip}
 use Rattle.std.specs.declared.alloc.Global.{Global}
@@ -79,15 +79,23 @@ selections_equal a b =
 forms_equal : (a b : FileForm) → Decides (form_eq.ghosts.eq a b) (a ≡ b)
 forms_equal a b = grind (arith, common_steps)
 
+widths_equal : (a b : ℕ) → Decides (nat_eq a b) (a ≡ b)
+widths_equal a b = grind (arith, common_steps)
+
 pub commands_equal : (a b : Command) → Decides (command_eq.ghosts.eq a b) (AreSameCommand a b)
 commands_equal (Show a) b = grind (arith, common_steps)
 commands_equal (Json a) b = grind (arith, common_steps)
-commands_equal (Listing a) b = grind (arith, common_steps)
+commands_equal (Listing r a) (Show b) = grind (arith, common_steps)
+commands_equal (Listing r a) (Json b) = grind (arith, common_steps)
+commands_equal (Listing r a) (Listing s b) = Decides-and _ _ (selections_equal r s) (widths_equal a b)
+commands_equal (Listing r a) Check = grind (arith, common_steps)
+commands_equal (Listing r a) (Swap b g) = grind (arith, common_steps)
+commands_equal (Listing r a) (Filter s g) = grind (arith, common_steps)
 commands_equal Check b = grind (arith, common_steps)
 commands_equal (Swap a f) b = grind (arith, common_steps)
 commands_equal (Filter r f) (Show b) = grind (arith, common_steps)
 commands_equal (Filter r f) (Json b) = grind (arith, common_steps)
-commands_equal (Filter r f) (Listing b) = grind (arith, common_steps)
+commands_equal (Filter r f) (Listing s b) = grind (arith, common_steps)
 commands_equal (Filter r f) Check = grind (arith, common_steps)
 commands_equal (Filter r f) (Swap b g) = grind (arith, common_steps)
 commands_equal (Filter r f) (Filter s g) = Decides-and _ _ (selections_equal r s) (forms_equal f g)

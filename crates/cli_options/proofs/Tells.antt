@@ -1,7 +1,7 @@
 -- What clap's answer says of what is told.
 use Rattle.std.proofs.Common.{◌≡◌, ◌↔◌, Bool, List, [], true, refl, subst, sym, ap, ◌∙◌, inl, inr, IfOk, Ok, Err, Option, Some, Result, codes}
 use Rattle.std.specs.List.{AllByRecursion}
-use Rattle.clap.specs.Words.{App, HasMatchesOf, Row, Text, all_of, is_simple, subcommand_of, subcommand_rows_of}
+use Rattle.clap.specs.Words.{App, HasMatchesOf, Row, Text, is_simple, subcommand_of, subcommand_rows_of}
 use Rattle.clap.specs.declared.parser.matches.ArgMatches.{ArgMatches}
 use Rattle.clap.specs.Kinds.{IsAmong, HasKind}
 use Rattle.clap.specs.Faults.{fault_of, is_simple_and_free}
@@ -12,8 +12,8 @@ use Rattle.clap.proofs.OnLiterals.{clap_on_literals}
 use Rattle.cli_options.specs.CommandLine.{wire_app}
 use Rattle.dbus_match.specs.Matching.{Ownership}
 use Rattle.cli_options.specs.Limiting.{TellsNamed}
-use Rattle.cli_options.specs.Told.{TellsFault, TellsKind, Tells, TellsCommand, TellsOwner, TellsOwners, TellsRules, IsUsageOrMemory, IsNoCommand, NamesNothing}
-use Rattle.cli_options.specs.Named.{HasRuleFault, HasSettings, IsGiven, IsNamedBy, Names, words_of}
+use Rattle.cli_options.specs.Told.{TellsFault, TellsKind, Tells, TellsCommand, TellsOwner, TellsOwners, TellsRules, TellsSelection, IsUsageOrMemory, IsNoCommand, NamesNothing}
+use Rattle.cli_options.specs.Named.{GiveOwners, HasRuleFault, HasSettings, IsGiven, IsNamedBy, Names, TakesRules, rules_given, words_of}
 use Rattle.cli_options.specs.Owners.{IsOwnerWord}
 use Rattle.cli_options.proofs.Nothing.{no_command_names_nothing, unset_names_nothing, unowned_is_no_command}
 use Rattle.cli_options.specs.declared.asked.Asked.{Asked}
@@ -67,30 +67,30 @@ no_owners_told words word (Version text) h at = absurd h
 no_owners_told words word (Usage text) h at = λ all. let one = at all in h one.0 one.1
 no_owners_told words word (Rule refused) h at = absurd h
 
--- and of the words after `filter` that have it
-pub unowned_told : (rows : List Row) (told : UsageFault) → TellsOwners (words_of (codes "owner") rows) (Err told) → TellsCommand (codes "filter") rows (Err told)
+-- and of the words of a selection that has it
+pub unowned_told : (rows : List Row) (told : UsageFault) → TellsOwners (words_of (codes "owner") rows) (Err told) → TellsSelection rows (Err told)
 unowned_told rows Memory h = tt
 unowned_told rows (Help text) h = absurd h
 unowned_told rows (Version text) h = absurd h
-unowned_told rows (Usage text) h = unowned_is_no_command rows h
+unowned_told rows (Usage text) h = h
 unowned_told rows (Rule refused) h = absurd h
 
--- of the words after `filter`, of whose texts one spells no rule
-pub unruled_told : (rows : List Row) (texts : List Text) (explains : Bool) (told : UsageFault) → all_of (codes "rule") rows ≡ Some texts
-    → AllByRecursion (λ w. (o : Ownership) × IsOwnerWord w o) (words_of (codes "owner") rows) → ((explains ≡ true) ↔ IsGiven (codes "explain") rows)
-    → TellsRules texts explains (Err told) → TellsCommand (codes "filter") rows (Err told)
-unruled_told rows texts explains Memory given owners asked h = tt
-unruled_told rows texts explains (Help text) given owners asked h = absurd h
-unruled_told rows texts explains (Version text) given owners asked h = absurd h
-unruled_told rows texts explains (Usage text) given owners asked h = absurd h
-unruled_told rows texts explains (Rule refused) given owners asked h = record {
-  named = refl;
-  texts = texts;
-  given = given;
-  first = h.0;
-  explains = subst (λ e. (e ≡ true) ↔ IsGiven (codes "explain") rows) (sym h.1) asked;
-  owners = owners;
-}
+-- of those of whose texts one spells no rule
+pub unruled_told : (rows : List Row) (explains : Bool) (told : UsageFault) → GiveOwners rows → ((explains ≡ true) ↔ IsGiven (codes "explain") rows) → TellsRules (rules_given rows) explains (Err told)
+    → TellsSelection rows (Err told)
+unruled_told rows explains Memory owners asked h = tt
+unruled_told rows explains (Help text) owners asked h = absurd h
+unruled_told rows explains (Version text) owners asked h = absurd h
+unruled_told rows explains (Usage text) owners asked h = absurd h
+unruled_told rows explains (Rule refused) owners asked h = record { first = h.0; explains = subst (λ e. (e ≡ true) ↔ IsGiven (codes "explain") rows) (sym h.1) asked; owners = owners }
+
+-- and of a command that takes rules
+pub unselected_told : (name : Text) (rows : List Row) (told : UsageFault) → TakesRules name rows → TellsSelection rows (Err told) → TellsCommand name rows (Err told)
+unselected_told name rows Memory takes h = tt
+unselected_told name rows (Help text) takes h = absurd h
+unselected_told name rows (Version text) takes h = absurd h
+unselected_told name rows (Usage text) takes h = unowned_is_no_command name rows takes h
+unselected_told name rows (Rule refused) takes h = record { named = takes; refuses = h }
 
 -- what is told of options that name nothing of which this holds
 pub unnamed_told : {A : Type 0} (Is : A → Type 0) (told : UsageFault) → IsUsageOrMemory told → ((x : A) → Is x → ⊥) → TellsNamed Is (Err told)

@@ -1,6 +1,6 @@
 -- The command line of the program, as `clap` reads it: its name and then a subcommand with its
 -- words.
-use Rattle.std.specs.Prelude.{◌≡◌, ℕ, Some, true, false, codes, pos}
+use Rattle.std.specs.Prelude.{◌≡◌, ℕ, Bool, Some, true, false, codes, pos}
 use Rattle.clap.specs.Words.{App, Rule, Text, app_of, new_app, new_rule, rule_of, with_rule, with_subcommand}
 use Rattle.clap.specs.Simple.{on_top}
 use Rattle.clap.specs.declared.builder.action.ArgAction.TheVariants.{SetTrue, Append}
@@ -18,9 +18,9 @@ word_rule name = record (new_rule name) { long = Some name; value_names = 1 }
 abbrev pub needed_rule : Text → Rule
 needed_rule name = record (word_rule name) { required = true }
 
--- the rules' texts, each one word, of which one must be there
-abbrev pub text_rule : Rule
-text_rule = record (new_rule (codes "rule")) { value_names = 1; required = true; action = Some Append }
+-- the rules' texts, each one word, of which one may have to be there
+abbrev pub text_rule : (needed : Bool) → Rule
+text_rule needed = record (new_rule (codes "rule")) { value_names = 1; required = needed; action = Some Append }
 
 -- a flag, which takes no value
 abbrev pub flag_rule : Text → Rule
@@ -56,6 +56,10 @@ with_keep_going app = with_options (with_rule app (flag_rule (codes "keep-going"
 abbrev pub with_window : App → App
 with_window app = with_keep_going (with_rule (with_rule app (limit_rule (codes "skip") most_messages)) (limit_rule (codes "limit") most_messages))
 
+-- and with the rules by which messages are selected, `--invert`, `--owner` and `--learn-owners`
+abbrev pub with_selection : (needed : Bool) → App → App
+with_selection needed app = with_rule (with_rule (with_rule (with_rule app (text_rule needed)) (flag_rule (codes "invert"))) owner_rule) (flag_rule (codes "learn-owners"))
+
 abbrev pub show_app : App
 show_app = with_window (with_rule (new_app (codes "show")) (flag_rule (codes "time")))
 
@@ -67,7 +71,7 @@ abbrev pub most_cells : ℕ
 most_cells = 65535
 
 abbrev pub list_app : App
-list_app = with_window (with_rule (new_app (codes "list")) (limit_rule (codes "width") most_cells))
+list_app = with_window (with_selection false (with_rule (new_app (codes "list")) (limit_rule (codes "width") most_cells)))
 
 abbrev pub check_app : App
 check_app = with_keep_going (new_app (codes "check"))
@@ -76,10 +80,7 @@ abbrev pub swap_app : App
 swap_app = with_options (with_rule (with_rule (new_app (codes "swap")) (needed_rule (codes "to"))) (flag_rule (codes "raw")))
 
 abbrev pub filter_app : App
-filter_app = with_window
-    (with_rule
-    (with_rule (with_rule (with_rule (with_rule (new_app (codes "filter")) text_rule) (flag_rule (codes "invert"))) owner_rule) (flag_rule (codes "learn-owners")))
-    (flag_rule (codes "raw")))
+filter_app = with_window (with_rule (with_selection true (new_app (codes "filter"))) (flag_rule (codes "raw")))
 
 abbrev pub count_app : App
 count_app = with_keep_going (with_rule (new_app (codes "count")) (flag_rule (codes "json")))

@@ -1,5 +1,5 @@
 -- The command and the settings that words name, and the rule among them that is refused.
-use Rattle.std.specs.Prelude.{◌≡◌, ◌↔◌, true, false, List, [], ◌∷◌, ◌++◌, Option, Some, None, option_map, unwrap_or, codes, string_bytes}
+use Rattle.std.specs.Prelude.{◌≡◌, ◌↔◌, ◌⊎◌, ℕ, true, false, List, [], ◌∷◌, ◌++◌, Option, Some, None, option_map, unwrap_or, codes, string_bytes}
 use Rattle.std.specs.List.{AllByRecursion, AllZip}
 use Rattle.std.specs.declared.alloc.Global.{Global}
 use Rattle.clap.specs.Words.{Row, Text, all_of, first_of, one_of, subcommand_of}
@@ -69,12 +69,14 @@ IsGiven name rows = first_of name rows ≡ Some (codes "true")
 abbrev pub HasFileForm : List Row → FileForm → Type 0
 HasFileForm rows form = (form ≡ files.Raw) ↔ IsGiven (codes "raw") rows
 
--- the words after `filter` are texts that spell the rules, in their order; and so are the owners
--- given, and it learns others if it is to
+-- the texts that are to spell rules; without any, the empty one, whose rule matches each message
+abbrev pub rules_given : List Row → List Text
+rules_given rows = unwrap_or (all_of (codes "rule") rows) ([] ∷ [])
+
+-- the words after `list` or `filter` are texts that spell the rules, in their order; and so are the
+-- owners given, and it learns others if it is to
 pub record IsSelectionGiven (rows : List Row) (selection : Selection) : Type 0 where
-  pub texts : List Text
-  pub given : all_of (codes "rule") rows ≡ Some texts
-  pub rules : AreRulesOf texts selection.rules.items
+  pub rules : AreRulesOf (rules_given rows) selection.rules.items
   pub inverted : (selection.is_inverted ≡ true) ↔ IsGiven (codes "invert") rows
   pub owners : AreOwnersOf (words_of (codes "owner") rows) selection.owners.items
   pub learns : (selection.learns ≡ true) ↔ IsGiven (codes "learn-owners") rows
@@ -84,7 +86,7 @@ pub record IsSelectionGiven (rows : List Row) (selection : Selection) : Type 0 w
 abbrev pub NamesCommand : Text → List Row → Command → Type 0
 NamesCommand name rows (Show times) = (name ≡ codes "show") × ((times ≡ true) ↔ IsGiven (codes "time") rows)
 NamesCommand name rows (Json times) = (name ≡ codes "json") × ((times ≡ false) ↔ IsGiven (codes "no-time") rows)
-NamesCommand name rows (Listing width) = (name ≡ codes "list") × HasWidth rows width
+NamesCommand name rows (Listing selection width) = (name ≡ codes "list") × IsSelectionGiven rows selection × HasWidth rows width
 NamesCommand name rows Check = name ≡ codes "check"
 NamesCommand name rows (Swap order form) = (name ≡ codes "swap") × (first_of (codes "to") rows ≡ Some (order_word order)) × HasFileForm rows form
 NamesCommand name rows (Filter selection form) = (name ≡ codes "filter") × IsSelectionGiven rows selection × HasFileForm rows form
@@ -134,15 +136,25 @@ pub record HasFirstFault (texts : List Text) (refused : RefusedRule) : Type 0 wh
   pub rules : AllByRecursion (λ t. (pairs : List Pair) × SpellsRule t pairs) before
   pub fault : IsFault (string_bytes refused.text) refused.reason refused.at
 
--- the words after `filter` are texts, of which this one is refused, and options that give owners;
--- it is to be explained exactly if `--explain` is one of them
-pub record HasFault (name : Text) (rows : List Row) (refused : RefusedRule) : Type 0 where
-  pub named : name ≡ codes "filter"
-  pub texts : List Text
-  pub given : all_of (codes "rule") rows ≡ Some texts
-  pub first : HasFirstFault texts refused
+-- each word after `--owner` gives an owner
+abbrev pub GiveOwners : List Row → Type 0
+GiveOwners rows = AllByRecursion (λ word. (o : Ownership) × IsOwnerWord word o) (words_of (codes "owner") rows)
+
+-- the words are texts, of which this one is refused, and options that give owners; it is to be
+-- explained exactly if `--explain` is one of them
+pub record HasRefused (rows : List Row) (refused : RefusedRule) : Type 0 where
+  pub first : HasFirstFault (rules_given rows) refused
   pub explains : (refused.explains ≡ true) ↔ IsGiven (codes "explain") rows
-  pub owners : AllByRecursion (λ word. (o : Ownership) × IsOwnerWord word o) (words_of (codes "owner") rows)
+  pub owners : GiveOwners rows
+
+-- the command takes rules: it is `filter`, or `list` with a width
+abbrev pub TakesRules : Text → List Row → Type 0
+TakesRules name rows = (name ≡ codes "filter") ⊎ ((name ≡ codes "list") × (width : ℕ) × HasWidth rows width)
+
+-- the words after it have such a text
+pub record HasFault (name : Text) (rows : List Row) (refused : RefusedRule) : Type 0 where
+  pub named : TakesRules name rows
+  pub refuses : HasRefused rows refused
 
 -- the same, among options that name settings
 abbrev pub HasRuleFault : Option (Text × List Row) → RefusedRule → Type 0

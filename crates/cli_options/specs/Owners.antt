@@ -66,7 +66,7 @@ selection_lacks_owner selection = not selection.learns && some_needs_owner selec
 abbrev pub lacks_owner : Command → Bool
 lacks_owner (Show times) = false
 lacks_owner (Json times) = false
-lacks_owner (Listing width) = false
+lacks_owner (Listing selection width) = selection_lacks_owner selection
 lacks_owner Check = false
 lacks_owner (Swap order form) = false
 lacks_owner (Filter selection form) = selection_lacks_owner selection

@@ -12,9 +12,10 @@ use Rattle.dbus_rule.specs.declared.rule.Rule.{Rule as MatchRule}
 use Rattle.dbus_match.specs.Matching.{Ownership, ownership}
 use Rattle.cli_options.specs.CommandLine.{wire_app}
 use Rattle.cli_options.specs.Owners.{AreOwnersOf, IsOwnerWord}
-use Rattle.cli_options.specs.Named.{AreRulesOf, HasFirstFault, Names, NamesCommand, HasFault, HasRuleFault}
+use Rattle.cli_options.specs.Named.{AreRulesOf, GiveOwners, HasFirstFault, Names, NamesCommand, HasFault, HasRefused, HasRuleFault, IsSelectionGiven}
 use Rattle.cli_options.specs.declared.asked.Asked.{Asked}
 use Rattle.cli_options.specs.declared.command.Command.{Command}
+use Rattle.cli_options.specs.declared.selection.Selection.{Selection}
 use Rattle.cli_options.specs.declared.usage_fault.RefusedRule.{RefusedRule}
 use Rattle.cli_options.specs.declared.usage_fault.UsageFault.{UsageFault}
 use Rattle.cli_options.specs.declared.usage_fault.UsageFault.TheVariants.{Memory, Help, Version, Usage, Rule}
@@ -61,6 +62,15 @@ TellsRules texts explains (Err (Help text)) = ⊥
 TellsRules texts explains (Err (Version text)) = ⊥
 TellsRules texts explains (Err (Usage text)) = ⊥
 TellsRules texts explains (Err (Rule refused)) = HasFirstFault texts refused × (refused.explains ≡ explains)
+
+-- the selection that words give; else the rule that is refused; else a word gives no owner
+abbrev pub TellsSelection : List Row → Result Selection UsageFault → Type 0
+TellsSelection rows (Ok selection) = IsSelectionGiven rows selection
+TellsSelection rows (Err Memory) = Unit {0}
+TellsSelection rows (Err (Help text)) = ⊥
+TellsSelection rows (Err (Version text)) = ⊥
+TellsSelection rows (Err (Usage text)) = GiveOwners rows → ⊥
+TellsSelection rows (Err (Rule refused)) = HasRefused rows refused
 
 -- the name of a subcommand and the words after it name no command, and no rule that is refused
 pub record IsNoCommand (name : Text) (rows : List Row) : Type 0 where

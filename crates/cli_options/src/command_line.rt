@@ -1,9 +1,9 @@
 //! The command that the words of a command line name.
 ghost use Rattle.std.specs.Prelude.{◌≡◌, ◌↔◌, true, List, Some, IfOk, MatchOption, map, string_bytes, codes};
 ghost use Rattle.clap.specs.Words.{found_of, kind_of, rows_of, subcommand_rows_of};
-ghost use Rattle.cli_options.specs.Named.{GivesWanted, HasFileForm, HasForm, HasSettings, HasSide, IsGiven, IsNamedBy, IsOrderOf, IsSideOf, words_of};
+ghost use Rattle.cli_options.specs.Named.{GivesWanted, HasFileForm, HasForm, HasSettings, HasSide, IsGiven, IsNamedBy, IsOrderOf, IsSideOf, rules_given, words_of};
 ghost use Rattle.cli_options.specs.Limiting.{TellsNamed};
-ghost use Rattle.cli_options.specs.Told.{TellsKind, Tells, TellsCommand, TellsFault, TellsOwners};
+ghost use Rattle.cli_options.specs.Told.{TellsKind, Tells, TellsCommand, TellsFault, TellsOwners, TellsRules, TellsSelection};
 
 use crate::asked::Asked;
 use crate::command::Command;
@@ -20,7 +20,7 @@ use crate::wire::wire;
 use clap::ArgMatches;
 use clap::error::ErrorKind;
 use dbus_handshake_input::Side;
-use dbus_match::Owner;
+use dbus_match::{Owner, Rule};
 use dbus_value_model::Order;
 use std::alloc::Global;
 
@@ -35,12 +35,14 @@ use std::alloc::Global;
 /// whether times are written. `--handshake` names the side whose handshake comes before the
 /// messages. `--skip` and `--limit`, of `show`, `json`, `list` and `filter`, are the numbers of the
 /// window; without them it leaves no message out. `--width` of `list` is the number of cells of its
-/// lines; without it they have 80.
+/// lines; without it they have 80. The words that stand alone after `list` and `filter` are rules,
+/// and `--invert`, `--owner` and `--learn-owners` say more of what they select; `list` without
+/// rules selects all messages.
 ///
 /// `Usage`: the words name no command of the program, or have what it does not take, a limit over
 /// that of the specification, a number of messages or milliseconds over 4294967295, a width over
-/// 65535 and an owner that is no NAME=UNIQUE of two bus names among it. `Rule`: they name `filter`,
-/// with a text that spells no rule; it is the first such text. `Help`, `Version`: they ask for
+/// 65535 and an owner that is no NAME=UNIQUE of two bus names among it. `Rule`: they name `list` or
+/// `filter`, with a text that spells no rule; it is the first such text. `Help`, `Version`: they ask for
 /// help, or for the version. `Memory`: an allocation failed.
 pub fn command_of(alloc: Global, words: &[String]) -> Result<Asked, UsageFault>
     // What is returned is what the words name: a command and its settings, or a side.
@@ -191,17 +193,20 @@ fn command_with(alloc: Global, name: &str, inner: &ArgMatches) -> Result<Command
         return order_named(alloc, inner);
     }
     if name == "filter" {
-        return selection_named(alloc, inner);
+        return filter_named(alloc, inner);
     }
     Err(usage(alloc, "error: no such command\n"))
 }
 
-// `list`, with the width that it is given.
+// `list`, with the width and the selection that it is given.
 fn list_named(alloc: Global, inner: &ArgMatches) -> Result<Command, UsageFault>
     ensures { TellsCommand (codes "list") (rows_of (found_of inner.now)) result }
 {
     match width_named(inner) {
-        Some(width) => Ok(Command::List(width)),
+        Some(width) => {
+            let selection = selection_named(alloc, inner)?;
+            Ok(Command::List(selection, width))
+        }
         None => Err(usage(alloc, "error: no width\n")),
     }
 }
@@ -243,22 +248,36 @@ fn order_of(word: &str) -> Option<Order>
     None
 }
 
-// The messages that `filter` is to select.
-fn selection_named(alloc: Global, inner: &ArgMatches) -> Result<Command, UsageFault>
+// `filter`, with the selection and the form that it is given.
+fn filter_named(alloc: Global, inner: &ArgMatches) -> Result<Command, UsageFault>
     ensures { TellsCommand (codes "filter") (rows_of (found_of inner.now)) result }
 {
-    let Some(texts) = inner.get_strs("rule") else {
-        return Err(usage(alloc, "error: no rule\n"));
-    };
+    let selection = selection_named(alloc, inner)?;
+    Ok(Command::Filter(selection, file_form_named(inner)))
+}
+
+// The messages that a command is to select.
+fn selection_named(alloc: Global, inner: &ArgMatches) -> Result<Selection, UsageFault>
+    ensures { TellsSelection (rows_of (found_of inner.now)) result }
+{
     let owners = owners_named(alloc, inner)?;
-    let rules = rules_spelled(alloc, texts, is_given(inner, "explain"))?;
-    let selection = Selection {
+    let rules = rules_named(alloc, inner, is_given(inner, "explain"))?;
+    Ok(Selection {
         rules,
         is_inverted: is_given(inner, "invert"),
         owners,
         learns: is_given(inner, "learn-owners"),
-    };
-    Ok(Command::Filter(selection, file_form_named(inner)))
+    })
+}
+
+// The rules that it is given; without any, the one that matches each message.
+fn rules_named(alloc: Global, inner: &ArgMatches, explains: bool) -> Result<Vec<Rule>, UsageFault>
+    ensures { TellsRules (rules_given (rows_of (found_of inner.now))) explains result }
+{
+    match inner.get_strs("rule") {
+        Some(texts) => rules_spelled(alloc, texts, explains),
+        None => rules_spelled(alloc, &[""], explains),
+    }
 }
 
 // The owners that `--owner` gives.

@@ -10,14 +10,14 @@ use std::alloc::AllocError;
 impl Clone for Command {
     ghost is_clone = { λ command copy. AreSameCommand copy command };
 
-    /// The same command; the selection of `Filter` in memory of its own.
+    /// The same command; the selection of `List` and `Filter` in memory of its own.
     ///
     /// Returns `AllocError` if an allocation failed, and nothing of the copy is left then.
     fn clone(&self) -> Result<Command, AllocError> {
         match self {
             Command::Show { times } => Ok(Command::Show { times: *times }),
             Command::Json { times } => Ok(Command::Json { times: *times }),
-            Command::List(width) => Ok(Command::List(*width)),
+            Command::List(selection, width) => Ok(Command::List(selection.clone()?, *width)),
             Command::Check => Ok(Command::Check),
             Command::Swap(order, form) => Ok(Command::Swap(*order, *form)),
             Command::Filter(selection, form) => Ok(Command::Filter(selection.clone()?, *form)),

@@ -119,7 +119,7 @@ pub(crate) const NO_TIME: &str = "Leaves out the times";
 pub(crate) const LIST: &str = "Writes each message as one line that fits a terminal";
 
 /// How `list` is called.
-pub(crate) const LIST_USAGE: &str = "dbus-wire list [OPTIONS] < FILE";
+pub(crate) const LIST_USAGE: &str = "dbus-wire list [OPTIONS] [RULE]... < FILE";
 
 /// What follows the help of `list`.
 pub(crate) const LIST_MORE: &str = more!(
@@ -132,7 +132,11 @@ pub(crate) const LIST_MORE: &str = more!(
   width is cut, and `~` ends the line; `~` begins a name of which only the last
   elements are written. Characters that a terminal obeys or does not draw are
   written as \\x1b or \\u{202e}. If the input is refused, `refused at P: NAME` on
-  standard error.",
+  standard error.
+
+  With rules only the messages that match one of them are listed, or with
+  --invert none of them; numbers count all. Rules and owners of names are those
+  of filter: see `dbus-wire filter --help`.",
     "
   dbus-wire list --width $COLUMNS < capture"
 );
@@ -268,16 +272,16 @@ pub(crate) const FILTER_MORE: &str = more!(
   dbus-wire filter \"type='signal',member='NameLost'\" < capture | dbus-wire show"
 );
 
-/// What the rules of `filter` are.
+/// What the rules of `list` and `filter` are.
 pub(crate) const RULE: &str = "Match rules, as type='signal',path='/a'; '' matches each message";
 
-/// What `--invert` of `filter` does.
+/// What `--invert` of `list` and `filter` does.
 pub(crate) const INVERT: &str = "Writes the messages that match none of the rules";
 
-/// What `--owner` of `filter` is.
+/// What `--owner` of `list` and `filter` is.
 pub(crate) const OWNER: &str = "The owner of a name, as org.a.B=:1.7; any number";
 
-/// What `--learn-owners` of `filter` does.
+/// What `--learn-owners` of `list` and `filter` does.
 pub(crate) const LEARN_OWNERS: &str = "Learns owners from the bus's signals, from then on";
 
 /// What `--explain` does.

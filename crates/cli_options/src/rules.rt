@@ -1,4 +1,4 @@
-//! The rules that `filter` is given.
+//! The rules that `list` and `filter` are given.
 ghost use Rattle.std.specs.Prelude.{map};
 ghost use Rattle.cli_options.specs.Told.{TellsRules};
 

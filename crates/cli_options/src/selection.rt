@@ -1,4 +1,4 @@
-//! Which messages `filter` writes.
+//! Which messages `list` and `filter` write.
 ghost use Rattle.std.specs.Prelude.{IfOk};
 ghost use Rattle.cli_options.specs.Selections.{IsByRule};
 

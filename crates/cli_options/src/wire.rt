@@ -2,7 +2,7 @@
 ghost use Rattle.std.specs.Prelude.{◌≡◌, IfOk, pos};
 ghost use Rattle.clap.specs.Words.{App, Rule, app_of, new_app, with_rule, with_subcommand};
 ghost use Rattle.clap.specs.declared.builder.value_parser.ValueParser.TheVariants.{Signed};
-ghost use Rattle.cli_options.specs.CommandLine.{IsArg, IsLocal, flag_rule, limit_rule, needed_rule, owner_rule, text_rule, word_rule, with_keep_going, with_options, with_window, wire_app, bare_app, show_app, json_app, list_app, check_app, count_app, calls_app, swap_app, filter_app, handshake_app};
+ghost use Rattle.cli_options.specs.CommandLine.{IsArg, IsLocal, flag_rule, limit_rule, needed_rule, owner_rule, text_rule, word_rule, with_keep_going, with_options, with_selection, with_window, wire_app, bare_app, show_app, json_app, list_app, check_app, count_app, calls_app, swap_app, filter_app, handshake_app};
 
 use crate::help;
 use clap::builder::ValueParser;
@@ -54,14 +54,14 @@ fn flag<'a>(alloc: Global, name: &'a str, help: &'a str) -> Arg<'a>
         .action(ArgAction::SetTrue)
 }
 
-// The rules of `filter`, of which there is one at least.
-fn rule_argument<'a>(alloc: Global) -> Arg<'a>
-    ensures { IsArg text_rule result }
+// The rules by which messages are selected, of which one at least may have to be there.
+fn rule_argument<'a>(alloc: Global, needed: bool) -> Arg<'a>
+    ensures { IsArg (text_rule needed) result }
 {
     Arg::new(alloc, "rule")
         .value_name("RULE")
         .help(help::RULE)
-        .required(true)
+        .required(needed)
         .action(ArgAction::Append)
 }
 
@@ -147,6 +147,21 @@ fn with_window<'a>(
     with_keep_going(alloc, limited)
 }
 
+// The command with the rules by which it selects messages, and the options beside them.
+fn with_selection<'a>(
+    alloc: Global,
+    command: Result<Command<'a>, AllocError>,
+    needed: bool,
+) -> Result<Command<'a>, AllocError>
+    ensures { (app : App) → IfOk command.entry (IsLocal app) →
+        IfOk result (IsLocal (with_selection needed app)) }
+{
+    let ruled = with_arg(command, rule_argument(alloc, needed));
+    let inverting = with_arg(ruled, flag(alloc, "invert", help::INVERT));
+    let owning = with_arg(inverting, owner_option(alloc));
+    with_arg(owning, flag(alloc, "learn-owners", help::LEARN_OWNERS))
+}
+
 // `show`, with its flag.
 fn show_command<'a>(alloc: Global) -> Result<Command<'a>, AllocError>
     ensures { IfOk result (IsLocal show_app) }
@@ -163,13 +178,13 @@ fn json_command<'a>(alloc: Global) -> Result<Command<'a>, AllocError>
     with_window(alloc, with_arg(json, flag(alloc, "no-time", help::NO_TIME)))
 }
 
-// `list`, with its width.
+// `list`, with its rules and its width.
 fn list_command<'a>(alloc: Global) -> Result<Command<'a>, AllocError>
     ensures { IfOk result (IsLocal list_app) }
 {
     let list = bare(alloc, "list", help::LIST, help::LIST_USAGE, help::LIST_MORE);
     let wide = with_arg(list, limit_option(alloc, "width", MOST_CELLS, help::WIDTH));
-    with_window(alloc, wide)
+    with_window(alloc, with_selection(alloc, wide, false))
 }
 
 // `check`, which takes no words but its options.
@@ -243,11 +258,8 @@ fn filter_command<'a>(alloc: Global) -> Result<Command<'a>, AllocError>
         help::FILTER_USAGE,
         help::FILTER_MORE,
     );
-    let ruled = with_arg(filter, rule_argument(alloc));
-    let inverting = with_arg(ruled, flag(alloc, "invert", help::INVERT));
-    let owning = with_arg(inverting, owner_option(alloc));
-    let learning = with_arg(owning, flag(alloc, "learn-owners", help::LEARN_OWNERS));
-    let formed = with_arg(learning, flag(alloc, "raw", help::RAW));
+    let selecting = with_selection(alloc, filter, true);
+    let formed = with_arg(selecting, flag(alloc, "raw", help::RAW));
     with_window(alloc, formed)
 }
 

@@ -1,5 +1,5 @@
 -- What is written of captured messages is a pcap file of what is written of them raw.
-use Rattle.std.proofs.Common.{◌≡◌, ℕ, ◌+◌, ◌<◌, ◌^◌, ◌&&◌, Bool, true, false, List, [], ◌∷◌, ◌++◌, length, map, take, drop, zero, suc, Option, None, Some, inl, inr, refl, sym, ap, ◌∙◌, subst, arith, append_assoc}
+use Rattle.std.proofs.Common.{◌≡◌, ℕ, ◌<◌, ◌^◌, ◌&&◌, true, false, List, [], ◌∷◌, ◌++◌, length, map, take, drop, zero, suc, Option, None, Some, inl, inr, refl, sym, ap, ◌∙◌, subst, arith, append_assoc}
 use Rattle.std.specs.List.{concat}
 use Rattle.std.proofs.Math.Path.{transport}
 use Rattle.std.proofs.lemmas.List.{drop-map, map-append, take-map}
@@ -66,7 +66,7 @@ module _ (limits : Limits) where
   one_made (Filter selection Raw) os order m place texts form valid packet p = absurd (let e : ◌≡◌ {A = FileForm} Raw AsRead = form in cc)
   one_made (Show times) os order m place texts form valid packet p = absurd (let e : ◌≡◌ {A = FileForm} Raw AsRead = form in cc)
   one_made (Json times) os order m place texts form valid packet p = absurd (let e : ◌≡◌ {A = FileForm} Raw AsRead = form in cc)
-  one_made (Listing width) os order m place texts form valid packet p = absurd (let e : ◌≡◌ {A = FileForm} Raw AsRead = form in cc)
+  one_made (Listing selection width) os order m place texts form valid packet p = absurd (let e : ◌≡◌ {A = FileForm} Raw AsRead = form in cc)
   one_made Check os order m place texts form valid packet p = absurd (let e : ◌≡◌ {A = FileForm} Raw AsRead = form in cc)
 
   same_owners : (command : Command) (os : OwnerSet) (m : MessageTree) → owners_after command os m ≡ owners_after (raw_of command) os m
@@ -74,7 +74,7 @@ module _ (limits : Limits) where
   same_owners (Filter selection form) os m = refl
   same_owners (Show times) os m = refl
   same_owners (Json times) os m = refl
-  same_owners (Listing width) os m = refl
+  same_owners (Listing selection width) os m = refl
   same_owners Check os m = refl
 
   fit_both : (a b : List CapturedMessage) → AllFit a → AllFit b → AllFit (a ++ b)

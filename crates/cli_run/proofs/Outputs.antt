@@ -1,5 +1,5 @@
 -- Of all messages and the fault after them a command has an output, and exactly one if it is exact.
-use Rattle.std.proofs.Common.{◌≡◌, ◌⊎◌, ℕ, ◌+◌, inl, inr, List, [], ◌∷◌, ◌++◌, length, Option, None, Some, Bool, true, false, ◌&&◌, not, refl, sym, ap, ◌∙◌, subst, append_assoc}
+use Rattle.std.proofs.Common.{◌≡◌, ◌⊎◌, ℕ, ◌+◌, inl, inr, List, [], ◌∷◌, ◌++◌, length, Option, None, Bool, true, false, ◌&&◌, not, refl, sym, ap, ◌∙◌, subst, append_assoc}
 use Rattle.std.specs.List.{concat}
 use Rattle.std.proofs.lemmas.List.{map-append}
 use Rattle.std.proofs.lemmas.List.Folds.{concat-append}
@@ -31,13 +31,14 @@ use Rattle.cli_run.proofs.PartLaws.{placed_both, some_placed}
 
 picked : (command : Command) (os : OwnerSet) (message : MessageTree) → Picks command os message ⊎ (Picks command os message → ⊥)
 picked Check os message = inr (λ never. never)
+picked (Listing selection width) os message = selected selection (owners_in os) message
 picked (Filter selection form) os message = selected selection (owners_in os) message
 picked command os message = inl tt
 
 pub some_text : (command : Command) (order : Order) (message : MessageTree) (place : MessagePlace) → (text : List ℕ) × IsTextOf command order message place text
 some_text (Show times) order message place = (shown_text order message (told_place times place), refl)
 some_text (Json times) order message place = some_line_each order message (line_place (told_place times place))
-some_text (Listing width) order message place = some_listed width (line_place place) order message
+some_text (Listing selection width) order message place = some_listed width (line_place place) order message
 some_text Check order message place = ([], refl)
 some_text (Swap wanted form) order message place = (framed (is_framed form place) place.time (message_bytes wanted message), refl)
 some_text (Filter selection form) order message place = (framed (is_framed form place) place.time (message_bytes order message), refl)
@@ -118,7 +119,7 @@ framed_one AsRead place other bytes alike = λ i. framed (alike.0 i) (alike.1 i)
 text_one : (command : Command) (order : Order) (message : MessageTree) (place other : MessagePlace) (a b : List ℕ) → IsExact command → place.number ≡ other.number → AreFramedAlike (form_of command) place other
     → IsTextOf command order message place a → IsTextOf command order message other b → a ≡ b
 text_one (Json times) order message place other a b exact number alike p q = absurd exact
-text_one (Listing width) order message place other a b exact number alike p q = absurd exact
+text_one (Listing selection width) order message place other a b exact number alike p q = absurd exact
 text_one (Show true) order message place other a b exact number alike p q = absurd exact
 text_one (Show false) order message place other a b exact number alike p q = p ∙ (ap (message_text order message) number ∙ sym q)
 text_one (Swap wanted form) order message place other a b exact number alike p q = p ∙ (framed_one form place other (message_bytes wanted message) alike ∙ sym q)

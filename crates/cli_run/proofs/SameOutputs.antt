@@ -18,6 +18,7 @@ use Rattle.dbus_rule.specs.Rules.{sender_of, Pair}
 use Rattle.dbus_rule.specs.RuleViews.{rule_pairs}
 use Rattle.dbus_rule_set.specs.Owners.{OwnerSet, owners_in}
 use Rattle.dbus_calls.specs.OwnerChanges.{Change, change_of, is_text, name_of}
+use Rattle.dbus_list.specs.Lines.{IsLine}
 use Rattle.cli_options.specs.Selections.{AreSameCommand, AreSameSelection, OrInverted, SelectsBy, SomeMatches}
 use Rattle.cli_options.specs.declared.command.Command.{Command}
 use Rattle.cli_options.specs.declared.command.Command.TheVariants.{Show, Json, List as Listing, Check, Swap, Filter}
@@ -30,7 +31,7 @@ use Rattle.cli_report.specs.declared.ending.ExitStatus.TheVariants as status
 use Rattle.cli_run.specs.Learning.{ask_sender, changed, known_after}
 use Rattle.cli_run.specs.ByName.{after_messages}
 use Rattle.cli_run.specs.Inputs.{ArePlaced, BeginWithParts, Part, PassedOver, Placed, Whole}
-use Rattle.cli_run.specs.Output.{AreAlike, IsExact, form_of, framed, is_framed, IsOutputOf, IsOutputOfAll, IsTextOf, Picks, is_check, owners_after, owners_known}
+use Rattle.cli_run.specs.Output.{AreAlike, IsExact, form_of, framed, is_framed, IsOutputOf, IsOutputOfAll, IsTextOf, Picks, is_check, line_place, owners_after, owners_known}
 use Rattle.cli_run.specs.Going.{AreTold, IsTold, IsToldLast, passed_count, status_at, tally_of}
 use Rattle.cli_run.specs.declared.place.MessagePlace.{MessagePlace}
 use Rattle.cli_run.proofs.Outputs.{output_all_one}
@@ -169,6 +170,11 @@ same_selects a b os m h s =
     subst (λ c. OrInverted c (SomeMatches b.rules.items m os)) h.inverted
     (inverted_both a.is_inverted _ _ (same_some a.rules.items b.rules.items m os h.rules) (same_some b.rules.items a.rules.items m os (sym h.rules)) s)
 
+same_picks : (a b : Selection) → AreSameSelection a b → (os : OwnerSet) (m : MessageTree) → SelectsBy a (owners_in os) m ↔ SelectsBy b (owners_in os) m
+same_picks a b s os m =
+    let back : AreSameSelection b a = record { rules = sym s.rules; inverted = sym s.inverted; owners = sym s.owners; learns = sym s.learns } in
+    (same_selects a b (owners_in os) m s, same_selects b a (owners_in os) m back)
+
 same_asks : (rules others : List (Rule Global)) (name : List ℕ) → map rule_pairs rules ≡ map rule_pairs others → ask_sender rules name ≡ ask_sender others name
 same_asks [] [] name e = refl
 same_asks [] (r ∷ others) name e = absurd cc
@@ -203,17 +209,24 @@ itself a = record { checks = refl; form = refl; exact = λ e. e; picks = λ os m
 pub acts_as : (a b : Command) → AreSameCommand a b → ActsAs a b
 acts_as (Show a) (Show b) h = subst (λ (times : Bool). ActsAs (Show a) (Show times)) h (itself (Show a))
 acts_as (Json a) (Json b) h = subst (λ (times : Bool). ActsAs (Json a) (Json times)) h (itself (Json a))
-acts_as (Listing x) (Listing y) h = subst (λ (w : ℕ). ActsAs (Listing x) (Listing w)) h (itself (Listing x))
+acts_as (Listing x v) (Listing y w) h = record {
+  checks = refl;
+  form = refl;
+  exact = λ e. e;
+  picks = same_picks x y h.0;
+  texts = λ order m place text t. subst (λ (n : ℕ). IsLine n (line_place place) order m text) h.1 t;
+  known = ap from_list h.0.owners;
+  learned = λ os m. same_after x y os m h.0;
+}
 acts_as Check Check h = itself Check
 acts_as (Swap x f) (Swap y g) h = transport (λ i. ActsAs (Swap x f) (Swap (h.0 i) (h.1 i))) (itself (Swap x f))
 acts_as (Filter x f) (Filter y g) h =
     let s = h.0 in
-    let back : AreSameSelection y x = record { rules = sym s.rules; inverted = sym s.inverted; owners = sym s.owners; learns = sym s.learns } in
     record {
       checks = refl;
       form = h.1;
       exact = λ e. e;
-      picks = λ os m. (same_selects x y (owners_in os) m s, same_selects y x (owners_in os) m back);
+      picks = same_picks x y s;
       texts = λ order m place text t. subst (λ (o : FileForm). text ≡ framed (is_framed o place) place.time (message_bytes order m)) h.1 t;
       known = ap from_list s.owners;
       learned = λ os m. same_after x y os m s;

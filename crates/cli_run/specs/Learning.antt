@@ -2,7 +2,7 @@
 -- its signals. D-Bus Specification, "Message Bus Messages"
 -- ("org.freedesktop.DBus.NameOwnerChanged", "org.freedesktop.DBus.NameLost",
 -- "org.freedesktop.DBus.NameAcquired").
-use Rattle.std.specs.Prelude.{ℕ, List, Bool, if◌then◌else◌, Option, None, Some}
+use Rattle.std.specs.Prelude.{◌≡◌, ◌↔◌, ℕ, List, Bool, IsTrue, if◌then◌else◌, Option, None, Some}
 use Rattle.std.specs.FinSet.{from_list}
 use Rattle.std.specs.List.{list_any}
 use Rattle.std.specs.declared.alloc.Global.{Global}
@@ -11,9 +11,10 @@ use Rattle.dbus_rule.specs.declared.rule.Rule.{Rule}
 use Rattle.dbus_rule.specs.Rules.{sender_of}
 use Rattle.dbus_rule.specs.RuleViews.{rule_pairs}
 use Rattle.dbus_match.specs.Matching.{ownerships}
-use Rattle.dbus_rule_set.specs.Owners.{OwnerSet, owned_anew, without_owner, without_owners}
+use Rattle.dbus_rule_set.specs.Owners.{OwnerSet, owned_anew, owners_in, without_owner, without_owners}
 use Rattle.dbus_calls.specs.OwnerChanges.{Change, change_of, is_text, name_of}
 use Rattle.dbus_calls.specs.OwnerChanges.Change.{Owned, Free, Lost}
+use Rattle.cli_options.specs.Selections.{SelectsBy}
 use Rattle.cli_options.specs.declared.selection.Selection.{Selection}
 
 -- some rule asks for messages from this name
@@ -39,3 +40,8 @@ known selection (Some owners) = owners
 -- the owners that it knows after a message
 abbrev pub known_after : Selection → OwnerSet → MessageTree → OwnerSet
 known_after selection os m = if selection.learns then changed selection.rules.items (change_of m) os else os
+
+-- whether it selects a message, and the owners that it has learned before and after it
+pub record IsSelected (selection : Selection) (message : MessageTree) (old new : Option OwnerSet) (selected : Bool) : Type 0 where
+  pub selects : IsTrue selected ↔ SelectsBy selection (owners_in (known selection old)) message
+  pub owners : known selection new ≡ known_after selection (known selection old) message

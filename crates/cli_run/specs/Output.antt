@@ -40,7 +40,7 @@ abbrev pub command_of : Output → Command
 command_of Nothing = Check
 command_of (Text times) = Show times
 command_of (JsonLine times) = Json times
-command_of (Line width) = Listing width
+command_of (Line selector width) = Listing selector.selection.now width
 command_of (InOrder order form) = Swap order form
 command_of (Matching selector form) = Filter selector.selection.now form
 
@@ -51,11 +51,13 @@ is_check command = false
 
 -- the owners of names that a command knows: its own, or those that it has learned since
 abbrev pub owners_known : Command → Option OwnerSet → OwnerSet
+owners_known (Listing selection width) learned = known selection learned
 owners_known (Filter selection form) learned = known selection learned
 owners_known command learned = empty
 
 -- the owners that it knows after a message, if it knew these before
 abbrev pub owners_after : Command → OwnerSet → MessageTree → OwnerSet
+owners_after (Listing selection width) os message = known_after selection os message
 owners_after (Filter selection form) os message = known_after selection os message
 owners_after command os message = os
 
@@ -67,6 +69,7 @@ owners_after_all command os (m ∷ items) = owners_after_all command (owners_aft
 -- a command makes a text of the message, if it knows these owners
 abbrev pub Picks : Command → OwnerSet → MessageTree → Type 0
 Picks Check os message = ⊥
+Picks (Listing selection width) os message = SelectsBy selection (owners_in os) message
 Picks (Filter selection form) os message = SelectsBy selection (owners_in os) message
 Picks command os message = Unit {0}
 
@@ -135,7 +138,7 @@ line_place place = record { number = place.number; offset = place.offset; time =
 abbrev pub IsTextOf : Command → Order → MessageTree → MessagePlace → List ℕ → Type 0
 IsTextOf (Show times) order message place text = text ≡ shown_text order message (told_place times place)
 IsTextOf (Json times) order message place text = IsJsonLine order message (line_place (told_place times place)) text
-IsTextOf (Listing width) order message place text = IsLine width (line_place place) order message text
+IsTextOf (Listing selection width) order message place text = IsLine width (line_place place) order message text
 IsTextOf Check order message place text = text ≡ []
 IsTextOf (Swap wanted form) order message place text = text ≡ framed (is_framed form place) place.time (message_bytes wanted message)
 IsTextOf (Filter selection form) order message place text = text ≡ framed (is_framed form place) place.time (message_bytes order message)
@@ -162,7 +165,7 @@ whole_output form items texts = header_before form false items ++ concat texts
 abbrev pub IsExact : Command → Type 0
 IsExact (Show true) = ⊥
 IsExact (Json times) = ⊥
-IsExact (Listing width) = ⊥
+IsExact (Listing selection width) = ⊥
 IsExact command = Unit {0}
 
 -- the packets of two inputs are known and the same, if they matter to this form

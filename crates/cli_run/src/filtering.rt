@@ -6,10 +6,7 @@ ghost use Rattle.dbus_message_model.specs.Messages.{MessageTree};
 ghost use Rattle.dbus_header.specs.MessageOutcomes.{IsWhole};
 ghost use Rattle.dbus_validate.specs.Validating.{IsValidatedWhole};
 ghost use Rattle.dbus_match.specs.Matching.{ownerships};
-ghost use Rattle.cli_options.specs.declared.command.Command.TheVariants.{Filter};
-ghost use Rattle.cli_options.specs.declared.file_form.FileForm.{FileForm};
-ghost use Rattle.cli_run.specs.Handing.{IsPicked};
-ghost use Rattle.cli_run.specs.Learning.{known};
+ghost use Rattle.cli_run.specs.Learning.{IsSelected, known};
 
 use crate::learning::learn;
 use crate::place::Lent;
@@ -28,9 +25,9 @@ pub(crate) fn select(
     owners: &mut Option<Owners>,
 ) -> Result<bool, AllocError>
     requires { IsValidatedWhole lent.now.limits lent.now.bytes.now lent.now.validated }
-    ensures { (order : Order) (m : MessageTree) (form : FileForm) →
+    ensures { (order : Order) (m : MessageTree) →
         IsWhole lent.now.limits lent.now.bytes.now order m (length lent.now.bytes.now) →
-        IfOk result (IsPicked (Filter selector.now.selection.now form) m owners.old owners.new) }
+        IfOk result (IsSelected selector.now.selection.now m owners.old owners.new) }
 {
     let view = MessageView::of_validated(lent.bytes, lent.limits, lent.validated);
     let selection = selector.selection;

@@ -6,8 +6,7 @@ ghost use Rattle.dbus_header.specs.MessageOutcomes.{IsWhole};
 ghost use Rattle.dbus_validate.specs.Validating.{IsValidatedWhole};
 ghost use Rattle.cli_report.specs.Devices.{writing};
 ghost use Rattle.cli_report.specs.Gathering.{GathersOrNot, gathered_bytes};
-ghost use Rattle.cli_options.specs.declared.command.Command.TheVariants.{List as Listing};
-ghost use Rattle.cli_run.specs.Handing.{WritesJson, WritesOne};
+ghost use Rattle.cli_run.specs.Handing.{WritesJson, WritesListed};
 ghost use Rattle.cli_run.specs.Output.{line_place, shown_text, time_text};
 
 use crate::place::{Lent, MessagePlace};
@@ -108,8 +107,7 @@ pub(crate) fn write_list_line<W: Sink>(
     requires { IsValidatedWhole lent.now.limits lent.now.bytes.now lent.now.validated }
     ensures { (order : Order) (m : MessageTree) →
         IsWhole lent.now.limits lent.now.bytes.now order m (length lent.now.bytes.now) →
-        WritesOne (writing W.held W.failures first.old first.new) (Listing width) false order m
-        lent.now.place
+        WritesListed (writing W.held W.failures first.old first.new) width order m lent.now.place
         (gathered_bytes gathered.old) (gathered_bytes gathered.new) result }
 {
     let mut page = Page {

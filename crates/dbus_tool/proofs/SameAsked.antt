@@ -23,7 +23,7 @@ use Rattle.dbus_match.specs.Matching.{Ownership, ownership, ownerships}
 use Rattle.dbus_rule.specs.RuleViews.{rule_pairs}
 use Rattle.cli_options.specs.CommandLine.{wire_app}
 use Rattle.cli_options.specs.Limiting.{HasLimits, HasWindow, IsGivenNumber, IsNumberOf, IsRuleOf, fds_word}
-use Rattle.cli_options.specs.Named.{AreRulesOf, HasSettings, HasWanted, IsNamedBy, IsSelectionGiven, Names, NamesCommand, order_word, side_word, words_of}
+use Rattle.cli_options.specs.Named.{AreRulesOf, HasSettings, HasWanted, IsNamedBy, IsSelectionGiven, Names, NamesCommand, order_word, rules_given, side_word, words_of}
 use Rattle.cli_options.specs.Owners.{AreOwnersOf, IsOwnerWord}
 use Rattle.cli_options.specs.Selections.{AreSameCommand, AreSameSelection}
 use Rattle.cli_options.specs.declared.asked.Asked.{Asked}
@@ -208,14 +208,12 @@ same_rules (text ∷ texts) (r ∷ a) [] h k = absurd k
 same_rules (text ∷ texts) (r ∷ a) (s ∷ b) h k = λ i. one_rule text (rule_pairs r) (rule_pairs s) h.0 k.0 i ∷ same_rules texts a b h.1 k.1 i
 
 same_selection : (rows : List Row) (a b : Selection) → IsSelectionGiven rows a → IsSelectionGiven rows b → AreSameSelection a b
-same_selection rows a b p q =
-    let texts = some_is p.texts q.texts (sym p.given ∙ q.given) in
-    record {
-      rules = same_rules p.texts a.rules.items b.rules.items p.rules (subst (λ (l : List Text). AreRulesOf l b.rules.items) (sym texts) q.rules);
-      inverted = same_flag a.is_inverted b.is_inverted p.inverted q.inverted;
-      owners = same_owners (words_of (codes "owner") rows) a.owners.items b.owners.items p.owners q.owners;
-      learns = same_flag a.learns b.learns p.learns q.learns;
-    }
+same_selection rows a b p q = record {
+  rules = same_rules (rules_given rows) a.rules.items b.rules.items p.rules q.rules;
+  inverted = same_flag a.is_inverted b.is_inverted p.inverted q.inverted;
+  owners = same_owners (words_of (codes "owner") rows) a.owners.items b.owners.items p.owners q.owners;
+  learns = same_flag a.learns b.learns p.learns q.learns;
+}
 
 same_order_word : (a b : Order) → order_word a ≡ order_word b → a ≡ b
 same_order_word Little Little e = refl
@@ -230,7 +228,7 @@ mark t = slice_index t 0 * 256 + slice_index t 1
 abbrev pub mark_of : Command → ℕ
 mark_of (Show times) = mark (codes "show")
 mark_of (Json times) = mark (codes "json")
-mark_of (Listing width) = mark (codes "list")
+mark_of (Listing selection width) = mark (codes "list")
 mark_of Check = mark (codes "check")
 mark_of (Swap order form) = mark (codes "swap")
 mark_of (Filter selection form) = mark (codes "filter")
@@ -238,7 +236,7 @@ mark_of (Filter selection form) = mark (codes "filter")
 pub marked : (name : Text) (rows : List Row) (command : Command) → NamesCommand name rows command → mark name ≡ mark_of command
 marked name rows (Show times) h = ap mark h.0
 marked name rows (Json times) h = ap mark h.0
-marked name rows (Listing width) h = ap mark h.0
+marked name rows (Listing selection width) h = ap mark h.0
 marked name rows Check h = ap mark h
 marked name rows (Swap order form) h = ap mark h.0
 marked name rows (Filter selection form) h = ap mark h.0
@@ -252,7 +250,7 @@ same_file_form files.AsRead files.Raw p q = p.1 (q.0 refl)
 same_command : (name : Text) (rows : List Row) (a b : Command) → NamesCommand name rows a → NamesCommand name rows b → AreSameCommand a b
 same_command name rows (Show a) (Show b) p q = same_flag a b p.1 q.1
 same_command name rows (Json a) (Json b) p q = same_absent a b p.1 q.1
-same_command name rows (Listing a) (Listing b) p q = same_number _ 80 a b p.1.0 q.1.0
+same_command name rows (Listing a v) (Listing b w) p q = (same_selection rows a b p.1 q.1, same_number _ 80 v w p.2.0 q.2.0)
 same_command name rows Check Check p q = tt
 same_command name rows (Swap a f) (Swap b g) p q = (same_order_word a b (some_is (order_word a) (order_word b) (sym p.1 ∙ q.1)), same_file_form f g p.2 q.2)
 same_command name rows (Filter a f) (Filter b g) p q = (same_selection rows a b p.1 q.1, same_file_form f g p.2 q.2)
@@ -277,7 +275,7 @@ same_wanted rows a b p q =
 no_count : (name : Text) (rows : List Row) (command : Command) → NamesCommand name rows command → name ≡ codes "count" → ⊥
 no_count name rows (Show times) p e = omega (arith, ap mark p.0, ap mark e)
 no_count name rows (Json times) p e = omega (arith, ap mark p.0, ap mark e)
-no_count name rows (Listing width) p e = omega (arith, ap mark p.0, ap mark e)
+no_count name rows (Listing selection width) p e = omega (arith, ap mark p.0, ap mark e)
 no_count name rows Check p e = omega (arith, marked name rows Check p, ap mark e)
 no_count name rows (Swap order form) p e = omega (arith, ap mark p.0, ap mark e)
 no_count name rows (Filter selection form) p e = omega (arith, ap mark p.0, ap mark e)
@@ -285,7 +283,7 @@ no_count name rows (Filter selection form) p e = omega (arith, ap mark p.0, ap m
 no_calls : (name : Text) (rows : List Row) (command : Command) → NamesCommand name rows command → name ≡ codes "calls" → ⊥
 no_calls name rows (Show times) p e = omega (arith, ap mark p.0, ap mark e)
 no_calls name rows (Json times) p e = omega (arith, ap mark p.0, ap mark e)
-no_calls name rows (Listing width) p e = omega (arith, ap mark p.0, ap mark e)
+no_calls name rows (Listing selection width) p e = omega (arith, ap mark p.0, ap mark e)
 no_calls name rows Check p e = omega (arith, marked name rows Check p, ap mark e)
 no_calls name rows (Swap order form) p e = omega (arith, ap mark p.0, ap mark e)
 no_calls name rows (Filter selection form) p e = omega (arith, ap mark p.0, ap mark e)
@@ -293,7 +291,7 @@ no_calls name rows (Filter selection form) p e = omega (arith, ap mark p.0, ap m
 no_handshake : (name : Text) (rows : List Row) (command : Command) → NamesCommand name rows command → name ≡ codes "handshake" → ⊥
 no_handshake name rows (Show times) p e = omega (arith, ap mark p.0, ap mark e)
 no_handshake name rows (Json times) p e = omega (arith, ap mark p.0, ap mark e)
-no_handshake name rows (Listing width) p e = omega (arith, ap mark p.0, ap mark e)
+no_handshake name rows (Listing selection width) p e = omega (arith, ap mark p.0, ap mark e)
 no_handshake name rows Check p e = omega (arith, marked name rows Check p, ap mark e)
 no_handshake name rows (Swap order form) p e = omega (arith, ap mark p.0, ap mark e)
 no_handshake name rows (Filter selection form) p e = omega (arith, ap mark p.0, ap mark e)

@@ -1,9 +1,8 @@
 -- Two runs of the program by words that name one way, over the same input, end alike.
-use Rattle.std.proofs.Common.{◌≡◌, ◌≢◌, ℕ, Bool, false, ◌&&◌, List, [], ◌∷◌, ◌++◌, None, Some, Option, Result, Ok, Err, IfOk, string_bytes, refl, sym, ap, ◌∙◌, subst, arith, inl, inr, append-nil}
+use Rattle.std.proofs.Common.{◌≡◌, ◌≢◌, ℕ, Bool, false, ◌&&◌, List, [], ◌∷◌, ◌++◌, None, Some, Option, Result, Ok, Err, IfOk, string_bytes, codes, refl, sym, ap, ◌∙◌, subst, arith, inl, inr, append-nil}
 use Rattle.std.specs.Io.KnownBytes.{Appends}
 use Rattle.std.specs.declared.alloc.Global.{Global}
 use Rattle.clap.specs.Words.{Row, Text, subcommand_of}
-use Rattle.clap.specs.Faults.{fault_of}
 use Rattle.clap.specs.Kinds.{IsAmong}
 use Rattle.clap.specs.declared.error.kind.ErrorKind.TheVariants.{DisplayHelp, DisplayVersion}
 use Rattle.dbus_device.specs.Device.{Wrote}
@@ -24,7 +23,7 @@ use Rattle.dbus_rule.specs.declared.rule.Rule.{Rule}
 use Rattle.dbus_rule.specs.Rules.{SpellsRule}
 use Rattle.dbus_rule.specs.RuleViews.{rule_pairs}
 use Rattle.cli_options.specs.CommandLine.{wire_app}
-use Rattle.cli_options.specs.Named.{AreRulesOf, HasRuleFault, IsNamedBy, Names}
+use Rattle.cli_options.specs.Named.{AreRulesOf, HasRefused, HasRuleFault, IsNamedBy, IsSelectionGiven, Names, TakesRules}
 use Rattle.cli_options.specs.Selections.{AreSameCommand}
 use Rattle.cli_options.specs.Told.{TellsFault}
 use Rattle.cli_options.specs.Owners.{lacks_owner}
@@ -35,7 +34,8 @@ use Rattle.cli_options.specs.declared.asked.Asked.TheVariants.{Messages, Count, 
 use Rattle.cli_options.specs.declared.form.CountForm.{CountForm}
 use Rattle.dbus_handshake_input.specs.declared.side.Side.{Side}
 use Rattle.cli_options.specs.declared.command.Command.{Command}
-use Rattle.cli_options.specs.declared.command.Command.TheVariants.{Filter}
+use Rattle.cli_options.specs.declared.command.Command.TheVariants.{Filter, List as Listing}
+use Rattle.cli_options.specs.declared.selection.Selection.{Selection}
 use Rattle.cli_options.specs.declared.settings.Settings.{Settings}
 use Rattle.cli_options.specs.declared.wanted_calls.WantedCalls.{WantedCalls}
 use Rattle.cli_options.specs.declared.usage_fault.RefusedRule.{RefusedRule}
@@ -56,7 +56,7 @@ use Rattle.dbus_tool.specs.Handshaking.{TakesHandshake, TellsHandshake, ahead, h
 use Rattle.dbus_tool.specs.Words.{Does, DoesBy, DoesTask, Notes, RunsNoted, calls_wanted, table_form}
 use Rattle.dbus_tool.specs.declared.words.Task.{Task}
 use Rattle.dbus_tool.specs.declared.words.Task.TheVariants.{Run, CountAll, ListAll}
-use Rattle.dbus_tool.proofs.SameAsked.{AreSameAsked, marked, mark, same_asked}
+use Rattle.dbus_tool.proofs.SameAsked.{AreSameAsked, mark, mark_of, marked, same_asked}
 
 -- ---- words that name something have no rule that is refused
 
@@ -66,20 +66,26 @@ spelled_at [] after text (rule ∷ rules) h = (rule, h.0)
 spelled_at (first ∷ before) after text [] h = absurd h
 spelled_at (first ∷ before) after text (rule ∷ rules) h = spelled_at before after text rules h.1
 
-no_fault : (sub : Option (Text × List Row)) (asked : Asked) (refused : RefusedRule) → Names sub asked → HasRuleFault sub refused → ⊥
-no_fault None asked refused p h = p
-no_fault (Some sub) (Messages (Filter selection form) settings) refused p h =
-    let given = p.0.1 in
-    let fault = h.0 in
+none_refused : (rows : List Row) (selection : Selection) (refused : RefusedRule) → IsSelectionGiven rows selection → HasRefused rows refused → ⊥
+none_refused rows selection refused given fault =
     let first = fault.first in
-    let same : given.texts ≡ fault.texts = cc in
-    let rules = subst (λ (l : List Text). AreRulesOf l selection.rules.items) (same ∙ first.texts_are) given.rules in
+    let rules = subst (λ (l : List Text). AreRulesOf l selection.rules.items) first.texts_are given.rules in
     let at = spelled_at first.before first.after (string_bytes refused.text) selection.rules.items rules in
     not_both (string_bytes refused.text) (rule_pairs at.0) refused.reason refused.at at.1 first.fault
-no_fault (Some sub) (Messages command settings) refused p h = omega (arith, marked sub.0 sub.1 command p.0, ap mark h.0.named)
-no_fault (Some sub) (Count settings form) refused p h = omega (arith, ap mark p.0, ap mark h.0.named)
-no_fault (Some sub) (Calls settings wanted) refused p h = omega (arith, ap mark p.0, ap mark h.0.named)
-no_fault (Some sub) (Handshake side) refused p h = omega (arith, ap mark p.0, ap mark h.0.named)
+
+-- a name that has neither mark takes no rules
+takes_none : (name : Text) (rows : List Row) (own : ℕ) → mark name ≡ own → (own ≡ mark (codes "filter") → ⊥) → (own ≡ mark (codes "list") → ⊥) → TakesRules name rows → ⊥
+takes_none name rows own is f l (inl named) = f (sym is ∙ ap mark named)
+takes_none name rows own is f l (inr named) = l (sym is ∙ ap mark named.0)
+
+no_fault : (sub : Option (Text × List Row)) (asked : Asked) (refused : RefusedRule) → Names sub asked → HasRuleFault sub refused → ⊥
+no_fault None asked refused p h = p
+no_fault (Some sub) (Messages (Filter selection form) settings) refused p h = none_refused sub.1 selection refused p.0.1 h.0.refuses
+no_fault (Some sub) (Messages (Listing selection width) settings) refused p h = none_refused sub.1 selection refused p.0.1 h.0.refuses
+no_fault (Some sub) (Messages command settings) refused p h = takes_none sub.0 sub.1 (mark_of command) (marked sub.0 sub.1 command p.0) (λ e. omega (arith, e)) (λ e. omega (arith, e)) h.0.named
+no_fault (Some sub) (Count settings form) refused p h = takes_none sub.0 sub.1 (mark (codes "count")) (ap mark p.0) (λ e. omega (arith, e)) (λ e. omega (arith, e)) h.0.named
+no_fault (Some sub) (Calls settings wanted) refused p h = takes_none sub.0 sub.1 (mark (codes "calls")) (ap mark p.0) (λ e. omega (arith, e)) (λ e. omega (arith, e)) h.0.named
+no_fault (Some sub) (Handshake side) refused p h = takes_none sub.0 sub.1 (mark (codes "handshake")) (ap mark p.0) (λ e. omega (arith, e)) (λ e. omega (arith, e)) h.0.named
 
 module _ {R W E : Type 0} (left : R → Option (List ℕ)) (calls failures : R → ℕ) (packets : R → Option Packets) (packet : R → Option Packet) (old new : ReadAhead R) (w : Writing W) (e : Writing E) (words : List Text) (one : NameOneWay words) (end : ExitStatus) (done : end ≢ status.Failed) where
   answer_is : (answer : Result Asked UsageFault) → IfOk answer (IsNamedBy words) → TellsFault words answer → Does left calls failures packets packet old new w e answer end

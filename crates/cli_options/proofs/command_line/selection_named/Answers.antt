@@ -1,19 +1,11 @@
-use Rattle.std.proofs.Common.{◌≡◌, List, Some, None, refl, sym, ap, ◌∙◌, option_map, codes, map}
+use Rattle.std.proofs.Common.{codes}
 use Rattle.std.proofs.lemmas.Result.{err_from_is_err_and}
-use Rattle.clap.specs.Words.{Text, found_of, rows_of, all_of}
-use Rattle.clap.proofs.WalkLemmas.{raw_values-rows}
+use Rattle.clap.specs.Words.{found_of, rows_of}
 use Rattle.dbus_match.specs.Matching.{ownership}
 use Rattle.cli_options.specs.Named.{words_of}
 use Rattle.cli_options.proofs.Numbers.{each_can}
-use Rattle.cli_options.proofs.Tells.{no_command_told, unowned_told, unruled_told}
-use Rattle.cli_options.proofs.Nothing.{bare_is_no_command}
+use Rattle.cli_options.proofs.Tells.{unowned_told, unruled_told}
 use Rattle.cli_options.proofs.command_line.selection_named.Goals as goal
-
-pub returns-in_default : goal.returns-in_default
-returns-in_default c =
-    let given : all_of (codes "rule") (rows_of (found_of c.args.inner.now)) ≡ None
-    = sym (raw_values-rows (found_of c.args.inner.now) (codes "rule")) ∙ (sym c.get_strs.ensures ∙ ap (option_map (λ s. map (λ v. v.now) s.now)) c.in_default.is) in
-    no_command_told _ _ c.usage.result c.usage.ensures (bare_is_no_command _ given)
 
 pub returns-in_err-owners : goal.returns-in_err-owners
 returns-in_err-owners c =
@@ -23,20 +15,9 @@ returns-in_err-owners c =
 pub returns-in_err-rules : goal.returns-in_err-rules
 returns-in_err-rules c =
     let rows = rows_of (found_of c.args.inner.now) in
-    let texts : List Text = map (λ v. v.now) c.in-Some.texts.now in
-    let given : all_of (codes "rule") rows ≡ Some texts
-    = sym (raw_values-rows (found_of c.args.inner.now) (codes "rule")) ∙ (sym c.get_strs.ensures ∙ ap (option_map (λ s. map (λ v. v.now) s.now)) c.in-Some.is) in
     let owners = each_can _ _ (λ word owner is. (ownership owner, is)) (words_of (codes "owner") rows) c.in_ok-owners.owners.items c.in_ok-owners.ensures in
     let p = err_from_is_err_and c.from_residual-in_err-rules.result c.from_residual-in_err-rules.ensures.1 in
-    rw (p.1, p.2) (unruled_told rows texts c.is_given.result c.in_err-rules.field-0.0 given owners c.is_given.ensures c.in_err-rules.ensures)
+    rw (p.1, p.2) (unruled_told rows c.is_given.result c.in_err-rules.field-0.0 owners c.is_given.ensures c.in_err-rules.ensures)
 
 pub returns : goal.returns
-returns c =
-    let rows = rows_of (found_of c.args.inner.now) in
-    let texts : List Text = map (λ v. v.now) c.in-Some.texts.now in
-    let given : all_of (codes "rule") rows ≡ Some texts
-    = sym (raw_values-rows (found_of c.args.inner.now) (codes "rule")) ∙ (sym c.get_strs.ensures ∙ ap (option_map (λ s. map (λ v. v.now) s.now)) c.in-Some.is) in (
-      refl,
-      record { texts = texts; given = given; rules = c.in_ok-rules.ensures; inverted = c.is_given-2.ensures; owners = c.in_ok-owners.ensures; learns = c.is_given-3.ensures },
-      c.file_form_named.ensures,
-    )
+returns c = record { rules = c.in_ok-rules.ensures; inverted = c.is_given-2.ensures; owners = c.in_ok-owners.ensures; learns = c.is_given-3.ensures }

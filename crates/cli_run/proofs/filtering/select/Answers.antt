@@ -7,11 +7,11 @@ use Rattle.cli_run.proofs.OutputSteps.{views_it}
 use Rattle.cli_run.proofs.filtering.select.Goals as goal
 
 pub returns : goal.returns
-returns c = λ order m form whole.
+returns c = λ order m whole.
     let views = views_it c.args.lent.now.limits c.args.lent.now.bytes.now c.of_validated-view.result order m c.of_validated-view.ensures.viewed whole in
     let selection = c.args.selector.now.selection.now in
     let owners = c.in_ok-known.ensures in
     record {
-      picks = subst (λ (os : OwnerSet). Decides c.selects-is_selected.result (SelectsBy selection (owners_in os) m)) owners (c.selects-is_selected.ensures order m views);
+      selects = subst (λ (os : OwnerSet). Decides c.selects-is_selected.result (SelectsBy selection (owners_in os) m)) owners (c.selects-is_selected.ensures order m views);
       owners = c.in_ok-learn.ensures order m views ∙ ap (λ (os : OwnerSet). known_after selection os m) owners;
     }
