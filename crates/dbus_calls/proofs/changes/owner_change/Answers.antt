@@ -1,5 +1,5 @@
-use Rattle.std.proofs.Common.{◌≡◌, Bool, false, Option, None, option_map, codes, if◌then◌else◌, sym, ◌∙◌}
-use Rattle.dbus_calls.specs.OwnerChanges.{Change, changed_by, is_of_bus, name_told}
+use Rattle.std.proofs.Common.{◌≡◌, false, None, option_map, codes, if◌then◌else◌, sym, ◌∙◌}
+use Rattle.dbus_calls.specs.OwnerChanges.{changed_by, is_of_bus, name_told}
 use Rattle.dbus_calls.specs.OwnerChanges.Change.{Owned, Lost}
 use Rattle.dbus_calls.proofs.changes.owner_change.Goals as goal
 

@@ -1,8 +1,8 @@
-use Rattle.std.proofs.Common.{arith, ap, sym, ◌∙◌, ◌≡◌, ◌&&◌, not, Bool, true, false, refl}
+use Rattle.std.proofs.Common.{ap, sym, ◌∙◌, ◌≡◌, ◌&&◌, not, Bool, true, false, refl}
 use Rattle.std.specs.Str.{bytes_eq}
 use Rattle.dbus_rule_set.proofs.OwnerSets.{contains_lost, held, same_owners}
 use Rattle.dbus_rule_set.specs.Owners.{without_owner}
-use Rattle.dbus_rule_set.specs.Groups.{has, owners_by}
+use Rattle.dbus_rule_set.specs.Groups.{owners_by}
 use Rattle.dbus_rule_set.proofs.owners.Owners.lose.Goals as goal
 
 both : (a b : Bool) → (a && b) ≡ (b && a)

@@ -1,0 +1,2 @@
+pub mod KeptSteps
+pub mod OpenNames

@@ -1,0 +1,5 @@
+pub mod NameCalls
+pub mod Telling
+pub mod NameStates
+pub mod Kept
+pub mod Laws

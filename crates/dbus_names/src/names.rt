@@ -1,0 +1,211 @@
+//! Who has which name.
+#![tactic(auto)]
+
+ghost use Rattle.std.specs.Prelude.{◌≡◌, ℕ, List, Bool, IfOk, OnOk, option_map};
+ghost use Rattle.dbus_value_model.specs.declared.order.Order.{Order};
+ghost use Rattle.dbus_message_model.specs.Messages.{MessageTree};
+ghost use Rattle.dbus_view.specs.Views.{Views};
+ghost use Rattle.dbus_calls.specs.Changes.{change_seen};
+ghost use Rattle.dbus_calls.specs.Events.{event_of};
+ghost use Rattle.dbus_calls.specs.Events.Event.{Calls};
+ghost use Rattle.dbus_names.specs.Kept.{call_kept, call_seen, calls_of, state_of};
+ghost use Rattle.dbus_names.specs.NameStates.{answered_by, asked_by, calls_after, known_after, known_first, owners_after, owners_by};
+ghost use Rattle.dbus_names.specs.Telling.{reply_told};
+ghost use Rattle.dbus_calls.specs.OwnerChanges.{change_of};
+
+use crate::kept_call::KeptCall;
+use crate::name_call::{NameCall, name_call_of};
+use crate::telling::holder_told;
+use dbus_calls::{CallSeen, Event, OpenCalls, OwnerChange, event_of, owner_change};
+use dbus_rule_set::Owners;
+use dbus_view::MessageView;
+use std::alloc::{AllocError, Global};
+
+/// Which names are wanted.
+pub trait NameFilter {
+    // Whether it wants a name.
+    ghost wanted: { Self → List ℕ → Bool };
+
+    /// Whether this name is wanted.
+    fn wants(&self, name: &str) -> bool
+        ensures { result ≡ wanted self.now name.now };
+}
+
+/// Who has which name, as messages tell it one after the other, in the order of their input.
+///
+/// It holds memory for the owners of names that are wanted, and for the open calls whose replies
+/// tell more of these. A message takes time for its own header and the logarithm of the number of
+/// names and open calls; if a caller is gone, for each of its calls.
+///
+/// ```rust
+/// use dbus_names::Names;
+/// use dbus_message::MessageView;
+/// use dbus_rule_set::Owners;
+///
+/// let mut names = Names::new(alloc, Owners::new(alloc));
+/// names.take(&MessageView::of(bytes)?, &all)?;
+/// println!(rt; "{}", names.owners().of(":1.7").is_some())?;
+/// ```
+#[derive(Drop)]
+pub struct Names {
+    alloc: Global,
+    owners: Owners,
+    calls: OpenCalls<KeptCall>,
+}
+
+impl Names {
+    /// These owners are known, and no message was taken. It allocates nothing.
+    pub fn new(alloc: Global, owners: Owners) -> Names
+        ensures { state_of result ≡ known_first owners }
+    {
+        Names {
+            alloc,
+            owners,
+            calls: OpenCalls::new(alloc),
+        }
+    }
+
+    /// The owners of names that are known.
+    pub fn owners(&self) -> &Owners
+        ensures { result.now ≡ (state_of self.now).owners }
+    {
+        &self.owners
+    }
+
+    /// Takes the next message, and learns from it who has a name that is wanted: by a signal of the
+    /// bus, or by a reply to a call that was taken before. D-Bus Specification, "Message Bus
+    /// Messages".
+    ///
+    /// `AllocError`: an allocation failed. Then it may have lost the call that the message answers.
+    pub fn take<F: NameFilter>(&mut self, view: &MessageView, filter: &F) -> Result<(), AllocError>
+        ensures { (order : Order) (m : MessageTree) → Views view.now order m →
+            OnOk result (state_of self.new ≡ known_after (F.wanted filter.now) (state_of self.old) m) }
+    {
+        match self.pair(view, filter)? {
+            Some(call) => note_reply(view, &call, filter, &mut self.owners),
+            None => note_signal(view, filter, &mut self.owners),
+        }
+    }
+
+    // Opens and closes calls by the message. Returns the one that it answers.
+    fn pair<F: NameFilter>(
+        &mut self,
+        view: &MessageView,
+        filter: &F,
+    ) -> Result<Option<KeptCall>, AllocError>
+        ensures owners { self.new.owners ≡ self.old.owners }
+        ensures calls { (order : Order) (m : MessageTree) → Views view.now order m →
+            OnOk result ((c : List ℕ) (s : ℕ) → calls_of self.new c s ≡
+            calls_after (calls_of self.old) (event_of m) (asked_by (F.wanted filter.now) m) c s) }
+        ensures answered { (order : Order) (m : MessageTree) → Views view.now order m →
+            IfOk result (λ call. option_map call_kept call ≡ answered_by (calls_of self.old) (event_of m)) }
+    {
+        match event_of(view) {
+            Event::Call(call) => {
+                self.take_call(call, asked_by(view, filter))?;
+                Ok(None)
+            }
+            Event::Reply(reply) => {
+                Ok(self
+                    .calls
+                    .answer(reply.caller, reply.serial, reply.sender))
+            }
+            Event::Departure(name) => {
+                self.calls.close_all(name);
+                Ok(None)
+            }
+            Event::Other => Ok(None),
+        }
+    }
+
+    // Opens the call, if it wants a reply and this is what it asks, or else closes the one whose
+    // serial it uses again.
+    fn take_call(&mut self, call: CallSeen<'_>, asked: Option<NameCall<'_>>) -> Result<(), AllocError>
+        ensures owners { self.new.owners ≡ self.old.owners }
+        ensures calls { OnOk result ((c : List ℕ) (s : ℕ) → calls_of self.new c s ≡
+            calls_after (calls_of self.old)
+            (Calls call.entry.caller.now call.entry.serial call.entry.wants_reply)
+            (option_map call_seen asked.entry) c s) }
+    {
+        match asked {
+            Some(name_call) if call.wants_reply => {
+                let kept = KeptCall::of(self.alloc, name_call)?;
+                self.calls.open(call.caller, call.serial, kept)?;
+            }
+            _ => {
+                self.calls.close(call.caller, call.serial);
+            }
+        }
+        Ok(())
+    }
+}
+
+// What the message asks of a name that is wanted.
+fn asked_by<'a, F: NameFilter>(view: &MessageView<'a>, filter: &F) -> Option<NameCall<'a>>
+    ensures { (order : Order) (m : MessageTree) → Views view.now order m →
+        option_map call_seen result ≡ asked_by (F.wanted filter.now) m }
+{
+    let call = name_call_of(view)?;
+    if filter.wants(call.name) {
+        Some(call)
+    } else {
+        None
+    }
+}
+
+// Changes the owners by the message as the reply to a call.
+fn note_reply<F: NameFilter>(
+    view: &MessageView,
+    call: &KeptCall,
+    filter: &F,
+    owners: &mut Owners,
+) -> Result<(), AllocError>
+    ensures { (order : Order) (m : MessageTree) → Views view.now order m →
+        OnOk result (owners.new ≡ owners_after (F.wanted filter.now) (reply_told (call_kept call.now) m) owners.old) }
+{
+    let Some(unique) = holder_told(view, call.holder) else {
+        return Ok(());
+    };
+    let name = call.name.as_str();
+    if filter.wants(name) {
+        owners.set(name, unique)
+    } else {
+        Ok(())
+    }
+}
+
+// Changes the owners by the message as a signal of the bus.
+fn note_signal<F: NameFilter>(
+    view: &MessageView,
+    filter: &F,
+    owners: &mut Owners,
+) -> Result<(), AllocError>
+    ensures { (order : Order) (m : MessageTree) → Views view.now order m →
+        OnOk result (owners.new ≡ owners_after (F.wanted filter.now) (change_of m) owners.old) }
+{
+    let Some(change) = owner_change(view) else {
+        return Ok(());
+    };
+    if filter.wants(change.name()) {
+        note(change, owners)
+    } else {
+        Ok(())
+    }
+}
+
+// Changes the owners by what is said of one.
+fn note(change: OwnerChange<'_>, owners: &mut Owners) -> Result<(), AllocError>
+    ensures { OnOk result (owners.new ≡ owners_by (change_seen change.entry) owners.old) }
+{
+    match change {
+        OwnerChange::Owned(owner) => owners.set(owner.name, owner.unique),
+        OwnerChange::Free(name) => {
+            owners.remove(name);
+            Ok(())
+        }
+        OwnerChange::Lost(owner) => {
+            owners.lose(owner.name, owner.unique);
+            Ok(())
+        }
+    }
+}
