@@ -66,7 +66,7 @@ _dbus_wire() {
             fi
             ;;
         show)
-            COMPREPLY=($(compgen -W "--time --skip --limit --keep-going $options" -- "$word"))
+            COMPREPLY=($(compgen -W "--time --escape --skip --limit --keep-going $options" -- "$word"))
             ;;
         json)
             COMPREPLY=($(compgen -W "--no-time --skip --limit --keep-going $options" -- "$word"))

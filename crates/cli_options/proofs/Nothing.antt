@@ -48,7 +48,7 @@ module _ (sub : Text × List Row) (other : sub.0 ≡ codes "handshake" → ⊥) 
 -- `handshake` with no side
 module _ (rows : List Row) (no_side : (side : Side) → first_of (codes "side") rows ≡ Some (side_word side) → ⊥) where
   no_messages : (command : Command) → NamesCommand (codes "handshake") rows command → ⊥
-  no_messages (Show times) named = let bad : ◌≡◌ {A = ℕ} 104 115 = ap (λ t. slice_index t 0) named.0 in absurd (omega arith)
+  no_messages (Show times escapes) named = let bad : ◌≡◌ {A = ℕ} 104 115 = ap (λ t. slice_index t 0) named.0 in absurd (omega arith)
   no_messages (Json times) named = let bad : ◌≡◌ {A = ℕ} 104 106 = ap (λ t. slice_index t 0) named.0 in absurd (omega arith)
   no_messages (Listing selection width) named = let bad : ◌≡◌ {A = ℕ} 104 108 = ap (λ t. slice_index t 0) named.0 in absurd (omega arith)
   no_messages Check named = let bad : ◌≡◌ {A = ℕ} 104 99 = ap (λ t. slice_index t 0) named in absurd (omega arith)
@@ -70,7 +70,7 @@ module _ (rows : List Row) (no_side : (side : Side) → first_of (codes "side") 
 -- `calls` with what it is not to list
 module _ (rows : List Row) (no_wanted : (wanted : WantedCalls) → HasWanted rows wanted → ⊥) where
   no_calls : (command : Command) → NamesCommand (codes "calls") rows command → ⊥
-  no_calls (Show times) named = let bad : ◌≡◌ {A = ℕ} 99 115 = ap (λ t. slice_index t 0) named.0 in absurd (omega arith)
+  no_calls (Show times escapes) named = let bad : ◌≡◌ {A = ℕ} 99 115 = ap (λ t. slice_index t 0) named.0 in absurd (omega arith)
   no_calls (Json times) named = let bad : ◌≡◌ {A = ℕ} 99 106 = ap (λ t. slice_index t 0) named.0 in absurd (omega arith)
   no_calls (Listing selection width) named = let bad : ◌≡◌ {A = ℕ} 99 108 = ap (λ t. slice_index t 0) named.0 in absurd (omega arith)
   no_calls Check named = let bad : ◌≡◌ {A = ℕ} 97 104 = ap (λ t. slice_index t 1) named in absurd (omega arith)
@@ -91,7 +91,7 @@ module _ (rows : List Row) (no_wanted : (wanted : WantedCalls) → HasWanted row
 
 module _ (rows : List Row) (no_order : (order : Order) → first_of (codes "to") rows ≡ Some (order_word order) → ⊥) where
   unordered_command : (command : Command) → NamesCommand (codes "swap") rows command → ⊥
-  unordered_command (Show times) named = let bad : ◌≡◌ {A = ℕ} 119 104 = ap (λ t. slice_index t 1) named.0 in absurd (omega arith)
+  unordered_command (Show times escapes) named = let bad : ◌≡◌ {A = ℕ} 119 104 = ap (λ t. slice_index t 1) named.0 in absurd (omega arith)
   unordered_command (Json times) named = let bad : ◌≡◌ {A = ℕ} 115 106 = ap (λ t. slice_index t 0) named.0 in absurd (omega arith)
   unordered_command (Listing selection width) named = let bad : ◌≡◌ {A = ℕ} 115 108 = ap (λ t. slice_index t 0) named.0 in absurd (omega arith)
   unordered_command Check named = let bad : ◌≡◌ {A = ℕ} 115 99 = ap (λ t. slice_index t 0) named in absurd (omega arith)
@@ -107,7 +107,7 @@ module _ (rows : List Row) (no_order : (order : Order) → first_of (codes "to")
 
 module _ (rows : List Row) (no_width : (width : ℕ) → HasWidth rows width → ⊥) where
   unwide_command : (command : Command) → NamesCommand (codes "list") rows command → ⊥
-  unwide_command (Show times) named = let bad : ◌≡◌ {A = ℕ} 108 115 = ap (λ t. slice_index t 0) named.0 in absurd (omega arith)
+  unwide_command (Show times escapes) named = let bad : ◌≡◌ {A = ℕ} 108 115 = ap (λ t. slice_index t 0) named.0 in absurd (omega arith)
   unwide_command (Json times) named = let bad : ◌≡◌ {A = ℕ} 108 106 = ap (λ t. slice_index t 0) named.0 in absurd (omega arith)
   unwide_command (Listing selection width) named = no_width width named.2
   unwide_command Check named = let bad : ◌≡◌ {A = ℕ} 108 99 = ap (λ t. slice_index t 0) named in absurd (omega arith)
@@ -131,7 +131,7 @@ module _ (name : Text) (rows : List Row) (takes : TakesRules name rows) (no_owne
   other first is f l = takes_none name rows first is f l takes
 
   unselected_command : (command : Command) → NamesCommand name rows command → ⊥
-  unselected_command (Show times) named = other 115 (ap (λ t. slice_index t 0) named.0) (λ e. omega (arith, e)) (λ e. omega (arith, e))
+  unselected_command (Show times escapes) named = other 115 (ap (λ t. slice_index t 0) named.0) (λ e. omega (arith, e)) (λ e. omega (arith, e))
   unselected_command (Json times) named = other 106 (ap (λ t. slice_index t 0) named.0) (λ e. omega (arith, e)) (λ e. omega (arith, e))
   unselected_command (Listing selection width) named = unselected selection named.1
   unselected_command Check named = other 99 (ap (λ t. slice_index t 0) named) (λ e. omega (arith, e)) (λ e. omega (arith, e))

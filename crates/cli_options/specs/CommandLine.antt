@@ -61,7 +61,7 @@ abbrev pub with_selection : (needed : Bool) → App → App
 with_selection needed app = with_rule (with_rule (with_rule (with_rule app (text_rule needed)) (flag_rule (codes "invert"))) owner_rule) (flag_rule (codes "learn-owners"))
 
 abbrev pub show_app : App
-show_app = with_window (with_rule (new_app (codes "show")) (flag_rule (codes "time")))
+show_app = with_window (with_rule (with_rule (new_app (codes "show")) (flag_rule (codes "time"))) (flag_rule (codes "escape")))
 
 abbrev pub json_app : App
 json_app = with_window (with_rule (new_app (codes "json")) (flag_rule (codes "no-time")))

@@ -81,10 +81,10 @@ pub record IsSelectionGiven (rows : List Row) (selection : Selection) : Type 0 w
   pub owners : AreOwnersOf (words_of (codes "owner") rows) selection.owners.items
   pub learns : (selection.learns ≡ true) ↔ IsGiven (codes "learn-owners") rows
 
--- the name of a subcommand and the words after it name the command; `show` writes times if its flag
--- is given, and `json` if its flag is not
+-- the name of a subcommand and the words after it name the command; `show` writes times, and
+-- escapes hidden characters, if its flags are given, and `json` writes times if its flag is not
 abbrev pub NamesCommand : Text → List Row → Command → Type 0
-NamesCommand name rows (Show times) = (name ≡ codes "show") × ((times ≡ true) ↔ IsGiven (codes "time") rows)
+NamesCommand name rows (Show times escapes) = (name ≡ codes "show") × ((times ≡ true) ↔ IsGiven (codes "time") rows) × ((escapes ≡ true) ↔ IsGiven (codes "escape") rows)
 NamesCommand name rows (Json times) = (name ≡ codes "json") × ((times ≡ false) ↔ IsGiven (codes "no-time") rows)
 NamesCommand name rows (Listing selection width) = (name ≡ codes "list") × IsSelectionGiven rows selection × HasWidth rows width
 NamesCommand name rows Check = name ≡ codes "check"

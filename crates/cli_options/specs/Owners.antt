@@ -64,7 +64,7 @@ abbrev pub selection_lacks_owner : Selection → Bool
 selection_lacks_owner selection = not selection.learns && some_needs_owner selection.owners.items selection.rules.items
 
 abbrev pub lacks_owner : Command → Bool
-lacks_owner (Show times) = false
+lacks_owner (Show times escapes) = false
 lacks_owner (Json times) = false
 lacks_owner (Listing selection width) = selection_lacks_owner selection
 lacks_owner Check = false

@@ -10,6 +10,8 @@ pub enum Command {
     Show {
         /// Whether its time stands before it, if it has one.
         times: bool,
+        /// Whether hidden characters, which a terminal obeys or does not draw, are escaped.
+        escapes: bool,
     },
     /// Writes each message as a line of JSON.
     Json {

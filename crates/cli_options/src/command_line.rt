@@ -177,7 +177,8 @@ fn command_with(alloc: Global, name: &str, inner: &ArgMatches) -> Result<Command
 {
     if name == "show" {
         let times = is_given(inner, "time");
-        return Ok(Command::Show { times });
+        let escapes = is_given(inner, "escape");
+        return Ok(Command::Show { times, escapes });
     }
     if name == "json" {
         let times = !is_given(inner, "no-time");

@@ -15,7 +15,10 @@ impl Clone for Command {
     /// Returns `AllocError` if an allocation failed, and nothing of the copy is left then.
     fn clone(&self) -> Result<Command, AllocError> {
         match self {
-            Command::Show { times } => Ok(Command::Show { times: *times }),
+            Command::Show { times, escapes } => Ok(Command::Show {
+                times: *times,
+                escapes: *escapes,
+            }),
             Command::Json { times } => Ok(Command::Json { times: *times }),
             Command::List(selection, width) => Ok(Command::List(selection.clone()?, *width)),
             Command::Check => Ok(Command::Check),

@@ -80,14 +80,18 @@ pub(crate) const SHOW_MORE: &str = more!(
   For each message a line on standard output with its number from 1, byte order,
   type, serial, flags and header fields, and below it a line for each value of
   its body. With --time the first line begins with the time of the message, in
-  seconds since 1970, and a space, if the file has it. If the input is refused,
-  `refused at P: NAME` on standard error.",
+  seconds since 1970, and a space, if the file has it. With --escape characters
+  that a terminal obeys or does not draw are written as \\u{202e}. If the input
+  is refused, `refused at P: NAME` on standard error.",
     "
   dbus-monitor --session --binary | dbus-wire show"
 );
 
 /// What `--time` of `show` does.
 pub(crate) const TIME: &str = "Writes the time of each message before it";
+
+/// What `--escape` of `show` does.
+pub(crate) const ESCAPE: &str = "Writes hidden characters as \\u{202e}";
 
 /// What `json` does.
 pub(crate) const JSON: &str = "Writes each message as a line of JSON";

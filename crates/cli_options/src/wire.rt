@@ -162,12 +162,13 @@ fn with_selection<'a>(
     with_arg(owning, flag(alloc, "learn-owners", help::LEARN_OWNERS))
 }
 
-// `show`, with its flag.
+// `show`, with its flags.
 fn show_command<'a>(alloc: Global) -> Result<Command<'a>, AllocError>
     ensures { IfOk result (IsLocal show_app) }
 {
     let show = bare(alloc, "show", help::SHOW, help::SHOW_USAGE, help::SHOW_MORE);
-    with_window(alloc, with_arg(show, flag(alloc, "time", help::TIME)))
+    let timed = with_arg(show, flag(alloc, "time", help::TIME));
+    with_window(alloc, with_arg(timed, flag(alloc, "escape", help::ESCAPE)))
 }
 
 // `json`, with its flag.

@@ -64,7 +64,7 @@ module _ (limits : Limits) where
   ]
   one_made (Swap wanted Raw) os order m place texts form valid packet p = absurd (let e : ◌≡◌ {A = FileForm} Raw AsRead = form in cc)
   one_made (Filter selection Raw) os order m place texts form valid packet p = absurd (let e : ◌≡◌ {A = FileForm} Raw AsRead = form in cc)
-  one_made (Show times) os order m place texts form valid packet p = absurd (let e : ◌≡◌ {A = FileForm} Raw AsRead = form in cc)
+  one_made (Show times escapes) os order m place texts form valid packet p = absurd (let e : ◌≡◌ {A = FileForm} Raw AsRead = form in cc)
   one_made (Json times) os order m place texts form valid packet p = absurd (let e : ◌≡◌ {A = FileForm} Raw AsRead = form in cc)
   one_made (Listing selection width) os order m place texts form valid packet p = absurd (let e : ◌≡◌ {A = FileForm} Raw AsRead = form in cc)
   one_made Check os order m place texts form valid packet p = absurd (let e : ◌≡◌ {A = FileForm} Raw AsRead = form in cc)
@@ -72,7 +72,7 @@ module _ (limits : Limits) where
   same_owners : (command : Command) (os : OwnerSet) (m : MessageTree) → owners_after command os m ≡ owners_after (raw_of command) os m
   same_owners (Swap wanted form) os m = refl
   same_owners (Filter selection form) os m = refl
-  same_owners (Show times) os m = refl
+  same_owners (Show times escapes) os m = refl
   same_owners (Json times) os m = refl
   same_owners (Listing selection width) os m = refl
   same_owners Check os m = refl

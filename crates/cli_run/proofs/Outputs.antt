@@ -21,7 +21,7 @@ use Rattle.cli_options.specs.declared.file_form.FileForm.TheVariants.{AsRead, Ra
 use Rattle.cli_options.specs.declared.command.Command.TheVariants.{Show, Json, List as Listing, Check, Swap, Filter}
 use Rattle.cli_run.specs.Inputs.{ArePlaced, IsPlaced, Part, PassedOver, Placed, Whole, sizes_of, wholes}
 use Rattle.cli_run.specs.Laws.{OneFront, OneOutput, SomeOutput}
-use Rattle.cli_run.specs.Output.{AreAlike, IsExact, begun_after, form_of, framed, header_before, header_if, is_framed, whole_output, IsFront, IsOutputOf, IsOutputOfAll, IsTextOf, Picks, last_line, line_place, shown_text, told_place, owners_after, owners_known, owners_after_all}
+use Rattle.cli_run.specs.Output.{AreAlike, IsExact, begun_after, form_of, framed, header_before, header_if, is_framed, whole_output, IsFront, IsOutputOf, IsOutputOfAll, IsTextOf, Picks, last_line, line_place, seen_if, shown_text, told_place, owners_after, owners_known, owners_after_all}
 use Rattle.cli_report.specs.Gathering.{IsPrefixTo}
 use Rattle.cli_run.specs.declared.place.MessagePlace.{MessagePlace}
 use Rattle.cli_run.specs.VisitorLaws.{header_both, output_both}
@@ -36,7 +36,7 @@ picked (Filter selection form) os message = selected selection (owners_in os) me
 picked command os message = inl tt
 
 pub some_text : (command : Command) (order : Order) (message : MessageTree) (place : MessagePlace) → (text : List ℕ) × IsTextOf command order message place text
-some_text (Show times) order message place = (shown_text order message (told_place times place), refl)
+some_text (Show times escapes) order message place = (seen_if escapes (shown_text order message (told_place times place)), refl)
 some_text (Json times) order message place = some_line_each order message (line_place (told_place times place))
 some_text (Listing selection width) order message place = some_listed width (line_place place) order message
 some_text Check order message place = ([], refl)
@@ -120,8 +120,8 @@ text_one : (command : Command) (order : Order) (message : MessageTree) (place ot
     → IsTextOf command order message place a → IsTextOf command order message other b → a ≡ b
 text_one (Json times) order message place other a b exact number alike p q = absurd exact
 text_one (Listing selection width) order message place other a b exact number alike p q = absurd exact
-text_one (Show true) order message place other a b exact number alike p q = absurd exact
-text_one (Show false) order message place other a b exact number alike p q = p ∙ (ap (message_text order message) number ∙ sym q)
+text_one (Show true escapes) order message place other a b exact number alike p q = absurd exact
+text_one (Show false escapes) order message place other a b exact number alike p q = p ∙ (ap (λ n. seen_if escapes (message_text order message n)) number ∙ sym q)
 text_one (Swap wanted form) order message place other a b exact number alike p q = p ∙ (framed_one form place other (message_bytes wanted message) alike ∙ sym q)
 text_one (Filter selection form) order message place other a b exact number alike p q = p ∙ (framed_one form place other (message_bytes order message) alike ∙ sym q)
 text_one Check order message place other a b exact number alike p q = p ∙ sym q

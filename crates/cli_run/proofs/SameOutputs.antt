@@ -207,7 +207,7 @@ itself : (a : Command) → ActsAs a a
 itself a = record { checks = refl; form = refl; exact = λ e. e; picks = λ os m. (λ p. p, λ p. p); texts = λ order m place text t. t; known = refl; learned = λ os m. refl }
 
 pub acts_as : (a b : Command) → AreSameCommand a b → ActsAs a b
-acts_as (Show a) (Show b) h = subst (λ (times : Bool). ActsAs (Show a) (Show times)) h (itself (Show a))
+acts_as (Show a x) (Show b y) h = transport (λ i. ActsAs (Show a x) (Show (h.0 i) (h.1 i))) (itself (Show a x))
 acts_as (Json a) (Json b) h = subst (λ (times : Bool). ActsAs (Json a) (Json times)) h (itself (Json a))
 acts_as (Listing x v) (Listing y w) h = record {
   checks = refl;

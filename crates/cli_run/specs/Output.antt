@@ -11,6 +11,7 @@ use Rattle.dbus_stream.specs.Cut.{CutMessage}
 use Rattle.dbus_stream.specs.CutEnds.{sizes}
 use Rattle.dbus_pcap.specs.Written.{packet_of, written_header}
 use Rattle.dbus_capture.specs.PcapFiles.{header_bytes, packet_header_bytes}
+use Rattle.dbus_show.specs.Escapes.{visible}
 use Rattle.dbus_show.specs.ShownMessages.{message_text}
 use Rattle.dbus_json.specs.JsonMessages.{IsJsonLine}
 use Rattle.dbus_json.specs.Times.{seconds_text}
@@ -38,7 +39,7 @@ use Rattle.cli_run.specs.declared.output.Output.TheVariants.{InOrder, JsonLine, 
 -- which command writes what of each message
 abbrev pub command_of : Output → Command
 command_of Nothing = Check
-command_of (Text times) = Show times
+command_of (Text times escapes) = Show times escapes
 command_of (JsonLine times) = Json times
 command_of (Line selector width) = Listing selector.selection.now width
 command_of (InOrder order form) = Swap order form
@@ -91,6 +92,11 @@ time_text (Some nanoseconds) = seconds_text nanoseconds ++ codes " "
 abbrev pub shown_text : Order → MessageTree → MessagePlace → List ℕ
 shown_text order message place = time_text place.time ++ message_text order message place.number
 
+-- a text as it is, or with its hidden characters escaped, if that is wanted
+abbrev pub seen_if : (escapes : Bool) → List ℕ → List ℕ
+seen_if true text = visible text
+seen_if false text = text
+
 -- the form in which a command writes messages; of one that writes no messages it is raw
 abbrev pub form_of : Command → FileForm
 form_of (Swap wanted form) = form
@@ -136,7 +142,7 @@ line_place place = record { number = place.number; offset = place.offset; time =
 
 -- that text, if the message has this place in its input
 abbrev pub IsTextOf : Command → Order → MessageTree → MessagePlace → List ℕ → Type 0
-IsTextOf (Show times) order message place text = text ≡ shown_text order message (told_place times place)
+IsTextOf (Show times escapes) order message place text = text ≡ seen_if escapes (shown_text order message (told_place times place))
 IsTextOf (Json times) order message place text = IsJsonLine order message (line_place (told_place times place)) text
 IsTextOf (Listing selection width) order message place text = IsLine width (line_place place) order message text
 IsTextOf Check order message place text = text ≡ []
@@ -163,7 +169,7 @@ whole_output form items texts = header_before form false items ++ concat texts
 -- each byte that the command writes: no other time, which their packets have, and no DOUBLE of
 -- `json` and `list`, which may be any digits that read back as its bits
 abbrev pub IsExact : Command → Type 0
-IsExact (Show true) = ⊥
+IsExact (Show true escapes) = ⊥
 IsExact (Json times) = ⊥
 IsExact (Listing selection width) = ⊥
 IsExact command = Unit {0}

@@ -28,8 +28,8 @@ use std::alloc::{AllocError, Allocator};
 pub(crate) enum Output<'a> {
     /// Nothing.
     Nothing,
-    /// Its text, with its time before it or without.
-    Text { times: bool },
+    /// Its text, with its time before it or without, and hidden characters escaped or as they are.
+    Text { times: bool, escapes: bool },
     /// Its line of JSON, with its time or without.
     JsonLine { times: bool },
     /// Its line of at most so many cells, for a reader, if it is selected.
@@ -49,7 +49,10 @@ pub(crate) fn output_of(command: &Command) -> Result<Output<'_>, AllocError>
 {
     match command {
         Command::Check => Ok(Output::Nothing),
-        Command::Show { times } => Ok(Output::Text { times: *times }),
+        Command::Show { times, escapes } => Ok(Output::Text {
+            times: *times,
+            escapes: *escapes,
+        }),
         Command::Json { times } => Ok(Output::JsonLine { times: *times }),
         Command::List(selection, width) => Ok(Output::Line(Selector::new(selection)?, *width)),
         Command::Swap(order, form) => Ok(Output::InOrder(*order, *form)),
@@ -128,16 +131,7 @@ fn write_one<A: Allocator + Copy, W: Sink>(
     let place = lent.place;
     match output {
         Output::Nothing => Ok(()),
-        Output::Text { times } => {
-            show(
-                bytes,
-                validated,
-                limits,
-                place.told(*times),
-                gathered,
-                first,
-            )
-        }
+        Output::Text { times, escapes } => show(lent, *times, *escapes, gathered, first),
         Output::JsonLine { times } => {
             let told = place.told(*times);
             write_json_line(bytes, validated, limits, told, gathered, first)

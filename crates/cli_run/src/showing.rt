@@ -7,13 +7,13 @@ ghost use Rattle.dbus_validate.specs.Validating.{IsValidatedWhole};
 ghost use Rattle.cli_report.specs.Devices.{writing};
 ghost use Rattle.cli_report.specs.Gathering.{GathersOrNot, gathered_bytes};
 ghost use Rattle.cli_run.specs.Handing.{WritesJson, WritesListed};
-ghost use Rattle.cli_run.specs.Output.{line_place, shown_text, time_text};
+ghost use Rattle.cli_run.specs.Output.{line_place, seen_if, shown_text, time_text, told_place};
 
 use crate::place::{Lent, MessagePlace};
 use cli_report::{Cause, OutputBuffer, Page};
 use dbus_json::{LinePlace, write_json, write_seconds};
 use dbus_list::write_line;
-use dbus_show::Draft;
+use dbus_show::{Draft, Visible};
 use dbus_show_view::write_message;
 use dbus_stream::Sink;
 use dbus_validate::Validated;
@@ -29,28 +29,59 @@ fn write_time<D: Draft>(draft: &mut D, time: Option<u64>)
     }
 }
 
-/// Writes or gathers the text of the message that the bytes are, after its time if it has one.
+// Appends the text of the message, which has this place, after its time if it has one.
+fn write_shown<D: Draft>(draft: &mut D, lent: &Lent<'_>, place: MessagePlace)
+    requires { IsValidatedWhole lent.now.limits lent.now.bytes.now lent.now.validated }
+    ensures { (order : Order) (m : MessageTree) →
+        IsWhole lent.now.limits lent.now.bytes.now order m (length lent.now.bytes.now) →
+        D.gains draft.old (shown_text order m place) draft.new }
+{
+    write_time(draft, place.time);
+    write_message(
+        draft,
+        lent.bytes,
+        lent.limits,
+        &lent.validated,
+        place.number,
+    );
+}
+
+// The same, with its hidden characters escaped if that is wanted.
+fn write_seen<D: Draft>(draft: &mut D, lent: &Lent<'_>, place: MessagePlace, escapes: bool)
+    requires { IsValidatedWhole lent.now.limits lent.now.bytes.now lent.now.validated }
+    ensures { (order : Order) (m : MessageTree) →
+        IsWhole lent.now.limits lent.now.bytes.now order m (length lent.now.bytes.now) →
+        D.gains draft.old (seen_if escapes (shown_text order m place)) draft.new }
+{
+    if escapes {
+        write_shown(&mut Visible { draft }, lent, place);
+    } else {
+        write_shown(draft, lent, place);
+    }
+}
+
+/// Writes or gathers the text of the message, after its time if that is wanted and it has one, with
+/// its hidden characters escaped if that is wanted.
 pub(crate) fn show<W: Sink>(
-    bytes: &[u8],
-    validated: &Validated,
-    limits: Limits,
-    place: MessagePlace,
+    lent: &Lent<'_>,
+    times: bool,
+    escapes: bool,
     gathered: &mut OutputBuffer,
     first: &mut W,
 ) -> Result<(), Cause>
-    requires { IsValidatedWhole limits bytes.now validated.now }
+    requires { IsValidatedWhole lent.now.limits lent.now.bytes.now lent.now.validated }
     ensures { (order : Order) (m : MessageTree) →
-        IsWhole limits bytes.now order m (length bytes.now) →
-        GathersOrNot W.held W.failures (shown_text order m place) (gathered_bytes gathered.old)
-        (gathered_bytes gathered.new) first.old first.new result }
+        IsWhole lent.now.limits lent.now.bytes.now order m (length lent.now.bytes.now) →
+        GathersOrNot W.held W.failures
+        (seen_if escapes (shown_text order m (told_place times lent.now.place)))
+        (gathered_bytes gathered.old) (gathered_bytes gathered.new) first.old first.new result }
 {
     let mut page = Page {
         gathered,
         first,
         failed: false,
     };
-    write_time(&mut page, place.time);
-    write_message(&mut page, bytes, limits, validated, place.number);
+    write_seen(&mut page, lent, lent.place.told(times), escapes);
     if page.failed {
         Err(Cause::WriteFailed)
     } else {

@@ -226,7 +226,7 @@ abbrev pub mark : Text → ℕ
 mark t = slice_index t 0 * 256 + slice_index t 1
 
 abbrev pub mark_of : Command → ℕ
-mark_of (Show times) = mark (codes "show")
+mark_of (Show times escapes) = mark (codes "show")
 mark_of (Json times) = mark (codes "json")
 mark_of (Listing selection width) = mark (codes "list")
 mark_of Check = mark (codes "check")
@@ -234,7 +234,7 @@ mark_of (Swap order form) = mark (codes "swap")
 mark_of (Filter selection form) = mark (codes "filter")
 
 pub marked : (name : Text) (rows : List Row) (command : Command) → NamesCommand name rows command → mark name ≡ mark_of command
-marked name rows (Show times) h = ap mark h.0
+marked name rows (Show times escapes) h = ap mark h.0
 marked name rows (Json times) h = ap mark h.0
 marked name rows (Listing selection width) h = ap mark h.0
 marked name rows Check h = ap mark h
@@ -248,7 +248,7 @@ same_file_form files.Raw files.AsRead p q = sym (q.1 (p.0 refl))
 same_file_form files.AsRead files.Raw p q = p.1 (q.0 refl)
 
 same_command : (name : Text) (rows : List Row) (a b : Command) → NamesCommand name rows a → NamesCommand name rows b → AreSameCommand a b
-same_command name rows (Show a) (Show b) p q = same_flag a b p.1 q.1
+same_command name rows (Show a x) (Show b y) p q = (same_flag a b p.1 q.1, same_flag x y p.2 q.2)
 same_command name rows (Json a) (Json b) p q = same_absent a b p.1 q.1
 same_command name rows (Listing a v) (Listing b w) p q = (same_selection rows a b p.1 q.1, same_number _ 80 v w p.2.0 q.2.0)
 same_command name rows Check Check p q = tt
@@ -273,7 +273,7 @@ same_wanted rows a b p q =
     λ i. record { as_json = as_json i; unanswered = unanswered i; errors = errors i; slower = slower i }
 
 no_count : (name : Text) (rows : List Row) (command : Command) → NamesCommand name rows command → name ≡ codes "count" → ⊥
-no_count name rows (Show times) p e = omega (arith, ap mark p.0, ap mark e)
+no_count name rows (Show times escapes) p e = omega (arith, ap mark p.0, ap mark e)
 no_count name rows (Json times) p e = omega (arith, ap mark p.0, ap mark e)
 no_count name rows (Listing selection width) p e = omega (arith, ap mark p.0, ap mark e)
 no_count name rows Check p e = omega (arith, marked name rows Check p, ap mark e)
@@ -281,7 +281,7 @@ no_count name rows (Swap order form) p e = omega (arith, ap mark p.0, ap mark e)
 no_count name rows (Filter selection form) p e = omega (arith, ap mark p.0, ap mark e)
 
 no_calls : (name : Text) (rows : List Row) (command : Command) → NamesCommand name rows command → name ≡ codes "calls" → ⊥
-no_calls name rows (Show times) p e = omega (arith, ap mark p.0, ap mark e)
+no_calls name rows (Show times escapes) p e = omega (arith, ap mark p.0, ap mark e)
 no_calls name rows (Json times) p e = omega (arith, ap mark p.0, ap mark e)
 no_calls name rows (Listing selection width) p e = omega (arith, ap mark p.0, ap mark e)
 no_calls name rows Check p e = omega (arith, marked name rows Check p, ap mark e)
@@ -289,7 +289,7 @@ no_calls name rows (Swap order form) p e = omega (arith, ap mark p.0, ap mark e)
 no_calls name rows (Filter selection form) p e = omega (arith, ap mark p.0, ap mark e)
 
 no_handshake : (name : Text) (rows : List Row) (command : Command) → NamesCommand name rows command → name ≡ codes "handshake" → ⊥
-no_handshake name rows (Show times) p e = omega (arith, ap mark p.0, ap mark e)
+no_handshake name rows (Show times escapes) p e = omega (arith, ap mark p.0, ap mark e)
 no_handshake name rows (Json times) p e = omega (arith, ap mark p.0, ap mark e)
 no_handshake name rows (Listing selection width) p e = omega (arith, ap mark p.0, ap mark e)
 no_handshake name rows Check p e = omega (arith, marked name rows Check p, ap mark e)

@@ -4,7 +4,7 @@ use Rattle.cli_report.specs.Devices.{writing}
 use Rattle.cli_report.specs.Gathering.{gathered_bytes}
 use Rattle.cli_report.specs.PageLaws.{passes_none}
 use Rattle.cli_run.specs.Handing.{WritesFramed, front_of}
-use Rattle.cli_run.specs.Output.{framed, is_framed, shown_text, told_place}
+use Rattle.cli_run.specs.Output.{framed, is_framed, seen_if, shown_text, told_place}
 use Rattle.cli_run.specs.declared.framing.Front.{Front}
 use Rattle.cli_run.proofs.OutputSteps.{bytes_are, validated_short}
 use Rattle.cli_run.proofs.output.write_one.Goals as goal
@@ -18,8 +18,7 @@ returns-in-Nothing g c = λ order m whole. rw c.in-Nothing.is ([], refl, passes_
 pub returns-in-Text : goal.returns-in-Text
 returns-in-Text g c = λ order m whole.
     let place = told_place c.in-Text.times c.args.lent.now.place in
-    let told = rw c.told.ensures at c.show.ensures order m whole in
-    rw c.in-Text.is (shown_text order m place, refl, told)
+    rw c.in-Text.is (seen_if c.in-Text.escapes (shown_text order m place), refl, c.show.ensures order m whole)
 
 pub returns-in-JsonLine : goal.returns-in-JsonLine
 returns-in-JsonLine g c = λ order m whole.
