@@ -1,7 +1,7 @@
 -- What is told of a fault are three lines.
-use Rattle.std.proofs.Common.{◌≡◌, ℕ, zero, suc, ◌-◌, List, [], ◌∷◌, ◌++◌, replicate, chars, IsUtf8, ◌&&◌, nat_eq, nat_lt, take, drop, codes, decimal, refl, sym, ap, ◌∙◌}
+use Rattle.std.proofs.Common.{◌≡◌, ℕ, zero, suc, ◌-◌, List, [], ◌∷◌, ◌++◌, replicate, chars, IsUtf8, ◌&&◌, ◌||◌, nat_eq, nat_lt, take, drop, codes, decimal, refl, sym, ap, ◌∙◌}
 use Rattle.std.proofs.Common.{append_assoc, append-nil, false, ◌≤◌, ◌<◌, ◌+◌, length, get_or, min, ap₂, subst, arith}
-use Rattle.std.specs.List.{flat_map}
+use Rattle.std.specs.List.{flat_map, list_all}
 use Rattle.std.proofs.lemmas.List.Elements.{All-nil, All-cons}
 use Rattle.std.proofs.Math.Nat.{min_comm}
 use Rattle.std.proofs.lemmas.List.{take_min, take_more, take_rest}
@@ -18,6 +18,7 @@ use Rattle.dbus_show.specs.declared.escapes.Escapes.TheVariants.{Shown}
 use Rattle.dbus_explain.proofs.VisibleLines.{line_visible}
 use Rattle.dbus_explain.specs.Explained.{IsMarkAt, bytes_line, place_line, rule_line, mark_line, quoted_line, AreLines, byte_text, marked}
 use Rattle.dbus_explain.specs.Explained.{window}
+use Rattle.dbus_explain.specs.Looks.{begins, is_letter, look_of, look_text}
 use Rattle.dbus_explain.specs.Names.{IsFieldName, in_field, behind_fields, IsValueName, in_value, behind_values, IsNameOf, first, missing}
 use Rattle.dbus_explain.specs.Names.{field, padding, value, code_name, first_part, path_text, step_text, is_missing}
 use Rattle.dbus_explain.specs.declared.message.Refused.{Refused}
@@ -122,6 +123,20 @@ line_place refused bytes reason at name is =
 line_rule : (rule : List ℕ) → line_feeds rule ≡ 0 → IsOneLine (rule_line rule)
 line_rule rule h = after_literal (codes "  ") rule refl (literal rule h)
 
+line_look_of : (bytes : List ℕ) → IsOneLine (look_of bytes)
+line_look_of bytes =
+    line_either (begins bytes (0 ∷ codes "AUTH")) _ _ (literal (codes "; the handshake of a client, which --handshake client passes over") refl)
+    (line_either (begins bytes (codes "OK ") || begins bytes (codes "REJECTED")) _ _ (literal (codes "; the handshake of a server, which --handshake server passes over") refl)
+    (line_either (begins bytes (127 ∷ codes "ELF")) _ _ (literal (codes "; an ELF program") refl)
+    (line_either (begins bytes (0x1F ∷ 0x8B ∷ [])) _ _ (literal (codes "; a gzip file, which zcat unpacks") refl)
+    (line_either (begins bytes (0xFD ∷ codes "7zXZ")) _ _ (literal (codes "; an xz file, which xzcat unpacks") refl)
+    (line_either (begins bytes (0x28 ∷ 0xB5 ∷ 0x2F ∷ 0xFD ∷ [])) _ _ (literal (codes "; a zstd file, which zstdcat unpacks") refl)
+    (line_either (list_all is_letter (take 8 bytes)) _ _ (literal (codes "; text, where dbus-monitor --binary and busctl capture write messages") refl)
+    (literal [] refl)))))))
+
+line_look : (refused : Refused) → IsOneLine (look_text refused)
+line_look refused = line_either (nat_eq refused.offset 0 && nat_eq refused.fault.at 0) _ _ (line_look_of refused.bytes.now) (literal [] refl)
+
 -- ---- three of them
 
 three : (a b c text : List ℕ) → IsOneLine a → IsOneLine b → IsOneLine c
@@ -149,11 +164,15 @@ rule_text a b c =
 
 pub message_lines : (refused : Refused) (bytes : List ℕ) (reason : Reason) (at : ℕ) (name rule : List ℕ) → IsNameOf bytes reason at name
     → line_feeds rule ≡ 0
-    → AreLines (place_line refused at name ∷ bytes_line bytes at ∷ rule_line rule ∷ [])
-    (place_line refused at name ++ (codes "\n " ++ (window bytes at ++ (codes "\n  " ++ (rule ++ codes "\n")))))
+    → AreLines (place_line refused at name ∷ bytes_line bytes at ∷ rule_line (rule ++ look_text refused) ∷ [])
+    (place_line refused at name ++ (codes "\n " ++ (window bytes at ++ (codes "\n  " ++ (rule ++ (look_text refused ++ codes "\n"))))))
 message_lines refused bytes reason at name rule is one =
-    three (place_line refused at name) (bytes_line bytes at) (rule_line rule) _ (line_place refused bytes reason at name is)
-    (line_bytes bytes at) (line_rule rule one) (message_text (place_line refused at name) (window bytes at) rule)
+    let place = place_line refused at name in
+    let shown = window bytes at in
+    let look = look_text refused in
+    three place (bytes_line bytes at) (rule_line (rule ++ look)) _ (line_place refused bytes reason at name is) (line_bytes bytes at)
+    (after_literal (codes "  ") (rule ++ look) refl (line_append rule look (literal rule one) (line_look refused)))
+    (ap (λ (s : List ℕ). place ++ (codes "\n " ++ (shown ++ (codes "\n  " ++ s)))) (sym (append_assoc rule look (codes "\n"))) ∙ message_text place shown (rule ++ look))
 
 line_blanks : (n : ℕ) → IsOneLine (replicate n 32)
 line_blanks zero = literal [] refl

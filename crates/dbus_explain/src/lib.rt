@@ -8,6 +8,7 @@
 #![tactic(auto)]
 
 mod blanks;
+mod looks;
 mod message;
 mod path;
 mod places;

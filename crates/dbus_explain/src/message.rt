@@ -5,6 +5,7 @@ ghost use Rattle.std.specs.Prelude.{◌≡◌, ◌≤◌, ℕ, List, length};
 ghost use Rattle.dbus_explain.specs.Explained.{IsExplained, place_in, place_line};
 ghost use Rattle.dbus_explain.specs.Names.{IsNameOf};
 
+use crate::looks::look_in;
 use crate::places::write_name;
 use crate::reasons::rule_of;
 use crate::window::write_window;
@@ -31,7 +32,9 @@ pub struct Refused<'a> {
 /// its name: a part of the header, a header field, or the path to a value, such as
 /// `body[1][3].key`, in which arrays and structs count from 0. The second has the bytes around the
 /// place in hexadecimal, and the one there between brackets, which are empty at the end of what was
-/// read. The third says what has to be there, and names the section of the D-Bus Specification.
+/// read. The third says what has to be there, and names the section of the D-Bus Specification; if
+/// the very first byte of the input is refused, it also says what that looks like, as a handshake,
+/// an ELF program, a gzip, xz or zstd file, or text, and what to do.
 ///
 /// ```text
 ///   message 2 at 96, byte 72: body[1][3].key
@@ -51,6 +54,7 @@ pub fn explain_message<D: Draft>(draft: &mut D, refused: &Refused)
     write_window(draft, refused.bytes, at);
     draft.push_str("\n  ");
     draft.push_str(rule_of(refused.fault.reason));
+    draft.push_str(look_in(refused));
     draft.push_str("\n");
 }
 
