@@ -26,7 +26,7 @@ use Rattle.dbus_call_lines.specs.declared.waiting_call.WaitingCall.{WaitingCall}
 use Rattle.dbus_call_lines.specs.declared.wanted.Wanted.{Wanted}
 use Rattle.dbus_call_lines.proofs.OfCaller.{apart_of, call_kept, each_of, value_in, writes_those}
 use Rattle.dbus_call_lines.proofs.Rows.{all_at, all_from, distinct_both, none_in, one_number, open_among}
-use Rattle.dbus_call_lines.proofs.Sorting.{Known, none_same, no_both, same, same_numbers}
+use Rattle.dbus_call_lines.proofs.Sorting.{Known, no_both, none_same, number, same, same_numbers}
 use Rattle.dbus_call_lines.proofs.Steps.{AreKept}
 
 abbrev pub Calls : Type 0
@@ -100,7 +100,7 @@ module _ (wanted : Wanted) (before : List Numbered) (rising : AreRising before) 
 
   both_known : (a b : String Global) (c d : WaitingCall) → KnownOf (string_bytes a) c → KnownOf (string_bytes b) d → eq_by_cmp string_cmp a b ≡ false → same c d ≡ false
   both_known a b c d h k apart = none_same (same c d) (λ alike.
-      let number : h.0.place.number ≡ k.0.place.number = sym (ap (λ z. z.place.number) h.2) ∙ (same_numbers c.place.number d.place.number alike ∙ ap (λ z. z.place.number) k.2) in
+      let number : h.0.place.number ≡ k.0.place.number = sym (ap (λ z. z.place.number) h.2) ∙ (same_numbers (number c) (number d) alike ∙ ap (λ z. z.place.number) k.2) in
       let call : h.0 ≡ k.0 = one h.0 k.0 h.1.0 k.1.0 number in
       no_both (eq_by_cmp string_cmp a b) (text_same a b (h.1.1 ∙ (ap (λ (n : Numbered). caller_of n.message) call ∙ sym k.1.1))) apart)
 

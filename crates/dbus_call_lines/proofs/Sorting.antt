@@ -14,11 +14,14 @@ use Rattle.dbus_call_lines.specs.declared.wanted.Wanted.{Wanted}
 use Rattle.dbus_call_lines.specs.declared.waiting_call.WaitingCall.{WaitingCall}
 use Rattle.dbus_call_lines.proofs.Rows.{all_from, either, here, none_in, there}
 
+abbrev pub number : WaitingCall → ℕ
+number w = (kept w).place.number
+
 abbrev pub same : WaitingCall → WaitingCall → Bool
-same a b = nat_eq a.place.number b.place.number
+same a b = nat_eq (number a) (number b)
 
 abbrev pub later : WaitingCall → WaitingCall → Bool
-later a b = is_lt (nat_cmp a.place.number b.place.number)
+later a b = is_lt (nat_cmp (number a) (number b))
 
 less : (a b : ℕ) → is_lt (nat_cmp b a) ≡ false → nat_eq a b ≡ false → nat_cmp a b ≡ Less
 less a b up apart = grind arith
@@ -27,11 +30,11 @@ flips : (a b : WaitingCall) → same a b ≡ same b a
 flips a b = grind arith
 
 tail_sorted : (w : WaitingCall) (ws : List WaitingCall) → IsSortedBy later (w ∷ ws) → IsSortedBy later ws
-tail_sorted w ws up = λ k d low below. sorted_far later (ranks_by nat_cmp_total (λ (a : WaitingCall). a.place.number)) (w ∷ ws) up (suc k) (suc (k + 1)) d (omega arith) (omega (arith, below))
+tail_sorted w ws up = λ k d low below. sorted_far later (ranks_by nat_cmp_total number) (w ∷ ws) up (suc k) (suc (k + 1)) d (omega arith) (omega (arith, below))
 
 above : (w : WaitingCall) (ws : List WaitingCall) → IsSortedBy later (w ∷ ws) → (v : WaitingCall) → Contains ws v → later v w ≡ false
 above w ws up v h =
-    let far : later (slice_index_or (w ∷ ws) (suc h.0) v) w ≡ false = sorted_far later (ranks_by nat_cmp_total (λ (a : WaitingCall). a.place.number)) (w ∷ ws) up 0 (suc h.0) v (omega arith) (omega (arith, h.1)) in
+    let far : later (slice_index_or (w ∷ ws) (suc h.0) v) w ≡ false = sorted_far later (ranks_by nat_cmp_total number) (w ∷ ws) up 0 (suc h.0) v (omega arith) (omega (arith, h.1)) in
     subst (λ (z : WaitingCall). later z w ≡ false) h.2 far
 
 all_apart : (w : WaitingCall) (ws : List WaitingCall) (v : WaitingCall) → AllByRecursion (λ y. same w y ≡ false) ws → Contains ws v → same w v ≡ false
@@ -39,11 +42,11 @@ all_apart w [] v all h = absurd (none_in v h)
 all_apart w (y ∷ ys) v all h = ⊎_elim (λ is. subst (λ (z : WaitingCall). same w z ≡ false) is all.0) (λ rest. all_apart w ys v all.1 rest) (either y ys v h)
 
 -- in the order of their numbers, of which no two are the same
-pub strict : (ws : List WaitingCall) → IsSortedBy later ws → IsDistinct same ws → IsStrictlySortedBy (λ a b. nat_cmp a.place.number b.place.number) ws
+pub strict : (ws : List WaitingCall) → IsSortedBy later ws → IsDistinct same ws → IsStrictlySortedBy (λ a b. nat_cmp (number a) (number b)) ws
 unfolding IsDistinct IsStrictlySortedBy
 strict [] up apart = tt
 strict (w ∷ ws) up apart = (
-  all_from (λ y. nat_cmp w.place.number y.place.number ≡ Less) ws (λ v h. less w.place.number v.place.number (above w ws up v h) (all_apart w ws v apart.0 h)),
+  all_from (λ y. nat_cmp (number w) (number y) ≡ Less) ws (λ v h. less (number w) (number v) (above w ws up v h) (all_apart w ws v apart.0 h)),
   strict ws (tail_sorted w ws up) apart.1,
 )
 
@@ -73,7 +76,7 @@ module _ (wanted : Wanted) (Is : Numbered → Type 0) where
       }
 
   numbers_above : (w : WaitingCall) (ws : List WaitingCall) (n : Numbered) (ns : List Numbered) → kept_of wanted n ≡ kept w → map (kept_of wanted) ns ≡ map kept ws
-      → AllByRecursion (λ (y : WaitingCall). nat_cmp w.place.number y.place.number ≡ Less) ws → AllByRecursion (λ (y : Numbered). nat_cmp n.place.number y.place.number ≡ Less) ns
+      → AllByRecursion (λ (y : WaitingCall). nat_cmp (number w) (number y) ≡ Less) ws → AllByRecursion (λ (y : Numbered). nat_cmp n.place.number y.place.number ≡ Less) ns
   numbers_above w [] n [] is texts all = tt
   numbers_above w [] n (m ∷ ms) is texts all = absurd (no_cons (kept_of wanted m) (map (kept_of wanted) ms) texts)
     where
@@ -83,9 +86,9 @@ module _ (wanted : Wanted) (Is : Numbered → Type 0) where
   numbers_above w (v ∷ vs) n (m ∷ ms) is texts all =
       let heads : kept_of wanted m ≡ kept v = cc in
       let tails : map (kept_of wanted) ms ≡ map kept vs = cc in
-      (ap (λ a. nat_cmp a m.place.number) (ap (λ k. k.place.number) is) ∙ (ap (λ a. nat_cmp w.place.number a) (ap (λ k. k.place.number) heads) ∙ all.0), numbers_above w vs n ms is tails all.1)
+      (ap (λ a. nat_cmp a m.place.number) (ap (λ k. k.place.number) is) ∙ (ap (λ a. nat_cmp (number w) a) (ap (λ k. k.place.number) heads) ∙ all.0), numbers_above w vs n ms is tails all.1)
 
-  numbers_rise : (ws : List WaitingCall) (ns : List Numbered) → map (kept_of wanted) ns ≡ map kept ws → IsStrictlySortedBy (λ (a b : WaitingCall). nat_cmp a.place.number b.place.number) ws → AreRising ns
+  numbers_rise : (ws : List WaitingCall) (ns : List Numbered) → map (kept_of wanted) ns ≡ map kept ws → IsStrictlySortedBy (λ (a b : WaitingCall). nat_cmp (number a) (number b)) ws → AreRising ns
   unfolding IsStrictlySortedBy
   numbers_rise ws [] texts up = tt
   numbers_rise [] (n ∷ ns) texts up = absurd (no_cons (kept_of wanted n) (map (kept_of wanted) ns) texts)
@@ -139,7 +142,7 @@ module _ (wanted : Wanted) (Is : Numbered → Type 0) (one : (a b : Numbered) �
   apart_values e h [] all known = tt
   apart_values e h (f ∷ fs) all known = (
     none_same (same e.1 f.1) (λ alike.
-        let number : h.0.place.number ≡ known.0.0.place.number = sym (ap (λ k. k.place.number) h.2) ∙ (same_numbers e.1.place.number f.1.place.number alike ∙ ap (λ k. k.place.number) known.0.2) in
+        let number : h.0.place.number ≡ known.0.0.place.number = sym (ap (λ k. k.place.number) h.2) ∙ (same_numbers (number e.1) (number f.1) alike ∙ ap (λ k. k.place.number) known.0.2) in
         let call : h.0 ≡ known.0.0 = one h.0 known.0.0 h.1 known.0.1 number in
         no_both (eq e.0 f.0) (keys e.0 f.0 known.0.0 (subst (λ (n : Numbered). Key e.0 n) call h.3) known.0.3) all.0),
     apart_values e h fs all.1 known.1,

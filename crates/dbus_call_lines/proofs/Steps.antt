@@ -23,7 +23,7 @@ run_push w [] x = refl
 run_push w (y ∷ ys) x = run_push (step message_of w y) ys x
 
 abbrev pub sent_to : WaitingCall → Option (List ℕ)
-sent_to call = option_map string_bytes call.destination
+sent_to call = option_map string_bytes call.parts.value.destination
 
 abbrev pub to : Numbered → Option (List ℕ)
 to call = destination_of call.message
@@ -102,7 +102,7 @@ module _ (wanted : Wanted) where
   list_kept (Some x) = refl
 
   abbrev pub line_now : Outcome → Bor WaitingCall → List ℕ
-  line_now outcome p = kept_line wanted outcome p.now.place.time (string_bytes p.now.front)
+  line_now outcome p = kept_line wanted outcome (kept p.now).place.time (kept p.now).front
 
   abbrev pub text_now : Outcome → List (Bor WaitingCall) → List ℕ
   text_now outcome ps = kept_text wanted outcome (map kept (map (λ c. c.now) ps))
@@ -114,19 +114,19 @@ module _ (wanted : Wanted) where
 -- ---- what is sorted
 
 abbrev pub later_now : Bor WaitingCall → Bor WaitingCall → Bool
-later_now p q = is_lt (nat_cmp p.now.place.number q.now.place.number)
+later_now p q = is_lt (nat_cmp (kept p.now).place.number (kept q.now).place.number)
 
 pub now_ranks : IsStrictWeakOrder later_now
-now_ranks = ranks_by nat_cmp_total (λ (p : Bor WaitingCall). p.now.place.number)
+now_ranks = ranks_by nat_cmp_total (λ (p : Bor WaitingCall). (kept p.now).place.number)
 
 no_less : (k : ℕ) → k + 1 < 0 → ⊥
 no_less k l = omega (arith, l)
 
-pub sorted_now : (ps : List (Bor WaitingCall)) → IsSortedBy later_now ps → IsSortedBy (λ a b. is_lt (nat_cmp a.place.number b.place.number)) (map (λ p. p.now) ps)
+pub sorted_now : (ps : List (Bor WaitingCall)) → IsSortedBy later_now ps → IsSortedBy (λ a b. is_lt (nat_cmp (kept a).place.number (kept b).place.number)) (map (λ p. p.now) ps)
 sorted_now [] sorted = λ k d low l. absurd (no_less k l)
 sorted_now (p ∷ ps) sorted = λ k d low l.
     let f : Bor WaitingCall → WaitingCall = λ q. q.now in
     let same : length (map f (p ∷ ps)) ≡ length (p ∷ ps) = length-map (p ∷ ps) f in
     let next : k + 1 < length (p ∷ ps) = subst (λ n. k + 1 < n) same l in
-    ap (λ (a : WaitingCall). is_lt (nat_cmp a.place.number (slice_index_or (map f (p ∷ ps)) k d).place.number)) (get_or-map f (p ∷ ps) (k + 1) p d next)
-    ∙ (ap (λ (b : WaitingCall). is_lt (nat_cmp (slice_index_or (p ∷ ps) (k + 1) p).now.place.number b.place.number)) (get_or-map f (p ∷ ps) k p d (omega (arith, next))) ∙ sorted k p low next)
+    ap (λ (a : WaitingCall). is_lt (nat_cmp (kept a).place.number (kept (slice_index_or (map f (p ∷ ps)) k d)).place.number)) (get_or-map f (p ∷ ps) (k + 1) p d next)
+    ∙ (ap (λ (b : WaitingCall). is_lt (nat_cmp (kept (slice_index_or (p ∷ ps) (k + 1) p).now).place.number (kept b).place.number)) (get_or-map f (p ∷ ps) k p d (omega (arith, next))) ∙ sorted k p low next)

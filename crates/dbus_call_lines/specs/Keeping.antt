@@ -23,7 +23,9 @@ pub record KeptCall : Type 0 where
 
 -- what is kept of a call, and what is to be kept
 abbrev pub kept : WaitingCall → KeptCall
-kept call = record { place = call.place; destination = option_map string_bytes call.destination; front = string_bytes call.front }
+kept call =
+    let parts = call.parts.value in
+    record { place = parts.place; destination = option_map string_bytes parts.destination; front = string_bytes parts.front }
 
 abbrev pub kept_of : Wanted → Numbered → KeptCall
 kept_of wanted call = record { place = call.place; destination = destination_of call.message; front = front wanted.form call.place call.message }
@@ -49,7 +51,7 @@ as_list (Some call) = call ∷ []
 pub record WritesSorted {S : Type 0} (gains : S → List ℕ → S → Type 0) (wanted : Wanted) (outcome : Outcome) (calls : List WaitingCall) (old new : S) : Type 0 where
   pub sorted : List WaitingCall
   pub same : IsPermutation calls sorted
-  pub rising : IsSortedBy (λ a b. is_lt (nat_cmp a.place.number b.place.number)) sorted
+  pub rising : IsSortedBy (λ a b. is_lt (nat_cmp (kept a).place.number (kept b).place.number)) sorted
   pub gains_lines : gains old (kept_text wanted outcome (map kept sorted)) new
 
 -- After messages the list took this one too, and the lines of what is listed then are gained.

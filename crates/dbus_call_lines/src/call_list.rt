@@ -23,7 +23,7 @@ use crate::form::Form;
 use crate::fronts::write_front;
 use crate::outcome::{Outcome, outcome_of};
 use crate::place::Place;
-use crate::waiting_call::WaitingCall;
+use crate::waiting_call::{CallParts, WaitingCall};
 use crate::wanted::Wanted;
 use dbus_calls::{CallSeen, Event, OpenCalls, event_of};
 use dbus_show::{Draft, StringDraft};
@@ -156,10 +156,13 @@ impl CallList {
             Some(name) => Some(String::from_str(self.alloc, name)?),
             None => None,
         };
-        Ok(WaitingCall {
+        let parts = CallParts {
             place,
             destination,
             front,
+        };
+        Ok(WaitingCall {
+            parts: Box::new(self.alloc, parts)?,
         })
     }
 
@@ -235,12 +238,13 @@ fn front_into(
 // Appends the line of a call that waited, if it is wanted.
 fn write_line<D: Draft>(draft: &mut D, wanted: Wanted, call: &WaitingCall, outcome: Outcome)
     ensures { D.gains draft.old
-        (kept_line wanted (outcome_seen outcome.entry) call.now.place.time
-        (string_bytes call.now.front)) draft.new }
+        (kept_line wanted (outcome_seen outcome.entry) call.now.parts.value.place.time
+        (string_bytes call.now.parts.value.front)) draft.new }
 {
-    if wanted.lists(call.place.time, outcome) {
-        draft.push_str(call.front.as_str());
-        write_end(draft, wanted.form, call.place.time, outcome);
+    let parts = &*call.parts;
+    if wanted.lists(parts.place.time, outcome) {
+        draft.push_str(parts.front.as_str());
+        write_end(draft, wanted.form, parts.place.time, outcome);
     }
 }
 
@@ -272,7 +276,7 @@ fn write_sorted<D: Draft>(
         (map (λ call. call.now) rows.old.items) draft.old draft.new) }
     ensures unwritten { OnErr result (draft.new ≡ draft.old) }
 {
-    rows.sort_by(|a, b| a.place.number.cmp(&b.place.number))?;
+    rows.sort_by(|a, b| a.parts.place.number.cmp(&b.parts.place.number))?;
     for call in rows.iter() {
         write_line(draft, wanted, call, outcome);
     }

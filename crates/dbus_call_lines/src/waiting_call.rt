@@ -6,9 +6,16 @@ ghost use Rattle.std.specs.Prelude.{option_map, string_bytes};
 use crate::place::Place;
 use dbus_calls::Sent;
 
-/// A call that waits for its reply, with the front of its line.
+/// A call that waits for its reply. It is in a box, since the map of its caller has room for eleven
+/// calls, however few wait.
 #[derive(Drop)]
 pub(crate) struct WaitingCall {
+    pub(crate) parts: Box<CallParts>,
+}
+
+/// What is kept of a call that waits.
+#[derive(Drop)]
+pub(crate) struct CallParts {
     /// Its place in the input.
     pub(crate) place: Place,
     /// Its DESTINATION, if it has one.
@@ -18,10 +25,10 @@ pub(crate) struct WaitingCall {
 }
 
 impl Sent for WaitingCall {
-    ghost sent_to = { λ call. option_map string_bytes call.destination };
+    ghost sent_to = { λ call. option_map string_bytes call.parts.value.destination };
 
     fn destination(&self) -> Option<&str> {
-        match &self.destination {
+        match &self.parts.destination {
             Some(name) => Some(name.as_str()),
             None => None,
         }
