@@ -210,7 +210,9 @@ pub(crate) const CALLS_MORE: &str = more!(
 
   A reply answers the call of its serial, if its sender is the call's
   destination or the bus, or if that destination is a well-known name. Calls
-  from before the capture are not seen, and their replies are not listed.",
+  from before the capture are not seen, and their replies are not listed. If any
+  answer no call that was seen, the last line on standard error is
+  `N replies answer no call that was seen`.",
     "
   dbus-wire calls --unanswered < capture"
 );

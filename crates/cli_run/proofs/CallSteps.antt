@@ -10,7 +10,7 @@ use Rattle.dbus_message_model.specs.Messages.{MessageTree}
 use Rattle.dbus_device.specs.Device.{Wrote}
 use Rattle.dbus_device.specs.Packets.{Packets}
 use Rattle.dbus_stream.specs.Cut.{CutMessage}
-use Rattle.dbus_call_lines.specs.Keeping.{Keeps}
+use Rattle.dbus_call_lines.specs.Keeping.{Keeps, KnowsStray}
 use Rattle.dbus_call_lines.specs.Listing.{AreListedBy, AreRising, ListsAfter, ListsOpen, Numbered, Row, nth, rows_text}
 use Rattle.dbus_call_lines.specs.declared.wanted.Wanted.{Wanted}
 use Rattle.dbus_call_lines.proofs.Along.{listed_end}
@@ -27,7 +27,7 @@ use Rattle.cli_report.specs.declared.ending.ExitStatus.{ExitStatus}
 use Rattle.cli_report.specs.declared.ending.ExitStatus.TheVariants as status
 use Rattle.cli_report.specs.declared.gathering.Unwritten.{Unwritten}
 use Rattle.cli_report.proofs.GatherSteps.{breaks_before, breaks_nothing, passes_nothing, passes_whole}
-use Rattle.cli_run.specs.CallListing.{EndsNoted, GathersRows, LeavesCalls, ListsThrough, StaysIfShort, TakesCalls, TellsNote, WritesCalls, WritesRows, have_time, lack_times, number_and_time, numbered, times_note}
+use Rattle.cli_run.specs.CallListing.{EndsNoted, GathersRows, IsNote, LeavesCalls, ListsThrough, StaysIfShort, TakesCalls, TellsNote, WritesCalls, WritesRows, have_time, notes, number_and_time, numbered}
 use Rattle.cli_run.specs.CallLaws.{or_false}
 use Rattle.cli_run.specs.Going.{GoesThrough, StopsWithin}
 use Rattle.cli_run.specs.Inputs.{ArePlaced, IsPlaced, Part, PassedOver, Placed, Whole}
@@ -190,13 +190,14 @@ placed_rise packets n offset (PassedOver kept fault size ∷ parts) messages p =
 -- ---- the run
 
 -- how it ends, by what becomes of the calls that wait
-abbrev pub EndsAs : {E : Type 0} → Writing E → (note : List ℕ) → (due end : ExitStatus) → Result (Unit {0}) Cause → Type 0
-EndsAs e note due end (Ok x) = TellsNote e note due end
-EndsAs e note due end (Err cause) = Told e.held e.failures e.old e.new cause × (end ≡ status.Failed)
+abbrev pub EndsAs : {E : Type 0} → Writing E → (Is : (note : List ℕ) → Type 0) → (due end : ExitStatus) → Result (Unit {0}) Cause → Type 0
+EndsAs e Is due end (Ok x) = (note : List ℕ) × Is note × TellsNote e note due end
+EndsAs e Is due end (Err cause) = Told e.held e.failures e.old e.new cause × (end ≡ status.Failed)
 
-ends_by : {E : Type 0} (Writes : Result (Unit {0}) Cause → Type 0) (e : Writing E) (note : List ℕ) (due end : ExitStatus) (res : Result (Unit {0}) Cause) → Writes res → EndsAs e note due end res → EndsNoted Writes e note due end
-ends_by Writes e note due end (Ok x) writes ends = inl (writes, ends)
-ends_by Writes e note due end (Err cause) writes ends = inr (cause, writes, ends.0, ends.1)
+ends_by : {E : Type 0} (Writes : Result (Unit {0}) Cause → Type 0) (e : Writing E) (Is Was : (note : List ℕ) → Type 0) → ((note : List ℕ) → Was note → Is note) → (due end : ExitStatus) (res : Result (Unit {0}) Cause) → Writes res
+    → EndsAs e Was due end res → EndsNoted Writes Is e due end
+ends_by Writes e Is Was into due end (Ok x) writes ends = inl (writes, ends.0, into ends.0 ends.1, ends.2)
+ends_by Writes e Is Was into due end (Err cause) writes ends = inr (cause, writes, ends.0, ends.1)
 
 module _ {W E : Type 0} (held : W → Option (List ℕ)) (failures : W → ℕ) (second_held : E → Option (List ℕ)) (second_failures : E → ℕ) (wanted : Wanted) (a b : Lister W E) (keeps : Keeps wanted [] a.list)
     (none : gathered_bytes a.gathered ≡ []) (untimed : a.timed ≡ false) where
@@ -242,34 +243,43 @@ module _ {W E : Type 0} (held : W → Option (List ℕ)) (failures : W → ℕ) 
     got_as : (stop : RunStop) (told : List ℕ) → GotSecond second_held second_failures false stop told a.second.now b.second.now → GotSecond second_held second_failures false stop told a.second.now e1
     got_as stop told h = subst (λ (y : E). GotSecond second_held second_failures false stop told a.second.now y) second h
 
+    -- this is to be told of messages
+    abbrev pub IsKnown : (note : List ℕ) → Type 0
+    IsKnown note = (other : Wanted) (before : List Numbered) → Keeps other before b.list → AreRising before → (stray : ℕ) × KnowsStray before stray × (note ≡ notes (is_some wanted.slower && not b.timed) stray)
+
+    is_note : (items : List Placed) → b.timed ≡ (a.timed || have_time items) → Keeps wanted (numbered items) b.list → AreRising (numbered items) → (note : List ℕ) → IsKnown note → IsNote wanted items note
+    is_note items came kept rises note known =
+        let h = known wanted (numbered items) kept rises in
+        (h.0, h.1, h.2 ∙ ap (λ (t : Bool). notes (is_some wanted.slower && not t) h.0) (came ∙ ap (λ t. t || have_time items) untimed))
+
     pub lists_all : (w2 : W) (e2 : E) (res : Result (Unit {0}) Cause) (due end : ExitStatus) → gathered_bytes b.gathered ≡ []
         → ((other : Wanted) (before : List Numbered) → Keeps other before b.list → AreRising before → WritesRows (writing held failures b.first.now w2) other (ListsOpen before) res)
-        → EndsAs (writing second_held second_failures e1 e2) (times_note (is_some wanted.slower && not b.timed)) due end res
+        → EndsAs (writing second_held second_failures e1 e2) IsKnown due end res
         → GoesThrough (taken (reading left calls read_failures packets r0 r1)) settings most false (TakesCalls held failures second_held second_failures a b) due
         → ListsThrough (reading left calls read_failures packets r0 r2) (writing held failures a.first.now w2) (writing second_held second_failures a.second.now e2) settings wanted most end
-    lists_all w2 e2 res due end last waits ends g = record {
-      due = due;
-      before = e1;
-      through = subst (λ (y : R). GoesThrough (taken (reading left calls read_failures packets r0 y)) settings most false
-          (λ items told. Wrote second_held second_failures a.second.now told e1 × EndsNoted (WritesCalls (writing held failures a.first.now w2) wanted items) (writing second_held second_failures e1 e2) (times_note (lack_times wanted items)) due end) due) source
-          (record {
-            tally = g.tally;
-            fault = g.fault;
-            told = g.told;
-            text = g.text;
-            through = g.through;
-            messages = g.messages;
-            placed = g.placed;
-            came = (
-              told_as _ g.came.tells,
-              ends_by (WritesCalls (writing held failures a.first.now w2) wanted g.messages) (writing second_held second_failures e1 e2) (times_note (lack_times wanted g.messages)) due end res
-                  (written last g.messages (placed_rise (packets r0) 1 0 g.through.parts g.messages g.placed) _ g.came w2 res waits)
-                  (subst (λ (t : Bool). EndsAs (writing second_held second_failures e1 e2) (times_note (is_some wanted.slower && not t)) due end res)
-                  (g.came.timed ∙ ap (λ t. t || have_time g.messages) untimed) ends),
-            );
-            end_is = g.end_is;
-          });
-    }
+    lists_all w2 e2 res due end last waits ends g =
+        let rises = placed_rise (packets r0) 1 0 g.through.parts g.messages g.placed in
+        record {
+          due = due;
+          before = e1;
+          through = subst (λ (y : R). GoesThrough (taken (reading left calls read_failures packets r0 y)) settings most false
+              (λ items told. Wrote second_held second_failures a.second.now told e1 × EndsNoted (WritesCalls (writing held failures a.first.now w2) wanted items) (IsNote wanted items) (writing second_held second_failures e1 e2) due end) due) source
+              (record {
+                tally = g.tally;
+                fault = g.fault;
+                told = g.told;
+                text = g.text;
+                through = g.through;
+                messages = g.messages;
+                placed = g.placed;
+                came = (
+                  told_as _ g.came.tells,
+                  ends_by (WritesCalls (writing held failures a.first.now w2) wanted g.messages) (writing second_held second_failures e1 e2) (IsNote wanted g.messages) IsKnown
+                      (is_note g.messages g.came.timed (g.came.lists wanted [] keeps rises).0 rises) due end res (written last g.messages rises _ g.came w2 res waits) ends,
+                );
+                end_is = g.end_is;
+              });
+        }
 
     pub gave_up : {w2 : W} {stop : RunStop} → b.first.now ≡ w2 → StopsWithin (taken (reading left calls read_failures packets r0 r1)) settings most false (LeavesCalls held failures second_held second_failures a b) stop
         → StopsWithin (taken (reading left calls read_failures packets r0 r2)) settings most false (λ items told stop. (rows : List Row) × AreListedBy [] (numbered items) rows

@@ -1,5 +1,5 @@
 -- Two runs that read the same input, and do not fail, end alike.
-use Rattle.std.proofs.Common.{◌≡◌, ◌⊎◌, ℕ, ◌+◌, Bool, true, false, List, [], ◌∷◌, ◌++◌, arith, length, drop, take, None, Some, Option, Result, Ok, Err, refl, sym, ap, ◌∙◌, subst, inl, inr, take-append-drop, ◌≢◌}
+use Rattle.std.proofs.Common.{◌≡◌, ◌⊎◌, ℕ, ◌+◌, ◌-◌, ◌^◌, min, Bool, true, false, List, [], ◌∷◌, ◌++◌, arith, length, drop, take, None, Some, Option, Result, Ok, Err, refl, sym, ap, ◌∙◌, subst, inl, inr, take-append-drop, ◌≢◌}
 use Rattle.std.proofs.Math.Path.{transport}
 use Rattle.std.proofs.lemmas.Bool.{false≢true}
 use Rattle.std.specs.Io.KnownBytes.{Consumes, IsAtEnd}
@@ -13,7 +13,9 @@ use Rattle.dbus_count.specs.Counting.{Counting}
 use Rattle.dbus_count.specs.Spans.{span_text}
 use Rattle.dbus_count.specs.Tables.{AreTables, words, OneTable}
 use Rattle.dbus_call_lines.specs.Listing.{AreListed, rows_text}
+use Rattle.dbus_call_lines.specs.declared.wanted.Wanted.{Wanted}
 use Rattle.dbus_call_lines.proofs.Rows.{one_list}
+use Rattle.dbus_call_lines.proofs.Stray.{one_stray}
 use Rattle.dbus_stream.specs.Cut.{IsOutcome, BeginWith, CutMessage, CutOutcome, Refused, IsCut}
 use Rattle.dbus_stream.specs.CutEnds.{fault_at_end, sizes}
 use Rattle.dbus_stream.proofs.CutLaws.{IsCut-one, BeginWith-more}
@@ -24,7 +26,7 @@ use Rattle.cli_report.specs.declared.ending.ExitStatus.{ExitStatus}
 use Rattle.cli_report.specs.declared.ending.ExitStatus.TheVariants as status
 use Rattle.cli_run.specs.Laws.{AreToldAlike, ExplainsNone, GotAlike, OneCalls, OneCount, OneRun, OneWithin}
 use Rattle.cli_run.specs.ByName.{EndsBy, WritesTables, counting, span_of}
-use Rattle.cli_run.specs.CallListing.{EndsNoted, WritesCalls, lack_times, numbered, times_note}
+use Rattle.cli_run.specs.CallListing.{EndsNoted, IsNote, WritesCalls, lack_times, notes, numbered}
 use Rattle.cli_run.specs.Going.{AreTold, GoesThrough, IsThrough, IsToldLast, closing_line, cut_tally, passed_count, status_at, tally_of, tally_with}
 use Rattle.cli_run.specs.Inputs.{ArePlaced, BeginWithParts, Part, Placed, size_of, sizes_of, wholes}
 use Rattle.cli_run.specs.Output.{is_check, check_line, fault_line, form_of, header_before, last_line, output_of, second_output, status_of, written}
@@ -206,13 +208,20 @@ one_run R S W V E F r s w v e f settings most more command copy end other same i
 ended : {E : Type 0} (Writes : Result (Unit {0}) Cause → Type 0) (e : Writing E) (due end : ExitStatus) → (end ≡ status.Failed → ⊥) → EndsBy Writes e due end → Writes (Ok tt) × (e.new ≡ e.old) × (end ≡ due)
 ended Writes e due end done ends = elim ends [ inl all ↦ all | inr some ↦ absurd (done some.3) ]
 
--- and this note was told
-ended_noted : {E : Type 0} (Writes : Result (Unit {0}) Cause → Type 0) (e : Writing E) (note : List ℕ) (due end : ExitStatus) → (end ≡ status.Failed → ⊥) → EndsNoted Writes e note due end
-    → Writes (Ok tt) × Wrote e.held e.failures e.old note e.new × (end ≡ due)
-ended_noted Writes e note due end done ends = elim ends [
-  | inl all ↦ elim all.1 [ inl told ↦ (all.0, told.0, told.1) | inr stopped ↦ absurd (done stopped.2) ]
+-- and a note was told
+ended_noted : {E : Type 0} (Writes : Result (Unit {0}) Cause → Type 0) (Is : (note : List ℕ) → Type 0) (e : Writing E) (due end : ExitStatus) → (end ≡ status.Failed → ⊥) → EndsNoted Writes Is e due end
+    → Writes (Ok tt) × (note : List ℕ) × Is note × Wrote e.held e.failures e.old note e.new × (end ≡ due)
+ended_noted Writes Is e due end done ends = elim ends [
+  | inl all ↦ elim all.3 [ inl told ↦ (all.0, all.1, all.2, told.0, told.1) | inr stopped ↦ absurd (done stopped.2) ]
   | inr some ↦ absurd (done some.3)
 ]
+
+-- of the same messages it is the same
+one_note : (wanted : Wanted) (items : List Placed) (note other : List ℕ) → IsNote wanted items note → IsNote wanted items other → note ≡ other
+one_note wanted items note other h k =
+    let count = one_stray [] (numbered items) h.1.0 k.1.0 h.1.1 k.1.1 in
+    let same : h.0 ≡ k.0 = h.1.2 ∙ (ap (λ n. min n (2 ^ 64 - 1)) count ∙ sym k.1.2) in
+    h.2 ∙ (ap (notes (lack_times wanted items)) same ∙ sym k.2)
 
 -- nothing is explained, also by the status that was due
 due_explains : (settings : Settings) (due end : ExitStatus) → end ≡ due → ExplainsNone settings end → ExplainsNone settings due
@@ -269,25 +278,25 @@ one_calls R S W V E F r s w v e f settings wanted most more end other is packets
         let input = is.input in
         let items = g.through.messages in
         let also = h.through.messages in
-        let note = times_note (lack_times wanted items) in
-        let due = (ended_noted (WritesCalls w wanted items) (writing e.held e.failures g.before e.new) note g.due end is.done g.through.came.1).2 in
+        let due = (ended_noted (WritesCalls w wanted items) (IsNote wanted items) (writing e.held e.failures g.before e.new) g.due end is.done g.through.came.1).4 in
         let explains = due_explains settings g.due end due is.explains in
         let all = goes_alike settings false input.0 input.1 g.through h.through explains input.2 input.3 (taken_alike r s end g.due (sym due) is.told) in
         let told = all.0 in
-        let one = ended_noted (WritesCalls w wanted items) (writing e.held e.failures g.before e.new) note g.due end is.done all.1.1 in
-        let too = ended_noted (WritesCalls v wanted also) (writing f.held f.failures h.before f.new) (times_note (lack_times wanted also)) h.due other is.other_done all.2.1 in
+        let one = ended_noted (WritesCalls w wanted items) (IsNote wanted items) (writing e.held e.failures g.before e.new) g.due end is.done all.1.1 in
+        let too = ended_noted (WritesCalls v wanted also) (IsNote wanted also) (writing f.held f.failures h.before f.new) h.due other is.other_done all.2.1 in
         let here = subst (λ (p : Option Packets). ArePlaced p 1 0 all.4 items) packets.one all.5 in
         let there = subst (λ (p : Option Packets). ArePlaced p 1 0 all.4 also) packets.same all.6 in
         let same = one_placed packets.all 1 0 all.4 also items there here in
+        let note = one_note wanted items one.1 too.1 one.2 (subst (λ (l : List Placed). IsNote wanted l too.1) same too.2) in
         let listed_too = subst (λ (l : List Placed). AreListed [] (numbered l) too.0.0) same too.0.1 in
         let text : rows_text wanted one.0.0 ≡ rows_text wanted too.0.0 = ap (rows_text wanted) (one_list (numbered items) one.0.0 too.0.0 one.0.1 listed_too) in
         record {
-          status_is = too.2 ∙ (all.3 ∙ sym one.2);
+          status_is = too.4 ∙ (all.3 ∙ sym one.4);
           first = (rows_text wanted one.0.0, one.0.2, subst (λ l. Wrote v.held v.failures v.old l v.new) (sym text) too.0.2);
           second = (
-            told ++ note,
-            wrote_both e.held e.failures told note e.old g.before e.new all.1.0 one.1,
-            wrote_both f.held f.failures told note f.old h.before f.new all.2.0 (subst (λ (l : List Placed). Wrote f.held f.failures h.before (times_note (lack_times wanted l)) f.new) same too.1),
+            told ++ one.1,
+            wrote_both e.held e.failures told one.1 e.old g.before e.new all.1.0 one.3,
+            wrote_both f.held f.failures told one.1 f.old h.before f.new all.2.0 (subst (λ (t : List ℕ). Wrote f.held f.failures h.before t f.new) (sym note) too.3),
           );
         }
         )

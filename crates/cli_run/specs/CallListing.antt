@@ -1,9 +1,10 @@
 -- What `calls` writes: the lines of the calls in an input, each once it is known what came of it,
 -- and what is told of messages that are refused.
-use Rattle.std.specs.Prelude.{◌≡◌, ◌⊎◌, ℕ, Bool, false, not, ◌||◌, ◌&&◌, if◌then◌else◌, codes, List, [], ◌∷◌, ◌++◌, map, Option, is_some, Result, Ok, Err}
+use Rattle.std.specs.Prelude.{◌≡◌, ◌⊎◌, ℕ, nat_eq, Bool, false, not, ◌||◌, ◌&&◌, if◌then◌else◌, codes, decimal, List, [], ◌∷◌, ◌++◌, map, Option, is_some, String, string_bytes, Result, Ok, Err}
+use Rattle.std.specs.declared.alloc.Global.{Global}
 use Rattle.dbus_device.specs.Device.{Stopped, Wrote}
-use Rattle.dbus_call_lines.specs.Keeping.{Keeps}
-use Rattle.dbus_call_lines.specs.Listing.{AreListed, AreListedBy, AreRising, Numbered, Row, nth, rows_text}
+use Rattle.dbus_call_lines.specs.Keeping.{Keeps, KnowsStray}
+use Rattle.dbus_call_lines.specs.Listing.{AreListed, AreListedBy, AreRising, ListsOpen, Numbered, Row, nth, rows_text}
 use Rattle.dbus_call_lines.specs.declared.place.Place.{Place}
 use Rattle.dbus_call_lines.specs.declared.wanted.Wanted.{Wanted}
 use Rattle.cli_options.specs.declared.settings.Settings.{Settings}
@@ -43,6 +44,17 @@ lack_times wanted items = is_some wanted.slower && not (have_time items)
 abbrev pub times_note : (lacks_times : Bool) → List ℕ
 times_note lacks_times = if lacks_times then codes "note: no message has a time, so --slower lists no call\n" else []
 
+-- what is told of replies that answer no call that was seen, if there are so many
+abbrev pub stray_note : (stray : ℕ) → List ℕ
+stray_note stray =
+    if nat_eq stray 0 then []
+    else if nat_eq stray 1 then codes "1 reply answers no call that was seen\n"
+    else decimal stray ++ codes " replies answer no call that was seen\n"
+
+-- what is told at the end
+abbrev pub notes : (lacks_times : Bool) (stray : ℕ) → List ℕ
+notes lacks_times stray = times_note lacks_times ++ stray_note stray
+
 -- it was told, and the run ends as was due; or the write of it failed
 abbrev pub TellsNote : {E : Type 0} → Writing E → (note : List ℕ) → (due end : ExitStatus) → Type 0
 TellsNote e note due end = (Wrote e.held e.failures e.old note e.new × (end ≡ due)) ⊎ ((n : ℕ) × Stopped e.held e.failures e.old note n e.new × (end ≡ status.Failed))
@@ -68,6 +80,12 @@ module _ {W : Type 0} (w : Writing W) (wanted : Wanted) where
   WritesRows Are (Err Memory) = w.new ≡ w.old
   WritesRows Are (Err WriteFailed) = (rows : List Row) × Are rows × Breaks w.held w.failures (rows_text wanted rows) [] w.old w.new
   WritesRows Are (Err cause) = ⊥
+
+  -- the lines of calls that waited after these messages were written, and this is to be told; or
+  -- not
+  abbrev pub WritesRest : (before : List Numbered) (lacks_times : Bool) → Result (String Global) Cause → Type 0
+  WritesRest before lacks_times (Ok note) = WritesRows (ListsOpen before) (Ok tt) × (stray : ℕ) × KnowsStray before stray × (string_bytes note ≡ notes lacks_times stray)
+  WritesRest before lacks_times (Err cause) = WritesRows (ListsOpen before) (Err cause)
 
   -- the lines of all calls in messages were written, or of a prefix of these if a write failed; or
   -- for want of memory those of the calls that do not wait at the end
@@ -97,9 +115,13 @@ module _ {W E : Type 0} (held : W → Option (List ℕ)) (failures : W → ℕ) 
         × LeavesFirst held failures false stop (rows_text wanted rows) (gathered_bytes old.gathered) old.first.now new.first.now
     pub tells : GotSecond second_held second_failures false stop told old.second.now new.second.now
 
--- what is due at the end was written, and then this note; or it was not, which was told
-abbrev pub EndsNoted : {E : Type 0} → (Writes : Result (Unit {0}) Cause → Type 0) → Writing E → (note : List ℕ) → (due end : ExitStatus) → Type 0
-EndsNoted Writes e note due end = (Writes (Ok tt) × TellsNote e note due end)
+-- what is told at the end of these messages
+abbrev pub IsNote : Wanted → List Placed → (note : List ℕ) → Type 0
+IsNote wanted items note = (stray : ℕ) × KnowsStray (numbered items) stray × (note ≡ notes (lack_times wanted items) stray)
+
+-- what is due at the end was written, and then such a note; or it was not, which was told
+abbrev pub EndsNoted : {E : Type 0} → (Writes : Result (Unit {0}) Cause → Type 0) → (Is : (note : List ℕ) → Type 0) → Writing E → (due end : ExitStatus) → Type 0
+EndsNoted Writes Is e due end = (Writes (Ok tt) × (note : List ℕ) × Is note × TellsNote e note due end)
     ⊎ ((cause : Cause) × Writes (Err cause) × Told e.held e.failures e.old e.new cause × (end ≡ status.Failed))
 
 -- all was told, and the calls of all messages were listed
@@ -107,7 +129,7 @@ pub record ListsThrough {R W E : Type 0} (r : Reading R) (w : Writing W) (e : Wr
   pub due : ExitStatus
   pub before : E
   pub through : GoesThrough (taken r) settings most false
-      (λ items told. Wrote e.held e.failures e.old told before × EndsNoted (WritesCalls w wanted items) (writing e.held e.failures before e.new) (times_note (lack_times wanted items)) due end) due
+      (λ items told. Wrote e.held e.failures e.old told before × EndsNoted (WritesCalls w wanted items) (IsNote wanted items) (writing e.held e.failures before e.new) due end) due
 
 -- or reading or telling was given up, and the lines that were due before were written
 abbrev pub ListsCalls : {R W E : Type 0} → Reading R → Writing W → Writing E → Settings → Wanted → (most : ℕ) → ExitStatus → Type 0

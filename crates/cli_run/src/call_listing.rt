@@ -1,5 +1,5 @@
 //! The calls of a source, and what came of them, listed.
-ghost use Rattle.std.specs.Prelude.{◌≡◌, ◌^◌, ◌++◌, [], ◌∷◌, List, OnOk, length};
+ghost use Rattle.std.specs.Prelude.{◌≡◌, ◌^◌, ◌++◌, [], ◌∷◌, IfOk, List, OnOk, length, string_bytes};
 ghost use Rattle.dbus_value_model.specs.declared.order.Order.{Order};
 ghost use Rattle.dbus_message_model.specs.Messages.{MessageTree};
 ghost use Rattle.dbus_header.specs.MessageOutcomes.{IsWhole};
@@ -10,7 +10,7 @@ ghost use Rattle.dbus_call_lines.specs.declared.wanted.Wanted.{Wanted};
 ghost use Rattle.cli_report.specs.Devices.{reading, writing};
 ghost use Rattle.cli_report.specs.Gathering.{gathered_bytes};
 ghost use Rattle.cli_run.specs.CallLaws.{lister_adds_up};
-ghost use Rattle.cli_run.specs.CallListing.{GathersRows, LeavesCalls, ListsCalls, StaysIfShort, TakesCalls, TellsNote, WritesRows, number_and_time, times_note};
+ghost use Rattle.cli_run.specs.CallListing.{GathersRows, LeavesCalls, ListsCalls, StaysIfShort, TakesCalls, TellsNote, WritesRest, WritesRows, notes, number_and_time, stray_note, times_note};
 
 use crate::going::{pass_through, tell_stop};
 use crate::output_writer::{First, fail_by};
@@ -124,8 +124,8 @@ fn list_message<W: Sink>(
 /// most 2^32 reads, and tells the second writer of messages that are refused, as
 /// [`crate::run_with`] does. The line of a call is written once it is known what came of it, at the
 /// latest before more is read; those of calls that wait at the end follow in their order. A message
-/// that is refused is no call and no reply. If slow calls are wanted and no message has a time, the
-/// second writer is told so at the end.
+/// that is refused is no call and no reply. At the end the second writer is told if slow calls are
+/// wanted and no message has a time, and how many replies answer no call that was seen, if any.
 ///
 /// `Done`, `Refused`: all was written, and whether anything was refused. `Failed`: a read or a
 /// write failed, as many reads were made as may be, or memory ran out; if it was not a write to the
@@ -155,30 +155,62 @@ pub fn list_calls<R: Source, W: Sink, E: Sink>(
     let (list, first_writer, _second) = lister.into_parts();
     let writer = first_writer.into_inner();
     match ended {
-        Ok(status) => match write_waiting(list, writer) {
-            Ok(()) => tell_times(lacks_times, status, second),
+        Ok(status) => match write_rest(alloc, list, lacks_times, writer) {
+            Ok(note) => tell_note(note, status, second),
             Err(cause) => give_up(cause, second),
         },
         Err(stop) => tell_stop(stop, false, second),
     }
 }
 
-// Tells that no message has a time, if slow calls are wanted and none has. Returns the status that
-// is due then.
-fn tell_times<E: Sink>(lacks_times: bool, due: ExitStatus, second: &mut E) -> ExitStatus
-    ensures { TellsNote (writing E.held E.failures second.old second.new) (times_note lacks_times) due result }
+// Tells this note at the end, and returns the status that is due then.
+fn tell_note<E: Sink>(note: String, due: ExitStatus, second: &mut E) -> ExitStatus
+    ensures { TellsNote (writing E.held E.failures second.old second.new) (string_bytes note) due result }
 {
-    match write_text(second, note_of(lacks_times)) {
+    match write_text(second, note.as_str()) {
         Ok(()) => due,
         Err(Unwritten) => ExitStatus::Failed,
     }
 }
 
-// What is told of that.
-fn note_of(lacks_times: bool) -> &'static str
+// What is told at the end: that no message has a time, if slow calls are wanted and none has; and
+// how many replies answer no call that was seen, if any.
+fn notes_of(alloc: Global, lacks_times: bool, stray: u64) -> Result<String, AllocError>
+    ensures { IfOk result (λ text. string_bytes text ≡ notes lacks_times stray) }
+{
+    let times = times_note(lacks_times);
+    match stray {
+        0 => String::from_str(alloc, times),
+        1 => format!(in alloc; "{times}1 reply answers no call that was seen\n"),
+        _ => format!(in alloc; "{times}{stray} replies answer no call that was seen\n"),
+    }
+}
+
+// What is told of times.
+fn times_note(lacks_times: bool) -> &'static str
     ensures { result.now ≡ times_note lacks_times }
 {
     if lacks_times { TIMES_NOTE } else { "" }
+}
+
+// Writes the lines of the calls that wait at the end, and returns what is to be told then.
+fn write_rest<W: Sink>(
+    alloc: Global,
+    list: CallList,
+    lacks_times: bool,
+    first: &mut W,
+) -> Result<String, Cause>
+    ensures { (wanted : Wanted) (before : List Numbered) → Keeps wanted before list →
+        AreRising before → WritesRest (writing W.held W.failures first.old first.new) wanted before
+        lacks_times result }
+{
+    match notes_of(alloc, lacks_times, list.stray_replies()) {
+        Ok(note) => match write_waiting(list, first) {
+            Ok(()) => Ok(note),
+            Err(cause) => Err(cause),
+        },
+        Err(AllocError) => Err(Cause::Memory),
+    }
 }
 
 // Writes the lines of the calls that wait at the end.

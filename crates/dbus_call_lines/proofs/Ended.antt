@@ -19,6 +19,7 @@ use Rattle.dbus_call_lines.specs.declared.wanted.Wanted.{Wanted}
 use Rattle.dbus_call_lines.specs.declared.waiting_call.WaitingCall.{WaitingCall}
 use Rattle.dbus_call_lines.proofs.Rows.{either, here, none_in}
 use Rattle.dbus_call_lines.proofs.Steps.{AreKept, IsKept, kept_by, lines_kept, list_kept, run_push, to}
+use Rattle.dbus_call_lines.proofs.Stray.{NextStray, knows_next}
 use Rattle.dbus_call_lines.proofs.Taken.{takes_ended}
 
 -- ---- events
@@ -91,12 +92,13 @@ module _ (before : List Numbered) (x : Numbered) (e : Event) (is : e ≡ event_o
       )
 
   -- what is kept then
-  pub keeps_next : (wanted : Wanted) (list list' : CallList) → Keeps wanted before list → list'.wanted ≡ list.wanted → (u : Waiting WaitingCall)
+  pub keeps_next : (wanted : Wanted) (list list' : CallList) → Keeps wanted before list → list'.wanted ≡ list.wanted → NextStray before x list.stray list'.stray → (u : Waiting WaitingCall)
       → ((c : List ℕ) (s : ℕ) → waiting list'.open c s ≡ u c s) → AreKept wanted u (stepped to w e x) → Keeps wanted (before ++ x ∷ []) list'
   unfolding Keeps
-  keeps_next wanted list list' keeps same u are kept_then = (
+  keeps_next wanted list list' keeps same next u are kept_then = (
     same ∙ keeps.0,
     kept_by wanted u (waiting list'.open) (stepped to w e x) (run message_of no_calls (before ++ x ∷ [])) are kept_then (run_push no_calls before x ∙ ap (λ f. stepped to w f x) (sym is)),
+    knows_next before x list.stray list'.stray keeps.2 next,
   )
 
   pub are_kept : (wanted : Wanted) (list : CallList) → Keeps wanted before list → AreKept wanted (waiting list.open) w

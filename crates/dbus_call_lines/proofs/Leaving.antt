@@ -1,5 +1,5 @@
 -- A list of calls takes a message by which a caller leaves.
-use Rattle.std.proofs.Common.{◌≡◌, ℕ, nat_eq, List, [], ◌∷◌, ◌++◌, Bool, true, false, ◌||◌, ◌==◌, Option, Some, if◌then◌else◌, map, refl, ap, ◌∙◌, sym, subst, arith, append-nil}
+use Rattle.std.proofs.Common.{◌≡◌, ℕ, nat_eq, List, [], ◌∷◌, ◌++◌, Bool, true, false, ◌||◌, ◌==◌, Option, Some, inr, if◌then◌else◌, map, refl, ap, ◌∙◌, sym, subst, arith, append-nil}
 use Rattle.std.specs.BTreeMap.{BTreeMap, IsOrdered, get}
 use Rattle.std.specs.List.{All}
 use Rattle.std.specs.Map.{values_of}
@@ -25,6 +25,7 @@ use Rattle.dbus_call_lines.proofs.Ended.{are_kept, keeps_next, not_unwanted}
 use Rattle.dbus_call_lines.proofs.OfCaller.{all_of, apart_of, each_of, writes_those}
 use Rattle.dbus_call_lines.proofs.Rows.{one_number, open_among}
 use Rattle.dbus_call_lines.proofs.Steps.{left_kept}
+use Rattle.dbus_call_lines.proofs.Stray.{none_stray}
 use Rattle.dbus_call_lines.proofs.Takes.{Result, by_wanted}
 use Rattle.dbus_call_lines.proofs.Taken.{takes_ended}
 
@@ -45,7 +46,7 @@ left_by x c is = left_kind (x.message.kind == message.METHOD_CALL) (x.message.ki
     (reply_serial_of x.message) x.place (wants_reply x.message) (sender_of x.message) (or_dash (text_at field.ERROR_NAME x.message)) (departed (change_of x.message)) is
 
 module _ (before : List Numbered) (x : Numbered) {S : Type 0} (gains : S → List ℕ → S → Type 0) (joins : (a b c : S) (s t : List ℕ) → gains a s b → gains b t c → gains a (s ++ t) c) (old new : S) (list list' : CallList)
-    (wanted : Wanted) (keeps : Keeps wanted before list) (same : list'.wanted ≡ list.wanted) (name : List ℕ) (is : Leaves name ≡ event_of x.message)
+    (wanted : Wanted) (keeps : Keeps wanted before list) (same : list'.wanted ≡ list.wanted) (counted : list'.stray ≡ list.stray) (name : List ℕ) (is : Leaves name ≡ event_of x.message)
     (left : (d : List ℕ) (t : ℕ) → waiting list'.open d t ≡ without_caller name (waiting list.open) d t) (rising : AreRising (before ++ x ∷ [])) (calls : BTreeMap ℕ WaitingCall)
     (ordered : IsOrdered nat_cmp calls) (gets : All (λ e. get nat_cmp calls e.0 ≡ Some e.1) calls.entries) (closed : (s : ℕ) → call_at calls s ≡ waiting list.open name s)
     (h : WritesSorted gains list.wanted Left (values_of calls.entries) old new) where
@@ -73,7 +74,7 @@ module _ (before : List Numbered) (x : Numbered) {S : Type 0} (gains : S → Lis
       (each_of list.wanted before Ended one name calls ordered gets u are closed by_key)
       (λ n ended. let at = by_end n ended in all_of list.wanted before Ended one name calls ordered gets u are closed by_key at.0 n at.1) gains Left old new h in
       let own : own_row before x ≡ [] = ap (λ b. if b then row Unwanted x ∷ [] else []) (not_unwanted x (Leaves name) is refl) in (
-        keeps_next before x (Leaves name) is list.wanted list list' k same (without_caller name u) left (left_kept list.wanted u w are name 0),
+        keeps_next before x (Leaves name) is list.wanted list list' k same (inr (none_stray before x (Leaves name) is refl, counted)) (without_caller name u) left (left_kept list.wanted u w are name 0),
         map (row Left) l.0,
         record {
           calls = l.0;

@@ -3,6 +3,7 @@ pub mod Rows
 pub mod Printed
 mod Taken
 pub mod Steps
+pub mod Stray
 mod Ended
 mod Takes
 mod Sorting

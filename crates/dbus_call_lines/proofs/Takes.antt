@@ -1,7 +1,7 @@
 -- A list of calls takes a message.
-use Rattle.std.proofs.Common.{◌≡◌, ℕ, List, [], ◌∷◌, ◌++◌, Bool, true, false, ◌&&◌, not, ◌==◌, Option, None, Some, option_map, if◌then◌else◌, map, refl, ap, ◌∙◌, sym, subst, arith, append-nil}
+use Rattle.std.proofs.Common.{◌≡◌, ℕ, ◌+◌, ◌-◌, ◌^◌, min, inl, inr, List, [], ◌∷◌, ◌++◌, Bool, true, false, ◌&&◌, not, ◌==◌, Option, None, Some, option_map, if◌then◌else◌, map, refl, ap, ◌∙◌, sym, subst, arith, append-nil}
 use Rattle.dbus_message_model.specs.declared.message_type.TheConstants as message
-use Rattle.dbus_calls.specs.Events.{caller_of, departed, event_of, replied_to, reply_serial_of, sender_of, wants_reply}
+use Rattle.dbus_calls.specs.Events.{Event, caller_of, departed, event_of, replied_to, reply_serial_of, sender_of, wants_reply}
 use Rattle.dbus_calls.specs.Events.Event.{Calls, Replies, Leaves, Passes}
 use Rattle.dbus_calls.specs.OwnerChanges.{change_of}
 use Rattle.dbus_calls.specs.Kept.{waiting}
@@ -18,7 +18,9 @@ use Rattle.dbus_call_lines.specs.declared.waiting_call.WaitingCall.{WaitingCall}
 use Rattle.dbus_call_lines.proofs.LineLaws.{two_parts}
 use Rattle.dbus_call_lines.proofs.Rows.{first_kind, is_reply, none_departed}
 use Rattle.dbus_call_lines.proofs.Ended.{are_kept, keeps_next, lists_one, those}
-use Rattle.dbus_call_lines.proofs.Steps.{IsKept, answer_kept, left_kept, lines_both, lines_kept, list_kept, reply_kept, sent_to, to, with_kept, without_kept}
+use Rattle.dbus_call_lines.proofs.OfCaller.{call_behind}
+use Rattle.dbus_call_lines.proofs.Stray.{NextStray, none_stray, replies, some_stray, stray}
+use Rattle.dbus_call_lines.proofs.Steps.{AreKept, IsKept, answer_kept, left_kept, lines_both, lines_kept, list_kept, reply_kept, sent_to, to, with_kept, without_kept}
 
 calls_event : (x : Numbered) (c : List ℕ) (s : ℕ) (w : Bool) → Calls c s w ≡ event_of x.message → ((x.message.kind == message.METHOD_CALL) ≡ true) × (wants_reply x.message ≡ w)
 calls_event x c s w is = first_kind c s w (x.message.kind == message.METHOD_CALL) (is_reply x.message) (caller_of x.message) (replied_to x.message) x.message.serial
@@ -37,23 +39,27 @@ module _ (before : List Numbered) (x : Numbered) {S : Type 0} (gains : S → Lis
   abbrev w : Waiting Numbered
   w = run message_of no_calls before
 
+  -- a message that is no reply
+  no_reply : (e : Event) → list'.stray ≡ list.stray → e ≡ event_of x.message → replies e ≡ false → NextStray before x list.stray list'.stray
+  no_reply e counted is none = inr (none_stray before x e is none, counted)
+
   pub by_wanted : (wanted : Wanted) → Keeps wanted before list → (Keeps list.wanted before list → Result list.wanted) → Result wanted
   unfolding Keeps
-  by_wanted wanted keeps f = subst Result keeps.0 (f (refl, λ c s. subst (λ (z : Wanted). option_map kept (waiting list.open c s) ≡ option_map (kept_of z) (w c s)) (sym keeps.0) (keeps.1 c s)))
+  by_wanted wanted keeps f = subst Result keeps.0 (f (refl, λ c s. subst (λ (z : Wanted). option_map kept (waiting list.open c s) ≡ option_map (kept_of z) (w c s)) (sym keeps.0) (keeps.1 c s), keeps.2))
 
   module _ (wanted : Wanted) (keeps : Keeps wanted before list) (same : list'.wanted ≡ list.wanted) (c : List ℕ) (s : ℕ) (o : Option WaitingCall) where
     -- a call that wants a reply
-    pub opens : (call : WaitingCall) → Calls c s true ≡ event_of x.message → kept call ≡ kept_of list.wanted x → ((d : List ℕ) (t : ℕ) → waiting list'.open d t ≡ with_call c s call (waiting list.open) d t)
+    pub opens : (call : WaitingCall) → list'.stray ≡ list.stray → Calls c s true ≡ event_of x.message → kept call ≡ kept_of list.wanted x → ((d : List ℕ) (t : ℕ) → waiting list'.open d t ≡ with_call c s call (waiting list.open) d t)
         → o ≡ waiting list.open c s → gains old (kept_text list.wanted Replaced (as_list (option_map kept o))) new → Result wanted
-    opens call is own opened at g = by_wanted wanted keeps (λ k.
+    opens call counted is own opened at g = by_wanted wanted keeps (λ k.
         let are = are_kept before x (Calls c s true) is list.wanted list k in
         let l = lists_one before x (Calls c s true) is list.wanted gains old new Replaced o (w c s) (ap (option_map kept) at ∙ are c s) (λ call. (λ h. h, λ h. h)) (replaced x (calls_event x c s true is).0) refl g in
-        (keeps_next before x (Calls c s true) is list.wanted list list' k same (with_call c s call (waiting list.open)) opened (with_kept list.wanted (waiting list.open) w are c s call x own), l.0, l.1, l.2))
+        (keeps_next before x (Calls c s true) is list.wanted list list' k same (no_reply (Calls c s true) counted is refl) (with_call c s call (waiting list.open)) opened (with_kept list.wanted (waiting list.open) w are c s call x own), l.0, l.1, l.2))
 
     -- one that wants none
-    pub closes : (middle : S) → Calls c s false ≡ event_of x.message → ((d : List ℕ) (t : ℕ) → waiting list'.open d t ≡ without_call c s (waiting list.open) d t)
+    pub closes : (middle : S) → list'.stray ≡ list.stray → Calls c s false ≡ event_of x.message → ((d : List ℕ) (t : ℕ) → waiting list'.open d t ≡ without_call c s (waiting list.open) d t)
         → o ≡ waiting list.open c s → gains old (kept_text list.wanted Replaced (as_list (option_map kept o))) middle → gains middle (own_line list.wanted) new → Result wanted
-    closes middle is closed at g h = by_wanted wanted keeps (λ k.
+    closes middle counted is closed at g h = by_wanted wanted keeps (λ k.
         let are = are_kept before x (Calls c s false) is list.wanted list k in
         let event = calls_event x c s false is in
         let un : is_unwanted x ≡ true = (λ i. event.0 i && not (event.1 i)) in
@@ -62,7 +68,7 @@ module _ (before : List Numbered) (x : Numbered) {S : Type 0} (gains : S → Lis
         let first : kept_text list.wanted Replaced (as_list (option_map kept o)) ≡ rows_text list.wanted ended
         = ap (λ (o : Option WaitingCall). kept_text list.wanted Replaced (as_list (option_map kept o))) at ∙ (ap (λ l. kept_text list.wanted Replaced (as_list l)) (are c s) ∙ (ap (kept_text list.wanted Replaced) (list_kept list.wanted (w c s)) ∙ lines_kept list.wanted Replaced (as_list (w c s)))) in
         let last : own_line list.wanted ≡ rows_text list.wanted (row Unwanted x ∷ []) = ap (λ t. if is_wanted list.wanted x.place.time Unwanted then t else []) (two_parts list.wanted.form x.place x.message Unwanted) ∙ sym (append-nil _) in (
-          keeps_next before x (Calls c s false) is list.wanted list list' k same (without_call c s (waiting list.open)) closed (without_kept list.wanted (waiting list.open) w are c s),
+          keeps_next before x (Calls c s false) is list.wanted list list' k same (no_reply (Calls c s false) counted is refl) (without_call c s (waiting list.open)) closed (without_kept list.wanted (waiting list.open) w are c s),
           ended ++ row Unwanted x ∷ [],
           record {
             calls = as_list (w c s);
@@ -73,19 +79,52 @@ module _ (before : List Numbered) (x : Numbered) {S : Type 0} (gains : S → Lis
         ))
 
     -- a reply
-    pub answers : (sender : Option (List ℕ)) → Replies c s sender ≡ event_of x.message → ((d : List ℕ) (t : ℕ) → waiting list'.open d t ≡ after_reply sent_to (waiting list.open c s) c s sender (waiting list.open) d t)
-        → o ≡ answered sent_to (waiting list.open c s) sender → gains old (kept_text list.wanted (outcome_by x.place x.message) (as_list (option_map kept o))) new → Result wanted
-    answers sender is left at g = by_wanted wanted keeps (λ k.
+    answers : (sender : Option (List ℕ)) → NextStray before x list.stray list'.stray → Replies c s sender ≡ event_of x.message → ((d : List ℕ) (t : ℕ) → waiting list'.open d t ≡ after_reply sent_to (waiting list.open c s) c s sender (waiting list.open) d t)
+        → o ≡ answered sent_to (waiting list.open c s) sender → gains old (kept_text list.wanted (outcome_by x.place x.message) (as_list (option_map kept o))) new → Keeps list.wanted before list → Result list.wanted
+    answers sender next is left at g k =
         let are = are_kept before x (Replies c s sender) is list.wanted list k in
         let l = lists_one before x (Replies c s sender) is list.wanted gains old new (outcome_by x.place x.message) o (answered to (w c s) sender) (ap (option_map kept) at ∙ answer_kept list.wanted (waiting list.open) w are c s sender) (λ call. (λ h. h, λ h. h)) refl refl g in
-        (keeps_next before x (Replies c s sender) is list.wanted list list' k same (after_reply sent_to (waiting list.open c s) c s sender (waiting list.open)) left (reply_kept list.wanted (waiting list.open) w are c s sender), l.0, l.1, l.2))
+        (keeps_next before x (Replies c s sender) is list.wanted list list' k same next (after_reply sent_to (waiting list.open c s) c s sender (waiting list.open)) left (reply_kept list.wanted (waiting list.open) w are c s sender), l.0, l.1, l.2)
+
+    -- of what is kept of it
+    answer_of : (sender : Option (List ℕ)) → AreKept list.wanted (waiting list.open) w → o ≡ answered sent_to (waiting list.open c s) sender → IsKept list.wanted o (answered to (w c s) sender)
+    answer_of sender are at = ap (option_map kept) at ∙ answer_kept list.wanted (waiting list.open) w are c s sender
+
+    -- it answers a call
+    pub answers_some : (sender : Option (List ℕ)) (call : WaitingCall) → o ≡ Some call → list'.stray ≡ list.stray → Replies c s sender ≡ event_of x.message
+        → ((d : List ℕ) (t : ℕ) → waiting list'.open d t ≡ after_reply sent_to (waiting list.open c s) c s sender (waiting list.open) d t)
+        → o ≡ answered sent_to (waiting list.open c s) sender → gains old (kept_line list.wanted (outcome_by x.place x.message) (kept call).place.time (kept call).front) new → Result wanted
+    answers_some sender call some counted is left at g =
+        let one = subst (λ (t : List ℕ). gains old t new) (sym (append-nil (kept_line list.wanted (outcome_by x.place x.message) (kept call).place.time (kept call).front))) g in
+        by_wanted wanted keeps (λ k.
+        let of = call_behind list.wanted call (answered to (w c s) sender) (subst (λ (p : Option WaitingCall). IsKept list.wanted p (answered to (w c s) sender)) some
+        (answer_of sender (are_kept before x (Replies c s sender) is list.wanted list k) at)) in
+        answers sender (inr (some_stray before x c s sender is of.0 of.1, counted)) is left at
+        (subst (λ (p : Option WaitingCall). gains old (kept_text list.wanted (outcome_by x.place x.message) (as_list (option_map kept p))) new) (sym some) one) k)
+
+    -- it answers none
+    pub answers_none : (sender : Option (List ℕ)) → o ≡ None → list'.stray ≡ min (list.stray + 1) (2 ^ 64 - 1) → Replies c s sender ≡ event_of x.message
+        → ((d : List ℕ) (t : ℕ) → waiting list'.open d t ≡ after_reply sent_to (waiting list.open c s) c s sender (waiting list.open) d t)
+        → o ≡ answered sent_to (waiting list.open c s) sender → gains old [] new → Result wanted
+    answers_none sender none counted is left at g = by_wanted wanted keeps (λ k.
+        let of = none_behind (answered to (w c s) sender) (subst (λ (p : Option WaitingCall). IsKept list.wanted p (answered to (w c s) sender)) none
+        (answer_of sender (are_kept before x (Replies c s sender) is list.wanted list k) at)) in
+        answers sender (inl (stray before x c s sender is of, counted)) is left at
+        (subst (λ (p : Option WaitingCall). gains old (kept_text list.wanted (outcome_by x.place x.message) (as_list (option_map kept p))) new) (sym none) g) k)
+      where
+        none_behind : (p : Option Numbered) → IsKept list.wanted None p → p ≡ None
+        none_behind None is = refl
+        none_behind (Some n) is = absurd (none_kept (kept_of list.wanted n) is)
+          where
+            none_kept : (k : KeptCall) → ◌≡◌ {A = Option KeptCall} None (Some k) → ⊥
+            none_kept k is = grind arith
 
     -- any other message
-    pub passes : Passes ≡ event_of x.message → list'.open ≡ list.open → gains old [] new → Result wanted
-    passes is left g = by_wanted wanted keeps (λ k.
+    pub passes : list'.stray ≡ list.stray → Passes ≡ event_of x.message → list'.open ≡ list.open → gains old [] new → Result wanted
+    passes counted is left g = by_wanted wanted keeps (λ k.
         let are = are_kept before x Passes is list.wanted list k in
         let l = lists_one before x Passes is list.wanted gains old new (outcome_by x.place x.message) None None refl (λ call. (λ h. absurd h, λ h. grind arith)) refl refl g in
-        (keeps_next before x Passes is list.wanted list list' k same (waiting list.open) (λ d t. ap (λ z. waiting z d t) left) are, l.0, l.1, l.2))
+        (keeps_next before x Passes is list.wanted list list' k same (no_reply Passes counted is refl) (waiting list.open) (λ d t. ap (λ z. waiting z d t) left) are, l.0, l.1, l.2))
 
     -- a caller that leaves, of which no call waits
     none_leaves : (call : Numbered) (t : ℕ) → IsKept list.wanted (waiting list.open c t) (w c t) → None ≡ waiting list.open c t → w c t ≡ Some call → ⊥
@@ -94,12 +133,12 @@ module _ (before : List Numbered) (x : Numbered) {S : Type 0} (gains : S → Lis
         none_kept : (k : KeptCall) → ◌≡◌ {A = Option KeptCall} None (Some k) → ⊥
         none_kept k is = grind arith
 
-    pub leaves_none : Leaves c ≡ event_of x.message → ((d : List ℕ) (t : ℕ) → waiting list'.open d t ≡ without_caller c (waiting list.open) d t)
+    pub leaves_none : list'.stray ≡ list.stray → Leaves c ≡ event_of x.message → ((d : List ℕ) (t : ℕ) → waiting list'.open d t ≡ without_caller c (waiting list.open) d t)
         → ((t : ℕ) → None ≡ waiting list.open c t) → gains old [] new → Result wanted
-    leaves_none is left none g = by_wanted wanted keeps (λ k.
+    leaves_none counted is left none g = by_wanted wanted keeps (λ k.
         let are = are_kept before x (Leaves c) is list.wanted list k in
         let l = lists_one before x (Leaves c) is list.wanted gains old new (outcome_by x.place x.message) None None refl (λ call. (λ h. absurd (none_leaves call h.0 (are c h.0) (none h.0) h.1), λ h. absurd (no_none call h))) refl refl g in
-        (keeps_next before x (Leaves c) is list.wanted list list' k same (without_caller c (waiting list.open)) left (left_kept list.wanted (waiting list.open) w are c s), l.0, l.1, l.2))
+        (keeps_next before x (Leaves c) is list.wanted list list' k same (no_reply (Leaves c) counted is refl) (without_caller c (waiting list.open)) left (left_kept list.wanted (waiting list.open) w are c s), l.0, l.1, l.2))
       where
         no_none : (call : Numbered) → ◌≡◌ {A = Option Numbered} None (Some call) → ⊥
         no_none call is = grind arith

@@ -1,6 +1,6 @@
 -- What a list of calls keeps: of each call that waits its place, its DESTINATION and the front of
 -- its line.
-use Rattle.std.specs.Prelude.{◌≡◌, ℕ, List, [], ◌∷◌, ◌++◌, Option, None, Some, map, option_map, string_bytes, if◌then◌else◌}
+use Rattle.std.specs.Prelude.{◌≡◌, ◌-◌, ◌^◌, ℕ, min, List, [], ◌∷◌, ◌++◌, Option, None, Some, map, option_map, string_bytes, if◌then◌else◌}
 use Rattle.std.specs.List.{flat_map}
 use Rattle.std.specs.List.Sorted.{IsPermutation, IsSortedBy}
 use Rattle.std.specs.Ordering.{is_lt, nat_cmp}
@@ -9,7 +9,7 @@ use Rattle.dbus_calls.specs.Kept.{waiting}
 use Rattle.dbus_calls.specs.Pairing.{run}
 use Rattle.dbus_calls.specs.Waiting.{no_calls}
 use Rattle.dbus_call_lines.specs.CallLines.{end, front}
-use Rattle.dbus_call_lines.specs.Listing.{ListsAfter, Numbered, Row, message_of, rows_text}
+use Rattle.dbus_call_lines.specs.Listing.{HaveStray, ListsAfter, Numbered, Row, message_of, rows_text}
 use Rattle.dbus_call_lines.specs.Outcomes.{Outcome, is_wanted}
 use Rattle.dbus_call_lines.specs.declared.wanted.Wanted.{Wanted}
 use Rattle.dbus_call_lines.specs.declared.call_list.CallList.{CallList}
@@ -30,9 +30,14 @@ kept call =
 abbrev pub kept_of : Wanted → Numbered → KeptCall
 kept_of wanted call = record { place = call.place; destination = destination_of call.message; front = front wanted.form call.place call.message }
 
--- the list is to have what is wanted, and keeps the calls that wait after these messages
+-- of messages so many are replies that answer none, a number that stops at the greatest of 64 bits
+abbrev pub KnowsStray : (before : List Numbered) (stray : ℕ) → Type 0
+KnowsStray before stray = (n : ℕ) × HaveStray [] before n × (stray ≡ min n (2 ^ 64 - 1))
+
+-- the list is to have what is wanted, and keeps the calls that wait after these messages, and how
+-- many of these are replies that answer none
 unfoldable pub Keeps : Wanted → (before : List Numbered) → CallList → Type 0
-Keeps wanted before list = (list.wanted ≡ wanted) × ((caller : List ℕ) (serial : ℕ) → option_map kept (waiting list.open caller serial) ≡ option_map (kept_of wanted) (run message_of no_calls before caller serial))
+Keeps wanted before list = (list.wanted ≡ wanted) × ((caller : List ℕ) (serial : ℕ) → option_map kept (waiting list.open caller serial) ≡ option_map (kept_of wanted) (run message_of no_calls before caller serial)) × KnowsStray before list.stray
 
 -- the lines of those that are wanted of calls that are kept, if this came of them. sent is when a
 -- call was captured

@@ -1,6 +1,6 @@
 -- What is listed of the calls in an input: each METHOD_CALL, once it is known what came of it.
 -- D-Bus Specification, "Message Types" ("Method Calls").
-use Rattle.std.specs.Prelude.{◌≡◌, ◌↔◌, ◌<◌, ◌^◌, ℕ, nat_eq, List, [], ◌∷◌, ◌++◌, Bool, true, not, ◌&&◌, ◌==◌, Some, IfSome, map, if◌then◌else◌}
+use Rattle.std.specs.Prelude.{◌≡◌, ◌↔◌, ◌<◌, ◌+◌, ◌^◌, ℕ, nat_eq, List, [], ◌∷◌, ◌++◌, Bool, true, not, ◌&&◌, ◌==◌, ◌⊎◌, Some, IfSome, map, if◌then◌else◌}
 use Rattle.std.specs.List.{AllByRecursion, Contains, IsDistinct, flat_map}
 use Rattle.std.specs.List.Sorted.{IsStrictlySortedBy}
 use Rattle.std.specs.Ordering.{nat_cmp}
@@ -10,7 +10,7 @@ use Rattle.dbus_message_model.specs.Messages.{IsMessage, MessageTree}
 use Rattle.dbus_message_model.specs.declared.message_type.TheConstants as message
 use Rattle.dbus_calls.specs.Events.{Event, destination_of, event_of, wants_reply}
 use Rattle.dbus_calls.specs.Events.Event.{Calls, Replies, Leaves, Passes}
-use Rattle.dbus_calls.specs.Pairing.{IsOpen, ends, run}
+use Rattle.dbus_calls.specs.Pairing.{Answers, IsOpen, IsReply, ends, run}
 use Rattle.dbus_calls.specs.Waiting.{Waiting, answered, no_calls}
 use Rattle.dbus_call_lines.specs.CallLines.{IsPrintedLine, line}
 use Rattle.dbus_call_lines.specs.Outcomes.{Outcome, is_wanted, outcome_by}
@@ -71,6 +71,19 @@ module _ (before : List Numbered) (x : Numbered) where
     pub calls : List Numbered
     pub calls_are : AreThose IsEnded calls
     pub rows_are : rows ≡ map (row (outcome_by x.place x.message)) calls ++ own_row
+
+-- a METHOD_RETURN or an ERROR that answers no call of those that came before
+abbrev pub IsStray : (before : List Numbered) (x : Numbered) → Type 0
+IsStray before x = IsReply x.message × ((call : Numbered) → Answers message_of before x call → ⊥)
+
+-- n of messages are such replies and then, with one that comes after them, m
+abbrev pub CountsStray : (before : List Numbered) (x : Numbered) (n m : ℕ) → Type 0
+CountsStray before x n m = (IsStray before x × (m ≡ n + 1)) ⊎ ((IsStray before x → ⊥) × (m ≡ n))
+
+-- so many of messages are such replies, if these came before
+abbrev pub HaveStray : (before xs : List Numbered) (n : ℕ) → Type 0
+HaveStray before [] n = n ≡ 0
+HaveStray before (x ∷ xs) n = (m : ℕ) × HaveStray (before ++ x ∷ []) xs m × CountsStray before x m n
 
 -- what is listed at the end: the calls that are open then
 pub record ListsOpen (before : List Numbered) (rows : List Row) : Type 0 where

@@ -10,9 +10,9 @@ ghost use Rattle.dbus_value_model.specs.declared.order.Order.{Order};
 ghost use Rattle.dbus_message_model.specs.Messages.{MessageTree};
 ghost use Rattle.dbus_view.specs.Views.{Views};
 ghost use Rattle.dbus_calls.specs.Events.{event_of};
-ghost use Rattle.dbus_calls.specs.Events.Event.{Calls};
+ghost use Rattle.dbus_calls.specs.Events.Event.{Calls, Replies};
 ghost use Rattle.dbus_call_lines.specs.CallLines.{front};
-ghost use Rattle.dbus_call_lines.specs.Keeping.{Keeps, TakesNext, WritesSorted, as_list, kept, kept_line, kept_of, kept_text};
+ghost use Rattle.dbus_call_lines.specs.Keeping.{Keeps, KnowsStray, TakesNext, WritesSorted, as_list, kept, kept_line, kept_of, kept_text};
 ghost use Rattle.dbus_call_lines.specs.Listing.{AreRising, ListsOpen, Numbered, Row, nth, rows_text};
 ghost use Rattle.dbus_call_lines.specs.Outcomes.{outcome_seen};
 ghost use Rattle.dbus_call_lines.specs.Outcomes.Outcome.{Unwanted};
@@ -25,7 +25,7 @@ use crate::outcome::{Outcome, outcome_of};
 use crate::place::Place;
 use crate::waiting_call::{CallParts, WaitingCall};
 use crate::wanted::Wanted;
-use dbus_calls::{CallSeen, Event, OpenCalls, event_of};
+use dbus_calls::{CallSeen, Event, OpenCalls, ReplySeen, event_of};
 use dbus_show::{Draft, StringDraft};
 use dbus_view::MessageView;
 use std::alloc::{AllocError, Global};
@@ -59,6 +59,8 @@ pub struct CallList {
     alloc: Global,
     pub(crate) wanted: Wanted,
     pub(crate) open: OpenCalls<WaitingCall>,
+    // How many replies answered no open call.
+    pub(crate) stray: u64,
 }
 
 impl CallList {
@@ -70,7 +72,17 @@ impl CallList {
             alloc,
             wanted,
             open: OpenCalls::new(alloc),
+            stray: 0,
         }
+    }
+
+    /// How many of the messages that it took are replies that answer none of the calls that came
+    /// before them. It stops at 2^64 - 1.
+    pub fn stray_replies(&self) -> u64
+        ensures { (wanted : Wanted) (before : List Numbered) → Keeps wanted before self.now →
+            KnowsStray before result }
+    {
+        self.stray
     }
 
     /// Takes the message of the view, which is at this place, and appends the lines that are due
@@ -95,8 +107,7 @@ impl CallList {
         match event_of(view) {
             Event::Call(call) => self.take_call(draft, place, call, view),
             Event::Reply(reply) => {
-                let ended = self.open.answer(reply.caller, reply.serial, reply.sender);
-                self.write_ended(draft, &ended, outcome_of(place, view));
+                self.take_reply(draft, place, reply, view);
                 Ok(())
             }
             Event::Departure(name) => match self.open.close_all(name) {
@@ -131,6 +142,27 @@ impl CallList {
             self.write_unwanted(draft, place, view);
         }
         Ok(())
+    }
+
+    // Takes a reply.
+    fn take_reply<D: Draft>(
+        &mut self,
+        draft: &mut D,
+        place: Place,
+        reply: ReplySeen<'_>,
+        view: &MessageView,
+    )
+        ensures { (order : Order) (m : MessageTree) → Views view.now order m →
+            Replies reply.entry.caller.now reply.entry.serial
+            (option_map (λ s. s.now) reply.entry.sender) ≡ event_of m →
+            (wanted : Wanted) (before : List Numbered) → Keeps wanted before self.old →
+            TakesNext D.gains wanted before (nth place m) self.new draft.old draft.new }
+    {
+        let ended = self.open.answer(reply.caller, reply.serial, reply.sender);
+        match &ended {
+            Some(call) => write_line(draft, self.wanted, call, outcome_of(place, view)),
+            None => self.stray = self.stray.saturating_add(1),
+        }
     }
 
     // Appends the line of a call that wants no reply.
@@ -210,6 +242,7 @@ impl CallList {
             alloc,
             wanted,
             open,
+            ..
         } = self;
         let callers = open.into_callers();
         let mut rows = Vec::new(alloc);

@@ -1,26 +1,21 @@
-use Rattle.std.proofs.Common.{ap, sym, refl, Result, Ok, Err, OnOk, None, ◌∙◌, option_map, subst, []}
+use Rattle.std.proofs.Common.{ap, sym, refl, Result, Ok, Err, OnOk, None, ◌∙◌, []}
 use Rattle.dbus_calls.specs.Events.{event_seen}
-use Rattle.dbus_call_lines.specs.Keeping.{as_list, kept, kept_text}
-use Rattle.dbus_call_lines.specs.Outcomes.{Outcome}
 use Rattle.dbus_call_lines.proofs.Leaving.{leaves_some}
-use Rattle.dbus_call_lines.proofs.Takes.{answers, leaves_none, passes}
+use Rattle.dbus_call_lines.proofs.Takes.{leaves_none, passes}
 use Rattle.dbus_call_lines.proofs.call_list.CallList.take.Goals as goal
 
 pub returns-in-Reply-clause-takes : goal.returns-in-Reply-clause-takes
 returns-in-Reply-clause-takes g c = λ order m views form before keeps rising.
-    let reply = c.in-Reply.reply in
-    answers before (record { place = c.args.place; message = m }) g.D.Draft.gains g.met.D.Draft.joins c.args.draft.now c.write_ended.new.draft c.args.self.now _ form keeps refl reply.caller.now reply.serial c.answer-ended.result
-    (option_map (λ s. s.now) reply.sender) (ap event_seen (sym c.in-Reply.is) ∙ c.event_of.ensures order m views) c.answer-ended.ensures.left c.answer-ended.ensures.answers
-    (subst (λ (y : Outcome). g.D.Draft.gains c.args.draft.now (kept_text c.args.self.now.wanted y (as_list (option_map kept c.answer-ended.result))) c.write_ended.new.draft) (c.outcome_of.ensures order m views) c.write_ended.ensures)
+    c.take_reply.ensures order m views (ap event_seen (sym c.in-Reply.is) ∙ c.event_of.ensures order m views) form before keeps
 
 pub returns-in-None-clause-takes : goal.returns-in-None-clause-takes
 returns-in-None-clause-takes g c = λ order m views form before keeps rising.
-    leaves_none before (record { place = c.args.place; message = m }) g.D.Draft.gains g.met.D.Draft.joins c.args.draft.now c.args.draft.now c.args.self.now _ form keeps refl c.in-Departure.name.now 0 None
+    leaves_none before (record { place = c.args.place; message = m }) g.D.Draft.gains g.met.D.Draft.joins c.args.draft.now c.args.draft.now c.args.self.now _ form keeps refl c.in-Departure.name.now 0 None refl
     (ap event_seen (sym c.in-Departure.is) ∙ c.event_of.ensures order m views) c.close_all.ensures.left c.in-None.ensures.closed (g.met.D.Draft.nothing c.args.draft.now)
 
 pub returns-in-Other-clause-takes : goal.returns-in-Other-clause-takes
 returns-in-Other-clause-takes g c = λ order m views form before keeps rising.
-    passes before (record { place = c.args.place; message = m }) g.D.Draft.gains g.met.D.Draft.joins c.args.draft.now c.args.draft.now c.args.self.now c.args.self.now form keeps refl [] 0 None
+    passes before (record { place = c.args.place; message = m }) g.D.Draft.gains g.met.D.Draft.joins c.args.draft.now c.args.draft.now c.args.self.now c.args.self.now form keeps refl [] 0 None refl
     (ap event_seen (sym c.in-Other.is) ∙ c.event_of.ensures order m views) refl (g.met.D.Draft.nothing c.args.draft.now)
 
 if_all : {T E A B C D : Type 0} (r : Result T E) → OnOk r A → OnOk r B → OnOk r C → (A → B → C → D) → OnOk r D
@@ -31,5 +26,5 @@ pub returns-in-Some-clause-takes : goal.returns-in-Some-clause-takes
 returns-in-Some-clause-takes g c = λ order m views form before keeps rising.
     let is = ap event_seen (sym c.in-Departure.is) ∙ c.event_of.ensures order m views in
     if_all c.write_all.result c.write_all.ensures.ordered c.write_all.ensures.found c.write_all.ensures.writes
-    (λ ordered found writes. leaves_some before (record { place = c.args.place; message = m }) g.D.Draft.gains g.met.D.Draft.joins c.args.draft.now c.write_all.new.draft c.args.self.now _ form keeps refl
+    (λ ordered found writes. leaves_some before (record { place = c.args.place; message = m }) g.D.Draft.gains g.met.D.Draft.joins c.args.draft.now c.write_all.new.draft c.args.self.now _ form keeps refl refl
     c.in-Departure.name.now is c.close_all.ensures.left rising c.in-Some.calls ordered found c.in-Some.ensures.closed writes)
