@@ -1,18 +1,19 @@
 -- What a search passes and enters.
-use Rattle.std.proofs.Common.{◌≡◌, ℕ, zero, suc, ◌+◌, List, false, true, length, take, drop, Option, None, Some, IfSome, refl, sym, ap, ◌∙◌}
+use Rattle.std.proofs.Common.{◌≡◌, get_or, ℕ, zero, suc, ◌+◌, List, false, true, length, take, drop, Option, None, Some, IfSome, refl, sym, ap, ◌∙◌}
 use Rattle.std.proofs.Common.{subst, zero-add, add-one, [], ◌∷◌, ◌++◌, append_assoc, append-nil}
 use Rattle.std.proofs.lemmas.List.{drop_at, take_at}
 use Rattle.std.proofs.lemmas.List.Concat.{flat_map-append}
-use Rattle.dbus_texts.specs.Types.{TypeTree, TypeTrees, EntryType, NoTypes, MoreTypes, IsShaped}
+use Rattle.dbus_texts.specs.Types.{TypeTree, TypeTrees, STRING, OBJECT_PATH, SIGNATURE, NumberType, TextType, VariantType, ArrayType, StructType, EntryType, NoTypes, MoreTypes, IsShaped}
 use Rattle.dbus_texts.specs.Types.{AreShaped, sig, sigs}
 use Rattle.dbus_texts.specs.declared.text_kind.TextKind.TheVariants.{Single}
 use Rattle.dbus_texts.proofs.KindFacts.{shaped_of, are_shaped_of}
 use Rattle.dbus_types.specs.Alignments.{alignment_of}
+use Rattle.dbus_types.proofs.TypeCodes.{code_is}
 use Rattle.dbus_types.specs.SignatureCodes.{IsTypeEnd}
 use Rattle.dbus_value_model.specs.Bytes.{gap_to}
 use Rattle.dbus_value_laws.proofs.ValueSteps.{shaped_inside}
 use Rattle.dbus_explain.specs.Places.{Leads, AreBodyTypes, Enters, IsAmong, IsIn, IsSignatureField, IsTyped, Pass, Passes, field_type}
-use Rattle.dbus_explain.specs.Places.{first_element, IsPath}
+use Rattle.dbus_explain.specs.Places.{first_element, IsInText, IsPath}
 use Rattle.dbus_explain.specs.declared.path.PathStep.{PathStep}
 use Rattle.dbus_explain.specs.declared.path.PathStep.TheVariants.{Key, Value}
 use Rattle.dbus_explain.specs.declared.search.ValuePlace.{ValuePlace}
@@ -115,12 +116,26 @@ text_more steps step = sym (flat_map-append step_text steps (step ∷ []) ∙ ap
 module _ (bytes : List ℕ) (at : ℕ) (t : TypeTree) (p : ℕ) where
   -- steps that lead from a value to one in it, from which others go on
   abbrev pub GoesOn : (steps : List PathStep) → TypeTree → ℕ → Type 0
-  GoesOn steps u q = (more : List PathStep) → IsPath bytes at u q more → IsPath bytes at t p (steps ++ more)
+  GoesOn steps u q = (more : List PathStep) (v : TypeTree) (r : ℕ) → IsPath bytes at u q more v r → IsPath bytes at t p (steps ++ more) v r
 
   pub goes_on : (steps : List PathStep) (u : TypeTree) (q : ℕ) (step : PathStep) (v : TypeTree) (r : ℕ) → GoesOn steps u q
       → Enters bytes at u q step v r → GoesOn (steps ++ step ∷ []) v r
-  goes_on steps u q step v r h enters = λ more path. subst (λ (s : List PathStep). IsPath bytes at t p s)
-      (sym (append_assoc steps (step ∷ []) more)) (h (step ∷ more) (v, r, enters, path))
+  goes_on steps u q step v r h enters = λ more w o path. subst (λ (s : List PathStep). IsPath bytes at t p s w o)
+      (sym (append_assoc steps (step ∷ []) more)) (h (step ∷ more) w o (v, r, enters, path))
 
-  pub ends_there : (steps : List PathStep) (u : TypeTree) (q : ℕ) → GoesOn steps u q → IsPath bytes at t p steps
-  ends_there steps u q h = subst (λ (s : List PathStep). IsPath bytes at t p s) (append-nil steps) (h [] tt)
+  pub ends_there : (steps : List PathStep) (u : TypeTree) (q : ℕ) → GoesOn steps u q → IsPath bytes at t p steps u q
+  ends_there steps u q h = subst (λ (s : List PathStep). IsPath bytes at t p s u q) (append-nil steps) (h [] u q (refl, refl))
+
+-- Which types are texts.
+
+-- a text whose code is not that of a SIGNATURE is in a STRING as well
+pub long_only : (bytes : List ℕ) (at p start stated : ℕ) (t : TypeTree) (types : List ℕ) → sig t ≡ types → (get_or types 0 0 ≡ 103 → ⊥)
+    → IsInText bytes at t p start stated → IsInText bytes at (TextType STRING) p start stated
+long_only bytes at p start stated (TextType SIGNATURE) types is other h = absurd (other (sym (code_is (TextType SIGNATURE) types is)))
+long_only bytes at p start stated (TextType STRING) types is other h = h
+long_only bytes at p start stated (TextType OBJECT_PATH) types is other h = h
+long_only bytes at p start stated (NumberType k) types is other h = absurd h
+long_only bytes at p start stated VariantType types is other h = absurd h
+long_only bytes at p start stated (ArrayType t) types is other h = absurd h
+long_only bytes at p start stated (StructType ts) types is other h = absurd h
+long_only bytes at p start stated (EntryType k v) types is other h = absurd h

@@ -1,7 +1,7 @@
 -- In which value of a message a place is, by the values before it.
 -- D-Bus Specification, "Marshaling (Wire Format)", "Header Fields".
-use Rattle.std.specs.Prelude.{◌≡◌, ℕ, zero, suc, ◌+◌, ◌<◌, List, [], ◌∷◌, length, nat_eq, if◌then◌else◌, slice_index, take, drop, true}
-use Rattle.dbus_texts.specs.Types.{TypeTree, TypeTrees, BYTE, NumberType, VariantType, ArrayType, StructType, EntryType, NoTypes, MoreTypes}
+use Rattle.std.specs.Prelude.{◌≡◌, ℕ, zero, suc, ◌+◌, ◌<◌, ◌≤◌, List, [], ◌∷◌, length, nat_eq, if◌then◌else◌, slice_index, take, drop, true}
+use Rattle.dbus_texts.specs.Types.{TypeTree, TypeTrees, BYTE, SIGNATURE, NumberType, TextType, VariantType, ArrayType, StructType, EntryType, NoTypes, MoreTypes}
 use Rattle.dbus_texts.specs.Types.{sig, sigs, IsShaped}
 use Rattle.dbus_texts.specs.declared.text_kind.TextKind.{TextKind}
 use Rattle.dbus_texts.specs.declared.text_kind.TextKind.TheVariants.{Signature, Single}
@@ -77,10 +77,17 @@ module _ (bytes : List ℕ) (at : ℕ) where
   Enters VariantType p Variant u q = IsTyped Single p (sig u) q
   Enters t p step u q = ⊥
 
-  -- the steps from a value to the one in it that the place is in
-  abbrev pub IsPath : TypeTree → (p : ℕ) → List PathStep → Type 0
-  IsPath t p [] = Unit {0}
-  IsPath t p (step ∷ steps) = (u : TypeTree) × (q : ℕ) × Enters t p step u q × IsPath u q steps
+  -- the steps from a value to one in it, of type u at q, that the place is in
+  abbrev pub IsPath : TypeTree → (p : ℕ) → List PathStep → (u : TypeTree) → (q : ℕ) → Type 0
+  IsPath t p [] u q = (u ≡ t) × (q ≡ p)
+  IsPath t p (step ∷ steps) u q = (v : TypeTree) × (r : ℕ) × Enters t p step v r × IsPath v r steps u q
+
+  -- the place is in a text of the type at p, behind its length, which says that the text has this
+  -- many bytes, from start on
+  abbrev pub IsInText : TypeTree → (p : ℕ) → (start stated : ℕ) → Type 0
+  IsInText (TextType SIGNATURE) p start stated = (start ≡ p + 1) × (start ≤ at) × (stated ≡ slice_index bytes p)
+  IsInText (TextType k) p start stated = (start ≡ p + gap_to 4 p + 4) × (start ≤ at) × (stated ≡ number_of (order_of bytes) (take 4 (drop (p + gap_to 4 p) bytes)))
+  IsInText t p start stated = ⊥
 
   -- the place is in a header field of this code, which is its first byte, after the padding
   pub record IsInField (code : ℕ) : Type 0 where

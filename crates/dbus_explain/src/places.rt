@@ -3,7 +3,7 @@
 
 ghost use Rattle.std.specs.Prelude.{◌≡◌, ◌<◌, ◌≤◌, ℕ, List, IfSome, length, true};
 ghost use Rattle.dbus_texts.specs.Types.{TypeTree, TypeTrees, IsShaped, AreShaped, sig, sigs};
-ghost use Rattle.dbus_explain.specs.Names.{IsFieldName, IsNameOf, IsValueName, code_name};
+ghost use Rattle.dbus_explain.specs.Names.{IsFieldName, IsNameOf, IsTextPart, IsValueName, code_name};
 ghost use Rattle.dbus_explain.specs.Names.{first_part, path_text};
 ghost use Rattle.dbus_explain.specs.Places.{AreBodyTypes, IsAmong, IsInField, IsPath};
 ghost use Rattle.dbus_explain.specs.Places.{IsSignatureField, body_begin, order_of};
@@ -131,7 +131,8 @@ fn write_value<D: Draft>(draft: &mut D, search: &Search, body: usize)
         Some((number, value)) => {
             draft.push_str("body");
             write_step(draft, PathStep::Number(number));
-            write_steps(draft, search, value);
+            let last = write_steps(draft, search, value);
+            write_text_part(draft, search, last);
         }
         None => draft.push_str("the end of the body"),
     }
@@ -150,20 +151,40 @@ fn body_value<'a>(search: &Search<'a>, body: usize) -> Option<(usize, ValuePlace
     search.among(ValuePlace { types, place: body })
 }
 
-// Appends the steps from a value to the one in it in which the fault is.
-fn write_steps<'a, D: Draft>(draft: &mut D, search: &Search<'a>, value: ValuePlace<'a>)
+// Appends the steps from a value to the one in it in which the fault is, and returns that one.
+fn write_steps<'a, D: Draft>(
+    draft: &mut D,
+    search: &Search<'a>,
+    value: ValuePlace<'a>,
+) -> ValuePlace<'a>
     ensures { (steps : List StepTo) × D.gains draft.old (path_text steps) draft.new ×
-        ((t : TypeTree) →
-        sig t ≡ value.entry.types.now → IsShaped true t →
-        IsPath search.now.bytes.now search.now.at t value.entry.place steps) }
+        ((t : TypeTree) → sig t ≡ value.entry.types.now → IsShaped true t →
+        (u : TypeTree) × (sig u ≡ result.types.now) ×
+        IsPath search.now.bytes.now search.now.at t value.entry.place steps u result.place) }
 {
     let mut spot = value;
     for _ in 0..MOST_ENTERED {
         let Some((step, inside)) = search.entered(spot) else {
-            return;
+            return spot;
         };
         write_step(draft, step);
         spot = inside;
+    }
+    spot
+}
+
+// Appends where the text of a value begins and the length that is stated of it, if the fault is in
+// a text.
+fn write_text_part<'a, D: Draft>(draft: &mut D, search: &Search<'a>, value: ValuePlace<'a>)
+    ensures { (part : List ℕ) × D.gains draft.old part draft.new × ((t : TypeTree) →
+        sig t ≡ value.entry.types.now →
+        IsTextPart search.now.bytes.now search.now.at t value.entry.place part) }
+{
+    if let Some(text) = search.text(value) {
+        draft.push_str(", a text from byte ");
+        write_integer(draft, text.start);
+        draft.push_str(" of stated length ");
+        write_integer(draft, text.stated);
     }
 }
 

@@ -2,14 +2,14 @@
 //! only the value in which it lies is entered. D-Bus Specification, "Marshaling (Wire Format)".
 #![tactic(auto)]
 
-ghost use Rattle.std.specs.Prelude.{◌≡◌, ℕ, ◌+◌, ◌≤◌, None, IfSome, length, true};
-ghost use Rattle.dbus_texts.specs.Types.{TypeTree, TypeTrees, VariantType, ArrayType, StructType};
+ghost use Rattle.std.specs.Prelude.{◌≡◌, ℕ, ◌+◌, ◌<◌, ◌≤◌, None, IfSome, length, true};
+ghost use Rattle.dbus_texts.specs.Types.{TypeTree, TypeTrees, STRING, SIGNATURE, TextType, VariantType, ArrayType, StructType};
 ghost use Rattle.dbus_texts.specs.Types.{EntryType, NoTypes, MoreTypes, IsShaped, AreShaped, sig};
 ghost use Rattle.dbus_texts.specs.Types.{sigs};
 ghost use Rattle.dbus_types.specs.Alignments.{alignment_of};
 ghost use Rattle.dbus_types.specs.SignatureCodes.{first_code};
 ghost use Rattle.dbus_value_model.specs.Bytes.{gap_to};
-ghost use Rattle.dbus_explain.specs.Places.{IsAmong, IsIn, IsTyped, Pass, Passes, order_of, Leads};
+ghost use Rattle.dbus_explain.specs.Places.{IsAmong, IsIn, IsInText, IsTyped, Pass, Passes, order_of, Leads};
 
 use crate::path::PathStep;
 use dbus_types::{TextKind, boundary, type_end};
@@ -34,10 +34,18 @@ pub(crate) struct ValuePlace<'a> {
     pub(crate) place: usize,
 }
 
+/// Where a text begins, and the length that is stated before it.
+#[derive(Clone, Copy)]
+pub(crate) struct StatedText {
+    pub(crate) start: usize,
+    pub(crate) stated: u32,
+}
+
 impl<'a> Search<'a> {
     /// The place this many bytes on, if it is at or before the fault.
     pub(crate) fn skip(&self, place: usize, count: usize) -> Option<usize>
-        ensures { IfSome result (λ after. (after ≡ place + count) × (after ≤ self.now.at)) }
+        ensures some { IfSome result (λ after. (after ≡ place + count) × (after ≤ self.now.at)) }
+        ensures none { result ≡ None → self.now.at < place + count }
     {
         let after = place.checked_add(count)?;
         if after > self.at {
@@ -52,6 +60,8 @@ impl<'a> Search<'a> {
         ensures gap { IfSome result (λ after. (t : TypeTree) → first_code t ≡ code →
             after ≡ place + gap_to (alignment_of t) place) }
         ensures within { IfSome result (λ after. after ≤ self.now.at) }
+        ensures none { result ≡ None → (t : TypeTree) → first_code t ≡ code →
+            self.now.at < place + gap_to (alignment_of t) place }
     {
         self.skip(place, gap(boundary(code), place))
     }
@@ -206,6 +216,46 @@ impl<'a> Search<'a> {
     {
         let spot = self.typed(place, TextKind::Single)?;
         Some((PathStep::Variant, spot))
+    }
+
+    // The STRING or OBJECT_PATH at the place, if the fault is behind its length.
+    fn long_text(&self, place: usize) -> Option<StatedText>
+        ensures some { IfSome result (λ text. IsInText self.now.bytes.now self.now.at
+            (TextType STRING) place text.start text.stated) }
+        ensures none { result ≡ None → (start stated : ℕ) → IsInText self.now.bytes.now self.now.at
+            (TextType STRING) place start stated → ⊥ }
+    {
+        let length = self.aligned(place, b's')?;
+        let start = self.skip(length, 4)?;
+        let stated = self.order.u32_at(self.bytes, length);
+        Some(StatedText { start, stated })
+    }
+
+    // The SIGNATURE at the place, if the fault is behind its length.
+    fn short_text(&self, place: usize) -> Option<StatedText>
+        ensures some { IfSome result (λ text. IsInText self.now.bytes.now self.now.at
+            (TextType SIGNATURE) place text.start text.stated) }
+        ensures none { result ≡ None → (start stated : ℕ) → IsInText self.now.bytes.now self.now.at
+            (TextType SIGNATURE) place start stated → ⊥ }
+    {
+        let start = self.skip(place, 1)?;
+        let stated = u32::from(self.bytes[place]);
+        Some(StatedText { start, stated })
+    }
+
+    /// The text of this type in which the fault is, if it is behind the text's length.
+    pub(crate) fn text(&self, spot: ValuePlace<'a>) -> Option<StatedText>
+        ensures some { IfSome result (λ text. (t : TypeTree) → sig t ≡ spot.entry.types.now →
+            IsInText self.now.bytes.now self.now.at t spot.entry.place text.start text.stated) }
+        ensures none { result ≡ None → (t : TypeTree) → sig t ≡ spot.entry.types.now →
+            (start stated : ℕ) → IsInText self.now.bytes.now self.now.at t spot.entry.place
+            start stated → ⊥ }
+    {
+        match spot.types {
+            [b's' | b'o'] => self.long_text(spot.place),
+            [b'g'] => self.short_text(spot.place),
+            _ => None,
+        }
     }
 
     /// The value inside of this one in which the fault is, and the step to it.

@@ -4,7 +4,7 @@ use Rattle.dbus_explain.proofs.Searching.{ends_there, goes_on, text_more}
 use Rattle.dbus_explain.proofs.places.write_steps.Goals as goal
 
 pub loop-init : goal.loop-init
-loop-init g c = ([], g.met.D.Draft.nothing c.args.draft.now, λ t is shaped. (t, is, shaped, λ more path. path))
+loop-init g c = ([], g.met.D.Draft.nothing c.args.draft.now, λ t is shaped. (t, is, shaped, λ more u q path. path))
 
 pub loop-preserved : goal.loop-preserved
 loop-preserved g c =
@@ -21,10 +21,20 @@ loop-preserved g c =
 
 pub returns-in_default : goal.returns-in_default
 returns-in_default g c =
-    let before = c.loop.invariant in
-    (before.0, before.1, λ t is shaped. let from = before.2 t is shaped in ends_there c.args.search.now.bytes.now c.args.search.now.at t c.args.value.place before.0 from.0 c.loop.spot.place from.3)
+    let before = c.loop.invariant in (
+      before.0,
+      before.1,
+      λ t is shaped.
+          let from = before.2 t is shaped in
+          (from.0, from.1, ends_there c.args.search.now.bytes.now c.args.search.now.at t c.args.value.place before.0 from.0 c.loop.spot.place from.3),
+    )
 
 pub returns : goal.returns
 returns g c =
-    let before = c.loop.invariant in
-    (before.0, before.1, λ t is shaped. let from = before.2 t is shaped in ends_there c.args.search.now.bytes.now c.args.search.now.at t c.args.value.place before.0 from.0 c.loop.spot.place from.3)
+    let before = c.loop.invariant in (
+      before.0,
+      before.1,
+      λ t is shaped.
+          let from = before.2 t is shaped in
+          (from.0, from.1, ends_there c.args.search.now.bytes.now c.args.search.now.at t c.args.value.place before.0 from.0 c.loop.spot.place from.3),
+    )

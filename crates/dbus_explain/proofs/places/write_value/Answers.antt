@@ -11,12 +11,15 @@ returns-in-Some g c =
     let found = c.in-Some.ensures in
     let value = c.in-Some.value in
     let number = c.in-Some.number in
-    let steps = c.write_steps.ensures.0 in
+    let steps = c.write_steps-last.ensures.0 in
+    let part = c.write_text_part.ensures.0 in
+    let gains = g.D.Draft.gains in
+    let joins = g.met.D.Draft.joins in
+    let last = c.write_steps-last.ensures.2 found.1 found.3 found.4 in
     let among = subst (λ (b : ℕ). IsAmong search.bytes.now search.at found.0 b number found.1 value.place) c.requires.begin found.5 in (
-      codes "body" ++ path_text (Number number ∷ steps),
-      in_value found.0 number found.1 value.place steps found.2 among (c.write_steps.ensures.2 found.1 found.3 found.4),
-      then g.D.Draft.gains g.met.D.Draft.joins c.push_str.ensures
-          (then g.D.Draft.gains g.met.D.Draft.joins c.write_step.ensures c.write_steps.ensures.1),
+      codes "body" ++ (path_text (Number number ∷ steps) ++ part),
+      in_value found.0 number found.1 value.place steps last.0 c.write_steps-last.result.place part found.2 among last.2 (c.write_text_part.ensures.2 last.0 last.1),
+      then gains joins c.push_str.ensures (then gains joins (then gains joins c.write_step.ensures c.write_steps-last.ensures.1) c.write_text_part.ensures.1),
     )
 
 pub returns-in-None : goal.returns-in-None

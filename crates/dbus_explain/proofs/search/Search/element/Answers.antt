@@ -11,5 +11,5 @@ returns-clause-leads c = λ t is shaped.
     let place = c.args.place in
     let spot = c.in_ok-index.element in
     let passed = c.in_ok-index.ensures.passed t is shaped in
-    let first = element_at t place c.in_ok-length.length c.in_ok-skip.field-0 c.in_ok-first.first (c.in_ok-length.ensures.gap (ArrayType t) refl) c.in_ok-skip.ensures.0 (c.in_ok-first.ensures.gap t (code_is t c.args.types.now is)) in
+    let first = element_at t place c.in_ok-length.length c.in_ok-skip.field-0 c.in_ok-first.first (c.in_ok-length.ensures.gap (ArrayType t) refl) c.in_ok-skip.ensures.some.0 (c.in_ok-first.ensures.gap t (code_is t c.args.types.now is)) in
     (t, is ∙ sym c.in_ok-index.ensures.types, shaped, (refl, subst (λ (p : ℕ). Pass self.bytes.now self.at t c.in_ok-index.index p spot.place) first passed.0, passed.1))
