@@ -1,34 +1,19 @@
--- The text of a header field, by its parts.
-use Rattle.std.proofs.Common.{◌≡◌, ℕ, List, [], ◌∷◌, ◌++◌, Bool, true, false, cond, codes, decimal, append_assoc, refl, sym, ap, subst, ◌∙◌}
-use Rattle.std.specs.Bool.{beq}
-use Rattle.std.specs.List.{list_all}
+-- The texts of header fields, by their parts.
+use Rattle.std.proofs.Common.{◌≡◌, ℕ, suc, ◌+◌, List, [], ◌∷◌, ◌++◌, Bool, true, false, not, cond, filter, nat_lt, drop, codes, decimal, append_assoc, refl, sym, ap, subst, ◌∙◌}
+use Rattle.std.specs.List.{enumerate_from, list_all, list_any}
 use Rattle.std.proofs.lemmas.Bool.{and_parts}
 use Rattle.std.proofs.lemmas.List.{append-nil}
 use Rattle.dbus_texts.specs.Types.{sig}
 use Rattle.dbus_value_model.specs.Values.{ValueTree, type_of}
 use Rattle.dbus_message_model.specs.Messages.{FieldTree, is_known}
-use Rattle.dbus_show.specs.ShownMessages.{field_name}
-use Rattle.dbus_json.specs.JsonValues.{plain, member, object, IsJson}
-use Rattle.dbus_json.specs.JsonMessages.{AreFields, IsField, fields_of}
+use Rattle.dbus_value_text.specs.Forms.{AreFieldTexts}
+use Rattle.dbus_json.specs.JsonValues.{plain, member, object, listed, IsJson}
+use Rattle.dbus_json.specs.JsonMessages.{AreOthers, IsOther, place_members, end_text, other_fields, is_before_known}
 
--- ---- a field
+-- ---- a field that is not known
 
-pub is_true : (known : Bool) → beq known true ≡ true → known ≡ true
-is_true true e = refl
-is_true false e = e
-
-pub is_false : (known : Bool) → beq known false ≡ true → known ≡ false
-is_false true e = sym e
-is_false false e = refl
-
-pub known_field : (code : ℕ) (v : ValueTree) (value : List ℕ) → is_known code ≡ true → IsJson v value → IsField code v (member (field_name code) value)
-known_field code v value known json = record { value = value; json = json; is = rw known refl }
-
-abbrev other : ℕ → ValueTree → List ℕ → List ℕ
-other code v value = object (member (codes "code") (decimal code) ∷ member (codes "type") (plain (sig (type_of v))) ∷ member (codes "value") value ∷ [])
-
-pub other_field : (code : ℕ) (v : ValueTree) (value : List ℕ) → is_known code ≡ false → IsJson v value → IsField code v (other code v value)
-other_field code v value unknown json = record { value = value; json = json; is = rw unknown refl }
+abbrev pub other : Bool → (place code : ℕ) → ValueTree → List ℕ → List ℕ
+other before_known place code v value = object (member (codes "code") (decimal code) ∷ member (codes "type") (plain (sig (type_of v))) ∷ member (codes "value") value ∷ place_members before_known place)
 
 other_parts : (code type value : List ℕ)
     → codes "{\"code\":" ++ (code ++ (codes ",\"type\":\"" ++ (type ++ (codes "\",\"value\":" ++ (value ++ codes "}")))))
@@ -41,22 +26,59 @@ other_parts code type value =
     (ap (λ (s : List ℕ). codes "{\"code\":" ++ ((code ++ (x ++ s)) ++ e)) (append-nil y)
     ∙ ap (λ (s : List ℕ). codes "{\"code\":" ++ s) (append_assoc code (x ++ y) e ∙ ap (λ (s : List ℕ). code ++ s) (append_assoc x y e ∙ ap (λ (s : List ℕ). codes ",\"type\":\"" ++ s) (append_assoc type (codes "\"") (y ++ e)))))
 
-pub other_text : (code : ℕ) (v : ValueTree) (value types : List ℕ) → sig (type_of v) ≡ types
-    → codes "{\"code\":" ++ (decimal code ++ (codes ",\"type\":\"" ++ (types ++ (codes "\",\"value\":" ++ (value ++ codes "}"))))) ≡ other code v value
-other_text code v value types is =
-    ap (λ (t : List ℕ). codes "{\"code\":" ++ (decimal code ++ (codes ",\"type\":\"" ++ (t ++ (codes "\",\"value\":" ++ (value ++ codes "}")))))) (sym is) ∙ other_parts (decimal code) (sig (type_of v)) value
+placed_parts : (code type value place : List ℕ)
+    → codes "{\"code\":" ++ (code ++ (codes ",\"type\":\"" ++ (type ++ (codes "\",\"value\":" ++ (value ++ (codes ",\"place\":" ++ (place ++ codes "}")))))))
+    ≡ codes "{\"code\":" ++ ((code ++ ((codes ",\"type\":\"" ++ (type ++ codes "\"")) ++ ((codes ",\"value\":" ++ value) ++ ((codes ",\"place\":" ++ place) ++ [])))) ++ codes "}")
+placed_parts code type value place =
+    let x = codes ",\"type\":\"" ++ (type ++ codes "\"") in
+    let v = codes ",\"value\":" ++ value in
+    let y = codes ",\"place\":" ++ place in
+    let e = codes "}" in
+    sym
+    (ap (λ (s : List ℕ). codes "{\"code\":" ++ ((code ++ (x ++ (v ++ s))) ++ e)) (append-nil y)
+    ∙ ap (λ (s : List ℕ). codes "{\"code\":" ++ s) (append_assoc code (x ++ (v ++ y)) e
+    ∙ ap (λ (s : List ℕ). code ++ s) (append_assoc x (v ++ y) e
+    ∙ ap (λ (s : List ℕ). x ++ s) (append_assoc v y e)
+    ∙ ap (λ (s : List ℕ). codes ",\"type\":\"" ++ s) (append_assoc type (codes "\"") (v ++ (y ++ e))))))
 
--- ---- fields that are not known, if all are
+other_whole : (before_known : Bool) (place code : ℕ) (v : ValueTree) (value types : List ℕ) → sig (type_of v) ≡ types
+    → codes "{\"code\":" ++ (decimal code ++ (codes ",\"type\":\"" ++ (sig (type_of v) ++ (codes "\",\"value\":" ++ (value ++ end_text before_known place))))) ≡ other before_known place code v value
+other_whole true place code v value types is =
+    ap (λ (s : List ℕ). codes "{\"code\":" ++ (decimal code ++ (codes ",\"type\":\"" ++ (sig (type_of v) ++ (codes "\",\"value\":" ++ (value ++ s))))))
+    (ap (λ (s : List ℕ). codes "," ++ (s ++ codes "}")) (append-nil (member (codes "place") (decimal place))) ∙ append_assoc (codes ",\"place\":") (decimal place) (codes "}"))
+    ∙ placed_parts (decimal code) (sig (type_of v)) value (decimal place)
+other_whole false place code v value types is = other_parts (decimal code) (sig (type_of v)) value
 
-not_other : (known : Bool) → beq known true ≡ true → beq known false ≡ false
-not_other true e = refl
-not_other false e = absurd (cc)
+pub other_text : (before_known : Bool) (place code : ℕ) (v : ValueTree) (value types : List ℕ) → sig (type_of v) ≡ types
+    → codes "{\"code\":" ++ (decimal code ++ (codes ",\"type\":\"" ++ (types ++ (codes "\",\"value\":" ++ (value ++ end_text before_known place))))) ≡ other before_known place code v value
+other_text before_known place code v value types is =
+    ap (λ (t : List ℕ). codes "{\"code\":" ++ (decimal code ++ (codes ",\"type\":\"" ++ (t ++ (codes "\",\"value\":" ++ (value ++ end_text before_known place)))))) (sym is)
+    ∙ other_whole before_known place code v value types is
 
-all_passed : (fs : List FieldTree) → list_all (λ (f : FieldTree). beq (is_known f.code) true) fs ≡ true → fields_of false fs ≡ []
-all_passed [] h = refl
-all_passed (f ∷ fs) h =
+-- its place stands last
+pub place_last : (place : ℕ) → codes ",\"place\":" ++ (decimal place ++ codes "}") ≡ end_text true place
+place_last place =
+    sym
+    (ap (λ (s : List ℕ). codes "," ++ (s ++ codes "}")) (append-nil (member (codes "place") (decimal place))) ∙ append_assoc (codes ",\"place\":") (decimal place) (codes "}"))
+
+-- ---- fields that are not known
+
+-- where the known fields end, and which others a known one stands after
+pub others_are : (end : ℕ) (fs : List FieldTree) → ((n : ℕ) → list_any (λ (f : FieldTree). is_known f.code) (drop n fs) ≡ nat_lt n end) → (ps : List (ℕ × FieldTree)) (texts : List (List ℕ))
+    → AreFieldTexts (λ place code v text. IsOther (nat_lt (suc place) end) place code v text) ps texts → AreFieldTexts (λ place code v text. IsOther (is_before_known fs place) place code v text) ps texts
+others_are end fs h [] [] are = tt
+others_are end fs h [] (t ∷ texts) are = absurd are
+others_are end fs h (p ∷ ps) [] are = absurd are
+others_are end fs h (p ∷ ps) (t ∷ texts) are =
+    (subst (λ (b : Bool). IsOther b p.0 p.1.code p.1.value t) (sym (h (suc p.0))) are.0, others_are end fs h ps texts are.1)
+
+-- if all are known
+all_passed : (n : ℕ) (fs : List FieldTree) → list_all (λ (f : FieldTree). is_known f.code) fs ≡ true → filter (λ (p : ℕ × FieldTree). not (is_known p.1.code)) (enumerate_from n fs) ≡ []
+all_passed n [] h = refl
+all_passed n (f ∷ fs) h =
     let both = and_parts _ _ h in
-    ap (λ (b : Bool). cond b (f ∷ fields_of false fs) (fields_of false fs)) (not_other (is_known f.code) both.0) ∙ all_passed fs both.1
+    let rest = filter (λ (p : ℕ × FieldTree). not (is_known p.1.code)) (enumerate_from (n + 1) fs) in
+    ap (λ (b : Bool). cond (not b) ((n, f) ∷ rest) rest) both.0 ∙ all_passed (n + 1) fs both.1
 
-pub no_others : (fs : List FieldTree) → list_all (λ (f : FieldTree). beq (is_known f.code) true) fs ≡ true → AreFields (fields_of false fs) []
-no_others fs h = subst (λ (es : List FieldTree). AreFields es []) (sym (all_passed fs h)) tt
+pub no_others : (fs : List FieldTree) → list_all (λ (f : FieldTree). is_known f.code) fs ≡ true → AreOthers fs []
+no_others fs h = subst (λ (ps : List (ℕ × FieldTree)). AreFieldTexts (λ place code v text. IsOther (is_before_known fs place) place code v text) ps []) (sym (all_passed 0 fs h)) tt

@@ -1,5 +1,5 @@
 mod Floats
 pub mod FloatTexts
-mod FieldTexts
-mod OneLines
+pub mod FieldTexts
+pub mod OneLines
 pub mod SomeLines

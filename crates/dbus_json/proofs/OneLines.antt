@@ -14,7 +14,7 @@ use Rattle.dbus_texts.specs.PlainTypes.{is_byte}
 use Rattle.dbus_value_model.specs.declared.order.Order.TheVariants.{Big}
 use Rattle.dbus_value_model.specs.Bytes.{num}
 use Rattle.dbus_value_model.specs.Values.{ValueTree, ValueTrees, NumberValue, TextValue, VariantValue, ArrayValue, StructValue, EntryValue, NoValues, MoreValues, type_of}
-use Rattle.dbus_message_model.specs.Messages.{FieldTree, order_byte, message_bytes, is_known, MessageTree}
+use Rattle.dbus_message_model.specs.Messages.{FieldTree, order_byte, message_bytes, MessageTree}
 use Rattle.dbus_message_model.specs.MessageTypes.{type_name}
 use Rattle.dbus_show.specs.ShownMessages.{line_feeds, field_name}
 use Rattle.dbus_show.specs.declared.escapes.Escapes.TheVariants.{Json}
@@ -23,11 +23,11 @@ use Rattle.dbus_show.proofs.LineFeeds.{IsOneLine, AreLines, line_literal, line_a
 use Rattle.dbus_show.proofs.FieldTexts.{name_line, line_or, type_name_line, order_line}
 use Rattle.dbus_value_model.specs.declared.order.Order.{Order}
 use Rattle.dbus_validate.specs.declared.validating.Validated.{Validated}
-use Rattle.dbus_value_text.specs.Forms.{led}
+use Rattle.dbus_value_text.specs.Forms.{AreFieldTexts, led}
 use Rattle.dbus_json.specs.JsonValues.{plain, string, listed, array, member, object, IsDouble, IsNumber, IsJson, AreJson}
 use Rattle.dbus_json.specs.Times.{digit_at, powers, fraction_digits, seconds_text, time_members}
 use Rattle.dbus_json.specs.declared.place.LinePlace.{LinePlace}
-use Rattle.dbus_json.specs.JsonMessages.{type_text, IsField, AreFields, fields_of, first_members, IsOneLineEach, start_text}
+use Rattle.dbus_json.specs.JsonMessages.{type_text, IsKnown, IsOther, known_fields, other_fields, is_before_known, place_members, first_members, IsOneLineEach, start_text}
 
 -- ---- the parts of JSON
 
@@ -119,21 +119,32 @@ mutual
 
 -- ---- fields and messages
 
-field_line : (code : ℕ) (v : ValueTree) (text : List ℕ) → IsField code v text → IsOneLine text
-field_line code v text is =
-    let value = json_line v is.value is.json in
-    let named = member_line (field_name code) is.value (name_line code) value in
-    let coded = member_line (codes "code") (decimal code) (line_literal (codes "code") refl) (line_decimal code) in
-    let typed = member_line (codes "type") (plain (sig (type_of v))) (line_literal (codes "type") refl) (plain_line (sig (type_of v)) (line_sig (type_of v))) in
-    let valued = member_line (codes "value") is.value (line_literal (codes "value") refl) value in
-    let other = object_line (member (codes "code") (decimal code) ∷ member (codes "type") (plain (sig (type_of v))) ∷ member (codes "value") is.value ∷ []) (coded, (typed, (valued, tt))) in
-    subst IsOneLine (sym is.is) (line_either (is_known code) _ _ named other)
+count_line : (name : List ℕ) → line_feeds name ≡ 0 → (n : ℕ) → IsOneLine (member name (decimal n))
+count_line name h n = member_line name (decimal n) (line_literal name h) (line_decimal n)
 
-fields_line : (fs : List FieldTree) (texts : List (List ℕ)) → AreFields fs texts → AreLines texts
-fields_line [] [] are = tt
-fields_line [] (t ∷ texts) are = absurd are
-fields_line (f ∷ fs) [] are = absurd are
-fields_line (f ∷ fs) (t ∷ texts) are = (field_line f.code f.value t are.0, fields_line fs texts are.1)
+known_line : (ps : List (ℕ × FieldTree)) (texts : List (List ℕ)) → AreFieldTexts (λ _ code v text. IsKnown code v text) ps texts → AreLines texts
+known_line [] [] are = tt
+known_line [] (t ∷ texts) are = absurd are
+known_line (p ∷ ps) [] are = absurd are
+known_line (p ∷ ps) (t ∷ texts) are =
+    let line = member_line (field_name p.1.code) are.0.value (name_line p.1.code) (json_line p.1.value are.0.value are.0.json) in
+    (subst IsOneLine (sym are.0.is) line, known_line ps texts are.1)
+
+place_line : (before_known : Bool) (place : ℕ) → AreLines (place_members before_known place)
+place_line true place = (count_line (codes "place") refl place, tt)
+place_line false place = tt
+
+other_line : (before_known : Bool) (place code : ℕ) (v : ValueTree) (text : List ℕ) → IsOther before_known place code v text → IsOneLine text
+other_line before_known place code v text is =
+    let typed = member_line (codes "type") (plain (sig (type_of v))) (line_literal (codes "type") refl) (plain_line (sig (type_of v)) (line_sig (type_of v))) in
+    let valued = member_line (codes "value") is.value (line_literal (codes "value") refl) (json_line v is.value is.json) in
+    subst IsOneLine (sym is.is) (object_line (member (codes "code") (decimal code) ∷ member (codes "type") (plain (sig (type_of v))) ∷ member (codes "value") is.value ∷ place_members before_known place) (count_line (codes "code") refl code, (typed, (valued, place_line before_known place))))
+
+others_line : (is_before : ℕ → Bool) (ps : List (ℕ × FieldTree)) (texts : List (List ℕ)) → AreFieldTexts (λ place code v text. IsOther (is_before place) place code v text) ps texts → AreLines texts
+others_line is_before [] [] are = tt
+others_line is_before [] (t ∷ texts) are = absurd are
+others_line is_before (p ∷ ps) [] are = absurd are
+others_line is_before (p ∷ ps) (t ∷ texts) are = (other_line (is_before p.0) p.0 p.1.code p.1.value t are.0, others_line is_before ps texts are.1)
 
 plain_name : (name : Option (List ℕ)) → IfSome name IsOneLine → IfSome (option_map plain name) IsOneLine
 plain_name (Some text) h = plain_line text h
@@ -141,9 +152,6 @@ plain_name None h = tt
 
 type_line : (kind : ℕ) → IsOneLine (type_text kind)
 type_line kind = line_or (option_map plain (type_name kind)) (decimal kind) (plain_name (type_name kind) (type_name_line kind)) (line_decimal kind)
-
-count_line : (name : List ℕ) → line_feeds name ≡ 0 → (n : ℕ) → IsOneLine (member name (decimal n))
-count_line name h n = member_line name (decimal n) (line_literal name h) (line_decimal n)
 
 places_line : (n : ℕ) (powers : List ℕ) → IsOneLine (map (digit_at n) powers)
 places_line n [] = line_literal [] refl
@@ -183,8 +191,8 @@ one_line_each order m place text is =
     ) in
     let timed = lines_append (time_members place.time) (last_members order size m.kind m.flags m.serial) (time_line place.time) rest in
     let first : AreLines front = (count_line (codes "number") refl place.number, (count_line (codes "offset") refl place.offset, timed)) in
-    let known = fields_line (fields_of true m.fields) is.known is.knows in
-    let others = member_line (codes "fields") (array is.others) (line_literal (codes "fields") refl) (array_line is.others (fields_line (fields_of false m.fields) is.others is.other)) in
+    let known = known_line (known_fields m.fields) is.known is.knows in
+    let others = member_line (codes "fields") (array is.others) (line_literal (codes "fields") refl) (array_line is.others (others_line (is_before_known m.fields) (other_fields m.fields) is.others is.other)) in
     let body = member_line (codes "body") (array is.values) (line_literal (codes "body") refl) (array_line is.values (jsons_line m.body is.values is.body)) in
     let last : AreLines back = (others, (body, tt)) in
     let line = object_line (front ++ (is.known ++ back)) (lines_append front (is.known ++ back) first (lines_append is.known back known last)) in

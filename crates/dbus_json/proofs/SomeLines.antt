@@ -8,9 +8,11 @@ use Rattle.dbus_value_model.specs.declared.order.Order.TheVariants.{Big}
 use Rattle.dbus_value_model.specs.Bytes.{num}
 use Rattle.dbus_value_model.specs.Values.{ValueTree, ValueTrees, NumberValue, TextValue, VariantValue, ArrayValue, StructValue, EntryValue, NoValues, MoreValues, type_of}
 use Rattle.dbus_message_model.specs.Messages.{FieldTree}
+use Rattle.dbus_show.specs.ShownMessages.{field_name}
 use Rattle.dbus_show.specs.ShownValues.{bytes_in}
+use Rattle.dbus_value_text.specs.Forms.{AreFieldTexts}
 use Rattle.dbus_json.specs.JsonValues.{plain, string, array, member, object, IsDouble, IsNumber, IsJson, AreJson}
-use Rattle.dbus_json.specs.JsonMessages.{IsField, AreFields, fields_of, IsSomeLineEach}
+use Rattle.dbus_json.specs.JsonMessages.{IsKnown, IsOther, known_fields, other_fields, is_before_known, IsSomeLineEach}
 use Rattle.dbus_json.proofs.FloatTexts.{some_text}
 
 some_double : (bits : ℕ) (answer : Bool) → float_is_finite (from_bits binary64 bits) ≡ answer → (text : List ℕ) × IsDouble bits text
@@ -53,19 +55,23 @@ mutual
       let more = some_jsons xs in
       (one.0 ∷ more.0, (one.1, more.1))
 
-some_field : (code : ℕ) (v : ValueTree) → (text : List ℕ) × IsField code v text
-some_field code v = let value = some_json v in (_, record { value = value.0; json = value.1; is = refl })
+some_known : (ps : List (ℕ × FieldTree)) → (texts : List (List ℕ)) × AreFieldTexts (λ _ code v text. IsKnown code v text) ps texts
+some_known [] = ([], tt)
+some_known (p ∷ ps) =
+    let value = some_json p.1.value in
+    let more = some_known ps in
+    (member (field_name p.1.code) value.0 ∷ more.0, (record { value = value.0; json = value.1; is = refl }, more.1))
 
-some_fields : (fs : List FieldTree) → (texts : List (List ℕ)) × AreFields fs texts
-some_fields [] = ([], tt)
-some_fields (f ∷ fs) =
-    let one = some_field f.code f.value in
-    let more = some_fields fs in
-    (one.0 ∷ more.0, (one.1, more.1))
+some_others : (is_before : ℕ → Bool) (ps : List (ℕ × FieldTree)) → (texts : List (List ℕ)) × AreFieldTexts (λ place code v text. IsOther (is_before place) place code v text) ps texts
+some_others is_before [] = ([], tt)
+some_others is_before (p ∷ ps) =
+    let value = some_json p.1.value in
+    let more = some_others is_before ps in
+    (_ ∷ more.0, (record { value = value.0; json = value.1; is = refl }, more.1))
 
 pub some_line_each : IsSomeLineEach
 some_line_each order m place =
-    let known = some_fields (fields_of true m.fields) in
-    let others = some_fields (fields_of false m.fields) in
+    let known = some_known (known_fields m.fields) in
+    let others = some_others (is_before_known m.fields) (other_fields m.fields) in
     let values = some_jsons m.body in
     (_, record { known = known.0; knows = known.1; others = others.0; other = others.1; values = values.0; body = values.1; is = refl })

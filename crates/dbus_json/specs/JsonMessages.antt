@@ -1,7 +1,7 @@
 -- A message as a line of JSON: an object, and a line feed after it.
 -- RFC 8259, of the messages of the D-Bus Specification, "Message Format" and "Header Fields".
-use Rattle.std.specs.Prelude.{◌≡◌, ℕ, List, [], ◌∷◌, ◌++◌, Bool, true, false, length, option_map, codes, decimal, if◌then◌else◌}
-use Rattle.std.specs.Bool.{beq}
+use Rattle.std.specs.Prelude.{◌≡◌, ℕ, List, [], ◌∷◌, ◌++◌, Bool, true, false, not, suc, length, drop, option_map, codes, decimal}
+use Rattle.std.specs.List.{list_any}
 use Rattle.std.specs.Option.{unwrap_or}
 use Rattle.dbus_texts.specs.Types.{sig}
 use Rattle.dbus_value_model.specs.declared.order.Order.{Order}
@@ -9,7 +9,7 @@ use Rattle.dbus_value_model.specs.Values.{ValueTree, type_of}
 use Rattle.dbus_message_model.specs.Messages.{FieldTree, MessageTree, order_byte, message_bytes, is_known}
 use Rattle.dbus_message_model.specs.MessageTypes.{type_name}
 use Rattle.dbus_show.specs.ShownMessages.{field_name, line_feeds}
-use Rattle.dbus_value_text.specs.Forms.{AreFieldTexts, taken_fields}
+use Rattle.dbus_value_text.specs.Forms.{AreFieldTexts, taken_fields, led}
 use Rattle.dbus_validate.specs.declared.validating.Validated.{Validated}
 use Rattle.dbus_json.specs.Times.{time_members}
 use Rattle.dbus_json.specs.declared.place.LinePlace.{LinePlace}
@@ -19,21 +19,45 @@ use Rattle.dbus_json.specs.JsonValues.{plain, array, member, object, IsJson, Are
 abbrev pub type_text : ℕ → List ℕ
 type_text kind = unwrap_or (option_map plain (type_name kind)) (decimal kind)
 
--- a header field with this code and value: one that is known is a member by its name, and any other
--- an object of its code and its value with the signature of that
-pub record IsField (code : ℕ) (v : ValueTree) (text : List ℕ) : Type 0 where
+-- a known header field with this code and value is a member by its name
+pub record IsKnown (code : ℕ) (v : ValueTree) (text : List ℕ) : Type 0 where
   pub value : List ℕ
   pub json : IsJson v value
-  pub is : text ≡ (if is_known code then member (field_name code) value
-      else object (member (codes "code") (decimal code) ∷ member (codes "type") (plain (sig (type_of v))) ∷ member (codes "value") value ∷ []))
+  pub is : text ≡ member (field_name code) value
 
--- fields, and the text of each
-abbrev pub AreFields : List FieldTree → List (List ℕ) → Type 0
-AreFields fs texts = AreFieldTexts IsField fs texts
+-- the place of a field that is not known, if a known one stands after it: so a line keeps how the
+-- two are mixed
+abbrev pub place_members : (before_known : Bool) → (place : ℕ) → List (List ℕ)
+place_members true place = member (codes "place") (decimal place) ∷ []
+place_members false place = []
 
--- the fields that are known, or those that are not, in their order
-abbrev pub fields_of : (known : Bool) → List FieldTree → List FieldTree
-fields_of known fs = taken_fields (λ code. beq (is_known code) known) fs
+-- a header field that is not known, with this code and value, is an object of its code, and of its
+-- value with the signature of that
+pub record IsOther (before_known : Bool) (place code : ℕ) (v : ValueTree) (text : List ℕ) : Type 0 where
+  pub value : List ℕ
+  pub json : IsJson v value
+  pub is : text ≡ object
+      (member (codes "code") (decimal code) ∷ member (codes "type") (plain (sig (type_of v))) ∷ member (codes "value") value ∷ place_members before_known place)
+
+-- the fields that are known, in their order, each after its place among all, counted from 0
+abbrev pub known_fields : List FieldTree → List (ℕ × FieldTree)
+known_fields fs = taken_fields is_known fs
+
+-- the fields that are not known
+abbrev pub other_fields : List FieldTree → List (ℕ × FieldTree)
+other_fields fs = taken_fields (λ code. not (is_known code)) fs
+
+-- whether a known field stands after this place
+abbrev pub is_before_known : List FieldTree → (place : ℕ) → Bool
+is_before_known fs place = list_any (λ f. is_known f.code) (drop (suc place) fs)
+
+-- the known fields of a message, and the text of each
+abbrev pub AreKnown : List FieldTree → List (List ℕ) → Type 0
+AreKnown fs texts = AreFieldTexts (λ _ code v text. IsKnown code v text) (known_fields fs) texts
+
+-- its other fields, and the text of each
+abbrev pub AreOthers : List FieldTree → List (List ℕ) → Type 0
+AreOthers fs texts = AreFieldTexts (λ place code v text. IsOther (is_before_known fs place) place code v text) (other_fields fs) texts
 
 -- what stands before the header fields, of a message of so many bytes
 abbrev pub first_members : LinePlace → Order → (size kind flags serial : ℕ) → List (List ℕ)
@@ -52,9 +76,9 @@ first_members place order size kind flags serial =
 -- other fields, and the values of the body, stand in two arrays.
 pub record IsJsonLine (order : Order) (m : MessageTree) (place : LinePlace) (text : List ℕ) : Type 0 where
   pub known : List (List ℕ)
-  pub knows : AreFields (fields_of true m.fields) known
+  pub knows : AreKnown m.fields known
   pub others : List (List ℕ)
-  pub other : AreFields (fields_of false m.fields) others
+  pub other : AreOthers m.fields others
   pub values : List (List ℕ)
   pub body : AreJson m.body values
   pub is : text ≡ object
@@ -62,11 +86,15 @@ pub record IsJsonLine (order : Order) (m : MessageTree) (place : LinePlace) (tex
       ++ (known ++ (member (codes "fields") (array others) ∷ member (codes "body") (array values) ∷ [])))
       ++ codes "\n"
 
--- How a line begins.
+-- How a line begins, and how the object of a field that is not known ends.
 
 -- what stands before the header fields
 abbrev pub start_text : Validated → LinePlace → List ℕ
 start_text j place = codes "{" ++ listed (first_members place j.order j.length j.kind j.flags j.serial)
+
+-- what stands behind the value of such a field
+abbrev pub end_text : (before_known : Bool) → (place : ℕ) → List ℕ
+end_text before_known place = led (codes ",") (codes ",") (place_members before_known place) ++ codes "}"
 
 -- Each message has a line of JSON, and its one line feed ends it.
 

@@ -1,11 +1,10 @@
 //! Header fields as JSON, from a message's bytes. D-Bus Specification, "Header Fields".
 #![tactic(auto)]
 
-ghost use Rattle.std.specs.Prelude.{◌++◌, codes, true, false};
-ghost use Rattle.std.specs.Bool.{beq};
+ghost use Rattle.std.specs.Prelude.{◌++◌, suc, nat_lt, codes, not};
 ghost use Rattle.dbus_message_model.specs.Messages.{is_known as is_known_code};
 ghost use Rattle.dbus_show.specs.ShownMessages.{field_name};
-ghost use Rattle.dbus_json.specs.JsonMessages.{IsField};
+ghost use Rattle.dbus_json.specs.JsonMessages.{IsKnown, IsOther, end_text};
 ghost use Rattle.dbus_json.specs.JsonValues.{plain};
 
 use crate::json::Json;
@@ -33,12 +32,13 @@ fn write_name<D: Draft>(draft: &mut D, code: u8)
 }
 
 /// The fields that are known, as members by their names.
+#[derive(Clone, Copy)]
 pub(crate) struct KnownFields;
 
 impl FieldForm for KnownFields {
-    ghost is_taken = { λ code. beq (is_known_code code) true };
+    ghost is_taken = { is_known_code };
 
-    ghost is_text = { IsField };
+    ghost is_text = { λ _ _ code v text. IsKnown code v text };
 
     #[inline]
     fn takes(code: u8) -> bool {
@@ -46,8 +46,10 @@ impl FieldForm for KnownFields {
     }
 
     fn field<D: Draft>(
+        &self,
         draft: &mut D,
         source: &MessageBytes<'_>,
+        _place: usize,
         code: u8,
         spot: &Spot<'_>,
     ) -> usize {
@@ -57,12 +59,17 @@ impl FieldForm for KnownFields {
 }
 
 /// The fields that are not known, as objects.
-pub(crate) struct OtherFields;
+#[derive(Clone, Copy)]
+pub(crate) struct OtherFields {
+    /// The place after the last known field among all fields, counted from 0, or 0 if none is
+    /// known.
+    pub(crate) known_end: usize,
+}
 
 impl FieldForm for OtherFields {
-    ghost is_taken = { λ code. beq (is_known_code code) false };
+    ghost is_taken = { λ code. not (is_known_code code) };
 
-    ghost is_text = { IsField };
+    ghost is_text = { λ form place code v text. IsOther (nat_lt (suc place) form.known_end) place code v text };
 
     #[inline]
     fn takes(code: u8) -> bool {
@@ -70,8 +77,10 @@ impl FieldForm for OtherFields {
     }
 
     fn field<D: Draft>(
+        &self,
         draft: &mut D,
         source: &MessageBytes<'_>,
+        place: usize,
         code: u8,
         spot: &Spot<'_>,
     ) -> usize {
@@ -81,7 +90,21 @@ impl FieldForm for OtherFields {
         write_types(draft, spot.types);
         draft.push_str("\",\"value\":");
         let after = write_value::<Json, D>(draft, source, spot);
-        draft.push_code(b'}');
+        write_place(draft, place, self.known_end);
         after
     }
+}
+
+/// Appends the end of the object of a field that is not known: its place among all fields first, if
+/// a known field stands after it.
+fn write_place<D: Draft>(draft: &mut D, place: usize, known_end: usize)
+    ensures { D.gains draft.old (end_text (nat_lt (suc place) known_end) place) draft.new }
+{
+    if place < known_end.saturating_sub(1) {
+        draft.push_str(",\"place\":");
+        write_integer(draft, place);
+        draft.push_code(b'}');
+        return;
+    }
+    draft.push_code(b'}');
 }

@@ -1,14 +1,13 @@
 //! Messages as lines of JSON, from their bytes. RFC 8259; D-Bus Specification, "Message Format".
 #![tactic(auto)]
 
-ghost use Rattle.std.specs.Prelude.{◌≡◌, ℕ, List, [], codes, false, true};
-ghost use Rattle.std.specs.Bool.{beq};
-ghost use Rattle.std.specs.List.{list_all};
+ghost use Rattle.std.specs.Prelude.{◌≡◌, ℕ, List, [], codes, drop, nat_lt};
+ghost use Rattle.std.specs.List.{list_all, list_any};
 ghost use Rattle.dbus_message_model.specs.Messages.{MessageTree, is_known};
 ghost use Rattle.dbus_header.specs.MessageOutcomes.{IsWhole};
 ghost use Rattle.dbus_validate.specs.Validating.{IsValidated, WasValidated, IsWholeOf};
 ghost use Rattle.dbus_value_text.specs.Forms.{led};
-ghost use Rattle.dbus_json.specs.JsonMessages.{AreFields, IsJsonLine, fields_of, type_text, start_text};
+ghost use Rattle.dbus_json.specs.JsonMessages.{AreOthers, IsJsonLine, type_text, start_text};
 
 use crate::fields::{KnownFields, OtherFields};
 use crate::json::Json;
@@ -19,7 +18,7 @@ use dbus_message_model::order_byte;
 use dbus_show::{Draft, write_integer};
 use dbus_validate::{Validated, Whole};
 use dbus_value_model::Limits;
-use dbus_value_text::{write_body, write_fields};
+use dbus_value_text::{FieldsTaken, write_body, write_fields};
 
 /// Appends the name of a message type, or its number if it has none.
 fn write_type<D: Draft>(draft: &mut D, kind: u8)
@@ -56,19 +55,25 @@ fn write_start<D: Draft>(draft: &mut D, validated: &Validated, place: LinePlace)
     write_integer(draft, validated.serial);
 }
 
-/// Appends the fields that are not known, with commas between them, unless all are known.
-fn write_others<D: Draft>(draft: &mut D, whole: &Whole<'_>, all_known: bool)
+/// Appends the fields that are not known, with commas between them, unless all are known. It is
+/// given which are.
+fn write_others<D: Draft>(draft: &mut D, whole: &Whole<'_>, known: FieldsTaken)
     requires validated { WasValidated whole.now }
-    requires known { (m : MessageTree) → IsWholeOf whole.now m →
-        all_known ≡ list_all (λ f. beq (is_known f.code) true) m.fields }
+    requires all { (m : MessageTree) → IsWholeOf whole.now m →
+        known.all ≡ list_all (λ f. is_known f.code) m.fields }
+    requires end { (m : MessageTree) → IsWholeOf whole.now m → (place : ℕ) →
+        list_any (λ f. is_known f.code) (drop place m.fields) ≡ nat_lt place known.end }
     ensures written { (m : MessageTree) → IsWholeOf whole.now m →
-        (texts : List (List ℕ)) × AreFields (fields_of false m.fields) texts ×
+        (texts : List (List ℕ)) × AreOthers m.fields texts ×
         D.gains draft.old (led [] (codes ",") texts) draft.new }
 {
-    if all_known {
+    if known.all {
         return;
     }
-    write_fields::<OtherFields, D>(draft, whole, "", ",");
+    let others = OtherFields {
+        known_end: known.end,
+    };
+    write_fields(draft, whole, &others, "", ",");
 }
 
 /// Appends the message that the bytes begin with as a line of JSON, which ends in a line feed. It
@@ -78,7 +83,8 @@ fn write_others<D: Draft>(draft: &mut D, whole: &Whole<'_>, all_known: bool)
 /// one is given, a string of seconds with nine digits behind the point; its length in bytes, its
 /// order as `"l"` or `"B"`, its type by name, its flags and its serial; each known header field by
 /// its name; all other fields in the array `fields`, and the values of the body in the array
-/// `body`. No message is built from the bytes, and only the draft allocates.
+/// `body`. A field in `fields` that a known field stands after has its `place` among all fields,
+/// counted from 0. No message is built from the bytes, and only the draft allocates.
 ///
 /// ```text
 /// {"number":1,"offset":0,"length":96,"order":"l","type":"signal","flags":0,"serial":2,"path":"/a","fields":[],"body":["hi",[1,2]]}
@@ -104,9 +110,9 @@ pub fn write_json<D: Draft>(
         validated,
     };
     write_start(draft, validated, place);
-    let all_known = write_fields::<KnownFields, D>(draft, &whole, ",", ",");
+    let known = write_fields(draft, &whole, &KnownFields, ",", ",");
     draft.push_str(",\"fields\":[");
-    write_others(draft, &whole, all_known);
+    write_others(draft, &whole, known);
     draft.push_str("],\"body\":[");
     write_body::<Json, D>(draft, &whole, "", ",");
     draft.push_str("]}\n");

@@ -1,6 +1,6 @@
 -- Header fields that stand in the bytes, shown.
-use Rattle.std.proofs.Common.{◌≡◌, ℕ, ◌+◌, List, get_or, take, drop, decimal, refl, sym, ap, subst, ◌∙◌, arith, IsUtf8, [], ◌∷◌, ◌++◌, codes, true, append_assoc, length, append-nil}
-use Rattle.std.specs.List.{flat_map}
+use Rattle.std.proofs.Common.{◌≡◌, ℕ, ◌+◌, List, get_or, take, drop, decimal, refl, sym, ap, subst, ◌∙◌, arith, IsUtf8, [], ◌∷◌, ◌++◌, codes, true, append_assoc, length, append-nil, filter}
+use Rattle.std.specs.List.{enumerate_from, flat_map}
 use Rattle.std.proofs.Props.{props}
 use Rattle.dbus_texts.specs.Types.{NumberCode, UINT32, number_code}
 use Rattle.dbus_types.specs.Alignments.{width}
@@ -19,7 +19,7 @@ use Rattle.dbus_show.specs.ShownValues.{value_text, value_texts}
 use Rattle.dbus_show.specs.ShownMessages.{bare, body_line, field_text, message_text, start_text}
 use Rattle.dbus_value_model.specs.declared.order.Order.{Order}
 use Rattle.dbus_message_model.specs.Messages.{FieldTree, MessageTree, message_bytes, IsValidMessage}
-use Rattle.dbus_value_text.specs.Forms.{AreFieldTexts, taken_fields, AreTexts, led}
+use Rattle.dbus_value_text.specs.Forms.{AreFieldTexts, AreTexts, led}
 use mathlib.Core.Logic.{∥∥₁_elim}
 use Rattle.dbus_value_model.specs.Specification.{specification}
 use Rattle.dbus_value_model.specs.declared.limits.Limits.{Limits}
@@ -83,13 +83,15 @@ led_each lead [] = refl
 led_each lead (t ∷ texts) = sym (append_assoc lead t (flat_map (λ (text : List ℕ). lead ++ text) texts))
 
 -- the fields
-fields_are : (fs : List FieldTree) (texts : List (List ℕ)) → AreFieldTexts (λ code v text. text ≡ named code v) (taken_fields (λ _. true) fs) texts
-    → led [] [] texts ≡ flat_map field_text fs
-fields_are [] [] h = refl
-fields_are [] (t ∷ texts) h = absurd h
-fields_are (f ∷ fs) [] h = absurd h
-fields_are (f ∷ fs) (t ∷ texts) h =
-    ap (λ (s : List ℕ). s ++ flat_map (λ (text : List ℕ). text) texts) h.0 ∙ ap (λ (s : List ℕ). field_text f ++ s) (sym (led_each [] texts) ∙ fields_are fs texts h.1)
+abbrev AreNamed : List (ℕ × FieldTree) → List (List ℕ) → Type 0
+AreNamed ps texts = AreFieldTexts (λ _ code v text. text ≡ named code v) (filter (λ _. true) ps) texts
+
+fields_are : (n : ℕ) (fs : List FieldTree) (texts : List (List ℕ)) → AreNamed (enumerate_from n fs) texts → led [] [] texts ≡ flat_map field_text fs
+fields_are n [] [] h = refl
+fields_are n [] (t ∷ texts) h = absurd h
+fields_are n (f ∷ fs) [] h = absurd h
+fields_are n (f ∷ fs) (t ∷ texts) h =
+    ap (λ (s : List ℕ). s ++ flat_map (λ (text : List ℕ). text) texts) h.0 ∙ ap (λ (s : List ℕ). field_text f ++ s) (sym (led_each [] texts) ∙ fields_are (n + 1) fs texts h.1)
 
 -- the values, each in a line that begins after a line feed: the line feed of the line before it
 lines_are : (texts : List (List ℕ)) → flat_map (λ (text : List ℕ). codes "\n  " ++ text) texts ++ codes "\n" ≡ codes "\n" ++ flat_map body_line texts
@@ -99,11 +101,11 @@ lines_are (t ∷ texts) =
     ap (λ (s : List ℕ). codes "\n  " ++ s) (append_assoc t rest (codes "\n") ∙ ap (λ (s : List ℕ). t ++ s) (lines_are texts) ∙ sym (append_assoc t (codes "\n") (flat_map body_line texts)))
 
 pub whole_message : (order : Order) (m : MessageTree) (number : ℕ) (fields values : List (List ℕ))
-    → AreFieldTexts (λ code v text. text ≡ named code v) (taken_fields (λ _. true) m.fields) fields → AreTexts (λ v text. text ≡ value_text v) m.body values
+    → AreNamed (enumerate_from 0 m.fields) fields → AreTexts (λ v text. text ≡ value_text v) m.body values
     → start_text order m.kind m.serial m.flags number ++ (led [] [] fields ++ (led (codes "\n  ") (codes "\n  ") values ++ codes "\n")) ≡ message_text order m number
 whole_message order m number fields values fielded valued =
     let start = start_text order m.kind m.serial m.flags number in
-    let named_fields = fields_are m.fields fields fielded in
+    let named_fields = fields_are 0 m.fields fields fielded in
     let lines : led (codes "\n  ") (codes "\n  ") values ++ codes "\n" ≡ codes "\n" ++ flat_map body_line (value_texts m.body) =
     ap (λ (s : List ℕ). s ++ codes "\n") (led_each (codes "\n  ") values) ∙ lines_are values ∙ ap (λ (ts : List (List ℕ)). codes "\n" ++ flat_map body_line ts) (texts_are m.body values valued) in
     ap (λ (s : List ℕ). start ++ (s ++ (led (codes "\n  ") (codes "\n  ") values ++ codes "\n"))) named_fields

@@ -15,12 +15,13 @@ use dbus_value_text::{FieldForm, write_value};
 use dbus_walk::{Layout, MessageBytes, Spot, layout, text_in};
 
 /// All fields, each after a space and its name.
+#[derive(Clone, Copy)]
 pub(crate) struct Named;
 
 impl FieldForm for Named {
     ghost is_taken = { λ _. true };
 
-    ghost is_text = { λ code v text. text ≡ named code v };
+    ghost is_text = { λ _ _ code v text. text ≡ named code v };
 
     #[inline]
     fn takes(_code: u8) -> bool {
@@ -28,8 +29,10 @@ impl FieldForm for Named {
     }
 
     fn field<D: Draft>(
+        &self,
         draft: &mut D,
         source: &MessageBytes<'_>,
+        _place: usize,
         code: u8,
         spot: &Spot<'_>,
     ) -> usize {

@@ -1,10 +1,12 @@
 -- Texts in a row, the first after a lead and each other after a separator: one text more.
-use Rattle.std.proofs.Common.{◌≡◌, ℕ, List, [], ◌∷◌, ◌++◌, Bool, true, false, ◌&&◌, cond, append_assoc, refl, sym, ap, subst, ◌∙◌, ◌+◌, ◌<◌, length, arith, lit<}
-use Rattle.std.specs.List.{flat_map, list_all}
-use Rattle.std.proofs.lemmas.List.{append-nil}
+use Rattle.std.proofs.Common.{◌≡◌, ℕ, List, [], ◌∷◌, ◌++◌, Bool, true, false, ◌&&◌, ◌||◌, cond, nat_lt, drop, filter, ◌≤◌, inl, inr, append_assoc, refl, sym, ap, subst, ◌∙◌, ◌+◌, ◌<◌, length, arith, lit<}
+use Rattle.std.specs.List.{flat_map, list_all, list_any, enumerate_from}
+use Rattle.std.proofs.Math.ListN.{drop_of_length-le}
+use Rattle.std.proofs.lemmas.Bool.{cases_lt, le-ltb, lt-ltb}
+use Rattle.std.proofs.lemmas.List.{append-nil, length-append, drop-append-le}
 use Rattle.std.proofs.lemmas.List.Concat.{flat_map-append}
 use Rattle.std.proofs.lemmas.List.Elements.{filter-append}
-use Rattle.std.proofs.lemmas.List.Folds.{list_all-append}
+use Rattle.std.proofs.lemmas.List.Folds.{list_all-append, list_any-append}
 use Rattle.std.specs.Str.{IsAscii}
 use Rattle.std.proofs.lemmas.Str.{IsAscii-append}
 use Rattle.std.proofs.lemmas.Str.Ascii.{IsAscii-nil, IsAscii-cons}
@@ -19,6 +21,7 @@ use Rattle.dbus_types.specs.SignatureCodes.{first_code}
 use Rattle.dbus_value_model.proofs.Numbers.{byte_spelled}
 use Rattle.dbus_show.specs.ShownValues.{bytes_in}
 use Rattle.dbus_walk.proofs.NumberFacts.{number_of_type}
+use Rattle.dbus_value_text.specs.declared.fields.FieldsTaken.{FieldsTaken}
 use Rattle.dbus_value_text.specs.Gaining.{Joins}
 use Rattle.dbus_value_text.specs.Forms.{AreTexts, led, AreFieldTexts, taken_fields}
 use Rattle.dbus_value_text.specs.WritingLaws.{texts_push}
@@ -40,16 +43,28 @@ next_push : (lead separator : List ℕ) (texts : List (List ℕ)) (text : List �
 next_push lead separator [] text = refl
 next_push lead separator (t ∷ texts) text = refl
 
-are_push : (Is : ℕ → ValueTree → List ℕ → Type 0) (fs : List FieldTree) (f : FieldTree) (texts : List (List ℕ)) (text : List ℕ)
-    → AreFieldTexts Is fs texts → Is f.code f.value text → AreFieldTexts Is (fs ++ f ∷ []) (texts ++ text ∷ [])
-are_push Is [] f [] text h is = (is, tt)
-are_push Is [] f (t ∷ texts) text h is = absurd h
-are_push Is (e ∷ fs) f [] text h is = absurd h
-are_push Is (e ∷ fs) f (t ∷ texts) text h is = (h.0, are_push Is fs f texts text h.1 is)
+-- of fields, each after its place
+abbrev Placed : Type 0
+Placed = ℕ × FieldTree
 
-taken_push : (is_taken : ℕ → Bool) (fs : List FieldTree) (f : FieldTree) (answer : Bool) → is_taken f.code ≡ answer → taken_fields is_taken (fs ++ f ∷ []) ≡ taken_fields is_taken fs ++ cond answer (f ∷ []) []
+are_push : (Is : ℕ → ℕ → ValueTree → List ℕ → Type 0) (ps : List Placed) (p : Placed) (texts : List (List ℕ)) (text : List ℕ)
+    → AreFieldTexts Is ps texts → Is p.0 p.1.code p.1.value text → AreFieldTexts Is (ps ++ p ∷ []) (texts ++ text ∷ [])
+are_push Is [] p [] text h is = (is, tt)
+are_push Is [] p (t ∷ texts) text h is = absurd h
+are_push Is (e ∷ ps) p [] text h is = absurd h
+are_push Is (e ∷ ps) p (t ∷ texts) text h is = (h.0, are_push Is ps p texts text h.1 is)
+
+placed_push : (n : ℕ) (fs : List FieldTree) (f : FieldTree) → enumerate_from n (fs ++ f ∷ []) ≡ enumerate_from n fs ++ (length fs + n, f) ∷ []
+placed_push n [] f = ap (λ (k : ℕ). (k, f) ∷ []) (omega arith)
+placed_push n (e ∷ fs) f =
+    ap (λ (ps : List Placed). (n, e) ∷ ps) (placed_push (n + 1) fs f ∙ ap (λ (k : ℕ). enumerate_from (n + 1) fs ++ (k, f) ∷ []) (omega arith))
+
+taken_push : (is_taken : ℕ → Bool) (fs : List FieldTree) (f : FieldTree) (answer : Bool) → is_taken f.code ≡ answer
+    → taken_fields is_taken (fs ++ f ∷ []) ≡ taken_fields is_taken fs ++ cond answer ((length fs, f) ∷ []) []
 taken_push is_taken fs f answer is =
-    filter-append (λ (f : FieldTree). is_taken f.code) fs (f ∷ []) ∙ ap (λ (a : Bool). taken_fields is_taken fs ++ cond a (f ∷ []) []) is
+    ap (λ (ps : List Placed). filter (λ (p : Placed). is_taken p.1.code) ps) (placed_push 0 fs f ∙ ap (λ (k : ℕ). enumerate_from 0 fs ++ (k, f) ∷ []) (omega arith))
+    ∙ filter-append (λ (p : Placed). is_taken p.1.code) (enumerate_from 0 fs) ((length fs, f) ∷ [])
+    ∙ ap (λ (a : Bool). taken_fields is_taken fs ++ cond a ((length fs, f) ∷ []) []) is
 
 and_true : (b : Bool) → (b && true) ≡ b
 and_true true = refl
@@ -66,6 +81,44 @@ are_taken is_taken fs = list_all (λ (f : FieldTree). is_taken f.code) fs
 all_push : (is_taken : ℕ → Bool) (fs : List FieldTree) (f : FieldTree) (answer : Bool) → is_taken f.code ≡ answer → are_taken is_taken (fs ++ f ∷ []) ≡ (are_taken is_taken fs && answer)
 all_push is_taken fs f answer is =
     list_all-append (λ (e : FieldTree). is_taken e.code) fs (f ∷ []) ∙ ap (λ (b : Bool). are_taken is_taken fs && b) (and_true (is_taken f.code) ∙ is)
+
+-- whether one of the fields from a place on is taken
+abbrev pub is_taken_from : (is_taken : ℕ → Bool) → (place : ℕ) → List FieldTree → Bool
+is_taken_from is_taken place fs = list_any (λ (f : FieldTree). is_taken f.code) (drop place fs)
+
+none_from : (is_taken : ℕ → Bool) (place : ℕ) (fs : List FieldTree) → length fs ≤ place → is_taken_from is_taken place fs ≡ false
+none_from is_taken place fs h = ap (list_any (λ (f : FieldTree). is_taken f.code)) (drop_of_length-le fs h)
+
+or_false : (b : Bool) → (b || false) ≡ b
+or_false true = refl
+or_false false = refl
+
+or_true : (b : Bool) → (b || true) ≡ true
+or_true true = refl
+or_true false = refl
+
+from_push : (is_taken : ℕ → Bool) (place : ℕ) (fs : List FieldTree) (f : FieldTree) (answer : Bool) → is_taken f.code ≡ answer → place ≤ length fs
+    → is_taken_from is_taken place (fs ++ f ∷ []) ≡ (is_taken_from is_taken place fs || answer)
+from_push is_taken place fs f answer is h =
+    ap (list_any (λ (e : FieldTree). is_taken e.code)) (drop-append-le place fs (f ∷ []) h)
+    ∙ list_any-append (λ (e : FieldTree). is_taken e.code) (drop place fs) (f ∷ [])
+    ∙ ap (λ (b : Bool). is_taken_from is_taken place fs || b) (or_false (is_taken f.code) ∙ is)
+
+-- one more that is not taken
+passed_from : (is_taken : ℕ → Bool) (place : ℕ) (fs : List FieldTree) (f : FieldTree) → is_taken f.code ≡ false → is_taken_from is_taken place (fs ++ f ∷ []) ≡ is_taken_from is_taken place fs
+passed_from is_taken place fs f is =
+    elim (cases_lt (length fs) place) [
+      | inl lt ↦ none_from is_taken place (fs ++ f ∷ []) (omega (arith, lt, length-append fs (f ∷ []))) ∙ sym (none_from is_taken place fs (omega (arith, lt)))
+      | inr le ↦ from_push is_taken place fs f false is le ∙ or_false (is_taken_from is_taken place fs)
+    ]
+
+-- one more that is taken
+taken_from : (is_taken : ℕ → Bool) (place : ℕ) (fs : List FieldTree) (f : FieldTree) → is_taken f.code ≡ true → is_taken_from is_taken place (fs ++ f ∷ []) ≡ nat_lt place (length fs + 1)
+taken_from is_taken place fs f is =
+    elim (cases_lt (length fs) place) [
+      | inl lt ↦ none_from is_taken place (fs ++ f ∷ []) (omega (arith, lt, length-append fs (f ∷ []))) ∙ sym (le-ltb place (length fs + 1) (omega (arith, lt)))
+      | inr le ↦ from_push is_taken place fs f true is le ∙ or_true (is_taken_from is_taken place fs) ∙ sym (lt-ltb place (length fs + 1) (omega (arith, le)))
+    ]
 
 module _ {D : Type 0} (gains : D → List ℕ → D → Type 0) (lead separator : List ℕ) (before : D) where
   -- the draft has gained these texts, and this stands before the next one
@@ -98,22 +151,49 @@ module _ {D : Type 0} (gains : D → List ℕ → D → Type 0) (lead separator 
 
   -- ---- fields
 
-  module _ (is_taken : ℕ → Bool) (Is : ℕ → ValueTree → List ℕ → Type 0) where
-    abbrev pub FieldsLed : (now : D) → (next : List ℕ) → (all : Bool) → List FieldTree → Type 0
-    FieldsLed now next all fs = (texts : List (List ℕ)) × AreFieldTexts Is (taken_fields is_taken fs) texts × Led now next texts × (all ≡ are_taken is_taken fs)
+  module _ (is_taken : ℕ → Bool) (Is : ℕ → ℕ → ValueTree → List ℕ → Type 0) where
+    -- the draft has the texts of those of these fields that are taken
+    pub record FieldsLed (now : D) (next : List ℕ) (place : ℕ) (taken : FieldsTaken) (fs : List FieldTree) : Type 0 where
+      pub texts : List (List ℕ)
+      pub are : AreFieldTexts Is (taken_fields is_taken fs) texts
+      pub led : Led now next texts
+      pub counted : place ≡ length fs
+      pub all : taken.all ≡ are_taken is_taken fs
+      pub end : (n : ℕ) → is_taken_from is_taken n fs ≡ nat_lt n taken.end
 
-    pub no_fields_led : gains before [] before → FieldsLed before lead true []
-    no_fields_led nothing = ([], tt, none_led nothing, refl)
+    pub no_fields_led : gains before [] before → FieldsLed before lead 0 (record { all = true; end = 0 }) []
+    no_fields_led nothing = record {
+      texts = [];
+      are = tt;
+      led = none_led nothing;
+      counted = refl;
+      all = refl;
+      end = λ n. none_from is_taken n [] (omega arith) ∙ sym (le-ltb n 0 (omega arith));
+    }
 
-    pub field_led : Joins gains → (now pushed after : D) (next : List ℕ) (all : Bool) (fs : List FieldTree) (f : FieldTree) (text : List ℕ) → FieldsLed now next all fs → is_taken f.code ≡ true
-        → gains now next pushed → Is f.code f.value text → gains pushed text after → FieldsLed after separator all (fs ++ f ∷ [])
-    field_led joins now pushed after next all fs f text h taken apart is gained =
-        let are = subst (λ (es : List FieldTree). AreFieldTexts Is es (h.0 ++ text ∷ [])) (sym (taken_push is_taken fs f true taken)) (are_push Is (taken_fields is_taken fs) f h.0 text h.1 is) in
-        (h.0 ++ text ∷ [], are, one_led joins now pushed after next h.0 text h.2 apart gained, h.3 ∙ sym (all_push is_taken fs f true taken ∙ and_true (are_taken is_taken fs)))
+    pub field_led : Joins gains → (now pushed after : D) (next : List ℕ) (place : ℕ) (taken : FieldsTaken) (fs : List FieldTree) (f : FieldTree) (text : List ℕ) → FieldsLed now next place taken fs
+        → is_taken f.code ≡ true → gains now next pushed → Is place f.code f.value text → gains pushed text after
+        → FieldsLed after separator (place + 1) (record { all = taken.all; end = place + 1 }) (fs ++ f ∷ [])
+    field_led joins now pushed after next place taken fs f text h taken_it apart is gained = record {
+      texts = h.texts ++ text ∷ [];
+      are = subst (λ (ps : List Placed). AreFieldTexts Is ps (h.texts ++ text ∷ [])) (sym (taken_push is_taken fs f true taken_it))
+          (are_push Is (taken_fields is_taken fs) (length fs, f) h.texts text h.are (subst (λ (k : ℕ). Is k f.code f.value text) h.counted is));
+      led = one_led joins now pushed after next h.texts text h.led apart gained;
+      counted = omega (arith, h.counted, length-append fs (f ∷ []));
+      all = h.all ∙ sym (all_push is_taken fs f true taken_it ∙ and_true (are_taken is_taken fs));
+      end = λ n. taken_from is_taken n fs f taken_it ∙ ap (λ (k : ℕ). nat_lt n (k + 1)) (sym h.counted);
+    }
 
-    pub field_passed : (now : D) (next : List ℕ) (all : Bool) (fs : List FieldTree) (f : FieldTree) → FieldsLed now next all fs → is_taken f.code ≡ false → FieldsLed now next false (fs ++ f ∷ [])
-    field_passed now next all fs f h passed =
-        (h.0, subst (λ (es : List FieldTree). AreFieldTexts Is es h.0) (sym (taken_push is_taken fs f false passed ∙ append-nil (taken_fields is_taken fs))) h.1, h.2, sym (all_push is_taken fs f false passed ∙ and_false (are_taken is_taken fs)))
+    pub field_passed : (now : D) (next : List ℕ) (place : ℕ) (taken : FieldsTaken) (fs : List FieldTree) (f : FieldTree) → FieldsLed now next place taken fs → is_taken f.code ≡ false
+        → FieldsLed now next (place + 1) (record { all = false; end = taken.end }) (fs ++ f ∷ [])
+    field_passed now next place taken fs f h passed = record {
+      texts = h.texts;
+      are = subst (λ (ps : List Placed). AreFieldTexts Is ps h.texts) (sym (taken_push is_taken fs f false passed ∙ append-nil (taken_fields is_taken fs))) h.are;
+      led = h.led;
+      counted = omega (arith, h.counted, length-append fs (f ∷ []));
+      all = sym (all_push is_taken fs f false passed ∙ and_false (are_taken is_taken fs));
+      end = λ n. passed_from is_taken n fs f passed ∙ h.end n;
+    }
 
 -- Types and texts as they are written, and the bytes of an array of BYTE.
 

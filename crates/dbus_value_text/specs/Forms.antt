@@ -1,7 +1,7 @@
 -- The texts of values in a form.
 -- D-Bus Specification, "Marshaling (Wire Format)".
 use Rattle.std.specs.Prelude.{◌≡◌, ℕ, List, [], ◌∷◌, ◌++◌, Bool, true, false, filter}
-use Rattle.std.specs.List.{join_by}
+use Rattle.std.specs.List.{enumerate_from, join_by}
 use Rattle.dbus_texts.specs.Types.{ArrayType, sig, sigs}
 use Rattle.dbus_texts.specs.PlainTypes.{is_byte}
 use Rattle.dbus_value_model.specs.Values.{ValueTree, ValueTrees, NumberValue, TextValue, ArrayValue, NoValues, MoreValues, types_of}
@@ -45,13 +45,13 @@ told_types v = sigs (types_of (parts v))
 -- The texts of header fields in a form.
 -- D-Bus Specification, "Header Fields".
 
--- the fields with the codes that are taken, in their order
-abbrev pub taken_fields : (is_taken : ℕ → Bool) → List FieldTree → List FieldTree
-taken_fields is_taken fs = filter (λ f. is_taken f.code) fs
+-- the fields with the codes that are taken, in their order, each after its place among all
+abbrev pub taken_fields : (is_taken : ℕ → Bool) → List FieldTree → List (ℕ × FieldTree)
+taken_fields is_taken fs = filter (λ p. is_taken p.1.code) (enumerate_from 0 fs)
 
--- fields, and a text of each
-abbrev pub AreFieldTexts : (ℕ → ValueTree → List ℕ → Type 0) → List FieldTree → List (List ℕ) → Type 0
+-- fields, each after its place, and a text of each
+abbrev pub AreFieldTexts : ((place code : ℕ) → ValueTree → List ℕ → Type 0) → List (ℕ × FieldTree) → List (List ℕ) → Type 0
 AreFieldTexts Is [] [] = Unit {0}
-AreFieldTexts Is (f ∷ fs) (text ∷ texts) = Is f.code f.value text × AreFieldTexts Is fs texts
+AreFieldTexts Is (p ∷ ps) (text ∷ texts) = Is p.0 p.1.code p.1.value text × AreFieldTexts Is ps texts
 AreFieldTexts Is [] (text ∷ texts) = ⊥
-AreFieldTexts Is (f ∷ fs) [] = ⊥
+AreFieldTexts Is (p ∷ ps) [] = ⊥

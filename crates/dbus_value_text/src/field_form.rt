@@ -16,19 +16,27 @@ pub trait FieldForm {
     // It takes fields with this code.
     ghost is_taken: { ℕ → Bool };
 
-    // This may be the text of a field with this code and value.
-    ghost is_text: { ℕ → ValueTree → List ℕ → Type 0 };
+    // This may be the text of a field with this code and value, which has this place among all header
+    // fields, counted from 0.
+    ghost is_text: { Self → (place code : ℕ) → ValueTree → List ℕ → Type 0 };
 
     /// Whether it takes fields with this code.
     fn takes(code: u8) -> bool
         ensures { result ≡ is_taken code };
 
-    /// Appends the field that has this code, and whose value is at a spot: the offset after the
-    /// value.
-    fn field<D: Draft>(draft: &mut D, source: &MessageBytes<'_>, code: u8, spot: &Spot<'_>) -> usize
+    /// Appends the field that has this place among all header fields, counted from 0, and this
+    /// code, and whose value is at a spot: the offset after the value.
+    fn field<D: Draft>(
+        &self,
+        draft: &mut D,
+        source: &MessageBytes<'_>,
+        place: usize,
+        code: u8,
+        spot: &Spot<'_>,
+    ) -> usize
         requires taken { is_taken code ≡ true }
         requires stands { StandsThere source.now spot.now }
         requires noted { AreLengths spot.now.types.now spot.now.lengths.now }
         ensures written { (v : ValueTree) (rest : List ℕ) → StandsAt source.now spot.now v rest →
-            GainsSome D.gains draft.old (is_text code v) draft.new × (result ≡ end_of source.now spot.now v) };
+            GainsSome D.gains draft.old (is_text self.now place code v) draft.new × (result ≡ end_of source.now spot.now v) };
 }

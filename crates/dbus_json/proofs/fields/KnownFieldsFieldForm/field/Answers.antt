@@ -1,8 +1,8 @@
-use Rattle.std.proofs.Common.{ℕ, List, append_assoc, codes, subst}
+use Rattle.std.proofs.Common.{ℕ, List, append_assoc, codes, refl, subst}
 use Rattle.dbus_show.specs.ShownMessages.{field_name}
-use Rattle.dbus_json.specs.JsonValues.{plain}
+use Rattle.dbus_json.specs.JsonMessages.{IsKnown}
+use Rattle.dbus_json.specs.JsonValues.{plain, member}
 use Rattle.dbus_show.proofs.FieldTexts.{then}
-use Rattle.dbus_json.proofs.FieldTexts.{is_true, known_field}
 use Rattle.dbus_json.proofs.fields.KnownFieldsFieldForm.field.Goals as goal
 
 pub returns : goal.returns
@@ -10,6 +10,6 @@ returns g c = record {
   written = λ v rest s.
       let w = c.write_value.ensures.written v rest s in
       let gained = then g.D.Draft.gains g.met.D.Draft.joins c.write_name.ensures w.0.2 in
-      let field = known_field c.args.code v w.0.0 (is_true _ c.requires.taken) w.0.1 in
+      let field : IsKnown c.args.code v (member (field_name c.args.code) w.0.0) = record { value = w.0.0; json = w.0.1; is = refl } in
       ((_, field, subst (λ (t : List ℕ). g.D.Draft.gains c.args.draft.now t c.write_value.new.draft) (append_assoc (plain (field_name c.args.code)) (codes ":") w.0.0) gained), w.1);
 }
