@@ -1,0 +1,6 @@
+mod Strings
+mod Numbers
+mod Values
+mod Mixing
+mod Fields
+mod Lines

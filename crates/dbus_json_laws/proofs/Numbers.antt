@@ -1,0 +1,428 @@
+-- Texts of numbers and of digits: which bytes they have, and that each is of one number.
+use Rattle.std.proofs.Common.{◌≡◌, ◌≢◌, ℕ, zero, suc, ◌+◌, ◌-◌, ◌*◌, ◌/◌, ◌%◌, ◌^◌, ◌<◌, ◌≤◌, ℤ, pos, negsuc, Bool, true, false, cond, eqb, ltb, not, ◌&&◌, T, List, [], ◌∷◌, ◌++◌, length, get_or, drop, inl, inr, Some, codes, decimal, from_bits, refl, sym, ap, ◌∙◌, subst, arith, append_assoc}
+use Rattle.std.proofs.lemmas.Bool.{cases_Bool, cases_eq, cases_lt, lt-ltb, ne_eqb, le-ltb, and_parts, true≢false}
+use Rattle.std.proofs.lemmas.Fmt.{decimal_injective, decimal_nonempty, first_decimal}
+use Rattle.std.proofs.lemmas.Int.{of_z-to_z}
+use Rattle.std.specs.Char.{digit_value}
+use Rattle.std.specs.Float.{Float, binary64, float_is_finite, nan, inf, fin}
+use Rattle.std.specs.Float.Numeral.{exponent_text, text_of}
+use Rattle.std.specs.Fmt.{digits, digits_onto, digit_glyph, signed_decimal, sign_text}
+use Rattle.std.specs.Int.{Width, cast_signed, cast_unsigned, w16, w32, w64}
+use Rattle.std.specs.List.{list_all}
+use Rattle.std.specs.Str.Parse.{AllDigits}
+use mir.Val.{bits, sel}
+use lib.Ieee.{is_nan, to_bits}
+use lib.Ieee.Bits.{to_bits-of_bits}
+use Rattle.hex.specs.Hex.{encode_lower, encode_with, lower_digits}
+use Rattle.ryu.specs.Parse.{parse_float}
+use Rattle.ryu.specs.Plain.{IsPlainNumber}
+use Rattle.dbus_texts.specs.Types.{NumberCode, BYTE, BOOLEAN, INT16, UINT16, INT32, UINT32, INT64, UINT64, DOUBLE, UNIX_FD}
+use Rattle.dbus_value_model.specs.declared.order.Order.TheVariants.{Big}
+use Rattle.dbus_value_model.specs.ByteNumbers.{IsBytes}
+use Rattle.dbus_value_model.specs.Bytes.{low_first, num}
+use Rattle.dbus_value_model.specs.Reading.{number_of}
+use Rattle.dbus_value_model.specs.Values as values
+use Rattle.dbus_value_model.proofs.Numbers.{IsBytes-reverse, number_of-num}
+use Rattle.dbus_show.specs.ShownValues.{number_text}
+use Rattle.dbus_json.specs.JsonValues.{plain, IsDouble, IsNumber}
+use Rattle.dbus_json_laws.proofs.Strings.{digit}
+
+-- ---- bytes that end nothing
+
+-- a byte that neither ends a number in JSON nor begins or ends a string
+pub record Bare (c : ℕ) : Type 0 where
+  pub quote : c ≢ 34
+  pub comma : c ≢ 44
+  pub bracket : c ≢ 93
+  pub brace : c ≢ 125
+
+abbrev pub AreAll : (ℕ → Type 0) → List ℕ → Type 0
+AreAll P [] = Unit {0}
+AreAll P (c ∷ cs) = P c × AreAll P cs
+
+pub all_append : (P : ℕ → Type 0) (s t : List ℕ) → AreAll P s → AreAll P t → AreAll P (s ++ t)
+all_append P [] t g h = h
+all_append P (c ∷ s) t g h = (g.0, all_append P s t g.1 h)
+
+pub weaker : (P Q : ℕ → Type 0) → ((c : ℕ) → P c → Q c) → (s : List ℕ) → AreAll P s → AreAll Q s
+weaker P Q f [] h = tt
+weaker P Q f (c ∷ s) h = (f c h.0, weaker P Q f s h.1)
+
+pub same_head : (x y : ℕ) (s t : List ℕ) → x ∷ s ≡ y ∷ t → (x ≡ y) × (s ≡ t)
+same_head x y s t e = (ap (λ (u : List ℕ). get_or u 0 0) e, ap (λ (u : List ℕ). drop 1 u) e)
+
+-- two texts up to the first byte of each that is not of P
+pub cut : (P : ℕ → Type 0) (s t : List ℕ) (x y : ℕ) (r q : List ℕ) → AreAll P s → AreAll P t → (P x → ⊥) → (P y → ⊥) → s ++ x ∷ r ≡ t ++ y ∷ q → (s ≡ t) × (x ∷ r ≡ y ∷ q)
+cut P [] [] x y r q g h nx ny e = (refl, e)
+cut P [] (c ∷ t) x y r q g h nx ny e = absurd (nx (subst P (sym (same_head x c r (t ++ y ∷ q) e).0) h.0))
+cut P (b ∷ s) [] x y r q g h nx ny e = absurd (ny (subst P (same_head b y (s ++ x ∷ r) q e).0 g.0))
+cut P (b ∷ s) (c ∷ t) x y r q g h nx ny e =
+    let one = same_head b c (s ++ x ∷ r) (t ++ y ∷ q) e in
+    let more = cut P s t x y r q g.1 h.1 nx ny one.1 in
+    (ap (λ (k : ℕ). k ∷ s) one.0 ∙ ap (λ (u : List ℕ). c ∷ u) more.0, more.1)
+
+-- ---- bare texts
+
+pub low : (c : ℕ) → 44 < c → c < 93 → Bare c
+low c g h = record { quote = λ e. omega (arith, g, e); comma = λ e. omega (arith, g, e); bracket = λ e. omega (arith, h, e); brace = λ e. omega (arith, h, e) }
+
+glyph : (d : ℕ) → d < 10 → Bare (digit_glyph false d)
+glyph d h = subst (λ (b : Bool). Bare (cond b (48 + d) (87 + d))) (sym (lt-ltb d 10 h)) (low (48 + d) (omega arith) (omega (arith, h)))
+
+either : (P : List ℕ → Type 0) (b : Bool) (s t : List ℕ) → P s → P t → P (cond b s t)
+either P true s t g h = g
+either P false s t g h = h
+
+digits_bare : (k n : ℕ) (acc : List ℕ) → AreAll Bare acc → AreAll Bare (digits_onto k 10 false n acc)
+digits_bare zero n acc h = h
+digits_bare (suc k) n acc h =
+    let more : AreAll Bare (digit_glyph false (n % 10) ∷ acc) = (glyph (n % 10) (omega arith), h) in
+    either (AreAll Bare) (eqb (n / 10) 0) (digit_glyph false (n % 10) ∷ acc) (digits_onto k 10 false (n / 10) (digit_glyph false (n % 10) ∷ acc)) more (digits_bare k (n / 10) (digit_glyph false (n % 10) ∷ acc) more)
+
+pub decimal_bare : (n : ℕ) → AreAll Bare (decimal n)
+unfolding digits
+decimal_bare n = digits_bare 64 n [] tt
+
+-- whether a byte is bare
+abbrev is_bare : ℕ → Bool
+is_bare c = not (eqb c 34) && (not (eqb c 44) && (not (eqb c 93) && not (eqb c 125)))
+
+not_equal : (c k : ℕ) → eqb k k ≡ true → not (eqb c k) ≡ true → c ≢ k
+not_equal c k same h e = true≢false (sym h ∙ ap (λ (n : ℕ). not (eqb n k)) e ∙ ap not same)
+
+pub bare_of : (c : ℕ) → is_bare c ≡ true → Bare c
+bare_of c h =
+    let a = and_parts _ _ h in
+    let b = and_parts _ _ a.1 in
+    let d = and_parts _ _ b.1 in
+    record { quote = not_equal c 34 refl a.0; comma = not_equal c 44 refl b.0; bracket = not_equal c 93 refl d.0; brace = not_equal c 125 refl d.1 }
+
+-- a text that is spelled out
+pub bare_literal : (s : List ℕ) → list_all is_bare s ≡ true → AreAll Bare s
+bare_literal [] h = tt
+bare_literal (c ∷ s) h = let both = and_parts _ _ h in (bare_of c both.0, bare_literal s both.1)
+
+-- the byte at a place, or 0 behind the last
+pub bare_at : (t : List ℕ) → AreAll Bare t → (i : ℕ) → Bare (get_or t i 0)
+bare_at [] h i = bare_of 0 refl
+bare_at (c ∷ t) h zero = h.0
+bare_at (c ∷ t) h (suc i) = bare_at t h.1 i
+
+minus : Bare 45
+minus = bare_of 45 refl
+
+signed_bare : (z : ℤ) → AreAll Bare (signed_decimal z)
+signed_bare (pos n) = decimal_bare n
+signed_bare (negsuc n) = (minus, decimal_bare (suc n))
+
+encoded_bare : (t bytes : List ℕ) → ((i : ℕ) → Bare (get_or t i 0)) → AreAll Bare (encode_with t bytes)
+unfolding encode_with
+encoded_bare t [] h = tt
+encoded_bare t (b ∷ bytes) h = (h (b / 16), (h (b % 16), encoded_bare t bytes h))
+
+pub hex_bare : (bytes : List ℕ) → AreAll Bare (encode_lower bytes)
+hex_bare bytes = encoded_bare lower_digits bytes (bare_at lower_digits (bare_literal lower_digits refl))
+
+-- ---- the text of each number
+
+digit_bare : (c : ℕ) → digit_value c < 10 → Bare c
+digit_bare c h = record {
+  quote = λ e. let d : digit_value 34 < 10 = subst (λ (k : ℕ). digit_value k < 10) e h in omega (arith, d);
+  comma = λ e. let d : digit_value 44 < 10 = subst (λ (k : ℕ). digit_value k < 10) e h in omega (arith, d);
+  bracket = λ e. let d : digit_value 93 < 10 = subst (λ (k : ℕ). digit_value k < 10) e h in omega (arith, d);
+  brace = λ e. let d : digit_value 125 < 10 = subst (λ (k : ℕ). digit_value k < 10) e h in omega (arith, d);
+}
+
+all_digits : (ds : List ℕ) → AllDigits 10 ds → AreAll Bare ds
+all_digits [] h = tt
+all_digits (c ∷ ds) h = (digit_bare c h.0, all_digits ds h.1)
+
+sign_bare : (negative : Bool) → AreAll Bare (sign_text negative)
+sign_bare true = (minus, tt)
+sign_bare false = tt
+
+exponent_bare : (negative : Bool) (ds : List ℕ) → AllDigits 10 ds → AreAll Bare (exponent_text negative ds)
+exponent_bare negative [] h = tt
+exponent_bare negative (d ∷ ds) h = (bare_of 101 refl, all_append Bare (sign_text negative) (d ∷ ds) (sign_bare negative) (all_digits (d ∷ ds) h))
+
+float_bare : (text : List ℕ) → IsPlainNumber text → AreAll Bare text
+float_bare text (negative, p, is, shaped) =
+    let w = shaped.well_formed in
+    let fraction = either (AreAll Bare) p.point (46 ∷ p.fraction) [] (bare_of 46 refl, all_digits p.fraction w.fraction_digits) tt in
+    subst (AreAll Bare) (sym is)
+    (all_append Bare (sign_text negative) (text_of p) (sign_bare negative)
+    (all_append Bare p.whole _ (all_digits p.whole w.whole_digits) (all_append Bare _ (exponent_text p.exponent_negative p.exponent) fraction (exponent_bare p.exponent_negative p.exponent w.exponent_digits))))
+
+boolean_bare : (n : ℕ) → AreAll Bare (number_text BOOLEAN n)
+boolean_bare n = either (AreAll Bare) (eqb n 0) (codes "false") (codes "true") (bare_literal (codes "false") refl) (bare_literal (codes "true") refl)
+
+number_bare : (k : NumberCode) → (k ≡ DOUBLE → ⊥) → (n : ℕ) → AreAll Bare (number_text k n)
+number_bare BYTE other n = decimal_bare n
+number_bare BOOLEAN other n = boolean_bare n
+number_bare INT16 other n = signed_bare (cast_signed w16 n)
+number_bare UINT16 other n = decimal_bare n
+number_bare INT32 other n = signed_bare (cast_signed w32 n)
+number_bare UINT32 other n = decimal_bare n
+number_bare INT64 other n = signed_bare (cast_signed w64 n)
+number_bare UINT64 other n = decimal_bare n
+number_bare DOUBLE other n = absurd (other refl)
+number_bare UNIX_FD other n = decimal_bare n
+
+-- ---- each text is of one number
+
+-- the first byte of a text, which is none of an empty one
+abbrev pub IsSome : List ℕ → Type 0
+IsSome [] = ⊥
+IsSome (c ∷ cs) = Unit {0}
+
+some_of : (s : List ℕ) → 0 < length s → IsSome s
+some_of [] h = absurd (omega (arith, h))
+some_of (c ∷ s) h = tt
+
+decimal_some : (n : ℕ) → n < 2 ^ 64 → IsSome (decimal n)
+decimal_some n h = some_of (decimal n) (decimal_nonempty n h)
+
+zero_first : get_or (decimal 0) 0 0 ≡ 48
+unfolding digits
+zero_first = refl
+
+-- no digits begin with a sign
+no_minus : (n : ℕ) → n < 2 ^ 64 → (t : List ℕ) → decimal n ≡ 45 ∷ t → ⊥
+no_minus zero h t e = let first : get_or (decimal 0) 0 0 ≡ 45 = ap (λ (s : List ℕ). get_or s 0 0) e in omega (arith, first, zero_first)
+no_minus (suc n) h t e =
+    let first : get_or (decimal (suc n)) 0 0 ≡ 45 = ap (λ (s : List ℕ). get_or s 0 0) e in
+    let more = first_decimal (suc n) (omega arith) h in
+    omega (arith, first, more)
+
+-- its size fits into 64 bits
+abbrev Fits64 : ℤ → Type 0
+Fits64 (pos n) = n < 2 ^ 64
+Fits64 (negsuc n) = suc n < 2 ^ 64
+
+signed_same : (y z : ℤ) → Fits64 y → Fits64 z → signed_decimal y ≡ signed_decimal z → y ≡ z
+signed_same (pos m) (pos n) h k e = ap pos (decimal_injective m n h k e)
+signed_same (pos m) (negsuc n) h k e = absurd (no_minus m h (decimal (suc n)) e)
+signed_same (negsuc m) (pos n) h k e = absurd (no_minus n k (decimal (suc m)) (sym e))
+signed_same (negsuc m) (negsuc n) h k e =
+    let same : suc m ≡ suc n = decimal_injective (suc m) (suc n) h k (same_head 45 45 (decimal (suc m)) (decimal (suc n)) e).1 in
+    ap negsuc (omega (arith, same))
+
+half_fits : (top half n : ℕ) → n < top → 0 < half → top ≤ 2 ^ 64 → Fits64 (sel (ltb n half) (pos n) (negsuc (top - suc n)))
+half_fits top half n h some most =
+    elim (cases_lt n half) [
+      | inl lt ↦ subst (λ (b : Bool). Fits64 (sel b (pos n) (negsuc (top - suc n)))) (sym (lt-ltb n half lt)) (omega (arith, h, most))
+      | inr le ↦ subst (λ (b : Bool). Fits64 (sel b (pos n) (negsuc (top - suc n)))) (sym (le-ltb n half le)) (omega (arith, h, le, some, most))
+    ]
+
+-- the number that a signed one is kept as
+kept_same : (w : Width) (m n : ℕ) → m < 2 ^ bits w → n < 2 ^ bits w → Fits64 (cast_signed w m) → Fits64 (cast_signed w n) → signed_decimal (cast_signed w m) ≡ signed_decimal (cast_signed w n) → m ≡ n
+kept_same w m n h k f g e = sym (of_z-to_z w m h) ∙ ap (cast_unsigned w) (signed_same (cast_signed w m) (cast_signed w n) f g e) ∙ of_z-to_z w n k
+
+true_text : (n : ℕ) → (n ≡ 0 → ⊥) → number_text BOOLEAN n ≡ codes "true"
+true_text n other = ap (λ (b : Bool). cond b (codes "false") (codes "true")) (ne_eqb n 0 other)
+
+false_text : (n : ℕ) → n ≡ 0 → number_text BOOLEAN n ≡ codes "false"
+false_text n is = ap (number_text BOOLEAN) is
+
+not_both : codes "false" ≡ codes "true" → ⊥
+not_both e = let first : 102 ≡ 116 = ap (λ (s : List ℕ). get_or s 0 0) e in omega (arith, first)
+
+one : (n : ℕ) → n < 2 → (n ≡ 0 → ⊥) → n ≡ 1
+one zero h other = absurd (other refl)
+one (suc n) h other = omega (arith, h)
+
+boolean_same : (m n : ℕ) → m < 2 → n < 2 → number_text BOOLEAN m ≡ number_text BOOLEAN n → m ≡ n
+boolean_same m n h k e =
+    elim (cases_eq m 0) [
+      | inl a ↦ elim (cases_eq n 0) [
+        | inl b ↦ a ∙ sym b
+        | inr b ↦ absurd (not_both (sym (false_text m a) ∙ e ∙ true_text n b))
+      ]
+      | inr a ↦ elim (cases_eq n 0) [
+        | inl b ↦ absurd (not_both (sym (false_text n b) ∙ sym e ∙ true_text m a))
+        | inr b ↦ one m h a ∙ sym (one n k b)
+      ]
+    ]
+
+-- which numbers are in decimal
+coded_same : (k : NumberCode) → (k ≡ DOUBLE → ⊥) → (m n : ℕ) → values.IsNumber k m → values.IsNumber k n → number_text k m ≡ number_text k n → m ≡ n
+coded_same BYTE other m n h k e = decimal_injective m n (omega (arith, h)) (omega (arith, k)) e
+coded_same BOOLEAN other m n h k e = boolean_same m n h k e
+coded_same INT16 other m n h k e = kept_same w16 m n h k (half_fits (2 ^ 16) (2 ^ 15) m h (omega arith) (omega arith)) (half_fits (2 ^ 16) (2 ^ 15) n k (omega arith) (omega arith)) e
+coded_same UINT16 other m n h k e = decimal_injective m n (omega (arith, h)) (omega (arith, k)) e
+coded_same INT32 other m n h k e = kept_same w32 m n h k (half_fits (2 ^ 32) (2 ^ 31) m h (omega arith) (omega arith)) (half_fits (2 ^ 32) (2 ^ 31) n k (omega arith) (omega arith)) e
+coded_same UINT32 other m n h k e = decimal_injective m n (omega (arith, h)) (omega (arith, k)) e
+coded_same INT64 other m n h k e = kept_same w64 m n h k (half_fits (2 ^ 64) (2 ^ 63) m h (omega arith) (omega arith)) (half_fits (2 ^ 64) (2 ^ 63) n k (omega arith) (omega arith)) e
+coded_same UINT64 other m n h k e = decimal_injective m n h k e
+coded_same DOUBLE other m n h k e = absurd (other refl)
+coded_same UNIX_FD other m n h k e = decimal_injective m n (omega (arith, h)) (omega (arith, k)) e
+
+-- ---- digits of bytes
+
+hex_same : (a b : List ℕ) → IsBytes a → IsBytes b → encode_lower a ≡ encode_lower b → a ≡ b
+unfolding encode_with
+hex_same [] [] h k e = refl
+hex_same [] (y ∷ b) h k e = absurd (let long : 0 ≡ suc (suc (length (encode_lower b))) = ap length e in omega (arith, long))
+hex_same (x ∷ a) [] h k e = absurd (let long : suc (suc (length (encode_lower a))) ≡ 0 = ap length e in omega (arith, long))
+hex_same (x ∷ a) (y ∷ b) h k e =
+    let one = same_head _ _ _ _ e in
+    let two = same_head _ _ _ _ one.1 in
+    let high : x / 16 ≡ y / 16 = sym (digit (x / 16) (omega (arith, h.0))).1 ∙ ap digit_value one.0 ∙ (digit (y / 16) (omega (arith, k.0))).1 in
+    let low : x % 16 ≡ y % 16 = sym (digit (x % 16) (omega arith)).1 ∙ ap digit_value two.0 ∙ (digit (y % 16) (omega arith)).1 in
+    let same : x ≡ y = omega (arith, high, low) in
+    ap (λ (z : ℕ). z ∷ a) same ∙ ap (λ (s : List ℕ). y ∷ s) (hex_same a b h.1 k.1 two.1)
+
+low_bytes : (w n : ℕ) → IsBytes (low_first w n)
+unfolding low_first
+low_bytes zero n = tt
+low_bytes (suc w) n = (omega arith, low_bytes w (n / 256))
+
+num_bytes : (w n : ℕ) → IsBytes (num Big w n)
+unfolding num
+num_bytes w n = IsBytes-reverse (low_first w n) (low_bytes w n)
+
+quote_ends : Bare 34 → ⊥
+quote_ends b = b.quote refl
+
+-- a text between quotation marks
+pub plain_same : (a b r q : List ℕ) → AreAll Bare a → AreAll Bare b → plain a ++ r ≡ plain b ++ q → (a ≡ b) × (r ≡ q)
+plain_same a b r q h k e =
+    let inside : a ++ 34 ∷ r ≡ b ++ 34 ∷ q = sym (append_assoc a (34 ∷ []) r) ∙ ap (λ (s : List ℕ). drop 1 s) e ∙ append_assoc b (34 ∷ []) q in
+    let parts = cut Bare a b 34 34 r q h k quote_ends quote_ends inside in
+    (parts.0, (same_head 34 34 r q parts.1).1)
+
+pub plain_hex_same : (a b r q : List ℕ) → IsBytes a → IsBytes b → plain (encode_lower a) ++ r ≡ plain (encode_lower b) ++ q → (a ≡ b) × (r ≡ q)
+plain_hex_same a b r q h k e =
+    let parts = plain_same (encode_lower a) (encode_lower b) r q (hex_bare a) (hex_bare b) e in
+    (hex_same a b h k parts.0, parts.1)
+
+-- ---- a number in JSON, before a byte that ends it
+
+-- what stands after a value in JSON
+pub record Ends (x : ℕ) : Type 0 where
+  pub bare : Bare x → ⊥
+  pub other : x ≢ 34
+
+not_nan : (x : Float) → float_is_finite x ≡ true → T (not (is_nan x))
+unfolding float_is_finite is_nan
+not_nan nan e = absurd (true≢false (sym e))
+not_nan (inf s) e = absurd (true≢false (sym e))
+not_nan (fin s m x) e = tt
+
+bits_same : (m n : ℕ) → m < 256 ^ 8 → n < 256 ^ 8 → float_is_finite (from_bits binary64 m) ≡ true → float_is_finite (from_bits binary64 n) ≡ true → from_bits binary64 m ≡ from_bits binary64 n → m ≡ n
+bits_same m n h k f g e = sym (to_bits-of_bits binary64 m h (not_nan _ f)) ∙ ap (to_bits binary64) e ∙ to_bits-of_bits binary64 n k (not_nan _ g)
+
+-- what is bare, and what begins with a quotation mark
+not_quoted : (s : List ℕ) (x : ℕ) (r u : List ℕ) → AreAll Bare s → Ends x → s ++ x ∷ r ≡ 34 ∷ u → ⊥
+not_quoted [] x r u h ends e = ends.other (same_head x 34 r u e).0
+not_quoted (c ∷ s) x r u h ends e = h.0.quote (same_head c 34 (s ++ x ∷ r) u e).0
+
+abbrev Same : (m n : ℕ) → (x y : ℕ) → (r q : List ℕ) → Type 0
+Same m n x y r q = (m ≡ n) × (x ∷ r ≡ y ∷ q)
+
+module _ (m n : ℕ) (h : m < 256 ^ 8) (k : n < 256 ^ 8) (s t : List ℕ) (a : IsDouble m s) (b : IsDouble n t) (x y : ℕ) (r q : List ℕ) (ends : Ends x) (ended : Ends y) (e : s ++ x ∷ r ≡ t ++ y ∷ q) where
+  both_finite : float_is_finite (from_bits binary64 m) ≡ true → float_is_finite (from_bits binary64 n) ≡ true → Same m n x y r q
+  both_finite f g =
+      let parts = cut Bare s t x y r q (float_bare s (a.finite f).0) (float_bare t (b.finite g).0) ends.bare ended.bare e in
+      let read : Some (from_bits binary64 m) ≡ Some (from_bits binary64 n) = sym (a.finite f).1 ∙ ap (parse_float binary64) parts.0 ∙ (b.finite g).1 in
+      let same : from_bits binary64 m ≡ from_bits binary64 n = let e = read in cc in
+      (bits_same m n h k f g same, parts.1)
+
+  first_finite : float_is_finite (from_bits binary64 m) ≡ true → float_is_finite (from_bits binary64 n) ≡ false → ⊥
+  first_finite f g = not_quoted s x r _ (float_bare s (a.finite f).0) ends (e ∙ ap (λ (u : List ℕ). u ++ y ∷ q) (b.other g))
+
+  second_finite : float_is_finite (from_bits binary64 m) ≡ false → float_is_finite (from_bits binary64 n) ≡ true → ⊥
+  second_finite f g = not_quoted t y q _ (float_bare t (b.finite g).0) ended (sym e ∙ ap (λ (u : List ℕ). u ++ x ∷ r) (a.other f))
+
+  none_finite : float_is_finite (from_bits binary64 m) ≡ false → float_is_finite (from_bits binary64 n) ≡ false → Same m n x y r q
+  none_finite f g =
+      let quoted : plain (encode_lower (num Big 8 m)) ++ x ∷ r ≡ plain (encode_lower (num Big 8 n)) ++ y ∷ q = ap (λ (u : List ℕ). u ++ x ∷ r) (sym (a.other f)) ∙ e ∙ ap (λ (u : List ℕ). u ++ y ∷ q) (b.other g) in
+      let parts = plain_hex_same (num Big 8 m) (num Big 8 n) (x ∷ r) (y ∷ q) (num_bytes 8 m) (num_bytes 8 n) quoted in
+      (sym (number_of-num Big 8 m h) ∙ ap (number_of Big) parts.0 ∙ number_of-num Big 8 n k, parts.1)
+
+  double_same : Same m n x y r q
+  double_same =
+      elim (cases_Bool (float_is_finite (from_bits binary64 m))) [
+        | inl f ↦ elim (cases_Bool (float_is_finite (from_bits binary64 n))) [ inl g ↦ both_finite f g | inr g ↦ absurd (first_finite f g) ]
+        | inr f ↦ elim (cases_Bool (float_is_finite (from_bits binary64 n))) [ inl g ↦ absurd (second_finite f g) | inr g ↦ none_finite f g ]
+      ]
+
+decimal_same : (k : NumberCode) → (k ≡ DOUBLE → ⊥) → (m n : ℕ) → values.IsNumber k m → values.IsNumber k n → (s t : List ℕ) → s ≡ number_text k m → t ≡ number_text k n → (x y : ℕ) (r q : List ℕ) → Ends x → Ends y
+    → s ++ x ∷ r ≡ t ++ y ∷ q → Same m n x y r q
+decimal_same k other m n h l s t a b x y r q ends ended e =
+    let parts = cut Bare s t x y r q (subst (AreAll Bare) (sym a) (number_bare k other m)) (subst (AreAll Bare) (sym b) (number_bare k other n)) ends.bare ended.bare e in
+    (coded_same k other m n h l (sym a ∙ parts.0 ∙ b), parts.1)
+
+-- two texts that begin with a number of one type
+pub number_same : (k : NumberCode) (m n : ℕ) → values.IsNumber k m → values.IsNumber k n → (s t : List ℕ) → IsNumber k m s → IsNumber k n t → (x y : ℕ) (r q : List ℕ) → Ends x → Ends y
+    → s ++ x ∷ r ≡ t ++ y ∷ q → (m ≡ n) × (x ∷ r ≡ y ∷ q)
+number_same DOUBLE m n h k s t a b x y r q ends ended e = double_same m n h k s t a b x y r q ends ended e
+number_same BYTE m n h k s t a b x y r q ends ended e = decimal_same BYTE (λ d. absurd (cc)) m n h k s t a b x y r q ends ended e
+number_same BOOLEAN m n h k s t a b x y r q ends ended e = decimal_same BOOLEAN (λ d. absurd (cc)) m n h k s t a b x y r q ends ended e
+number_same INT16 m n h k s t a b x y r q ends ended e = decimal_same INT16 (λ d. absurd (cc)) m n h k s t a b x y r q ends ended e
+number_same UINT16 m n h k s t a b x y r q ends ended e = decimal_same UINT16 (λ d. absurd (cc)) m n h k s t a b x y r q ends ended e
+number_same INT32 m n h k s t a b x y r q ends ended e = decimal_same INT32 (λ d. absurd (cc)) m n h k s t a b x y r q ends ended e
+number_same UINT32 m n h k s t a b x y r q ends ended e = decimal_same UINT32 (λ d. absurd (cc)) m n h k s t a b x y r q ends ended e
+number_same INT64 m n h k s t a b x y r q ends ended e = decimal_same INT64 (λ d. absurd (cc)) m n h k s t a b x y r q ends ended e
+number_same UINT64 m n h k s t a b x y r q ends ended e = decimal_same UINT64 (λ d. absurd (cc)) m n h k s t a b x y r q ends ended e
+number_same UNIX_FD m n h k s t a b x y r q ends ended e = decimal_same UNIX_FD (λ d. absurd (cc)) m n h k s t a b x y r q ends ended e
+
+-- ---- the first byte of a number
+
+-- it does not begin with a closing bracket
+abbrev pub NoBracket : List ℕ → Type 0
+NoBracket [] = ⊥
+NoBracket (c ∷ cs) = c ≢ 93
+
+no_bracket : (s : List ℕ) → AreAll Bare s → IsSome s → NoBracket s
+no_bracket [] h some = absurd some
+no_bracket (c ∷ s) h some = h.0.bracket
+
+some_front : (s t : List ℕ) → IsSome s → IsSome (s ++ t)
+some_front [] t h = absurd h
+some_front (c ∷ s) t h = tt
+
+some_behind : (s t : List ℕ) → IsSome t → IsSome (s ++ t)
+some_behind [] t h = h
+some_behind (c ∷ s) t h = tt
+
+signed_some : (z : ℤ) → Fits64 z → IsSome (signed_decimal z)
+signed_some (pos n) h = decimal_some n h
+signed_some (negsuc n) h = tt
+
+float_some : (text : List ℕ) → IsPlainNumber text → IsSome text
+float_some text (negative, p, is, shaped) = subst IsSome (sym is) (some_behind (sign_text negative) (text_of p) (some_front p.whole _ (some_of p.whole shaped.whole)))
+
+double_first : (n : ℕ) (text : List ℕ) → IsDouble n text → NoBracket text
+double_first n text is =
+    elim (cases_Bool (float_is_finite (from_bits binary64 n))) [
+      | inl f ↦ no_bracket text (float_bare text (is.finite f).0) (float_some text (is.finite f).0)
+      | inr f ↦ subst NoBracket (sym (is.other f)) (λ e. omega (arith, e))
+    ]
+
+coded_some : (k : NumberCode) → (k ≡ DOUBLE → ⊥) → (n : ℕ) → values.IsNumber k n → IsSome (number_text k n)
+coded_some BYTE other n h = decimal_some n (omega (arith, h))
+coded_some BOOLEAN other n h = either IsSome (eqb n 0) (codes "false") (codes "true") tt tt
+coded_some INT16 other n h = signed_some (cast_signed w16 n) (half_fits (2 ^ 16) (2 ^ 15) n h (omega arith) (omega arith))
+coded_some UINT16 other n h = decimal_some n (omega (arith, h))
+coded_some INT32 other n h = signed_some (cast_signed w32 n) (half_fits (2 ^ 32) (2 ^ 31) n h (omega arith) (omega arith))
+coded_some UINT32 other n h = decimal_some n (omega (arith, h))
+coded_some INT64 other n h = signed_some (cast_signed w64 n) (half_fits (2 ^ 64) (2 ^ 63) n h (omega arith) (omega arith))
+coded_some UINT64 other n h = decimal_some n h
+coded_some DOUBLE other n h = absurd (other refl)
+coded_some UNIX_FD other n h = decimal_some n (omega (arith, h))
+
+decimal_first : (k : NumberCode) → (k ≡ DOUBLE → ⊥) → (n : ℕ) → values.IsNumber k n → (text : List ℕ) → text ≡ number_text k n → NoBracket text
+decimal_first k other n h text is = subst NoBracket (sym is) (no_bracket (number_text k n) (number_bare k other n) (coded_some k other n h))
+
+pub number_first : (k : NumberCode) (n : ℕ) → values.IsNumber k n → (text : List ℕ) → IsNumber k n text → NoBracket text
+number_first DOUBLE n h text is = double_first n text is
+number_first BYTE n h text is = decimal_first BYTE (λ d. absurd (cc)) n h text is
+number_first BOOLEAN n h text is = decimal_first BOOLEAN (λ d. absurd (cc)) n h text is
+number_first INT16 n h text is = decimal_first INT16 (λ d. absurd (cc)) n h text is
+number_first UINT16 n h text is = decimal_first UINT16 (λ d. absurd (cc)) n h text is
+number_first INT32 n h text is = decimal_first INT32 (λ d. absurd (cc)) n h text is
+number_first UINT32 n h text is = decimal_first UINT32 (λ d. absurd (cc)) n h text is
+number_first INT64 n h text is = decimal_first INT64 (λ d. absurd (cc)) n h text is
+number_first UINT64 n h text is = decimal_first UINT64 (λ d. absurd (cc)) n h text is
+number_first UNIX_FD n h text is = decimal_first UNIX_FD (λ d. absurd (cc)) n h text is
