@@ -7,3 +7,4 @@ pub mod RoundTrips
 pub mod WordForms
 pub mod Meanings
 pub mod SameLines
+mod ExactLines

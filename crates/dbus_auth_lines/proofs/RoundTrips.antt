@@ -124,7 +124,7 @@ no_text : {A : Type 0} (text : List ℕ) → Some text ≡ None → A
 no_text text h = absurd (let x : Some text ≡ None = h in cc)
 
 -- it was spelled, is the line with its CR LF, and is not too long
-spelled_by : (spelled : Bool) (line text : List ℕ) → (if spelled then within_limit (ended line) else None) ≡ Some text → (spelled ≡ true) × (text ≡ ended line) × (length (ended line) ≤ 16384)
+pub spelled_by : (spelled : Bool) (line text : List ℕ) → (if spelled then within_limit (ended line) else None) ≡ Some text → (spelled ≡ true) × (text ≡ ended line) × (length (ended line) ≤ 16384)
 spelled_by false line text h = no_text text (sym h)
 spelled_by true line text h = by_limit (nat_le (length (ended line)) 16384) refl h
   where

@@ -6,7 +6,7 @@ use Rattle.dbus_auth_lines.specs.ClientCommands.{ClientCommand}
 use Rattle.dbus_auth_lines.specs.ClientCommands as client
 use Rattle.dbus_auth_lines.specs.ServerCommands.{ServerCommand}
 use Rattle.dbus_auth_lines.specs.ServerCommands as server
-use Rattle.dbus_auth_lines.specs.Lines.{words, at_word_end, by_hex}
+use Rattle.dbus_auth_lines.specs.Lines.{words, by_hex}
 use Rattle.dbus_auth_lines.specs.declared.words.WordPlace.{WordPlace}
 use Rattle.dbus_auth_lines.specs.declared.places.ClientWords.{ClientWords}
 use Rattle.dbus_auth_lines.specs.declared.places.ClientWords.TheVariants as c

@@ -1,13 +1,13 @@
 -- Which commands are spelled by a line, and the line. D-Bus Specification, "Authentication
 -- Protocol", "Protocol Overview".
-use Rattle.std.specs.Prelude.{ℕ, ◌≡◌, ◌==◌, ◌&&◌, not, nat_le, nat_lt, Bool, true, false, List, length, Option, Some, None, Result, Ok, Err, if◌then◌else◌}
+use Rattle.std.specs.Prelude.{ℕ, ◌≡◌, ◌==◌, ◌&&◌, bytes_eq, not, nat_le, nat_lt, Bool, true, false, List, length, Option, Some, None, Result, Ok, Err, if◌then◌else◌}
 use Rattle.std.specs.List.{list_all}
 use Rattle.hex.specs.Hex.{IsBytes}
 use Rattle.dbus_auth_lines.specs.ClientCommands.{ClientCommand}
 use Rattle.dbus_auth_lines.specs.ClientCommands as client
 use Rattle.dbus_auth_lines.specs.ServerCommands.{ServerCommand}
 use Rattle.dbus_auth_lines.specs.ServerCommands as server
-use Rattle.dbus_auth_lines.specs.Lines.{client_line, server_line, ended}
+use Rattle.dbus_auth_lines.specs.Lines.{client_line, server_line, client_meaning, server_meaning, ended}
 use Rattle.dbus_auth_lines.specs.declared.writing.TextFault.{TextFault}
 use Rattle.dbus_auth_lines.specs.declared.writing.TextFault.TheVariants as fault
 use Rattle.dbus_auth_lines.specs.Cut.{IsLine}
@@ -50,6 +50,21 @@ client_text_of command = if is_client_spelled command then within_limit (ended (
 
 abbrev pub server_text_of : ServerCommand → Option (List ℕ)
 server_text_of command = if is_server_spelled command then within_limit (ended (server_line command)) else None
+
+-- A line, here without its CR LF, is exact if what it says is written as this line. So there is one
+-- exact line for what a side says, and none for Other.
+abbrev pub IsExactClientLine : List ℕ → Type 0
+IsExactClientLine line = client_text_of (client_meaning line) ≡ Some (ended line)
+
+abbrev pub IsExactServerLine : List ℕ → Type 0
+IsExactServerLine line = server_text_of (server_meaning line) ≡ Some (ended line)
+
+-- whether a command is spelled, and by this line
+abbrev pub is_client_text : List ℕ → ClientCommand → Bool
+is_client_text line command = is_client_spelled command && bytes_eq line (client_line command)
+
+abbrev pub is_server_text : List ℕ → ServerCommand → Bool
+is_server_text line command = is_server_spelled command && bytes_eq line (server_line command)
 
 -- what a call answers, unless memory ran out
 abbrev pub Writes : {X : Type 0} → (X → List ℕ) → Result X TextFault → Option (List ℕ) → Type 0

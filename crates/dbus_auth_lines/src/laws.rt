@@ -4,12 +4,12 @@
 //! D-Bus Specification, section "Authentication Protocol".
 
 ghost use Rattle.std.specs.Prelude.{List, ℕ, ◌≡◌, ◌≢◌, ◌++◌, ◌↔◌, IsTrue, Some};
-ghost use Rattle.dbus_auth_lines.specs.Cut.{cut, Beginning, Unfinished, BeginsAs, cut_of};
+ghost use Rattle.dbus_auth_lines.specs.Cut.{cut, Beginning, IsLine, Unfinished, BeginsAs, cut_of};
 ghost use Rattle.dbus_auth_lines.specs.ClientCommands.{ClientCommand};
 ghost use Rattle.dbus_auth_lines.specs.ServerCommands.{ServerCommand};
-ghost use Rattle.dbus_auth_lines.specs.Lines.{client_meaning, server_meaning, client_command, server_command};
+ghost use Rattle.dbus_auth_lines.specs.Lines.{client_meaning, ended, server_meaning, client_command, server_command};
 ghost use Rattle.dbus_auth_lines.specs.LineForms.{MeansToServer, MeansToClient};
-ghost use Rattle.dbus_auth_lines.specs.WrittenLines.{client_text_of, server_text_of, HasClientBytes, HasServerBytes, ReadsBack};
+ghost use Rattle.dbus_auth_lines.specs.WrittenLines.{client_text_of, server_text_of, HasClientBytes, HasServerBytes, IsExactClientLine, IsExactServerLine, ReadsBack};
 
 use crate::lines::{ClientLine, ServerLine};
 use std::alloc::Allocator;
@@ -34,6 +34,22 @@ pub fn written_line_law()
         client_text_of c ≡ Some text → ReadsBack client_meaning c text }
     ensures server { (c : ServerCommand) (text : List ℕ) → HasServerBytes c →
         server_text_of c ≡ Some text → ReadsBack server_meaning c text }
+{}
+
+/// A line that `client_text` or `server_text` writes is exact. So what they write is one line for
+/// each command, and of two exact lines that say the same the bytes are the same.
+#[tactic(auto, using(crate::proofs::ExactLines::one_client_line, crate::proofs::ExactLines::one_server_line))]
+pub fn exact_line_law()
+    ensures written_to_server { (c : ClientCommand) (line : List ℕ) → HasClientBytes c →
+        client_text_of c ≡ Some (ended line) → IsExactClientLine line }
+    ensures written_to_client { (c : ServerCommand) (line : List ℕ) → HasServerBytes c →
+        server_text_of c ≡ Some (ended line) → IsExactServerLine line }
+    ensures one_to_server { (a b : List ℕ) → IsExactClientLine a → IsExactClientLine b →
+        client_meaning a ≡ client_meaning b → a ≡ b }
+    ensures one_to_client { (a b : List ℕ) → IsExactServerLine a → IsExactServerLine b →
+        server_meaning a ≡ server_meaning b → a ≡ b }
+    ensures line_to_server { (line : List ℕ) → IsExactClientLine line → IsLine line }
+    ensures line_to_client { (line : List ℕ) → IsExactServerLine line → IsLine line }
 {}
 
 /// What a line means, as `read_client` and `read_server` answer it, is what the one row of the

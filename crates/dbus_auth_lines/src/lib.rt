@@ -15,6 +15,7 @@
 
 mod copies;
 mod cutter;
+mod exact;
 mod guid_text;
 pub mod laws;
 mod lines;
@@ -25,6 +26,7 @@ mod words;
 pub mod writing;
 
 pub use cutter::{LineCutter, LineFault};
+pub use exact::{is_exact_client_line, is_exact_server_line};
 pub use lines::{ClientLine, Guid, ServerLine};
 pub use places::{ClientWords, ServerWords, client_words, server_words};
 pub use reading::{read_client, read_server};

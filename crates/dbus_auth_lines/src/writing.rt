@@ -219,7 +219,7 @@ fn are_words<A: Allocator>(words: &[Vec<u8, A>]) -> bool
 }
 
 /// Whether the bytes are a word of a line.
-fn is_word_text(bytes: &[u8]) -> bool
+pub(crate) fn is_word_text(bytes: &[u8]) -> bool
     ensures { result ≡ is_word bytes.now }
 {
     !bytes.is_empty() && are_printed(bytes)
@@ -233,7 +233,7 @@ fn are_printed(bytes: &[u8]) -> bool
 }
 
 /// Whether the bytes are allowed after `ERROR`.
-fn is_error_text(bytes: &[u8]) -> bool
+pub(crate) fn is_error_text(bytes: &[u8]) -> bool
     ensures { result ≡ list_all is_plain bytes.now }
 {
     bytes
