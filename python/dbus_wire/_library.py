@@ -5,7 +5,7 @@ from __future__ import annotations
 
 import ctypes
 import os
-from ctypes import POINTER, c_char_p, c_size_t, c_uint8, c_uint32, c_uint64, c_void_p
+from ctypes import POINTER, c_char_p, c_size_t, c_uint8, c_uint16, c_uint32, c_uint64, c_void_p
 from typing import Union
 
 # The version of the header that this module was written for. A library of another minor version may
@@ -107,7 +107,8 @@ class HandshakeStep(ctypes.Structure):
 class Line(ctypes.Structure):
     _fields_ = [
         *((name, c_uint64) for name in ("length", "offset")),
-        *((name, c_uint32) for name in ("command", "is_too_long")),
+        ("command", c_uint32),
+        *((name, c_uint16) for name in ("is_too_long", "is_exact")),
         *((name, Text) for name in ("mechanism", "text")),
     ]
 

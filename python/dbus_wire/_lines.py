@@ -30,12 +30,17 @@ class LineCommand(enum.IntEnum):
 class Line(NamedTuple):
     """A line: its number of bytes, with its CR LF; its command; the mechanism of AUTH; and the
     hexadecimal digits of AUTH, DATA or OK, the text of ERROR, or the mechanisms of REJECTED, with
-    the spaces between them and after the last one. What is not there is None."""
+    the spaces between them and after the last one. What is not there is None.
+
+    A line is exact if it is the very bytes that an end of this library sends to say the same, with
+    one space between words, none at the end, and hexadecimal digits in lower case. Who passes lines
+    on passes no other ones, since servers differ in what they make of them."""
 
     length: int
     command: LineCommand
     mechanism: str | None
     text: str | None
+    is_exact: bool
 
 
 class BadLine(ValueError):
@@ -68,7 +73,7 @@ def _line(call: ctypes._NamedFuncPointer, data: bytes) -> Line | None:
         raise BadLine(None if told.is_too_long else told.offset)
     if answer == PARTIAL:
         return None
-    return Line(told.length, LineCommand(told.command), _text_at(data, told.mechanism), _text_at(data, told.text))
+    return Line(told.length, LineCommand(told.command), _text_at(data, told.mechanism), _text_at(data, told.text), bool(told.is_exact))
 
 
 def _text_at(data: bytes, place: _library.Text) -> str | None:

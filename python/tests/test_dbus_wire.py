@@ -515,9 +515,11 @@ class Handshakes(unittest.TestCase):
         self.fail("the ends do not come to an end")
 
     def test_lines(self):
-        self.assertEqual(client_line(b"AUTH  A 6C \r\nBEGIN"), (13, LineCommand.AUTH, "A", "6C"))
-        self.assertEqual(server_line(b"REJECTED A  B\r\n"), (15, LineCommand.REJECTED, None, "A  B"))
-        self.assertEqual(server_line(b"BEGIN\r\n"), (7, LineCommand.OTHER, None, None))
+        self.assertEqual(client_line(b"AUTH  A 6C \r\nBEGIN"), (13, LineCommand.AUTH, "A", "6C", False))
+        self.assertEqual(client_line(b"AUTH A 6c\r\n"), (11, LineCommand.AUTH, "A", "6c", True))
+        self.assertEqual([client_line(it).is_exact for it in (b"BEGIN\r\n", b"BEGIN \r\n")], [True, False])
+        self.assertEqual(server_line(b"REJECTED A  B\r\n"), (15, LineCommand.REJECTED, None, "A  B", False))
+        self.assertEqual(server_line(b"BEGIN\r\n"), (7, LineCommand.OTHER, None, None, False))
         self.assertIsNone(client_line(b"BEGIN\r"))
         for data, at in ((b"A\n", 1), (b"A" * 16383, None)):
             with self.assertRaises(BadLine) as caught:

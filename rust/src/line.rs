@@ -60,6 +60,10 @@ pub struct Line<'a> {
     /// ERROR; or the mechanisms of REJECTED up to the line's end, with the spaces between them and
     /// after the last one. `None` if there is none.
     pub text: Option<&'a str>,
+    /// Whether the line is exact: the very bytes that an end of this library sends to say the same,
+    /// with one space between words, none at the end, and hexadecimal digits in lower case. Who
+    /// passes lines on passes no other ones, since servers differ in what they make of them.
+    pub is_exact: bool,
 }
 
 /// Why no line begins so.
@@ -101,6 +105,7 @@ fn line(call: Call, bytes: &[u8]) -> Result<Option<Line<'_>>, LineFault> {
             command: Command::numbered(told.command),
             mechanism: text(told.mechanism),
             text: text(told.text),
+            is_exact: told.is_exact != 0,
         })),
         sys::DBUS_WIRE_PARTIAL => Ok(None),
         _ if told.is_too_long != 0 => Err(LineFault::TooLong),

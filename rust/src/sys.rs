@@ -262,7 +262,8 @@ pub struct dbus_wire_line {
     pub length: u64,
     pub offset: u64,
     pub command: u32,
-    pub is_too_long: u32,
+    pub is_too_long: u16,
+    pub is_exact: u16,
     pub mechanism: dbus_wire_text,
     pub text: dbus_wire_text,
 }

@@ -489,9 +489,11 @@ fn both_ends_shake_hands() {
 #[test]
 fn lines_between_others() {
     let line = client_line(b"AUTH  A 6C \r\nBEGIN").unwrap().unwrap();
-    assert_eq!(line, Line { length: 13, command: Command::Auth, mechanism: Some("A"), text: Some("6C") });
+    assert_eq!(line, Line { length: 13, command: Command::Auth, mechanism: Some("A"), text: Some("6C"), is_exact: false });
     let line = server_line(b"REJECTED A  B\r\n").unwrap().unwrap();
-    assert_eq!(line, Line { length: 15, command: Command::Rejected, mechanism: None, text: Some("A  B") });
+    assert_eq!(line, Line { length: 15, command: Command::Rejected, mechanism: None, text: Some("A  B"), is_exact: false });
+    let exact = |bytes| client_line(bytes).unwrap().map(|line| line.is_exact);
+    assert_eq!([exact(b"AUTH A 6c\r\n"), exact(b"BEGIN\r\n"), exact(b"BEGIN \r\n")], [Some(true), Some(true), Some(false)]);
     assert_eq!(server_line(b"BEGIN\r\n").unwrap().map(|line| line.command), Some(Command::Other));
     assert_eq!(client_line(b"BEGIN\r"), Ok(None));
     assert_eq!(client_line(b"A\n"), Err(LineFault::BadByte { at: 1 }));

@@ -1,6 +1,6 @@
 -- What is told by numbers of an end of a handshake.
 -- D-Bus Specification, "Authentication Protocol".
-use Rattle.std.specs.Prelude.{◌≡◌, ℕ, ◌<◌, ◌≤◌, Bool, true, false, List, ◌++◌, length, drop, Option, Some, None, Result, Ok, Err, ◌+◌, ◌==◌, if◌then◌else◌}
+use Rattle.std.specs.Prelude.{◌≡◌, ◌↔◌, IsTrue, ℕ, ◌<◌, ◌≤◌, Bool, true, false, List, ◌++◌, length, drop, Option, Some, None, Result, Ok, Err, ◌+◌, ◌==◌, if◌then◌else◌}
 use Rattle.std.specs.declared.alloc.AllocError.{AllocError}
 use Rattle.hex.specs.Hex.{encode_lower}
 use Rattle.dbus_auth.specs.declared.end_step.Status.{Status}
@@ -15,6 +15,7 @@ use Rattle.dbus_c_handle.specs.Checkers.{Goes, handshake_of, kept_as}
 use Rattle.dbus_c_handle.specs.declared.kept.Kept.{Kept}
 use Rattle.dbus_auth_lines.specs.Cut.{Fault, TooLong, BadByte, Beginning, WholeLine, Faulty, Unfinished}
 use Rattle.dbus_auth_lines.specs.Lines.{client_meaning, command_name, server_meaning}
+use Rattle.dbus_auth_lines.specs.WrittenLines.{IsExactClientLine, IsExactServerLine}
 use Rattle.dbus_auth_lines.specs.WordPlaces.{AreClientPlaces, AreServerPlaces, SaysToServer, SaysToClient}
 use Rattle.dbus_auth_lines.specs.declared.words.WordPlace.{WordPlace}
 use Rattle.dbus_auth_lines.specs.declared.places.ClientWords.{ClientWords}
@@ -92,44 +93,49 @@ abbrev pub nowhere : WordPlace
 nowhere = record { at = 0; length = 0 }
 
 -- of a line of this length
-abbrev pub line_told : ℕ → (command : ℕ) → (mechanism text : WordPlace) → HandshakeLine
-line_told n command mechanism text =
-    record { length = n; offset = 0; command = command; is_too_long = 0; mechanism = place_told mechanism; text = place_told text }
+abbrev pub line_told : ℕ → (exact : Bool) → (command : ℕ) → (mechanism text : WordPlace) → HandshakeLine
+line_told n exact command mechanism text =
+    record { length = n; offset = 0; command = command; is_too_long = 0; is_exact = if exact then 1 else 0; mechanism = place_told mechanism; text = place_told text }
 
-abbrev pub client_told : ℕ → ClientWords → HandshakeLine
-client_told n c.Auth = line_told n command.AUTH nowhere nowhere
-client_told n (c.AuthBy mech response) = line_told n command.AUTH mech response
-client_told n c.Cancel = line_told n command.CANCEL nowhere nowhere
-client_told n c.Begin = line_told n command.BEGIN nowhere nowhere
-client_told n (c.DataOf digits) = line_told n command.DATA nowhere digits
-client_told n (c.Error text) = line_told n command.ERROR nowhere text
-client_told n c.Negotiate = line_told n command.NEGOTIATE_UNIX_FD nowhere nowhere
-client_told n c.Other = line_told n command.OTHER nowhere nowhere
+abbrev pub client_told : ℕ → (exact : Bool) → ClientWords → HandshakeLine
+client_told n exact c.Auth = line_told n exact command.AUTH nowhere nowhere
+client_told n exact (c.AuthBy mech response) = line_told n exact command.AUTH mech response
+client_told n exact c.Cancel = line_told n exact command.CANCEL nowhere nowhere
+client_told n exact c.Begin = line_told n exact command.BEGIN nowhere nowhere
+client_told n exact (c.DataOf digits) = line_told n exact command.DATA nowhere digits
+client_told n exact (c.Error text) = line_told n exact command.ERROR nowhere text
+client_told n exact c.Negotiate = line_told n exact command.NEGOTIATE_UNIX_FD nowhere nowhere
+client_told n exact c.Other = line_told n exact command.OTHER nowhere nowhere
 
-abbrev pub server_told : ℕ → ServerWords → HandshakeLine
-server_told n (s.Rejected mechanisms) = line_told n command.REJECTED nowhere mechanisms
-server_told n (s.Accepted digits) = line_told n command.OK nowhere digits
-server_told n (s.DataOf digits) = line_told n command.DATA nowhere digits
-server_told n (s.Error text) = line_told n command.ERROR nowhere text
-server_told n s.Agree = line_told n command.AGREE_UNIX_FD nowhere nowhere
-server_told n s.Other = line_told n command.OTHER nowhere nowhere
+abbrev pub server_told : ℕ → (exact : Bool) → ServerWords → HandshakeLine
+server_told n exact (s.Rejected mechanisms) = line_told n exact command.REJECTED nowhere mechanisms
+server_told n exact (s.Accepted digits) = line_told n exact command.OK nowhere digits
+server_told n exact (s.DataOf digits) = line_told n exact command.DATA nowhere digits
+server_told n exact (s.Error text) = line_told n exact command.ERROR nowhere text
+server_told n exact s.Agree = line_told n exact command.AGREE_UNIX_FD nowhere nowhere
+server_told n exact s.Other = line_told n exact command.OTHER nowhere nowhere
 
--- of a line, here without its CR LF, what it means is told with the words' own places
+-- of a line, here without its CR LF, what it means is told with the words' own places, and whether
+-- it is exact
 pub record HasClientLine (line : List ℕ) (told : HandshakeLine) : Type 0 where
   pub words : ClientWords
   pub says : SaysToServer line words (client_meaning line)
   pub places : AreClientPlaces line (length (command_name line)) words
-  pub is_told : told ≡ client_told (length line + 2) words
+  pub exact : Bool
+  pub decided : IsTrue exact ↔ IsExactClientLine line
+  pub is_told : told ≡ client_told (length line + 2) exact words
 
 pub record HasServerLine (line : List ℕ) (told : HandshakeLine) : Type 0 where
   pub words : ServerWords
   pub says : SaysToClient line words (server_meaning line)
   pub places : AreServerPlaces line (length (command_name line)) words
-  pub is_told : told ≡ server_told (length line + 2) words
+  pub exact : Bool
+  pub decided : IsTrue exact ↔ IsExactServerLine line
+  pub is_told : told ≡ server_told (length line + 2) exact words
 
 -- where more bytes are wanted
 abbrev pub nothing_told : HandshakeLine
-nothing_told = line_told 0 0 nowhere nowhere
+nothing_told = line_told 0 false 0 nowhere nowhere
 
 -- of a fault: that the line is too long, or the place of the byte
 abbrev pub fault_told : Fault → HandshakeLine

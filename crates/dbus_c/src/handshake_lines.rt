@@ -12,7 +12,10 @@ use crate::line_command::{
 };
 use crate::parts::TextPlace;
 use dbus_auth_lines::scanning::{BadLine, first_line};
-use dbus_auth_lines::{ClientWords, ServerWords, WordPlace, client_words, server_words};
+use dbus_auth_lines::{
+    ClientWords, ServerWords, WordPlace, client_words, is_exact_client_line, is_exact_server_line,
+    server_words,
+};
 
 // No text.
 const NOWHERE: WordPlace = WordPlace { at: 0, length: 0 };
@@ -30,7 +33,10 @@ pub struct HandshakeLine {
     /// Of a line: the number of its command, as [`crate::line_command`] has it.
     pub command: u32,
     /// 1 if the line has more than 16,384 bytes; else 0.
-    pub is_too_long: u32,
+    pub is_too_long: u16,
+    /// 1 if there is a line and it is exact: its bytes are those that an end of this library writes
+    /// for what it says; else 0.
+    pub is_exact: u16,
     /// The mechanism of `AUTH`.
     pub mechanism: TextPlace,
     /// The hexadecimal digits of the response of `AUTH`, of `DATA` or of the GUID of `OK`; the text
@@ -45,13 +51,20 @@ pub struct HandshakeLine {
 ///
 /// The byte 0 that a client sends before its first line is none of it. D-Bus Specification,
 /// "Authentication Protocol".
+///
+/// Readers differ in what they make of a line that is not exact: to some, `BEGIN` and a space is
+/// not BEGIN, and they read on.
 #[unsafe(no_mangle)]
 pub extern "C" fn dbus_wire_client_line(bytes: &[u8], out: &mut HandshakeLine) -> u32
     ensures { (b : Beginning) → BeginsAs bytes.now b → TellsLine HasClientLine b result out.new }
 {
     match first_line(bytes) {
         Ok(Some(line)) => {
-            *out = client_told(line.len() + 2, client_words(line));
+            *out = client_told(
+                line.len() + 2,
+                is_exact_client_line(line),
+                client_words(line),
+            );
             WHOLE
         }
         Ok(None) => tell_nothing(out),
@@ -66,7 +79,11 @@ pub extern "C" fn dbus_wire_server_line(bytes: &[u8], out: &mut HandshakeLine) -
 {
     match first_line(bytes) {
         Ok(Some(line)) => {
-            *out = server_told(line.len() + 2, server_words(line));
+            *out = server_told(
+                line.len() + 2,
+                is_exact_server_line(line),
+                server_words(line),
+            );
             WHOLE
         }
         Ok(None) => tell_nothing(out),
@@ -75,44 +92,53 @@ pub extern "C" fn dbus_wire_server_line(bytes: &[u8], out: &mut HandshakeLine) -
 }
 
 // What is told of a client's line of this length.
-fn client_told(length: usize, words: ClientWords) -> HandshakeLine
-    ensures { result ≡ client_told length words }
+fn client_told(length: usize, exact: bool, words: ClientWords) -> HandshakeLine
+    ensures { result ≡ client_told length exact words }
 {
     match words {
-        ClientWords::Auth => line_told(length, AUTH, NOWHERE, NOWHERE),
-        ClientWords::AuthBy { mech, response } => line_told(length, AUTH, mech, response),
-        ClientWords::Cancel => line_told(length, CANCEL, NOWHERE, NOWHERE),
-        ClientWords::Begin => line_told(length, BEGIN, NOWHERE, NOWHERE),
-        ClientWords::DataOf(digits) => line_told(length, DATA, NOWHERE, digits),
-        ClientWords::Error(text) => line_told(length, ERROR, NOWHERE, text),
-        ClientWords::Negotiate => line_told(length, NEGOTIATE_UNIX_FD, NOWHERE, NOWHERE),
-        ClientWords::Other => line_told(length, OTHER, NOWHERE, NOWHERE),
+        ClientWords::Auth => line_told(length, exact, AUTH, NOWHERE, NOWHERE),
+        ClientWords::AuthBy { mech, response } => line_told(length, exact, AUTH, mech, response),
+        ClientWords::Cancel => line_told(length, exact, CANCEL, NOWHERE, NOWHERE),
+        ClientWords::Begin => line_told(length, exact, BEGIN, NOWHERE, NOWHERE),
+        ClientWords::DataOf(digits) => line_told(length, exact, DATA, NOWHERE, digits),
+        ClientWords::Error(text) => line_told(length, exact, ERROR, NOWHERE, text),
+        ClientWords::Negotiate => line_told(length, exact, NEGOTIATE_UNIX_FD, NOWHERE, NOWHERE),
+        ClientWords::Other => line_told(length, exact, OTHER, NOWHERE, NOWHERE),
     }
 }
 
 // And of a server's.
-fn server_told(length: usize, words: ServerWords) -> HandshakeLine
-    ensures { result ≡ server_told length words }
+fn server_told(length: usize, exact: bool, words: ServerWords) -> HandshakeLine
+    ensures { result ≡ server_told length exact words }
 {
     match words {
-        ServerWords::Rejected(mechanisms) => line_told(length, REJECTED, NOWHERE, mechanisms),
-        ServerWords::Accepted(digits) => line_told(length, OK, NOWHERE, digits),
-        ServerWords::DataOf(digits) => line_told(length, DATA, NOWHERE, digits),
-        ServerWords::Error(text) => line_told(length, ERROR, NOWHERE, text),
-        ServerWords::Agree => line_told(length, AGREE_UNIX_FD, NOWHERE, NOWHERE),
-        ServerWords::Other => line_told(length, OTHER, NOWHERE, NOWHERE),
+        ServerWords::Rejected(mechanisms) => line_told(
+            length, exact, REJECTED, NOWHERE, mechanisms,
+        ),
+        ServerWords::Accepted(digits) => line_told(length, exact, OK, NOWHERE, digits),
+        ServerWords::DataOf(digits) => line_told(length, exact, DATA, NOWHERE, digits),
+        ServerWords::Error(text) => line_told(length, exact, ERROR, NOWHERE, text),
+        ServerWords::Agree => line_told(length, exact, AGREE_UNIX_FD, NOWHERE, NOWHERE),
+        ServerWords::Other => line_told(length, exact, OTHER, NOWHERE, NOWHERE),
     }
 }
 
 // A line of a handshake as C is told it.
-fn line_told(length: usize, command: u32, mechanism: WordPlace, text: WordPlace) -> HandshakeLine
-    ensures { result ≡ line_told length command mechanism text }
+fn line_told(
+    length: usize,
+    exact: bool,
+    command: u32,
+    mechanism: WordPlace,
+    text: WordPlace,
+) -> HandshakeLine
+    ensures { result ≡ line_told length exact command mechanism text }
 {
     HandshakeLine {
         length: length as u64,
         offset: 0,
         command,
         is_too_long: 0,
+        is_exact: if exact { 1 } else { 0 },
         mechanism: place_told(mechanism),
         text: place_told(text),
     }
@@ -141,7 +167,7 @@ fn tell_nothing(out: &mut HandshakeLine) -> u32
     ensures told { out.new ≡ nothing_told }
     ensures answer { result ≡ PARTIAL }
 {
-    *out = line_told(0, OTHER, NOWHERE, NOWHERE);
+    *out = line_told(0, false, OTHER, NOWHERE, NOWHERE);
     PARTIAL
 }
 
@@ -150,7 +176,7 @@ fn tell_fault(fault: BadLine, out: &mut HandshakeLine) -> u32
     ensures told { out.new ≡ fault_told (fault_of fault) }
     ensures answer { result ≡ REFUSED }
 {
-    *out = line_told(0, OTHER, NOWHERE, NOWHERE);
+    *out = line_told(0, false, OTHER, NOWHERE, NOWHERE);
     match fault {
         BadLine::TooLong => out.is_too_long = 1,
         BadLine::BadByte { at } => out.offset = at as u64,
