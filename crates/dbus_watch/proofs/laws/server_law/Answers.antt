@@ -1,0 +1,8 @@
+use Rattle.dbus_watch.proofs.Tables.{table_answers, table_begins}
+use Rattle.dbus_watch.proofs.laws.server_law.Goals as goal
+
+pub returns-clause-answers : goal.returns-clause-answers
+returns-clause-answers c = table_answers
+
+pub returns-clause-begins : goal.returns-clause-begins
+returns-clause-begins c = table_begins
