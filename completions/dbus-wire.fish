@@ -37,7 +37,7 @@ complete -c dbus-wire -n '__fish_seen_subcommand_from swap' -l to -x -a 'l B' -d
 complete -c dbus-wire -n '__fish_seen_subcommand_from handshake' -l side -x -a 'client server' -d 'Whose lines they are'
 complete -c dbus-wire -n '__fish_seen_subcommand_from list filter' -l invert -f -d 'Write the messages that match no rule'
 complete -c dbus-wire -n '__fish_seen_subcommand_from list filter' -l owner -x -d 'The owner of a well-known name, NAME=UNIQUE'
-complete -c dbus-wire -n '__fish_seen_subcommand_from list filter' -l learn-owners -f -d 'Learn owners from signals of the bus'
+complete -c dbus-wire -n '__fish_seen_subcommand_from list filter' -l learn-owners -f -d 'Learn owners from the input'
 complete -c dbus-wire -n '__fish_seen_subcommand_from list filter' -f -a '(__dbus_wire_rule)'
 complete -c dbus-wire -n '__fish_seen_subcommand_from swap filter' -l raw -f -d 'Write raw messages, also of a file'
 complete -c dbus-wire -n '__fish_seen_subcommand_from show json list filter' -l skip -x -d 'Messages to skip first'

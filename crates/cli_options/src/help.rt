@@ -272,8 +272,9 @@ pub(crate) const FILTER_MORE: &str = more!(
   message that has that name itself. With --owner org.a.B=:1.7 it also matches
   what :1.7 sent: `busctl --user list` prints unique names, and GetNameOwner of
   the bus returns them. With --learn-owners the owners are also learned from the
-  signals of the bus in the input, for the messages after each: NameOwnerChanged,
-  NameAcquired and NameLost.",
+  input, for the messages after each that tells one: signals NameOwnerChanged,
+  NameAcquired and NameLost of the bus, its replies to RequestName and
+  GetNameOwner, and the reply of :1.7 to a call to org.a.B.",
     "
   dbus-wire filter \"type='signal',member='NameLost'\" < capture | dbus-wire show"
 );
@@ -288,7 +289,7 @@ pub(crate) const INVERT: &str = "Writes the messages that match none of the rule
 pub(crate) const OWNER: &str = "The owner of a name, as org.a.B=:1.7; any number";
 
 /// What `--learn-owners` of `list` and `filter` does.
-pub(crate) const LEARN_OWNERS: &str = "Learns owners from the bus's signals, from then on";
+pub(crate) const LEARN_OWNERS: &str = "Learns owners from the input, from then on";
 
 /// What `--explain` does.
 pub(crate) const EXPLAIN: &str = "Explains what is refused, in three more lines";

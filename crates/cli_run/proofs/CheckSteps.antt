@@ -1,6 +1,7 @@
 -- How `check` ends if it counts the messages, and writes one line.
 use Rattle.std.proofs.Common.{◌≡◌, ℕ, true, false, List, [], ◌∷◌, ◌++◌, Option, Ok, Err, take, drop, refl, sym, ap, subst, take-append-drop, inl, inr}
 use Rattle.std.specs.FinSet.{empty}
+use Rattle.dbus_names.specs.NameStates.{known_first}
 use Rattle.dbus_device.specs.Device.{Wrote, Stopped}
 use Rattle.cli_options.specs.declared.command.Command.TheVariants.{Check}
 use Rattle.cli_options.specs.declared.settings.Settings.{Settings}
@@ -25,7 +26,7 @@ use Rattle.cli_run.proofs.EndSteps.{stops_as}
 use Rattle.cli_run.proofs.PartLaws.{line_is, some_placed}
 
 -- `check` writes nothing of a message
-no_output : (items : List Placed) → IsOutputOfAll Check empty items []
+no_output : (items : List Placed) → IsOutputOfAll Check (known_first empty) items []
 no_output [] = refl
 no_output (m ∷ items) = ([], [], refl, inr (λ never. never, refl), no_output items)
 

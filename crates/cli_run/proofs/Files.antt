@@ -10,7 +10,7 @@ use Rattle.dbus_capture.specs.PcapFiles.{header_bytes, packet_header_bytes, pack
 use Rattle.dbus_capture.specs.Reading.{IsRead}
 use Rattle.dbus_pcap.specs.Written.{AllFit, CapturedMessage, file_of, messages_bytes, packet_of, written_header}
 use Rattle.dbus_pcap.proofs.WrittenLaws.{written_read}
-use Rattle.dbus_rule_set.specs.Owners.{OwnerSet}
+use Rattle.dbus_names.specs.NameStates.{NameState}
 use Rattle.cli_options.specs.declared.command.Command.{Command}
 use Rattle.cli_options.specs.declared.command.Command.TheVariants.{Show, Json, List as Listing, Check, Swap, Filter}
 use Rattle.cli_options.specs.declared.file_form.FileForm.{FileForm}
@@ -30,7 +30,7 @@ abbrev bytes_of : CapturedMessage → List ℕ
 bytes_of m = m.bytes
 
 -- these are written, and their bytes are what is written raw
-record Made (command : Command) (os : OwnerSet) (items : List Placed) (texts : List (List ℕ)) : Type 0 where
+record Made (command : Command) (os : NameState) (items : List Placed) (texts : List (List ℕ)) : Type 0 where
   messages : List CapturedMessage
   fit : AllFit messages
   texts_are : texts ≡ map frame messages
@@ -40,11 +40,11 @@ module _ (limits : Limits) where
   short : (m : MessageTree) (order : Order) → IsValidMessage limits m → length (message_bytes order m) < 2 ^ 32
   short m order valid = let limit = (valid order).limit in omega (arith, limit, limits.message_in)
 
-  abbrev MadeOne : Command → OwnerSet → Order → MessageTree → MessagePlace → List (List ℕ) → Type 0
+  abbrev MadeOne : Command → NameState → Order → MessageTree → MessagePlace → List (List ℕ) → Type 0
   MadeOne command os order m place texts =
       (messages : List CapturedMessage) × AllFit messages × (texts ≡ map frame messages) × IsOutputOf (raw_of command) os order m place (map bytes_of messages)
 
-  one_made : (command : Command) (os : OwnerSet) (order : Order) (m : MessageTree) (place : MessagePlace) (texts : List (List ℕ)) → form_of command ≡ AsRead → IsValidMessage limits m → place.in_packet ≡ true
+  one_made : (command : Command) (os : NameState) (order : Order) (m : MessageTree) (place : MessagePlace) (texts : List (List ℕ)) → form_of command ≡ AsRead → IsValidMessage limits m → place.in_packet ≡ true
       → IsOutputOf command os order m place texts → MadeOne command os order m place texts
   one_made (Swap wanted AsRead) os order m place texts form valid packet p = elim p [
     | inl met ↦ (
@@ -69,7 +69,7 @@ module _ (limits : Limits) where
   one_made (Listing selection width) os order m place texts form valid packet p = absurd (let e : ◌≡◌ {A = FileForm} Raw AsRead = form in cc)
   one_made Check os order m place texts form valid packet p = absurd (let e : ◌≡◌ {A = FileForm} Raw AsRead = form in cc)
 
-  same_owners : (command : Command) (os : OwnerSet) (m : MessageTree) → owners_after command os m ≡ owners_after (raw_of command) os m
+  same_owners : (command : Command) (os : NameState) (m : MessageTree) → owners_after command os m ≡ owners_after (raw_of command) os m
   same_owners (Swap wanted form) os m = refl
   same_owners (Filter selection form) os m = refl
   same_owners (Show times escapes) os m = refl
@@ -81,12 +81,12 @@ module _ (limits : Limits) where
   fit_both [] b f g = g
   fit_both (m ∷ a) b f g = (f.0, fit_both a b f.1 g)
 
-  all_made : (command : Command) (os : OwnerSet) (items : List Placed) (texts : List (List ℕ)) → form_of command ≡ AsRead → AreCaptured limits items → IsOutputOfAll command os items texts → Made command os items texts
+  all_made : (command : Command) (os : NameState) (items : List Placed) (texts : List (List ℕ)) → form_of command ≡ AsRead → AreCaptured limits items → IsOutputOfAll command os items texts → Made command os items texts
   all_made command os [] texts form captured p = record { messages = []; fit = tt; texts_are = p; raw = refl }
   all_made command os (m ∷ items) texts form captured p =
       let one = one_made command os m.item.order m.item.message m.place p.0 form captured.0 captured.1 p.3 in
       let more = all_made command (owners_after command os m.item.message) items p.1 form captured.2 p.4 in
-      let rest = subst (λ (o : OwnerSet). IsOutputOfAll (raw_of command) o items (map bytes_of more.messages)) (same_owners command os m.item.message) more.raw in
+      let rest = subst (λ (o : NameState). IsOutputOfAll (raw_of command) o items (map bytes_of more.messages)) (same_owners command os m.item.message) more.raw in
       record {
         messages = one.0 ++ more.messages;
         fit = fit_both one.0 more.messages one.1 more.fit;

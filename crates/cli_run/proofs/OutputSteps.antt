@@ -8,7 +8,7 @@ use Rattle.std.proofs.lemmas.List.{length-take-le, take_all}
 use Rattle.dbus_value_model.specs.declared.order.Order.{Order}
 use Rattle.dbus_message_model.specs.Messages.{MessageTree, message_bytes}
 use Rattle.dbus_device.specs.Device.{Wrote}
-use Rattle.dbus_rule_set.specs.Owners.{OwnerSet}
+use Rattle.dbus_names.specs.NameStates.{NameState}
 use Rattle.cli_options.specs.declared.command.Command.{Command}
 use Rattle.cli_options.specs.declared.command.Command.TheVariants.{Check}
 use Rattle.cli_options.specs.declared.window.Window.{Window}
@@ -39,7 +39,7 @@ use Rattle.cli_run.specs.declared.place.MessagePlace.{MessagePlace}
 use Rattle.cli_run.specs.declared.visitor.RunStop.TheVariants.{Untold}
 
 -- what the first writer gets of texts: all of them, since `check` makes none
-first_made : (command : Command) (os : OwnerSet) (order : Order) (m : MessageTree) (place : MessagePlace) (begun : Bool) (window : Window) (texts : List (List ℕ)) → IsOutputOf command os order m place texts
+first_made : (command : Command) (os : NameState) (order : Order) (m : MessageTree) (place : MessagePlace) (begun : Bool) (window : Window) (texts : List (List ℕ)) → IsOutputOf command os order m place texts
     → header_if (begins_file (form_of command) place begun) ++ written window texts ≡ first_of (is_check command) (header_if (begins_file (form_of command) place begun) ++ written window texts) []
 first_made Check os order m place begun window texts made =
     let none : texts ≡ [] = elim made [ inl picked ↦ absurd picked.0 | inr not ↦ not.1 ] in

@@ -13,7 +13,8 @@ use Rattle.dbus_stream.specs.CutEnds.{sizes}
 use Rattle.dbus_show.specs.ShownMessages.{message_text}
 use Rattle.dbus_json.proofs.SomeLines.{some_line_each}
 use Rattle.dbus_list.proofs.SomeLines.{some_line_each as some_listed}
-use Rattle.dbus_rule_set.specs.Owners.{OwnerSet, owners_in}
+use Rattle.dbus_names.specs.NameStates.{NameState}
+use Rattle.dbus_rule_set.specs.Owners.{owners_in}
 use Rattle.cli_options.proofs.Selections.{selected}
 use Rattle.cli_options.specs.declared.command.Command.{Command}
 use Rattle.cli_options.specs.declared.file_form.FileForm.{FileForm}
@@ -29,10 +30,10 @@ use Rattle.cli_run.proofs.PartLaws.{placed_both, some_placed}
 
 -- ---- there is one
 
-picked : (command : Command) (os : OwnerSet) (message : MessageTree) → Picks command os message ⊎ (Picks command os message → ⊥)
+picked : (command : Command) (os : NameState) (message : MessageTree) → Picks command os message ⊎ (Picks command os message → ⊥)
 picked Check os message = inr (λ never. never)
-picked (Listing selection width) os message = selected selection (owners_in os) message
-picked (Filter selection form) os message = selected selection (owners_in os) message
+picked (Listing selection width) os message = selected selection (owners_in os.owners) message
+picked (Filter selection form) os message = selected selection (owners_in os.owners) message
 picked command os message = inl tt
 
 pub some_text : (command : Command) (order : Order) (message : MessageTree) (place : MessagePlace) → (text : List ℕ) × IsTextOf command order message place text
@@ -43,7 +44,7 @@ some_text Check order message place = ([], refl)
 some_text (Swap wanted form) order message place = (framed (is_framed form place) place.time (message_bytes wanted message), refl)
 some_text (Filter selection form) order message place = (framed (is_framed form place) place.time (message_bytes order message), refl)
 
-pub some_of_one : (command : Command) (os : OwnerSet) (order : Order) (message : MessageTree) (place : MessagePlace) → (texts : List (List ℕ)) × IsOutputOf command os order message place texts
+pub some_of_one : (command : Command) (os : NameState) (order : Order) (message : MessageTree) (place : MessagePlace) → (texts : List (List ℕ)) × IsOutputOf command os order message place texts
 some_of_one command os order message place =
     let some = some_text command order message place in
     elim (picked command os message) [
@@ -51,7 +52,7 @@ some_of_one command os order message place =
       | inr n ↦ ([], inr (n, refl))
     ]
 
-some_of_all : (command : Command) (os : OwnerSet) (items : List Placed) → (out : List (List ℕ)) × IsOutputOfAll command os items out
+some_of_all : (command : Command) (os : NameState) (items : List Placed) → (out : List (List ℕ)) × IsOutputOfAll command os items out
 some_of_all command os [] = ([], refl)
 some_of_all command os (m ∷ items) =
     let one = some_of_one command os m.item.order m.item.message m.place in
@@ -65,7 +66,7 @@ some_output packets command items fault packet =
     (whole_output (form_of command) some.0 all.0 ++ last_line command (length items) (sizes items) fault packet, record { messages = some.0; placed = some.1; texts = all.0; each = all.1; joined = refl })
 
 -- of no messages no texts are made
-none_joined : (command : Command) (os : OwnerSet) (items : List Placed) (texts : List (List ℕ)) → IsOutputOfAll command os items texts → items ≡ [] → concat texts ≡ []
+none_joined : (command : Command) (os : NameState) (items : List Placed) (texts : List (List ℕ)) → IsOutputOfAll command os items texts → items ≡ [] → concat texts ≡ []
 none_joined command os items texts made none = ap concat (subst (λ (l : List Placed). IsOutputOfAll command os l texts) none made)
 
 -- a prefix of what is written of the first messages is one of what the first writer gets
@@ -126,7 +127,7 @@ text_one (Swap wanted form) order message place other a b exact number alike p q
 text_one (Filter selection form) order message place other a b exact number alike p q = p ∙ (framed_one form place other (message_bytes order message) alike ∙ sym q)
 text_one Check order message place other a b exact number alike p q = p ∙ sym q
 
-output_one : (command : Command) (os : OwnerSet) (order : Order) (message : MessageTree) (place other : MessagePlace) (a b : List (List ℕ)) → IsExact command → place.number ≡ other.number
+output_one : (command : Command) (os : NameState) (order : Order) (message : MessageTree) (place other : MessagePlace) (a b : List (List ℕ)) → IsExact command → place.number ≡ other.number
     → AreFramedAlike (form_of command) place other → IsOutputOf command os order message place a → IsOutputOf command os order message other b → a ≡ b
 output_one command os order message place other a b exact number alike p q = elim p [
   | inl met ↦ elim q [
@@ -137,7 +138,7 @@ output_one command os order message place other a b exact number alike p q = eli
 ]
 
 -- of the messages of the same parts, whatever their packets are if they do not matter
-pub output_all_one : (packets others : Option Packets) (command : Command) (os : OwnerSet) (n offset : ℕ) (parts : List Part) (items also : List Placed) (a b : List (List ℕ)) → IsExact command
+pub output_all_one : (packets others : Option Packets) (command : Command) (os : NameState) (n offset : ℕ) (parts : List Part) (items also : List Placed) (a b : List (List ℕ)) → IsExact command
     → AreAlike (form_of command) packets others → ArePlaced packets n offset parts items → ArePlaced others n offset parts also → IsOutputOfAll command os items a → IsOutputOfAll command os also b → a ≡ b
 output_all_one packets others command os n offset [] items also a b exact alike p q h k =
     subst (λ (l : List Placed). IsOutputOfAll command os l a) p h ∙ sym (subst (λ (l : List Placed). IsOutputOfAll command os l b) q k)

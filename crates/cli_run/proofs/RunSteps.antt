@@ -2,6 +2,7 @@
 -- parts is said of messages here.
 use Rattle.std.proofs.Common.{◌≡◌, ℕ, zero, ◌+◌, List, [], ◌∷◌, ◌++◌, Bool, false, true, None, Some, Option, length, drop, refl, sym, ap, ◌∙◌, subst, append-nil, append_assoc, inl, inr}
 use Rattle.std.specs.FinSet.{empty}
+use Rattle.dbus_names.specs.NameStates.{known_first}
 use Rattle.std.proofs.Math.Path.{transport}
 use Rattle.std.proofs.lemmas.Bool.{false≢true}
 use Rattle.std.proofs.lemmas.List.{length-map}
@@ -48,7 +49,7 @@ plain asked = record asked { explains = false; keeps_going = false; window = rec
 
 -- `check` makes no texts, and its line goes to the first writer. Of another command the line goes
 -- to the second
-no_texts : (items : List Placed) (texts : List (List ℕ)) → IsOutputOfAll Check empty items texts → texts ≡ []
+no_texts : (items : List Placed) (texts : List (List ℕ)) → IsOutputOfAll Check (known_first empty) items texts → texts ≡ []
 no_texts [] texts made = made
 no_texts (m ∷ items) texts made =
     let none : made.0 ≡ [] = elim made.3 [ inl some ↦ absurd some.0 | inr none ↦ none.1 ] in

@@ -1,7 +1,7 @@
 -- What is made and told of parts that are the same but for what was kept: the messages among them,
 -- the tally, and what is told if nothing is explained; and of the messages the texts that commands
 -- make that are the same, and exact.
-use Rattle.std.proofs.Common.{◌≡◌, ◌↔◌, ℕ, zero, suc, ◌+◌, Bool, true, false, ◌||◌, List, [], ◌∷◌, ◌++◌, drop, map, None, Some, Option, refl, sym, ap, ◌∙◌, subst, arith, inl, inr}
+use Rattle.std.proofs.Common.{◌≡◌, ◌↔◌, if◌then◌else◌, ℕ, zero, suc, ◌+◌, Bool, true, false, ◌||◌, List, [], ◌∷◌, ◌++◌, drop, map, None, Some, Option, refl, sym, ap, ◌∙◌, subst, arith, inl, inr}
 use Rattle.std.specs.FinSet.{from_list}
 use Rattle.std.specs.declared.alloc.Global.{Global}
 use Rattle.dbus_count.specs.Counting.{names_of, with_names}
@@ -16,8 +16,9 @@ use Rattle.dbus_rule.specs.declared.rule.Rule.{Rule}
 use Rattle.dbus_match.specs.Matching.{Matches, Ownership}
 use Rattle.dbus_rule.specs.Rules.{sender_of, Pair}
 use Rattle.dbus_rule.specs.RuleViews.{rule_pairs}
-use Rattle.dbus_rule_set.specs.Owners.{OwnerSet, owners_in}
-use Rattle.dbus_calls.specs.OwnerChanges.{Change, change_of, is_text, name_of}
+use Rattle.dbus_names.specs.NameStates.{NameState, known_after as names_after, known_first}
+use Rattle.dbus_rule_set.specs.Owners.{owners_in}
+use Rattle.dbus_calls.specs.OwnerChanges.{is_text}
 use Rattle.dbus_list.specs.Lines.{IsLine}
 use Rattle.cli_options.specs.Selections.{AreSameCommand, AreSameSelection, OrInverted, SelectsBy, SomeMatches}
 use Rattle.cli_options.specs.declared.command.Command.{Command}
@@ -28,7 +29,7 @@ use Rattle.cli_options.specs.declared.settings.Settings.{Settings}
 use Rattle.cli_report.specs.Telling.{IsToldBy, line_of}
 use Rattle.cli_report.specs.declared.telling.RefusedMessage.{RefusedMessage}
 use Rattle.cli_report.specs.declared.ending.ExitStatus.TheVariants as status
-use Rattle.cli_run.specs.Learning.{ask_sender, changed, known_after}
+use Rattle.cli_run.specs.Learning.{ask_sender, known_after}
 use Rattle.cli_run.specs.ByName.{after_messages}
 use Rattle.cli_run.specs.Inputs.{ArePlaced, BeginWithParts, Part, PassedOver, Placed, Whole}
 use Rattle.cli_run.specs.Output.{AreAlike, IsExact, form_of, framed, is_framed, IsOutputOf, IsOutputOfAll, IsTextOf, Picks, is_check, line_place, owners_after, owners_known}
@@ -170,10 +171,10 @@ same_selects a b os m h s =
     subst (λ c. OrInverted c (SomeMatches b.rules.items m os)) h.inverted
     (inverted_both a.is_inverted _ _ (same_some a.rules.items b.rules.items m os h.rules) (same_some b.rules.items a.rules.items m os (sym h.rules)) s)
 
-same_picks : (a b : Selection) → AreSameSelection a b → (os : OwnerSet) (m : MessageTree) → SelectsBy a (owners_in os) m ↔ SelectsBy b (owners_in os) m
+same_picks : (a b : Selection) → AreSameSelection a b → (os : NameState) (m : MessageTree) → SelectsBy a (owners_in os.owners) m ↔ SelectsBy b (owners_in os.owners) m
 same_picks a b s os m =
     let back : AreSameSelection b a = record { rules = sym s.rules; inverted = sym s.inverted; owners = sym s.owners; learns = sym s.learns } in
-    (same_selects a b (owners_in os) m s, same_selects b a (owners_in os) m back)
+    (same_selects a b (owners_in os.owners) m s, same_selects b a (owners_in os.owners) m back)
 
 same_asks : (rules others : List (Rule Global)) (name : List ℕ) → map rule_pairs rules ≡ map rule_pairs others → ask_sender rules name ≡ ask_sender others name
 same_asks [] [] name e = refl
@@ -185,12 +186,8 @@ same_asks (r ∷ rules) (s ∷ others) name e =
     let rest = same_asks rules others name more in
     λ i. is_text (sender_of (one i)) name || rest i
 
-same_changed : (rules others : List (Rule Global)) (change : Option Change) (os : OwnerSet) → map rule_pairs rules ≡ map rule_pairs others → changed rules change os ≡ changed others change os
-same_changed rules others None os e = refl
-same_changed rules others (Some change) os e = rw (same_asks rules others (name_of change) e) refl
-
-same_after : (a b : Selection) (os : OwnerSet) (m : MessageTree) → AreSameSelection a b → known_after a os m ≡ known_after b os m
-same_after a b os m h = rw (h.learns, same_changed a.rules.items b.rules.items (change_of m) os h.rules) refl
+same_after : (a b : Selection) (state : NameState) (m : MessageTree) → AreSameSelection a b → known_after a state m ≡ known_after b state m
+same_after a b state m h = λ i. if h.learns i then names_after (λ name. same_asks a.rules.items b.rules.items name h.rules i) state m else state
 
 -- ---- a command that is the same acts the same
 
@@ -198,10 +195,10 @@ pub record ActsAs (a b : Command) : Type 0 where
   pub checks : is_check a ≡ is_check b
   pub form : form_of a ≡ form_of b
   pub exact : IsExact a → IsExact b
-  pub picks : (os : OwnerSet) (m : MessageTree) → Picks a os m ↔ Picks b os m
+  pub picks : (os : NameState) (m : MessageTree) → Picks a os m ↔ Picks b os m
   pub texts : (order : Order) (m : MessageTree) (place : MessagePlace) (text : List ℕ) → IsTextOf a order m place text → IsTextOf b order m place text
   pub known : owners_known a None ≡ owners_known b None
-  pub learned : (os : OwnerSet) (m : MessageTree) → owners_after a os m ≡ owners_after b os m
+  pub learned : (os : NameState) (m : MessageTree) → owners_after a os m ≡ owners_after b os m
 
 itself : (a : Command) → ActsAs a a
 itself a = record { checks = refl; form = refl; exact = λ e. e; picks = λ os m. (λ p. p, λ p. p); texts = λ order m place text t. t; known = refl; learned = λ os m. refl }
@@ -215,7 +212,7 @@ acts_as (Listing x v) (Listing y w) h = record {
   exact = λ e. e;
   picks = same_picks x y h.0;
   texts = λ order m place text t. subst (λ (n : ℕ). IsLine n (line_place place) order m text) h.1 t;
-  known = ap from_list h.0.owners;
+  known = ap (λ (owners : List Ownership). known_first (from_list owners)) h.0.owners;
   learned = λ os m. same_after x y os m h.0;
 }
 acts_as Check Check h = itself Check
@@ -228,23 +225,23 @@ acts_as (Filter x f) (Filter y g) h =
       exact = λ e. e;
       picks = same_picks x y s;
       texts = λ order m place text t. subst (λ (o : FileForm). text ≡ framed (is_framed o place) place.time (message_bytes order m)) h.1 t;
-      known = ap from_list s.owners;
+      known = ap (λ (owners : List Ownership). known_first (from_list owners)) s.owners;
       learned = λ os m. same_after x y os m s;
     }
 acts_as a b h = absurd h
 
 module _ (a b : Command) (h : ActsAs a b) where
-  made_too : (os : OwnerSet) (items : List Placed) (texts : List (List ℕ)) → IsOutputOfAll a os items texts → IsOutputOfAll b os items texts
+  made_too : (os : NameState) (items : List Placed) (texts : List (List ℕ)) → IsOutputOfAll a os items texts → IsOutputOfAll b os items texts
   made_too os [] texts p = p
   made_too os (m ∷ items) texts p =
       let one : IsOutputOf b os m.item.order m.item.message m.place p.0 = elim p.3 [
         | inl met ↦ inl ((h.picks os m.item.message).0 met.0, met.1, h.texts m.item.order m.item.message m.place met.1 met.2, met.3)
         | inr unmet ↦ inr (λ k. unmet.0 ((h.picks os m.item.message).1 k), unmet.1)
       ] in
-      (p.0, p.1, p.2, one, subst (λ (l : OwnerSet). IsOutputOfAll b l items p.1) (h.learned os m.item.message) (made_too (owners_after a os m.item.message) items p.1 p.4))
+      (p.0, p.1, p.2, one, subst (λ (l : NameState). IsOutputOfAll b l items p.1) (h.learned os m.item.message) (made_too (owners_after a os m.item.message) items p.1 p.4))
 
   pub same_outputs : IsExact a → (packets others : Option Packets) → AreAlike (form_of a) packets others → (parts : List Part) (items also : List Placed) (x y : List (List ℕ)) → ArePlaced packets 1 0 parts items → ArePlaced others 1 0 parts also
       → IsOutputOfAll a (owners_known a None) items x → IsOutputOfAll b (owners_known b None) also y → x ≡ y
   same_outputs exact packets others alike parts items also x y here there p q =
       output_all_one packets others b (owners_known b None) 1 0 parts items also x y (h.exact exact) (subst (λ (f : FileForm). AreAlike f packets others) h.form alike) here there
-      (subst (λ (l : OwnerSet). IsOutputOfAll b l items x) h.known (made_too (owners_known a None) items x p)) q
+      (subst (λ (l : NameState). IsOutputOfAll b l items x) h.known (made_too (owners_known a None) items x p)) q

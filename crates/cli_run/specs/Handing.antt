@@ -9,7 +9,7 @@ use Rattle.dbus_stream.specs.RawReading.{Reads, Advances, ReadsNothing, done_of,
 use Rattle.dbus_stream.specs.declared.raw_reader.RawReader.{RawReader}
 use Rattle.dbus_json.specs.JsonMessages.{IsJsonLine}
 use Rattle.dbus_list.specs.Lines.{IsLine}
-use Rattle.dbus_rule_set.specs.Owners.{OwnerSet}
+use Rattle.dbus_names.specs.declared.names.Names.{Names}
 use Rattle.cli_options.specs.declared.command.Command.{Command}
 use Rattle.cli_report.specs.Devices.{Writing}
 use Rattle.cli_run.specs.Output.{after, begins_file, form_of, framed, header_if, is_framed, written, IsOutputOf, IsTextOf, line_place, Picks, owners_after, owners_known}
@@ -54,9 +54,9 @@ abbrev pub WritesOne : {W : Type 0} → Writing W → Command → (begun : Bool)
 WritesOne w command begun order message place g0 g1 result =
     (text : List ℕ) × IsTextOf command order message place text × GathersOrNot w.held w.failures (header_if (begins_file (form_of command) place begun) ++ text) g0 g1 w.old w.new result
 
--- whether the command makes a text of a message, and the owners that it has learned before and
--- after it
-pub record IsPicked (command : Command) (message : MessageTree) (old new : Option OwnerSet) (picked : Bool) : Type 0 where
+-- whether the command makes a text of a message, and what it has learned of the owners of names
+-- before and after it
+pub record IsPicked (command : Command) (message : MessageTree) (old new : Option Names) (picked : Bool) : Type 0 where
   pub picks : IsTrue picked ↔ Picks command (owners_known command old) message
   pub owners : owners_known command new ≡ owners_after command (owners_known command old) message
 

@@ -11,7 +11,7 @@ use Rattle.cli_options.specs.declared.file_form.FileForm.TheVariants.{AsRead, Ra
 use Rattle.cli_options.specs.declared.window.Window.{Window}
 use Rattle.dbus_capture.specs.Reading.{IsRead}
 use Rattle.dbus_message_model.specs.Messages.{IsValidMessage}
-use Rattle.dbus_rule_set.specs.Owners.{OwnerSet}
+use Rattle.dbus_names.specs.NameStates.{NameState}
 use Rattle.cli_options.specs.declared.settings.Settings.{Settings}
 use Rattle.cli_report.specs.Devices.{reading, writing, Reading, Writing}
 use Rattle.cli_report.specs.declared.ending.ExitStatus.{ExitStatus}
@@ -73,7 +73,7 @@ AreCaptured limits (m ∷ items) = IsValidMessage limits m.item.message × (m.pl
 -- writes, within any window, a file that a capture reads whole: what it gives is what the command
 -- writes of them raw
 abbrev pub WritesFile : Type 0
-WritesFile = (limits : Limits) (command : Command) (os : OwnerSet) (window : Window) (m : Placed) (items : List Placed) (texts : List (List ℕ))
+WritesFile = (limits : Limits) (command : Command) (os : NameState) (window : Window) (m : Placed) (items : List Placed) (texts : List (List ℕ))
     → form_of command ≡ AsRead → AreCaptured limits (m ∷ items) → IsOutputOfAll command os (m ∷ items) texts
     → (raw : List (List ℕ)) × IsOutputOfAll (raw_of command) os (m ∷ items) raw
     × ((passes_cut : Bool) → IsRead passes_cut (output_of AsRead false window (m ∷ items) texts) (output_of Raw false window (m ∷ items) raw))

@@ -17,7 +17,9 @@ use Rattle.dbus_json.specs.JsonMessages.{IsJsonLine}
 use Rattle.dbus_json.specs.Times.{seconds_text}
 use Rattle.dbus_json.specs.declared.place.LinePlace.{LinePlace}
 use Rattle.dbus_list.specs.Lines.{IsLine}
-use Rattle.dbus_rule_set.specs.Owners.{OwnerSet, owners_in}
+use Rattle.dbus_names.specs.NameStates.{NameState, known_first}
+use Rattle.dbus_names.specs.declared.names.Names.{Names}
+use Rattle.dbus_rule_set.specs.Owners.{owners_in}
 use Rattle.cli_options.specs.Selections.{SelectsBy}
 use Rattle.cli_options.specs.declared.file_form.FileForm.{FileForm}
 use Rattle.cli_options.specs.declared.file_form.FileForm.TheVariants.{AsRead, Raw}
@@ -50,28 +52,28 @@ abbrev pub is_check : Command → Bool
 is_check Check = true
 is_check command = false
 
--- the owners of names that a command knows: its own, or those that it has learned since
-abbrev pub owners_known : Command → Option OwnerSet → OwnerSet
+-- what a command knows of the owners of names: of its own, or what it has learned since
+abbrev pub owners_known : Command → Option Names → NameState
 owners_known (Listing selection width) learned = known selection learned
 owners_known (Filter selection form) learned = known selection learned
-owners_known command learned = empty
+owners_known command learned = known_first empty
 
--- the owners that it knows after a message, if it knew these before
-abbrev pub owners_after : Command → OwnerSet → MessageTree → OwnerSet
+-- what it knows after a message, if it knew this before
+abbrev pub owners_after : Command → NameState → MessageTree → NameState
 owners_after (Listing selection width) os message = known_after selection os message
 owners_after (Filter selection form) os message = known_after selection os message
 owners_after command os message = os
 
--- the owners that a command knows after messages, if it knew these before
-abbrev pub owners_after_all : Command → OwnerSet → List Placed → OwnerSet
+-- what a command knows after messages, if it knew this before
+abbrev pub owners_after_all : Command → NameState → List Placed → NameState
 owners_after_all command os [] = os
 owners_after_all command os (m ∷ items) = owners_after_all command (owners_after command os m.item.message) items
 
--- a command makes a text of the message, if it knows these owners
-abbrev pub Picks : Command → OwnerSet → MessageTree → Type 0
+-- a command makes a text of the message, if it knows this
+abbrev pub Picks : Command → NameState → MessageTree → Type 0
 Picks Check os message = ⊥
-Picks (Listing selection width) os message = SelectsBy selection (owners_in os) message
-Picks (Filter selection form) os message = SelectsBy selection (owners_in os) message
+Picks (Listing selection width) os message = SelectsBy selection (owners_in os.owners) message
+Picks (Filter selection form) os message = SelectsBy selection (owners_in os.owners) message
 Picks command os message = Unit {0}
 
 -- the time of a message, if times are wanted
@@ -150,13 +152,13 @@ IsTextOf (Swap wanted form) order message place text = text ≡ framed (is_frame
 IsTextOf (Filter selection form) order message place text = text ≡ framed (is_framed form place) place.time (message_bytes order message)
 
 -- the texts that it makes of one message: one if it picks it, else none
-abbrev pub IsOutputOf : Command → OwnerSet → Order → MessageTree → MessagePlace → List (List ℕ) → Type 0
+abbrev pub IsOutputOf : Command → NameState → Order → MessageTree → MessagePlace → List (List ℕ) → Type 0
 IsOutputOf command os order message place texts =
     (Picks command os message × (text : List ℕ) × IsTextOf command order message place text × (texts ≡ text ∷ []))
     ⊎ ((Picks command os message → ⊥) × (texts ≡ []))
 
--- those that it makes of several, one after the other, if it knows these owners before
-abbrev pub IsOutputOfAll : Command → OwnerSet → List Placed → List (List ℕ) → Type 0
+-- those that it makes of several, one after the other, if it knows this before
+abbrev pub IsOutputOfAll : Command → NameState → List Placed → List (List ℕ) → Type 0
 IsOutputOfAll command os [] texts = texts ≡ []
 IsOutputOfAll command os (m ∷ items) texts = (one : List (List ℕ)) × (more : List (List ℕ)) × (texts ≡ one ++ more)
     × IsOutputOf command os m.item.order m.item.message m.place one × IsOutputOfAll command (owners_after command os m.item.message) items more

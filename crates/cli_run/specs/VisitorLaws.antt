@@ -21,7 +21,7 @@ use Rattle.dbus_count.specs.declared.span.Span.{Span}
 use Rattle.cli_run.specs.ByName.{CountsMessages, LeavesCounted, after_messages, times_of}
 use Rattle.cli_run.specs.Inputs.{Placed}
 use Rattle.cli_run.specs.Visiting.{AddsUp}
-use Rattle.dbus_rule_set.specs.Owners.{OwnerSet}
+use Rattle.dbus_names.specs.NameStates.{NameState}
 use Rattle.cli_options.specs.declared.command.Command.{Command}
 use Rattle.cli_options.specs.declared.file_form.FileForm.{FileForm}
 use Rattle.cli_report.specs.Gathering.{Leaves, Passes, gathered_bytes}
@@ -167,14 +167,14 @@ module _ {E : Type 0} (held : E → Option (List ℕ)) (failures : E → ℕ) wh
 -- ---- what writes an output, and what a command makes of messages after others
 
 -- messages after others
-pub output_both : (command : Command) (os : OwnerSet) (items more : List Placed) (a b : List (List ℕ)) → IsOutputOfAll command os items a
+pub output_both : (command : Command) (os : NameState) (items more : List Placed) (a b : List (List ℕ)) → IsOutputOfAll command os items a
     → IsOutputOfAll command (owners_after_all command os items) more b → IsOutputOfAll command os (items ++ more) (a ++ b)
 output_both command os [] more a b p q = subst (λ l. IsOutputOfAll command os more (l ++ b)) (sym p) q
 output_both command os (m ∷ items) more a b p q =
     (p.0, p.1 ++ b, ap (λ l. l ++ b) p.2 ∙ append_assoc p.0 p.1 b, p.3, output_both command (owners_after command os m.item.message) items more p.1 b p.4 q)
 
 -- the owners after messages, and after others
-after_all_both : (command : Command) (os : OwnerSet) (items more : List Placed)
+after_all_both : (command : Command) (os : NameState) (items more : List Placed)
     → owners_after_all command os (items ++ more) ≡ owners_after_all command (owners_after_all command os items) more
 after_all_both command os [] more = refl
 after_all_both command os (m ∷ items) more = after_all_both command (owners_after command os m.item.message) items more
@@ -202,7 +202,7 @@ begun_both begun (m ∷ items) [] = refl
 begun_both begun (m ∷ items) (l ∷ more) = refl
 
 -- of no messages no texts are made
-pub none_written : (command : Command) (os : OwnerSet) (window : Window) (items : List Placed) (texts : List (List ℕ)) → IsOutputOfAll command os items texts → items ≡ [] → written window texts ≡ []
+pub none_written : (command : Command) (os : NameState) (window : Window) (items : List Placed) (texts : List (List ℕ)) → IsOutputOfAll command os items texts → items ≡ [] → written window texts ≡ []
 none_written command os window items texts made none = ap (λ t. written window t) (subst (λ (l : List Placed). IsOutputOfAll command os l texts) none made) ∙ written_none window
 
 -- what the first writer gets of more
@@ -232,7 +232,7 @@ module _ {A W E : Type 0} (held : W → Option (List ℕ)) (failures : W → ℕ
     abbrev own : Command
     own = command_of a.output
 
-    abbrev os : OwnerSet
+    abbrev os : NameState
     os = owners_known own a.carried.owners
 
     -- what the first writer gets of these texts and those that are made from where they leave off
@@ -269,7 +269,7 @@ module _ {A W E : Type 0} (held : W → Option (List ℕ)) (failures : W → ℕ
           made = made_both k.texts k.made;
           begun = k.begun ∙ (ap (λ x. begun_after x t) h.begun ∙ begun_both a.carried.begun s t);
           window = k.window ∙ after_more a.carried.window b.carried.window h.texts k.texts h.window;
-          owners = owners ∙ (ap (λ (l : OwnerSet). owners_after_all own l t) h.owners ∙ sym (after_all_both own os s t));
+          owners = owners ∙ (ap (λ (l : NameState). owners_after_all own l t) h.owners ∙ sym (after_all_both own os s t));
           passes = transport (λ i. Passes held failures (first_more k.texts i) (gathered_bytes a.gathered) (gathered_bytes c.gathered) a.first.now c.first.now)
               (passes_both held failures _ _ (gathered_bytes a.gathered) (gathered_bytes b.gathered) (gathered_bytes c.gathered) a.first.now b.first.now c.first.now h.passes passes);
           tells = transport (λ i. Wrote second_held second_failures a.second.now (second_both (is_check own) p q i) c.second.now)

@@ -1,65 +1,49 @@
-//! The owners of names that a stream itself tells.
+//! The owners of names that the messages of an input tell.
 ghost use Rattle.std.specs.Prelude.{◌≡◌, OnOk, option_map};
 ghost use Rattle.dbus_value_model.specs.declared.order.Order.{Order};
 ghost use Rattle.dbus_message_model.specs.Messages.{MessageTree};
 ghost use Rattle.dbus_view.specs.Views.{Views};
 ghost use Rattle.dbus_calls.specs.OwnerChanges.{is_text};
-ghost use Rattle.dbus_calls.specs.Changes.{change_seen};
-ghost use Rattle.cli_run.specs.Learning.{ask_sender, known_after, owners_by};
+ghost use Rattle.dbus_names.specs.Kept.{state_of};
+ghost use Rattle.cli_run.specs.Learning.{ask_sender, known_after};
 
 use cli_options::Selection;
-use dbus_calls::{OwnerChange, owner_change};
 use dbus_match::Rule;
-use dbus_rule_set::Owners;
+use dbus_names::{NameFilter, Names};
 use dbus_view::MessageView;
 use std::alloc::AllocError;
 
-/// If the selection learns, learns who has a name that a rule's `sender` is from a signal
-/// `NameOwnerChanged`, `NameAcquired` or `NameLost` of the bus. D-Bus Specification, "Message Bus
-/// Messages".
+/// If the selection learns, learns from the message who has a name that a rule's `sender` is. D-Bus
+/// Specification, "Message Bus Names".
 pub(crate) fn learn(
     selection: &Selection,
     view: &MessageView,
-    owners: &mut Owners,
+    names: &mut Names,
 ) -> Result<(), AllocError>
     ensures { (order : Order) (m : MessageTree) → Views view.now order m →
-        OnOk result (owners.new ≡ known_after selection.now owners.old m) }
+        OnOk result (state_of names.new ≡ known_after selection.now (state_of names.old) m) }
 {
     if !selection.learns {
         return Ok(());
     }
-    let Some(change) = owner_change(view) else {
-        return Ok(());
+    let asked = AskedNames {
+        rules: &selection.rules,
     };
-    // So no more names are kept than the rules have.
-    if !ask_sender(&selection.rules, change.name()) {
-        return Ok(());
-    }
-    note(change, owners)
+    names.take(view, &asked)
 }
 
-// Changes the owners by what is said of one.
-fn note(change: OwnerChange<'_>, owners: &mut Owners) -> Result<(), AllocError>
-    ensures { OnOk result (owners.new ≡ owners_by (change_seen change.entry) owners.old) }
-{
-    match change {
-        OwnerChange::Owned(owner) => owners.set(owner.name, owner.unique),
-        OwnerChange::Free(name) => {
-            owners.remove(name);
-            Ok(())
-        }
-        OwnerChange::Lost(owner) => {
-            owners.lose(owner.name, owner.unique);
-            Ok(())
-        }
-    }
+// The names that a rule's `sender` is: so no more are kept than the rules have.
+#[derive(Clone, Copy, Drop)]
+struct AskedNames<'a> {
+    rules: &'a [Rule],
 }
 
-// Whether one of the rules asks for messages from this name.
-fn ask_sender(rules: &[Rule], name: &str) -> bool
-    ensures { result ≡ ask_sender rules.now name.now }
-{
-    rules.iter().any(|rule| is_text(rule.sender(), name))
+impl<'a> NameFilter for AskedNames<'a> {
+    ghost wanted = { λ asked. ask_sender asked.rules.now };
+
+    fn wants(&self, name: &str) -> bool {
+        self.rules.iter().any(|rule| is_text(rule.sender(), name))
+    }
 }
 
 // Whether the text is there, and it is this.

@@ -18,7 +18,7 @@ use crate::swapping::swap;
 use crate::window::lets_through;
 use cli_options::{Command, FileForm};
 use cli_report::{Cause, OutputBuffer};
-use dbus_rule_set::Owners;
+use dbus_names::Names;
 use dbus_stream::Sink;
 use dbus_value_model::Order;
 use std::alloc::{AllocError, Allocator};
@@ -91,7 +91,7 @@ fn form_of(output: &Output) -> FileForm
 }
 
 // Whether the command makes a text of the message. It learns from the message after that.
-fn picks(output: &Output, lent: &Lent, owners: &mut Option<Owners>) -> Result<bool, AllocError>
+fn picks(output: &Output, lent: &Lent, owners: &mut Option<Names>) -> Result<bool, AllocError>
     requires { IsValidatedWhole lent.now.limits lent.now.bytes.now lent.now.validated }
     ensures { (order : Order) (m : MessageTree) →
         IsWhole lent.now.limits lent.now.bytes.now order m (length lent.now.bytes.now) →

@@ -3,7 +3,7 @@ ghost use Rattle.std.specs.Prelude.{◌≡◌};
 ghost use Rattle.cli_run.specs.Output.{told_place};
 
 use cli_options::Window;
-use dbus_rule_set::Owners;
+use dbus_names::Names;
 use dbus_validate::Validated;
 use dbus_value_model::Limits;
 
@@ -40,9 +40,9 @@ pub(crate) struct Carried {
     pub(crate) window: Window,
     /// Whether a message was looked at.
     pub(crate) begun: bool,
-    /// The owners of names that are known, once a message was looked at. Before, they are those of
-    /// the command.
-    pub(crate) owners: Option<Owners>,
+    /// What is known of the owners of names, once a message was looked at. Before, it is what the
+    /// command says.
+    pub(crate) owners: Option<Names>,
 }
 
 /// A message of an input.

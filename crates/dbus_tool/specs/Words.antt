@@ -81,7 +81,7 @@ DoesBy r w e settings (ListAll wanted) end = ListsCalls r w e settings (calls_wa
 
 -- what is said of a rule whose sender has no owner
 abbrev pub owner_note : List ℕ
-owner_note = codes "note: no owner is known for a rule's sender; --owner NAME=UNIQUE gives one, and --learn-owners takes them from the bus's signals\n"
+owner_note = codes "note: no owner is known for a rule's sender; --owner NAME=UNIQUE gives one, and --learn-owners takes them from the input\n"
 
 -- it was written, if it is due, or a write of it failed
 abbrev pub Notes : {E : Type 0} → (E → Option (List ℕ)) → (E → ℕ) → (is_due : Bool) → E → E → Result (Unit {0}) WrittenOnly → Type 0

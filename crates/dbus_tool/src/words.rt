@@ -20,7 +20,7 @@ use std::alloc::Global;
 
 // What is said of a rule whose sender has no owner.
 const OWNER_NOTE: &str =
-    "note: no owner is known for a rule's sender; --owner NAME=UNIQUE gives one, and --learn-owners takes them from the bus's signals\n";
+    "note: no owner is known for a rule's sender; --owner NAME=UNIQUE gives one, and --learn-owners takes them from the input\n";
 
 /// Does what [`run_with`] does for the command that the words name, of which the first is the
 /// program's name, by the settings that they name and with at most 2^32 reads. If the words ask for

@@ -1,6 +1,6 @@
 use Rattle.std.proofs.Common.{ℕ, Bool, Option, Result, Ok, Err, IfOk}
 use Rattle.dbus_message_model.specs.Messages.{MessageTree}
-use Rattle.dbus_rule_set.specs.Owners.{OwnerSet}
+use Rattle.dbus_names.specs.declared.names.Names.{Names}
 use Rattle.cli_options.specs.declared.command.Command.TheVariants.{List as Listing, Filter}
 use Rattle.cli_options.specs.declared.file_form.FileForm.{FileForm}
 use Rattle.cli_options.specs.declared.selection.Selection.{Selection}
@@ -9,7 +9,7 @@ use Rattle.cli_run.specs.Learning.{IsSelected}
 use Rattle.cli_run.proofs.output.picks.Goals as goal
 
 -- a message that is selected is picked
-module _ {E : Type 0} (selection : Selection) (m : MessageTree) (old new : Option OwnerSet) where
+module _ {E : Type 0} (selection : Selection) (m : MessageTree) (old new : Option Names) where
   listed : (width : ℕ) (result : Result Bool E) → IfOk result (IsSelected selection m old new) → IfOk result (IsPicked (Listing selection width) m old new)
   listed width (Ok b) is = record { picks = is.selects; owners = is.owners }
   listed width (Err e) is = tt
