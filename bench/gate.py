@@ -80,6 +80,13 @@ def compare_lines(copy, program):
     return is_well
 
 
+def save_messages(copy, program):
+    """Whether a changed byte of a message loses that message at most."""
+    is_well = program.exists() and run_in(copy, "cases/damaged.py", str(program))[0] == 0
+    print(f"{program.name}: {'no other message lost' if is_well else 'messages lost, or it is not there'}", flush=True)
+    return is_well
+
+
 def main(*words):
     if words not in ((), ("--all",)):
         print(__doc__, file=sys.stderr)
@@ -95,6 +102,7 @@ def main(*words):
         answered += [make(program, run) for name, run in stored_runs() for program in built(copy, name)]
         answered += [read_captures(copy, program) for program in built(copy, "dbus_wire")]
         answered += [compare_lines(copy, program) for program in built(copy, "dbus_wire")]
+        answered += [save_messages(copy, program) for program in built(copy, "dbus_wire")]
         missed = rounds.missed()
     passed += answered.count(True) + len(edits) - missed
     failed += answered.count(False) + missed

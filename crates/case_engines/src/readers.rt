@@ -8,7 +8,7 @@ use case_questions::{Memory, Question, Reply, named};
 use dbus_device::Source;
 use dbus_handshake_input::{ReadAhead, Side, pass_handshake};
 use dbus_message::encode;
-use dbus_stream::{CheckReader, MOST_READS, MessageReader, RawReader, ReadFault};
+use dbus_stream::{CheckReader, MOST_READS, MessageReader, Passed, RawReader, ReadFault};
 use std::alloc::Allocator;
 use std::cell::Cell;
 
@@ -78,11 +78,10 @@ impl<A: Allocator + Copy, S: Source> Reader<A> for RawReader<S, A> {
                 return Ok(());
             }
             Call::Pass => {
-                let is_passed = self.pass_over()?;
-                reply.word(if is_passed {
-                    "passed"
-                } else {
-                    "nothing passed"
+                reply.word(match self.pass_over()? {
+                    Passed::Over => "passed",
+                    Passed::CutOff => "cut off",
+                    Passed::Not => "nothing passed",
                 });
                 return Ok(());
             }

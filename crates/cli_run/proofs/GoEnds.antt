@@ -1,6 +1,6 @@
 -- How a turn of a run that passes over refused messages ends: the input ends, or a message is
 -- refused; and how the run ends then, by its last line.
-use Rattle.std.proofs.Common.{◌≡◌, ℕ, ◌+◌, ◌-◌, ◌<◌, List, [], ◌∷◌, ◌++◌, Bool, true, false, Option, None, Some, Result, Ok, Err, length, refl, sym, ap, ◌∙◌, subst, arith, inl, inr, append_assoc, append-nil, length-append}
+use Rattle.std.proofs.Common.{◌≡◌, ℕ, ◌+◌, ◌-◌, ◌<◌, ◌≤◌, List, [], ◌∷◌, ◌++◌, Bool, true, false, Option, None, Some, Result, Ok, Err, length, refl, sym, ap, ◌∙◌, subst, arith, inl, inr, append_assoc, append-nil, length-append}
 use Rattle.std.proofs.Math.Path.{transport}
 use Rattle.std.specs.Io.KnownBytes.{IsAtEnd}
 use Rattle.std.proofs.KnownBytes.{Consumes-trans}
@@ -8,20 +8,23 @@ use Rattle.std.proofs.lemmas.Bool.{false≢true}
 use Rattle.dbus_value_model.specs.declared.fault.Fault.{Fault}
 use Rattle.dbus_value_model.specs.declared.limits.Limits.{Limits}
 use Rattle.dbus_header.specs.MessageOutcomes.{IsRefused, IsPartial}
-use Rattle.dbus_header.specs.StatedLengths.{StatesLength}
-use Rattle.dbus_header.proofs.OutcomeLaws.{one_outcome, nothing_partial}
+use Rattle.dbus_header.proofs.OutcomeLaws.{nothing_partial}
 use Rattle.dbus_device.specs.Device.{one_more}
 use Rattle.dbus_stream.specs.Cut.{CutOutcome, Ended, Refused, IsOutcome}
 use Rattle.dbus_stream.specs.CutEnds.{fault_at_end}
 use Rattle.dbus_stream.specs.Gathering.{gathering}
 use Rattle.dbus_stream.specs.Lasting.{is_truncated}
 use Rattle.dbus_stream.specs.Next.{DeviceCounts}
-use Rattle.dbus_stream.specs.Passing.{Passing, ReadsUpTo, IsDue, IsRefusal, StatesAll, FallsShort, PassesOver}
+use Rattle.dbus_stream.specs.Passing.{IsRefusal, PassAnswers, Passing, ReadsOn, WasDropped}
 use Rattle.dbus_stream.specs.RawReading.{done_of, is_ended, kept, limits_of, most_reads_of, source_of, stopped_of}
+use Rattle.dbus_stream.specs.StatedSizes.{StatesNone, StatesSize, WantsMore}
+use Rattle.dbus_stream.specs.declared.passed.Passed.{Passed}
+use Rattle.dbus_stream.specs.declared.passed.Passed.TheVariants.{Over, CutOff, Not}
 use Rattle.dbus_stream.specs.declared.raw_reader.RawReader.{RawReader}
 use Rattle.dbus_stream.specs.declared.read_fault.ReadFault.{ReadFault}
 use Rattle.dbus_stream.specs.declared.read_fault.ReadFault.TheVariants as read
 use Rattle.dbus_stream.proofs.FaultPackets.{refused_later}
+use Rattle.dbus_stream.proofs.SizeSteps.{size_some}
 use Rattle.cli_run.specs.Going.{Closes, IsAllOf, PassesAll, cause_of, AreTold, HasLastLine, IsTold, IsToldRefused, closing_line, cut_tally, passed_count, passed_sizes, tally_with}
 use Rattle.cli_run.specs.Inputs.{BeginWithParts, IsCutOff, IsLast, IsTellable, PassedOver, Placed, sizes_of}
 use Rattle.cli_run.specs.Onward.{HasRead, stop_of}
@@ -36,7 +39,7 @@ use Rattle.cli_run.specs.declared.visitor.RunStop.{RunStop}
 use Rattle.cli_run.specs.declared.visitor.RunStop.TheVariants.{Cause as ByCause, Untold}
 use Rattle.cli_run.proofs.PartLaws.{parts_more, placed_past, sizes-both, passed-both, passed_sizes-both}
 use Rattle.cli_run.proofs.ReadSteps.{read_none, read_on}
-use Rattle.cli_run.proofs.GoSteps.{Begun, HasCovered, HasEnded, HasGone, HasReached, refused_is, none_is, covers_read, covers, packets_of, Took, Within, Through, Stopped, More, stops_plain, all_called}
+use Rattle.cli_run.proofs.GoSteps.{fresh, Begun, HasCovered, HasEnded, HasGone, HasReached, refused_is, none_is, covers_read, covers, packets_of, Took, Within, Through, Stopped, More, stops_plain, all_called}
 
 module _ {R A S : Type 0} {takes : S → S → List Placed → (told : List ℕ) → Type 0} {leaves : S → S → List Placed → (told : List ℕ) → RunStop → Type 0} {settled : S → Type 0} (laws : AddsUp takes leaves settled)
     {run : Begun R A S} {mid : RawReader R A} {counted : Counted} {tally : Tally} {s1 : S} (h : HasReached run takes mid counted tally s1) where
@@ -110,13 +113,13 @@ module _ {R A S : Type 0} {takes : S → S → List Placed → (told : List ℕ)
 
     -- why nothing follows if nothing was passed over
     last_is : (outcome : CutOutcome) → Some fault ≡ fault_at_end (kept mid) outcome → (((f : Fault) → outcome ≡ Refused f → ⊥) → IsAtEnd (run.left (source_of mid)))
-        → (run.settings.keeps_going ≡ true → (other : Fault) (n : ℕ) → IsRefusal (stopped_of mid) other → StatesAll (limits_of mid) (kept mid) n → ⊥)
+        → (run.settings.keeps_going ≡ true → (other : Fault) → IsRefusal (stopped_of mid) other → StatesNone (limits_of mid) (kept mid))
         → IsLast false run.settings.keeps_going run.settings.limits (kept mid) (kept mid) outcome (IsAtEnd (run.left (source_of mid)))
     last_is (Refused other) e at_end none =
         let same : fault ≡ other = cc in (
-          refl,
-          λ goes whole n all. none goes other n (stopped_last ∙ ap (λ (f : Fault). Some (read.Format f)) same, whole)
-              (subst (λ (l : Limits). StatesAll l (kept mid) n) (sym h.gone.covered.limits_are) all),
+          ([], sym (append-nil (kept mid))),
+          λ _. refl,
+          λ goes whole. subst (λ (l : Limits). StatesNone l (kept mid)) h.gone.covered.limits_are (none goes other (stopped_last ∙ ap (λ (f : Fault). Some (read.Format f)) same, whole)),
         )
     last_is outcome e at_end none = (refl, at_end (λ f is. absurd cc))
 
@@ -158,6 +161,41 @@ module _ {R A S : Type 0} {takes : S → S → List Placed → (told : List ℕ)
 
     -- ---- and the message is passed over, or not
 
+    met : (other : Fault) → IsRefusal (stopped_of mid) other → IsRefused run.settings.limits (kept mid) fault
+    met other refusal =
+        let same : other ≡ fault = (let both = sym refusal.0 ∙ stopped_last in cc) in
+        refused_is run.settings.limits (kept mid) fault h.outcome h.outcome_is fault_last (subst (λ (f : Fault). is_truncated f.reason ≡ false) same refusal.1)
+
+    -- what is refused has bytes
+    some_kept : IsRefused run.settings.limits (kept mid) fault → 0 < length (kept mid)
+    some_kept refused = refused_later run.settings.limits 0 (kept mid) fault (nothing_partial run.settings.limits) refused
+
+    module _ (new : RawReader R A) where
+      abbrev Reading : Type 0
+      Reading = ReadsOn [] run.left run.calls mid new
+
+      -- no byte of it was dropped before
+      answered : (res : Result Passed ReadFault) → (other : Fault) → IsRefusal (stopped_of mid) other
+          → ((gone : List ℕ) → WasDropped mid gone → (r : ReadsOn gone run.left run.calls mid new) × PassAnswers gone (gone ++ (kept mid ++ r.bytes)) mid new res)
+          → IsRefused run.settings.limits (kept mid) fault × ((r : Reading) × PassAnswers [] (kept mid ++ r.bytes) mid new res)
+      answered res other refusal all = let refused = met other refusal in (refused, all [] (fresh mid (some_kept refused)))
+
+      answer : (res : Result Passed ReadFault) → (res ≡ Ok Not → ⊥) → Passing run.left run.calls mid new res
+          → IsRefused run.settings.limits (kept mid) fault × ((r : Reading) × PassAnswers [] (kept mid ++ r.bytes) mid new res)
+      answer res some passing = elim passing [ inl p ↦ answered res p.0 p.1 p.2 | inr none ↦ absurd (some none.1) ]
+
+      -- a message that is passed over has bytes
+      pub grows : Passing run.left run.calls mid new (Ok Over) → (stopped_of new ≡ None) × (done_of mid < done_of new)
+      grows passing =
+          let p = (answer (Ok Over) (λ e. cc) passing).1 in
+          let done = p.1.done in
+          let some = size_some (limits_of mid) (kept mid ++ p.0.bytes) p.1.size p.1.states in
+          (p.1.stopped, omega (arith, done, some))
+
+      -- and so has what is there of one
+      pub not_less : Passing run.left run.calls mid new (Ok CutOff) → done_of mid ≤ done_of new
+      not_less passing = let done = (answer (Ok CutOff) (λ e. cc) passing).1.1.1.done in omega (arith, done)
+
     module _ (text : List ℕ) (told : Due text) {s2 : S} (took : takes s1 s2 [] text) where
       came_told : takes run.s0 s2 items (h.gone.told ++ text)
       came_told = subst (λ (l : List Placed). takes run.s0 s2 l (h.gone.told ++ text)) (append-nil items) (laws.joins run.s0 s1 s2 items [] h.gone.told text h.gone.came took)
@@ -166,29 +204,19 @@ module _ {R A S : Type 0} {takes : S → S → List Placed → (told : List ℕ)
       halts halt = record { told = h.gone.told; text = text; through = through_there text told (λ goes. absurd (false≢true (sym halt ∙ goes))); messages = items; placed = h.gone.placed; came = came_told }
 
       module _ (new : RawReader R A) where
-        met : (other : Fault) → IsRefusal (stopped_of mid) other → IsRefused run.settings.limits (kept mid) fault
-        met other refusal =
-            let same : other ≡ fault = (let both = sym refusal.0 ∙ stopped_last in cc) in
-            refused_is run.settings.limits (kept mid) fault h.outcome h.outcome_is fault_last (subst (λ (f : Fault). is_truncated f.reason ≡ false) same refusal.1)
-
-        states : (n : ℕ) → StatesLength (limits_of mid) (kept mid) n → StatesLength run.settings.limits (kept mid) n
-        states n s = subst (λ (l : Limits). StatesLength l (kept mid) n) h.gone.covered.limits_are s
-
-        -- no byte of it was dropped before
-        stated : (other : Fault) (n : ℕ) → IsRefusal (stopped_of mid) other → IsDue mid n → StatesLength (limits_of mid) (kept mid) n
-        stated other n refusal (inl s) = s
-        stated other n refusal (inr o) = absurd ((one_outcome run.settings.limits (kept mid)).2 fault (met other refusal) (subst (λ l. IsPartial run.settings.limits l) (sym o.kept) (nothing_partial run.settings.limits)))
+        abbrev limits_are : limits_of mid ≡ run.settings.limits
+        limits_are = h.gone.covered.limits_are
 
         -- what was read to pass over it
-        abbrev passing : (n : ℕ) (r : ReadsUpTo n run.left run.calls mid new) → HasRead gathering run.left run.calls run.settings.limits (kept mid) mid.reader new.reader [] (kept mid ++ r.bytes)
-        passing n r =
-            read_on gathering run.left run.calls run.settings.limits (kept mid) (λ before. length (kept mid ++ before) < n) mid.reader mid.reader new.reader [] (kept mid)
-            (read_none gathering run.left run.calls run.settings.limits (kept mid) mid.reader h.gone.covered.limits_are) r
+        abbrev passing_read : (r : Reading new) → HasRead gathering run.left run.calls run.settings.limits (kept mid) mid.reader new.reader [] (kept mid ++ r.bytes)
+        passing_read r =
+            read_on gathering run.left run.calls run.settings.limits (kept mid) (λ before. WantsMore (limits_of mid) (kept mid ++ before)) mid.reader mid.reader new.reader [] (kept mid)
+            (read_none gathering run.left run.calls run.settings.limits (kept mid) mid.reader limits_are) r
 
-        short_covered : (n : ℕ) (r : ReadsUpTo n run.left run.calls mid new) → HasCovered run new h.gone.parts (kept mid ++ r.bytes) h.gone.told
-        short_covered n r =
+        short_covered : (r : Reading new) → HasCovered run new h.gone.parts (kept mid ++ r.bytes) h.gone.told
+        short_covered r =
             let c = h.gone.covered in
-            let p = passing n r in
+            let p = passing_read r in
             record {
               bytes = c.bytes ++ r.bytes;
               consumed = Consumes-trans _ _ _ _ _ c.consumed r.consumed;
@@ -200,65 +228,67 @@ module _ {R A S : Type 0} {takes : S → S → List Placed → (told : List ℕ)
               tells = c.tells;
             }
 
-        cut_off : (n : ℕ) (bytes : List ℕ) → StatesLength (limits_of mid) (kept mid) n → FallsShort n (kept mid ++ bytes) mid new → IsCutOff run.settings.limits (kept mid) (kept mid ++ bytes)
-        cut_off n bytes s f = record { size = n; front = (bytes, refl); states = states n s; short = f.short }
-
-        -- what is refused has bytes
-        some_kept : IsRefused run.settings.limits (kept mid) fault → 0 < length (kept mid)
-        some_kept refused = refused_later run.settings.limits 0 (kept mid) fault (nothing_partial run.settings.limits) refused
+        cut_off : (bytes : List ℕ) → WantsMore (limits_of mid) (kept mid ++ bytes) → IsCutOff run.settings.limits (kept mid) (kept mid ++ bytes)
+        cut_off bytes wants = record { front = (bytes, refl); wants = subst (λ (l : Limits). WantsMore l (kept mid ++ bytes)) limits_are wants }
 
         -- the input ends within it
-        ends_short : (ended_by : Tally) (end : ℕ) → end ≡ done_of new → (tally.size < end → ended_by ≡ cut_tally tally (end - tally.size)) → (goes : run.settings.keeps_going ≡ true) (n : ℕ) (r : ReadsUpTo n run.left run.calls mid new)
-            (other : Fault) → IsRefusal (stopped_of mid) other → StatesLength (limits_of mid) (kept mid) n → FallsShort n (kept mid ++ r.bytes) mid new → is_ended new ≡ true
-            → run.failures (source_of new) ≡ run.failures (source_of mid) → HasEnded run takes new ended_by (Some fault) s2
-        ends_short ended_by end there cut goes n r other refusal s short ended same =
-            let covered = short_covered n r in
+        pub ends_short : (ended_by : Tally) (end : ℕ) → end ≡ done_of new → ended_by ≡ cut_tally tally (end - tally.size) → (goes : run.settings.keeps_going ≡ true)
+            → Passing run.left run.calls mid new (Ok CutOff) → run.failures (source_of new) ≡ run.failures (source_of mid) → HasEnded run takes new ended_by (Some fault) s2
+        ends_short ended_by end there cut goes passing same =
+            let a = answer new (Ok CutOff) (λ e. cc) passing in
+            let r = a.1.0 in
+            let covered = short_covered r in
             let size = ap (λ (t : Tally). t.size) h.gone.tally_is in
-            let all = length-append (kept mid) r.bytes in
-            let some = some_kept (met other refusal) in
-            let more : tally.size < end = omega (arith, there, short.done, h.gone.done, size, all, some) in
-            let count : end - tally.size ≡ length (kept mid ++ r.bytes) = omega (arith, there, short.done, h.gone.done, size) in
+            let done = a.1.1.1.done in
+            let count : end - tally.size ≡ length (kept mid ++ r.bytes) = omega (arith, there, done, h.gone.done, size) in
             record {
               told = h.gone.told;
               text = text;
-              through = through new true ended_by text (kept mid ++ r.bytes) (Refused fault) (cut more ∙ (λ i. cut_tally (h.gone.tally_is i) (count i))) told (met other refusal) refl covered
-                  (cut_off n r.bytes s short, covered.at_end ended, goes) same;
+              through = through new true ended_by text (kept mid ++ r.bytes) (Refused fault) (cut ∙ (λ i. cut_tally (h.gone.tally_is i) (count i))) told a.0 refl covered
+                  (cut_off r.bytes a.1.1.0, covered.at_end a.1.1.2, goes) same;
               messages = items;
               placed = h.gone.placed;
               came = came_told;
             }
 
-        pub stays : (ended_by : Tally) (end : ℕ) → end ≡ done_of new → (end ≡ tally.size → ended_by ≡ tally) → (tally.size < end → ended_by ≡ cut_tally tally (end - tally.size)) → run.settings.keeps_going ≡ true
-            → Passing run.left run.calls mid new (Ok false) → run.failures (source_of new) ≡ run.failures (source_of mid) → HasEnded run takes new ended_by (Some fault) s2
-        stays ended_by end there stay cut goes passing same = elim passing [
-          | inl p ↦ ends_short ended_by end there cut goes p.1 p.4 p.0 p.2 (stated p.0 p.1 p.2 p.3) p.5.0 p.5.1 same
-          | inr none ↦ (
-              let size = ap (λ (t : Tally). t.size) h.gone.tally_is in
-              let done : end ≡ tally.size = there ∙ (ap done_of none.2 ∙ (h.gone.done ∙ sym size)) in
-              transport (λ i. HasEnded run takes (sym none.2 i) (sym (stay done) i) (Some fault) s2) (record {
-                told = h.gone.told;
-                text = text;
-                through = through_there text told (λ goes other n refusal all. none.0 other n refusal (inl all));
-                messages = items;
-                placed = h.gone.placed;
-                came = came_told;
-              })
-              )
+        -- it states no size
+        stays_after : (goes : run.settings.keeps_going ≡ true) (r : Reading new) → IsRefused run.settings.limits (kept mid) fault → StatesNone (limits_of mid) (kept mid ++ r.bytes)
+            → run.failures (source_of new) ≡ run.failures (source_of mid) → HasEnded run takes new tally (Some fault) s2
+        stays_after goes r refused none same = record {
+          told = h.gone.told;
+          text = text;
+          through = through new false tally text (kept mid ++ r.bytes) (Refused fault) h.gone.tally_is told refused refl (short_covered r)
+              ((r.bytes, refl), (λ halt. absurd (false≢true (sym halt ∙ goes))), λ _ whole. subst (λ (l : Limits). StatesNone l (kept mid ++ r.bytes)) limits_are none) same;
+          messages = items;
+          placed = h.gone.placed;
+          came = came_told;
+        }
+
+        pub stays : run.settings.keeps_going ≡ true → Passing run.left run.calls mid new (Ok Not) → run.failures (source_of new) ≡ run.failures (source_of mid) → HasEnded run takes new tally (Some fault) s2
+        stays goes passing same = elim passing [
+          | inl p ↦ (let a = answered new (Ok Not) p.0 p.1 p.2 in stays_after goes a.1.0 a.0 a.1.1.0 same)
+          | inr none ↦ transport (λ i. HasEnded run takes (sym none.2 i) tally (Some fault) s2) (record {
+            told = h.gone.told;
+            text = text;
+            through = through_there text told (λ goes other refusal. none.0 other [] refusal (fresh mid (some_kept (met other refusal))));
+            messages = items;
+            placed = h.gone.placed;
+            came = came_told;
+          })
         ]
 
         module _ (rests : settled s2) where
           -- it was not passed over, since reading was given up
-          torn : (goes : run.settings.keeps_going ≡ true) (cause : Cause) (n : ℕ) (r : ReadsUpTo n run.left run.calls mid new) (other : Fault) → IsRefusal (stopped_of mid) other
-              → StatesLength (limits_of mid) (kept mid) n → FallsShort n (kept mid ++ r.bytes) mid new
+          torn : (goes : run.settings.keeps_going ≡ true) (cause : Cause) (r : Reading new) → IsRefused run.settings.limits (kept mid) fault → WantsMore (limits_of mid) (kept mid ++ r.bytes)
               → (IsAllOf (Took run new) run.settings (most_reads_of run.old) run.is_check h.gone.parts (kept mid ++ r.bytes) text → More run new (ByCause cause) h.gone.parts (kept mid ++ r.bytes) text)
               → Stopped run new (ByCause cause) → leaves run.s0 s2 items (h.gone.told ++ text) (ByCause cause) → Within run leaves new (ByCause cause) s2
-          torn goes cause n r other refusal s short all caused came = record {
+          torn goes cause r refused wants all caused came = record {
             parts = h.gone.parts;
             rest = kept mid ++ r.bytes;
             told = h.gone.told;
-            covers = covers run new h.gone.parts (kept mid ++ r.bytes) h.gone.told (short_covered n r);
+            covers = covers run new h.gone.parts (kept mid ++ r.bytes) h.gone.told (short_covered r);
             more = text;
-            all = all (inr (kept mid, fault, met other refusal, cut_off n r.bytes s short, goes, told_at (length h.gone.parts + 1) text refl told));
+            all = all (inr (kept mid, fault, refused, cut_off r.bytes wants, goes, told_at (length h.gone.parts + 1) text refl told));
             caused = caused;
             messages = items;
             placed = h.gone.placed;
@@ -266,39 +296,40 @@ module _ {R A S : Type 0} {takes : S → S → List Placed → (told : List ℕ)
           }
 
           pub breaks : (goes : run.settings.keeps_going ≡ true) (broken : ReadFault) → Passing run.left run.calls mid new (Err broken)
-              → DeviceCounts {T = Bool} (run.failures (source_of mid)) (run.failures (source_of new)) (Err broken) → Within run leaves new (ByCause (cause_of broken)) s2
-          breaks goes read.Device passing counts = elim passing [
-            | inl p ↦ torn goes ReadFailed p.1 p.4 p.0 p.2 (stated p.0 p.1 p.2 p.3) p.5 (λ all. all) (counts.0 ∙ ap one_more h.gone.failed)
-                (laws.rests run.s0 s2 items (h.gone.told ++ text) came_told rests).1
-            | inr none ↦ absurd (let e = none.1 in cc)
-          ]
-          breaks goes read.TooManyReads passing counts = elim passing [
-            | inl p ↦ torn goes TooManyReads p.1 p.4 p.0 p.2 (stated p.0 p.1 p.2 p.3) p.5.0 (λ all. all)
-                (counts ∙ h.gone.failed, all_called run new h.gone.parts (kept mid ++ p.4.bytes) h.gone.told (short_covered p.1 p.4) p.5.1)
-                (laws.rests run.s0 s2 items (h.gone.told ++ text) came_told rests).2
-            | inr none ↦ absurd (let e = none.1 in cc)
-          ]
-          breaks goes broken passing counts = elim passing [ inl p ↦ absurd p.5 | inr none ↦ absurd (let e = none.1 in cc) ]
+              → DeviceCounts {T = Passed} (run.failures (source_of mid)) (run.failures (source_of new)) (Err broken) → Within run leaves new (ByCause (cause_of broken)) s2
+          breaks goes read.Device passing counts =
+              let a = answer new (Err read.Device) (λ e. cc) passing in
+              torn goes ReadFailed a.1.0 a.0 a.1.1.0 (λ all. all) (counts.0 ∙ ap one_more h.gone.failed)
+              (laws.rests run.s0 s2 items (h.gone.told ++ text) came_told rests).1
+          breaks goes read.TooManyReads passing counts =
+              let a = answer new (Err read.TooManyReads) (λ e. cc) passing in
+              torn goes TooManyReads a.1.0 a.0 a.1.1.0 (λ all. all)
+              (counts ∙ h.gone.failed, all_called run new h.gone.parts (kept mid ++ a.1.0.bytes) h.gone.told (short_covered a.1.0) a.1.1.2)
+              (laws.rests run.s0 s2 items (h.gone.told ++ text) came_told rests).2
+          breaks goes broken passing counts = elim passing [ inl p ↦ absurd (answered new (Err broken) p.0 p.1 p.2).1.1 | inr none ↦ absurd (let e = none.1 in cc) ]
 
-        -- the message was passed over
-        over : (past : Tally) (end : ℕ) → end ≡ done_of new → past ≡ record { count = tally.count + 1; size = end; passed = tally.passed + 1; passed_size = tally.passed_size + (end - tally.size); is_cut = tally.is_cut }
-            → run.settings.keeps_going ≡ true → (n : ℕ) (r : ReadsUpTo n run.left run.calls mid new) (other : Fault) → IsRefusal (stopped_of mid) other → StatesLength (limits_of mid) (kept mid) n
-            → PassesOver n (kept mid ++ r.bytes) mid new → run.failures (source_of new) ≡ run.failures (source_of mid) → HasGone run takes new past s2
-        over past end there past_is goes n r other refusal s p same =
+        pub goes_on : (past : Tally) (end : ℕ) → end ≡ done_of new → past ≡ record { count = tally.count + 1; size = end; passed = tally.passed + 1; passed_size = tally.passed_size + (end - tally.size); is_cut = tally.is_cut }
+            → run.settings.keeps_going ≡ true → Passing run.left run.calls mid new (Ok Over) → run.failures (source_of new) ≡ run.failures (source_of mid) → HasGone run takes new past s2
+        goes_on past end there past_is goes passing same =
+            let a = answer new (Ok Over) (λ e. cc) passing in
+            let r = a.1.0 in
+            let p = a.1.1 in
+            let done = p.done in
             let parts = h.gone.parts in
             let is = h.gone.tally_is in
-            let part = PassedOver (kept mid) fault n in
-            let read = passing n r in
-            let begin : BeginWithParts run.settings.limits (kept mid ++ read.bytes) (part ∷ []) (kept new) = (((r.bytes, refl), met other refusal, states n s, p.there), sym p.kept) in
+            let part = PassedOver (kept mid) fault p.size in
+            let read = passing_read r in
+            let states = subst (λ (l : Limits). StatesSize l (kept mid ++ r.bytes) p.size) limits_are p.states in
+            let begin : BeginWithParts run.settings.limits (kept mid ++ read.bytes) (part ∷ []) (kept new) = (((r.bytes, refl), a.0, states, p.there), sym p.kept) in
             let number : 1 + length parts ≡ length parts + 1 = omega arith in
             let offset : sizes_of parts ≡ 0 + sizes_of parts = omega arith in
             let told_next = subst (λ (o : ℕ). IsToldRefused (packets_of run) run.settings (1 + length parts) o (kept mid) fault text) offset (told_at (1 + length parts) text number told) in
             let told_is : AreTold (packets_of run) run.settings (1 + length parts) (0 + sizes_of parts) (part ∷ []) text = (text, [], sym (append-nil text), (goes, told_next), refl) in
             let count_is : tally.count + 1 ≡ length (parts ++ part ∷ []) = omega (arith, ap (λ (t : Tally). t.count) is, length-append parts (part ∷ [])) in
-            let size_is : done_of new ≡ sizes_of (parts ++ part ∷ []) = omega (arith, p.done, h.gone.done, sizes-both parts (part ∷ [])) in
+            let size_is : done_of new ≡ sizes_of (parts ++ part ∷ []) = omega (arith, done, h.gone.done, sizes-both parts (part ∷ [])) in
             let passed_is : tally.passed + 1 ≡ passed_count (parts ++ part ∷ []) = omega (arith, ap (λ (t : Tally). t.passed) is, passed-both parts (part ∷ [])) in
             let passed_size_is : tally.passed_size + (end - tally.size) ≡ passed_sizes (parts ++ part ∷ [])
-            = omega (arith, there, ap (λ (t : Tally). t.passed_size) is, ap (λ (t : Tally). t.size) is, p.done, h.gone.done, passed_sizes-both parts (part ∷ [])) in
+            = omega (arith, there, ap (λ (t : Tally). t.passed_size) is, ap (λ (t : Tally). t.size) is, done, h.gone.done, passed_sizes-both parts (part ∷ [])) in
             record {
               parts = parts ++ part ∷ [];
               told = h.gone.told ++ text;
@@ -307,16 +338,9 @@ module _ {R A S : Type 0} {takes : S → S → List Placed → (told : List ℕ)
               done = size_is;
               failed = same ∙ h.gone.failed;
               messages = items;
-              placed = placed_past (packets_of run) 1 0 parts (kept mid) fault n items h.gone.placed;
+              placed = placed_past (packets_of run) 1 0 parts (kept mid) fault p.size items h.gone.placed;
               came = came_told;
             }
-
-        pub goes_on : (past : Tally) (end : ℕ) → end ≡ done_of new → past ≡ record { count = tally.count + 1; size = end; passed = tally.passed + 1; passed_size = tally.passed_size + (end - tally.size); is_cut = tally.is_cut }
-            → run.settings.keeps_going ≡ true → Passing run.left run.calls mid new (Ok true) → run.failures (source_of new) ≡ run.failures (source_of mid) → HasGone run takes new past s2
-        goes_on past end there past_is goes answer same = elim answer [
-          | inl p ↦ over past end there past_is goes p.1 p.4 p.0 p.2 (stated p.0 p.1 p.2 p.3) p.5 same
-          | inr none ↦ absurd (let e = none.1 in cc)
-        ]
 
 -- ---- how a run ends after its parts, by its last line
 

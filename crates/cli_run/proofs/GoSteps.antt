@@ -4,7 +4,7 @@ use Rattle.std.proofs.Common.{◌≡◌, ℕ, ◌+◌, ◌^◌, ◌<◌, ◌≤�
 use Rattle.std.proofs.Math.Path.{transport}
 use Rattle.std.specs.Io.KnownBytes.{Consumes}
 use Rattle.std.proofs.KnownBytes.{Consumes-nil, Consumes-trans}
-use Rattle.std.proofs.lemmas.Bool.{false≢true}
+use Rattle.std.proofs.lemmas.Bool.{cases_lt, false≢true}
 use Rattle.std.proofs.lemmas.List.{length-map}
 use Rattle.dbus_value_model.specs.declared.fault.Fault.{Fault}
 use Rattle.dbus_value_model.specs.declared.limits.Limits.{Limits}
@@ -16,7 +16,8 @@ use Rattle.dbus_stream.specs.Cut.{CutMessage, CutOutcome, Ended, Unfinished, Ref
 use Rattle.dbus_stream.specs.CutEnds.{fault_at_end, truncated, sizes}
 use Rattle.dbus_stream.specs.Gathering.{gathering}
 use Rattle.dbus_stream.specs.Lasting.{is_truncated}
-use Rattle.dbus_stream.specs.Passing.{IsDue, Passing}
+use Rattle.dbus_stream.specs.Passing.{WasDropped}
+use Rattle.dbus_stream.proofs.SizeSteps.{none_dropped}
 use Rattle.dbus_stream.specs.RawReading.{IsNewReader, done_of, is_ended, kept, limits_of, most_reads_of, reads_of, source_of, stopped_of}
 use Rattle.dbus_stream.specs.declared.raw_reader.RawReader.{RawReader}
 use Rattle.cli_options.specs.declared.settings.Settings.{Settings}
@@ -33,7 +34,7 @@ use Rattle.cli_run.specs.declared.tally.Tally.{Tally}
 use Rattle.cli_run.specs.declared.visitor.RunStop.{RunStop}
 use Rattle.cli_run.specs.declared.visitor.RunStop.TheVariants.{Cause as ByCause}
 use Rattle.cli_run.proofs.KnownPackets.{refused_there}
-use Rattle.cli_run.proofs.PartLaws.{parts_more, parts_both, parts_of, few_parts, few_passed, few_passed_sizes, stated_some, sizes-both, passed-both, passed_sizes-both, sizes-wholes, passed-wholes, passed_sizes-wholes, placed_both, told_both, told_of}
+use Rattle.cli_run.proofs.PartLaws.{parts_more, parts_both, parts_of, few_parts, few_passed, few_passed_sizes, sizes-both, passed-both, passed_sizes-both, sizes-wholes, passed-wholes, passed_sizes-wholes, placed_both, told_both, told_of}
 
 -- a refusal is no end of the input
 pub refused_is : (limits : Limits) (w : List ℕ) (fault : Fault) (outcome : CutOutcome) → IsOutcome limits w outcome → Some fault ≡ fault_at_end w outcome → is_truncated fault.reason ≡ false
@@ -49,23 +50,12 @@ none_is w Ended e = refl
 none_is w Unfinished e = absurd cc
 none_is w (Refused fault) e = absurd cc
 
-due_bytes : {R A : Type 0} (mid : RawReader R A) (n : ℕ) → IsDue mid n → 0 < n
-due_bytes mid n (inl s) = stated_some (limits_of mid) (kept mid) n s
-due_bytes mid n (inr o) = o.some
-
--- a message that is passed over has bytes
-pub grows : {R A : Type 0} (left : R → Option (List ℕ)) (calls : R → ℕ) (mid new : RawReader R A) → Passing left calls mid new (Ok true) → (stopped_of new ≡ None) × (done_of mid < done_of new)
-grows left calls mid new passing = elim passing [
-  | inl p ↦ (p.5.stopped, omega (arith, p.5.done, due_bytes mid p.1 p.3))
-  | inr none ↦ absurd (let e = none.1 in cc)
-]
-
--- the input ended within it, or nothing was done
-pub not_less : {R A : Type 0} (left : R → Option (List ℕ)) (calls : R → ℕ) (mid new : RawReader R A) → Passing left calls mid new (Ok false) → done_of mid ≤ done_of new
-not_less left calls mid new passing = elim passing [
-  | inl p ↦ omega (arith, p.5.0.done)
-  | inr none ↦ (let same = ap done_of none.2 in omega (arith, same))
-]
+-- no byte of a refused message was dropped before, if any is kept
+pub fresh : {R A : Type 0} (mid : RawReader R A) → 0 < length (kept mid) → WasDropped mid []
+fresh mid some = none_dropped mid.refused (elim (cases_lt 0 mid.refused.dropped) [
+  | inl more ↦ absurd (let none = ap length (mid.dropped_alone more) in omega (arith, none, some))
+  | inr zero ↦ omega (arith, zero)
+])
 
 pub done_small : {R A : Type 0} (r : RawReader R A) → done_of r ≤ 2 ^ 50
 done_small r = omega (arith, r.reader.counted, r.reader.few_reads, r.reader.low_most)

@@ -6,10 +6,10 @@ use Rattle.std.proofs.lemmas.List.{drop-append-le}
 use Rattle.dbus_device.specs.Packets.{Packets}
 use Rattle.dbus_value_model.specs.declared.fault.Fault.{Fault}
 use Rattle.dbus_value_model.specs.declared.limits.Limits.{Limits}
-use Rattle.dbus_header.specs.StatedLengths.{StatesLength}
 use Rattle.dbus_header.proofs.OutcomeLaws.{whole_for_good, whole_inside}
 use Rattle.dbus_stream.specs.Cut.{BeginWith, CutMessage, CutOutcome, Refused}
 use Rattle.dbus_stream.specs.CutEnds.{sizes}
+use Rattle.dbus_stream.proofs.SizeSteps.{one_size, size_some}
 use Rattle.cli_options.specs.declared.settings.Settings.{Settings}
 use Rattle.cli_run.specs.Inputs.{ArePlaced, IsPlaced, IsPacketBefore, IsTimeBefore, Part, Whole, PassedOver, Placed, size_of, sizes_of, time_of, wholes, IsLast, IsPart, BeginWithParts}
 use Rattle.cli_run.specs.Output.{check_line, fault_line}
@@ -26,7 +26,7 @@ module _ (limits : Limits) where
     (
       (p.0.0 ++ more, ap (λ l. l ++ more) p.0.1 ∙ append_assoc kept p.0.0 more),
       p.1,
-      p.2,
+      (one_size limits bytes more size size p.2).0,
       omega (arith, p.3, length-append bytes more),
     ),
     p.3,
@@ -49,13 +49,9 @@ module _ (limits : Limits) where
   parts_of bytes [] rest b = b
   parts_of bytes (item ∷ items) rest b = (b.0, parts_of (drop item.size bytes) items rest b.1)
 
-  pub stated_some : (kept : List ℕ) (n : ℕ) → StatesLength limits kept n → 0 < n
-  unfolding StatesLength
-  stated_some kept n s = omega (arith, s.3)
-
   some_bytes : (bytes : List ℕ) (part : Part) → IsPart limits bytes part → 0 < size_of part
   some_bytes bytes (Whole item) p = (whole_inside limits bytes item.order item.message item.size p).0
-  some_bytes bytes (PassedOver kept fault size) p = stated_some kept size p.2
+  some_bytes bytes (PassedOver kept fault size) p = let long = size_some limits bytes size p.2 in omega (arith, long)
 
   -- no more parts than bytes
   pub few_parts : (bytes : List ℕ) (parts : List Part) (rest : List ℕ) → BeginWithParts limits bytes parts rest → length parts ≤ sizes_of parts
@@ -65,7 +61,7 @@ module _ (limits : Limits) where
 -- the rest ends a run that is not to go on
 pub is_last : (goes : Bool) (limits : Limits) (rest : List ℕ) (outcome : CutOutcome) (at_end : Type 0) → goes ≡ false → (((f : Fault) → outcome ≡ Refused f → ⊥) → at_end)
     → IsLast false goes limits rest rest outcome at_end
-is_last goes limits rest (Refused fault) at_end halts all = (refl, λ on. absurd (false≢true (sym halts ∙ on)))
+is_last goes limits rest (Refused fault) at_end halts all = (([], sym (append-nil rest)), λ _. refl, λ on. absurd (false≢true (sym halts ∙ on)))
 is_last goes limits rest outcome at_end halts all = (refl, all (λ f e. absurd (let both = e in cc)))
 
 -- ---- counts

@@ -107,14 +107,14 @@ no_closing is_check tally (Some fault) other none = λ i. closing_line (other i)
 -- all that was kept is the rest
 rest_is : (cut : Bool) (limits : Limits) (kept rest : List ℕ) (outcome : CutOutcome) (at_end : Type 0) → IsLast cut false limits kept rest outcome at_end
     → (rest ≡ kept) × (((f : Fault) → outcome ≡ Refused f → ⊥) → at_end) × (cut ≡ false)
-rest_is false limits kept rest (Refused fault) at_end last = (last.0, λ none. absurd (none fault refl), refl)
+rest_is false limits kept rest (Refused fault) at_end last = (last.1 refl, λ none. absurd (none fault refl), refl)
 rest_is false limits kept rest outcome at_end last = (last.0, λ _. last.1, refl)
 rest_is true limits kept rest (Refused fault) at_end last = absurd (false≢true last.2)
 rest_is true limits kept rest outcome at_end last = absurd last
 
 -- what shows of a fault ends a run that is not to go on
 last_shown : (limits : Limits) (kept rest : List ℕ) (outcome : CutOutcome) (at_end : Type 0) → IsTellable kept rest outcome at_end → IsLast false false limits kept rest outcome at_end
-last_shown limits kept rest (Refused fault) at_end shown = (shown, λ goes. absurd (false≢true goes))
+last_shown limits kept rest (Refused fault) at_end shown = (([], shown ∙ sym (append-nil kept)), λ _. shown, λ goes. absurd (false≢true goes))
 last_shown limits kept rest outcome at_end shown = shown
 
 -- the line of the fault is told, with its packet

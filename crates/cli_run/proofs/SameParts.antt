@@ -1,34 +1,26 @@
 -- An input has one list of parts, and one rest after them that ends a run; but what was kept of a
 -- part that is passed over is as much as happened to be read.
-use Rattle.std.proofs.Common.{◌≡◌, ℕ, ◌-◌, ◌<◌, ◌≤◌, Bool, true, false, List, [], ◌∷◌, ◌++◌, Option, Some, length, drop, take, refl, sym, ap, ◌∙◌, subst, arith, append-nil, append_assoc, inl, inr, take-append-drop}
+use Rattle.std.proofs.Common.{◌≡◌, ℕ, ◌-◌, ◌<◌, ◌≤◌, Bool, true, false, List, [], ◌∷◌, ◌++◌, Option, Some, length, drop, take, refl, sym, ap, ◌∙◌, subst, arith, append-nil, append_assoc, inl, inr, length-append}
 use Rattle.std.proofs.lemmas.Bool.{cases_lt, false≢true}
-use Rattle.std.proofs.lemmas.List.{length-take, length-take-le, take_all, take_at, take-append-le, take-take}
+use Rattle.std.proofs.lemmas.List.{take_at, take-append-le, take-take}
 use Rattle.dbus_device.specs.Packets.{Packets}
 use Rattle.dbus_device.specs.declared.packet.Packet.{Packet}
 use Rattle.dbus_value_model.specs.ByteNumbers.{IsBytes}
 use Rattle.dbus_value_model.proofs.Numbers.{IsBytes-front}
 use Rattle.dbus_value_model.specs.declared.fault.Fault.{Fault}
 use Rattle.dbus_value_model.specs.declared.limits.Limits.{Limits}
-use Rattle.dbus_value_model.specs.Reading.{Outcome, Done, Faulty, Partial}
-use Rattle.dbus_value_laws.proofs.Agreement.{read_refuses}
-use Rattle.dbus_header.specs.HeaderReading.{fixed_header}
-use Rattle.dbus_header.specs.MessageItems.{fixed_items}
 use Rattle.dbus_header.specs.MessageOutcomes.{IsWhole, IsRefused, IsPartial}
-use Rattle.dbus_header.specs.StatedLengths.{StatesLength}
-use Rattle.dbus_header.specs.declared.fixed_header.FixedHeader.{FixedHeader}
-use Rattle.dbus_header.proofs.MessageParts.{Agrees-fixed}
 use Rattle.dbus_header.proofs.OutcomeLaws.{not_both, nothing_partial, one_fault, one_outcome, one_whole, refused_for_good}
-use Rattle.dbus_header.proofs.StatedLengths.{header_faulty, header_partial, header_short, header_states, one_stated}
 use Rattle.dbus_stream.specs.Cut.{CutMessage, CutOutcome, Ended, Unfinished, Refused, IsOutcome}
 use Rattle.dbus_stream.specs.CutEnds.{fault_at_end}
 use Rattle.dbus_stream.specs.Packets.{ShowsIn}
-use Rattle.dbus_stream.specs.Passing.{StatesAll}
-use Rattle.dbus_stream.proofs.FaultPackets.{partial_take}
-use Rattle.dbus_stream.proofs.PassSteps.{states_front}
+use Rattle.dbus_stream.specs.StatedSizes.{StatesNone, StatesSize, WantsMore}
+use Rattle.dbus_stream.proofs.FaultPackets.{partial_take, refused_later}
+use Rattle.dbus_stream.proofs.SizeSteps.{none_more, size_once, sizes_tell}
 use Rattle.cli_report.specs.Gathering.{IsPrefixTo}
 use Rattle.cli_run.specs.Inputs.{BeginWithParts, IsLast, IsPart, Part, PassedOver, Whole}
 use Rattle.cli_run.specs.Refusals.{IsRefusedIn, number_of}
-use Rattle.dbus_stream.proofs.MessageEnds.{partial_short, refused_reason}
+use Rattle.dbus_stream.proofs.MessageEnds.{refused_reason}
 
 -- parts but for what was kept
 abbrev pub bare : List Part → List Part
@@ -112,18 +104,12 @@ module _ (limits : Limits) where
   pub record EndsHere (cut goes_on : Bool) (w : List ℕ) (outcome : CutOutcome) : Type 0 where
     pub outcome_is : IsOutcome limits w outcome
     -- the input ends within a message that is passed over, or there is none
-    pub cut_off : cut ≡ true → (fault : Fault) × (n : ℕ) × IsRefused limits w fault × (goes_on ≡ true) × StatesLength limits w n
-    pub uncut : cut ≡ false → (fault : Fault) (n : ℕ) → IsRefused limits w fault → goes_on ≡ true → StatesLength limits w n → ⊥
-    pub none_passed : (fault : Fault) (n : ℕ) → IsRefused limits w fault → goes_on ≡ true → StatesLength limits w n → n ≤ length w → ⊥
+    pub cut_off : cut ≡ true → (fault : Fault) × IsRefused limits w fault × (goes_on ≡ true) × WantsMore limits w
+    pub uncut : cut ≡ false → (fault : Fault) → IsRefused limits w fault → goes_on ≡ true → StatesNone limits w
+    pub none_passed : (fault : Fault) (n : ℕ) → IsRefused limits w fault → goes_on ≡ true → StatesSize limits w n → n ≤ length w → ⊥
 
   refused_from : (kept w : List ℕ) (fault : Fault) → IsPrefixTo kept w → IsRefused limits kept fault → IsRefused limits w fault
   refused_from kept w fault p r = subst (λ l. IsRefused limits l fault) (sym p.1) (refused_for_good limits kept p.0 fault r)
-
-  states_from : (kept w : List ℕ) (n : ℕ) → IsPrefixTo kept w → StatesLength limits kept n → StatesLength limits w n
-  states_from kept w n p s = subst (λ l. StatesLength limits l n) (sym p.1) (one_stated limits kept p.0 n n s).0
-
-  one_length : (w : List ℕ) (n m : ℕ) → StatesLength limits w n → StatesLength limits w m → m ≡ n
-  one_length w n m s t = (one_stated limits w [] n m s).1 (subst (λ l. StatesLength limits l m) (sym (append-nil w)) t)
 
   -- ---- one list of parts
 
@@ -134,7 +120,7 @@ module _ (limits : Limits) where
 
   no_part : (cut goes_on : Bool) (w : List ℕ) (outcome : CutOutcome) (part : Part) (others : List Part) → EndsHere cut goes_on w outcome → IsPart limits w part → ArePassed goes_on (part ∷ others) → ⊥
   no_part cut goes_on w outcome (Whole item) others e p h = no_whole w outcome item e.outcome_is p
-  no_part cut goes_on w outcome (PassedOver kept fault n) others e p h = e.none_passed fault n (refused_from kept w fault p.0 p.1) h.0 (states_from kept w n p.0 p.2) p.3
+  no_part cut goes_on w outcome (PassedOver kept fault n) others e p h = e.none_passed fault n (refused_from kept w fault p.0 p.1) h.0 p.2 p.3
 
   pub same_parts : (cut snip goes_on : Bool) (bytes : List ℕ) (parts others : List Part) (rest last : List ℕ) (a b : CutOutcome) → BeginWithParts limits bytes parts rest → BeginWithParts limits bytes others last
       → ArePassed goes_on parts → ArePassed goes_on others → EndsHere cut goes_on rest a → EndsHere snip goes_on last b → AreSame parts others × (rest ≡ last)
@@ -150,7 +136,7 @@ module _ (limits : Limits) where
   same_parts cut snip goes_on bytes (PassedOver k f n ∷ parts) (Whole y ∷ others) rest last a b p q g h d e = absurd (not_both limits bytes y.order y.message y.size f q.0 (refused_from k bytes f p.0.0 p.0.1))
   same_parts cut snip goes_on bytes (PassedOver k x n ∷ parts) (PassedOver l y m ∷ others) rest last a b p q g h e f =
       let fault : x ≡ y = one_fault limits bytes x y (refused_from k bytes x p.0.0 p.0.1) (refused_from l bytes y q.0.0 q.0.1) in
-      let size : n ≡ m = one_length bytes m n (states_from l bytes m q.0.0 q.0.2) (states_from k bytes n p.0.0 p.0.2) in
+      let size : n ≡ m = size_once limits bytes m n q.0.2 p.0.2 in
       let there = subst (λ k. BeginWithParts limits (drop k bytes) others last) (sym size) q.1 in
       let more = same_parts cut snip goes_on (drop n bytes) parts others rest last a b p.1 there g.1 h.1 e f in
       ((λ i. PassedOver [] (fault i) (size i) ∷ more.0 i), more.1)
@@ -161,59 +147,8 @@ module _ (limits : Limits) where
   pub same_cut : (cut snip goes_on : Bool) (w : List ℕ) (a b : CutOutcome) → EndsHere cut goes_on w a → EndsHere snip goes_on w b → cut ≡ snip
   same_cut true true goes_on w a b e f = refl
   same_cut false false goes_on w a b e f = refl
-  same_cut true false goes_on w a b e f = let c = e.cut_off refl in absurd (f.uncut refl c.0 c.1 c.2 c.3 c.4)
-  same_cut false true goes_on w a b e f = let c = f.cut_off refl in absurd (e.uncut refl c.0 c.1 c.2 c.3 c.4)
-
-  -- the first sixteen bytes of a refused message state the length that all bytes state
-  states_sixteen : (kept more : List ℕ) (fault : Fault) (n : ℕ) → IsBytes kept → IsRefused limits kept fault → StatesLength limits (kept ++ more) n → StatesLength limits (take 16 kept) n
-  states_sixteen kept more fault n bytes refused s = go (fixed_header limits 0 front) refl
-    where
-      front : List ℕ
-      front = take 16 kept
-
-      rest : List ℕ
-      rest = drop 16 kept
-
-      front_bytes : IsBytes front
-      front_bytes = IsBytes-front kept front rest (sym (take-append-drop 16 kept)) bytes
-
-      all : front ++ (rest ++ more) ≡ kept ++ more
-      all = sym (append_assoc front rest more) ∙ ap (λ l. l ++ more) (take-append-drop 16 kept)
-
-      go : (read : Outcome FixedHeader) → fixed_header limits 0 front ≡ read → StatesLength limits front n
-      go (Done h q t) e =
-          let k = header_states limits front front_bytes h q t e in
-          subst (λ m. StatesLength limits front m) (sym ((one_stated limits front (rest ++ more) _ n k).1 (subst (λ l. StatesLength limits l n) (sym all) s))) k
-      go (Faulty f) e =
-          let more_refused = (Agrees-fixed limits).refuses_more (rest ++ more) 0 front f (read_refuses (fixed_items limits) (fixed_header limits) (Agrees-fixed limits) 0 front front_bytes f e) in
-          absurd (header_faulty limits (front ++ (rest ++ more)) f ((Agrees-fixed limits).refuses 0 (front ++ (rest ++ more)) f more_refused) n (subst (λ l. StatesLength limits l n) (sym all) s))
-      go Partial e =
-          let short = header_short limits front e in
-          let size = length-take 16 kept in
-          let same : front ≡ kept = take_all 16 kept (omega (arith, short, size)) in
-          absurd ((one_outcome limits kept).2 fault refused (subst (λ l. IsPartial limits l) same (header_partial limits front front_bytes e)))
-
-  some_stated : (w : List ℕ) (n : ℕ) → StatesLength limits w n → 16 ≤ n
-  unfolding StatesLength
-  some_stated w n s = omega (arith, s.3)
-
-  -- so bytes of it that are as many are refused
-  states_all : (kept more : List ℕ) (fault : Fault) (n : ℕ) → IsBytes kept → IsRefused limits kept fault → StatesLength limits (kept ++ more) n → StatesAll limits kept n
-  states_all kept more fault n bytes refused s =
-      let states = states_sixteen kept more fault n bytes refused s in (
-        states,
-        λ m le partial. elim (cases_lt (length kept) m) [
-          | inl few ↦ (one_outcome limits kept).2 fault refused (subst (λ l. IsPartial limits l) (take_all m kept (omega (arith, few))) partial)
-          | inr there ↦ (
-              let long = some_stated (take 16 kept) n states in
-              let front_bytes = IsBytes-front kept (take m kept) (drop m kept) (sym (take-append-drop m kept)) bytes in
-              let same : take 16 (take m kept) ≡ take 16 kept = take-take 16 m kept (omega (arith, long, le)) in
-              let enough = partial_short limits (take m kept) n front_bytes (states_front limits (take m kept) n (subst (λ l. StatesLength limits l n) (sym same) states)) partial in
-              let size = length-take-le m kept there in
-              absurd (omega (arith, enough, size, le))
-              )
-        ],
-      )
+  same_cut true false goes_on w a b e f = let c = e.cut_off refl in absurd ((sizes_tell limits w).0 (f.uncut refl c.0 c.1 c.2) c.3)
+  same_cut false true goes_on w a b e f = let c = f.cut_off refl in absurd ((sizes_tell limits w).0 (e.uncut refl c.0 c.1 c.2) c.3)
 
   pub ends_here : (cut goes_on : Bool) (kept rest more : List ℕ) (outcome : CutOutcome) (at_end : Type 0) → (at_end → more ≡ []) → IsBytes (rest ++ more)
       → IsOutcome limits kept outcome → IsLast cut goes_on limits kept rest outcome at_end → EndsHere cut goes_on (rest ++ more) outcome × (fault_at_end kept outcome ≡ fault_at_end (rest ++ more) outcome)
@@ -226,7 +161,7 @@ module _ (limits : Limits) where
         record {
           outcome_is = all ∙ o;
           cut_off = λ cut. absurd (false≢true cut);
-          uncut = λ _ fault n refused goes s. never fault refused;
+          uncut = λ _ fault refused goes. absurd (never fault refused);
           none_passed = λ fault n refused goes s le. never fault refused;
         },
         refl,
@@ -240,7 +175,7 @@ module _ (limits : Limits) where
         record {
           outcome_is = same;
           cut_off = λ cut. absurd (false≢true cut);
-          uncut = λ _ fault n refused goes s. never fault refused;
+          uncut = λ _ fault refused goes. absurd (never fault refused);
           none_passed = λ fault n refused goes s le. never fault refused;
         },
         ap (λ l. fault_at_end l Unfinished) (sym all),
@@ -248,34 +183,33 @@ module _ (limits : Limits) where
         λ cut. absurd (false≢true cut),
       )
   ends_here false goes_on kept rest more (Refused fault) at_end none bytes o last =
-      let same : rest ++ more ≡ kept ++ more = ap (λ l. l ++ more) last.0 in
-      let kept_bytes = IsBytes-front (rest ++ more) kept more same bytes in
-      let never : (n : ℕ) → goes_on ≡ true → StatesLength limits (rest ++ more) n → ⊥ = λ n goes s.
-      last.1 goes (refused_reason limits kept fault kept_bytes o) n (states_all kept more fault n kept_bytes o (subst (λ l. StatesLength limits l n) same s)) in (
+      let front : IsPrefixTo kept (rest ++ more) = (last.0.0 ++ more, ap (λ l. l ++ more) last.0.1 ∙ append_assoc kept last.0.0 more) in
+      let kept_bytes = IsBytes-front (rest ++ more) kept front.0 front.1 bytes in
+      let some = refused_later limits 0 kept fault (nothing_partial limits) o in
+      let long = ap length last.0.1 in
+      let both = length-append kept last.0.0 in
+      let never : goes_on ≡ true → StatesNone limits (rest ++ more) = λ goes.
+          none_more limits rest more (omega (arith, some, long, both)) (last.2 goes (refused_reason limits kept fault kept_bytes o)) in (
         record {
-          outcome_is = refused_from kept (rest ++ more) fault (more, same) o;
+          outcome_is = refused_from kept (rest ++ more) fault front o;
           cut_off = λ cut. absurd (false≢true cut);
-          uncut = λ _ other n refused goes s. never n goes s;
-          none_passed = λ other n refused goes s le. never n goes s;
+          uncut = λ _ other refused goes. never goes;
+          none_passed = λ other n refused goes s le. ((sizes_tell limits (rest ++ more)).1 n s).0 (never goes);
         },
         refl,
-        ((more, same), o),
+        (front, o),
         λ cut. absurd (false≢true cut),
       )
   ends_here true goes_on kept rest more (Refused fault) at_end none bytes o last =
       let front : IsPrefixTo kept (rest ++ more) = (last.0.front.0 ++ more, ap (λ l. l ++ more) last.0.front.1 ∙ append_assoc kept last.0.front.0 more) in
       let all : rest ++ more ≡ rest = ap (λ l. rest ++ l) (none last.1) ∙ append-nil rest in
       let refused = refused_from kept (rest ++ more) fault front o in
-      let states = states_from kept (rest ++ more) last.0.size front last.0.states in (
+      let wants = subst (λ l. WantsMore limits l) (sym all) last.0.wants in (
         record {
           outcome_is = refused;
-          cut_off = λ _. (fault, last.0.size, refused, last.2, states);
+          cut_off = λ _. (fault, refused, last.2, wants);
           uncut = λ cut. absurd (false≢true (sym cut));
-          none_passed = λ other n refused goes s le.
-              let size = one_length (rest ++ more) n last.0.size s states in
-              let long = ap length all in
-              let short = last.0.short in
-              omega (arith, le, size, long, short);
+          none_passed = λ other n refused goes s le. ((sizes_tell limits (rest ++ more)).1 n s).1 le wants;
         },
         refl,
         (front, o),

@@ -1,15 +1,14 @@
--- What an input is made of: messages, and others that are refused and passed over, by the length
--- that their first sixteen bytes state. D-Bus Specification, "Message Format".
+-- What an input is made of: messages, and others that are refused and passed over, by the size that
+-- their first sixteen bytes state. D-Bus Specification, "Message Format".
 use Rattle.std.specs.Prelude.{◌≡◌, ◌⊎◌, ℕ, ◌+◌, ◌-◌, ◌<◌, ◌≤◌, Bool, true, false, List, [], ◌∷◌, length, drop, map, Option, None, Some, is_some}
 use Rattle.dbus_device.specs.Packets.{Packets}
 use Rattle.dbus_device.specs.declared.packet.Packet.{Packet}
 use Rattle.dbus_value_model.specs.declared.fault.Fault.{Fault}
 use Rattle.dbus_value_model.specs.declared.limits.Limits.{Limits}
 use Rattle.dbus_header.specs.MessageOutcomes.{IsWhole, IsRefused}
-use Rattle.dbus_header.specs.StatedLengths.{StatesLength}
 use Rattle.dbus_stream.specs.Cut.{CutMessage, CutOutcome, Ended, Unfinished, Refused}
 use Rattle.dbus_stream.specs.Lasting.{is_truncated}
-use Rattle.dbus_stream.specs.Passing.{StatesAll}
+use Rattle.dbus_stream.specs.StatedSizes.{StatesNone, StatesSize, WantsMore}
 use Rattle.cli_report.specs.Gathering.{IsPrefixTo}
 use Rattle.cli_run.specs.declared.place.MessagePlace.{MessagePlace}
 
@@ -27,23 +26,21 @@ abbrev pub sizes_of : List Part → ℕ
 sizes_of [] = 0
 sizes_of (part ∷ parts) = size_of part + sizes_of parts
 
--- the bytes begin with this part: a refused message states its length, and so many bytes are there
+-- the bytes begin with this part: of a refused message they state the size, and so many are there
 abbrev pub IsPart : Limits → List ℕ → Part → Type 0
 IsPart limits bytes (Whole item) = IsWhole limits bytes item.order item.message item.size
 IsPart limits bytes (PassedOver kept fault size) =
-    IsPrefixTo kept bytes × IsRefused limits kept fault × StatesLength limits kept size × (size ≤ length bytes)
+    IsPrefixTo kept bytes × IsRefused limits kept fault × StatesSize limits bytes size × (size ≤ length bytes)
 
 -- the bytes are these parts, one after the other, and then the rest
 abbrev pub BeginWithParts : Limits → List ℕ → List Part → List ℕ → Type 0
 BeginWithParts limits bytes [] rest = bytes ≡ rest
 BeginWithParts limits bytes (part ∷ parts) rest = IsPart limits bytes part × BeginWithParts limits (drop (size_of part) bytes) parts rest
 
--- a refused message states more bytes than there are
+-- a refused message has more bytes than there are: they state more, or do not state its size yet
 pub record IsCutOff (limits : Limits) (kept rest : List ℕ) : Type 0 where
-  pub size : ℕ
   pub front : IsPrefixTo kept rest
-  pub states : StatesLength limits kept size
-  pub short : length rest < size
+  pub wants : WantsMore limits rest
 
 -- the fault of the rest shows by what is kept of it: the rest is refused, or the input ends there
 abbrev pub IsTellable : (kept rest : List ℕ) → CutOutcome → Type 0 → Type 0
@@ -52,13 +49,13 @@ IsTellable kept rest Unfinished at_end = (rest ≡ kept) × at_end
 IsTellable kept rest (Refused fault) at_end = rest ≡ kept
 
 -- why nothing follows the parts but the rest: the input ends there, or within a message; or a
--- message is refused, and the run is not to go on, or it states no length within the limits; or
--- cut says that the input ends within one that is passed over. kept is what was kept of the rest
--- when that was found
+-- message is refused, and the run is not to go on, or it states no size within the limits; or cut
+-- says that the input ends within one that is passed over. kept is what was kept of the rest when
+-- that was found
 abbrev pub IsLast : (cut goes_on : Bool) → Limits → List ℕ → List ℕ → CutOutcome → Type 0 → Type 0
 IsLast false goes_on limits kept rest Ended at_end = (rest ≡ kept) × at_end
 IsLast false goes_on limits kept rest Unfinished at_end = (rest ≡ kept) × at_end
-IsLast false goes_on limits kept rest (Refused fault) at_end = (rest ≡ kept) × (goes_on ≡ true → is_truncated fault.reason ≡ false → (n : ℕ) → StatesAll limits kept n → ⊥)
+IsLast false goes_on limits kept rest (Refused fault) at_end = IsPrefixTo kept rest × (goes_on ≡ false → rest ≡ kept) × (goes_on ≡ true → is_truncated fault.reason ≡ false → StatesNone limits rest)
 IsLast true goes_on limits kept rest (Refused fault) at_end = IsCutOff limits kept rest × at_end × (goes_on ≡ true)
 IsLast true goes_on limits kept rest outcome at_end = ⊥
 

@@ -13,7 +13,7 @@ use crate::tally::{Tally, closing_line};
 use crate::visitor::{MessageVisitor, RunStop};
 use cli_options::Settings;
 use cli_report::{Cause, ExitStatus, RefusedMessage, Unwritten, give_up, refusal_text};
-use dbus_stream::{RawReader, ReadFault, Sink, Source};
+use dbus_stream::{Passed, RawReader, ReadFault, Sink, Source};
 use dbus_value_model::Fault;
 use std::alloc::Allocator;
 
@@ -91,11 +91,12 @@ fn hand_parts<R: Source, A: Allocator + Copy, V: MessageVisitor>(
             return close(alloc, is_check, tally, Some(fault), visitor);
         }
         match messages.pass_over() {
-            Ok(true) => tally = tally.past(messages.done()),
-            Ok(false) => {
+            Ok(Passed::Over) => tally = tally.past(messages.done()),
+            Ok(Passed::CutOff) => {
                 let ended = tally.at_end(messages.done());
                 return close(alloc, is_check, ended, Some(fault), visitor);
             }
+            Ok(Passed::Not) => return close(alloc, is_check, tally, Some(fault), visitor),
             Err(fault) => return Err(RunStop::Cause(cause_of(fault))),
         }
     }

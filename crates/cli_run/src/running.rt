@@ -125,14 +125,15 @@ pub fn run_within<A: Allocator + Copy, R: Source, W: Sink, E: Sink>(
 /// If they explain, the line of a message that is refused is followed by the three lines of
 /// `dbus_explain::explain_message`, by the bytes that were read from the message's start on.
 ///
-/// If they keep going, a message that is refused is passed over if its first 16 bytes state a
-/// length within the limits. What came before it is written, and then the line `refused at P: NAME
-/// in message N at O`, with ` in packet K` as above: the place of the fault, and where the message
-/// begins, from the start of the input, and its number among all messages of the input. The numbers
-/// and offsets of those after it count it. A message that states no such length is told by that
-/// line too, and ends the run. If any was passed over, the last line is `N messages B bytes, K
-/// passed over C bytes`, and then `, the last one cut off` if the input ends within that one, of
-/// which the bytes that are there count.
+/// If they keep going, a message that is refused is passed over if its first 16 bytes state a size
+/// within the limits, whatever else they say: by its order byte and the lengths of its fields and
+/// its body. What came before it is written, and then the line `refused at P: NAME in message N at
+/// O`, with ` in packet K` as above: the place of the fault, and where the message begins, from the
+/// start of the input, and its number among all messages of the input. The numbers and offsets of
+/// those after it count it. A message that states no such size is told by that line too, and ends
+/// the run. If any was passed over, the last line is `N messages B bytes, K passed over C bytes`,
+/// and then `, the last one cut off` if the input ends within that one, of which the bytes that are
+/// there count.
 ///
 /// These lines go to the second writer, but of `Check` to the first. `Check` of an input without
 /// fault writes `ok N messages B bytes`. If the settings ask for explanations, to keep going or for

@@ -57,19 +57,14 @@ impl Tally {
         }
     }
 
-    /// The tally at the end of the input. Bytes up to there that were not counted yet are those of
-    /// a message that was to be passed over, which the input ends within.
+    /// The tally at the end of the input, which ends within a message that was to be passed over.
     pub(crate) fn at_end(self, end: u64) -> Tally
         requires few { self.count < 2 ^ 60 }
         requires few_passed { self.passed ≤ self.count }
         requires after { self.size ≤ end }
         requires low { self.passed_size + (end - self.size) < 2 ^ 60 }
-        ensures same { end ≡ self.size → result ≡ self }
-        ensures cut { self.size < end → result ≡ cut_tally self (end - self.size) }
+        ensures cut { result ≡ cut_tally self (end - self.size) }
     {
-        if end == self.size {
-            return self;
-        }
         Tally {
             is_cut: true,
             ..self.past(end)

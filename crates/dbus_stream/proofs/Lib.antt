@@ -6,6 +6,7 @@ pub mod PacketSteps
 pub mod FaultPackets
 pub mod GathererSteps
 pub mod RawSteps
+pub mod SizeSteps
 pub mod PassSteps
 pub mod MessageSteps
 pub mod CutterSteps

@@ -1,184 +1,179 @@
--- The steps of passing over bytes.
-use Rattle.std.proofs.Common.{◌≡◌, ℕ, ◌+◌, ◌-◌, ◌<◌, ◌≤◌, List, [], ◌++◌, Bool, true, false, not, None, Some, Option, Result, Ok, Err, length, take, drop, refl, sym, ap, ◌∙◌, subst, arith, append_assoc, append-nil, length-append, take-append-drop, inl, inr}
+-- The steps of passing over a refused message.
+use Rattle.std.proofs.Common.{◌≡◌, ℕ, ◌+◌, ◌-◌, ◌^◌, ◌<◌, ◌≤◌, List, [], ◌++◌, Bool, true, false, not, None, Some, Option, Result, Ok, Err, length, take, drop, refl, sym, ap, ◌∙◌, subst, arith, append_assoc, append-nil, length-append, inl, inr}
 use Rattle.std.specs.Prelude.{nat_eq}
 use Rattle.std.specs.List.{slice_range}
-use Rattle.std.proofs.Math.Seq.{take-append_seam, take-append-add}
+use Rattle.std.proofs.Math.Seq.{drop-append-add, drop-length}
 use Rattle.std.proofs.lemmas.Bool.{cases_lt, false≢true}
-use Rattle.std.proofs.lemmas.List.{drop_at, drop-drop, drop-append-le, length-drop, length-take, length-take-le, take_all, take-append-le}
+use Rattle.std.proofs.lemmas.List.{nil_from_length}
 use Rattle.dbus_value_model.specs.declared.fault.Fault.{Fault}
 use Rattle.dbus_value_model.specs.declared.limits.Limits.{Limits}
-use Rattle.dbus_header.specs.MessageOutcomes.{IsPartial}
-use Rattle.dbus_header.specs.StatedLengths.{StatesLength}
-use Rattle.dbus_header.proofs.StatedLengths.{one_stated}
 use Rattle.dbus_stream.specs.declared.buffer.Buffer.{Ghosts}
-use Rattle.dbus_stream.specs.declared.reader.Reader.{Reader}
 use Rattle.dbus_stream.specs.declared.buffer.Large.{Large}
+use Rattle.dbus_stream.specs.declared.passed.Passed.{Passed}
+use Rattle.dbus_stream.specs.declared.passed.Passed.TheVariants.{Over, CutOff, Not}
+use Rattle.dbus_stream.specs.declared.reader.Reader.{Reader}
+use Rattle.dbus_stream.specs.declared.refused.Refused.{Refused}
 use Rattle.dbus_stream.specs.contracts.buffer.LargeBuffer.TheImpl.{ghosts}
 use Rattle.dbus_stream.specs.declared.raw_reader.RawReader.{RawReader}
 use Rattle.dbus_stream.specs.declared.read_fault.ReadFault.{ReadFault}
 use Rattle.dbus_stream.specs.declared.read_fault.ReadFault.TheVariants.{Memory, Format, Device, TooManyReads}
+use Rattle.dbus_stream.specs.Dropping.{AreInside, HasDropped}
 use Rattle.dbus_stream.specs.Gathering.{GathererState, gathering, fresh, under_way}
 use Rattle.dbus_stream.specs.Lasting.{is_truncated, is_refusal}
 use Rattle.dbus_stream.specs.Next.{ReadsNothing}
-use Rattle.dbus_stream.specs.Passing.{ReadsToSkip, Skips, SkipsAll, SkipAnswers, ReadsUpTo, FallsShort, IsRefusal, PassAnswers, Passing, IsDue, IsNoneDue, StatesAll}
+use Rattle.dbus_stream.specs.Passing.{DropsAll, IsRefusal, PassAnswers, Passing, ReadsOn, ReadsToSkip, SkipAnswers, Skips, SkipsAll, WasDropped}
 use Rattle.dbus_stream.specs.RawReading.{limits_of, kept, lent_of, whole_or}
 use Rattle.dbus_stream.specs.Reading.{part_of, done_of, is_ended, stopped_of}
+use Rattle.dbus_stream.specs.StatedSizes.{StatesNone, StatesSize, WantsMore}
 use Rattle.dbus_stream.specs.Steps.{Drops, Calls, FillsBy}
 use Rattle.dbus_stream.specs.Taking.{Taking}
-use Rattle.dbus_stream.proofs.CutLaws.{no_part}
+use Rattle.dbus_stream.proofs.CutLaws.{no_part, part_size}
 use Rattle.dbus_stream.proofs.NextSteps.{gave, reads_none, reads_still, reads_from, reads_one}
+use Rattle.dbus_stream.proofs.SizeSteps.{inside_none, inside_same, inside_wanting}
 
--- what follows the first bytes of two lists
-drop_past : (gone rest : List ℕ) (more : ℕ) → drop more rest ≡ drop (length gone + more) (gone ++ rest)
-drop_past gone rest more = ap (drop more) (sym (drop_at gone rest (length gone) refl)) ∙ drop-drop more (length gone) (gone ++ rest)
-
--- what a reader keeps in two parts
-pub part_after : (n : ℕ) (front part bytes : List ℕ) (held : ℕ) → held ≡ length front → held < n → (length (part ++ bytes) < n - held → length ((front ++ part) ++ bytes) < n)
-    × (n - held ≤ length (part ++ bytes) → n ≤ length ((front ++ part) ++ bytes)) × (drop (n - held) (part ++ bytes) ≡ drop n ((front ++ part) ++ bytes))
-part_after n front part bytes held size fits =
-    let all = append_assoc front part bytes in
-    let long = ap length all in
-    let both = length-append front (part ++ bytes) in
-    let count : length front + (n - held) ≡ n = omega (arith, size, fits) in (
-      λ short. omega (arith, short, long, both, size, fits),
-      λ there. omega (arith, there, long, both, size, fits),
-      drop_past front (part ++ bytes) (n - held) ∙ (ap (λ k. drop k (front ++ (part ++ bytes))) count ∙ ap (drop n) (sym all)),
-    )
-
-module _ {R T B G : Type 0} {b : Ghosts B} (k : Taking T G) (count : ℕ) (left : R → Option (List ℕ)) (calls : R → ℕ) (old : Reader R T B b) where
-  -- more bytes are wanted than were there and were read before
+module _ {R T B G : Type 0} {b : Ghosts B} (k : Taking T G) (limits : Limits) (gone : List ℕ) (left : R → Option (List ℕ)) (calls : R → ℕ) (old : Reader R T B b) where
+  -- more bytes of the message are wanted than were there and were read before
   abbrev Short : List ℕ → Type 0
-  Short before = length (part_of old ++ before) < count
+  Short before = WantsMore limits ((gone ++ part_of old) ++ before)
 
-  -- what stood before what is left of the buffer is passed over, and so many bytes more are to be
-  pub record HasSkipped (more : ℕ) (mid : Reader R T B b) : Type 0 where
-    pub reads : ReadsToSkip k count left calls old mid
-    pub gone : ℕ
-    pub counted : count ≡ gone + more
-    pub there : gone ≤ length (part_of old ++ reads.bytes)
-    pub part : part_of mid ≡ drop gone (part_of old ++ reads.bytes)
-    pub done : done_of mid ≡ done_of old + old.held + gone
+  -- what a step before did
+  pub record Since (mid : Reader R T B b) : Type 0 where
+    pub reads : ReadsToSkip k limits (gone ++ part_of old) left calls old mid
     pub taker : mid.taker ≡ old.taker
     pub held : mid.held ≡ 0
     pub stopped : stopped_of mid ≡ stopped_of old
     -- each read gave a byte
     pub paid : is_ended mid ≡ false → reads.count ≤ length reads.bytes
 
+  -- the message's bytes as far as they came
+  abbrev pub bytes_of : (mid : Reader R T B b) → Since mid → List ℕ
+  bytes_of mid s = gone ++ (part_of old ++ s.reads.bytes)
+
+  -- these bytes more are passed over, and what is left of the buffer follows them
+  pub record HasSkipped (mid : Reader R T B b) (now : Refused) : Type 0 where
+    pub since : Since mid
+    pub more : List ℕ
+    pub all : (gone ++ more) ++ part_of mid ≡ bytes_of mid since
+    pub dropped : HasDropped now (gone ++ more)
+    pub inside : AreInside limits (gone ++ more)
+    pub done : done_of mid + length gone ≡ done_of old + old.held + length (gone ++ more)
+
+  -- all are
+  pub record HasSkippedAll (mid : Reader R T B b) (now : Refused) : Type 0 where
+    pub since : Since mid
+    pub skips : SkipsAll limits gone (bytes_of mid since) old mid now
+
   -- only what the taker held is passed over
-  pub skip_held : (mid : Reader R T B b) → ReadsNothing k old mid → part_of mid ≡ part_of old → done_of mid ≡ done_of old + old.held → mid.taker ≡ old.taker → mid.held ≡ 0
-      → stopped_of mid ≡ stopped_of old → HasSkipped count mid
-  skip_held mid n part done taker held stopped = record {
-    reads = reads_still k Short left calls old old mid (reads_none k Short left calls old) n;
-    gone = 0;
-    counted = omega arith;
-    there = omega arith;
-    part = part ∙ sym (append-nil (part_of old));
-    done = omega (arith, done);
-    taker = taker;
-    held = held;
-    stopped = stopped;
-    paid = λ open_. omega arith;
+  pub skip_held : (mid : Reader R T B b) (now : Refused) → HasDropped now gone → AreInside limits gone → ReadsNothing k old mid → part_of mid ≡ part_of old → done_of mid ≡ done_of old + old.held
+      → mid.taker ≡ old.taker → mid.held ≡ 0 → stopped_of mid ≡ stopped_of old → HasSkipped mid now
+  skip_held mid now before inside n part done taker held stopped = record {
+    since = record { reads = reads_still k Short left calls old old mid (reads_none k Short left calls old) n; taker = taker; held = held; stopped = stopped; paid = λ open_. omega arith };
+    more = [];
+    all = ap (λ (l : List ℕ). l ++ part_of mid) (append-nil gone) ∙ (ap (λ (l : List ℕ). gone ++ l) part ∙ ap (λ (l : List ℕ). gone ++ l) (sym (append-nil (part_of old))));
+    dropped = subst (HasDropped now) (sym (append-nil gone)) before;
+    inside = subst (AreInside limits) (sym (append-nil gone)) inside;
+    done = let same = ap length (append-nil gone) in omega (arith, done, same);
   }
 
-  module _ (more : ℕ) (mid new : Reader R T B b) (h : HasSkipped more mid) where
-    -- and so many bytes of the buffer
-    pub skip_more : (n : ℕ) → Drops n mid new → ReadsNothing k mid new → n ≤ more → n ≤ length (part_of mid) → HasSkipped (more - n) new
-    skip_more n d u fits inside =
-        let all = part_of old ++ h.reads.bytes in
-        let counted = h.counted in
-        let size = ap length h.part in
-        let rest = length-drop h.gone all in
-        let there = h.there in
-        let done = d.done in
-        let before = h.done in
-        record {
-          reads = reads_still k Short left calls old mid new h.reads u;
-          gone = h.gone + n;
-          counted = omega (arith, counted, fits);
-          there = omega (arith, size, rest, there, inside);
-          part = d.buffers.left ∙ (ap (drop n) h.part ∙ drop-drop n h.gone all);
-          done = omega (arith, done, before);
-          taker = d.buffers.taker ∙ h.taker;
-          held = d.buffers.held ∙ h.held;
-          stopped = d.stopped ∙ h.stopped;
-          paid = λ open_. h.paid (sym u.ended ∙ open_);
-        }
+  module _ (mid new : Reader R T B b) (now : Refused) (h : HasSkipped mid now) where
+    abbrev since_still : ReadsNothing k mid new → new.taker ≡ mid.taker → new.held ≡ mid.held → stopped_of new ≡ stopped_of mid → Since new
+    since_still u taker held stopped =
+        let s = h.since in
+        record { reads = reads_still k Short left calls old mid new s.reads u; taker = taker ∙ s.taker; held = held ∙ s.held; stopped = stopped ∙ s.stopped; paid = λ open_. s.paid (sym u.ended ∙ open_) }
 
-    -- all of it was passed over
-    pub skips : more ≡ 0 → ReadsNothing k mid new → part_of new ≡ part_of mid → done_of new ≡ done_of mid → stopped_of new ≡ None
-        → (r : ReadsToSkip k count left calls old new) × Skips count (part_of old ++ r.bytes) old new
-    skips zero u part done stopped =
-        let counted = h.counted in
-        let there = h.there in
-        let before = h.done in
-        let all_gone : h.gone ≡ count = omega (arith, counted, zero) in (
-          reads_still k Short left calls old mid new h.reads u,
+    -- what is left of the buffer is dropped too
+    pub skip_rest : (there : Refused) → HasDropped there ((gone ++ h.more) ++ part_of mid) → Drops (length (part_of mid)) mid new → ReadsNothing k mid new
+        → (a : HasSkippedAll new there) × ((gone ++ h.more) ++ part_of mid ≡ bytes_of new a.since)
+    skip_rest there has d u =
+        let size = ap length h.all in
+        let both = length-append (gone ++ h.more) (part_of mid) in
+        let done = d.done in
+        let before = h.done in (
           record {
-            there = omega (arith, there, all_gone);
-            left = part ∙ (h.part ∙ ap (λ n. drop n (part_of old ++ h.reads.bytes)) all_gone);
-            done = omega (arith, done, before, all_gone);
+            since = since_still u d.buffers.taker d.buffers.held d.stopped;
+            skips = record {
+              left = d.buffers.left ∙ drop-length (part_of mid);
+              done = omega (arith, done, before, size, both);
+              stopped = d.stopped ∙ h.since.stopped;
+              dropped = subst (HasDropped there) h.all has;
+            };
+          },
+          h.all,
+        )
+
+    -- the message is passed over
+    pub skip_size : (size : ℕ) → StatesSize limits ((gone ++ h.more) ++ part_of mid) size → size ≤ length ((gone ++ h.more) ++ part_of mid) → length (gone ++ h.more) ≤ size
+        → (last : Reader R T B b) → Drops (size - length (gone ++ h.more)) mid new → ReadsNothing k mid new → ReadsNothing k new last → part_of last ≡ part_of new → done_of last ≡ done_of new → stopped_of last ≡ None
+        → (after : Refused) → after.dropped ≡ 0 → (r : ReadsToSkip k limits (gone ++ part_of old) left calls old last) × Skips limits gone (gone ++ (part_of old ++ r.bytes)) old last after
+    skip_size size states there inside last d u v part done stopped after nothing =
+        let front = gone ++ h.more in
+        let over : length front + (size - length front) ≡ size = omega (arith, inside) in
+        let before = h.done in
+        let step = d.done in (
+          reads_still k Short left calls old new last (reads_still k Short left calls old mid new h.since.reads u) v,
+          record {
+            size = size;
+            states = subst (λ (l : List ℕ). StatesSize limits l size) h.all states;
+            there = subst (λ (l : List ℕ). size ≤ length l) h.all there;
+            left = part ∙ (d.buffers.left ∙ (sym (drop-append-add front (part_of mid) (size - length front)) ∙ (ap (λ (n : ℕ). drop n (front ++ part_of mid)) over ∙ ap (drop size) h.all)));
+            done = omega (arith, done, step, before, inside);
             stopped = stopped;
+            nothing = nothing;
           },
         )
 
-  module _ (more : ℕ) (mid : Reader R T B b) (h : HasSkipped more mid) (none : part_of mid ≡ []) (some : 0 < more) where
-    -- nothing is left of the buffer, and there is more to pass over
-    pub skips_all : SkipsAll count (part_of old ++ h.reads.bytes) old mid
-    skips_all =
-        let all = part_of old ++ h.reads.bytes in
-        let counted = h.counted in
-        let size = ap length (sym h.part ∙ none) in
-        let rest = length-drop h.gone all in
-        let there = h.there in
-        let done = h.done in
-        let long : length all ≡ h.gone = omega (arith, size, rest, there) in
-        record { short = omega (arith, long, counted, some); left = none; done = omega (arith, done, long); stopped = h.stopped }
+  module _ (mid : Reader R T B b) (now : Refused) (h : HasSkippedAll mid now) (wants : WantsMore limits (bytes_of mid h.since)) (new : Reader R T B b) (bytes : List ℕ) (open_ : is_ended mid ≡ false)
+      (c : Calls calls mid new) (f : FillsBy left bytes mid new) where
+    more_wanted : Short h.since.reads.bytes
+    more_wanted = subst (WantsMore limits) (sym (append_assoc gone (part_of old) h.since.reads.bytes)) wants
 
-    module _ (new : Reader R T B b) (bytes : List ℕ) (open_ : is_ended mid ≡ false) (c : Calls calls mid new) (f : FillsBy left bytes mid new) where
-      abbrev reads_more : ReadsToSkip k count left calls old new
-      reads_more = reads_one k Short left calls old mid new h.reads open_ (h.paid open_) skips_all.short c bytes f
+    abbrev reads_more : ReadsToSkip k limits (gone ++ part_of old) left calls old new
+    reads_more = reads_one k Short left calls old mid new h.since.reads open_ (h.since.paid open_) more_wanted c bytes f
 
-      -- one more read, which gave bytes, or the end
-      pub skip_read : is_ended new ≡ nat_eq (length bytes) 0 → HasSkipped more new
-      skip_read ended =
-          let all = part_of old ++ h.reads.bytes in
-          let joined = append_assoc (part_of old) h.reads.bytes bytes in
-          let size = ap length joined in
-          let both = length-append all bytes in
-          let there = h.there in
-          record {
+    -- one more read, which gave bytes, or the end
+    pub skip_read : is_ended new ≡ nat_eq (length bytes) 0 → HasSkipped new now
+    skip_read ended =
+        let s = h.since in
+        let done = h.skips.done in
+        let step = c.done in
+        record {
+          since = record {
             reads = reads_more;
-            gone = h.gone;
-            counted = h.counted;
-            there = omega (arith, there, size, both);
-            part = f.buffers.left ∙ (ap (λ l. l ++ bytes) (sym none ∙ h.part) ∙ (sym (drop-append-le h.gone all bytes there) ∙ ap (drop h.gone) joined));
-            done = c.done ∙ h.done;
-            taker = f.buffers.taker ∙ h.taker;
-            held = f.buffers.held ∙ h.held;
-            stopped = c.stopped ∙ h.stopped;
+            taker = f.buffers.taker ∙ s.taker;
+            held = f.buffers.held ∙ s.held;
+            stopped = c.stopped ∙ s.stopped;
             paid = λ still.
-                let paid = h.paid open_ in
+                let paid = s.paid open_ in
                 let came = gave bytes (is_ended new) ended still in
-                let total = length-append h.reads.bytes bytes in
+                let total = length-append s.reads.bytes bytes in
                 omega (arith, paid, came, total);
-          }
+          };
+          more = part_of old ++ s.reads.bytes;
+          all = ap (λ (l : List ℕ). (gone ++ (part_of old ++ s.reads.bytes)) ++ l) f.buffers.left
+              ∙ (append_assoc gone (part_of old ++ s.reads.bytes) bytes ∙ ap (λ (l : List ℕ). gone ++ l) (append_assoc (part_of old) s.reads.bytes bytes));
+          dropped = h.skips.dropped;
+          inside = inside_wanting limits (bytes_of mid s) wants;
+          done = omega (arith, step, done);
+        }
 
-      -- or failed
-      pub skips_failed : bytes ≡ [] → (r : ReadsToSkip k count left calls old new) × SkipsAll count (part_of old ++ r.bytes) old new
-      skips_failed nothing =
-          let s = skips_all in
-          let same : h.reads.bytes ≡ h.reads.bytes ++ bytes = sym (append-nil h.reads.bytes) ∙ ap (λ l. h.reads.bytes ++ l) (sym nothing) in (
-            reads_more,
-            record {
-              short = subst (λ (l : List ℕ). length (part_of old ++ l) < count) same s.short;
-              left = f.buffers.left ∙ nothing;
-              done = c.done ∙ (s.done ∙ ap (λ (l : List ℕ). done_of old + old.held + length (part_of old ++ l)) same);
-              stopped = c.stopped ∙ s.stopped;
-            },
-          )
+    -- or failed
+    pub skips_failed : bytes ≡ [] → (r : ReadsToSkip k limits (gone ++ part_of old) left calls old new) × (WantsMore limits (gone ++ (part_of old ++ r.bytes)) × SkipsAll limits gone (gone ++ (part_of old ++ r.bytes)) old new now)
+    skips_failed nothing =
+        let s = h.since in
+        let same : h.since.reads.bytes ≡ h.since.reads.bytes ++ bytes = sym (append-nil s.reads.bytes) ∙ ap (λ (l : List ℕ). s.reads.bytes ++ l) (sym nothing) in
+        let all : bytes_of mid s ≡ gone ++ (part_of old ++ (s.reads.bytes ++ bytes)) = ap (λ (l : List ℕ). gone ++ (part_of old ++ l)) same in
+        let done = h.skips.done in
+        let size = ap length all in
+        let step = c.done in (
+          reads_more,
+          (
+            subst (WantsMore limits) all wants,
+            record { left = f.buffers.left ∙ nothing; done = omega (arith, step, done, size); stopped = c.stopped ∙ h.skips.stopped; dropped = subst (HasDropped now) all h.skips.dropped },
+          ),
+        )
 
 -- the fault of what was refused
-refusal_of : (stopped : Option ReadFault) → is_refusal stopped ≡ true → (fault : Fault) × IsRefusal stopped fault
+pub refusal_of : (stopped : Option ReadFault) → is_refusal stopped ≡ true → (fault : Fault) × IsRefusal stopped fault
 refusal_of None e = absurd (false≢true e)
 refusal_of (Some Memory) e = absurd (false≢true e)
 refusal_of (Some (Format fault)) e = (fault, (refl, not_true (is_truncated fault.reason) e))
@@ -189,10 +184,42 @@ refusal_of (Some (Format fault)) e = (fault, (refl, not_true (is_truncated fault
 refusal_of (Some Device) e = absurd (false≢true e)
 refusal_of (Some TooManyReads) e = absurd (false≢true e)
 
--- a reader of raw messages, whose reader below let go of what its taker held
+pub refusal_is : (stopped : Option ReadFault) (fault : Fault) → IsRefusal stopped fault → is_refusal stopped ≡ true
+refusal_is stopped fault r = ap is_refusal r.0 ∙ ap not r.1
+
+-- nothing was dropped
+pub none_inside : (r : Refused) (limits : Limits) → r.dropped ≡ 0 → (gone : List ℕ) → HasDropped r gone → AreInside limits gone
+none_inside r limits zero gone h n s = let count = h.count in let there = s.there in omega (arith, zero, count, there)
+
+module _ {R T B : Type 0} {b : Ghosts B} where
+  -- what holds of what was dropped, if anything was
+  pub record AfterPass (limits : Limits) (new : Reader R T B b) (now : Refused) : Type 0 where
+    pub refused : 0 < now.dropped → is_refusal (stopped_of new) ≡ true
+    pub alone : 0 < now.dropped → part_of new ≡ []
+    pub inside : (gone : List ℕ) → HasDropped now gone → AreInside limits gone
+
+  module _ (limits : Limits) (gone w : List ℕ) (mid new : Reader R T B b) (now : Refused) (met : is_refusal (stopped_of mid) ≡ true) where
+    after_all : AreInside limits w → SkipsAll limits gone w mid new now → AfterPass limits new now
+    after_all inside s = record { refused = λ _. ap is_refusal s.stopped ∙ met; alone = λ _. s.left; inside = λ also h. inside_same now limits w also s.dropped h inside }
+
+    pub after_pass : (res : Result Passed ReadFault) → SkipAnswers limits gone w mid new now res → AfterPass limits new now
+    after_pass (Ok Over) s = record {
+      refused = λ some. absurd (let zero = s.nothing in omega (arith, zero, some));
+      alone = λ some. absurd (let zero = s.nothing in omega (arith, zero, some));
+      inside = none_inside now limits s.nothing;
+    }
+    after_pass (Ok CutOff) s = after_all (inside_wanting limits w s.0) s.1
+    after_pass (Ok Not) s = after_all (inside_none limits w s.0) s.1
+    after_pass (Err Memory) s = absurd s
+    after_pass (Err (Format fault)) s = absurd s
+    after_pass (Err Device) s = after_all (inside_wanting limits w s.0) s.1
+    after_pass (Err TooManyReads) s = after_all (inside_wanting limits w s.0) s.1
+
+-- ---- a reader of raw messages, whose reader below let go of what its taker held
+
 module _ {R A : Type 0} where
   -- it lends nothing, and keeps what is left of its buffer
-  stands : (limits : Limits) (r : RawReader R A) → r.reader.taker ≡ fresh limits → (kept r ≡ part_of r.reader) × (lent_of r ≡ [])
+  pub stands : (limits : Limits) (r : RawReader R A) → r.reader.taker ≡ fresh limits → (kept r ≡ part_of r.reader) × (lent_of r ≡ [])
   stands limits r e = (
     ap (λ (g : GathererState). under_way g.whole g.held ++ part_of r.reader) e,
     ap (λ (g : GathererState). whole_or g.whole g.held (slice_range r.reader.buffer.bytes (r.reader.start - g.lent) r.reader.start)) e
@@ -208,129 +235,102 @@ module _ {R A : Type 0} where
     pub stopped : stopped_of mid ≡ stopped_of old.reader
     pub taker : mid.taker ≡ fresh (limits_of old)
 
-  module _ (n : ℕ) (old : RawReader R A) (mid : Reader R GathererState Large ghosts) (g : LetsGo old mid) (fits : old.reader.held < n) where
-    abbrev reads_up_to : (new : RawReader R A) (left : R → Option (List ℕ)) (calls : R → ℕ) → ReadsToSkip gathering (n - mid.held) left calls mid new.reader → ReadsUpTo n left calls old new
-    reads_up_to new left calls r = reads_from gathering (λ before. length (kept old ++ before) < n) left calls (λ before. length (part_of mid ++ before) < n - mid.held) old.reader mid new.reader g.nothing
-        (λ before short. (part_after n (under_way old.reader.taker.whole old.reader.taker.held) (part_of old.reader) before old.reader.held old.held_counted fits).0
-        (subst (λ (l : List ℕ). length (l ++ before) < n - old.reader.held) g.part (subst (λ (k : ℕ). length (part_of mid ++ before) < n - k) g.held short))) r
+  module _ (old : RawReader R A) (mid : Reader R GathererState Large ghosts) (g : LetsGo old mid) (gone : List ℕ) where
+    abbrev held_of : List ℕ
+    held_of = under_way old.reader.taker.whole old.reader.taker.held
 
-    -- what is left of them
-    abbrev pub IsLeft : RawReader R A → Type 0
-    IsLeft new = new.owed ≡ n - (done_of new.reader - done_of old.reader)
+    -- the message's bytes, with those that the taker held
+    all_bytes : (bytes : List ℕ) → (gone ++ held_of) ++ (part_of mid ++ bytes) ≡ gone ++ (kept old ++ bytes)
+    all_bytes bytes =
+        ap (λ (l : List ℕ). (gone ++ held_of) ++ (l ++ bytes)) g.part
+        ∙ (append_assoc gone held_of (part_of old.reader ++ bytes) ∙ ap (λ (l : List ℕ). gone ++ l) (sym (append_assoc held_of (part_of old.reader) bytes)))
 
-    falls_short : (bytes : List ℕ) (new : RawReader R A) → new.reader.taker ≡ mid.taker → IsLeft new → SkipsAll (n - old.reader.held) (part_of old.reader ++ bytes) mid new.reader
-        → FallsShort n (kept old ++ bytes) old new
-    falls_short bytes new taker left_over s =
-        let there = part_after n (under_way old.reader.taker.whole old.reader.taker.held) (part_of old.reader) bytes old.reader.held old.held_counted fits in
-        let all = append_assoc (under_way old.reader.taker.whole old.reader.taker.held) (part_of old.reader) bytes in
-        let long = ap length all in
-        let both = length-append (under_way old.reader.taker.whole old.reader.taker.held) (part_of old.reader ++ bytes) in
-        record {
-          short = there.0 s.short;
-          kept = (stands (limits_of old) new (taker ∙ g.taker)).0 ∙ s.left;
-          done = (let done = s.done in let size = old.held_counted in let own = g.done in let held = g.held in omega (arith, done, size, long, both, own, held));
-          lent = (stands (limits_of old) new (taker ∙ g.taker)).1;
-          stopped = s.stopped ∙ g.stopped;
-          owed = (let done = s.done in let short = there.0 s.short in let size = old.held_counted in let own = g.done in let held = g.held in omega (arith, left_over, done, short, size, long, both, own, held));
-        }
+    wanted_bytes : (before : List ℕ) → ((gone ++ held_of) ++ part_of mid) ++ before ≡ gone ++ (kept old ++ before)
+    wanted_bytes before = append_assoc (gone ++ held_of) (part_of mid) before ∙ all_bytes before
 
-    passed : (bytes : List ℕ) (new : RawReader R A) (res : Result Bool ReadFault) → new.reader.taker ≡ mid.taker → IsLeft new
-        → SkipAnswers (n - old.reader.held) (part_of old.reader ++ bytes) mid new.reader res → PassAnswers n (kept old ++ bytes) old new res
-    passed bytes new (Ok true) taker left_over s =
-        let there = part_after n (under_way old.reader.taker.whole old.reader.taker.held) (part_of old.reader) bytes old.reader.held old.held_counted fits in
-        record {
-          there = there.1 s.there;
-          kept = (stands (limits_of old) new (taker ∙ g.taker)).0 ∙ (s.left ∙ there.2);
-          done = (let done = s.done in let own = g.done in let held = g.held in omega (arith, done, fits, own, held));
-          lent = (stands (limits_of old) new (taker ∙ g.taker)).1;
-          stopped = s.stopped;
-        }
-    passed bytes new (Ok false) taker left_over s = (falls_short bytes new taker left_over s.0, s.1)
-    passed bytes new (Err Memory) taker left_over s = absurd s
-    passed bytes new (Err (Format fault)) taker left_over s = absurd s
-    passed bytes new (Err Device) taker left_over s = falls_short bytes new taker left_over s
-    passed bytes new (Err TooManyReads) taker left_over s = (falls_short bytes new taker left_over s.0, s.1, s.2)
+    module _ (limits : Limits) (same : limits ≡ limits_of old) (left : R → Option (List ℕ)) (calls : R → ℕ) (new : RawReader R A) (taker : new.reader.taker ≡ mid.taker) where
+      abbrev reads_on : ReadsToSkip gathering limits ((gone ++ held_of) ++ part_of mid) left calls mid new.reader → ReadsOn gone left calls old new
+      reads_on r = reads_from gathering (λ before. WantsMore (limits_of old) (gone ++ (kept old ++ before))) left calls (λ before. WantsMore limits (((gone ++ held_of) ++ part_of mid) ++ before)) old.reader mid new.reader g.nothing
+          (λ before wants. subst (WantsMore (limits_of old)) (wanted_bytes before) (subst (λ (l : Limits). WantsMore l (((gone ++ held_of) ++ part_of mid) ++ before)) same wants)) r
 
-    -- what the reader below answers
-    abbrev pub Skipping : (R → Option (List ℕ)) → (R → ℕ) → Reader R GathererState Large ghosts → Result Bool ReadFault → Type 0
-    Skipping left calls new res = (r : ReadsToSkip gathering (n - mid.held) left calls mid new) × SkipAnswers (n - mid.held) (part_of mid ++ r.bytes) mid new res
+      drops_all : (bytes : List ℕ) → SkipsAll limits (gone ++ held_of) ((gone ++ held_of) ++ (part_of mid ++ bytes)) mid new.reader new.refused → DropsAll gone (gone ++ (kept old ++ bytes)) old new
+      drops_all bytes s =
+          let size = ap length (all_bytes bytes) in
+          let both = length-append gone held_of in
+          let count = old.held_counted in
+          let done = s.done in
+          let own = g.done in
+          let held = g.held in
+          record {
+            kept = (stands (limits_of old) new (taker ∙ g.taker)).0 ∙ s.left;
+            done = omega (arith, done, size, both, count, own, held);
+            lent = (stands (limits_of old) new (taker ∙ g.taker)).1;
+            stopped = s.stopped ∙ g.stopped;
+            dropped = subst (HasDropped new.refused) (all_bytes bytes) s.dropped;
+          }
 
-    pub passing : (left : R → Option (List ℕ)) (calls : R → ℕ) → is_refusal (stopped_of old.reader) ≡ true → IsDue old n → (new : RawReader R A)
-        → new.reader.taker ≡ mid.taker → IsLeft new → (res : Result Bool ReadFault) → Skipping left calls new.reader res → Passing left calls old new res
-    passing left calls met due new taker left_over res r =
-        let refusal = refusal_of (stopped_of old.reader) met in
-        let bytes = r.0.bytes in
-        let answers = subst (λ (k : ℕ). SkipAnswers (n - k) (part_of old.reader ++ bytes) mid new.reader res) g.held
-        (subst (λ (l : List ℕ). SkipAnswers (n - mid.held) (l ++ bytes) mid new.reader res) g.part r.1) in
-        inl (refusal.0, n, refusal.1, due, reads_up_to new left calls r.0, passed bytes new res taker left_over answers)
+      wants : (bytes : List ℕ) → WantsMore limits ((gone ++ held_of) ++ (part_of mid ++ bytes)) → WantsMore (limits_of old) (gone ++ (kept old ++ bytes))
+      wants bytes w = subst (λ (l : Limits). WantsMore l (gone ++ (kept old ++ bytes))) same (subst (WantsMore limits) (all_bytes bytes) w)
 
-  -- ---- what is to be passed over
+      passed : (bytes : List ℕ) (res : Result Passed ReadFault) → SkipAnswers limits (gone ++ held_of) ((gone ++ held_of) ++ (part_of mid ++ bytes)) mid new.reader new.refused res
+          → PassAnswers gone (gone ++ (kept old ++ bytes)) old new res
+      passed bytes (Ok Over) s =
+          let both = length-append gone held_of in
+          let count = old.held_counted in
+          let done = s.done in
+          let own = g.done in
+          let held = g.held in
+          record {
+            size = s.size;
+            states = subst (λ (l : Limits). StatesSize l (gone ++ (kept old ++ bytes)) s.size) same (subst (λ (l : List ℕ). StatesSize limits l s.size) (all_bytes bytes) s.states);
+            there = subst (λ (l : List ℕ). s.size ≤ length l) (all_bytes bytes) s.there;
+            kept = (stands (limits_of old) new (taker ∙ g.taker)).0 ∙ (s.left ∙ ap (drop s.size) (all_bytes bytes));
+            done = omega (arith, done, both, count, own, held);
+            lent = (stands (limits_of old) new (taker ∙ g.taker)).1;
+            stopped = s.stopped;
+          }
+      passed bytes (Ok CutOff) s = (wants bytes s.0, drops_all bytes s.1, s.2)
+      passed bytes (Ok Not) s = (subst (λ (l : Limits). StatesNone l (gone ++ (kept old ++ bytes))) same (subst (StatesNone limits) (all_bytes bytes) s.0), drops_all bytes s.1)
+      passed bytes (Err Memory) s = absurd s
+      passed bytes (Err (Format fault)) s = absurd s
+      passed bytes (Err Device) s = (wants bytes s.0, drops_all bytes s.1)
+      passed bytes (Err TooManyReads) s = (wants bytes s.0, drops_all bytes s.1, s.2, s.3)
 
-  pub owes_none : (old : RawReader R A) → stopped_of old.reader ≡ None → 0 < old.owed → ⊥
-  owes_none old none some = false≢true (sym (ap is_refusal none) ∙ old.owed_refused some)
+      -- what a call answers of which the reader below answers this
+      pub passing : (res : Result Passed ReadFault) → (r : ReadsToSkip gathering limits ((gone ++ held_of) ++ part_of mid) left calls mid new.reader)
+          × SkipAnswers limits (gone ++ held_of) ((gone ++ held_of) ++ (part_of mid ++ r.bytes)) mid new.reader new.refused res
+          → (r : ReadsOn gone left calls old new) × PassAnswers gone (gone ++ (kept old ++ r.bytes)) old new res
+      passing res r = (reads_on r.0, passed r.0.bytes res r.1)
 
-  pub none_stated : (old : RawReader R A) → old.owed ≡ 0 → ((n : ℕ) → StatesAll (limits_of old) (kept old) n → ⊥) → IsNoneDue old
-  none_stated old zero none fault n refusal (inl s) = none n s
-  none_stated old zero none fault n refusal (inr o) = absurd (let e = o.owed in let some = o.some in omega (arith, zero, e, some))
+  pub drops_none : (old : RawReader R A) → stopped_of old.reader ≡ None → 0 < old.refused.dropped → ⊥
+  drops_none old none some = false≢true (sym (ap is_refusal none) ∙ old.dropped_refused some)
 
-  pub due_owed : (old : RawReader R A) → 0 < old.owed → IsDue old old.owed × (old.reader.held < old.owed)
-  due_owed old some =
-      let none = old.owed_alone some in
-      let size = ap length none in
-      let both = length-append (under_way old.reader.taker.whole old.reader.taker.held) (part_of old.reader) in
-      let held = old.held_counted in
-      (inr (record { kept = none; owed = refl; some = some }), omega (arith, size, both, held, some))
+  pub drops_zero : (old : RawReader R A) → stopped_of old.reader ≡ None → old.refused.dropped ≡ 0
+  drops_zero old none = elim (cases_lt 0 old.refused.dropped) [ inl some ↦ absurd (drops_none old none some) | inr zero ↦ omega (arith, zero) ]
 
--- ---- what the first sixteen bytes state
+  -- no more bytes were dropped, with those that the taker holds, than the message has
+  pub inside_held : (old : RawReader R A) (gone : List ℕ) → WasDropped old gone → AreInside (limits_of old) (under_way old.reader.taker.whole old.reader.taker.held)
+      → AreInside (limits_of old) (gone ++ under_way old.reader.taker.whole old.reader.taker.held)
+  inside_held old gone has inside =
+      let held = under_way old.reader.taker.whole old.reader.taker.held in
+      elim (cases_lt 0 old.refused.dropped) [
+        | inl some ↦ (
+            let none = ap length (old.dropped_alone some) in
+            let both = length-append held (part_of old.reader) in
+            let nothing : held ≡ [] = nil_from_length held (omega (arith, none, both)) in
+            subst (AreInside (limits_of old)) (sym (ap (λ (l : List ℕ). gone ++ l) nothing ∙ append-nil gone)) (old.dropped_inside gone has)
+            )
+        | inr zero ↦ (
+            let count = has.count in
+            let empty : gone ≡ [] = nil_from_length gone (omega (arith, count, zero)) in
+            subst (AreInside (limits_of old)) (ap (λ (l : List ℕ). l ++ held) (sym empty)) inside
+            )
+      ]
 
-pub states_front : (limits : Limits) (w : List ℕ) (n : ℕ) → StatesLength limits (take 16 w) n → StatesLength limits w n
-states_front limits w n s = subst (λ (l : List ℕ). StatesLength limits l n) (take-append-drop 16 w) (one_stated limits (take 16 w) (drop 16 w) n n s).0
-
-states_some : (limits : Limits) (w : List ℕ) (n : ℕ) → StatesLength limits w n → 16 ≤ n
-unfolding StatesLength
-states_some limits w n s = omega (arith, s.3)
-
--- the bytes of a message under way are as many as are stated, or more
-pub states_less : (limits : Limits) (front part : List ℕ) (n k : ℕ) → IsPartial limits front → StatesLength limits (take 16 (front ++ part)) k → k ≤ length front → StatesAll limits (front ++ part) n → ⊥
-states_less limits front part n k partial states less all =
-    let one : n ≡ k = (one_stated limits (take 16 (front ++ part)) [] k n states).1 (subst (λ (l : List ℕ). StatesLength limits l n) (sym (append-nil (take 16 (front ++ part)))) all.0) in
-    all.1 (length front) (omega (arith, one, less)) (subst (λ (l : List ℕ). IsPartial limits l) (sym (take-append_seam front part)) partial)
-
--- too few bytes are there
-pub states_none : (limits : Limits) (w : List ℕ) (n : ℕ) → length (take 16 w) < 16 → IsPartial limits (take 16 w) → StatesAll limits w n → ⊥
-states_none limits w n few partial all =
-    let some = states_some limits (take 16 w) n all.0 in
-    let size = length-take 16 w in
-    let short : length w < 16 = omega (arith, few, size) in
-    all.1 n (omega arith) (subst (λ (l : List ℕ). IsPartial limits l) (take_all 16 w (omega (arith, short)) ∙ sym (take_all n w (omega (arith, short, some)))) partial)
-
--- ---- the first sixteen bytes of two lists
-
-module _ (first second : List ℕ) (h m : ℕ) (h_there : h ≤ length first) (m_there : m ≤ length second) (h_all : h < 16 → h ≡ length first) (m_all : h + m < 16 → m ≡ length second) (few : h + m ≤ 16) where
-  both_front : take h first ++ take m second ≡ take 16 (first ++ second)
-  both_front = elim (cases_lt h 16) [
-    | inl short ↦ (
-        let all = h_all short in
-        let left : length first + (16 - h) ≡ 16 = omega (arith, all, short) in
-        let tail : take m second ≡ take (16 - h) second = elim (cases_lt (h + m) 16) [
-          | inl less ↦ (let size = m_all less in take_all m second (omega (arith, size)) ∙ sym (take_all (16 - h) second (omega (arith, size, less))))
-          | inr full ↦ ap (λ k. take k second) (omega (arith, full, few))
-        ] in
-        ap (λ l. l ++ take m second) (take_all h first (omega (arith, all))) ∙ (ap (λ l. first ++ l) tail ∙ (sym (take-append-add first second (16 - h)) ∙ ap (λ k. take k (first ++ second)) left))
-        )
-    | inr long ↦ (
-        let full : h ≡ 16 = omega (arith, long, few) in
-        let none : m ≡ 0 = omega (arith, full, few) in
-        ap (λ k. take h first ++ take k second) none ∙ (append-nil (take h first) ∙ (ap (λ k. take k first) full ∙ sym (take-append-le 16 first second (omega (arith, full, h_there)))))
-        )
-  ]
-
-  pub copied : (x y : List ℕ) → take (h + m) (take h (take h first ++ x) ++ (take m second ++ y)) ≡ take 16 (first ++ second)
-  copied x y =
-      let size = length-take-le h first h_there in
-      let rest = length-take-le m second m_there in
-      let front : take h (take h first ++ x) ≡ take h first = ap (λ k. take k (take h first ++ x)) (sym size) ∙ take-append_seam (take h first) x in
-      let back : take m (take m second ++ y) ≡ take m second = ap (λ k. take k (take m second ++ y)) (sym rest) ∙ take-append_seam (take m second) y in
-      ap (λ l. take (h + m) (l ++ (take m second ++ y))) front
-      ∙ (ap (λ k. take (k + m) (take h first ++ (take m second ++ y))) (sym size)
-      ∙ (take-append-add (take h first) (take m second ++ y) m ∙ (ap (λ l. take h first ++ l) back ∙ both_front)))
+  -- how many bytes the taker holds and the buffer has left
+  pub few_left : (old : RawReader R A) → old.reader.end ≤ length old.reader.buffer.bytes
+      → old.refused.dropped + length (under_way old.reader.taker.whole old.reader.taker.held) + length (part_of old.reader) ≤ 2 ^ 50
+  few_left old room =
+      let r = old.reader in
+      let size = part_size r.buffer.bytes r.start r.end r.in_order room in
+      omega (arith, size, old.held_counted, old.dropped_counted, r.counted, r.few_reads, r.low_most)

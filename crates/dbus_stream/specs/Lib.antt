@@ -11,6 +11,8 @@ pub mod Steps
 pub mod CheckReading
 pub mod Gathering
 pub mod RawReading
+pub mod StatedSizes
+pub mod Dropping
 pub mod Passing
 pub mod Cutting
 pub mod CutterTaking

@@ -49,11 +49,6 @@ module _ {R A : Type 0} where
   abbrev pub last_of : RawReader R A → ℕ
   last_of r = reading.last_of r.reader
 
-  -- how many bytes of a refused message are still to be dropped, after a call that could not drop
-  -- all of them
-  abbrev pub owed_of : RawReader R A → ℕ
-  owed_of r = r.owed
-
   -- how many reads were made, and how many may be made in all
   abbrev pub reads_of : RawReader R A → ℕ
   reads_of r = r.reader.reads

@@ -1,15 +1,17 @@
 //! Raw messages from a source.
-ghost use Rattle.std.specs.Prelude.{◌≡◌, ◌≤◌, ◌<◌, ◌+◌, ◌-◌, ◌^◌, ◌++◌, [], length, slice_range, take, true, ℕ};
+ghost use Rattle.std.specs.Prelude.{◌≡◌, ◌≤◌, ◌<◌, ◌+◌, ◌-◌, ◌^◌, ◌++◌, [], length, slice_range, true, List, ℕ};
 ghost use Rattle.dbus_stream.specs.Gathering.{under_way};
 ghost use Rattle.dbus_stream.specs.Lasting.{is_refusal, is_truncated};
+ghost use Rattle.dbus_stream.specs.Dropping.{AreInside, HasDropped};
 
 use crate::buffer::{Buffer, Large};
 use crate::gatherer::Gatherer;
+use crate::passed::Passed;
 use crate::read_fault::ReadFault;
 use crate::reader::Reader;
 use crate::reads::MOST_READS;
+use crate::refused::{Refused, Size};
 use dbus_device::{Packet, Source};
-use dbus_header::stated_length_within;
 use dbus_validate::Validated;
 use dbus_value_model::{Fault, Limits, Reason};
 use std::alloc::{Allocator, Global};
@@ -28,22 +30,24 @@ pub struct RawReader<R, A: Allocator = Global> {
     // Its taker holds the bytes of the message under way that came by earlier reads, or those of
     // the one that is lent.
     reader: Reader<R, Gatherer<A>, Large>,
-    // How many bytes of a refused message are still to be dropped, after a call that could not drop
-    // all of them.
-    owed: u64,
+    // What was dropped of a refused message, by a call that did not come to its end.
+    refused: Refused,
     ghost lent_before: { reader.taker.lent ≤ reader.start },
     ghost lent_counted: { reader.taker.lent ≤ reader.done },
     ghost lent_alone: { 0 < reader.taker.lent → reader.taker.held ≡ [] },
     ghost held_counted: { reader.held ≡ length (under_way reader.taker.whole reader.taker.held) },
-    ghost owed_refused: { 0 < owed → is_refusal reader.stopped ≡ true },
-    ghost owed_alone: { 0 < owed → under_way reader.taker.whole reader.taker.held ++
+    ghost dropped_refused: { 0 < refused.dropped → is_refusal reader.stopped ≡ true },
+    ghost dropped_alone: { 0 < refused.dropped → under_way reader.taker.whole reader.taker.held ++
         slice_range reader.buffer.bytes reader.start reader.end ≡ [] },
+    ghost dropped_counted: { refused.dropped ≤ reader.done },
+    ghost dropped_inside: { (gone : List ℕ) → HasDropped refused gone →
+        AreInside reader.taker.limits gone },
 }
 
 impl<R: Source, A: Allocator + Copy> RawReader<R, A> {
-    ghost use Rattle.std.specs.Prelude.{None, Some, IfSome};
-    ghost use Rattle.dbus_header.specs.StatedLengths.{StatesLength};
-    ghost use Rattle.dbus_stream.specs.Passing.{IsDue, IsNoneDue, Passing, StatesAll};
+    ghost use Rattle.std.specs.Prelude.{None, Some};
+    ghost use Rattle.dbus_stream.specs.Passing.{Passing, WasDropped};
+    ghost use Rattle.dbus_stream.specs.StatedSizes.{StatesNone};
     ghost use Rattle.dbus_value_model.specs.Specification.{specification};
     ghost use Rattle.dbus_stream.specs.declared.read_fault.ReadFault.{ReadFault};
     ghost use Rattle.dbus_stream.specs.Next.{DeviceCounts};
@@ -83,7 +87,7 @@ impl<R: Source, A: Allocator + Copy> RawReader<R, A> {
                 },
                 reads,
             ),
-            owed: 0,
+            refused: Refused::nothing(),
         }
     }
 
@@ -233,22 +237,25 @@ impl<R: Source, A: Allocator + Copy> RawReader<R, A> {
         }
     }
 
-    /// Passes over the message that was refused, by the length that its first 16 bytes state, and
-    /// returns whether it did. Then the fault is gone, and the next call goes on with what follows
-    /// those bytes. They are dropped as they are read, and a read is made only if more of them are
-    /// wanted; [`RawReader::done`] counts them. D-Bus Specification, "Message Format".
+    /// Passes over the message that was refused, by the size that its first 16 bytes state, whatever
+    /// else they say: by its order byte and the lengths of its fields and its body. If fewer than 16
+    /// are there, more are read. If it returns `Over`, the fault is gone, and the next call goes on
+    /// with what follows the message. Its bytes are dropped as they are read, and a read is made
+    /// only if more of them are wanted; [`RawReader::done`] counts them. D-Bus Specification,
+    /// "Message Format".
     ///
-    /// False, and nothing is changed, if none was refused (`Truncated` is no such fault), or if its
-    /// first 16 bytes state no length within the limits. False also if the input ends before so
-    /// many bytes.
+    /// `Not`, and nothing is changed, if no message was refused (`Truncated` is no such fault), or if
+    /// it states no size within the limits, whatever follows: its order byte is neither `l` nor `B`,
+    /// or its 16 bytes are there.
     ///
-    /// `TooManyReads`: as many reads were made as it may make. `Device`: a read failed. Then, and
-    /// if the input ended, all that was kept and read is dropped, and the fault stays:
+    /// `CutOff`: the input ends within it. `Not` after a read: its first 16 bytes, of which fewer
+    /// were there, state no size. `TooManyReads`: as many reads were made as it may make. `Device`: a
+    /// read failed. Then all that was kept and read is dropped, and the fault stays:
     /// [`RawReader::advance`] and `next` return it and change nothing. The same call made again
     /// drops the bytes that are left of the message, and no others.
     ///
     /// ```rust
-    /// use dbus_stream::{FromRead, RawReader, ReadFault};
+    /// use dbus_stream::{FromRead, Passed, RawReader, ReadFault};
     ///
     /// let mut reader = RawReader::new(alloc, FromRead::new(rt.stdin()));
     /// for _ in 0..u64::MAX {
@@ -257,7 +264,7 @@ impl<R: Source, A: Allocator + Copy> RawReader<R, A> {
     ///         Ok(None) => break,
     ///         Err(ReadFault::Format(fault)) => {
     ///             println!(rt; "refused at {}: {}", reader.done() + fault.at, fault.reason)?;
-    ///             if !reader.pass_over()? {
+    ///             if reader.pass_over()? != Passed::Over {
     ///                 break;
     ///             }
     ///         }
@@ -265,7 +272,7 @@ impl<R: Source, A: Allocator + Copy> RawReader<R, A> {
     ///     }
     /// }
     /// ```
-    pub fn pass_over(&mut self) -> Result<bool, ReadFault>
+    pub fn pass_over(&mut self) -> Result<Passed, ReadFault>
         // Of what was kept and then read it drops so many bytes as the refused message states, or
         // as are left of it.
         ensures passes { Passing R.left R.calls self.old self.new result }
@@ -276,52 +283,27 @@ impl<R: Source, A: Allocator + Copy> RawReader<R, A> {
         ensures packets { KeepsPackets R.packets R.packet self.old self.new }
         ensures few { done_of self.new ≤ 2 ^ 50 }
     {
-        let Some(count) = self.due() else {
-            return Ok(false);
-        };
-        let before = self.reader.done;
-        self.reader.taker.let_go();
-        let passed = self.reader.pass_over(count);
-        self.owed = count - (self.reader.done - before);
-        passed
-    }
-
-    // How many bytes are to be passed over, if any are. More are than the taker holds.
-    fn due(&self) -> Option<u64>
-        ensures some { IfSome result (λ n. (is_refusal (stopped_of self.now) ≡ true) ×
-            IsDue self.now n × (self.now.reader.held < n)) }
-        ensures none { result ≡ None → IsNoneDue self.now }
-    {
         if !is_refusal(self.reader.stopped) {
-            return None;
+            return Ok(Passed::Not);
         }
-        if self.owed > 0 {
-            return Some(self.owed);
+        if self.states_none() {
+            return Ok(Passed::Not);
         }
-        self.stated()
+        self.refused.drop_bytes(self.reader.taker.under_way());
+        self.reader.taker.let_go();
+        let limits = self.reader.taker.limits();
+        self.reader.pass_over(limits, &mut self.refused)
     }
 
-    // The length that the first 16 of the bytes that are kept state, if they do. The bytes of a
-    // message under way are fewer.
-    fn stated(&self) -> Option<u64>
-        ensures some { IfSome result (λ n. StatesLength (limits_of self.now) (kept self.now) n ×
-            (self.now.reader.held < n)) }
-        ensures none { result ≡ None → (n : ℕ) → StatesAll (limits_of self.now) (kept self.now) n → ⊥ }
+    // Whether what is there of the refused message states no size, whatever follows.
+    fn states_none(&self) -> bool
+        ensures { result ≡ true → (gone : List ℕ) → WasDropped self.now gone →
+            StatesNone (limits_of self.now) (gone ++ kept self.now) }
     {
-        let mut front = [0u8; 16];
-        let held = self.reader.taker.under_way();
-        let count = copy_front(held, self.reader.part(), &mut front);
-        match stated_length_within(&front[..count], self.reader.taker.limits()) {
-            Ok(Some(length)) => {
-                if length > held.len() as u64 {
-                    Some(length)
-                } else {
-                    None
-                }
-            }
-            Ok(None) => None,
-            Err(_) => None,
-        }
+        let mut there = self.refused;
+        there.drop_bytes(self.reader.taker.under_way());
+        there.drop_bytes(self.reader.part());
+        matches!(there.size(self.reader.taker.limits()), Size::Unstated)
     }
 
     // The bytes of the message that is lent. If the memory is not there, the message is kept again.
@@ -367,16 +349,4 @@ fn is_truncated(fault: Fault) -> bool
     ensures { result ≡ is_truncated fault.reason }
 {
     matches!(fault.reason, Reason::Truncated)
-}
-
-// Copies the first 16 bytes of two slices, one after the other, and returns how many there are.
-fn copy_front(first: &[u8], second: &[u8], front: &mut [u8; 16]) -> usize
-    ensures within { result ≤ 16 }
-    ensures copied { take result front.new ≡ take 16 (first.now ++ second.now) }
-{
-    let held = first.len().min(16);
-    let more = second.len().min(16 - held);
-    front[..held].copy_from_slice(&first[..held]);
-    front[held..held + more].copy_from_slice(&second[..more]);
-    held + more
 }

@@ -3,11 +3,13 @@ ghost use Rattle.std.specs.Prelude.{◌≡◌, ◌≤◌, ◌<◌, ◌+◌, ◌*
 ghost use Rattle.dbus_stream.specs.Lasting.{is_lasting};
 
 use crate::buffer::Buffer;
+use crate::passed::Passed;
 use crate::read_fault::ReadFault;
+use crate::refused::{Refused, Size};
 use crate::stream_fault::StreamFault;
 use crate::taker::Taker;
 use dbus_device::{DeviceFault, Packet, Source};
-use dbus_value_model::{Fault, Reason};
+use dbus_value_model::{Fault, Limits, Reason};
 
 /// Reads messages from a source, one after another, by a buffer inside it, and gives what its taker
 /// makes of each: a [`crate::MessageReader`] the message, a [`crate::CheckReader`] its length.
@@ -46,6 +48,7 @@ impl<R: Source, T: Taker, B: Buffer> Reader<R, T, B> {
     ghost use Rattle.dbus_stream.specs.Reading.{limits_of, source_of, taker_of, part_of, done_of, reads_of, most_reads_of, stopped_of, Keeps, IsNewReader};
     ghost use Rattle.dbus_stream.specs.Next.{NextAnswers, KeptAnswers, DeviceCounts, Reads, ReadsNothing};
     ghost use Rattle.dbus_stream.specs.Packets.{KeepsPackets};
+    ghost use Rattle.dbus_stream.specs.Dropping.{AreInside, HasDropped};
     ghost use Rattle.dbus_stream.specs.Passing.{ReadsToSkip, SkipAnswers};
     ghost use Rattle.dbus_stream.specs.Steps.{TakesAll, Stops, Drops, Fills, Calls};
 
@@ -170,17 +173,25 @@ impl<R: Source, T: Taker, B: Buffer> Reader<R, T, B> {
         self.take_kept()
     }
 
-    /// Passes over so many bytes: those that its taker held before it let go of them, then what is
-    /// left of the buffer and what is read. It stands before what follows then, without a fault,
-    /// and the answer is true. It is false if the input ends before; then, and after an error, all
-    /// that was there is passed over, and a fault stays. A read is made only if more are wanted.
+    /// Passes over a refused message, of which these bytes were dropped, those among them that its
+    /// taker held before it let go of them; then what is left of the buffer and what is read. If it
+    /// is passed over, the reader stands before what follows then, without a fault. Else, and after
+    /// an error, all that was there is passed over, and a fault stays. A read is made only if more
+    /// is wanted.
     ///
     /// `TooManyReads`: as many reads were made as it may make. `Device`: a read failed.
-    pub(crate) fn pass_over(&mut self, count: u64) -> Result<bool, ReadFault>
-        requires { self.old.held ≤ count }
-        ensures passes { (r : ReadsToSkip T.known (count - self.old.held) R.left R.calls self.old self.new) ×
-            SkipAnswers (count - self.old.held) (part_of self.old ++ r.bytes) self.old self.new result }
+    pub(crate) fn pass_over(
+        &mut self,
+        limits: Limits,
+        refused: &mut Refused,
+    ) -> Result<Passed, ReadFault>
+        requires counted { refused.old.dropped ≤ done_of self.old + self.old.held }
+        requires inside { (gone : List ℕ) → HasDropped refused.old gone → AreInside limits gone }
+        ensures passes { (gone : List ℕ) → HasDropped refused.old gone →
+            (r : ReadsToSkip T.known limits (gone ++ part_of self.old) R.left R.calls self.old self.new) ×
+            SkipAnswers limits gone (gone ++ (part_of self.old ++ r.bytes)) self.old self.new refused.new result }
         ensures nothing { (taker_of self.new ≡ taker_of self.old) × (self.new.held ≡ 0) }
+        ensures counted { refused.new.dropped ≤ done_of self.new }
         ensures failed { DeviceCounts (R.failures (source_of self.old))
             (R.failures (source_of self.new)) result }
         ensures same_reference { R.reference (source_of self.new) ≡
@@ -188,20 +199,30 @@ impl<R: Source, T: Taker, B: Buffer> Reader<R, T, B> {
         ensures packets { KeepsPackets R.packets R.packet self.old self.new }
         ensures few { done_of self.new ≤ B.room.size * 2 ^ 32 }
     {
-        let mut left = count - self.held;
         self.done += self.held;
         self.held = 0;
         'reading: loop {
             let kept = self.part().len() as u64;
-            if left <= kept {
-                self.skip(left);
-                self.stopped = None;
-                return Ok(true);
+            let mut there = *refused;
+            there.drop_bytes(self.part());
+            match there.size(limits) {
+                Size::There(size) => {
+                    self.skip(size - refused.dropped);
+                    *refused = Refused::nothing();
+                    self.stopped = None;
+                    return Ok(Passed::Over);
+                }
+                Size::Wanted => {}
+                Size::Unstated => {
+                    self.skip(kept);
+                    *refused = there;
+                    return Ok(Passed::Not);
+                }
             }
             self.skip(kept);
-            left -= kept;
+            *refused = there;
             if self.ended {
-                return Ok(false);
+                return Ok(Passed::CutOff);
             }
             if self.reads >= self.most_reads {
                 return Err(ReadFault::TooManyReads);

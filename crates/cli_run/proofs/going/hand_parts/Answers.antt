@@ -1,9 +1,9 @@
 use Rattle.std.proofs.Common.{◌≡◌, Bool, not, true, false, ap, arith, refl, sym, ◌∙◌}
 use Rattle.dbus_stream.specs.RawReading.{done_of}
 use Rattle.cli_run.specs.Refusals.{number_of}
-use Rattle.cli_run.proofs.GoEnds.{breaks, closes, finished, goes_on, halts, not_told, stays}
+use Rattle.cli_run.proofs.GoEnds.{breaks, closes, ends_short, finished, goes_on, grows, halts, not_less, not_told, stays}
 use Rattle.cli_run.proofs.KnownPackets.{known_first, known_still}
-use Rattle.cli_run.proofs.GoSteps.{gone_none, within, done_small, grows, not_less, reach, stop_hand}
+use Rattle.cli_run.proofs.GoSteps.{gone_none, within, done_small, reach, stop_hand}
 use Rattle.cli_run.proofs.going.hand_parts.Goals as goal
 
 -- a flag that is not set, or is
@@ -57,14 +57,23 @@ returns-then-not-settings-clause-passes g c =
     let ended = halts laws r c.in-Some.is c.number_of.result (c.number_of.ensures ∙ ap number_of c.packet.ensures) told.0 told.1 told.2 (unset c.args.settings.keeps_going c.if-not-settings.true) in
     closes ended laws c.in-Ok-tell.ensures.settled c.close-then-not-settings.new.visitor c.close-then-not-settings.result c.close-then-not-settings.ensures.closes
 
-pub returns-in-Ok-false-clause-passes : goal.returns-in-Ok-false-clause-passes
-returns-in-Ok-false-clause-passes g c =
+pub returns-in-CutOff-clause-passes : goal.returns-in-CutOff-clause-passes
+returns-in-CutOff-clause-passes g c =
     let laws = g.met.V.MessageVisitor.adds_up in
     let r = reach c.parts.invariant.0 laws c.parts.invariant.4 c.hand_all.new.messages c.hand_all.new.visitor
     (known_still g.R.Source.packets g.R.Source.packet c.parts.messages c.hand_all.new.messages _ c.hand_all.ensures.packets c.parts.invariant.4) c.in-Ok.counted c.up_to-tally.result c.up_to-tally.ensures c.in-Ok.ensures.hands in
     let told = c.in-Ok-tell.ensures.tells in
-    let ended = stays laws r c.in-Some.is c.number_of.result (c.number_of.ensures ∙ ap number_of c.packet.ensures) told.0 told.1 told.2 c.pass_over.new.self c.at_end-ended.result c.done-in-Ok-false.result c.done-in-Ok-false.ensures c.at_end-ended.ensures.same c.at_end-ended.ensures.cut (set c.args.settings.keeps_going c.if-not-settings.false) (rw c.in-Ok-false.field-0-test at c.in-Ok-false.ensures.passes) c.in-Ok-false.ensures.failed in
-    closes ended laws c.in-Ok-tell.ensures.settled c.close-in-Ok-false.new.visitor c.close-in-Ok-false.result c.close-in-Ok-false.ensures.closes
+    let ended = ends_short laws r c.in-Some.is c.number_of.result (c.number_of.ensures ∙ ap number_of c.packet.ensures) told.0 told.1 told.2 c.pass_over.new.self c.at_end-ended.result c.done-in-CutOff.result c.done-in-CutOff.ensures c.at_end-ended.ensures (set c.args.settings.keeps_going c.if-not-settings.false) (rw c.in-Ok-CutOff.field-0-is at c.in-Ok-CutOff.ensures.passes) c.in-Ok-CutOff.ensures.failed in
+    closes ended laws c.in-Ok-tell.ensures.settled c.close-in-CutOff.new.visitor c.close-in-CutOff.result c.close-in-CutOff.ensures.closes
+
+pub returns-in-Not-clause-passes : goal.returns-in-Not-clause-passes
+returns-in-Not-clause-passes g c =
+    let laws = g.met.V.MessageVisitor.adds_up in
+    let r = reach c.parts.invariant.0 laws c.parts.invariant.4 c.hand_all.new.messages c.hand_all.new.visitor
+    (known_still g.R.Source.packets g.R.Source.packet c.parts.messages c.hand_all.new.messages _ c.hand_all.ensures.packets c.parts.invariant.4) c.in-Ok.counted c.up_to-tally.result c.up_to-tally.ensures c.in-Ok.ensures.hands in
+    let told = c.in-Ok-tell.ensures.tells in
+    let ended = stays laws r c.in-Some.is c.number_of.result (c.number_of.ensures ∙ ap number_of c.packet.ensures) told.0 told.1 told.2 c.pass_over.new.self (set c.args.settings.keeps_going c.if-not-settings.false) (rw c.in-Ok-Not.field-0-is at c.in-Ok-Not.ensures.passes) c.in-Ok-Not.ensures.failed in
+    closes ended laws c.in-Ok-tell.ensures.settled c.close-in-Not.new.visitor c.close-in-Not.result c.close-in-Not.ensures.closes
 
 pub returns-in-Err-pass_over-clause-passes : goal.returns-in-Err-pass_over-clause-passes
 returns-in-Err-pass_over-clause-passes g c =
@@ -81,9 +90,9 @@ at_end-ended-requires g c =
     let r = reach c.parts.invariant.0 g.met.V.MessageVisitor.adds_up c.parts.invariant.4 c.hand_all.new.messages c.hand_all.new.visitor
     (known_still g.R.Source.packets g.R.Source.packet c.parts.messages c.hand_all.new.messages _ c.hand_all.ensures.packets c.parts.invariant.4) c.in-Ok.counted c.up_to-tally.result c.up_to-tally.ensures c.in-Ok.ensures.hands in
     let far = within r.gone in
-    let on = not_less g.R.Source.left g.R.Source.calls c.hand_all.new.messages c.pass_over.new.self (rw c.in-Ok-false.field-0-test at c.in-Ok-false.ensures.passes) in
+    let on = not_less g.met.V.MessageVisitor.adds_up r c.in-Some.is c.number_of.result (c.number_of.ensures ∙ ap number_of c.packet.ensures) c.pass_over.new.self (rw c.in-Ok-CutOff.field-0-is at c.in-Ok-CutOff.ensures.passes) in
     let small = done_small c.pass_over.new.self in
-    let end : c.done-in-Ok-false.result ≡ done_of c.pass_over.new.self = c.done-in-Ok-false.ensures in
+    let end : c.done-in-CutOff.result ≡ done_of c.pass_over.new.self = c.done-in-CutOff.ensures in
     record {
       few = omega (arith, far.count, far.small);
       few_passed = far.passed;
@@ -96,7 +105,7 @@ past-tally-requires g c =
     let r = reach c.parts.invariant.0 g.met.V.MessageVisitor.adds_up c.parts.invariant.4 c.hand_all.new.messages c.hand_all.new.visitor
     (known_still g.R.Source.packets g.R.Source.packet c.parts.messages c.hand_all.new.messages _ c.hand_all.ensures.packets c.parts.invariant.4) c.in-Ok.counted c.up_to-tally.result c.up_to-tally.ensures c.in-Ok.ensures.hands in
     let far = within r.gone in
-    let on = grows g.R.Source.left g.R.Source.calls c.hand_all.new.messages c.pass_over.new.self (rw c.in-Ok-true.field-0-test at c.in-Ok-true.ensures.passes) in
+    let on = grows g.met.V.MessageVisitor.adds_up r c.in-Some.is c.number_of.result (c.number_of.ensures ∙ ap number_of c.packet.ensures) c.pass_over.new.self (rw c.in-Ok-Over.field-0-is at c.in-Ok-Over.ensures.passes) in
     let small = done_small c.pass_over.new.self in
     let end : c.done.result ≡ done_of c.pass_over.new.self = c.done.ensures in
     record {
@@ -112,10 +121,10 @@ parts-preserved g c =
     let r = reach c.parts.invariant.0 laws c.parts.invariant.4 c.hand_all.new.messages c.hand_all.new.visitor
     (known_still g.R.Source.packets g.R.Source.packet c.parts.messages c.hand_all.new.messages _ c.hand_all.ensures.packets c.parts.invariant.4) c.in-Ok.counted c.up_to-tally.result c.up_to-tally.ensures c.in-Ok.ensures.hands in
     let told = c.in-Ok-tell.ensures.tells in
-    let passes = rw c.in-Ok-true.field-0-test at c.in-Ok-true.ensures.passes in (
+    let passes = rw c.in-Ok-Over.field-0-is at c.in-Ok-Over.ensures.passes in (
       goes_on laws r c.in-Some.is c.number_of.result (c.number_of.ensures ∙ ap number_of c.packet.ensures) told.0 told.1 told.2 c.pass_over.new.self c.past-tally.result c.done.result c.done.ensures c.past-tally.ensures
-          (set c.args.settings.keeps_going c.if-not-settings.false) passes c.in-Ok-true.ensures.failed,
-      (grows g.R.Source.left g.R.Source.calls c.hand_all.new.messages c.pass_over.new.self passes).0,
+          (set c.args.settings.keeps_going c.if-not-settings.false) passes c.in-Ok-Over.ensures.failed,
+      (grows laws r c.in-Some.is c.number_of.result (c.number_of.ensures ∙ ap number_of c.packet.ensures) c.pass_over.new.self passes).0,
       c.in-Ok-tell.ensures.settled,
       c.pass_over.ensures.same_reference ∙ (c.hand_all.ensures.same_reference ∙ c.parts.invariant.3),
       known_still g.R.Source.packets g.R.Source.packet c.hand_all.new.messages c.pass_over.new.self _ c.pass_over.ensures.packets
@@ -124,6 +133,8 @@ parts-preserved g c =
 
 pub parts-smaller : goal.parts-smaller
 parts-smaller g c =
+    let r = reach c.parts.invariant.0 g.met.V.MessageVisitor.adds_up c.parts.invariant.4 c.hand_all.new.messages c.hand_all.new.visitor
+    (known_still g.R.Source.packets g.R.Source.packet c.parts.messages c.hand_all.new.messages _ c.hand_all.ensures.packets c.parts.invariant.4) c.in-Ok.counted c.up_to-tally.result c.up_to-tally.ensures c.in-Ok.ensures.hands in
     let all = c.in-Ok.ensures.hands.all in
-    let on = grows g.R.Source.left g.R.Source.calls c.hand_all.new.messages c.pass_over.new.self (rw c.in-Ok-true.field-0-test at c.in-Ok-true.ensures.passes) in
+    let on = grows g.met.V.MessageVisitor.adds_up r c.in-Some.is c.number_of.result (c.number_of.ensures ∙ ap number_of c.packet.ensures) c.pass_over.new.self (rw c.in-Ok-Over.field-0-is at c.in-Ok-Over.ensures.passes) in
     omega (arith, all.done, all.size_is, on.1, done_small c.pass_over.new.self)

@@ -1,0 +1,95 @@
+#!/usr/bin/env python3
+"""damaged.py PROGRAM: changes each byte of each message of the samples in three ways, and asks the program dbus-wire what `--keep-going` saves. A change of
+any byte but those that say where the message ends loses that message at most. The exit status is 1 if more is lost.
+
+The bytes that say where a message ends are its order byte and the lengths of its body and its header fields: 0, 4 to 7 and 12 to 15. If one of these is
+changed, what follows is read from another place on, or not at all. Then the messages before it are there, and how many are lost is counted and told.
+"""
+
+import concurrent.futures as futures
+import os
+import pathlib
+import subprocess
+import sys
+
+sys.dont_write_bytecode = True
+
+SAMPLES = pathlib.Path(__file__).resolve().parent.parent / "samples"
+PLACED = (0, 4, 5, 6, 7, 12, 13, 14, 15)
+# What a byte is changed by.
+CHANGES = (0x01, 0x80, 0xFF)
+
+
+def ran(program, data):
+    """What `filter --keep-going` writes of some bytes, and how many messages it refuses."""
+    done = subprocess.run([program, "filter", "--keep-going", ""], input=data, capture_output=True)
+    return done.stdout, sum(it.startswith(b"refused at ") for it in done.stderr.splitlines())
+
+
+def messages_of(data):
+    """The messages of a capture without a fault."""
+    found, at = [], 0
+    while at < len(data):
+        order = "little" if data[at] == ord("l") else "big"
+        body, fields = (int.from_bytes(data[at + it : at + it + 4], order) for it in (4, 12))
+        end = at + 16 + -(-fields // 8) * 8 + body
+        found.append(data[at:end])
+        at = end
+    return found
+
+
+def changed(message, at, change):
+    return message[:at] + bytes([message[at] ^ change]) + message[at + 1 :]
+
+
+def count_left(written, damaged, next_one):
+    """Whether each pair of a damaged message and the next one gave both or the next one alone, and how many of the damaged ones are there."""
+    at = left = 0
+    for one in damaged:
+        if written.startswith(one + next_one, at):
+            left += 1
+            at += len(one)
+        if not written.startswith(next_one, at):
+            return None
+        at += len(next_one)
+    return left if at == len(written) else None
+
+
+def one_message(program, message):
+    """Each byte of a message that does not say where it ends is changed. After each of these messages comes a whole one."""
+    damaged = [changed(message, at, it) for at in range(len(message)) if at not in PLACED for it in CHANGES]
+    written, refused = ran(program, b"".join(it + message for it in damaged))
+    left = count_left(written, damaged, message)
+    return len(damaged), left is not None and left + refused == len(damaged)
+
+
+def one_end(program, messages, number):
+    """Each byte of a message that says where it ends is changed: how many messages are lost each time, or None if one of those before it is."""
+    before = b"".join(messages[:number])
+    lost = []
+    for at in PLACED:
+        for change in CHANGES:
+            parts = [*messages[:number], changed(messages[number], at, change), *messages[number + 1 :]]
+            written = ran(program, b"".join(parts))[0]
+            lost.append(len(messages) - len(messages_of(written)) if written.startswith(before) else None)
+    return lost
+
+
+def one_sample(program, name):
+    messages = messages_of((SAMPLES / name).read_bytes())
+    with futures.ThreadPoolExecutor(os.cpu_count()) as pool:
+        all_of = list(pool.map(lambda it: one_message(program, it), messages))
+        ends = sum(pool.map(lambda it: one_end(program, messages, it), range(0, len(messages), 16)), [])
+    wrong = sum(not is_well for _, is_well in all_of) + ends.count(None)
+    lost = sorted(it for it in ends if it is not None)
+    print(f"{name}: {len(messages)} messages, {sum(it for it, _ in all_of)} changes that lose one at most; of {len(ends)} that say where a message ends "
+          f"{sum(it <= 1 for it in lost)} do, and half lose {lost[len(lost) // 2]} or more; {wrong} wrong")
+    return wrong
+
+
+def main():
+    program = sys.argv[1]
+    sys.exit(sum(one_sample(program, it) for it in ("session.dbus", "big-endian.dbus", "calls.dbus")) > 0)
+
+
+main()
