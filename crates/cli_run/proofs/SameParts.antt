@@ -189,7 +189,7 @@ module _ (limits : Limits) where
       let long = ap length last.0.1 in
       let both = length-append kept last.0.0 in
       let never : goes_on ≡ true → StatesNone limits (rest ++ more) = λ goes.
-          none_more limits rest more (omega (arith, some, long, both)) (last.2 goes (refused_reason limits kept fault kept_bytes o)) in (
+      none_more limits rest more (omega (arith, some, long, both)) (last.2 goes (refused_reason limits kept fault kept_bytes o)) in (
         record {
           outcome_is = refused_from kept (rest ++ more) fault front o;
           cut_off = λ cut. absurd (false≢true cut);

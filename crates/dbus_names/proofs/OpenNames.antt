@@ -153,9 +153,10 @@ module _ (wants : List ℕ → Bool) where
     found (Some call) at is = let open_call = (keeps_open (λ m. m) messages caller serial call).0 at in (call, open_call.0, open_call.1, open_call.2, is)
 
     pub keeps_one : (kept ≡ Some asked) ↔ IsAsked wants messages caller serial asked
-    keeps_one =
-        (λ is. found waits refl (sym kept_is ∙ is),
-        λ h. kept_is ∙ (ap asked_in ((keeps_open (λ m. m) messages caller serial h.0).1 (h.1, h.2, h.3)) ∙ h.4))
+    keeps_one = (
+      λ is. found waits refl (sym kept_is ∙ is),
+      λ h. kept_is ∙ (ap asked_in ((keeps_open (λ m. m) messages caller serial h.0).1 (h.1, h.2, h.3)) ∙ h.4),
+    )
 
 pub keeps_open_calls : KeepsOpenCalls
 keeps_open_calls wants owners messages caller serial asked = keeps_one wants owners messages caller serial asked

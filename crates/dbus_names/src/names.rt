@@ -106,9 +106,7 @@ impl Names {
                 Ok(None)
             }
             Event::Reply(reply) => {
-                Ok(self
-                    .calls
-                    .answer(reply.caller, reply.serial, reply.sender))
+                Ok(self.calls.answer(reply.caller, reply.serial, reply.sender))
             }
             Event::Departure(name) => {
                 self.calls.close_all(name);
@@ -120,7 +118,11 @@ impl Names {
 
     // Opens the call, if it wants a reply and this is what it asks, or else closes the one whose
     // serial it uses again.
-    fn take_call(&mut self, call: CallSeen<'_>, asked: Option<NameCall<'_>>) -> Result<(), AllocError>
+    fn take_call(
+        &mut self,
+        call: CallSeen<'_>,
+        asked: Option<NameCall<'_>>,
+    ) -> Result<(), AllocError>
         ensures owners { self.new.owners ≡ self.old.owners }
         ensures calls { OnOk result ((c : List ℕ) (s : ℕ) → calls_of self.new c s ≡
             calls_after (calls_of self.old)
