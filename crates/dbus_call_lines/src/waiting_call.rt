@@ -6,8 +6,8 @@ ghost use Rattle.std.specs.Prelude.{option_map, string_bytes};
 use crate::place::Place;
 use dbus_calls::Sent;
 
-/// A call that waits for its reply. It is in a box, since the map of its caller has room for eleven
-/// calls, however few wait.
+/// A call that waits for its reply. It is in a box, since the map of its caller has room for
+/// fifteen calls, however few wait.
 #[derive(Drop)]
 pub(crate) struct WaitingCall {
     pub(crate) parts: Box<CallParts>,
