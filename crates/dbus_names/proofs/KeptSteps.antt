@@ -1,5 +1,5 @@
 -- What a table of names keeps of the open calls, from one message to the next.
-use Rattle.std.proofs.Common.{◌≡◌, ℕ, List, Bool, true, false, Option, None, Some, Result, Ok, Err, OnOk, option_map, if◌then◌else◌, refl, ap, ◌∙◌}
+use Rattle.std.proofs.Common.{◌≡◌, ℕ, List, Bool, true, false, Option, None, Some, Result, Ok, Err, OnErr, OnOk, option_map, if◌then◌else◌, refl, ap, ◌∙◌}
 use Rattle.std.specs.Str.{bytes_eq}
 use Rattle.dbus_calls.specs.Answering.{may_answer}
 use Rattle.dbus_calls.specs.Waiting.{Waiting, after_reply, answered, is_same, with_call, without_call, without_caller}
@@ -7,6 +7,10 @@ use Rattle.dbus_calls.specs.Waiting.{Waiting, after_reply, answered, is_same, wi
 pub on_ok : {T E P Q : Type 0} (r : Result T E) → (P → Q) → OnOk r P → OnOk r Q
 on_ok (Ok x) f p = f p
 on_ok (Err e) f p = p
+
+pub on_err : {T E P Q : Type 0} (r : Result T E) → (P → Q) → OnErr r P → OnErr r Q
+on_err (Ok x) f p = p
+on_err (Err e) f p = f p
 
 -- Of a waiting call something is seen.
 module _ {T U : Type 0} (f : T → U) where

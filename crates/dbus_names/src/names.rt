@@ -1,7 +1,7 @@
 //! Who has which name.
 #![tactic(auto)]
 
-ghost use Rattle.std.specs.Prelude.{◌≡◌, ℕ, List, Bool, IfOk, OnOk, option_map};
+ghost use Rattle.std.specs.Prelude.{◌≡◌, ℕ, List, Bool, IfOk, OnErr, OnOk, option_map};
 ghost use Rattle.dbus_value_model.specs.declared.order.Order.{Order};
 ghost use Rattle.dbus_message_model.specs.Messages.{MessageTree};
 ghost use Rattle.dbus_view.specs.Views.{Views};
@@ -76,10 +76,13 @@ impl Names {
     /// bus, or by a reply to a call that was taken before. D-Bus Specification, "Message Bus
     /// Messages".
     ///
-    /// `AllocError`: an allocation failed. Then it may have lost the call that the message answers.
+    /// `AllocError`: an allocation failed. Then the owners are those from before, and it may have
+    /// lost the call that the message answers.
+    #[tactic(auto, unfolding(crate::specs::Kept::state_of))]
     pub fn take<F: NameFilter>(&mut self, view: &MessageView, filter: &F) -> Result<(), AllocError>
-        ensures { (order : Order) (m : MessageTree) → Views view.now order m →
+        ensures learns { (order : Order) (m : MessageTree) → Views view.now order m →
             OnOk result (state_of self.new ≡ known_after (F.wanted filter.now) (state_of self.old) m) }
+        ensures unchanged { OnErr result ((state_of self.new).owners ≡ (state_of self.old).owners) }
     {
         match self.pair(view, filter)? {
             Some(call) => note_reply(view, &call, filter, &mut self.owners),
@@ -162,8 +165,9 @@ fn note_reply<F: NameFilter>(
     filter: &F,
     owners: &mut Owners,
 ) -> Result<(), AllocError>
-    ensures { (order : Order) (m : MessageTree) → Views view.now order m →
+    ensures noted { (order : Order) (m : MessageTree) → Views view.now order m →
         OnOk result (owners.new ≡ owners_after (F.wanted filter.now) (reply_told (call_kept call.now) m) owners.old) }
+    ensures unchanged { OnErr result (owners.new ≡ owners.old) }
 {
     let Some(unique) = holder_told(view, call.holder) else {
         return Ok(());
@@ -182,8 +186,9 @@ fn note_signal<F: NameFilter>(
     filter: &F,
     owners: &mut Owners,
 ) -> Result<(), AllocError>
-    ensures { (order : Order) (m : MessageTree) → Views view.now order m →
+    ensures noted { (order : Order) (m : MessageTree) → Views view.now order m →
         OnOk result (owners.new ≡ owners_after (F.wanted filter.now) (change_of m) owners.old) }
+    ensures unchanged { OnErr result (owners.new ≡ owners.old) }
 {
     let Some(change) = owner_change(view) else {
         return Ok(());
@@ -197,7 +202,8 @@ fn note_signal<F: NameFilter>(
 
 // Changes the owners by what is said of one.
 fn note(change: OwnerChange<'_>, owners: &mut Owners) -> Result<(), AllocError>
-    ensures { OnOk result (owners.new ≡ owners_by (change_seen change.entry) owners.old) }
+    ensures noted { OnOk result (owners.new ≡ owners_by (change_seen change.entry) owners.old) }
+    ensures unchanged { OnErr result (owners.new ≡ owners.old) }
 {
     match change {
         OwnerChange::Owned(owner) => owners.set(owner.name, owner.unique),
