@@ -1,8 +1,8 @@
 #!/usr/bin/env python3
 """captures.py [PROGRAM]: reads the cases of captures.txt by a reader of its own, and says which differ. It also asks the program dbus-wire, if one is
-given, to check each; of each capture without a fault every front; and of four of these each byte changed in three ways. It compares what the program
-writes with what the reader finds, and of the runs of captured.txt with their columns, and reads what `filter` and `swap` write of each capture. The exit
-status is 1 if something differs.
+given, to check each; of each capture without a fault every front; and of four of these each byte changed in three ways; and each of all these once more
+with --keep-going, if packets of it were cut. It compares what the program writes with what the reader finds, and of the runs of captured.txt with their
+columns, and reads what `filter` and `swap` write of each capture. The exit status is 1 if something differs.
 
 The reader is written from the descriptions of both formats ("PCAP Capture File Format", "PCAP Now Generic (pcapng) Capture File Format"), with the faults
 as the manual page of dbus-wire names them.
@@ -19,8 +19,8 @@ sys.dont_write_bytecode = True
 from read_cases import DATA, read_cases, read_parts, read_words  # noqa: E402
 
 # What a file gives: the bytes of its D-Bus packets, the time of each in nanoseconds or None, how many bytes there are up to the end of each packet, the
-# number of the packet of the last byte or None, and the place and the reason of its fault, or ().
-Given = collections.namedtuple("Given", "data times ends last fault")
+# number of the packet of the last byte or None, the place and the reason of its fault, or (), and how many packets were passed over since they were cut.
+Given = collections.namedtuple("Given", "data times ends last fault cut")
 Interface = collections.namedtuple("Interface", "link_type most unit has_offset")
 
 DBUS = 231
@@ -47,8 +47,8 @@ class Refused(Exception):
 class Reader:
     """The bytes of a file, and what they gave so far."""
 
-    def __init__(self, data):
-        self.bytes, self.at, self.order = data, 0, "little"
+    def __init__(self, data, passes_cut):
+        self.bytes, self.at, self.order, self.passes_cut, self.cut = data, 0, "little", passes_cut, 0
         self.data, self.times, self.ends, self.last, self.interfaces = b"", [], [], None, []
 
     def take(self, count):
@@ -70,6 +70,12 @@ class Reader:
         self.last = len(self.times) if part else self.last
         self.take(count)
 
+    def pass_cut(self, place, count):
+        if not self.passes_cut:
+            raise Refused(place, "PacketCut")
+        self.cut += 1
+        self.take(count)
+
     def is_done(self):
         return self.at == len(self.bytes)
 
@@ -85,9 +91,12 @@ class Reader:
         while not self.is_done():
             at, head = self.at, self.take(16)
             seconds, fraction, captured, original = (self.number(head, it) for it in (0, 4, 8, 12))
-            if captured != original:
-                raise Refused(*((at + 12, "Lengths") if captured > original else (at + 8, "PacketCut")))
-            self.hand_on(captured, seconds * 10**9 + fraction * unit)
+            if captured > original:
+                raise Refused(at + 12, "Lengths")
+            if captured < original:
+                self.pass_cut(at + 8, captured)
+            else:
+                self.hand_on(captured, seconds * 10**9 + fraction * unit)
 
     def read_pcapng(self):
         self.read_section(self.at, self.take(24))
@@ -164,15 +173,18 @@ class Reader:
         if interface.link_type != DBUS:
             self.take(room)
             return
-        if captured != original:
-            raise Refused(place, "Lengths" if captured > original else "PacketCut")
+        if captured > original:
+            raise Refused(place, "Lengths")
+        if captured < original:
+            self.pass_cut(place, room)
+            return
         self.hand_on(captured, time if time is None or time < 2**64 else None)
         self.take(room - captured)
 
 
-def read(data):
+def read(data, passes_cut=False):
     """What a file gives."""
-    reader, fault = Reader(data), ()
+    reader, fault = Reader(data, passes_cut), ()
     try:
         if data[:1] == b"\n":
             reader.read_pcapng()
@@ -182,7 +194,7 @@ def read(data):
             reader.data = data
     except Refused as it:
         fault = it.args
-    return Given(reader.data, reader.times, reader.ends, reader.last, fault)
+    return Given(reader.data, reader.times, reader.ends, reader.last, fault, reader.cut)
 
 
 def fronts(data):
@@ -206,14 +218,22 @@ def checked(given):
     is_cut = size % MESSAGE > 0
     packet = f" in packet {given.last}" if given.last else ""
     first = f"refused at {size}: Truncated{packet}\n" if is_cut else f"ok {size // MESSAGE} messages {size} bytes\n"
-    second = "capture refused at {}: {}\n".format(*given.fault) if given.fault else ""
+    second = f"capture: {given.cut} cut packets passed over\n" if given.cut else ""
+    second += "capture refused at {}: {}\n".format(*given.fault) if given.fault else ""
     return first.encode(), second.encode(), 1 if is_cut or second else 0
 
 
 def is_checked(program, data):
     """Whether `check` finds in a file what the reader does."""
-    ran, wanted = subprocess.run([program, "check"], input=data, capture_output=True), checked(read(data))
-    return (ran.stdout, ran.stderr, ran.returncode) == wanted if wanted else ran.returncode in (0, 1)
+
+    def answers(words, given):
+        ran, wanted = subprocess.run([program, *words], input=data, capture_output=True), checked(given)
+        return (ran.stdout, ran.stderr, ran.returncode) == wanted if wanted else ran.returncode in (0, 1)
+
+    going_on = read(data, passes_cut=True)
+    # A message that the input ends within is reported otherwise then.
+    is_whole = len(going_on.data) % MESSAGE == 0
+    return answers(["check"], read(data)) and (not going_on.cut or not is_whole or answers(["check", "--keep-going"], going_on))
 
 
 def is_run(program, words, column, status, first, second):

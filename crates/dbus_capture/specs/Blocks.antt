@@ -133,6 +133,10 @@ time_of i units = if i.has_offset then None else (if nat_le i.resolution 9 then 
 abbrev pub pass_packet : Scan → ℕ → ℕ → Scan
 pass_packet s size room = record s { head = begun Trailer; skip = room; next = place (s.next + (size + room)); passed_over = place (s.passed_over + 1) }
 
+-- the same of a packet that was cut
+abbrev pub pass_cut : Scan → ℕ → ℕ → Scan
+pass_cut s size room = record (pass_packet s size room) { cut = place (s.cut + 1) }
+
 -- so many bytes of a packet come
 abbrev pub give_packet : Scan → ℕ → ℕ → Option ℕ → ℕ → Scan
 give_packet s size room time captured = record s {
@@ -151,7 +155,7 @@ block_packet s size k room link_type time captured original =
     if nat_lt room (padded captured) then refused s k Lengths
     else (if link_type == 231
     then (if nat_lt original captured then refused s k Lengths
-    else (if nat_lt captured original then (if s.passes_cut then pass_packet s size room else refused s k PacketCut)
+    else (if nat_lt captured original then (if s.passes_cut then pass_cut s size room else refused s k PacketCut)
     else give_packet s size room time captured))
     else pass_packet s size room)
 

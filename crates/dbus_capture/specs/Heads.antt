@@ -48,9 +48,9 @@ packet_of s size time captured = record s {
   packet = Some (record { number = place (s.packets + 1); at = s.next; time = time; length = captured });
 }
 
--- so many bytes of a packet are passed over
+-- so many bytes of a packet that was cut are passed over
 abbrev pub passed_over : Scan → ℕ → ℕ → Scan
-passed_over s size captured = record s { skip = captured; next = place (s.next + (size + captured)); passed_over = place (s.passed_over + 1) }
+passed_over s size captured = record s { skip = captured; next = place (s.next + (size + captured)); passed_over = place (s.passed_over + 1); cut = place (s.cut + 1) }
 
 -- the header of a packet
 abbrev pub record_head : Scan → List ℕ → Scan

@@ -26,6 +26,7 @@ fresh passes stage = record {
   passes_cut = passes;
   packets = 0;
   passed_over = 0;
+  cut = 0;
   packet = None;
   fault = None;
 }

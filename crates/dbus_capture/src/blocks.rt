@@ -2,7 +2,7 @@
 //! Generic (pcapng) Capture File Format".
 ghost use Rattle.std.specs.Prelude.{◌≡◌, ◌≤◌, ◌<◌, ◌*◌, ◌-◌, ◌^◌, length, slice_get, None};
 ghost use Rattle.dbus_capture.specs.Scans.{refused};
-ghost use Rattle.dbus_capture.specs.Blocks.{padded, is_length, order_mark, section_in, section_head, block_stage, block_by, block_head, trailer, after_option, interface_head, pass_option, option_in, option_head, resolution_head, interface_trailer, fitting, time_of, pass_packet, give_packet, block_packet, enhanced_by, enhanced_head, obsolete_head, captured_length, simple_by, simple_head};
+ghost use Rattle.dbus_capture.specs.Blocks.{padded, is_length, order_mark, section_in, section_head, block_stage, block_by, block_head, trailer, after_option, interface_head, pass_option, option_in, option_head, resolution_head, interface_trailer, fitting, time_of, pass_packet, pass_cut, give_packet, block_packet, enhanced_by, enhanced_head, obsolete_head, captured_length, simple_by, simple_head};
 
 use crate::byte_order::ByteOrder;
 use crate::fault::CaptureReason;
@@ -426,7 +426,7 @@ impl Scan {
         }
         if packet.captured < packet.original {
             if self.passes_cut {
-                self.pass_packet(packet.size, packet.room);
+                self.pass_cut(packet.size, packet.room);
             } else {
                 self.refuse(packet.place, CaptureReason::PacketCut);
             }
@@ -444,6 +444,15 @@ impl Scan {
         self.skip = room as usize;
         self.next = self.next.wrapping_add(size as u64 + room as u64);
         self.passed_over = self.passed_over.wrapping_add(1);
+    }
+
+    // The same of a packet that was cut.
+    fn pass_cut(&mut self, size: u32, room: u32)
+        requires { size ≤ 20 }
+        ensures { self.new ≡ pass_cut self.old size room }
+    {
+        self.pass_packet(size, room);
+        self.cut = self.cut.wrapping_add(1);
     }
 
     // Hands on the bytes of a packet, and passes over the rest of its block.

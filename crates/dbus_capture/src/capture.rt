@@ -96,6 +96,14 @@ impl<R: Source> Capture<R> {
         self.scan.passed_over
     }
 
+    /// The number of packets of D-Bus that were passed over since not all of their bytes were
+    /// captured, modulo 2^64. They are among those of [`Self::passed_over`].
+    pub fn cut_packets(&self) -> u64
+        ensures { result ≡ (scan_of self.now).cut }
+    {
+        self.scan.cut
+    }
+
     // Whether a fault was met.
     fn is_stopped(&self) -> bool
         ensures { result ≡ is_some (scan_of self.now).fault }

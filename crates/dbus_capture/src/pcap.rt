@@ -112,7 +112,7 @@ impl Scan {
         self.next = self.next.wrapping_add(size as u64 + captured as u64);
     }
 
-    // Passes over the bytes of a packet, which come after so many bytes of a head.
+    // Passes over the bytes of a packet that was cut, which come after so many bytes of a head.
     fn pass_over(&mut self, size: u32, captured: u32)
         requires { size < 2 ^ 31 }
         ensures { self.new ≡ passed_over self.old size captured }
@@ -120,6 +120,7 @@ impl Scan {
         self.skip = captured as usize;
         self.next = self.next.wrapping_add(size as u64 + captured as u64);
         self.passed_over = self.passed_over.wrapping_add(1);
+        self.cut = self.cut.wrapping_add(1);
     }
 
     // Refuses the file at a place of the head. No byte of it is handed on from now on.

@@ -29,9 +29,10 @@ pub struct Scan {
     pub(crate) interfaces: Interfaces,
     // Whether packets of which not all bytes were captured are passed over.
     pub(crate) passes_cut: bool,
-    // How many packets began, and how many were passed over.
+    // How many packets began, how many were passed over, and how many of these since they were cut.
     pub(crate) packets: u64,
     pub(crate) passed_over: u64,
+    pub(crate) cut: u64,
     // The packet that began last.
     pub(crate) packet: Option<Packet>,
     pub(crate) fault: Option<CaptureFault>,
@@ -67,6 +68,7 @@ impl Scan {
             passes_cut,
             packets: 0,
             passed_over: 0,
+            cut: 0,
             packet: None,
             fault: None,
         }

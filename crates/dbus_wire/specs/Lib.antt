@@ -1,2 +1,2 @@
 pub mod NoWords
-pub mod FileFaults
+pub mod FileReports

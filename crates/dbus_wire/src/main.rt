@@ -5,10 +5,11 @@
 //! handshake of one side of a connection. From a pcap or pcapng file it reads the D-Bus packets.
 //!
 //! Output and help go to standard output. A line on standard error, of `check` on standard output,
-//! reports that the input is refused. Standard error also has why a file's packets cannot be read
-//! on, why the command line is wrong, and why a run failed. The exit status is 0 if the whole input
-//! is messages, or help or the version was asked for; 1 if the input is refused; 2 if the command
-//! line is wrong; 3 if a read or a write failed, too many reads were made, or memory ran out.
+//! reports that the input is refused. Standard error also has how many packets of a file were passed
+//! over, why they cannot be read on, why the command line is wrong, and why a run failed. The exit
+//! status is 0 if the whole input is messages, or help or the version was asked for; 1 if the input
+//! is refused; 2 if the command line is wrong; 3 if a read or a write failed, too many reads were
+//! made, or memory ran out.
 #![tactic(auto)]
 
 ghost use Rattle.std.specs.Prelude.{◌≡◌, map, string_bytes, IfErr, IfOk};
@@ -16,33 +17,45 @@ ghost use Rattle.std.specs.IoError.{error_kind};
 ghost use Rattle.cli_report.specs.Devices.{writing};
 ghost use Rattle.dbus_tool.specs.Handshaking.{Shows};
 ghost use Rattle.dbus_tool.specs.Words.{RunsWords};
+ghost use Rattle.dbus_wire.specs.FileReports.{passes_cut};
 ghost use Rattle.dbus_wire.specs.NoWords.{TellsNoWords};
 
-mod file_fault;
+mod file_report;
 
 use dbus_capture::Capture;
 use dbus_stream::{FromRead, FromWrite, Sink, Source, WrittenOnly, write_all};
 use dbus_tool::{ExitStatus, ReadAhead, run_words};
-use file_fault::tell_fault;
+use file_report::{keep_going, tell_file};
 use std::alloc::Global;
 use std::io::ErrorKind;
 use std::process::ExitCode;
 use std::{env, io};
 
 fn main(rt: HostRuntime) -> ExitCode {
-    let mut capture = Capture::new(FromRead::new(rt.stdin()), false);
+    let words = words_of(&rt);
+    let mut capture = Capture::new(FromRead::new(rt.stdin()), passes_cut(&words));
     let mut reader = ReadAhead::new(&mut capture);
     let mut first = FromWrite::new(rt.stdout());
     let mut second = FromWrite::new(rt.stderr());
-    let words = words_of(&rt);
     let status = run(rt.alloc(), words, &mut reader, &mut first, &mut second);
-    let status = tell_fault(rt.alloc(), capture.fault(), status, &mut second);
+    let (cut, fault) = (capture.cut_packets(), capture.fault());
+    let status = tell_file(rt.alloc(), cut, fault, status, &mut second);
     ExitCode::from(status.code())
 }
 
 // The words of the command line, of which the first is the program's name.
 fn words_of(rt: &HostRuntime) -> io::Result<Vec<String>> {
     Ok(env::args(rt)?.collect(rt.alloc())?)
+}
+
+// Whether packets that were cut are passed over: if a word asks to keep going.
+fn passes_cut(words: &io::Result<Vec<String>>) -> bool
+    ensures { result ≡ passes_cut words.now }
+{
+    match words {
+        Ok(words) => keep_going(words.as_slice()),
+        Err(_) => false,
+    }
 }
 
 // Does what the words say, or says why they are not there.

@@ -1,7 +1,7 @@
 use Rattle.std.proofs.Common.{List, ℕ, ◌∙◌, inl, subst}
 use Rattle.dbus_tool.specs.Handshaking.{Shows}
 use Rattle.cli_report.specs.declared.ending.ExitStatus.TheVariants.{Refused}
-use Rattle.dbus_wire.proofs.file_fault.refuse_file.Goals as goal
+use Rattle.dbus_wire.proofs.file_report.refuse_file.Goals as goal
 
 pub returns-in-Ok : goal.returns-in-Ok
 returns-in-Ok g c =
