@@ -22,3 +22,4 @@ pub mod PacketBlocks
 pub mod InterfaceBlocks
 pub mod SectionBlocks
 pub mod BlockOutcomes
+pub mod CutLaws

@@ -237,7 +237,7 @@ ends_short s [] h b = inl (record { gives = nothing_given s; packets = []; fit =
 ends_short s (x ∷ xs) h b = fault_here s (x ∷ xs) (length (x ∷ xs)) Truncated (refl, (λ e. cc), inl h)
     (head_cut_gives s (x ∷ xs) b h ∙ sym (drop_all 16 (x ∷ xs) (omega (arith, h)))) (head_cut s (x ∷ xs) b (λ e. cc) h)
 
-passes_after : (s : Scan) (p : PcapPacket) → (after s p).passes_cut ≡ s.passes_cut
+pub passes_after : (s : Scan) (p : PcapPacket) → (after s p).passes_cut ≡ s.passes_cut
 unfolding after
 passes_after s p = refl
 

@@ -118,7 +118,7 @@ decodes_header s h e =
     ap (λ (v : Heading). decoded_by v.stage (record s { head = begun v.stage }) (v.bytes ++ h)) e ∙ ap (λ (v : Heading). file_header (record s { head = v }) h) (sym e)
 
 -- the header
-header_taken : (passes : Bool) (h : PcapHeader) → FitsHeader h
+pub header_taken : (passes : Bool) (h : PcapHeader) → FitsHeader h
     → (run (fresh passes Start) (header_bytes h) ≡ opened_file passes h) × (given (fresh passes Start) (header_bytes h) ≡ [])
 header_taken passes h f =
     let s = fresh passes Start in

@@ -8,6 +8,7 @@ pub mod Captures
 pub mod CaptureTexts
 pub mod PcapFiles
 pub mod PcapFaults
+pub mod CutPackets
 pub mod BlockFiles
 pub mod BlockFaults
 pub mod Packets

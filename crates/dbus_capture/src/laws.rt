@@ -12,6 +12,7 @@ ghost use Rattle.dbus_capture.specs.Reading.{IsRead, InSection};
 ghost use Rattle.dbus_capture.specs.PcapFiles.{PcapHeader, PcapPacket, FitsHeader, FitsPacket, AllFitPackets, packet_header_bytes, pcap_bytes, payload};
 ghost use Rattle.dbus_capture.specs.BlockFiles.{FileBlock, FitsBlock, FitsBody, block_body, FileSection, FitsSection, AllFitSections, sections_bytes, sections_payload};
 ghost use Rattle.dbus_capture.specs.PcapFaults.{AreBytes, IsPcapOutcome};
+ghost use Rattle.dbus_capture.specs.CutPackets.{CutPacket, AllFitCutPackets, IsReadPast};
 ghost use Rattle.dbus_capture.specs.BlockFaults.{IsPcapngOutcome};
 ghost use Rattle.dbus_capture.specs.Packets.{Reports, IsTimed, interface_of, packet_bytes, pcap_packet_reported, block_front, block_packet_reported};
 ghost use Rattle.dbus_capture.specs.declared.scan.Scan.{Scan};
@@ -34,6 +35,13 @@ pub fn pcap_outcome()
     ensures { (x : ℕ) (xs : List ℕ) → AreBytes (x ∷ xs) → first_stage x ≡ stages.FileHeader →
         IsPcapOutcome (x ∷ xs) (given (fresh false stages.Start) (x ∷ xs))
         (ended (run (fresh false stages.Start) (x ∷ xs))).fault }
+{}
+
+/// A pcap file of packets some of which were cut is read past these, if they are to be passed over:
+/// the capture gives the bytes of the others, counts these, and there is no fault.
+pub fn cut_packets_are_passed_over()
+    ensures { (header : PcapHeader) (packets : List CutPacket) →
+        FitsHeader header → AllFitCutPackets packets → IsReadPast header packets }
 {}
 
 /// A pcapng file of one section or more, all of whose packets were captured whole, is read whole:
