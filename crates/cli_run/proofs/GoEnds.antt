@@ -124,7 +124,7 @@ module _ {R A S : Type 0} {takes : S → S → List Placed → (told : List ℕ)
     last_is outcome e at_end none = (refl, at_end (λ f is. absurd cc))
 
     -- nothing was passed over, if the run is not to go on, or could not
-    abbrev through_there : (text : List ℕ) → Due text → (run.settings.keeps_going ≡ true → (other : Fault) (n : ℕ) → IsRefusal (stopped_of mid) other → StatesAll (limits_of mid) (kept mid) n → ⊥)
+    abbrev through_there : (text : List ℕ) → Due text → (run.settings.keeps_going ≡ true → (other : Fault) → IsRefusal (stopped_of mid) other → StatesNone (limits_of mid) (kept mid))
         → Through run mid tally (Some fault) h.gone.told text
     through_there text told none =
         through mid false tally text (kept mid) h.outcome h.gone.tally_is told h.outcome_is fault_last h.gone.covered (last_is h.outcome fault_last (λ not. h.gone.covered.at_end (h.ended not)) none) refl

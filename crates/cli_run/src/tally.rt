@@ -63,7 +63,7 @@ impl Tally {
         requires few_passed { self.passed ≤ self.count }
         requires after { self.size ≤ end }
         requires low { self.passed_size + (end - self.size) < 2 ^ 60 }
-        ensures cut { result ≡ cut_tally self (end - self.size) }
+        ensures { result ≡ cut_tally self (end - self.size) }
     {
         Tally {
             is_cut: true,

@@ -57,23 +57,23 @@ returns-then-not-settings-clause-passes g c =
     let ended = halts laws r c.in-Some.is c.number_of.result (c.number_of.ensures ∙ ap number_of c.packet.ensures) told.0 told.1 told.2 (unset c.args.settings.keeps_going c.if-not-settings.true) in
     closes ended laws c.in-Ok-tell.ensures.settled c.close-then-not-settings.new.visitor c.close-then-not-settings.result c.close-then-not-settings.ensures.closes
 
-pub returns-in-CutOff-clause-passes : goal.returns-in-CutOff-clause-passes
-returns-in-CutOff-clause-passes g c =
+pub returns-in-Ok-CutOff-clause-passes : goal.returns-in-Ok-CutOff-clause-passes
+returns-in-Ok-CutOff-clause-passes g c =
     let laws = g.met.V.MessageVisitor.adds_up in
     let r = reach c.parts.invariant.0 laws c.parts.invariant.4 c.hand_all.new.messages c.hand_all.new.visitor
     (known_still g.R.Source.packets g.R.Source.packet c.parts.messages c.hand_all.new.messages _ c.hand_all.ensures.packets c.parts.invariant.4) c.in-Ok.counted c.up_to-tally.result c.up_to-tally.ensures c.in-Ok.ensures.hands in
     let told = c.in-Ok-tell.ensures.tells in
-    let ended = ends_short laws r c.in-Some.is c.number_of.result (c.number_of.ensures ∙ ap number_of c.packet.ensures) told.0 told.1 told.2 c.pass_over.new.self c.at_end-ended.result c.done-in-CutOff.result c.done-in-CutOff.ensures c.at_end-ended.ensures (set c.args.settings.keeps_going c.if-not-settings.false) (rw c.in-Ok-CutOff.field-0-is at c.in-Ok-CutOff.ensures.passes) c.in-Ok-CutOff.ensures.failed in
-    closes ended laws c.in-Ok-tell.ensures.settled c.close-in-CutOff.new.visitor c.close-in-CutOff.result c.close-in-CutOff.ensures.closes
+    let ended = ends_short laws r c.in-Some.is c.number_of.result (c.number_of.ensures ∙ ap number_of c.packet.ensures) told.0 told.1 told.2 c.pass_over.new.self c.at_end-ended.result c.done-in-Ok-CutOff.result c.done-in-Ok-CutOff.ensures c.at_end-ended.ensures (set c.args.settings.keeps_going c.if-not-settings.false) (rw c.in-Ok-CutOff.field-0-is at c.in-Ok-CutOff.ensures.passes) c.in-Ok-CutOff.ensures.failed in
+    closes ended laws c.in-Ok-tell.ensures.settled c.close-in-Ok-CutOff.new.visitor c.close-in-Ok-CutOff.result c.close-in-Ok-CutOff.ensures.closes
 
-pub returns-in-Not-clause-passes : goal.returns-in-Not-clause-passes
-returns-in-Not-clause-passes g c =
+pub returns-in-Ok-Not-clause-passes : goal.returns-in-Ok-Not-clause-passes
+returns-in-Ok-Not-clause-passes g c =
     let laws = g.met.V.MessageVisitor.adds_up in
     let r = reach c.parts.invariant.0 laws c.parts.invariant.4 c.hand_all.new.messages c.hand_all.new.visitor
     (known_still g.R.Source.packets g.R.Source.packet c.parts.messages c.hand_all.new.messages _ c.hand_all.ensures.packets c.parts.invariant.4) c.in-Ok.counted c.up_to-tally.result c.up_to-tally.ensures c.in-Ok.ensures.hands in
     let told = c.in-Ok-tell.ensures.tells in
     let ended = stays laws r c.in-Some.is c.number_of.result (c.number_of.ensures ∙ ap number_of c.packet.ensures) told.0 told.1 told.2 c.pass_over.new.self (set c.args.settings.keeps_going c.if-not-settings.false) (rw c.in-Ok-Not.field-0-is at c.in-Ok-Not.ensures.passes) c.in-Ok-Not.ensures.failed in
-    closes ended laws c.in-Ok-tell.ensures.settled c.close-in-Not.new.visitor c.close-in-Not.result c.close-in-Not.ensures.closes
+    closes ended laws c.in-Ok-tell.ensures.settled c.close-in-Ok-Not.new.visitor c.close-in-Ok-Not.result c.close-in-Ok-Not.ensures.closes
 
 pub returns-in-Err-pass_over-clause-passes : goal.returns-in-Err-pass_over-clause-passes
 returns-in-Err-pass_over-clause-passes g c =
@@ -92,7 +92,7 @@ at_end-ended-requires g c =
     let far = within r.gone in
     let on = not_less g.met.V.MessageVisitor.adds_up r c.in-Some.is c.number_of.result (c.number_of.ensures ∙ ap number_of c.packet.ensures) c.pass_over.new.self (rw c.in-Ok-CutOff.field-0-is at c.in-Ok-CutOff.ensures.passes) in
     let small = done_small c.pass_over.new.self in
-    let end : c.done-in-CutOff.result ≡ done_of c.pass_over.new.self = c.done-in-CutOff.ensures in
+    let end : c.done-in-Ok-CutOff.result ≡ done_of c.pass_over.new.self = c.done-in-Ok-CutOff.ensures in
     record {
       few = omega (arith, far.count, far.small);
       few_passed = far.passed;
