@@ -1,5 +1,5 @@
 -- What a search passes and enters.
-use Rattle.std.proofs.Common.{◌≡◌, get_or, ℕ, zero, suc, ◌+◌, List, false, true, length, take, drop, Option, None, Some, IfSome, refl, sym, ap, ◌∙◌}
+use Rattle.std.proofs.Common.{◌≡◌, ◌<◌, ◌≤◌, arith, get_or, ℕ, zero, suc, ◌+◌, List, false, true, length, take, drop, Option, None, Some, IfSome, refl, sym, ap, ◌∙◌}
 use Rattle.std.proofs.Common.{subst, zero-add, add-one, [], ◌∷◌, ◌++◌, append_assoc, append-nil}
 use Rattle.std.proofs.lemmas.List.{drop_at, take_at}
 use Rattle.std.proofs.lemmas.List.Concat.{flat_map-append}
@@ -17,7 +17,9 @@ use Rattle.dbus_explain.specs.Places.{first_element, IsInText, IsPath}
 use Rattle.dbus_explain.specs.declared.path.PathStep.{PathStep}
 use Rattle.dbus_explain.specs.declared.path.PathStep.TheVariants.{Key, Value}
 use Rattle.dbus_explain.specs.declared.search.ValuePlace.{ValuePlace}
-use Rattle.dbus_explain.specs.Names.{path_text, step_text}
+use Rattle.dbus_explain.specs.Names.{IsTextIf, path_text, step_text}
+use Rattle.dbus_explain.specs.declared.search.StatedText.{StatedText}
+use Rattle.dbus_value_model.specs.declared.order.Order.TheVariants.{Little}
 
 pub some_map : {A : Type 0} {P Q : A → Type 0} (o : Option A) → ((a : A) → P a → Q a) → IfSome o P → IfSome o Q
 some_map None f h = h
@@ -139,3 +141,29 @@ long_only bytes at p start stated VariantType types is other h = absurd h
 long_only bytes at p start stated (ArrayType t) types is other h = absurd h
 long_only bytes at p start stated (StructType ts) types is other h = absurd h
 long_only bytes at p start stated (EntryType k v) types is other h = absurd h
+
+module _ (bytes : List ℕ) (at : ℕ) where
+  -- a text begins behind its place, and at the place of the fault or before it
+  pub inside_text : (t : TypeTree) (p start stated : ℕ) → IsInText bytes at t p start stated → (p < start) × (start ≤ at)
+  inside_text (TextType SIGNATURE) p start stated h = (omega (arith, h.0), h.1)
+  inside_text (TextType STRING) p start stated h = (omega (arith, h.0), h.1)
+  inside_text (TextType OBJECT_PATH) p start stated h = (omega (arith, h.0), h.1)
+  inside_text (NumberType k) p start stated h = absurd h
+  inside_text VariantType p start stated h = absurd h
+  inside_text (ArrayType t) p start stated h = absurd h
+  inside_text (StructType ts) p start stated h = absurd h
+  inside_text (EntryType k v) p start stated h = absurd h
+
+  -- one text of types is at a place
+  pub typed_one : (p : ℕ) (w x : List ℕ) (q r : ℕ) → IsTyped bytes at Single p w q → IsTyped bytes at Single p x r → (w ≡ x) × (q ≡ r)
+  typed_one p w x q r a b =
+      let long : length w ≡ length x = let e = sym (a.measured Little) ∙ b.measured Little in cc in (
+        a.text_is ∙ (ap (λ (n : ℕ). take n (drop (p + 1) bytes)) long ∙ sym b.text_is),
+        a.after ∙ (ap (λ (n : ℕ). p + 1 + n + 1) long ∙ sym b.after),
+      )
+
+-- the text that is found is one of which Is holds
+pub text_if : (Is : (start stated : ℕ) → Type 0) (text : Option StatedText) → IfSome text (λ x. Is x.start x.stated)
+    → (text ≡ None → (start stated : ℕ) → Is start stated → ⊥) → IsTextIf Is text
+text_if Is None some none = none refl
+text_if Is (Some x) some none = some

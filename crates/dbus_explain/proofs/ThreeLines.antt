@@ -1,13 +1,12 @@
 -- What is told of a fault are three lines.
 use Rattle.std.proofs.Common.{◌≡◌, ℕ, zero, suc, ◌-◌, List, [], ◌∷◌, ◌++◌, replicate, chars, IsUtf8, ◌&&◌, ◌||◌, nat_eq, nat_lt, take, drop, codes, decimal, refl, sym, ap, ◌∙◌}
-use Rattle.std.proofs.Common.{append_assoc, append-nil, false, ◌≤◌, ◌<◌, ◌+◌, length, get_or, min, ap₂, subst, arith}
+use Rattle.std.proofs.Common.{append_assoc, append-nil, Option, None, Some, false, ◌≤◌, ◌<◌, ◌+◌, length, get_or, min, ap₂, subst, arith}
 use Rattle.std.specs.List.{flat_map, list_all}
 use Rattle.std.proofs.lemmas.List.Elements.{All-nil, All-cons}
 use Rattle.std.proofs.Math.Nat.{min_comm}
 use Rattle.std.proofs.lemmas.List.{take_min, take_more, take_rest}
 use Rattle.std.proofs.lemmas.List.Concat.{flat_map-append}
 use Rattle.hex.specs.Hex.{encode_lower}
-use Rattle.dbus_texts.specs.Types.{TypeTree}
 use Rattle.dbus_value_model.specs.declared.fault.Reason.{Reason}
 use Rattle.dbus_show.specs.ShownMessages.{line_feeds, field_name}
 use Rattle.dbus_show.specs.ShownValues.{quoted}
@@ -20,9 +19,10 @@ use Rattle.dbus_explain.proofs.VisibleLines.{line_visible}
 use Rattle.dbus_explain.specs.Explained.{IsMarkAt, bytes_line, place_line, rule_line, mark_line, quoted_line, AreLines, byte_text, marked}
 use Rattle.dbus_explain.specs.Explained.{window}
 use Rattle.dbus_explain.specs.Looks.{begins, is_letter, look_of, look_text}
-use Rattle.dbus_explain.specs.Names.{IsFieldName, in_field, behind_fields, IsTextPart, in_text, no_text, IsValueName, in_value, behind_values, IsNameOf, first, missing}
+use Rattle.dbus_explain.specs.Names.{IsFieldName, in_field, behind_fields, text_part, IsValueName, in_value, behind_values, IsNameOf, first, missing}
 use Rattle.dbus_explain.specs.Names.{field, padding, value, code_name, first_part, path_text, step_text, is_missing}
 use Rattle.dbus_explain.specs.declared.message.Refused.{Refused}
+use Rattle.dbus_explain.specs.declared.search.StatedText.{StatedText}
 use Rattle.dbus_explain.specs.declared.path.PathStep.{PathStep}
 use Rattle.dbus_explain.specs.declared.path.PathStep.TheVariants.{Number, Key, Value, Variant}
 
@@ -68,21 +68,22 @@ line_first at =
     (line_either (nat_lt at 12) _ _ (literal (codes "the serial") refl)
     (literal (codes "the length of the header fields") refl))))))
 
+line_part : (text : Option StatedText) → IsOneLine (text_part text)
+line_part None = literal [] refl
+line_part (Some text) =
+    let length = after_literal (codes " of stated length ") (decimal text.stated) refl (line_decimal text.stated) in
+    after_literal (codes ", a text from byte ") (decimal text.start ++ (codes " of stated length " ++ decimal text.stated)) refl
+    (line_append (decimal text.start) (codes " of stated length " ++ decimal text.stated) (line_decimal text.start) length)
+
 line_in_fields : (bytes : List ℕ) (at : ℕ) (name : List ℕ) → IsFieldName bytes at name → IsOneLine name
-line_in_fields bytes at name (in_field code is) = after_literal (codes "header field ") (code_name code) refl (line_code code)
+line_in_fields bytes at name (in_field p code text is there) = after_literal (codes "header field ") (code_name code ++ text_part text) refl
+    (line_append (code_name code) (text_part text) (line_code code) (line_part text))
 line_in_fields bytes at name behind_fields = literal (codes "the header fields") refl
 
-line_part : (bytes : List ℕ) (at : ℕ) (t : TypeTree) (p : ℕ) (part : List ℕ) → IsTextPart bytes at t p part → IsOneLine part
-line_part bytes at t p part (in_text start stated is) =
-    let length = after_literal (codes " of stated length ") (decimal stated) refl (line_decimal stated) in
-    after_literal (codes ", a text from byte ") (decimal start ++ (codes " of stated length " ++ decimal stated)) refl
-    (line_append (decimal start) (codes " of stated length " ++ decimal stated) (line_decimal start) length)
-line_part bytes at t p part (no_text none) = literal [] refl
-
 line_in_body : (bytes : List ℕ) (at : ℕ) (name : List ℕ) → IsValueName bytes at name → IsOneLine name
-line_in_body bytes at name (in_value ts number t p steps u q part types among path text) =
-    after_literal (codes "body") (path_text (Number number ∷ steps) ++ part) refl
-    (line_append (path_text (Number number ∷ steps)) part (line_path (Number number ∷ steps)) (line_part bytes at u q part text))
+line_in_body bytes at name (in_value ts number t p steps u q text types among path there) =
+    after_literal (codes "body") (path_text (Number number ∷ steps) ++ text_part text) refl
+    (line_append (path_text (Number number ∷ steps)) (text_part text) (line_path (Number number ∷ steps)) (line_part text))
 line_in_body bytes at name behind_values = literal (codes "the end of the body") refl
 
 line_name : (bytes : List ℕ) (reason : Reason) (at : ℕ) (name : List ℕ) → IsNameOf bytes reason at name → IsOneLine name

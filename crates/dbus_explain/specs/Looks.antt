@@ -1,5 +1,5 @@
 -- What an input is that does not begin as a message does, by its first bytes.
-use Rattle.std.specs.Prelude.{ℕ, List, [], ◌∷◌, ◌++◌, Bool, codes, nat_eq, ◌||◌, ◌&&◌, if◌then◌else◌, take}
+use Rattle.std.specs.Prelude.{ℕ, List, [], ◌∷◌, Bool, codes, nat_eq, ◌||◌, ◌&&◌, if◌then◌else◌, take}
 use Rattle.std.specs.Int.{is_in_range}
 use Rattle.std.specs.List.{list_all, starts_with}
 use Rattle.dbus_explain.specs.declared.message.Refused.{Refused}

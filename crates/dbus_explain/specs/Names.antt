@@ -1,12 +1,13 @@
 -- The names of places in a message.
 -- D-Bus Specification, "Message Format" and "Header Fields".
-use Rattle.std.specs.Prelude.{◌≡◌, ℕ, ◌<◌, ◌≤◌, List, [], ◌∷◌, ◌++◌, Bool, true, false, nat_eq, nat_lt, ◌&&◌, if◌then◌else◌, codes, decimal}
+use Rattle.std.specs.Prelude.{◌≡◌, ℕ, ◌<◌, ◌≤◌, List, [], ◌∷◌, ◌++◌, Bool, true, false, nat_eq, nat_lt, ◌&&◌, if◌then◌else◌, codes, decimal, Option, None, Some}
 use Rattle.std.specs.List.{flat_map}
 use Rattle.dbus_value_model.specs.declared.fault.Reason.{Reason}
 use Rattle.dbus_value_model.specs.declared.fault.Reason.TheVariants.{FieldMissing}
 use Rattle.dbus_show.specs.ShownMessages.{field_name}
 use Rattle.dbus_texts.specs.Types.{TypeTree, TypeTrees}
-use Rattle.dbus_explain.specs.Places.{AreBodyTypes, IsAmong, IsInField, IsInText, IsPath, body_begin, fields_end}
+use Rattle.dbus_explain.specs.Places.{AreBodyTypes, IsAmong, IsInField, IsInFieldText, IsInText, IsPath, body_begin, fields_end}
+use Rattle.dbus_explain.specs.declared.search.StatedText.{StatedText}
 use Rattle.dbus_explain.specs.declared.path.PathStep.{PathStep}
 use Rattle.dbus_explain.specs.declared.path.PathStep.TheVariants.{Number, Key, Value, Variant}
 
@@ -41,24 +42,30 @@ is_missing reason = false
 abbrev pub code_name : ℕ → List ℕ
 code_name code = if nat_lt 0 code && nat_lt code 10 then field_name code else decimal code
 
--- the name of a place in the header fields: of the field that it is in, or behind the fields
-pub data IsFieldName (bytes : List ℕ) (at : ℕ) : List ℕ → Type 0 where
-  in_field : (code : ℕ) → IsInField bytes at code → IsFieldName bytes at (codes "header field " ++ code_name code)
-  behind_fields : IsFieldName bytes at (codes "the header fields")
+-- what follows the name of a value, if the place is in a text there: where the text begins, and the
+-- length that is stated of it
+abbrev pub text_part : Option StatedText → List ℕ
+text_part None = []
+text_part (Some text) = codes ", a text from byte " ++ (decimal text.start ++ (codes " of stated length " ++ decimal text.stated))
 
--- what follows the path to a value of type t at p, if the place is in a text: where the text begins,
--- and the length that is stated of it
-pub data IsTextPart (bytes : List ℕ) (at : ℕ) (t : TypeTree) (p : ℕ) : List ℕ → Type 0 where
-  in_text : (start stated : ℕ) → IsInText bytes at t p start stated
-      → IsTextPart bytes at t p (codes ", a text from byte " ++ (decimal start ++ (codes " of stated length " ++ decimal stated)))
-  no_text : ((start stated : ℕ) → IsInText bytes at t p start stated → ⊥) → IsTextPart bytes at t p []
+-- it is the text of which Is holds, by where it begins and its length, or there is none
+abbrev pub IsTextIf : (Is : (start stated : ℕ) → Type 0) → Option StatedText → Type 0
+IsTextIf Is None = (start stated : ℕ) → Is start stated → ⊥
+IsTextIf Is (Some text) = Is text.start text.stated
+
+-- the name of a place in the header fields: of the field that it is in, with the text that it is in
+-- there, or behind the fields
+pub data IsFieldName (bytes : List ℕ) (at : ℕ) : List ℕ → Type 0 where
+  in_field : (p code : ℕ) (text : Option StatedText) → IsInField bytes at p code → IsTextIf (IsInFieldText bytes at p) text
+      → IsFieldName bytes at (codes "header field " ++ (code_name code ++ text_part text))
+  behind_fields : IsFieldName bytes at (codes "the header fields")
 
 -- the name of a place in the body: the path to the value that it is in, by its number among the
 -- values of the body and the steps from there on, and the text that it is in; or behind the values
 pub data IsValueName (bytes : List ℕ) (at : ℕ) : List ℕ → Type 0 where
-  in_value : (ts : TypeTrees) (number : ℕ) (t : TypeTree) (p : ℕ) (steps : List PathStep) (u : TypeTree) (q : ℕ) (part : List ℕ) → AreBodyTypes bytes at ts
+  in_value : (ts : TypeTrees) (number : ℕ) (t : TypeTree) (p : ℕ) (steps : List PathStep) (u : TypeTree) (q : ℕ) (text : Option StatedText) → AreBodyTypes bytes at ts
       → IsAmong bytes at ts (body_begin bytes) number t p
-      → IsPath bytes at t p steps u q → IsTextPart bytes at u q part → IsValueName bytes at (codes "body" ++ (path_text (Number number ∷ steps) ++ part))
+      → IsPath bytes at t p steps u q → IsTextIf (IsInText bytes at u q) text → IsValueName bytes at (codes "body" ++ (path_text (Number number ∷ steps) ++ text_part text))
   behind_values : IsValueName bytes at (codes "the end of the body")
 
 -- the name of the place of a fault in a message

@@ -89,14 +89,18 @@ module _ (bytes : List ℕ) (at : ℕ) where
   IsInText (TextType k) p start stated = (start ≡ p + gap_to 4 p + 4) × (start ≤ at) × (stated ≡ number_of (order_of bytes) (take 4 (drop (p + gap_to 4 p) bytes)))
   IsInText t p start stated = ⊥
 
-  -- the place is in a header field of this code, which is its first byte, after the padding
-  pub record IsInField (code : ℕ) : Type 0 where
+  -- the place is in the header field at p, of this code, which is its first byte, after the padding
+  pub record IsInField (p code : ℕ) : Type 0 where
     pub n : ℕ
-    pub p : ℕ
     pub before : Pass field_type n 16 p
     pub is_in : IsIn field_type p
     pub read : p + gap_to 8 p < length bytes
     pub code_is : code ≡ slice_index bytes (p + gap_to 8 p)
+
+  -- it is in the text that the value of that field is, behind its length: the value is a variant,
+  -- whose signature follows the code
+  abbrev pub IsInFieldText : (p : ℕ) → (start stated : ℕ) → Type 0
+  IsInFieldText p start stated = (u : TypeTree) × (q : ℕ) × IsTyped Single (p + gap_to 8 p + 1) (sig u) q × IsInText u q start stated
 
   -- a header field at p is a SIGNATURE field, by its code, 8, and its value, a variant of a
   -- signature, is the text w

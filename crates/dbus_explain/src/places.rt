@@ -3,14 +3,14 @@
 
 ghost use Rattle.std.specs.Prelude.{◌≡◌, ◌<◌, ◌≤◌, ℕ, List, IfSome, length, true};
 ghost use Rattle.dbus_texts.specs.Types.{TypeTree, TypeTrees, IsShaped, AreShaped, sig, sigs};
-ghost use Rattle.dbus_explain.specs.Names.{IsFieldName, IsNameOf, IsTextPart, IsValueName, code_name};
-ghost use Rattle.dbus_explain.specs.Names.{first_part, path_text};
+ghost use Rattle.dbus_explain.specs.Names.{IsFieldName, IsNameOf, IsValueName, code_name};
+ghost use Rattle.dbus_explain.specs.Names.{first_part, path_text, text_part};
 ghost use Rattle.dbus_explain.specs.Places.{AreBodyTypes, IsAmong, IsInField, IsPath};
 ghost use Rattle.dbus_explain.specs.Places.{IsSignatureField, body_begin, order_of};
 ghost use Rattle.dbus_explain.specs.declared.path.PathStep.{PathStep as StepTo};
 
 use crate::path::{PathStep, write_step};
-use crate::search::{Search, ValuePlace};
+use crate::search::{Search, StatedText, ValuePlace};
 use dbus_show::{Draft, write_field_name, write_integer};
 use dbus_types::TextKind;
 use dbus_value_model::{Order, Reason, padding_length};
@@ -83,19 +83,20 @@ fn write_field<D: Draft>(draft: &mut D, search: &Search)
     ensures { (name : List ℕ) × IsFieldName search.now.bytes.now search.now.at name ×
         D.gains draft.old name draft.new }
 {
-    match field_code(search) {
-        Some(code) => {
+    match field_at(search) {
+        Some((field, code)) => {
             draft.push_str("header field ");
             write_code(draft, code);
+            write_text_part(draft, search.field_text(field));
         }
         None => draft.push_str("the header fields"),
     }
 }
 
-// The code of the header field in which the fault is.
-fn field_code(search: &Search) -> Option<u8>
+// Where the header field is in which the fault is, and its code.
+fn field_at(search: &Search) -> Option<(usize, u8)>
     requires { 16 ≤ search.now.at }
-    ensures { IfSome result (IsInField search.now.bytes.now search.now.at) }
+    ensures { IfSome result (λ r. IsInField search.now.bytes.now search.now.at r.0 r.1) }
 {
     let first = ValuePlace {
         types: FIELD,
@@ -106,7 +107,7 @@ fn field_code(search: &Search) -> Option<u8>
     if place >= search.bytes.len() {
         return None;
     }
-    Some(search.bytes[place])
+    Some((field.place, search.bytes[place]))
 }
 
 // Appends the name of a header field of this code, or the code if it has none.
@@ -132,7 +133,7 @@ fn write_value<D: Draft>(draft: &mut D, search: &Search, body: usize)
             draft.push_str("body");
             write_step(draft, PathStep::Number(number));
             let last = write_steps(draft, search, value);
-            write_text_part(draft, search, last);
+            write_text_part(draft, search.text(last));
         }
         None => draft.push_str("the end of the body"),
     }
@@ -173,14 +174,12 @@ fn write_steps<'a, D: Draft>(
     spot
 }
 
-// Appends where the text of a value begins and the length that is stated of it, if the fault is in
-// a text.
-fn write_text_part<'a, D: Draft>(draft: &mut D, search: &Search<'a>, value: ValuePlace<'a>)
-    ensures { (part : List ℕ) × D.gains draft.old part draft.new × ((t : TypeTree) →
-        sig t ≡ value.entry.types.now →
-        IsTextPart search.now.bytes.now search.now.at t value.entry.place part) }
+// Appends where the text begins in which the fault is, and the length that is stated of it, if there
+// is one.
+fn write_text_part<D: Draft>(draft: &mut D, text: Option<StatedText>)
+    ensures { D.gains draft.old (text_part text) draft.new }
 {
-    if let Some(text) = search.text(value) {
+    if let Some(text) = text {
         draft.push_str(", a text from byte ");
         write_integer(draft, text.start);
         draft.push_str(" of stated length ");

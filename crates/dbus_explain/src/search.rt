@@ -2,14 +2,14 @@
 //! only the value in which it lies is entered. D-Bus Specification, "Marshaling (Wire Format)".
 #![tactic(auto)]
 
-ghost use Rattle.std.specs.Prelude.{◌≡◌, ℕ, ◌+◌, ◌<◌, ◌≤◌, None, IfSome, length, true};
+ghost use Rattle.std.specs.Prelude.{◌≡◌, ℕ, List, ◌+◌, ◌<◌, ◌≤◌, None, IfSome, length, true};
 ghost use Rattle.dbus_texts.specs.Types.{TypeTree, TypeTrees, STRING, SIGNATURE, TextType, VariantType, ArrayType, StructType};
 ghost use Rattle.dbus_texts.specs.Types.{EntryType, NoTypes, MoreTypes, IsShaped, AreShaped, sig};
 ghost use Rattle.dbus_texts.specs.Types.{sigs};
 ghost use Rattle.dbus_types.specs.Alignments.{alignment_of};
 ghost use Rattle.dbus_types.specs.SignatureCodes.{first_code};
 ghost use Rattle.dbus_value_model.specs.Bytes.{gap_to};
-ghost use Rattle.dbus_explain.specs.Places.{IsAmong, IsIn, IsInText, IsTyped, Pass, Passes, order_of, Leads};
+ghost use Rattle.dbus_explain.specs.Places.{IsAmong, IsIn, IsInFieldText, IsInText, IsTyped, Pass, Passes, order_of, Leads};
 
 use crate::path::PathStep;
 use dbus_types::{TextKind, boundary, type_end};
@@ -149,6 +149,8 @@ impl<'a> Search<'a> {
         ensures typed { IfSome result (λ spot. IsTyped self.now.bytes.now self.now.at kind place
             spot.types.now spot.place) }
         ensures within { IfSome result (λ spot. spot.place ≤ self.now.at) }
+        ensures none { result ≡ None → (w : List ℕ) (q : ℕ) → q ≤ self.now.at →
+            IsTyped self.now.bytes.now self.now.at kind place w q → ⊥ }
     {
         if place > self.at {
             return None;
@@ -256,6 +258,19 @@ impl<'a> Search<'a> {
             [b'g'] => self.short_text(spot.place),
             _ => None,
         }
+    }
+
+    /// The text in which the fault is, of the value of a header field at the place, if it is behind
+    /// the text's length.
+    pub(crate) fn field_text(&self, field: usize) -> Option<StatedText>
+        ensures some { IfSome result (λ text. IsInFieldText self.now.bytes.now self.now.at field
+            text.start text.stated) }
+        ensures none { result ≡ None → (start stated : ℕ) →
+            IsInFieldText self.now.bytes.now self.now.at field start stated → ⊥ }
+    {
+        let code = self.aligned(field, b'(')?;
+        let value = self.typed(code + 1, TextKind::Single)?;
+        self.text(value)
     }
 
     /// The value inside of this one in which the fault is, and the step to it.

@@ -1,7 +1,7 @@
 use Rattle.std.proofs.Common.{◌≡◌, ℕ, ◌+◌, ◌<◌, length, refl, ap, subst, arith, slice_index_or}
 use Rattle.dbus_value_model.specs.Bytes.{gap_to}
 use Rattle.dbus_explain.specs.Places.{field_type}
-use Rattle.dbus_explain.proofs.places.field_code.Goals as goal
+use Rattle.dbus_explain.proofs.places.field_at.Goals as goal
 
 pub returns : goal.returns
 returns c =
@@ -12,7 +12,6 @@ returns c =
     let there : c.in_ok-place.place < length bytes = omega arith in
     record {
       n = c.in_ok-field.field-0-0;
-      p = p;
       before = passed.0;
       is_in = passed.1;
       read = subst (λ (n : ℕ). n < length bytes) code there;
