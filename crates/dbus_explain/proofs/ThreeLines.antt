@@ -24,7 +24,7 @@ use Rattle.dbus_explain.specs.Names.{field, padding, value, code_name, first_par
 use Rattle.dbus_explain.specs.declared.message.Refused.{Refused}
 use Rattle.dbus_explain.specs.declared.search.StatedText.{StatedText}
 use Rattle.dbus_explain.specs.declared.path.PathStep.{PathStep}
-use Rattle.dbus_explain.specs.declared.path.PathStep.TheVariants.{Number, Key, Value, Variant}
+use Rattle.dbus_explain.specs.declared.path.PathStep.TheVariants.{Number, Keyed, Key, Value, Variant}
 
 -- ---- names
 
@@ -37,6 +37,8 @@ after_literal t s h k = line_append t s (literal t h) k
 line_step : (step : PathStep) → IsOneLine (step_text step)
 line_step (Number n) = after_literal (codes "[") (decimal n ++ codes "]") refl
     (line_append (decimal n) (codes "]") (line_decimal n) (literal (codes "]") refl))
+line_step (Keyed key) = after_literal (codes "[") (quoted key.now ++ codes "]") refl
+    (line_append (quoted key.now) (codes "]") (line_quoted Shown refl key.now) (literal (codes "]") refl))
 line_step Key = literal (codes ".key") refl
 line_step Value = literal (codes ".value") refl
 line_step Variant = literal (codes ".variant") refl

@@ -1,12 +1,12 @@
 -- What an input is that does not begin as a message does, by its first bytes.
 use Rattle.std.specs.Prelude.{ℕ, List, [], ◌∷◌, Bool, codes, nat_eq, ◌||◌, ◌&&◌, if◌then◌else◌, take}
-use Rattle.std.specs.Int.{is_in_range}
 use Rattle.std.specs.List.{list_all, starts_with}
+use Rattle.dbus_explain.specs.Places.{is_printable}
 use Rattle.dbus_explain.specs.declared.message.Refused.{Refused}
 
 -- a printable character of ASCII, a tab or an end of a line
 abbrev pub is_letter : ℕ → Bool
-is_letter b = nat_eq b 9 || nat_eq b 10 || nat_eq b 13 || is_in_range 32 126 b
+is_letter b = nat_eq b 9 || nat_eq b 10 || nat_eq b 13 || is_printable b
 
 abbrev pub begins : List ℕ → (front : List ℕ) → Bool
 begins bytes front = starts_with nat_eq bytes front

@@ -5,18 +5,20 @@ use Rattle.std.specs.List.{flat_map}
 use Rattle.dbus_value_model.specs.declared.fault.Reason.{Reason}
 use Rattle.dbus_value_model.specs.declared.fault.Reason.TheVariants.{FieldMissing}
 use Rattle.dbus_show.specs.ShownMessages.{field_name}
+use Rattle.dbus_show.specs.ShownValues.{quoted}
 use Rattle.dbus_texts.specs.Types.{TypeTree, TypeTrees}
 use Rattle.dbus_explain.specs.Places.{AreBodyTypes, IsAmong, IsInField, IsInFieldText, IsInText, IsPath, body_begin, fields_end}
 use Rattle.dbus_explain.specs.declared.search.StatedText.{StatedText}
 use Rattle.dbus_explain.specs.declared.path.PathStep.{PathStep}
-use Rattle.dbus_explain.specs.declared.path.PathStep.TheVariants.{Number, Key, Value, Variant}
+use Rattle.dbus_explain.specs.declared.path.PathStep.TheVariants.{Number, Keyed, Key, Value, Variant}
 
 -- ---- paths
 
 -- a step from a value to one in it: to the element or the member of a number, counted from 0, to
--- the key or the value of a dict entry, or to the value of a variant
+-- the dict entry of a key, to the key or the value of a dict entry, or to the value of a variant
 abbrev pub step_text : PathStep → List ℕ
 step_text (Number n) = codes "[" ++ (decimal n ++ codes "]")
+step_text (Keyed key) = codes "[" ++ (quoted key.now ++ codes "]")
 step_text Key = codes ".key"
 step_text Value = codes ".value"
 step_text Variant = codes ".variant"

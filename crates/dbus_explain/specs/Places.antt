@@ -1,6 +1,8 @@
 -- In which value of a message a place is, by the values before it.
 -- D-Bus Specification, "Marshaling (Wire Format)", "Header Fields".
-use Rattle.std.specs.Prelude.{◌≡◌, ℕ, zero, suc, ◌+◌, ◌<◌, ◌≤◌, List, [], ◌∷◌, length, nat_eq, if◌then◌else◌, slice_index, take, drop, true}
+use Rattle.std.specs.Prelude.{◌≡◌, ℕ, zero, suc, ◌+◌, ◌<◌, ◌≤◌, List, [], ◌∷◌, length, nat_eq, if◌then◌else◌, slice_index, take, drop, true, Bool}
+use Rattle.std.specs.Int.{is_in_range}
+use Rattle.std.specs.List.{list_all}
 use Rattle.dbus_texts.specs.Types.{TypeTree, TypeTrees, BYTE, SIGNATURE, NumberType, TextType, VariantType, ArrayType, StructType, EntryType, NoTypes, MoreTypes}
 use Rattle.dbus_texts.specs.Types.{sig, sigs, IsShaped}
 use Rattle.dbus_texts.specs.declared.text_kind.TextKind.{TextKind}
@@ -16,8 +18,12 @@ use Rattle.dbus_value_model.specs.declared.order.Order.{Order}
 use Rattle.dbus_value_model.specs.declared.order.Order.TheVariants.{Little, Big}
 use Rattle.dbus_value_validator.specs.Endings.{EndedText, IsNotSpelled, IsSpelledTo}
 use Rattle.dbus_explain.specs.declared.path.PathStep.{PathStep}
-use Rattle.dbus_explain.specs.declared.path.PathStep.TheVariants.{Number, Key, Value, Variant}
+use Rattle.dbus_explain.specs.declared.path.PathStep.TheVariants.{Number, Keyed, Key, Value, Variant}
 use Rattle.dbus_explain.specs.declared.search.ValuePlace.{ValuePlace}
+
+-- a printable character of ASCII
+abbrev pub is_printable : ℕ → Bool
+is_printable b = is_in_range 32 126 b
 
 -- the order of the bytes, of which the first is l or B, 66
 abbrev pub order_of : List ℕ → Order
@@ -67,10 +73,25 @@ module _ (bytes : List ℕ) (at : ℕ) where
     pub text_is : w ≡ take (length w) (drop (p + 1) bytes)
     pub after : q ≡ p + 1 + length w + 1
 
+  -- the place is in a text of the type at p, behind its length, which says that the text has this
+  -- many bytes, from start on
+  abbrev pub IsInText : TypeTree → (p : ℕ) → (start stated : ℕ) → Type 0
+  IsInText (TextType SIGNATURE) p start stated = (start ≡ p + 1) × (start ≤ at) × (stated ≡ slice_index bytes p)
+  IsInText (TextType k) p start stated = (start ≡ p + gap_to 4 p + 4) × (start ≤ at) × (stated ≡ number_of (order_of bytes) (take 4 (drop (p + gap_to 4 p) bytes)))
+  IsInText t p start stated = ⊥
+
+  -- the dict entry at q has this key: a text of 64 bytes at most, all printable ASCII, that is whole
+  -- before the place
+  abbrev pub IsKeyOf : TypeTree → (q : ℕ) → (key : List ℕ) → Type 0
+  IsKeyOf (EntryType (TextType k) v) q key = (start : ℕ) × (stated : ℕ) × IsInText (TextType k) (q + gap_to 8 q) start stated
+      × (start + stated < at) × (stated ≤ 64) × (key ≡ take stated (drop start bytes)) × (list_all is_printable key ≡ true)
+  IsKeyOf t q key = ⊥
+
   -- the place is in a value of type t at p, and in it in the value of type u at q, to which the
   -- step leads
   abbrev pub Enters : TypeTree → (p : ℕ) → PathStep → (u : TypeTree) → (q : ℕ) → Type 0
-  Enters (ArrayType t) p (Number n) u q = (u ≡ t) × Pass t n (first_element t p) q × IsIn t q
+  Enters (ArrayType t) p (Number n) u q = (u ≡ t) × Pass t n (first_element t p) q × IsIn t q × ((key : List ℕ) → IsKeyOf t q key → ⊥)
+  Enters (ArrayType t) p (Keyed key) u q = (u ≡ t) × (n : ℕ) × Pass t n (first_element t p) q × IsIn t q × IsKeyOf t q key.now
   Enters (StructType ts) p (Number n) u q = IsAmong ts (p + gap_to 8 p) n u q
   Enters (EntryType k v) p Key u q = IsAmong (MoreTypes k (MoreTypes v NoTypes)) (p + gap_to 8 p) 0 u q
   Enters (EntryType k v) p Value u q = IsAmong (MoreTypes k (MoreTypes v NoTypes)) (p + gap_to 8 p) 1 u q
@@ -81,13 +102,6 @@ module _ (bytes : List ℕ) (at : ℕ) where
   abbrev pub IsPath : TypeTree → (p : ℕ) → List PathStep → (u : TypeTree) → (q : ℕ) → Type 0
   IsPath t p [] u q = (u ≡ t) × (q ≡ p)
   IsPath t p (step ∷ steps) u q = (v : TypeTree) × (r : ℕ) × Enters t p step v r × IsPath v r steps u q
-
-  -- the place is in a text of the type at p, behind its length, which says that the text has this
-  -- many bytes, from start on
-  abbrev pub IsInText : TypeTree → (p : ℕ) → (start stated : ℕ) → Type 0
-  IsInText (TextType SIGNATURE) p start stated = (start ≡ p + 1) × (start ≤ at) × (stated ≡ slice_index bytes p)
-  IsInText (TextType k) p start stated = (start ≡ p + gap_to 4 p + 4) × (start ≤ at) × (stated ≡ number_of (order_of bytes) (take 4 (drop (p + gap_to 4 p) bytes)))
-  IsInText t p start stated = ⊥
 
   -- the place is in the header field at p, of this code, which is its first byte, after the padding
   pub record IsInField (p code : ℕ) : Type 0 where
@@ -118,6 +132,12 @@ module _ (bytes : List ℕ) (at : ℕ) where
     pub p : ℕ
     pub before : Pass field_type n 16 p
     pub signature : IsSignatureField p (sigs ts)
+
+-- the step to an element of type t at q: by its key, if it has one, else by its number
+abbrev pub IsStepTo : (bytes : List ℕ) (at : ℕ) → TypeTree → (q number : ℕ) → PathStep → Type 0
+IsStepTo bytes at t q number (Number n) = (n ≡ number) × ((key : List ℕ) → IsKeyOf bytes at t q key → ⊥)
+IsStepTo bytes at t q number (Keyed key) = IsKeyOf bytes at t q key.now
+IsStepTo bytes at t q number step = ⊥
 
 -- Where a search goes in a value.
 

@@ -6,6 +6,7 @@ ghost use Rattle.std.specs.List.{list_all};
 ghost use Rattle.dbus_explain.specs.Looks.{is_letter, look_of, look_text};
 
 use crate::message::Refused;
+use crate::search::is_printable;
 
 /// What is said of the input behind the rule, if its very first byte is refused.
 pub(crate) fn look_in(refused: &Refused) -> &'static str
@@ -54,5 +55,5 @@ fn is_text(bytes: &[u8]) -> bool
 fn is_letter(byte: u8) -> bool
     ensures { result ≡ is_letter byte }
 {
-    matches!(byte, 9 | 10 | 13 | 32..=126)
+    matches!(byte, b'\t' | b'\n' | b'\r') || is_printable(byte)
 }

@@ -3,18 +3,20 @@
 #![tactic(auto)]
 
 ghost use Rattle.std.specs.Prelude.{◌≡◌, ℕ, List, ◌+◌, ◌<◌, ◌≤◌, None, IfSome, length, true};
+ghost use Rattle.std.specs.List.{list_all};
 ghost use Rattle.dbus_texts.specs.Types.{TypeTree, TypeTrees, STRING, SIGNATURE, TextType, VariantType, ArrayType, StructType};
 ghost use Rattle.dbus_texts.specs.Types.{EntryType, NoTypes, MoreTypes, IsShaped, AreShaped, sig};
 ghost use Rattle.dbus_texts.specs.Types.{sigs};
 ghost use Rattle.dbus_types.specs.Alignments.{alignment_of};
 ghost use Rattle.dbus_types.specs.SignatureCodes.{first_code};
 ghost use Rattle.dbus_value_model.specs.Bytes.{gap_to};
-ghost use Rattle.dbus_explain.specs.Places.{IsAmong, IsIn, IsInFieldText, IsInText, IsTyped, Pass, Passes, order_of, Leads};
+ghost use Rattle.dbus_explain.specs.Places.{IsAmong, IsIn, IsInFieldText, IsKeyOf, IsStepTo, is_printable, IsInText, IsTyped, Pass, Passes, order_of, Leads};
 
 use crate::path::PathStep;
 use dbus_types::{TextKind, boundary, type_end};
 use dbus_value_model::{DEPTH_LIMIT, Limits, Order, gap};
 use dbus_value_validator::{short_text, validate_value};
+use std::str;
 
 /// The bytes of a message as far as they were read, their order, and the place of their fault,
 /// which is not past them.
@@ -33,6 +35,9 @@ pub(crate) struct ValuePlace<'a> {
     pub(crate) types: &'a [u8],
     pub(crate) place: usize,
 }
+
+/// The most bytes of a key that is shown.
+const MOST_OF_A_KEY: u32 = 64;
 
 /// Where a text begins, and the length that is stated before it.
 #[derive(Clone, Copy)]
@@ -164,7 +169,7 @@ impl<'a> Search<'a> {
     }
 
     // The element in which the fault is, of an array of this type whose length is at the place.
-    fn element(&self, types: &'a [u8], place: usize) -> Option<(PathStep, ValuePlace<'a>)>
+    fn element(&self, types: &'a [u8], place: usize) -> Option<(PathStep<'a>, ValuePlace<'a>)>
         ensures leads { IfSome result (λ r. (t : TypeTree) → sig t ≡ types.now → IsShaped true t →
             Leads self.now.bytes.now self.now.at (ArrayType t) place r.0 r.1) }
         ensures within { IfSome result (λ r. r.1.place ≤ self.now.at) }
@@ -178,11 +183,48 @@ impl<'a> Search<'a> {
             types,
             place: first,
         })?;
-        Some((PathStep::Number(index), element))
+        Some((self.step_to(element, index), element))
+    }
+
+    // The step to an element, in which the fault is: by its key if it has one, else by its number.
+    fn step_to(&self, element: ValuePlace<'a>, number: usize) -> PathStep<'a>
+        ensures { (t : TypeTree) → sig t ≡ element.entry.types.now → IsShaped true t →
+            IsStepTo self.now.bytes.now self.now.at t element.entry.place number result }
+    {
+        match self.key(element) {
+            Some(key) => PathStep::Keyed(key),
+            None => PathStep::Number(number),
+        }
+    }
+
+    // The key of a dict entry in which the fault is, if it is a short text, of printable ASCII, that
+    // is whole before the fault.
+    fn key(&self, entry: ValuePlace<'a>) -> Option<&'a str>
+        ensures some { IfSome result (λ key. (t : TypeTree) → sig t ≡ entry.entry.types.now →
+            IsShaped true t →
+            IsKeyOf self.now.bytes.now self.now.at t entry.entry.place key.now) }
+        ensures none { result ≡ None → (t : TypeTree) → sig t ≡ entry.entry.types.now →
+            IsShaped true t → (key : List ℕ) →
+            IsKeyOf self.now.bytes.now self.now.at t entry.entry.place key → ⊥ }
+    {
+        let [b'{', _, _, ..] = entry.types else {
+            return None;
+        };
+        let place = self.aligned(entry.place, b'{')?;
+        let types = &entry.types[1..2];
+        let text = self.text(ValuePlace { types, place })?;
+        if text.stated > MOST_OF_A_KEY {
+            return None;
+        }
+        let end = self.skip(text.start, text.stated as usize)?;
+        if end == self.at {
+            return None;
+        }
+        printable(&self.bytes[text.start..end])
     }
 
     // The value in which the fault is, of a struct of these types at the place.
-    fn member(&self, types: &'a [u8], place: usize) -> Option<(PathStep, ValuePlace<'a>)>
+    fn member(&self, types: &'a [u8], place: usize) -> Option<(PathStep<'a>, ValuePlace<'a>)>
         ensures leads { IfSome result (λ r. (ts : TypeTrees) → sigs ts ≡ types.now → AreShaped ts →
             Leads self.now.bytes.now self.now.at (StructType ts) place r.0 r.1) }
         ensures within { IfSome result (λ r. r.1.place ≤ self.now.at) }
@@ -193,7 +235,7 @@ impl<'a> Search<'a> {
     }
 
     // The half in which the fault is, of a dict entry of these two types at the place.
-    fn half(&self, types: &'a [u8], place: usize) -> Option<(PathStep, ValuePlace<'a>)>
+    fn half(&self, types: &'a [u8], place: usize) -> Option<(PathStep<'a>, ValuePlace<'a>)>
         ensures leads { IfSome result (λ r. (k v : TypeTree) →
             sigs (MoreTypes k (MoreTypes v NoTypes)) ≡ types.now →
             AreShaped (MoreTypes k (MoreTypes v NoTypes)) →
@@ -211,7 +253,7 @@ impl<'a> Search<'a> {
     }
 
     // The value of a variant whose signature's length is at the place.
-    fn inner(&self, place: usize) -> Option<(PathStep, ValuePlace<'a>)>
+    fn inner(&self, place: usize) -> Option<(PathStep<'a>, ValuePlace<'a>)>
         ensures leads { IfSome result (λ r. Leads self.now.bytes.now self.now.at VariantType place
             r.0 r.1) }
         ensures within { IfSome result (λ r. r.1.place ≤ self.now.at) }
@@ -274,7 +316,7 @@ impl<'a> Search<'a> {
     }
 
     /// The value inside of this one in which the fault is, and the step to it.
-    pub(crate) fn entered(&self, spot: ValuePlace<'a>) -> Option<(PathStep, ValuePlace<'a>)>
+    pub(crate) fn entered(&self, spot: ValuePlace<'a>) -> Option<(PathStep<'a>, ValuePlace<'a>)>
         ensures leads { IfSome result (λ r. (t : TypeTree) → sig t ≡ spot.entry.types.now →
             IsShaped true t →
             Leads self.now.bytes.now self.now.at t spot.entry.place r.0 r.1) }
@@ -288,4 +330,31 @@ impl<'a> Search<'a> {
             _ => None,
         }
     }
+}
+
+// The text that bytes are, if all are printable ASCII.
+fn printable(bytes: &[u8]) -> Option<&str>
+    ensures some { IfSome result (λ text. (text.now ≡ bytes.now) ×
+        (list_all is_printable bytes.now ≡ true)) }
+    ensures none { result ≡ None → list_all is_printable bytes.now ≡ true → ⊥ }
+{
+    if !are_printable(bytes) {
+        return None;
+    }
+    // They are ASCII, so that they are text.
+    Some(unsafe { str::from_utf8_unchecked(bytes) })
+}
+
+// Whether all bytes are printable characters of ASCII.
+fn are_printable(bytes: &[u8]) -> bool
+    ensures { result ≡ list_all is_printable bytes.now }
+{
+    bytes.iter().all(|byte| is_printable(*byte))
+}
+
+/// Whether a byte is a printable character of ASCII.
+pub(crate) fn is_printable(byte: u8) -> bool
+    ensures { result ≡ is_printable byte }
+{
+    matches!(byte, 32..=126)
 }

@@ -2,6 +2,7 @@ use Rattle.std.proofs.Common.{ℕ, refl, sym, ◌∙◌, subst}
 use Rattle.dbus_texts.specs.Types.{ArrayType}
 use Rattle.dbus_types.proofs.TypeCodes.{code_is}
 use Rattle.dbus_explain.specs.Places.{Pass}
+use Rattle.dbus_explain.proofs.Keys.{entered_by}
 use Rattle.dbus_explain.proofs.Searching.{element_at}
 use Rattle.dbus_explain.proofs.search.Search.element.Goals as goal
 
@@ -12,4 +13,10 @@ returns-clause-leads c = λ t is shaped.
     let spot = c.in_ok-index.element in
     let passed = c.in_ok-index.ensures.passed t is shaped in
     let first = element_at t place c.in_ok-length.length c.in_ok-skip.field-0 c.in_ok-first.first (c.in_ok-length.ensures.gap (ArrayType t) refl) c.in_ok-skip.ensures.some.0 (c.in_ok-first.ensures.gap t (code_is t c.args.types.now is)) in
-    (t, is ∙ sym c.in_ok-index.ensures.types, shaped, (refl, subst (λ (p : ℕ). Pass self.bytes.now self.at t c.in_ok-index.index p spot.place) first passed.0, passed.1))
+    let there = is ∙ sym c.in_ok-index.ensures.types in (
+      t,
+      there,
+      shaped,
+      entered_by self.bytes.now self.at t place spot.place c.in_ok-index.index c.step_to.result
+          (subst (λ (p : ℕ). Pass self.bytes.now self.at t c.in_ok-index.index p spot.place) first passed.0) passed.1 (c.step_to.ensures t there shaped),
+    )
