@@ -1,0 +1,41 @@
+//! Integers from JSON. RFC 8259, sections 6 and 7; D-Bus Specification, "Type System".
+#![tactic(auto)]
+
+ghost use Rattle.std.specs.Prelude.{◌≡◌, ◌^◌, ◌<◌, ◌≤◌, ℕ, None, IfSome, decimal};
+ghost use Rattle.json.specs.Json.{number};
+ghost use Rattle.json.specs.Value.{value_view};
+ghost use Rattle.dbus_json_reader.specs.JsonNumbers.{SpellsWide};
+
+use crate::integers::unsigned_in;
+use json::Value;
+use std::alloc::Allocator;
+
+/// The unsigned number that a value is, if it is at most `most`: a number in decimal, with no
+/// point, no exponent and no sign. It is `None` of any other value. RFC 8259, section 6.
+pub fn unsigned<A: Allocator>(json: &Value<'_, A>, most: u64) -> Option<u64>
+    ensures some { IfSome result (λ n. (n ≤ most) × (value_view json.now ≡ number (decimal n))) }
+    ensures none { result ≡ None → (n : ℕ) → n ≤ most →
+        value_view json.now ≡ number (decimal n) → ⊥ }
+{
+    let Value::Number(text) = json else {
+        return None;
+    };
+    let number = unsigned_in(text.as_bytes())?;
+    if number > most {
+        return None;
+    }
+    Some(number)
+}
+
+/// The unsigned number of 64 bits that a value is: a number in decimal, with no point, no exponent
+/// and no sign, or a string of it. It is `None` of any other value. RFC 8259, sections 6 and 7.
+pub fn unsigned_64<A: Allocator>(json: &Value<'_, A>) -> Option<u64>
+    ensures some { IfSome result (λ n. SpellsWide (decimal n) (value_view json.now)) }
+    ensures none { result ≡ None → (n : ℕ) → n < 2 ^ 64 →
+        SpellsWide (decimal n) (value_view json.now) → ⊥ }
+{
+    match json {
+        Value::Number(text) | Value::String(text) => unsigned_in(text.as_bytes()),
+        _ => None,
+    }
+}
