@@ -69,7 +69,8 @@ pub(crate) struct OtherFields {
 impl FieldForm for OtherFields {
     ghost is_taken = { λ code. not (is_known_code code) };
 
-    ghost is_text = { λ form place code v text. IsOther (nat_lt (suc place) form.known_end) place code v text };
+    ghost is_text = { λ form place code v text.
+        IsOther (nat_lt (suc place) form.known_end) place code v text };
 
     #[inline]
     fn takes(code: u8) -> bool {

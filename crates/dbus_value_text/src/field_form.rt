@@ -16,8 +16,8 @@ pub trait FieldForm {
     // It takes fields with this code.
     ghost is_taken: { ℕ → Bool };
 
-    // This may be the text of a field with this code and value, which has this place among all header
-    // fields, counted from 0.
+    // This may be the text of a field with this code and value, which has this place among all
+    // header fields, counted from 0.
     ghost is_text: { Self → (place code : ℕ) → ValueTree → List ℕ → Type 0 };
 
     /// Whether it takes fields with this code.
@@ -38,5 +38,6 @@ pub trait FieldForm {
         requires stands { StandsThere source.now spot.now }
         requires noted { AreLengths spot.now.types.now spot.now.lengths.now }
         ensures written { (v : ValueTree) (rest : List ℕ) → StandsAt source.now spot.now v rest →
-            GainsSome D.gains draft.old (is_text self.now place code v) draft.new × (result ≡ end_of source.now spot.now v) };
+            GainsSome D.gains draft.old (is_text self.now place code v) draft.new ×
+            (result ≡ end_of source.now spot.now v) };
 }
