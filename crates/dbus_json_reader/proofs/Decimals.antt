@@ -1,8 +1,10 @@
 -- Texts of integers in decimal.
-use Rattle.std.proofs.Common.{◌≡◌, ◌≢◌, ℕ, zero, suc, ◌^◌, ◌<◌, ◌≤◌, List, [], ◌∷◌, length, get_or, Option, Some, None, IfSome, Result, Ok, Err, decimal, refl, sym, ap, ◌∙◌, subst, arith}
-use Rattle.std.specs.Fmt.{digits}
+use Rattle.std.proofs.Common.{◌≡◌, ◌≢◌, ℕ, zero, suc, ◌-◌, ◌^◌, ◌<◌, ◌≤◌, ℤ, pos, negsuc, FitsSigned, take, drop, List, [], ◌∷◌, length, get_or, Option, Some, None, IfSome, Result, Ok, Err, decimal, refl, sym, ap, ◌∙◌, subst, arith}
+use Rattle.std.specs.Fmt.{digits, signed_decimal}
+use Rattle.std.specs.Int.{w64}
 use Rattle.std.specs.Result.{result_ok}
 use Rattle.std.specs.Str.Parse.{AllDigits, ParsesUnsigned, digits_value}
+use Rattle.std.proofs.lemmas.List.{take_rest}
 use Rattle.std.proofs.lemmas.Fmt.{decimal_injective, decimal-digits_value, decimal_nonempty, first_decimal, parse-decimal}
 use Rattle.json.specs.Json.{number}
 use Rattle.std.proofs.lemmas.Str.Parse.{IsNumeralModel, numerals_by_value, parse_plain, tells_digits}
@@ -76,3 +78,26 @@ pub over : (text : List ℕ) (m n most : ℕ) → text ≡ decimal m → m < 2 ^
 over text m n most is small few bound more e =
     let same : m ≡ n = decimal_injective m n small (omega (arith, few, bound)) (sym is ∙ number_texts text (decimal n) e) in
     omega (arith, same, few, more)
+
+-- ---- signs
+
+no_minus : (text : List ℕ) (n : ℕ) → n < 2 ^ 64 → text ≡ decimal n → get_or text 0 0 ≡ 45 → ⊥
+no_minus text zero small is minus = let first : get_or text 0 0 ≡ 48 = ap (λ (s : List ℕ). get_or s 0 0) (is ∙ zero_text) in omega (arith, first, minus)
+no_minus text (suc n) small is minus =
+    let first : get_or text 0 0 ≡ get_or (decimal (suc n)) 0 0 = ap (λ (s : List ℕ). get_or s 0 0) is in
+    let more = first_decimal (suc n) (omega arith) small in
+    omega (arith, first, more, minus)
+
+-- a number over all signed ones
+pub too_large : (text : List ℕ) (m : ℕ) → text ≡ decimal m → m < 2 ^ 64 → 2 ^ 63 ≤ m → (z : ℤ) → FitsSigned w64 z → text ≡ signed_decimal z → ⊥
+too_large text m is small large (pos n) fits same = let e : m ≡ n = decimal_injective m n small (omega (arith, fits.sfits)) (sym is ∙ same) in omega (arith, e, large, fits.sfits)
+too_large text m is small large (negsuc n) fits same = no_minus text m small is (ap (λ (s : List ℕ). get_or s 0 0) same)
+
+-- a minus before what is no size of a negative number
+pub no_size : (text : List ℕ) → get_or text 0 0 ≡ 45 → ((n : ℕ) → n < 2 ^ 63 → take (length text - 1) (drop 1 text) ≡ decimal (suc n) → ⊥) → (z : ℤ) → FitsSigned w64 z → text ≡ signed_decimal z → ⊥
+no_size text minus none (pos n) fits same = no_minus text n (omega (arith, fits.sfits)) same minus
+no_size text minus none (negsuc n) fits same = none n fits.sfits (take_rest text 1 ∙ ap (λ (s : List ℕ). drop 1 s) same)
+
+-- another size
+pub other_size : (text : List ℕ) (m : ℕ) → text ≡ decimal m → m < 2 ^ 64 → ((n : ℕ) → n < 2 ^ 63 → m ≡ suc n → ⊥) → (n : ℕ) → n < 2 ^ 63 → text ≡ decimal (suc n) → ⊥
+other_size text m is small other n few same = other n few (decimal_injective m (suc n) small (omega (arith, few)) (sym is ∙ same))

@@ -1,7 +1,9 @@
 //! Integers as texts in decimal, as `json` writes them. RFC 8259, section 6.
 #![tactic(auto)]
 
-ghost use Rattle.std.specs.Prelude.{◌≡◌, ◌^◌, ◌<◌, ℕ, length, get_or, None, IfSome, decimal};
+ghost use Rattle.std.specs.Prelude.{◌≡◌, ◌^◌, ◌<◌, ℕ, ℤ, length, get_or, None, IfSome, FitsSigned, decimal};
+ghost use Rattle.std.specs.Fmt.{signed_decimal};
+ghost use Rattle.std.specs.Int.{w64};
 
 /// The number of 64 bits that a text is in decimal, with no sign and no zero before another digit,
 /// or `None` if it is none. RFC 8259, section 6.
@@ -32,4 +34,27 @@ fn zero_in(text: &[u8]) -> Option<u64>
         return None;
     }
     Some(0)
+}
+
+/// The signed number of 64 bits that a text is in decimal, with no plus, no zero before another
+/// digit and no minus before a zero, or `None` if it is none. RFC 8259, section 6.
+pub fn signed_in(text: &[u8]) -> Option<i64>
+    ensures some { IfSome result (λ z. text.now ≡ signed_decimal z) }
+    ensures none { result ≡ None → (z : ℤ) → FitsSigned w64 z → text.now ≡ signed_decimal z → ⊥ }
+{
+    if text.is_empty() || text[0] != b'-' {
+        let number = unsigned_in(text)?;
+        if number > i64::MAX as u64 {
+            return None;
+        }
+        return Some(number as i64);
+    }
+    let size = unsigned_in(&text[1..])?;
+    if size == 0 {
+        return None;
+    }
+    if size > 1 << 63 {
+        return None;
+    }
+    Some(-((size - 1) as i64) - 1)
 }

@@ -4,5 +4,5 @@
 mod integers;
 mod numbers;
 
-pub use integers::unsigned_in;
-pub use numbers::{unsigned, unsigned_64};
+pub use integers::{signed_in, unsigned_in};
+pub use numbers::{signed_64, unsigned, unsigned_64};

@@ -1,12 +1,14 @@
 //! Integers from JSON. RFC 8259, sections 6 and 7; D-Bus Specification, "Type System".
 #![tactic(auto)]
 
-ghost use Rattle.std.specs.Prelude.{◌≡◌, ◌^◌, ◌<◌, ◌≤◌, ℕ, None, IfSome, decimal};
+ghost use Rattle.std.specs.Prelude.{◌≡◌, ◌^◌, ◌<◌, ◌≤◌, ℕ, ℤ, None, IfSome, FitsSigned, decimal};
+ghost use Rattle.std.specs.Fmt.{signed_decimal};
+ghost use Rattle.std.specs.Int.{w64};
 ghost use Rattle.json.specs.Json.{number};
 ghost use Rattle.json.specs.Value.{value_view};
 ghost use Rattle.dbus_json_reader.specs.JsonNumbers.{SpellsWide};
 
-use crate::integers::unsigned_in;
+use crate::integers::{signed_in, unsigned_in};
 use json::Value;
 use std::alloc::Allocator;
 
@@ -36,6 +38,20 @@ pub fn unsigned_64<A: Allocator>(json: &Value<'_, A>) -> Option<u64>
 {
     match json {
         Value::Number(text) | Value::String(text) => unsigned_in(text.as_bytes()),
+        _ => None,
+    }
+}
+
+/// The signed number of 64 bits that a value is: a number in decimal, with no point, no exponent,
+/// no plus and no minus before a zero, or a string of it. It is `None` of any other value. RFC
+/// 8259, sections 6 and 7.
+pub fn signed_64<A: Allocator>(json: &Value<'_, A>) -> Option<i64>
+    ensures some { IfSome result (λ z. SpellsWide (signed_decimal z) (value_view json.now)) }
+    ensures none { result ≡ None → (z : ℤ) → FitsSigned w64 z →
+        SpellsWide (signed_decimal z) (value_view json.now) → ⊥ }
+{
+    match json {
+        Value::Number(text) | Value::String(text) => signed_in(text.as_bytes()),
         _ => None,
     }
 }
