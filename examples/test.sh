@@ -45,7 +45,7 @@ echo '#include <dbus_wire.h>' | "$CXX" $flags -x c++ -fsyntax-only -
 "$CC" -std=c99 -O2 $flags -o "$built/check" "$here/c/check.c" -L"$built" -ldbus_wire
 "$CC" -std=c99 -O2 $flags -o "$built/check_shared" "$here/c/check.c" "$shared" -Wl,-rpath,"$(cd "$(dirname "$shared")" && pwd)"
 "$CC" $sanitized -o "$built/check_sanitized" "$here/c/check.c" -L"$built" -ldbus_wire
-for name in list swap rules build signal room habits texts lines pieces threads sharing; do
+for name in list swap rules build signal room habits texts lines watch pieces threads sharing; do
 	"$CC" $sanitized -pthread -o "$built/$name" "$here/c/$name.c" -L"$built" -ldbus_wire
 	"$CC" -std=c99 -O2 -g $flags -pthread -o "$built/plain_$name" "$here/c/$name.c" -L"$built" -ldbus_wire
 done
@@ -133,6 +133,20 @@ grep -q 'is 0$' "$built/told"
 $run "$built/signal" Name "a b" Number 7 | "$program" show > "$built/said"
 grep -q "a b" "$built/said"
 "$here/tables.py" "$built/habits" "$built/texts" "$built/lines" "$program"
+# Who looks on passes the lines of both sides, also if the client sends all at once, and none that servers differ on: here some servers read past
+# `BEGIN` and a space, and others begin messages. A server's second answer, and BEGIN before the client is accepted, are refused too.
+looks_on() {
+	printf "$1" > "$built/client_sent"
+	printf "$2" > "$built/server_sent"
+	$run "$built/watch" "$built/client_sent" "$built/server_sent" | tr '\n' ' '
+}
+guid=0123456789abcdef0123456789abcdef
+auth='\0AUTH EXTERNAL 31303030\r\n'
+test "$(looks_on "${auth}NEGOTIATE_UNIX_FD\r\nBEGIN\r\nl" "OK $guid\r\nAGREE_UNIX_FD\r\nl")" = "client 1 client 24 client 19 server 37 server 15 client 7 messages "
+test "$(looks_on "${auth}BEGIN \r\nl\r\nBEGIN\r\nl" "OK $guid\r\n")" = "client 1 client 24 refused "
+test "$(looks_on "${auth}" "OK $guid\r\nOK $guid\r\n")" = "client 1 client 24 server 37 refused "
+test "$(looks_on "${auth}BEGIN\r\nl" "REJECTED EXTERNAL\r\n")" = "client 1 client 24 server 19 refused "
+test "$(looks_on "${auth}BEGIN\r\nl" "OK $guid\r")" = "client 1 client 24 8 and 36 bytes left "
 # The fuzz target finds nothing, and finds a parser that takes everything for a message.
 try_fuzz() {
 	"$CC" $sanitized -I"$here/fuzz" -o "$built/fuzz" "$here/fuzz/fuzz.c" "$here/fuzz/files.c" "$@" -L"$built" -ldbus_wire

@@ -24,7 +24,7 @@ from ._errors import BadValue, HeaderField, NotAMessage, Refused, Truncated
 from ._handshake import Client, Server, Status, Step
 from ._library import LIBRARY_VERSION
 from ._limits import Limits
-from ._lines import BadLine, Line, LineCommand, client_line, server_line
+from ._lines import BadLine, Line, LineCommand, NotPassed, Watch, client_line, server_line
 from ._messages import Message, MessageFlag, MessageType, byteswap, messages, stated_length
 from ._rules import BadRule, Rule, RuleSet
 from ._spelling import spell_body
@@ -46,6 +46,7 @@ __all__ = [
     "MessageFlag",
     "MessageType",
     "NotAMessage",
+    "NotPassed",
     "ObjectPath",
     "Order",
     "Refused",
@@ -60,6 +61,7 @@ __all__ = [
     "Truncated",
     "UnixFd",
     "Variant",
+    "Watch",
     "build",
     "byteswap",
     "check_text",

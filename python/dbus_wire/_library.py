@@ -113,6 +113,10 @@ class Line(ctypes.Structure):
     ]
 
 
+class Watch(ctypes.Structure):
+    _fields_ = [(name, c_uint32) for name in ("server", "unanswered", "started", "reserved")]
+
+
 # Of each call its result, and then its arguments. Python's bytes do not change and are never null,
 # so they are passed as they are.
 _MESSAGE = (c_char_p, c_size_t, POINTER(Limits))
@@ -154,6 +158,8 @@ _CALLS = {
     "handshake_free": (None, POINTER(Handshake)),
     "client_line": (c_uint32, c_char_p, c_size_t, POINTER(Line)),
     "server_line": (c_uint32, c_char_p, c_size_t, POINTER(Line)),
+    "watch_client": (c_uint32, POINTER(Watch), c_char_p, c_size_t, POINTER(Line)),
+    "watch_server": (c_uint32, POINTER(Watch), c_char_p, c_size_t, POINTER(Line)),
     "reason_name": (c_size_t, c_uint32, c_char_p, c_size_t),
 }
 

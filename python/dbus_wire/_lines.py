@@ -8,12 +8,12 @@ from ctypes import byref
 from typing import NamedTuple
 
 from . import _library
-from ._library import PARTIAL, REFUSED, Bytes, as_bytes, library
+from ._library import PARTIAL, REFUSED, WHOLE, Bytes, as_bytes, library
 
 
 class LineCommand(enum.IntEnum):
     """The commands of a handshake's lines. OTHER is one of another name, of the other side, or with
-    other words than it takes."""
+    other words than it takes. NUL is the byte 0 before a client's first line, as a Watch has it."""
 
     OTHER = 0
     AUTH = 1
@@ -25,6 +25,7 @@ class LineCommand(enum.IntEnum):
     REJECTED = 7
     OK = 8
     AGREE_UNIX_FD = 9
+    NUL = 10
 
 
 class Line(NamedTuple):
@@ -66,13 +67,57 @@ def server_line(data: Bytes) -> Line | None:
     return _line(library.dbus_wire_server_line, as_bytes(data))
 
 
+class NotPassed(ValueError):
+    """Nothing more is to be passed on: `line` is the line that a Watch refused, or None if the bytes
+    begin with none."""
+
+    def __init__(self, line: Line | None) -> None:
+        super().__init__(line)
+        self.line = line
+
+    def __str__(self) -> str:
+        return "no line begins so" if self.line is None else f"a line that is not to be passed on: {self.line.command.name}"
+
+
+class Watch:
+    """Looks on at a handshake, for a program that passes on what both sides send. A method gets the
+    bytes of its side that were not passed on, and returns the line that they begin with, whose
+    `length` bytes are to be passed on; the byte 0 before a client's first line as one of its own.
+    It returns None if nothing is to be passed on yet: more bytes are needed, the server has lines
+    to answer before BEGIN, or messages have begun, which `has_begun` says. It passes exact lines
+    alone, and BEGIN if the server accepted the client. Raises NotPassed, now and from then on."""
+
+    def __init__(self) -> None:
+        self._watch = _library.Watch()
+
+    def client(self, data: Bytes) -> Line | None:
+        return self._look(library.dbus_wire_watch_client, as_bytes(data))
+
+    def server(self, data: Bytes) -> Line | None:
+        return self._look(library.dbus_wire_watch_server, as_bytes(data))
+
+    @property
+    def has_begun(self) -> bool:
+        """Whether BEGIN was passed on: what both sides send after it are messages."""
+        return int(self._watch.server) == 3
+
+    def _look(self, call: ctypes._NamedFuncPointer, data: bytes) -> Line | None:
+        told = _library.Line()
+        answer = call(byref(self._watch), data, len(data), byref(told))
+        if answer == REFUSED:
+            raise NotPassed(_told(data, told) if told.length else None)
+        return _told(data, told) if answer == WHOLE else None
+
+
 def _line(call: ctypes._NamedFuncPointer, data: bytes) -> Line | None:
     told = _library.Line()
     answer = call(data, len(data), byref(told))
     if answer == REFUSED:
         raise BadLine(None if told.is_too_long else told.offset)
-    if answer == PARTIAL:
-        return None
+    return None if answer == PARTIAL else _told(data, told)
+
+
+def _told(data: bytes, told: _library.Line) -> Line:
     return Line(told.length, LineCommand(told.command), _text_at(data, told.mechanism), _text_at(data, told.text), bool(told.is_exact))
 
 

@@ -29,6 +29,7 @@ from dbus_wire import (
     MessageFlag,
     MessageType,
     NotAMessage,
+    NotPassed,
     ObjectPath,
     Refused,
     Rule,
@@ -41,6 +42,7 @@ from dbus_wire import (
     TextKind,
     Truncated,
     Variant,
+    Watch,
     build,
     byteswap,
     check_text,
@@ -513,6 +515,30 @@ class Handshakes(unittest.TestCase):
             if Status.TALKING not in (at_client.status, at_server.status):
                 return at_client.status, at_server.status, lines
         self.fail("the ends do not come to an end")
+
+    def test_a_watch(self):
+        guid = b"0123456789abcdef" * 2
+        watch = Watch()
+        self.assertEqual(watch.client(b"\0AUTH EXTERNAL\r\n")[:2], (1, LineCommand.NUL))
+        self.assertEqual(watch.client(b"AUTH EXTERNAL\r\nBEGIN\r\n")[:3], (15, LineCommand.AUTH, "EXTERNAL"))
+        self.assertIsNone(watch.client(b"BEGIN\r\nl"))
+        self.assertIsNone(watch.server(b"OK "))
+        self.assertEqual(watch.server(b"OK " + guid + b"\r\n").command, LineCommand.OK)
+        self.assertFalse(watch.has_begun)
+        self.assertEqual(watch.client(b"BEGIN\r\nl").command, LineCommand.BEGIN)
+        self.assertTrue(watch.has_begun)
+        self.assertEqual((watch.client(b"l"), watch.server(b"l")), (None, None))
+
+    def test_a_watch_refuses(self):
+        for sent, command in ((b"BEGIN \r\n", LineCommand.BEGIN), (b"BEGIN\r\n", LineCommand.BEGIN), (b"OK\r\n", LineCommand.OTHER), (b"\n", None)):
+            watch = Watch()
+            watch.client(b"\0")
+            for data in (sent, b"AUTH\r\n"):
+                with self.assertRaises(NotPassed) as caught:
+                    watch.client(data)
+                self.assertEqual(caught.exception.line and caught.exception.line.command, command if data is sent else None)
+        self.assertRaises(NotPassed, Watch().client, b"AUTH\r\n")
+        self.assertRaises(NotPassed, Watch().server, b"OK\r\n")
 
     def test_lines(self):
         self.assertEqual(client_line(b"AUTH  A 6C \r\nBEGIN"), (13, LineCommand.AUTH, "A", "6C", False))

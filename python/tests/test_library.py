@@ -24,9 +24,8 @@ class Header(unittest.TestCase):
             return ctypes.POINTER(found) if struct[2] else found
         if "*" in spelled and ("uint8_t" in spelled or "void" in spelled):
             return ctypes.c_char_p if "uint8_t" in spelled else ctypes.c_void_p
-        found = {"uint8_t": ctypes.c_uint8, "uint32_t": ctypes.c_uint32, "uint64_t": ctypes.c_uint64, "size_t": ctypes.c_size_t, "void": None}[
-            spelled.split()[0]
-        ]
+        numbers = {"uint8_t": ctypes.c_uint8, "uint16_t": ctypes.c_uint16, "uint32_t": ctypes.c_uint32, "uint64_t": ctypes.c_uint64}
+        found = {**numbers, "size_t": ctypes.c_size_t, "void": None}[spelled.split()[0]]
         return ctypes.POINTER(found) if "*" in spelled else found
 
     def test_numbers(self):
@@ -39,7 +38,7 @@ class Header(unittest.TestCase):
 
     def test_structs(self):
         declared = re.findall(r"(\d+) bytes\. \*/\nstruct dbus_wire_(\w+) \{(.*?)\n\};", self.text, re.DOTALL)
-        self.assertEqual(len(declared), 17)
+        self.assertEqual(len(declared), 18)
         for size, name, fields in declared:
             lines = re.findall(r"^    (struct \w+|\w+_t|void \*) ?([\w, ]+);", fields, re.MULTILINE)
             right = [(field, self.type_of(kind)) for kind, names in lines for field in names.split(", ")]

@@ -30,7 +30,7 @@
 //! * A match [`Rule`], or a [`RuleSet`] of many, says which messages a program wants, and keeps who
 //!   owns the names that they ask for. Threads ask [`SharedRules`] at the same time.
 //! * [`Server`] and [`Client`] are the ends of the authentication handshake, and [`client_line`]
-//!   and [`server_line`] give the lines of one between others.
+//!   and [`server_line`] give the lines of one between others, which a [`Watch`] passes on.
 //! * [`Limits`] are those that a message has to keep, and a [`Fault`] says where and why bytes are
 //!   no message.
 //! * [`sys`] has the C calls themselves.
@@ -62,6 +62,7 @@ mod swap;
 pub mod sys;
 mod text;
 mod value;
+mod watch;
 
 pub use body::{Body, TooLong};
 pub use build::{build, rebuild, BuildError, Parts};
@@ -77,6 +78,7 @@ pub use swap::{byteswap, SwapError};
 pub use sys::dbus_wire_flat_item as FlatItem;
 pub use text::{check_text, TextFault, TextKind};
 pub use value::{Array, Entry, Fields, Value, Values, Variant};
+pub use watch::{NotPassed, Passage, Watch};
 
 /// The version of the library that is linked or loaded: its three numbers.
 ///

@@ -94,22 +94,26 @@ type Call = unsafe extern "C" fn(*const u8, usize, *mut sys::dbus_wire_line) -> 
 fn line(call: Call, bytes: &[u8]) -> Result<Option<Line<'_>>, LineFault> {
     let mut told = sys::dbus_wire_line::default();
     // SAFETY: a slice and a reference, as `sys` says.
-    let answer = unsafe { call(bytes.as_ptr(), bytes.len(), &mut told) };
+    match unsafe { call(bytes.as_ptr(), bytes.len(), &mut told) } {
+        sys::DBUS_WIRE_WHOLE => Ok(Some(told_line(bytes, &told))),
+        sys::DBUS_WIRE_PARTIAL => Ok(None),
+        _ if told.is_too_long != 0 => Err(LineFault::TooLong),
+        _ => Err(LineFault::BadByte { at: told.offset as usize }),
+    }
+}
+
+// The line that the library told of these bytes.
+pub(crate) fn told_line<'a>(bytes: &'a [u8], told: &sys::dbus_wire_line) -> Line<'a> {
     let text = |place: sys::dbus_wire_text| {
         let bytes = &bytes[place.offset as usize..][..place.length as usize];
         (place.is_there != 0).then(|| std::str::from_utf8(bytes).expect("a line is ASCII"))
     };
-    match answer {
-        sys::DBUS_WIRE_WHOLE => Ok(Some(Line {
-            length: told.length as usize,
-            command: Command::numbered(told.command),
-            mechanism: text(told.mechanism),
-            text: text(told.text),
-            is_exact: told.is_exact != 0,
-        })),
-        sys::DBUS_WIRE_PARTIAL => Ok(None),
-        _ if told.is_too_long != 0 => Err(LineFault::TooLong),
-        _ => Err(LineFault::BadByte { at: told.offset as usize }),
+    Line {
+        length: told.length as usize,
+        command: Command::numbered(told.command),
+        mechanism: text(told.mechanism),
+        text: text(told.text),
+        is_exact: told.is_exact != 0,
     }
 }
 

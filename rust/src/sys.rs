@@ -33,6 +33,7 @@ pub const DBUS_WIRE_NO_CHECKER: u32 = 7;
 pub const DBUS_WIRE_NO_RULE: u32 = 8;
 pub const DBUS_WIRE_NO_HANDSHAKE: u32 = 9;
 pub const DBUS_WIRE_SHARED: u32 = 10;
+pub const DBUS_WIRE_WAITS: u32 = 11;
 
 pub const DBUS_WIRE_TYPE_METHOD_CALL: u32 = 1;
 pub const DBUS_WIRE_TYPE_METHOD_RETURN: u32 = 2;
@@ -115,6 +116,7 @@ pub const DBUS_WIRE_LINE_NEGOTIATE_UNIX_FD: u32 = 6;
 pub const DBUS_WIRE_LINE_REJECTED: u32 = 7;
 pub const DBUS_WIRE_LINE_OK: u32 = 8;
 pub const DBUS_WIRE_LINE_AGREE_UNIX_FD: u32 = 9;
+pub const DBUS_WIRE_LINE_NUL: u32 = 10;
 
 #[repr(C)]
 #[derive(Clone, Copy, Debug, Default)]
@@ -258,6 +260,15 @@ pub struct dbus_wire_handshake_step {
 
 #[repr(C)]
 #[derive(Clone, Copy, Debug, Default)]
+pub struct dbus_wire_watch {
+    pub server: u32,
+    pub unanswered: u32,
+    pub started: u32,
+    pub reserved: u32,
+}
+
+#[repr(C)]
+#[derive(Clone, Copy, Debug, Default)]
 pub struct dbus_wire_line {
     pub length: u64,
     pub offset: u64,
@@ -284,6 +295,7 @@ const _: () = assert!(size_of::<dbus_wire_rule_refused>() == 16);
 const _: () = assert!(size_of::<dbus_wire_mechanisms>() == 16);
 const _: () = assert!(size_of::<dbus_wire_handshake>() == 8);
 const _: () = assert!(size_of::<dbus_wire_handshake_step>() == 16);
+const _: () = assert!(size_of::<dbus_wire_watch>() == 16);
 const _: () = assert!(size_of::<dbus_wire_line>() == 72);
 
 extern "C" {
@@ -429,5 +441,7 @@ extern "C" {
     pub fn dbus_wire_handshake_free(handshake: *mut dbus_wire_handshake);
     pub fn dbus_wire_client_line(bytes: *const u8, length: usize, out: *mut dbus_wire_line) -> u32;
     pub fn dbus_wire_server_line(bytes: *const u8, length: usize, out: *mut dbus_wire_line) -> u32;
+    pub fn dbus_wire_watch_client(watch: *mut dbus_wire_watch, bytes: *const u8, length: usize, out: *mut dbus_wire_line) -> u32;
+    pub fn dbus_wire_watch_server(watch: *mut dbus_wire_watch, bytes: *const u8, length: usize, out: *mut dbus_wire_line) -> u32;
     pub fn dbus_wire_reason_name(reason: u32, out: *mut u8, room: usize) -> usize;
 }

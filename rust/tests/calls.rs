@@ -4,9 +4,9 @@ use std::thread;
 
 use dbus_wire::{
     build, byteswap, check, check_text, client_line, server_line, wanted, Answer, BuildError, Checker, Client, Command,
-    Descriptors, External, Fault, HandshakeError, Kind, Limits, Line, LineFault, Message, Order, OwnerError, ParseError, Parts,
-    Reason, Rule, RuleError, RuleReason, RuleSet, Server, SharedRules, Status, SwapError, Taken, TextFault, TextKind, Value,
-    Values,
+    Descriptors, External, Fault, HandshakeError, Kind, Limits, Line, LineFault, Message, NotPassed, Order, OwnerError,
+    ParseError, Parts, Passage, Reason, Rule, RuleError, RuleReason, RuleSet, Server, SharedRules, Status, SwapError, Taken,
+    TextFault, TextKind, Value, Values, Watch,
 };
 
 const CAPTURES: [&[u8]; 2] = [include_bytes!("data/session.dbus"), include_bytes!("data/big-endian.dbus")];
@@ -484,6 +484,25 @@ fn both_ends_shake_hands() {
             assert_eq!(client.guid(), Some(guid.to_lowercase()));
         }
     }
+}
+
+#[test]
+fn a_watch_passes_lines_on() {
+    let mut watch = Watch::new();
+    let ok = b"OK 0123456789abcdef0123456789abcdef\r\n";
+    let command = |passage: Result<Passage<'_>, NotPassed>| match passage {
+        Ok(Passage::Line(line)) => Some(line.command),
+        _ => None,
+    };
+    assert_eq!(watch.client(b""), Ok(Passage::More));
+    assert_eq!(watch.client(b"\0AUTH EXTERNAL\r\n"), Ok(Passage::Nul));
+    assert_eq!(command(watch.client(b"AUTH EXTERNAL\r\nBEGIN\r\n")), Some(Command::Auth));
+    assert_eq!(watch.client(b"BEGIN\r\nl"), Ok(Passage::Waits));
+    assert_eq!(command(watch.server(ok)), Some(Command::Ok));
+    assert_eq!(command(watch.client(b"BEGIN\r\nl")), Some(Command::Begin));
+    assert_eq!((watch.client(b"l"), watch.server(b"l")), (Ok(Passage::Messages), Ok(Passage::Messages)));
+    let mut watch = Watch::new();
+    assert_eq!((watch.server(ok), watch.client(b"\0")), (Err(NotPassed), Err(NotPassed)));
 }
 
 #[test]

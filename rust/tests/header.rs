@@ -43,6 +43,7 @@ fn declared(text: &str) -> (String, String) {
     };
     let kind = match words.concat().trim_end_matches('*') {
         "uint8_t" => "u8",
+        "uint16_t" => "u16",
         "uint32_t" => "u32",
         "uint64_t" => "u64",
         "size_t" => "usize",

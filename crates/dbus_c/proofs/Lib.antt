@@ -6,3 +6,4 @@ pub mod RuleTelling
 pub mod EndsMade
 mod Built
 mod Rebuilt
+pub mod WatchTelling

@@ -6,5 +6,6 @@ pub mod Outcomes
 pub mod TextChecking
 pub mod Rules
 pub mod Handshakes
+pub mod Watching
 pub mod Building
 pub mod Writers

@@ -35,3 +35,6 @@ pub const NO_HANDSHAKE: u32 = 9;
 
 /// The rules are shared, and no call changes them.
 pub const SHARED: u32 = 10;
+
+/// The line is not to be passed on yet: the server has lines to answer that came before it.
+pub const WAITS: u32 = 11;

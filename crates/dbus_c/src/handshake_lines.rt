@@ -18,7 +18,7 @@ use dbus_auth_lines::{
 };
 
 // No text.
-const NOWHERE: WordPlace = WordPlace { at: 0, length: 0 };
+pub(crate) const NOWHERE: WordPlace = WordPlace { at: 0, length: 0 };
 
 /// A line of a handshake. Fields that do not apply are 0. D-Bus Specification, "Authentication
 /// Protocol".
@@ -92,7 +92,7 @@ pub extern "C" fn dbus_wire_server_line(bytes: &[u8], out: &mut HandshakeLine) -
 }
 
 // What is told of a client's line of this length.
-fn client_told(length: usize, exact: bool, words: ClientWords) -> HandshakeLine
+pub(crate) fn client_told(length: usize, exact: bool, words: ClientWords) -> HandshakeLine
     ensures { result ≡ client_told length exact words }
 {
     match words {
@@ -108,7 +108,7 @@ fn client_told(length: usize, exact: bool, words: ClientWords) -> HandshakeLine
 }
 
 // And of a server's.
-fn server_told(length: usize, exact: bool, words: ServerWords) -> HandshakeLine
+pub(crate) fn server_told(length: usize, exact: bool, words: ServerWords) -> HandshakeLine
     ensures { result ≡ server_told length exact words }
 {
     match words {
@@ -124,7 +124,7 @@ fn server_told(length: usize, exact: bool, words: ServerWords) -> HandshakeLine
 }
 
 // A line of a handshake as C is told it.
-fn line_told(
+pub(crate) fn line_told(
     length: usize,
     exact: bool,
     command: u32,
@@ -163,7 +163,7 @@ fn place_told(place: WordPlace) -> TextPlace
 }
 
 // More bytes are wanted.
-fn tell_nothing(out: &mut HandshakeLine) -> u32
+pub(crate) fn tell_nothing(out: &mut HandshakeLine) -> u32
     ensures told { out.new ≡ nothing_told }
     ensures answer { result ≡ PARTIAL }
 {
@@ -172,7 +172,7 @@ fn tell_nothing(out: &mut HandshakeLine) -> u32
 }
 
 // The bytes are at fault.
-fn tell_fault(fault: BadLine, out: &mut HandshakeLine) -> u32
+pub(crate) fn tell_fault(fault: BadLine, out: &mut HandshakeLine) -> u32
     ensures told { out.new ≡ fault_told (fault_of fault) }
     ensures answer { result ≡ REFUSED }
 {

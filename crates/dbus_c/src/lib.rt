@@ -8,7 +8,8 @@
 //! checker that takes one piece after another, and [`dbus_wire_rules_add`] keeps match rules,
 //! [`dbus_wire_rules_owner`] the owners of names that their senders may be;
 //! [`dbus_wire_server_new`] and [`dbus_wire_client_new`] make an end of a handshake;
-//! [`dbus_wire_client_line`] and [`dbus_wire_server_line`] give the lines of one between others,
+//! [`dbus_wire_client_line`] and [`dbus_wire_server_line`] give the lines of one between others, of
+//! which [`dbus_wire_watch_client`] and [`dbus_wire_watch_server`] say what to pass on;
 //! [`dbus_wire_build`] builds a message of its parts, whose body [`dbus_wire_put_number`] and its
 //! like spell, and [`dbus_wire_rebuild`] changes one.
 //!
@@ -34,11 +35,12 @@ mod swapping;
 mod texts;
 mod version;
 mod wanted;
+mod watching;
 mod writers;
 
 pub use answers::{
     NO_CHECKER, NO_HANDSHAKE, NO_KIND, NO_MEMORY, NO_ROOM, NO_RULE, NO_VALUE, PARTIAL, REFUSED,
-    SHARED, WHOLE,
+    SHARED, WAITS, WHOLE,
 };
 pub use building::{dbus_wire_build, dbus_wire_rebuild};
 pub use checkers::{
@@ -67,6 +69,7 @@ pub use swapping::dbus_wire_swap;
 pub use texts::{TextChecked, dbus_wire_text_check};
 pub use version::{VERSION, dbus_wire_version};
 pub use wanted::dbus_wire_wanted;
+pub use watching::{HandshakeWatch, dbus_wire_watch_client, dbus_wire_watch_server};
 pub use writers::{
     WireArray, WireWriter, dbus_wire_begin_struct, dbus_wire_close_array, dbus_wire_open_array,
     dbus_wire_put_number, dbus_wire_put_signature, dbus_wire_put_text,

@@ -31,3 +31,7 @@ pub const OK: u32 = 8;
 
 /// `AGREE_UNIX_FD`, of a server.
 pub const AGREE_UNIX_FD: u32 = 9;
+
+/// The byte 0 that a client sends before its first line, as [`crate::dbus_wire_watch_client`] tells
+/// it.
+pub const NUL: u32 = 10;
