@@ -9,6 +9,7 @@ ghost use Rattle.dbus_stream.specs.CutEnds.{CutOfPrefix, EachCut, NoneTruncated,
 ghost use Rattle.dbus_stream.specs.Headline.{Headline};
 ghost use Rattle.dbus_stream.specs.Packets.{ShowsIn};
 ghost use Rattle.dbus_stream.specs.RawReading.{HasPackets, IsNewReader, KeepsPackets, ReadsNothing, ShowsLast, done_of, kept, last_of, read_of, source_of};
+ghost use Rattle.dbus_stream.specs.StatedSizes.{LengthsAreSizes, OneSize, SizesTell};
 ghost use Rattle.dbus_stream.specs.declared.raw_reader.RawReader.{RawReader};
 
 use dbus_device::Source;
@@ -51,6 +52,15 @@ pub fn each_cut()
 #[tactic(auto, using(crate::proofs::MessageEnds::partial_short))]
 pub fn stated_suffice()
     ensures { StatedSuffice }
+{}
+
+/// Bytes state at most one size of a message, and state it whatever follows; the length that they
+/// state if they show no fault is that size; and either they state none whatever follows, or more
+/// of them are wanted, or they are all of the message.
+pub fn sizes()
+    ensures one { OneSize }
+    ensures lengths { LengthsAreSizes }
+    ensures tell { SizesTell }
 {}
 
 /// No fault of bytes is that of an input that ends within a message.
