@@ -4,13 +4,16 @@
 
 ghost use Rattle.std.specs.Prelude.{◌≡◌, ℕ, List, ◌+◌, ◌<◌, ◌≤◌, None, IfSome, length, true};
 ghost use Rattle.std.specs.List.{list_all};
-ghost use Rattle.dbus_texts.specs.Types.{TypeTree, TypeTrees, STRING, SIGNATURE, TextType, VariantType, ArrayType, StructType};
+ghost use Rattle.dbus_texts.specs.Types.{TypeTree, TypeTrees, STRING, SIGNATURE, TextType};
+ghost use Rattle.dbus_texts.specs.Types.{VariantType, ArrayType, StructType};
 ghost use Rattle.dbus_texts.specs.Types.{EntryType, NoTypes, MoreTypes, IsShaped, AreShaped, sig};
 ghost use Rattle.dbus_texts.specs.Types.{sigs};
 ghost use Rattle.dbus_types.specs.Alignments.{alignment_of};
 ghost use Rattle.dbus_types.specs.SignatureCodes.{first_code};
 ghost use Rattle.dbus_value_model.specs.Bytes.{gap_to};
-ghost use Rattle.dbus_explain.specs.Places.{IsAmong, IsIn, IsInFieldText, IsKeyOf, IsStepTo, is_printable, IsInText, IsTyped, Pass, Passes, order_of, Leads};
+ghost use Rattle.dbus_explain.specs.Places.{IsAmong, IsIn, IsInFieldText, IsInText, IsKeyOf};
+ghost use Rattle.dbus_explain.specs.Places.{IsStepTo, IsTyped, Leads, Pass, Passes, is_printable};
+ghost use Rattle.dbus_explain.specs.Places.{order_of};
 
 use crate::path::PathStep;
 use dbus_types::{TextKind, boundary, type_end};
