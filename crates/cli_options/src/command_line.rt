@@ -42,8 +42,8 @@ use std::alloc::Global;
 /// `Usage`: the words name no command of the program, or have what it does not take, a limit over
 /// that of the specification, a number of messages or milliseconds over 4294967295, a width over
 /// 65535 and an owner that is no NAME=UNIQUE of two bus names among it. `Rule`: they name `list` or
-/// `filter`, with a text that spells no rule; it is the first such text. `Help`, `Version`: they ask for
-/// help, or for the version. `Memory`: an allocation failed.
+/// `filter`, with a text that spells no rule; it is the first such text. `Help`, `Version`: they
+/// ask for help, or for the version. `Memory`: an allocation failed.
 pub fn command_of(alloc: Global, words: &[String]) -> Result<Asked, UsageFault>
     // What is returned is what the words name: a command and its settings, or a side.
     ensures named { IfOk result (IsNamedBy (map string_bytes words.now)) }

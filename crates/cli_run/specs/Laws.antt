@@ -140,8 +140,8 @@ OneWithin R S W V E F = (r : Reading R) (s : Reading S) (w : Writing W) (v : Wri
     → AreSameCommand command copy → IsExact command → AreAlike (form_of command) (r.packets r.old) (s.packets s.old) → ReadAlike r s → AreToldAlike r s end → end ≢ status.Failed → other ≢ status.Failed → Runs r w e limits most command end → Runs s v f limits more copy other
     → EndAlike w v e f end other
 
--- two runs end with one status, the second writers got the same bytes, and the first ones got tables
--- of the same counts, each with the line of a span, which may be another
+-- two runs end with one status, the second writers got the same bytes, and the first ones got
+-- tables of the same counts, each with the line of a span, which may be another
 pub record CountAlike {W V E F : Type 0} (w : Writing W) (v : Writing V) (e : Writing E) (f : Writing F) (form : Form) (end other : ExitStatus) : Type 0 where
   pub status_is : other ≡ end
   pub tables : List ℕ

@@ -105,7 +105,8 @@ form_of (Swap wanted form) = form
 form_of (Filter selection form) = form
 form_of command = Raw
 
--- a message is written as a packet of a pcap file: it came in a packet, and is written as it is read
+-- a message is written as a packet of a pcap file: it came in a packet, and is written as it is
+-- read
 abbrev pub is_framed : FileForm → MessagePlace → Bool
 is_framed Raw place = false
 is_framed AsRead place = place.in_packet
@@ -237,8 +238,8 @@ at_most (Some limit) list = take limit list
 unfoldable pub written : Window → List (List ℕ) → List ℕ
 written window texts = concat (at_most window.limit (drop window.skip texts))
 
--- what is written of messages, if these texts are made of them: the header, and then what the window
--- lets through
+-- what is written of messages, if these texts are made of them: the header, and then what the
+-- window lets through
 abbrev pub output_of : FileForm → (begun : Bool) → Window → List Placed → List (List ℕ) → List ℕ
 output_of form begun window items texts = header_before form begun items ++ written window texts
 

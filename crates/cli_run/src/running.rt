@@ -68,16 +68,16 @@ pub fn run_reads<A: Allocator + Copy, R: Source, W: Sink, E: Sink>(
 /// each message as one line, an object of JSON, with that number, the offset at which the message
 /// begins in the input, and, with times, the time of the packet that its last byte is of, if the
 /// reader reports one. `List` writes each that is selected as one line, with that number and time,
-/// that has at most as many cells as it says. `Swap` writes each message in the order that it names.
-/// `Filter` writes each message that is selected, in its own order. Both write messages as they are read, unless
-/// they are to write raw ones: if the reader reports packets, as those of a pcap file,
-/// `dbus_pcap::packet_header` before each with the time of the packet that its last byte is of, and
-/// `dbus_pcap::file_header` before all, also if none is selected. Where the bytes after the messages are none
-/// within the limits or too few, each of these writes `refused at P: NAME` on the second writer,
-/// with the place from the start of the input and the name of the reason; and ` in packet K` if the
-/// reader reports packets: the number of the one that has the byte by which they are refused.
-/// `Check` writes that line on the first writer; or, if the input is messages alone, `ok N messages
-/// B bytes`, how many they are and of how many bytes.
+/// that has at most as many cells as it says. `Swap` writes each message in the order that it
+/// names. `Filter` writes each message that is selected, in its own order. Both write messages as
+/// they are read, unless they are to write raw ones: if the reader reports packets, as those of a
+/// pcap file, `dbus_pcap::packet_header` before each with the time of the packet that its last byte
+/// is of, and `dbus_pcap::file_header` before all, also if none is selected. Where the bytes after
+/// the messages are none within the limits or too few, each of these writes `refused at P: NAME` on
+/// the second writer, with the place from the start of the input and the name of the reason; and
+/// ` in packet K` if the reader reports packets: the number of the one that has the byte by which
+/// they are refused. `Check` writes that line on the first writer; or, if the input is messages
+/// alone, `ok N messages B bytes`, how many they are and of how many bytes.
 ///
 /// If the run fails, it stops at the first cause that it meets, and writes `read failed`, `write
 /// failed`, `too many reads` or `out of memory` on the second writer. Each line ends in LF. What is

@@ -30,14 +30,14 @@ pub struct Refused<'a> {
 ///
 /// The first has the message's number and where it begins, the place of the fault from there, and
 /// its name: a part of the header, a header field, or the path to a value, such as
-/// `body[1][3].key`, in which arrays and structs count from 0, and a dict entry is named by its key,
-/// as in `body[1]["Title"].value`, if that is a text of 64 bytes at most, of printable ASCII, that
-/// is whole before the place; and if the place is in a text, behind its length, where the text
+/// `body[1][3].key`, in which arrays and structs count from 0, and a dict entry is named by its
+/// key, as in `body[1]["Title"].value`, if that is a text of 64 bytes at most, of printable ASCII,
+/// that is whole before the place; and if the place is in a text, behind its length, where the text
 /// begins and the length that is stated. The second has the bytes around the place in hexadecimal,
 /// and the one there between brackets, which are empty at the end of what was read. The third says
-/// what has to be there, and names the section of the D-Bus Specification; if the very first byte of
-/// the input is refused, it also says what that looks like, as a handshake, an ELF program, a gzip,
-/// xz or zstd file, or text, and what to do.
+/// what has to be there, and names the section of the D-Bus Specification; if the very first byte
+/// of the input is refused, it also says what that looks like, as a handshake, an ELF program, a
+/// gzip, xz or zstd file, or text, and what to do.
 ///
 /// ```text
 ///   message 2 at 96, byte 72: body[1][3].key

@@ -174,8 +174,8 @@ fn write_steps<'a, D: Draft>(
     spot
 }
 
-// Appends where the text begins in which the fault is, and the length that is stated of it, if there
-// is one.
+// Appends where the text begins in which the fault is, and the length that is stated of it, if
+// there is one.
 fn write_text_part<D: Draft>(draft: &mut D, text: Option<StatedText>)
     ensures { D.gains draft.old (text_part text) draft.new }
 {

@@ -13,9 +13,9 @@ use dbus_rule::RuleReason;
 use dbus_show::{Draft, Escapes, Visible, write_escaped, write_quoted};
 
 /// Appends three lines that explain why a text spells no rule, for this reason at this place, each
-/// ended by a line feed, with no other one in it: the text between quotation marks, with its escapes,
-/// and a hidden character as `\u{202e}`; a `^` below the character at the place, or below the closing
-/// mark if the place is at the text's end or past it; and what may be there.
+/// ended by a line feed, with no other one in it: the text between quotation marks, with its
+/// escapes, and a hidden character as `\u{202e}`; a `^` below the character at the place, or below
+/// the closing mark if the place is at the text's end or past it; and what may be there.
 ///
 /// ```text
 ///   "type='signal'member='M'"

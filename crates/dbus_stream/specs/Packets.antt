@@ -14,8 +14,8 @@ module _ {R T B : Type 0} {b : Ghosts B} (packets : R → Option Packets) (packe
   pub record HasPackets (all : Packets) (r : Reader R T B b) : Type 0 where
     -- those that the device has left follow the ones that were read
     pub left : PacketsAfter (read_of r) (Some all) (packets (source_of r))
-    -- of those that were read, these are of the packet that the device tells: all that the last read
-    -- gave, and the last byte
+    -- of those that were read, these are of the packet that the device tells: all that the last
+    -- read gave, and the last byte
     pub first : ℕ
     pub told : (i : ℕ) → first ≤ i → i < read_of r → all i ≡ packet (source_of r)
     pub last : first + last_of r ≤ read_of r

@@ -23,8 +23,8 @@ module _ {R T B : Type 0} {b : Ghosts B} where
   abbrev pub done_of : Reader R T B b → ℕ
   done_of r = r.done
 
-  -- how many bytes were read in all: those of the messages, what the taker holds, and what is left of
-  -- the buffer
+  -- how many bytes were read in all: those of the messages, what the taker holds, and what is left
+  -- of the buffer
   abbrev pub read_of : Reader R T B b → ℕ
   read_of r = r.done + r.held + length (part_of r)
 

@@ -26,8 +26,8 @@ pub record Taking (T G : Type 0) : Type 1 where
   pub rests : T → Type 0
 
 module _ {T G : Type 0} (k : Taking T G) where
-  -- the message ends with the first n bytes of the piece, of which there is one at least, and this is
-  -- given of it
+  -- the message ends with the first n bytes of the piece, of which there is one at least, and this
+  -- is given of it
   pub record Completes (old : T) (w piece : List ℕ) (new : T) (n : ℕ) (given : G) : Type 0 where
     pub order : Order
     pub message : MessageTree

@@ -237,16 +237,16 @@ impl<R: Source, A: Allocator + Copy> RawReader<R, A> {
         }
     }
 
-    /// Passes over the message that was refused, by the size that its first 16 bytes state, whatever
-    /// else they say: by its order byte and the lengths of its fields and its body. If fewer than 16
-    /// are there, more are read. If it returns `Over`, the fault is gone, and the next call goes on
-    /// with what follows the message. Its bytes are dropped as they are read, and a read is made
-    /// only if more of them are wanted; [`RawReader::done`] counts them. D-Bus Specification,
-    /// "Message Format".
+    /// Passes over the message that was refused, by the size that its first 16 bytes state,
+    /// whatever else they say: by its order byte and the lengths of its fields and its body. If
+    /// fewer than 16 are there, more are read. If it returns `Over`, the fault is gone, and the
+    /// next call goes on with what follows the message. Its bytes are dropped as they are read, and
+    /// a read is made only if more of them are wanted; [`RawReader::done`] counts them. D-Bus
+    /// Specification, "Message Format".
     ///
-    /// `Not`, and nothing is changed, if no message was refused (`Truncated` is no such fault), or if
-    /// it states no size within the limits, whatever follows: its order byte is neither `l` nor `B`,
-    /// or its 16 bytes are there.
+    /// `Not`, and nothing is changed, if no message was refused (`Truncated` is no such fault), or
+    /// if it states no size within the limits, whatever follows: its order byte is neither `l` nor
+    /// `B`, or its 16 bytes are there.
     ///
     /// `CutOff`: the input ends within it. `Not` after a read: its first 16 bytes, of which fewer
     /// were there, state no size. `TooManyReads`: as many reads were made as it may make. `Device`: a

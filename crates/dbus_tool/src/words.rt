@@ -25,9 +25,9 @@ const OWNER_NOTE: &str =
 /// Does what [`run_with`] does for the command that the words name, of which the first is the
 /// program's name, by the settings that they name and with at most 2^32 reads. If the words ask for
 /// help, its text goes to the first writer. If they name no command, a text that says how goes to
-/// the second; and if they name `list` or `filter` with a text that spells no rule,
-/// `rule refused at P: NAME` and LF, the place in that text and the name of the reason, and then the
-/// lines that explain it, if they ask for explanations.
+/// the second; and if they name `list` or `filter` with a text that spells no rule, `rule refused
+/// at P: NAME` and LF, the place in that text and the name of the reason, and then the lines that
+/// explain it, if they ask for explanations.
 ///
 /// If they ask for explanations, and a rule of `list` or `filter` asks for a well-known sender of
 /// which no owner is known, as `cli_options::Command::lacks_owner` says, a line on the second
