@@ -1,10 +1,11 @@
 #!/usr/bin/env python3
 """gate.py [--all]: the gate. Runs `rt ci` over a copy of the repository. Over what that builds it meanwhile tries the wrong bodies of the crates that
 are due and those that are always tried; with --all, all of them (bench/trying.py). Then it asks the programs that answer questions on the cases, makes
-the runs that are stored in runs/ of programs, and has dbus-wire read captures, as each of two compilers built these (cases/README.md).
+the runs that are stored in runs/ of programs, and has dbus-wire read captures, list messages and pass over damaged ones, as each of two compilers built
+these (cases/README.md).
 
-The last line says how many crates, programs of questions, stored runs, readings of all captures and wrong bodies passed, and how many failed; the exit
-status is 1 if one did.
+The last line says how many crates, programs of questions, stored runs, programs of these three and wrong bodies passed, and how many failed; the exit status
+is 1 if one did.
 """
 
 import contextlib
