@@ -26,6 +26,7 @@ sys.path.insert(0, str(ROOT / "cases"))
 from read_cases import DATA, read_bytes, read_cases, read_parts  # noqa: E402
 
 REFUSED = re.compile(r"refused at (\d+): \S+ in message (\d+) at (\d+)(?: in packet \d+)?\n((?:  .*\n){3})?")
+CUT = re.compile(rb"^capture: \d+ cut packets passed over$", re.M)
 FAULT = re.compile(r"^capture refused at (\d+): ", re.M)
 # The files with bytes of messages, and the columns that have them.
 COLUMNS = {"messages": (2, 3), "faults": (2, 3), "streams": (2,), "printed": (2,)}
@@ -72,7 +73,11 @@ def side_of(data):
 
 def written(program, data):
     """What the program writes of an input, as the module's answers; None if it begins with a handshake that is refused."""
-    ran = subprocess.run([program, "json", "--keep-going", "--explain", *side_of(data)], input=data, capture_output=True)
+    words = ["--keep-going", "--explain", *side_of(data)]
+    ran = subprocess.run([program, "json", *words], input=data, capture_output=True)
+    if CUT.search(ran.stderr):
+        # The page shows a file up to a packet that was cut, as the program does that does not go on.
+        ran = subprocess.run([program, "json", *words[1:]], input=data, capture_output=True)
     said = ran.stderr.decode()
     if said.startswith("handshake refused"):
         return None
