@@ -19,6 +19,7 @@ import captures  # noqa: E402
 import seen  # noqa: E402
 from read_cases import DATA, read_bytes, read_cases, read_parts  # noqa: E402
 
+BUS = "org.freedesktop.DBus"
 WIDTHS = (0, 1, 2, 20, 40, 49, 50, 57, 80, 100, 120, 200, 65535)
 CALL, REPLY, ERROR, SIGNAL = range(1, 5)
 SIGNED = {"n": 16, "i": 32, "x": 64}
@@ -97,6 +98,27 @@ class Message(seen.Message):
         self.at = self.body
         return self.all_of(self.types)
 
+    def kind(self):
+        return self.data[1]
+
+    def wants_reply(self):
+        return self.kind() == CALL and not self.data[2] & 1
+
+    def key(self):
+        """Of a call its sender and its serial, of a reply those of the call that it is to."""
+        if self.kind() == CALL:
+            return self.named(seen.SENDER) or "", int.from_bytes(self.data[8:12], self.order)
+        number = self.number_of(seen.REPLY_SERIAL)
+        return self.named(seen.DESTINATION) or "", 0 if number == "none" else int(number)
+
+    def departed(self):
+        """The name that nobody has any more, as this signal of the bus says."""
+        names = [self.named(it) for it in (seen.SENDER, seen.INTERFACE, seen.MEMBER)]
+        if self.kind() != SIGNAL or names != [BUS, BUS, "NameOwnerChanged"] or self.types != "sss":
+            return None
+        name, _, owner = self.values()
+        return name[1:-1] if owner == '""' else None
+
     def named(self, code):
         """The text of a header field, or None."""
         return next((self.data[slice(*place)].decode() for found, place, _ in self.fields if found == code), None)
@@ -110,18 +132,50 @@ def short(name, most):
     return "~" + next((it for it in ends if len(it) < most), ends[-1])
 
 
+def may_answer(call, reply):
+    """Whether the names let the sender of the reply answer the call."""
+    sender, to = reply.named(seen.SENDER), call.named(seen.DESTINATION)
+    return sender is None or to is None or sender in (BUS, to) or (to != BUS and to[:1] != ":")
+
+
+def is_end(call, message):
+    """Whether a message after a call is its reply, uses its serial again, or says that its sender left."""
+    if message.kind() in (CALL, REPLY, ERROR):
+        return message.key() == call.key() and (message.kind() == CALL or may_answer(call, message))
+    return message.departed() == call.key()[0]
+
+
+def answers(messages):
+    """For each message the call that it answers: the one that wants a reply and that no message before it ended."""
+    found = {}
+    for n, call in enumerate(messages):
+        if call.wants_reply():
+            end = next((it for it in range(n + 1, len(messages)) if is_end(call, messages[it])), None)
+            if end is not None and messages[end].kind() in (REPLY, ERROR):
+                found[end] = n
+    return found
+
+
+def took(sent, replied):
+    """How many milliseconds a reply took, if both times are known."""
+    if sent is None or replied is None:
+        return ""
+    between = abs(replied - sent)
+    return f" {'-' * (replied < sent)}{between // 10**6}.{between // 1000 % 1000:03} ms"
+
+
 def clock(nanoseconds):
     seconds = nanoseconds // 10**9
     return f"{seconds // 3600 % 24:02}:{seconds // 60 % 60:02}:{seconds % 60:02}.{nanoseconds // 10**6 % 1000:03} "
 
 
-def about(message, most):
-    """What a message is."""
+def about(message, most, answered):
+    """What a message is. `answered` is what is told of the call that it answers, if it is known."""
     kind, flags = message.data[1], message.data[2]
     interface = message.named(seen.INTERFACE)
     member = f"{short(interface, most)}." if interface is not None else ""
     member += f"{message.named(seen.MEMBER) or '-'}({message.types})"
-    call = f"serial {message.number_of(seen.REPLY_SERIAL)}"
+    call = answered or f"serial {message.key()[1]}"
     if kind == CALL:
         return member + " no reply wanted" * (flags & 1)
     if kind == REPLY:
@@ -131,14 +185,14 @@ def about(message, most):
     return f"signal {member}" if kind == SIGNAL else f"type {kind} {member}"
 
 
-def line_of(number, time, data, width):
+def line_of(number, time, message, answered, width):
     """The line of a message."""
-    message, most = Message(data), max(6, min(30, width // 5 - 4)) if width else 255
+    data, most = message.data, max(6, min(30, width // 5 - 4)) if width else 255
     column = most if width else 20
     sender = message.named(seen.SENDER) or "-"
     destination = message.named(seen.DESTINATION) or ("*" if data[1] == SIGNAL else "-")
     names = [short(it, most).ljust(column) for it in (sender, destination)]
-    text = f"{number:4} {clock(time) if time is not None else ''}{len(data):5} {' > '.join(names)} {about(message, most)}"
+    text = f"{number:4} {clock(time) if time is not None else ''}{len(data):5} {' > '.join(names)} {about(message, most, answered)}"
     values = ", ".join(message.values())
     shown = "".join(f"\\u{{{ord(it):x}}}" if is_hidden(it) else it for it in f"{text} {values}" if message.types) if message.types else text
     return cut(shown, width)
@@ -188,8 +242,11 @@ def main(program, *paths):
         # The packet of a message is that of its last byte. Raw messages have none.
         ends = itertools.accumulate(map(len, messages))
         times = [next((time for time, after in zip(given.times, given.ends) if end <= after), None) for end in ends]
+        seen_messages = [*map(Message, messages)]
+        calls = {n: (call, seen_messages[call].named(seen.MEMBER) or "-") for n, call in answers(seen_messages).items()}
+        told = {n: f"#{call + 1} {member}{took(times[call], times[n])}" for n, (call, member) in calls.items()}
         for width in WIDTHS:
-            wanted = [line_of(n + 1, time, it, width) for n, (time, it) in enumerate(zip(times, messages))]
+            wanted = [line_of(n + 1, time, it, told.get(n), width) for n, (time, it) in enumerate(zip(times, seen_messages))]
             ran = subprocess.run([program, "list", "--width", str(width)], input=data, capture_output=True)
             found = ran.stdout.decode().split("\n")[:-1]
             lines += len(wanted)

@@ -3,18 +3,20 @@ use Rattle.std.proofs.Common.{◌≡◌, ℕ, List, Some, inl, inr, refl, sym, a
 use Rattle.clap.specs.Words.{Row, Text, first_of}
 use Rattle.dbus_value_model.specs.declared.order.Order.{Order}
 use Rattle.dbus_match.specs.Matching.{ownership}
-use Rattle.cli_options.specs.Named.{GiveOwners, HasSettings, HasWanted, Names, NamesCommand, IsSelectionGiven, TakesRules, order_word, side_word, words_of}
+use Rattle.cli_options.specs.Named.{GiveOwners, HasLines, HasRefused, HasSettings, HasWanted, Names, NamesCommand, IsSelectionGiven, TakesRules, order_word, side_word, words_of}
 use Rattle.cli_options.proofs.Numbers.{each_can}
 use Rattle.cli_options.specs.Limiting.{HasWidth}
 use Rattle.cli_options.specs.Told.{IsNoCommand, NamesNothing}
 use Rattle.dbus_handshake_input.specs.declared.side.Side.{Side}
 use Rattle.cli_options.specs.declared.asked.Asked.{Asked}
-use Rattle.cli_options.specs.declared.asked.Asked.TheVariants.{Messages, Count, Calls, Handshake}
+use Rattle.cli_options.specs.declared.asked.Asked.TheVariants.{Messages, Count, List as Listing, Calls, Handshake}
 use Rattle.cli_options.specs.declared.command.Command.{Command}
-use Rattle.cli_options.specs.declared.command.Command.TheVariants.{Show, Json, List as Listing, Check, Swap, Filter}
+use Rattle.cli_options.specs.declared.command.Command.TheVariants.{Show, Json, Check, Swap, Filter}
 use Rattle.cli_options.specs.declared.selection.Selection.{Selection}
 use Rattle.cli_options.specs.declared.settings.Settings.{Settings}
+use Rattle.cli_options.specs.declared.usage_fault.RefusedRule.{RefusedRule}
 use Rattle.cli_options.specs.declared.wanted_calls.WantedCalls.{WantedCalls}
+use Rattle.cli_options.specs.declared.wanted_lines.WantedLines.{WantedLines}
 
 -- a name that does not begin with `f` or `l` is none of a command that takes rules
 takes_none : (name : Text) (rows : List Row) (first : ℕ) → slice_index name 0 ≡ first → (first ≡ 102 → ⊥) → (first ≡ 108 → ⊥) → TakesRules name rows → ⊥
@@ -26,6 +28,7 @@ module _ (sub : Text × List Row) (other : sub.0 ≡ codes "handshake" → ⊥) 
   unset : ((settings : Settings) → HasSettings sub.1 settings → ⊥) → (asked : Asked) → Names (Some sub) asked → ⊥
   unset none (Messages command settings) named = none settings named.1
   unset none (Count settings form) named = none settings named.1
+  unset none (Listing settings wanted) named = none settings named.1
   unset none (Calls settings wanted) named = none settings named.1
   unset none (Handshake side) named = other named.0
 
@@ -33,11 +36,12 @@ module _ (sub : Text × List Row) (other : sub.0 ≡ codes "handshake" → ⊥) 
   pub unset_names_nothing : ((settings : Settings) → HasSettings sub.1 settings → ⊥) → NamesNothing (Some sub)
   unset_names_nothing none = record { none_asked = unset none; no_rule = λ refused found. none found.1.0 found.1.1 }
 
-  -- and than `count` and `calls`
-  module _ (uncounted : sub.0 ≡ codes "count" → ⊥) (unlisted : sub.0 ≡ codes "calls" → ⊥) where
+  -- and than `count`, `calls` and `list`
+  module _ (uncounted : sub.0 ≡ codes "count" → ⊥) (unlisted : sub.0 ≡ codes "calls" → ⊥) (unlined : sub.0 ≡ codes "list" → ⊥) where
     unnamed : IsNoCommand sub.0 sub.1 → (asked : Asked) → Names (Some sub) asked → ⊥
     unnamed none (Messages command settings) named = none.no_command command named.0
     unnamed none (Count settings form) named = uncounted named.0
+    unnamed none (Listing settings wanted) named = unlined named.0
     unnamed none (Calls settings wanted) named = unlisted named.0
     unnamed none (Handshake side) named = other named.0
 
@@ -50,7 +54,6 @@ module _ (rows : List Row) (no_side : (side : Side) → first_of (codes "side") 
   no_messages : (command : Command) → NamesCommand (codes "handshake") rows command → ⊥
   no_messages (Show times escapes) named = let bad : ◌≡◌ {A = ℕ} 104 115 = ap (λ t. slice_index t 0) named.0 in absurd (omega arith)
   no_messages (Json times) named = let bad : ◌≡◌ {A = ℕ} 104 106 = ap (λ t. slice_index t 0) named.0 in absurd (omega arith)
-  no_messages (Listing selection width) named = let bad : ◌≡◌ {A = ℕ} 104 108 = ap (λ t. slice_index t 0) named.0 in absurd (omega arith)
   no_messages Check named = let bad : ◌≡◌ {A = ℕ} 104 99 = ap (λ t. slice_index t 0) named in absurd (omega arith)
   no_messages (Swap order form) named = let bad : ◌≡◌ {A = ℕ} 104 115 = ap (λ t. slice_index t 0) named.0 in absurd (omega arith)
   no_messages (Filter selection form) named = let bad : ◌≡◌ {A = ℕ} 104 102 = ap (λ t. slice_index t 0) named.0 in absurd (omega arith)
@@ -58,6 +61,7 @@ module _ (rows : List Row) (no_side : (side : Side) → first_of (codes "side") 
   unsided : (asked : Asked) → Names (Some (codes "handshake", rows)) asked → ⊥
   unsided (Messages command settings) named = no_messages command named.0
   unsided (Count settings form) named = let bad : ◌≡◌ {A = ℕ} 104 99 = ap (λ t. slice_index t 0) named.0 in absurd (omega arith)
+  unsided (Listing settings wanted) named = let bad : ◌≡◌ {A = ℕ} 104 108 = ap (λ t. slice_index t 0) named.0 in absurd (omega arith)
   unsided (Calls settings wanted) named = let bad : ◌≡◌ {A = ℕ} 104 99 = ap (λ t. slice_index t 0) named.0 in absurd (omega arith)
   unsided (Handshake side) named = no_side side named.1
 
@@ -72,7 +76,6 @@ module _ (rows : List Row) (no_wanted : (wanted : WantedCalls) → HasWanted row
   no_calls : (command : Command) → NamesCommand (codes "calls") rows command → ⊥
   no_calls (Show times escapes) named = let bad : ◌≡◌ {A = ℕ} 99 115 = ap (λ t. slice_index t 0) named.0 in absurd (omega arith)
   no_calls (Json times) named = let bad : ◌≡◌ {A = ℕ} 99 106 = ap (λ t. slice_index t 0) named.0 in absurd (omega arith)
-  no_calls (Listing selection width) named = let bad : ◌≡◌ {A = ℕ} 99 108 = ap (λ t. slice_index t 0) named.0 in absurd (omega arith)
   no_calls Check named = let bad : ◌≡◌ {A = ℕ} 97 104 = ap (λ t. slice_index t 1) named in absurd (omega arith)
   no_calls (Swap order form) named = let bad : ◌≡◌ {A = ℕ} 99 115 = ap (λ t. slice_index t 0) named.0 in absurd (omega arith)
   no_calls (Filter selection form) named = let bad : ◌≡◌ {A = ℕ} 99 102 = ap (λ t. slice_index t 0) named.0 in absurd (omega arith)
@@ -80,6 +83,7 @@ module _ (rows : List Row) (no_wanted : (wanted : WantedCalls) → HasWanted row
   unlisted : (asked : Asked) → Names (Some (codes "calls", rows)) asked → ⊥
   unlisted (Messages command settings) named = no_calls command named.0
   unlisted (Count settings form) named = let bad : ◌≡◌ {A = ℕ} 97 111 = ap (λ t. slice_index t 1) named.0 in absurd (omega arith)
+  unlisted (Listing settings wanted) named = let bad : ◌≡◌ {A = ℕ} 99 108 = ap (λ t. slice_index t 0) named.0 in absurd (omega arith)
   unlisted (Calls settings wanted) named = no_wanted wanted named.2
   unlisted (Handshake side) named = let bad : ◌≡◌ {A = ℕ} 99 104 = ap (λ t. slice_index t 0) named.0 in absurd (omega arith)
 
@@ -93,7 +97,6 @@ module _ (rows : List Row) (no_order : (order : Order) → first_of (codes "to")
   unordered_command : (command : Command) → NamesCommand (codes "swap") rows command → ⊥
   unordered_command (Show times escapes) named = let bad : ◌≡◌ {A = ℕ} 119 104 = ap (λ t. slice_index t 1) named.0 in absurd (omega arith)
   unordered_command (Json times) named = let bad : ◌≡◌ {A = ℕ} 115 106 = ap (λ t. slice_index t 0) named.0 in absurd (omega arith)
-  unordered_command (Listing selection width) named = let bad : ◌≡◌ {A = ℕ} 115 108 = ap (λ t. slice_index t 0) named.0 in absurd (omega arith)
   unordered_command Check named = let bad : ◌≡◌ {A = ℕ} 115 99 = ap (λ t. slice_index t 0) named in absurd (omega arith)
   unordered_command (Swap order form) named = no_order order named.1
   unordered_command (Filter selection form) named = let bad : ◌≡◌ {A = ℕ} 115 102 = ap (λ t. slice_index t 0) named.0 in absurd (omega arith)
@@ -105,38 +108,48 @@ module _ (rows : List Row) (no_order : (order : Order) → first_of (codes "to")
     no_fault = λ refused found. takes_none (codes "swap") rows 115 refl (λ e. omega (arith, e)) (λ e. omega (arith, e)) found.named;
   }
 
-module _ (rows : List Row) (no_width : (width : ℕ) → HasWidth rows width → ⊥) where
-  unwide_command : (command : Command) → NamesCommand (codes "list") rows command → ⊥
-  unwide_command (Show times escapes) named = let bad : ◌≡◌ {A = ℕ} 108 115 = ap (λ t. slice_index t 0) named.0 in absurd (omega arith)
-  unwide_command (Json times) named = let bad : ◌≡◌ {A = ℕ} 108 106 = ap (λ t. slice_index t 0) named.0 in absurd (omega arith)
-  unwide_command (Listing selection width) named = no_width width named.2
-  unwide_command Check named = let bad : ◌≡◌ {A = ℕ} 108 99 = ap (λ t. slice_index t 0) named in absurd (omega arith)
-  unwide_command (Swap order form) named = let bad : ◌≡◌ {A = ℕ} 108 115 = ap (λ t. slice_index t 0) named.0 in absurd (omega arith)
-  unwide_command (Filter selection form) named = let bad : ◌≡◌ {A = ℕ} 108 102 = ap (λ t. slice_index t 0) named.0 in absurd (omega arith)
+-- `list`, of whose words there are no lines that are wanted
+module _ (rows : List Row) (no_lines : (wanted : WantedLines) → HasLines rows wanted → ⊥) where
+  no_list : (command : Command) → NamesCommand (codes "list") rows command → ⊥
+  no_list (Show times escapes) named = let bad : ◌≡◌ {A = ℕ} 108 115 = ap (λ t. slice_index t 0) named.0 in absurd (omega arith)
+  no_list (Json times) named = let bad : ◌≡◌ {A = ℕ} 108 106 = ap (λ t. slice_index t 0) named.0 in absurd (omega arith)
+  no_list Check named = let bad : ◌≡◌ {A = ℕ} 108 99 = ap (λ t. slice_index t 0) named in absurd (omega arith)
+  no_list (Swap order form) named = let bad : ◌≡◌ {A = ℕ} 108 115 = ap (λ t. slice_index t 0) named.0 in absurd (omega arith)
+  no_list (Filter selection form) named = let bad : ◌≡◌ {A = ℕ} 108 102 = ap (λ t. slice_index t 0) named.0 in absurd (omega arith)
 
-  takes_no_rules : TakesRules (codes "list") rows → ⊥
-  takes_no_rules (inl named) = let bad : ◌≡◌ {A = ℕ} 108 102 = ap (λ t. slice_index t 0) named in absurd (omega arith)
-  takes_no_rules (inr named) = no_width named.1 named.2
+  unlined : (asked : Asked) → Names (Some (codes "list", rows)) asked → ⊥
+  unlined (Messages command settings) named = no_list command named.0
+  unlined (Count settings form) named = let bad : ◌≡◌ {A = ℕ} 108 99 = ap (λ t. slice_index t 0) named.0 in absurd (omega arith)
+  unlined (Listing settings wanted) named = no_lines wanted named.2
+  unlined (Calls settings wanted) named = let bad : ◌≡◌ {A = ℕ} 108 99 = ap (λ t. slice_index t 0) named.0 in absurd (omega arith)
+  unlined (Handshake side) named = let bad : ◌≡◌ {A = ℕ} 108 104 = ap (λ t. slice_index t 0) named.0 in absurd (omega arith)
 
-  -- `list` with no width
-  pub unwide_is_no_command : IsNoCommand (codes "list") rows
-  unwide_is_no_command = record { no_command = unwide_command; no_fault = λ refused found. takes_no_rules found.named }
+  pub unlined_names_nothing : (TakesRules (codes "list") rows → (refused : RefusedRule) → HasRefused rows refused → ⊥) → NamesNothing (Some (codes "list", rows))
+  unlined_names_nothing none = record { none_asked = unlined; no_rule = λ refused found. none found.0.named refused found.0.refuses }
 
--- a command that takes rules, of whose words one gives no owner
-module _ (name : Text) (rows : List Row) (takes : TakesRules name rows) (no_owners : GiveOwners rows → ⊥) where
-  unselected : (selection : Selection) → IsSelectionGiven rows selection → ⊥
-  unselected selection given = no_owners (each_can _ _ (λ word owner is. (ownership owner, is)) (words_of (codes "owner") rows) selection.owners.items given.owners)
+-- with no width
+takes_no_rules : (rows : List Row) → ((width : ℕ) → HasWidth rows width → ⊥) → TakesRules (codes "list") rows → ⊥
+takes_no_rules rows no_width (inl named) = let bad : ◌≡◌ {A = ℕ} 108 102 = ap (λ t. slice_index t 0) named in absurd (omega arith)
+takes_no_rules rows no_width (inr named) = no_width named.1 named.2
 
-  other : (first : ℕ) → slice_index name 0 ≡ first → (first ≡ 102 → ⊥) → (first ≡ 108 → ⊥) → ⊥
-  other first is f l = takes_none name rows first is f l takes
+pub unwide_names_nothing : (rows : List Row) → ((width : ℕ) → HasWidth rows width → ⊥) → NamesNothing (Some (codes "list", rows))
+unwide_names_nothing rows no_width = unlined_names_nothing rows (λ wanted lines. no_width wanted.width lines.width) (λ takes refused h. takes_no_rules rows no_width takes)
 
-  unselected_command : (command : Command) → NamesCommand name rows command → ⊥
-  unselected_command (Show times escapes) named = other 115 (ap (λ t. slice_index t 0) named.0) (λ e. omega (arith, e)) (λ e. omega (arith, e))
-  unselected_command (Json times) named = other 106 (ap (λ t. slice_index t 0) named.0) (λ e. omega (arith, e)) (λ e. omega (arith, e))
-  unselected_command (Listing selection width) named = unselected selection named.1
-  unselected_command Check named = other 99 (ap (λ t. slice_index t 0) named) (λ e. omega (arith, e)) (λ e. omega (arith, e))
-  unselected_command (Swap order form) named = other 115 (ap (λ t. slice_index t 0) named.0) (λ e. omega (arith, e)) (λ e. omega (arith, e))
-  unselected_command (Filter selection form) named = unselected selection named.1
+-- with a word that gives no owner
+no_selection : (rows : List Row) → (GiveOwners rows → ⊥) → (selection : Selection) → IsSelectionGiven rows selection → ⊥
+no_selection rows no_owners selection given = no_owners (each_can _ _ (λ word owner is. (ownership owner, is)) (words_of (codes "owner") rows) selection.owners.items given.owners)
 
-  pub unowned_is_no_command : IsNoCommand name rows
+pub unowned_names_nothing : (rows : List Row) → (GiveOwners rows → ⊥) → NamesNothing (Some (codes "list", rows))
+unowned_names_nothing rows no_owners = unlined_names_nothing rows (λ wanted lines. no_selection rows no_owners wanted.selection lines.selection) (λ takes refused h. no_owners h.owners)
+
+-- `filter`, of whose words one gives no owner
+module _ (rows : List Row) (no_owners : GiveOwners rows → ⊥) where
+  unselected_command : (command : Command) → NamesCommand (codes "filter") rows command → ⊥
+  unselected_command (Show times escapes) named = let bad : ◌≡◌ {A = ℕ} 102 115 = ap (λ t. slice_index t 0) named.0 in absurd (omega arith)
+  unselected_command (Json times) named = let bad : ◌≡◌ {A = ℕ} 102 106 = ap (λ t. slice_index t 0) named.0 in absurd (omega arith)
+  unselected_command Check named = let bad : ◌≡◌ {A = ℕ} 102 99 = ap (λ t. slice_index t 0) named in absurd (omega arith)
+  unselected_command (Swap order form) named = let bad : ◌≡◌ {A = ℕ} 102 115 = ap (λ t. slice_index t 0) named.0 in absurd (omega arith)
+  unselected_command (Filter selection form) named = no_selection rows no_owners selection named.1
+
+  pub unowned_is_no_command : IsNoCommand (codes "filter") rows
   unowned_is_no_command = record { no_command = unselected_command; no_fault = λ refused found. no_owners found.refuses.owners }

@@ -1,6 +1,6 @@
 -- Selections: of each message it is decided whether it is selected, and they are equal exactly if
 -- they say the same.
-use Rattle.std.proofs.Common.{◌≡◌, ℕ, nat_eq, Bool, true, false, List, [], ◌∷◌, map, inl, inr, refl, sym, arith}
+use Rattle.std.proofs.Common.{◌≡◌, Bool, true, false, List, [], ◌∷◌, map, inl, inr, refl, sym, arith}
 use Rattle.std.specs.Bool.{Decides}
 use Rattle.std.specs.List.{AllZip}
 use Rattle.std.specs.declared.alloc.Global.{Global}
@@ -21,7 +21,7 @@ use Rattle.cli_options.specs.Selections.{AreSameSelection, OrInverted, SelectsBy
 use Rattle.cli_options.specs.contracts.selection.SelectionPartialEq.TheImpl as selection_eq
 use Rattle.cli_options.specs.declared.selection.Selection.{Selection}
 use Rattle.cli_options.specs.declared.command.Command.{Command}
-use Rattle.cli_options.specs.declared.command.Command.TheVariants.{Show, Json, List as Listing, Check, Swap, Filter}
+use Rattle.cli_options.specs.declared.command.Command.TheVariants.{Show, Json, Check, Swap, Filter}
 use Rattle.cli_options.specs.contracts.command.CommandPartialEq.TheImpl as command_eq
 use Rattle.cli_options.specs.contracts.file_form.FileFormPartialEq.TheImpl as form_eq
 use Rattle.cli_options.specs.declared.file_form.FileForm.{FileForm}
@@ -79,23 +79,13 @@ selections_equal a b =
 forms_equal : (a b : FileForm) → Decides (form_eq.ghosts.eq a b) (a ≡ b)
 forms_equal a b = grind (arith, common_steps)
 
-widths_equal : (a b : ℕ) → Decides (nat_eq a b) (a ≡ b)
-widths_equal a b = grind (arith, common_steps)
-
 pub commands_equal : (a b : Command) → Decides (command_eq.ghosts.eq a b) (AreSameCommand a b)
 commands_equal (Show a x) b = grind (arith, common_steps)
 commands_equal (Json a) b = grind (arith, common_steps)
-commands_equal (Listing r a) (Show b y) = grind (arith, common_steps)
-commands_equal (Listing r a) (Json b) = grind (arith, common_steps)
-commands_equal (Listing r a) (Listing s b) = Decides-and _ _ (selections_equal r s) (widths_equal a b)
-commands_equal (Listing r a) Check = grind (arith, common_steps)
-commands_equal (Listing r a) (Swap b g) = grind (arith, common_steps)
-commands_equal (Listing r a) (Filter s g) = grind (arith, common_steps)
 commands_equal Check b = grind (arith, common_steps)
 commands_equal (Swap a f) b = grind (arith, common_steps)
 commands_equal (Filter r f) (Show b y) = grind (arith, common_steps)
 commands_equal (Filter r f) (Json b) = grind (arith, common_steps)
-commands_equal (Filter r f) (Listing s b) = grind (arith, common_steps)
 commands_equal (Filter r f) Check = grind (arith, common_steps)
 commands_equal (Filter r f) (Swap b g) = grind (arith, common_steps)
 commands_equal (Filter r f) (Filter s g) = Decides-and _ _ (selections_equal r s) (forms_equal f g)

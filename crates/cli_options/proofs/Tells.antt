@@ -1,5 +1,5 @@
 -- What clap's answer says of what is told.
-use Rattle.std.proofs.Common.{◌≡◌, ◌↔◌, Bool, List, [], true, refl, subst, sym, ap, ◌∙◌, inl, inr, IfOk, Ok, Err, Option, Some, Result, codes}
+use Rattle.std.proofs.Common.{◌≡◌, ◌↔◌, ℕ, Bool, List, [], true, refl, subst, sym, ap, ◌∙◌, inl, inr, IfOk, Ok, Err, Option, Some, Result, codes}
 use Rattle.std.specs.List.{AllByRecursion}
 use Rattle.clap.specs.Words.{App, HasMatchesOf, Row, Text, is_simple, subcommand_of, subcommand_rows_of}
 use Rattle.clap.specs.declared.parser.matches.ArgMatches.{ArgMatches}
@@ -11,11 +11,11 @@ use Rattle.clap.specs.declared.error.kind.ErrorKind.TheVariants.{DisplayHelp, Di
 use Rattle.clap.proofs.OnLiterals.{clap_on_literals}
 use Rattle.cli_options.specs.CommandLine.{wire_app}
 use Rattle.dbus_match.specs.Matching.{Ownership}
-use Rattle.cli_options.specs.Limiting.{TellsNamed}
+use Rattle.cli_options.specs.Limiting.{HasWidth, TellsNamed}
 use Rattle.cli_options.specs.Told.{TellsFault, TellsKind, Tells, TellsCommand, TellsOwner, TellsOwners, TellsRules, TellsSelection, IsUsageOrMemory, IsNoCommand, NamesNothing}
-use Rattle.cli_options.specs.Named.{GiveOwners, HasRuleFault, HasSettings, IsGiven, IsNamedBy, Names, TakesRules, rules_given, words_of}
+use Rattle.cli_options.specs.Named.{GiveOwners, HasRuleFault, HasSettings, IsGiven, IsNamedBy, Names, rules_given, words_of}
 use Rattle.cli_options.specs.Owners.{IsOwnerWord}
-use Rattle.cli_options.proofs.Nothing.{no_command_names_nothing, unset_names_nothing, unowned_is_no_command}
+use Rattle.cli_options.proofs.Nothing.{no_command_names_nothing, unset_names_nothing, unowned_is_no_command, unowned_names_nothing}
 use Rattle.cli_options.specs.declared.asked.Asked.{Asked}
 use Rattle.cli_options.specs.declared.settings.Settings.{Settings}
 use Rattle.cli_options.specs.declared.usage_fault.UsageFault.{UsageFault}
@@ -84,13 +84,21 @@ unruled_told rows explains (Version text) owners asked h = absurd h
 unruled_told rows explains (Usage text) owners asked h = absurd h
 unruled_told rows explains (Rule refused) owners asked h = record { first = h.0; explains = subst (λ e. (e ≡ true) ↔ IsGiven (codes "explain") rows) (sym h.1) asked; owners = owners }
 
--- and of a command that takes rules
-pub unselected_told : (name : Text) (rows : List Row) (told : UsageFault) → TakesRules name rows → TellsSelection rows (Err told) → TellsCommand name rows (Err told)
-unselected_told name rows Memory takes h = tt
-unselected_told name rows (Help text) takes h = absurd h
-unselected_told name rows (Version text) takes h = absurd h
-unselected_told name rows (Usage text) takes h = unowned_is_no_command name rows takes h
-unselected_told name rows (Rule refused) takes h = record { named = takes; refuses = h }
+-- and of `filter`
+pub unselected_told : (rows : List Row) (told : UsageFault) → TellsSelection rows (Err told) → TellsCommand (codes "filter") rows (Err told)
+unselected_told rows Memory h = tt
+unselected_told rows (Help text) h = absurd h
+unselected_told rows (Version text) h = absurd h
+unselected_told rows (Usage text) h = unowned_is_no_command rows h
+unselected_told rows (Rule refused) h = record { named = inl refl; refuses = h }
+
+-- and of `list`, with this width
+pub unlined_told : (rows : List Row) (settings : Settings) (width : ℕ) (told : UsageFault) → HasSettings rows settings → HasWidth rows width → TellsSelection rows (Err told) → Tells (Some (codes "list", rows)) (Err told)
+unlined_told rows settings width Memory given wide h = tt
+unlined_told rows settings width (Help text) given wide h = absurd h
+unlined_told rows settings width (Version text) given wide h = absurd h
+unlined_told rows settings width (Usage text) given wide h = unowned_names_nothing rows h
+unlined_told rows settings width (Rule refused) given wide h = (record { named = inr (refl, width, wide); refuses = h }, (settings, given))
 
 -- what is told of options that name nothing of which this holds
 pub unnamed_told : {A : Type 0} (Is : A → Type 0) (told : UsageFault) → IsUsageOrMemory told → ((x : A) → Is x → ⊥) → TellsNamed Is (Err told)
@@ -118,13 +126,13 @@ told_without_settings sub (Usage text) other h = unset_names_nothing sub other h
 told_without_settings sub (Rule refused) other h = absurd h
 
 -- what is told of the words after a name, where they name settings
-pub told_under_settings : (sub : Text × List Row) (settings : Settings) (told : UsageFault) → (sub.0 ≡ codes "handshake" → ⊥) → (sub.0 ≡ codes "count" → ⊥) → (sub.0 ≡ codes "calls" → ⊥) → HasSettings sub.1 settings → TellsCommand sub.0 sub.1 (Err told)
+pub told_under_settings : (sub : Text × List Row) (settings : Settings) (told : UsageFault) → (sub.0 ≡ codes "handshake" → ⊥) → (sub.0 ≡ codes "count" → ⊥) → (sub.0 ≡ codes "calls" → ⊥) → (sub.0 ≡ codes "list" → ⊥) → HasSettings sub.1 settings → TellsCommand sub.0 sub.1 (Err told)
     → Tells (Some sub) (Err told)
-told_under_settings sub settings Memory other uncounted unlisted given h = tt
-told_under_settings sub settings (Help text) other uncounted unlisted given h = h
-told_under_settings sub settings (Version text) other uncounted unlisted given h = h
-told_under_settings sub settings (Usage text) other uncounted unlisted given h = no_command_names_nothing sub other uncounted unlisted h
-told_under_settings sub settings (Rule refused) other uncounted unlisted given h = (h, (settings, given))
+told_under_settings sub settings Memory other uncounted unlisted unlined given h = tt
+told_under_settings sub settings (Help text) other uncounted unlisted unlined given h = h
+told_under_settings sub settings (Version text) other uncounted unlisted unlined given h = h
+told_under_settings sub settings (Usage text) other uncounted unlisted unlined given h = no_command_names_nothing sub other uncounted unlisted unlined h
+told_under_settings sub settings (Rule refused) other uncounted unlisted unlined given h = (h, (settings, given))
 
 pub named_of_matches : (words : List Text) (sub : Option (Text × List Row)) (answer : Result Asked UsageFault) → subcommand_of wire_app words ≡ sub
     → Tells sub answer → IfOk answer (IsNamedBy words)

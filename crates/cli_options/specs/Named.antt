@@ -20,13 +20,14 @@ use Rattle.cli_options.specs.CommandLine.{wire_app}
 use Rattle.cli_options.specs.Limiting.{HasLimits, HasWidth, HasWindow, IsGivenNumber}
 use Rattle.cli_options.specs.Owners.{AreOwnersOf, IsOwnerWord}
 use Rattle.cli_options.specs.declared.asked.Asked.{Asked}
-use Rattle.cli_options.specs.declared.asked.Asked.TheVariants.{Messages, Count, Calls, Handshake}
+use Rattle.cli_options.specs.declared.asked.Asked.TheVariants.{Messages, Count, List as Listing, Calls, Handshake}
 use Rattle.cli_options.specs.declared.command.Command.{Command}
-use Rattle.cli_options.specs.declared.command.Command.TheVariants.{Show, Json, List as Listing, Check, Swap, Filter}
+use Rattle.cli_options.specs.declared.command.Command.TheVariants.{Show, Json, Check, Swap, Filter}
 use Rattle.cli_options.specs.declared.selection.Selection.{Selection}
 use Rattle.cli_options.specs.declared.settings.Settings.{Settings}
 use Rattle.cli_options.specs.declared.usage_fault.RefusedRule.{RefusedRule}
 use Rattle.cli_options.specs.declared.wanted_calls.WantedCalls.{WantedCalls}
+use Rattle.cli_options.specs.declared.wanted_lines.WantedLines.{WantedLines}
 
 -- the word that stands for a byte order
 abbrev pub order_word : Order → Text
@@ -86,7 +87,6 @@ pub record IsSelectionGiven (rows : List Row) (selection : Selection) : Type 0 w
 abbrev pub NamesCommand : Text → List Row → Command → Type 0
 NamesCommand name rows (Show times escapes) = (name ≡ codes "show") × ((times ≡ true) ↔ IsGiven (codes "time") rows) × ((escapes ≡ true) ↔ IsGiven (codes "escape") rows)
 NamesCommand name rows (Json times) = (name ≡ codes "json") × ((times ≡ false) ↔ IsGiven (codes "no-time") rows)
-NamesCommand name rows (Listing selection width) = (name ≡ codes "list") × IsSelectionGiven rows selection × HasWidth rows width
 NamesCommand name rows Check = name ≡ codes "check"
 NamesCommand name rows (Swap order form) = (name ≡ codes "swap") × (first_of (codes "to") rows ≡ Some (order_word order)) × HasFileForm rows form
 NamesCommand name rows (Filter selection form) = (name ≡ codes "filter") × IsSelectionGiven rows selection × HasFileForm rows form
@@ -115,12 +115,19 @@ abbrev pub GivesWanted : List Row → Option WantedCalls → Type 0
 GivesWanted rows (Some wanted) = HasWanted rows wanted
 GivesWanted rows None = (wanted : WantedCalls) → HasWanted rows wanted → ⊥
 
+-- what `list` writes is what the words after it select, in lines of the width that they name
+pub record HasLines (rows : List Row) (wanted : WantedLines) : Type 0 where
+  pub selection : IsSelectionGiven rows wanted.selection
+  pub width : HasWidth rows wanted.width
+
 -- the subcommand and the words after it name a command and its settings, the settings and the form
--- of `count`, the settings of `calls` and what it lists, or the side whose handshake is listed
+-- of `count`, those of `list` and of `calls` and what they list, or the side whose handshake is
+-- listed
 abbrev pub Names : Option (Text × List Row) → Asked → Type 0
 Names None asked = ⊥
 Names (Some sub) (Messages command settings) = NamesCommand sub.0 sub.1 command × HasSettings sub.1 settings
 Names (Some sub) (Count settings form) = (sub.0 ≡ codes "count") × HasSettings sub.1 settings × HasForm sub.1 form
+Names (Some sub) (Listing settings wanted) = (sub.0 ≡ codes "list") × HasSettings sub.1 settings × HasLines sub.1 wanted
 Names (Some sub) (Calls settings wanted) = (sub.0 ≡ codes "calls") × HasSettings sub.1 settings × HasWanted sub.1 wanted
 Names (Some sub) (Handshake side) = (sub.0 ≡ codes "handshake") × (first_of (codes "side") sub.1 ≡ Some (side_word side))
 

@@ -16,7 +16,7 @@ use Rattle.dbus_rule.specs.Rules.{sender_of}
 use Rattle.dbus_rule.specs.RuleViews.{rule_pairs}
 use Rattle.cli_options.specs.declared.selection.Selection.{Selection}
 use Rattle.cli_options.specs.declared.command.Command.{Command}
-use Rattle.cli_options.specs.declared.command.Command.TheVariants.{Show, Json, List as Listing, Check, Swap, Filter}
+use Rattle.cli_options.specs.declared.command.Command.TheVariants.{Show, Json, Check, Swap, Filter}
 
 abbrev equals_sign : ℕ
 equals_sign = 61
@@ -66,7 +66,6 @@ selection_lacks_owner selection = not selection.learns && some_needs_owner selec
 abbrev pub lacks_owner : Command → Bool
 lacks_owner (Show times escapes) = false
 lacks_owner (Json times) = false
-lacks_owner (Listing selection width) = selection_lacks_owner selection
 lacks_owner Check = false
 lacks_owner (Swap order form) = false
 lacks_owner (Filter selection form) = selection_lacks_owner selection

@@ -8,7 +8,7 @@ use Rattle.dbus_match.specs.Matching.{Matches, Ownership, ownerships}
 use Rattle.dbus_rule.specs.RuleViews.{rule_pairs}
 use Rattle.cli_options.specs.declared.selection.Selection.{Selection}
 use Rattle.cli_options.specs.declared.command.Command.{Command}
-use Rattle.cli_options.specs.declared.command.Command.TheVariants.{Show, Json, List as Listing, Check, Swap, Filter}
+use Rattle.cli_options.specs.declared.command.Command.TheVariants.{Show, Json, Check, Swap, Filter}
 
 -- some rule of the list matches the message with these owners
 abbrev pub SomeMatches : List (Rule Global) → MessageTree → List Ownership → Type 0
@@ -48,7 +48,6 @@ pub record AreSameSelection (a b : Selection) : Type 0 where
 abbrev pub AreSameCommand : Command → Command → Type 0
 AreSameCommand (Show a x) (Show b y) = (a ≡ b) × (x ≡ y)
 AreSameCommand (Json a) (Json b) = a ≡ b
-AreSameCommand (Listing r a) (Listing s b) = AreSameSelection r s × (a ≡ b)
 AreSameCommand Check Check = Unit {0}
 AreSameCommand (Swap a form) (Swap b other) = (a ≡ b) × (form ≡ other)
 AreSameCommand (Filter r form) (Filter s other) = AreSameSelection r s × (form ≡ other)

@@ -3,6 +3,7 @@ use crate::command::Command;
 use crate::form::CountForm;
 use crate::settings::Settings;
 use crate::wanted_calls::WantedCalls;
+use crate::wanted_lines::WantedLines;
 use dbus_handshake_input::Side;
 
 /// What the words of a command line ask for.
@@ -12,6 +13,8 @@ pub enum Asked {
     Messages(Command, Settings),
     /// Tables of the number of messages with each name, by these settings and in this form.
     Count(Settings, CountForm),
+    /// A list of messages, a line for each, by these settings.
+    List(Settings, WantedLines),
     /// A list of calls and what came of them, by these settings.
     Calls(Settings, WantedCalls),
     /// A list of the lines of this side's handshake.

@@ -18,9 +18,6 @@ pub enum Command {
         /// Whether its time is written, if it has one.
         times: bool,
     },
-    /// Writes each message that is selected as one line, of at most so many cells of a terminal; 0
-    /// for no bound.
-    List(Selection, u16),
     /// Checks that the input is messages, and counts them.
     Check,
     /// Writes each message in this byte order, in this form.

@@ -16,6 +16,7 @@ use crate::selection::Selection;
 use crate::settings::Settings;
 use crate::usage_fault::{UsageFault, bad_value, usage};
 use crate::wanted_calls::WantedCalls;
+use crate::wanted_lines::WantedLines;
 use crate::wire::wire;
 use clap::ArgMatches;
 use clap::error::ErrorKind;
@@ -76,6 +77,9 @@ fn command_named(alloc: Global, matches: &ArgMatches) -> Result<Asked, UsageFaul
     }
     if name == "calls" {
         return calls_named(alloc, settings, inner);
+    }
+    if name == "list" {
+        return list_named(alloc, settings, inner);
     }
     let command = command_with(alloc, name, inner)?;
     Ok(Asked::Messages(command, settings))
@@ -171,8 +175,9 @@ fn side_of(word: &str) -> Option<Side>
     None
 }
 
-// The command of this name, with what comes after it.
+// The command of this name, which is not `list`, with what comes after it.
 fn command_with(alloc: Global, name: &str, inner: &ArgMatches) -> Result<Command, UsageFault>
+    requires { name.now ≡ codes "list" → ⊥ }
     ensures { TellsCommand name.now (rows_of (found_of inner.now)) result }
 {
     if name == "show" {
@@ -183,9 +188,6 @@ fn command_with(alloc: Global, name: &str, inner: &ArgMatches) -> Result<Command
     if name == "json" {
         let times = !is_given(inner, "no-time");
         return Ok(Command::Json { times });
-    }
-    if name == "list" {
-        return list_named(alloc, inner);
     }
     if name == "check" {
         return Ok(Command::Check);
@@ -199,14 +201,15 @@ fn command_with(alloc: Global, name: &str, inner: &ArgMatches) -> Result<Command
     Err(usage(alloc, "error: no such command\n"))
 }
 
-// `list`, with the width and the selection that it is given.
-fn list_named(alloc: Global, inner: &ArgMatches) -> Result<Command, UsageFault>
-    ensures { TellsCommand (codes "list") (rows_of (found_of inner.now)) result }
+// What `list` is given, with these settings.
+fn list_named(alloc: Global, settings: Settings, inner: &ArgMatches) -> Result<Asked, UsageFault>
+    requires { HasSettings (rows_of (found_of inner.now)) settings }
+    ensures { Tells (Some (codes "list", rows_of (found_of inner.now))) result }
 {
     match width_named(inner) {
         Some(width) => {
             let selection = selection_named(alloc, inner)?;
-            Ok(Command::List(selection, width))
+            Ok(Asked::List(settings, WantedLines { selection, width }))
         }
         None => Err(usage(alloc, "error: no width\n")),
     }

@@ -10,7 +10,7 @@ use std::alloc::AllocError;
 impl Clone for Command {
     ghost is_clone = { λ command copy. AreSameCommand copy command };
 
-    /// The same command; the selection of `List` and `Filter` in memory of its own.
+    /// The same command; the selection of `Filter` in memory of its own.
     ///
     /// Returns `AllocError` if an allocation failed, and nothing of the copy is left then.
     fn clone(&self) -> Result<Command, AllocError> {
@@ -20,7 +20,6 @@ impl Clone for Command {
                 escapes: *escapes,
             }),
             Command::Json { times } => Ok(Command::Json { times: *times }),
-            Command::List(selection, width) => Ok(Command::List(selection.clone()?, *width)),
             Command::Check => Ok(Command::Check),
             Command::Swap(order, form) => Ok(Command::Swap(*order, *form)),
             Command::Filter(selection, form) => Ok(Command::Filter(selection.clone()?, *form)),

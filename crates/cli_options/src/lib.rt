@@ -21,6 +21,7 @@ mod settings;
 mod unowned;
 mod usage_fault;
 mod wanted_calls;
+mod wanted_lines;
 mod window;
 mod wire;
 
@@ -34,4 +35,5 @@ pub use selection::Selection;
 pub use settings::Settings;
 pub use usage_fault::{RefusedRule, UsageFault};
 pub use wanted_calls::WantedCalls;
+pub use wanted_lines::WantedLines;
 pub use window::Window;

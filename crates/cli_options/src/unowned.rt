@@ -10,15 +10,11 @@ use dbus_calls::is_ownable;
 use dbus_match::{Owner, Rule};
 
 impl Command {
-    /// Whether it is `List` or `Filter` with a rule whose `sender` is a well-known name, not the
-    /// bus's own, that has no owner: the selection gives none and learns none. Such a rule matches
-    /// nothing that a bus delivers, which names each sender by its unique name. D-Bus
-    /// Specification, "Message Bus Names".
+    /// Whether it is `Filter` by a selection that [lacks an owner](Selection::lacks_owner).
     pub fn lacks_owner(&self) -> bool
         ensures { result ≡ lacks_owner self.now }
     {
         match self {
-            Command::List(selection, _) => selection.lacks_owner(),
             Command::Filter(selection, _) => selection.lacks_owner(),
             _ => false,
         }
@@ -26,8 +22,10 @@ impl Command {
 }
 
 impl Selection {
-    // The same of a selection.
-    fn lacks_owner(&self) -> bool
+    /// Whether a rule's `sender` is a well-known name, not the bus's own, that has no owner: the
+    /// selection gives none and learns none. Such a rule matches nothing that a bus delivers, which
+    /// names each sender by its unique name. D-Bus Specification, "Message Bus Names".
+    pub fn lacks_owner(&self) -> bool
         ensures { result ≡ selection_lacks_owner self.now }
     {
         !self.learns && some_needs_owner(&self.rules, &self.owners)

@@ -12,7 +12,7 @@ use Rattle.dbus_pcap.specs.Written.{AllFit, CapturedMessage, file_of, messages_b
 use Rattle.dbus_pcap.proofs.WrittenLaws.{written_read}
 use Rattle.dbus_names.specs.NameStates.{NameState}
 use Rattle.cli_options.specs.declared.command.Command.{Command}
-use Rattle.cli_options.specs.declared.command.Command.TheVariants.{Show, Json, List as Listing, Check, Swap, Filter}
+use Rattle.cli_options.specs.declared.command.Command.TheVariants.{Show, Json, Check, Swap, Filter}
 use Rattle.cli_options.specs.declared.file_form.FileForm.{FileForm}
 use Rattle.cli_options.specs.declared.file_form.FileForm.TheVariants.{AsRead, Raw}
 use Rattle.cli_options.specs.declared.window.Window.{Window}
@@ -66,7 +66,6 @@ module _ (limits : Limits) where
   one_made (Filter selection Raw) os order m place texts form valid packet p = absurd (let e : ◌≡◌ {A = FileForm} Raw AsRead = form in cc)
   one_made (Show times escapes) os order m place texts form valid packet p = absurd (let e : ◌≡◌ {A = FileForm} Raw AsRead = form in cc)
   one_made (Json times) os order m place texts form valid packet p = absurd (let e : ◌≡◌ {A = FileForm} Raw AsRead = form in cc)
-  one_made (Listing selection width) os order m place texts form valid packet p = absurd (let e : ◌≡◌ {A = FileForm} Raw AsRead = form in cc)
   one_made Check os order m place texts form valid packet p = absurd (let e : ◌≡◌ {A = FileForm} Raw AsRead = form in cc)
 
   same_owners : (command : Command) (os : NameState) (m : MessageTree) → owners_after command os m ≡ owners_after (raw_of command) os m
@@ -74,7 +73,6 @@ module _ (limits : Limits) where
   same_owners (Filter selection form) os m = refl
   same_owners (Show times escapes) os m = refl
   same_owners (Json times) os m = refl
-  same_owners (Listing selection width) os m = refl
   same_owners Check os m = refl
 
   fit_both : (a b : List CapturedMessage) → AllFit a → AllFit b → AllFit (a ++ b)

@@ -15,5 +15,6 @@ pub mod RunSteps
 pub mod SameParts
 pub mod SameOutputs
 pub mod CallSteps
+pub mod LineSteps
 pub mod SameRuns
 pub mod Files

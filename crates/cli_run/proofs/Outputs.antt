@@ -12,14 +12,13 @@ use Rattle.dbus_stream.specs.Cut.{CutMessage}
 use Rattle.dbus_stream.specs.CutEnds.{sizes}
 use Rattle.dbus_show.specs.ShownMessages.{message_text}
 use Rattle.dbus_json.proofs.SomeLines.{some_line_each}
-use Rattle.dbus_list.proofs.SomeLines.{some_line_each as some_listed}
 use Rattle.dbus_names.specs.NameStates.{NameState}
 use Rattle.dbus_rule_set.specs.Owners.{owners_in}
 use Rattle.cli_options.proofs.Selections.{selected}
 use Rattle.cli_options.specs.declared.command.Command.{Command}
 use Rattle.cli_options.specs.declared.file_form.FileForm.{FileForm}
 use Rattle.cli_options.specs.declared.file_form.FileForm.TheVariants.{AsRead, Raw}
-use Rattle.cli_options.specs.declared.command.Command.TheVariants.{Show, Json, List as Listing, Check, Swap, Filter}
+use Rattle.cli_options.specs.declared.command.Command.TheVariants.{Show, Json, Check, Swap, Filter}
 use Rattle.cli_run.specs.Inputs.{ArePlaced, IsPlaced, Part, PassedOver, Placed, Whole, sizes_of, wholes}
 use Rattle.cli_run.specs.Laws.{OneFront, OneOutput, SomeOutput}
 use Rattle.cli_run.specs.Output.{AreAlike, IsExact, begun_after, form_of, framed, header_before, header_if, is_framed, whole_output, IsFront, IsOutputOf, IsOutputOfAll, IsTextOf, Picks, last_line, line_place, seen_if, shown_text, told_place, owners_after, owners_known, owners_after_all}
@@ -32,14 +31,12 @@ use Rattle.cli_run.proofs.PartLaws.{placed_both, some_placed}
 
 picked : (command : Command) (os : NameState) (message : MessageTree) → Picks command os message ⊎ (Picks command os message → ⊥)
 picked Check os message = inr (λ never. never)
-picked (Listing selection width) os message = selected selection (owners_in os.owners) message
 picked (Filter selection form) os message = selected selection (owners_in os.owners) message
 picked command os message = inl tt
 
 pub some_text : (command : Command) (order : Order) (message : MessageTree) (place : MessagePlace) → (text : List ℕ) × IsTextOf command order message place text
 some_text (Show times escapes) order message place = (seen_if escapes (shown_text order message (told_place times place)), refl)
 some_text (Json times) order message place = some_line_each order message (line_place (told_place times place))
-some_text (Listing selection width) order message place = some_listed width (line_place place) order message
 some_text Check order message place = ([], refl)
 some_text (Swap wanted form) order message place = (framed (is_framed form place) place.time (message_bytes wanted message), refl)
 some_text (Filter selection form) order message place = (framed (is_framed form place) place.time (message_bytes order message), refl)
@@ -120,7 +117,6 @@ framed_one AsRead place other bytes alike = λ i. framed (alike.0 i) (alike.1 i)
 text_one : (command : Command) (order : Order) (message : MessageTree) (place other : MessagePlace) (a b : List ℕ) → IsExact command → place.number ≡ other.number → AreFramedAlike (form_of command) place other
     → IsTextOf command order message place a → IsTextOf command order message other b → a ≡ b
 text_one (Json times) order message place other a b exact number alike p q = absurd exact
-text_one (Listing selection width) order message place other a b exact number alike p q = absurd exact
 text_one (Show true escapes) order message place other a b exact number alike p q = absurd exact
 text_one (Show false escapes) order message place other a b exact number alike p q = p ∙ (ap (λ n. seen_if escapes (message_text order message n)) number ∙ sym q)
 text_one (Swap wanted form) order message place other a b exact number alike p q = p ∙ (framed_one form place other (message_bytes wanted message) alike ∙ sym q)

@@ -19,10 +19,9 @@ use Rattle.dbus_rule.specs.RuleViews.{rule_pairs}
 use Rattle.dbus_names.specs.NameStates.{NameState, known_after as names_after, known_first}
 use Rattle.dbus_rule_set.specs.Owners.{owners_in}
 use Rattle.dbus_calls.specs.OwnerChanges.{is_text}
-use Rattle.dbus_list.specs.Lines.{IsLine}
 use Rattle.cli_options.specs.Selections.{AreSameCommand, AreSameSelection, OrInverted, SelectsBy, SomeMatches}
 use Rattle.cli_options.specs.declared.command.Command.{Command}
-use Rattle.cli_options.specs.declared.command.Command.TheVariants.{Show, Json, List as Listing, Check, Swap, Filter}
+use Rattle.cli_options.specs.declared.command.Command.TheVariants.{Show, Json, Check, Swap, Filter}
 use Rattle.cli_options.specs.declared.file_form.FileForm.{FileForm}
 use Rattle.cli_options.specs.declared.selection.Selection.{Selection}
 use Rattle.cli_options.specs.declared.settings.Settings.{Settings}
@@ -32,7 +31,7 @@ use Rattle.cli_report.specs.declared.ending.ExitStatus.TheVariants as status
 use Rattle.cli_run.specs.Learning.{ask_sender, known_after}
 use Rattle.cli_run.specs.ByName.{after_messages}
 use Rattle.cli_run.specs.Inputs.{ArePlaced, BeginWithParts, Part, PassedOver, Placed, Whole}
-use Rattle.cli_run.specs.Output.{AreAlike, IsExact, form_of, framed, is_framed, IsOutputOf, IsOutputOfAll, IsTextOf, Picks, is_check, line_place, owners_after, owners_known}
+use Rattle.cli_run.specs.Output.{AreAlike, IsExact, form_of, framed, is_framed, IsOutputOf, IsOutputOfAll, IsTextOf, Picks, is_check, owners_after, owners_known}
 use Rattle.cli_run.specs.Going.{AreTold, IsTold, IsToldLast, passed_count, status_at, tally_of}
 use Rattle.cli_run.specs.declared.place.MessagePlace.{MessagePlace}
 use Rattle.cli_run.proofs.Outputs.{output_all_one}
@@ -206,15 +205,6 @@ itself a = record { checks = refl; form = refl; exact = λ e. e; picks = λ os m
 pub acts_as : (a b : Command) → AreSameCommand a b → ActsAs a b
 acts_as (Show a x) (Show b y) h = transport (λ i. ActsAs (Show a x) (Show (h.0 i) (h.1 i))) (itself (Show a x))
 acts_as (Json a) (Json b) h = subst (λ (times : Bool). ActsAs (Json a) (Json times)) h (itself (Json a))
-acts_as (Listing x v) (Listing y w) h = record {
-  checks = refl;
-  form = refl;
-  exact = λ e. e;
-  picks = same_picks x y h.0;
-  texts = λ order m place text t. subst (λ (n : ℕ). IsLine n (line_place place) order m text) h.1 t;
-  known = ap (λ (owners : List Ownership). known_first (from_list owners)) h.0.owners;
-  learned = λ os m. same_after x y os m h.0;
-}
 acts_as Check Check h = itself Check
 acts_as (Swap x f) (Swap y g) h = transport (λ i. ActsAs (Swap x f) (Swap (h.0 i) (h.1 i))) (itself (Swap x f))
 acts_as (Filter x f) (Filter y g) h =

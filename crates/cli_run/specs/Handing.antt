@@ -8,7 +8,6 @@ use Rattle.dbus_stream.specs.Next.{DeviceCounts}
 use Rattle.dbus_stream.specs.RawReading.{Reads, Advances, ReadsNothing, done_of, kept, source_of, stopped_of}
 use Rattle.dbus_stream.specs.declared.raw_reader.RawReader.{RawReader}
 use Rattle.dbus_json.specs.JsonMessages.{IsJsonLine}
-use Rattle.dbus_list.specs.Lines.{IsLine}
 use Rattle.dbus_names.specs.declared.names.Names.{Names}
 use Rattle.cli_options.specs.declared.command.Command.{Command}
 use Rattle.cli_report.specs.Devices.{Writing}
@@ -30,11 +29,6 @@ use Rattle.cli_run.specs.declared.visitor.RunStop.TheVariants.{Cause as ByCause}
 abbrev pub WritesJson : {W : Type 0} → Writing W → Order → MessageTree → MessagePlace → List ℕ → List ℕ → Result (Unit {0}) Cause → Type 0
 WritesJson w order message place g0 g1 result =
     (out : List ℕ) × IsJsonLine order message (line_place place) out × GathersOrNot w.held w.failures out g0 g1 w.old w.new result
-
--- a line for a reader was, of at most so many cells
-abbrev pub WritesListed : {W : Type 0} → Writing W → (width : ℕ) → Order → MessageTree → MessagePlace → List ℕ → List ℕ → Result (Unit {0}) Cause → Type 0
-WritesListed w width order message place g0 g1 result =
-    (out : List ℕ) × IsLine width (line_place place) order message out × GathersOrNot w.held w.failures out g0 g1 w.old w.new result
 
 -- what comes before a message of this place in this form
 abbrev pub front_of : FileForm → MessagePlace → (begun : Bool) → Front

@@ -12,6 +12,8 @@ pub mod Onward
 pub mod Going
 pub mod Running
 pub mod CallListing
+pub mod LineListing
+pub mod LineLaws
 pub mod VisitorLaws
 pub mod CallLaws
 pub mod Laws

@@ -16,7 +16,6 @@ use Rattle.dbus_show.specs.ShownMessages.{message_text}
 use Rattle.dbus_json.specs.JsonMessages.{IsJsonLine}
 use Rattle.dbus_json.specs.Times.{seconds_text}
 use Rattle.dbus_json.specs.declared.place.LinePlace.{LinePlace}
-use Rattle.dbus_list.specs.Lines.{IsLine}
 use Rattle.dbus_names.specs.NameStates.{NameState, known_first}
 use Rattle.dbus_names.specs.declared.names.Names.{Names}
 use Rattle.dbus_rule_set.specs.Owners.{owners_in}
@@ -24,7 +23,7 @@ use Rattle.cli_options.specs.Selections.{SelectsBy}
 use Rattle.cli_options.specs.declared.file_form.FileForm.{FileForm}
 use Rattle.cli_options.specs.declared.file_form.FileForm.TheVariants.{AsRead, Raw}
 use Rattle.cli_options.specs.declared.command.Command.{Command}
-use Rattle.cli_options.specs.declared.command.Command.TheVariants.{Show, Json, List as Listing, Check, Swap, Filter}
+use Rattle.cli_options.specs.declared.command.Command.TheVariants.{Show, Json, Check, Swap, Filter}
 use Rattle.cli_report.specs.Gathering.{IsPrefixTo}
 use Rattle.cli_report.specs.Telling.{refused_line}
 use Rattle.cli_report.specs.declared.ending.ExitStatus.{ExitStatus}
@@ -36,14 +35,13 @@ use Rattle.cli_run.specs.Refusals.{IsFaultIn}
 use Rattle.cli_run.specs.Told.{first_of, second_of}
 use Rattle.cli_run.specs.declared.place.MessagePlace.{MessagePlace}
 use Rattle.cli_run.specs.declared.output.Output.{Output}
-use Rattle.cli_run.specs.declared.output.Output.TheVariants.{InOrder, JsonLine, Line, Matching, Nothing, Text}
+use Rattle.cli_run.specs.declared.output.Output.TheVariants.{InOrder, JsonLine, Matching, Nothing, Text}
 
 -- which command writes what of each message
 abbrev pub command_of : Output → Command
 command_of Nothing = Check
 command_of (Text times escapes) = Show times escapes
 command_of (JsonLine times) = Json times
-command_of (Line selector width) = Listing selector.selection.now width
 command_of (InOrder order form) = Swap order form
 command_of (Matching selector form) = Filter selector.selection.now form
 
@@ -54,13 +52,11 @@ is_check command = false
 
 -- what a command knows of the owners of names: of its own, or what it has learned since
 abbrev pub owners_known : Command → Option Names → NameState
-owners_known (Listing selection width) learned = known selection learned
 owners_known (Filter selection form) learned = known selection learned
 owners_known command learned = known_first empty
 
 -- what it knows after a message, if it knew this before
 abbrev pub owners_after : Command → NameState → MessageTree → NameState
-owners_after (Listing selection width) os message = known_after selection os message
 owners_after (Filter selection form) os message = known_after selection os message
 owners_after command os message = os
 
@@ -72,7 +68,6 @@ owners_after_all command os (m ∷ items) = owners_after_all command (owners_aft
 -- a command makes a text of the message, if it knows this
 abbrev pub Picks : Command → NameState → MessageTree → Type 0
 Picks Check os message = ⊥
-Picks (Listing selection width) os message = SelectsBy selection (owners_in os.owners) message
 Picks (Filter selection form) os message = SelectsBy selection (owners_in os.owners) message
 Picks command os message = Unit {0}
 
@@ -147,7 +142,6 @@ line_place place = record { number = place.number; offset = place.offset; time =
 abbrev pub IsTextOf : Command → Order → MessageTree → MessagePlace → List ℕ → Type 0
 IsTextOf (Show times escapes) order message place text = text ≡ seen_if escapes (shown_text order message (told_place times place))
 IsTextOf (Json times) order message place text = IsJsonLine order message (line_place (told_place times place)) text
-IsTextOf (Listing selection width) order message place text = IsLine width (line_place place) order message text
 IsTextOf Check order message place text = text ≡ []
 IsTextOf (Swap wanted form) order message place text = text ≡ framed (is_framed form place) place.time (message_bytes wanted message)
 IsTextOf (Filter selection form) order message place text = text ≡ framed (is_framed form place) place.time (message_bytes order message)
@@ -170,11 +164,10 @@ whole_output form items texts = header_before form false items ++ concat texts
 
 -- the messages, with their times if they are written as packets, and the fault after them determine
 -- each byte that the command writes: no other time, which their packets have, and no DOUBLE of
--- `json` and `list`, which may be any digits that read back as its bits
+-- `json`, which may be any digits that read back as its bits
 abbrev pub IsExact : Command → Type 0
 IsExact (Show true escapes) = ⊥
 IsExact (Json times) = ⊥
-IsExact (Listing selection width) = ⊥
 IsExact command = Unit {0}
 
 -- the packets of two inputs are known and the same, if they matter to this form

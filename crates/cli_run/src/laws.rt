@@ -15,8 +15,8 @@ pub fn some_output()
 {}
 
 /// It has no other, also if the packets are others, unless it writes messages as they are read.
-/// Others have `Show` with times, `Json` and `List`: times are those of packets, and the latter two
-/// may write a DOUBLE by any digits that read back as its bits.
+/// Others have `Show` with times and `Json`: times are those of packets, and the latter may write a
+/// DOUBLE by any digits that read back as its bits.
 pub fn one_output()
     ensures { OneOutput }
 {}
@@ -40,9 +40,8 @@ pub fn plain_run<R: Source, W: Sink, E: Sink>()
 
 /// Two runs of a command by the same settings, neither of which failed, that read the same input
 /// end with the same status, and their writers got the same bytes; but what is explained of a
-/// message that is refused shows its bytes as far as they happened to be read, `Json` and `List`
-/// may write a DOUBLE by other digits that read back as its bits, and times are others if the
-/// packets are. They are the same if a message is refused, since its line has the packet of its
+/// message that is refused shows its bytes as far as they happened to be read, `Json` may write a
+/// DOUBLE by other digits that read back as its bits, and times are others if the packets are. They are the same if a message is refused, since its line has the packet of its
 /// fault; and of `Swap` and `Filter` that write messages as they are read.
 pub fn one_run<R, S, W, V, E, F>()
     ensures { OneRun R S W V E F }

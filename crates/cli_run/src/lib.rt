@@ -1,9 +1,9 @@
 //! The commands of the program `dbus-wire` over messages, with any reader and two writers.
 //!
 //! [`run_within`] runs a command under limits, with at most a given number of reads, [`run_with`]
-//! by settings, [`count_by_name`] counts messages by their names, and [`list_calls`] lists their
-//! calls. Each returns the exit status. `specs/` states what a command writes: of all but `Json`
-//! and `List` it is a function of what it reads.
+//! by settings, [`list_lines`] writes a line for each message, [`count_by_name`] counts messages by
+//! their names, and [`list_calls`] lists their calls. Each returns the exit status. `specs/` states
+//! what a command writes: of all but `Json` and lines it is a function of what it reads.
 #![tactic(auto)]
 
 mod by_name;
@@ -17,6 +17,7 @@ mod going;
 mod handing;
 pub mod laws;
 mod learning;
+mod line_listing;
 mod output;
 mod output_writer;
 mod place;
@@ -30,4 +31,5 @@ mod window;
 
 pub use by_name::count_by_name;
 pub use call_listing::list_calls;
+pub use line_listing::list_lines;
 pub use running::{run, run_reads, run_with, run_within};

@@ -13,7 +13,7 @@ use crate::filtering::select;
 use crate::framing::{Front, write_header, write_message};
 use crate::place::{Carried, Lent};
 use crate::selector::Selector;
-use crate::showing::{show, write_json_line, write_list_line};
+use crate::showing::{show, write_json_line};
 use crate::swapping::swap;
 use crate::window::lets_through;
 use cli_options::{Command, FileForm};
@@ -32,8 +32,6 @@ pub(crate) enum Output<'a> {
     Text { times: bool, escapes: bool },
     /// Its line of JSON, with its time or without.
     JsonLine { times: bool },
-    /// Its line of at most so many cells, for a reader, if it is selected.
-    Line(Selector<'a>, u16),
     /// Its bytes in this order, in this form.
     InOrder(Order, FileForm),
     /// Its bytes as they are, in this form, if it is selected.
@@ -42,8 +40,7 @@ pub(crate) enum Output<'a> {
 
 /// What the command writes of each message.
 ///
-/// Returns `AllocError` only for `List` and `Filter`, if there is not enough memory for a set of
-/// its rules.
+/// Returns `AllocError` only for `Filter`, if there is not enough memory for a set of its rules.
 pub(crate) fn output_of(command: &Command) -> Result<Output<'_>, AllocError>
     ensures { IfOk result (λ output. command_of output ≡ command.now) }
 {
@@ -54,7 +51,6 @@ pub(crate) fn output_of(command: &Command) -> Result<Output<'_>, AllocError>
             escapes: *escapes,
         }),
         Command::Json { times } => Ok(Output::JsonLine { times: *times }),
-        Command::List(selection, width) => Ok(Output::Line(Selector::new(selection)?, *width)),
         Command::Swap(order, form) => Ok(Output::InOrder(*order, *form)),
         Command::Filter(selection, form) => {
             Ok(Output::Matching(Selector::new(selection)?, *form))
@@ -70,7 +66,6 @@ pub(crate) fn is_check(output: &Output) -> bool
         Output::Nothing => true,
         Output::Text { .. } => false,
         Output::JsonLine { .. } => false,
-        Output::Line(_, _) => false,
         Output::InOrder(_, _) => false,
         Output::Matching(_, _) => false,
     }
@@ -84,7 +79,6 @@ fn form_of(output: &Output) -> FileForm
         Output::Nothing => FileForm::Raw,
         Output::Text { .. } => FileForm::Raw,
         Output::JsonLine { .. } => FileForm::Raw,
-        Output::Line(_, _) => FileForm::Raw,
         Output::InOrder(_, form) => *form,
         Output::Matching(_, form) => *form,
     }
@@ -101,7 +95,6 @@ fn picks(output: &Output, lent: &Lent, owners: &mut Option<Names>) -> Result<boo
         Output::Nothing => Ok(false),
         Output::Text { .. } => Ok(true),
         Output::JsonLine { .. } => Ok(true),
-        Output::Line(selector, _) => select(selector, lent, owners),
         Output::InOrder(_, _) => Ok(true),
         Output::Matching(selector, _) => select(selector, lent, owners),
     }
@@ -136,7 +129,6 @@ fn write_one<A: Allocator + Copy, W: Sink>(
             let told = place.told(*times);
             write_json_line(bytes, validated, limits, told, gathered, first)
         }
-        Output::Line(_, width) => write_list_line(*width, lent, gathered, first),
         Output::InOrder(wanted, form) => {
             let front = Front::of(*form, place, begun);
             swap(*wanted, lent, front, spare, gathered, first)

@@ -67,9 +67,8 @@ pub fn run_reads<A: Allocator + Copy, R: Source, W: Sink, E: Sink>(
 /// `Show` writes each message as text, numbered from 1, with times after its time. `Json` writes
 /// each message as one line, an object of JSON, with that number, the offset at which the message
 /// begins in the input, and, with times, the time of the packet that its last byte is of, if the
-/// reader reports one. `List` writes each that is selected as one line, with that number and time,
-/// that has at most as many cells as it says. `Swap` writes each message in the order that it
-/// names. `Filter` writes each message that is selected, in its own order. Both write messages as
+/// reader reports one. `Swap` writes each message in the order that it names. `Filter` writes each
+/// message that is selected, in its own order. Both write messages as
 /// they are read, unless they are to write raw ones: if the reader reports packets, as those of a
 /// pcap file, `dbus_pcap::packet_header` before each with the time of the packet that its last byte
 /// is of, and `dbus_pcap::file_header` before all, also if none is selected. Where the bytes after
@@ -86,8 +85,8 @@ pub fn run_reads<A: Allocator + Copy, R: Source, W: Sink, E: Sink>(
 /// gets no more after a write to it failed.
 ///
 /// The run holds at most the bytes of one message and of one read, what is gathered, for `Swap`
-/// room for the longest message so far that it byteswaps, and for `List` and `Filter` their rules
-/// once more, in a set. `Check` builds no message, and allocates nothing for messages.
+/// room for the longest message so far that it byteswaps, and for `Filter` its rules once more, in
+/// a set. `Check` builds no message, and allocates nothing for messages.
 ///
 /// `Done`, `Refused`: all was written, no read and no write failed, and the status says which.
 /// `Failed`: a read failed, a write to either writer failed or took none of its bytes, as many

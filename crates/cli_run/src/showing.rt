@@ -6,13 +6,12 @@ ghost use Rattle.dbus_header.specs.MessageOutcomes.{IsWhole};
 ghost use Rattle.dbus_validate.specs.Validating.{IsValidatedWhole};
 ghost use Rattle.cli_report.specs.Devices.{writing};
 ghost use Rattle.cli_report.specs.Gathering.{GathersOrNot, gathered_bytes};
-ghost use Rattle.cli_run.specs.Handing.{WritesJson, WritesListed};
+ghost use Rattle.cli_run.specs.Handing.{WritesJson};
 ghost use Rattle.cli_run.specs.Output.{line_place, seen_if, shown_text, time_text, told_place};
 
 use crate::place::{Lent, MessagePlace};
 use cli_report::{Cause, OutputBuffer, Page};
 use dbus_json::{LinePlace, write_json, write_seconds};
-use dbus_list::write_line;
 use dbus_show::{Draft, Visible};
 use dbus_show_view::write_message;
 use dbus_stream::Sink;
@@ -90,7 +89,7 @@ pub(crate) fn show<W: Sink>(
 }
 
 /// What a line says of where its message stands.
-fn line_place(place: MessagePlace) -> LinePlace
+pub(crate) fn line_place(place: MessagePlace) -> LinePlace
     ensures { result ≡ line_place place }
 {
     LinePlace {
@@ -121,40 +120,6 @@ pub(crate) fn write_json_line<W: Sink>(
         failed: false,
     };
     write_json(&mut page, bytes, limits, validated, line_place(place));
-    if page.failed {
-        Err(Cause::WriteFailed)
-    } else {
-        Ok(())
-    }
-}
-
-/// Writes or gathers the line of the message, of at most so many cells.
-pub(crate) fn write_list_line<W: Sink>(
-    width: u16,
-    lent: &Lent<'_>,
-    gathered: &mut OutputBuffer,
-    first: &mut W,
-) -> Result<(), Cause>
-    requires { IsValidatedWhole lent.now.limits lent.now.bytes.now lent.now.validated }
-    ensures { (order : Order) (m : MessageTree) →
-        IsWhole lent.now.limits lent.now.bytes.now order m (length lent.now.bytes.now) →
-        WritesListed (writing W.held W.failures first.old first.new) width order m lent.now.place
-        (gathered_bytes gathered.old) (gathered_bytes gathered.new) result }
-{
-    let mut page = Page {
-        gathered,
-        first,
-        failed: false,
-    };
-    let place = line_place(lent.place);
-    write_line(
-        &mut page,
-        width,
-        lent.bytes,
-        lent.limits,
-        &lent.validated,
-        place,
-    );
     if page.failed {
         Err(Cause::WriteFailed)
     } else {

@@ -1,7 +1,7 @@
 mod LineLaws
 pub mod Rows
 pub mod Printed
-mod Taken
+pub mod Taken
 pub mod Steps
 pub mod Stray
 mod Ended

@@ -9,15 +9,15 @@ use dbus_show::{Draft, write_integer};
 
 /// The time from a message to another.
 #[derive(Clone, Copy, Debug, PartialEq, Eq)]
-pub(crate) struct Elapsed {
+pub struct Elapsed {
     /// Whether the other is the earlier one.
-    pub(crate) backwards: bool,
+    pub backwards: bool,
     /// So many nanoseconds are between them.
-    pub(crate) nanoseconds: u64,
+    pub nanoseconds: u64,
 }
 
 /// The time from one time to another, both in nanoseconds, if both are known.
-pub(crate) fn time_between(from: Option<u64>, to: Option<u64>) -> Option<Elapsed>
+pub fn time_between(from: Option<u64>, to: Option<u64>) -> Option<Elapsed>
     ensures { result ≡ time_between from to }
 {
     match (from, to) {

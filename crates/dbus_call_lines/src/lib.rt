@@ -17,7 +17,8 @@ mod waiting_call;
 mod wanted;
 
 pub use call_list::CallList;
-pub use ending::write_end;
+pub use elapsed::{Elapsed, time_between};
+pub use ending::{write_end, write_took};
 pub use form::Form;
 pub use fronts::write_front;
 pub use outcome::{Outcome, outcome_of};

@@ -30,12 +30,16 @@ use Rattle.dbus_show.specs.ShownValues.{bytes_in, joined, number_text, quoted}
 use Rattle.dbus_show.specs.declared.escapes.Escapes.TheVariants.{Shown}
 use Rattle.dbus_value_text.specs.Forms.{led}
 use Rattle.dbus_calls.specs.Events.{destination_of, reply_serial_of, sender_of, text_at, wants_reply}
+use Rattle.dbus_call_lines.specs.CallLines.{took_text}
+use Rattle.dbus_call_lines.specs.Durations.{milliseconds_text, sign, three_digits as took_digits}
+use Rattle.dbus_call_lines.specs.declared.elapsed.Elapsed.{Elapsed}
 use Rattle.dbus_call_lines.proofs.Printed.{destination_printed, error_printed, interface_is_printed, member_is_printed, sender_printed}
 use Rattle.dbus_json.specs.Times.{digit_at}
 use Rattle.dbus_json.specs.declared.place.LinePlace.{LinePlace}
 use Rattle.dbus_list.specs.BriefValues.{AreBrief, IsBrief, IsBriefDouble, IsBriefNumber, bracketed, other_double}
 use Rattle.dbus_list.specs.Columns.{clock, column, ends, first_short, name_cells, name_column, right, short, three_digits, two_digits}
-use Rattle.dbus_list.specs.Lines.{ArePlain, IsListed, about, about_kind, answered_part, call_part, columns, error_part, interface_part, member_of, nobody, or_dash, time_part}
+use Rattle.dbus_list.specs.Pairs.{ToldCall}
+use Rattle.dbus_list.specs.Lines.{ArePlain, IsListed, IsToldWithin, about, about_kind, answered_part, call_part, columns, error_part, interface_part, known_part, member_of, nobody, or_dash, time_part}
 
 -- a byte that is no control character of ASCII
 abbrev pub IsPlain : ℕ → Type 0
@@ -319,6 +323,18 @@ plain_time : (time : Option ℕ) → ArePlain (time_part time)
 plain_time None = tt
 plain_time (Some t) = plain_both (clock t) (codes " ") (plain_clock t) (refl, tt)
 
+plain_took : (took : Option Elapsed) → ArePlain (took_text took)
+plain_took None = tt
+plain_took (Some e) =
+    let thousands = e.nanoseconds / 1000 in
+    let digits : ArePlain (codes "." ++ took_digits thousands) = (refl, (digit_drawn thousands 100, (digit_drawn thousands 10, (digit_drawn thousands 1, tt)))) in
+    let number = plain_both (decimal (e.nanoseconds / 1000000)) _ (plain_decimal (e.nanoseconds / 1000000)) digits in
+    let signed = plain_both (sign e.backwards) _ (plain_if e.backwards (codes "-") [] (λ _. (refl, tt)) (λ _. tt)) number in
+    (refl, plain_both (milliseconds_text e) (codes " ms") signed (plain_known (codes " ms") refl))
+
+plain_known_call : (call : ToldCall) → ArePlain call.member → ArePlain (known_part call)
+plain_known_call call h = (refl, plain_both (decimal call.number) _ (plain_decimal call.number) (refl, plain_both call.member (took_text call.took) h (plain_took call.took)))
+
 plain_sigs : (ts : TypeTrees) → ArePlain (sigs ts)
 plain_sigs = sigs_hold ArePlain tt (λ c low high. (above c (omega (arith, low)) (omega (arith, high)), tt)) plain_both
 
@@ -340,22 +356,23 @@ module _ (limits : Limits) (order : Order) (m : MessageTree) (is : IsMessage lim
       plain_both (interface_part line (text_at field.INTERFACE m)) (name ++ (codes "(" ++ types)) (plain_interface line (text_at field.INTERFACE m) (plain_range _ (interface_is_printed limits order m is)))
       (plain_both name (codes "(" ++ types) (plain_range name (member_is_printed limits order m is)) (refl, plain_both (sigs (types_of m.body)) (codes ")") (plain_sigs (types_of m.body)) (refl, tt)))
 
-  plain_answered : ArePlain (answered_part m)
-  plain_answered = plain_both (codes "serial ") (decimal (reply_serial_of m)) (plain_known (codes "serial ") refl) (plain_decimal (reply_serial_of m))
+  plain_answered : (answered : Option ToldCall) → IsToldWithin limits answered → ArePlain (answered_part answered m)
+  plain_answered None within = plain_both (codes "serial ") (decimal (reply_serial_of m)) (plain_known (codes "serial ") refl) (plain_decimal (reply_serial_of m))
+  plain_answered (Some told) within = plain_known_call told (subst (λ (call : ToldCall). ArePlain call.member) (sym within.4) (plain_range _ (member_is_printed limits within.0 within.1.message within.3)))
 
-  plain_error : ArePlain (error_part line m)
-  plain_error = plain_both (short (name_cells line) (or_dash (text_at field.ERROR_NAME m))) _ (plain_short (name_cells line) _ (plain_range _ (error_printed limits order m is)))
-      (plain_both (codes " to ") (answered_part m) (plain_known (codes " to ") refl) plain_answered)
+  plain_error : (answered : Option ToldCall) → IsToldWithin limits answered → ArePlain (error_part line answered m)
+  plain_error answered within = plain_both (short (name_cells line) (or_dash (text_at field.ERROR_NAME m))) _ (plain_short (name_cells line) _ (plain_range _ (error_printed limits order m is)))
+      (plain_both (codes " to ") (answered_part answered m) (plain_known (codes " to ") refl) (plain_answered answered within))
 
   plain_call : ArePlain (call_part line m)
   plain_call = plain_if (wants_reply m) (member_of line m) (member_of line m ++ codes " no reply wanted") (λ _. plain_member)
       (λ _. plain_both (member_of line m) (codes " no reply wanted") plain_member (plain_known (codes " no reply wanted") refl))
 
-  plain_about : (kind : ℕ) → ArePlain (about_kind kind line m)
-  plain_about kind =
+  plain_about : (kind : ℕ) (answered : Option ToldCall) → IsToldWithin limits answered → ArePlain (about_kind kind line answered m)
+  plain_about kind answered within =
       plain_if (kind == message.METHOD_CALL) (call_part line m) _ (λ _. plain_call)
-      (λ _. plain_if (kind == message.METHOD_RETURN) (codes "reply to " ++ answered_part m) _ (λ _. plain_both (codes "reply to ") (answered_part m) (plain_known (codes "reply to ") refl) plain_answered)
-      (λ _. plain_if (kind == message.ERROR) (codes "error " ++ error_part line m) _ (λ _. plain_both (codes "error ") (error_part line m) (plain_known (codes "error ") refl) plain_error)
+      (λ _. plain_if (kind == message.METHOD_RETURN) (codes "reply to " ++ answered_part answered m) _ (λ _. plain_both (codes "reply to ") (answered_part answered m) (plain_known (codes "reply to ") refl) (plain_answered answered within))
+      (λ _. plain_if (kind == message.ERROR) (codes "error " ++ error_part line answered m) _ (λ _. plain_both (codes "error ") (error_part line answered m) (plain_known (codes "error ") refl) (plain_error answered within))
       (λ _. plain_if (kind == message.SIGNAL) (codes "signal " ++ member_of line m) (codes "type " ++ (decimal kind ++ (codes " " ++ member_of line m)))
       (λ _. plain_both (codes "signal ") (member_of line m) (plain_known (codes "signal ") refl) plain_member)
       (λ _. plain_both (codes "type ") _ (plain_known (codes "type ") refl) (plain_both (decimal kind) (codes " " ++ member_of line m) (plain_decimal kind) (refl, plain_member))))))
@@ -385,9 +402,9 @@ module _ (limits : Limits) (order : Order) (m : MessageTree) (is : IsMessage lim
   plain_led [] h = tt
   plain_led (value ∷ values) h = (refl, plain_joined (value ∷ values) h)
 
-  pub plain_text : (place : LinePlace) (text : List ℕ) → IsListed line place order m text → ArePlain text
-  plain_text place text h = subst ArePlain (sym h.is)
-      (plain_both (columns line place order m) _ (plain_columns place) (plain_both (about line m) _ (plain_about m.kind) (plain_led h.values (plain_briefs limits.depth m.body h.values is.formed_body h.brief))))
+  pub plain_text : (place : LinePlace) (answered : Option ToldCall) (text : List ℕ) → IsToldWithin limits answered → IsListed line place answered order m text → ArePlain text
+  plain_text place answered text within h = subst ArePlain (sym h.is)
+      (plain_both (columns line place order m) _ (plain_columns place) (plain_both (about line answered m) _ (plain_about m.kind answered within) (plain_led h.values (plain_briefs limits.depth m.body h.values is.formed_body h.brief))))
 
 -- ---- characters
 

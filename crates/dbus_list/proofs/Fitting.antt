@@ -106,7 +106,7 @@ pub hide_nothing : HideNothing
 hide_nothing n text utf8 = cut_holds IsSeen refl n (visible text) (visible_utf8 text utf8) (visible_seen text utf8)
 
 pub control_nothing : ControlNothing
-control_nothing limits order m n place text is listed utf8 =
-    let bytes = plain_text limits order m is n place text listed in
+control_nothing limits order m n place answered text is within listed utf8 =
+    let bytes = plain_text limits order m is n place answered text within listed in
     let characters = plain_chars (chars text) (subst ArePlain (sym (encodes-chars text utf8)) bytes) in
     cut_holds IsPlain refl n (visible text) (visible_utf8 text utf8) (subst ArePlain (sym (visible_chars text utf8)) (visible_plain (chars text) characters))

@@ -4,6 +4,7 @@ pub mod ReadCharacters
 mod Ends
 mod Clocks
 mod Shown
+pub mod Paired
 pub mod SomeLines
 mod Fitting
 mod Controls

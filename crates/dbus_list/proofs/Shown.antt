@@ -17,6 +17,7 @@ use Rattle.dbus_validate.specs.declared.validating.Validated.{Validated}
 use Rattle.dbus_validate.proofs.WholeParts.{same_message}
 use Rattle.dbus_calls.specs.Events.{wants_reply}
 use Rattle.dbus_list.specs.Lines.{about_kind, answered_part, call_part, error_part, member_of}
+use Rattle.dbus_list.specs.Pairs.{ToldCall}
 use Rattle.dbus_list.proofs.CutTexts.{passed}
 use Rattle.dbus_view.specs.Views.{IsViewOf, ViewState, Views}
 use Rattle.std.proofs.lemmas.List.{take_all}
@@ -58,8 +59,8 @@ other_kind kind code other = grind (arith, nat_tests)
 either : {A : Type 0} (kind code : ℕ) (x y : A) → kind ≢ code → (if kind == code then x else y) ≡ y
 either kind code x y other = passed (kind == code) x y (other_kind kind code other)
 
-pub other_about : (kind line : ℕ) (m : MessageTree) → kind ≢ 1 → kind ≢ 2 → kind ≢ 3 → kind ≢ 4 → codes "type " ++ (decimal kind ++ (codes " " ++ member_of line m)) ≡ about_kind kind line m
-other_about kind line m call reply error signal =
+pub other_about : (kind line : ℕ) (answered : Option ToldCall) (m : MessageTree) → kind ≢ 1 → kind ≢ 2 → kind ≢ 3 → kind ≢ 4 → codes "type " ++ (decimal kind ++ (codes " " ++ member_of line m)) ≡ about_kind kind line answered m
+other_about kind line answered m call reply error signal =
     let last = codes "type " ++ (decimal kind ++ (codes " " ++ member_of line m)) in
-    sym (either kind 1 (call_part line m) _ call ∙ (either kind 2 (codes "reply to " ++ answered_part m) _ reply
-    ∙ (either kind 3 (codes "error " ++ error_part line m) _ error ∙ either kind 4 (codes "signal " ++ member_of line m) last signal)))
+    sym (either kind 1 (call_part line m) _ call ∙ (either kind 2 (codes "reply to " ++ answered_part answered m) _ reply
+    ∙ (either kind 3 (codes "error " ++ error_part line answered m) _ error ∙ either kind 4 (codes "signal " ++ member_of line m) last signal)))

@@ -4,4 +4,5 @@ pub mod CuttingLaws
 pub mod BriefValues
 pub mod BriefLaws
 pub mod Columns
+pub mod Pairs
 pub mod Lines

@@ -13,10 +13,13 @@ use Rattle.dbus_message_model.specs.declared.message_type.TheConstants as messag
 use Rattle.dbus_show.specs.Escapes.{is_hidden, visible}
 use Rattle.dbus_value_text.specs.Forms.{led}
 use Rattle.dbus_calls.specs.Events.{destination_of, reply_serial_of, sender_of, text_at, wants_reply}
+use Rattle.dbus_call_lines.specs.CallLines.{took_text}
+use Rattle.dbus_call_lines.specs.Listing.{Numbered}
 use Rattle.dbus_json.specs.declared.place.LinePlace.{LinePlace}
 use Rattle.dbus_list.specs.BriefValues.{AreBrief}
 use Rattle.dbus_list.specs.Columns.{clock, column, name_cells, right, short}
 use Rattle.dbus_list.specs.Cuts.{cut, width}
+use Rattle.dbus_list.specs.Pairs.{ToldCall, told_of}
 
 abbrev pub or_dash : Option (List ℕ) → List ℕ
 or_dash text = unwrap_or text (codes "-")
@@ -54,32 +57,37 @@ member_of line m = member_part line (text_at field.INTERFACE m) (text_at field.M
 abbrev pub call_part : (line : ℕ) → MessageTree → List ℕ
 call_part line m = if wants_reply m then member_of line m else member_of line m ++ codes " no reply wanted"
 
--- the call that a reply is to
-abbrev pub answered_part : MessageTree → List ℕ
-answered_part m = codes "serial " ++ decimal (reply_serial_of m)
+-- a call that is known: its number and its member, and how long its reply took
+abbrev pub known_part : ToldCall → List ℕ
+known_part call = codes "#" ++ (decimal call.number ++ (codes " " ++ (call.member ++ took_text call.took)))
 
-abbrev pub error_part : (line : ℕ) → MessageTree → List ℕ
-error_part line m = short (name_cells line) (or_dash (text_at field.ERROR_NAME m)) ++ (codes " to " ++ answered_part m)
+-- the call that a reply is to, or its serial if it is not known
+abbrev pub answered_part : (answered : Option ToldCall) → MessageTree → List ℕ
+answered_part None m = codes "serial " ++ decimal (reply_serial_of m)
+answered_part (Some call) m = known_part call
 
-abbrev pub about_kind : (kind line : ℕ) → MessageTree → List ℕ
-about_kind kind line m =
+abbrev pub error_part : (line : ℕ) → (answered : Option ToldCall) → MessageTree → List ℕ
+error_part line answered m = short (name_cells line) (or_dash (text_at field.ERROR_NAME m)) ++ (codes " to " ++ answered_part answered m)
+
+abbrev pub about_kind : (kind line : ℕ) → (answered : Option ToldCall) → MessageTree → List ℕ
+about_kind kind line answered m =
     if kind == message.METHOD_CALL then call_part line m
-    else if kind == message.METHOD_RETURN then codes "reply to " ++ answered_part m
-    else if kind == message.ERROR then codes "error " ++ error_part line m
+    else if kind == message.METHOD_RETURN then codes "reply to " ++ answered_part answered m
+    else if kind == message.ERROR then codes "error " ++ error_part line answered m
     else if kind == message.SIGNAL then codes "signal " ++ member_of line m
     else codes "type " ++ (decimal kind ++ (codes " " ++ member_of line m))
 
-abbrev pub about : (line : ℕ) → MessageTree → List ℕ
-about line m = about_kind m.kind line m
+abbrev pub about : (line : ℕ) → (answered : Option ToldCall) → MessageTree → List ℕ
+about line answered m = about_kind m.kind line answered m
 
 -- ---- the line
 
 -- The text of a message, of which a line of so many cells has what fits: after the columns, what
--- the message is, and the values of its body.
-pub record IsListed (line : ℕ) (place : LinePlace) (order : Order) (m : MessageTree) (text : List ℕ) : Type 0 where
+-- the message is, and the values of its body. answered is what is told of the call that it answers.
+pub record IsListed (line : ℕ) (place : LinePlace) (answered : Option ToldCall) (order : Order) (m : MessageTree) (text : List ℕ) : Type 0 where
   pub values : List (List ℕ)
   pub brief : AreBrief m.body values
-  pub is : text ≡ columns line place order m ++ (about line m ++ led (codes " ") (codes ", ") values)
+  pub is : text ≡ columns line place order m ++ (about line answered m ++ led (codes " ") (codes ", ") values)
 
 -- a text as it fits so many cells: each hidden character is seen, and what is too much is cut
 abbrev pub fitted : (cells : ℕ) → (text : List ℕ) → List ℕ
@@ -89,14 +97,14 @@ abbrev pub line_of : (cells : ℕ) → (text : List ℕ) → List ℕ
 line_of n text = fitted n text ++ codes "\n"
 
 -- the line of a message
-abbrev pub IsLine : (cells : ℕ) → LinePlace → Order → MessageTree → List ℕ → Type 0
-IsLine n place order m line = (text : List ℕ) × IsListed n place order m text × (line ≡ line_of n text)
+abbrev pub IsLine : (cells : ℕ) → LinePlace → (answered : Option ToldCall) → Order → MessageTree → List ℕ → Type 0
+IsLine n place answered order m line = (text : List ℕ) × IsListed n place answered order m text × (line ≡ line_of n text)
 
 -- What holds of lines.
 
--- Each message has a line, whatever its place.
+-- Each message has a line, whatever its place and the call that it answers.
 abbrev pub IsSomeLineEach : Type 0
-IsSomeLineEach = (cells : ℕ) (place : LinePlace) (order : Order) (m : MessageTree) → (line : List ℕ) × IsLine cells place order m line
+IsSomeLineEach = (cells : ℕ) (place : LinePlace) (answered : Option ToldCall) (order : Order) (m : MessageTree) → (line : List ℕ) × IsLine cells place answered order m line
 
 -- What fits so many cells has no more of them, if they are not 0.
 abbrev pub Fits : Type 0
@@ -109,9 +117,16 @@ AreSeen cs = AllByRecursion (λ c. is_hidden c ≡ false) cs
 abbrev pub HideNothing : Type 0
 HideNothing = (n : ℕ) (text : List ℕ) → IsUtf8 text → AreSeen (chars (fitted n text))
 
--- None of them is a control character of ASCII, if the text is of a message within the limits.
+-- what is told of a call is so of one within the limits
+abbrev pub IsToldWithin : Limits → Option ToldCall → Type 0
+IsToldWithin limits None = Unit {0}
+IsToldWithin limits (Some told) = (order : Order) × (call : Numbered) × (replied : Option ℕ) × IsMessage limits order call.message × (told ≡ told_of replied call)
+
+-- None of them is a control character of ASCII, if the text is of a message within the limits, and
+-- so is the call that it answers.
 abbrev pub ArePlain : (characters : List ℕ) → Type 0
 ArePlain cs = AllByRecursion (λ c. is_ascii_control c ≡ false) cs
 
 abbrev pub ControlNothing : Type 0
-ControlNothing = (limits : Limits) (order : Order) (m : MessageTree) (n : ℕ) (place : LinePlace) (text : List ℕ) → IsMessage limits order m → IsListed n place order m text → IsUtf8 text → ArePlain (chars (fitted n text))
+ControlNothing = (limits : Limits) (order : Order) (m : MessageTree) (n : ℕ) (place : LinePlace) (answered : Option ToldCall) (text : List ℕ) → IsMessage limits order m → IsToldWithin limits answered → IsListed n place answered order m text
+    → IsUtf8 text → ArePlain (chars (fitted n text))

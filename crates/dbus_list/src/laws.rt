@@ -3,7 +3,7 @@
 
 ghost use Rattle.dbus_list.specs.Lines.{ControlNothing, Fits, HideNothing, IsSomeLineEach};
 
-/// Each message has a line, whatever its place.
+/// Each message has a line, whatever its place and the call that it answers.
 pub fn some_line_for_a_message()
     ensures { IsSomeLineEach }
 {}
@@ -19,7 +19,7 @@ pub fn lines_hide_nothing()
 {}
 
 /// The line of a message has no control character of ASCII before the line feed that ends it,
-/// whatever the message holds that is within the limits.
+/// whatever the message holds that is within the limits, and the call that it answers.
 pub fn lines_control_nothing()
     ensures { ControlNothing }
 {}

@@ -1,16 +1,21 @@
 //! A message as one line for a reader, which fits a terminal.
 //!
 //! A text passes two drafts over the caller's: in one each hidden character is seen, and one cuts
-//! the text to the cells of a line. Values are written in a form of their own.
+//! the text to the cells of a line. Values are written in a form of their own. A [`CallTable`] takes
+//! the messages of an input, and returns the call that a reply answers.
 #![tactic(auto)]
 
 mod about;
 mod brief;
+mod call_table;
 mod characters;
 mod columns;
 mod cut_draft;
+mod known_call;
 pub mod laws;
 mod line;
 mod names;
 
+pub use call_table::CallTable;
+pub use known_call::{AnsweredCall, KnownCall};
 pub use line::write_line;

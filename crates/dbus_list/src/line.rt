@@ -1,24 +1,24 @@
 //! Messages as lines for a reader, from their bytes. D-Bus Specification, "Message Format".
 #![tactic(auto)]
 
-ghost use Rattle.std.specs.Prelude.{◌≡◌};
+ghost use Rattle.std.specs.Prelude.{option_map};
 ghost use Rattle.dbus_value_model.specs.declared.order.Order.{Order};
 ghost use Rattle.dbus_message_model.specs.Messages.{MessageTree};
-ghost use Rattle.dbus_header.specs.MessageOutcomes.{IsWhole};
 ghost use Rattle.dbus_validate.specs.Validating.{IsValidatedWhole, IsWholeOf};
 ghost use Rattle.dbus_value_text.specs.Gaining.{GainsSome};
 ghost use Rattle.dbus_view.specs.Views.{Views};
 ghost use Rattle.dbus_list.specs.Lines.{IsLine, IsListed, columns, time_part};
+ghost use Rattle.dbus_list.specs.Pairs.{call_seen};
 
 use crate::about::write_about;
 use crate::brief::Brief;
 use crate::columns::{write_clock, write_column, write_right};
 use crate::cut_draft::CutDraft;
+use crate::known_call::AnsweredCall;
 use crate::names::{destination_of, sender_of};
 use dbus_json::LinePlace;
 use dbus_show::{Draft, Visible};
-use dbus_validate::{Validated, Whole};
-use dbus_value_model::Limits;
+use dbus_validate::Whole;
 use dbus_value_text::write_body;
 use dbus_view::MessageView;
 
@@ -55,55 +55,63 @@ fn write_columns<D: Draft>(draft: &mut D, line: u16, place: LinePlace, view: &Me
 }
 
 /// Appends the text of a message, of which a line has what fits.
-fn write_text<D: Draft>(draft: &mut D, line: u16, whole: &Whole<'_>, place: LinePlace)
+fn write_text<D: Draft>(
+    draft: &mut D,
+    line: u16,
+    whole: &Whole<'_>,
+    place: LinePlace,
+    answered: Option<AnsweredCall<'_>>,
+)
     requires { IsValidatedWhole whole.now.limits whole.now.bytes.now whole.now.validated.now }
     ensures { (m : MessageTree) → IsWholeOf whole.now m →
         GainsSome D.gains draft.old
-        (IsListed line place whole.now.validated.now.order m) draft.new }
+        (IsListed line place (option_map call_seen answered.entry) whole.now.validated.now.order m)
+        draft.new }
 {
     let view = MessageView::of_validated(whole.bytes, whole.limits, *whole.validated);
     write_columns(draft, line, place, &view);
     let types = whole.validated.fields.signature(whole.bytes);
-    write_about(draft, line, &view, types);
+    write_about(draft, line, answered, &view, types);
     write_body::<Brief, D>(draft, whole, " ", ", ");
 }
 
-/// Appends the message that the bytes are as one line for a reader, which ends in a line feed. They
-/// were validated under the limits.
+/// Appends a validated message as one line for a reader, which ends in a line feed. `answered` is
+/// the call that it answers, if it is a reply to one that is known.
 ///
 /// The line has `width` cells of a terminal at most, or for 0 as many as it takes: what does not
 /// fit is cut, and `~` is in the last cell. It is the message's number; its time of day in UTC, if
 /// one is given; its size in bytes; its sender and destination; for a call and a signal its member
-/// with the types of its values, for a reply the serial of the call; and its values. Names are
-/// shortened by `~` to their last elements. No message is built from the bytes, and only the draft
-/// allocates.
+/// with the types of its values, for a reply the number and the member of the call, and how long it
+/// took, or if the call is not known its serial; and its values. Names are shortened by `~` to their
+/// last elements. No message is built from the bytes, and only the draft allocates.
 ///
 /// ```text
 ///   25 08:15:59.178   146 :1.3         > ~example.Lab ~example.Lab.Quick(s) "world"
-///   26 08:15:59.179    81 :1.2         > :1.3         reply to serial 7 "Hello world"
+///   26 08:15:59.179    81 :1.2         > :1.3         reply to #25 Quick 0.514 ms "Hello world"
 /// ```
 ///
 /// D-Bus Specification, "Message Types" and "Header Fields".
 pub fn write_line<D: Draft>(
     draft: &mut D,
     width: u16,
-    bytes: &[u8],
-    limits: Limits,
-    validated: &Validated,
+    whole: &Whole<'_>,
     place: LinePlace,
+    answered: Option<AnsweredCall<'_>>,
 )
-    requires { IsValidatedWhole limits bytes.now validated.now }
-    ensures { (m : MessageTree) →
-        IsWhole limits bytes.now validated.now.order m validated.now.length →
-        GainsSome D.gains draft.old (IsLine width place validated.now.order m) draft.new }
+    requires { IsValidatedWhole whole.now.limits whole.now.bytes.now whole.now.validated.now }
+    ensures { (m : MessageTree) → IsWholeOf whole.now m →
+        GainsSome D.gains draft.old
+        (IsLine width place (option_map call_seen answered.entry) whole.now.validated.now.order m)
+        draft.new }
 {
-    let whole = Whole {
-        bytes,
-        limits,
-        validated,
-    };
     let mut line = CutDraft::new(draft, width);
-    write_text(&mut Visible { draft: &mut line }, width, &whole, place);
+    write_text(
+        &mut Visible { draft: &mut line },
+        width,
+        whole,
+        place,
+        answered,
+    );
     line.finish();
     draft.push_code(b'\n');
 }

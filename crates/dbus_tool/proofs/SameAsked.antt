@@ -27,11 +27,11 @@ use Rattle.cli_options.specs.Named.{AreRulesOf, HasSettings, HasWanted, IsNamedB
 use Rattle.cli_options.specs.Owners.{AreOwnersOf, IsOwnerWord}
 use Rattle.cli_options.specs.Selections.{AreSameCommand, AreSameSelection}
 use Rattle.cli_options.specs.declared.asked.Asked.{Asked}
-use Rattle.cli_options.specs.declared.asked.Asked.TheVariants.{Messages, Count, Calls, Handshake}
+use Rattle.cli_options.specs.declared.asked.Asked.TheVariants.{Messages, Count, List as Listing, Calls, Handshake}
 use Rattle.cli_options.specs.declared.command.Command.{Command}
 use Rattle.cli_options.specs.declared.file_form.FileForm.{FileForm}
 use Rattle.cli_options.specs.declared.file_form.FileForm.TheVariants as files
-use Rattle.cli_options.specs.declared.command.Command.TheVariants.{Show, Json, List as Listing, Check, Swap, Filter}
+use Rattle.cli_options.specs.declared.command.Command.TheVariants.{Show, Json, Check, Swap, Filter}
 use Rattle.cli_options.specs.declared.form.CountForm.{CountForm}
 use Rattle.cli_options.specs.declared.form.CountForm.TheVariants as written
 use Rattle.cli_options.specs.declared.selection.Selection.{Selection}
@@ -56,6 +56,7 @@ use Rattle.dbus_tool.specs.Handshaking.{GathersLines, IsListed, PutsLines, Write
 abbrev pub AreSameAsked : Asked → Asked → Type 0
 AreSameAsked (Messages c s) (Messages d t) = AreSameCommand c d × (s ≡ t)
 AreSameAsked (Count s f) (Count t g) = (s ≡ t) × (f ≡ g)
+AreSameAsked (Listing s a) (Listing t b) = (s ≡ t) × AreSameSelection a.selection b.selection × (a.width ≡ b.width)
 AreSameAsked (Calls s f) (Calls t g) = (s ≡ t) × (f ≡ g)
 AreSameAsked (Handshake a) (Handshake b) = a ≡ b
 AreSameAsked a b = ⊥
@@ -228,7 +229,6 @@ mark t = slice_index t 0 * 256 + slice_index t 1
 abbrev pub mark_of : Command → ℕ
 mark_of (Show times escapes) = mark (codes "show")
 mark_of (Json times) = mark (codes "json")
-mark_of (Listing selection width) = mark (codes "list")
 mark_of Check = mark (codes "check")
 mark_of (Swap order form) = mark (codes "swap")
 mark_of (Filter selection form) = mark (codes "filter")
@@ -236,7 +236,6 @@ mark_of (Filter selection form) = mark (codes "filter")
 pub marked : (name : Text) (rows : List Row) (command : Command) → NamesCommand name rows command → mark name ≡ mark_of command
 marked name rows (Show times escapes) h = ap mark h.0
 marked name rows (Json times) h = ap mark h.0
-marked name rows (Listing selection width) h = ap mark h.0
 marked name rows Check h = ap mark h
 marked name rows (Swap order form) h = ap mark h.0
 marked name rows (Filter selection form) h = ap mark h.0
@@ -250,7 +249,6 @@ same_file_form files.AsRead files.Raw p q = p.1 (q.0 refl)
 same_command : (name : Text) (rows : List Row) (a b : Command) → NamesCommand name rows a → NamesCommand name rows b → AreSameCommand a b
 same_command name rows (Show a x) (Show b y) p q = (same_flag a b p.1 q.1, same_flag x y p.2 q.2)
 same_command name rows (Json a) (Json b) p q = same_absent a b p.1 q.1
-same_command name rows (Listing a v) (Listing b w) p q = (same_selection rows a b p.1 q.1, same_number _ 80 v w p.2.0 q.2.0)
 same_command name rows Check Check p q = tt
 same_command name rows (Swap a f) (Swap b g) p q = (same_order_word a b (some_is (order_word a) (order_word b) (sym p.1 ∙ q.1)), same_file_form f g p.2 q.2)
 same_command name rows (Filter a f) (Filter b g) p q = (same_selection rows a b p.1 q.1, same_file_form f g p.2 q.2)
@@ -275,7 +273,6 @@ same_wanted rows a b p q =
 no_count : (name : Text) (rows : List Row) (command : Command) → NamesCommand name rows command → name ≡ codes "count" → ⊥
 no_count name rows (Show times escapes) p e = omega (arith, ap mark p.0, ap mark e)
 no_count name rows (Json times) p e = omega (arith, ap mark p.0, ap mark e)
-no_count name rows (Listing selection width) p e = omega (arith, ap mark p.0, ap mark e)
 no_count name rows Check p e = omega (arith, marked name rows Check p, ap mark e)
 no_count name rows (Swap order form) p e = omega (arith, ap mark p.0, ap mark e)
 no_count name rows (Filter selection form) p e = omega (arith, ap mark p.0, ap mark e)
@@ -283,15 +280,20 @@ no_count name rows (Filter selection form) p e = omega (arith, ap mark p.0, ap m
 no_calls : (name : Text) (rows : List Row) (command : Command) → NamesCommand name rows command → name ≡ codes "calls" → ⊥
 no_calls name rows (Show times escapes) p e = omega (arith, ap mark p.0, ap mark e)
 no_calls name rows (Json times) p e = omega (arith, ap mark p.0, ap mark e)
-no_calls name rows (Listing selection width) p e = omega (arith, ap mark p.0, ap mark e)
 no_calls name rows Check p e = omega (arith, marked name rows Check p, ap mark e)
 no_calls name rows (Swap order form) p e = omega (arith, ap mark p.0, ap mark e)
 no_calls name rows (Filter selection form) p e = omega (arith, ap mark p.0, ap mark e)
 
+no_list : (name : Text) (rows : List Row) (command : Command) → NamesCommand name rows command → name ≡ codes "list" → ⊥
+no_list name rows (Show times escapes) p e = omega (arith, ap mark p.0, ap mark e)
+no_list name rows (Json times) p e = omega (arith, ap mark p.0, ap mark e)
+no_list name rows Check p e = omega (arith, marked name rows Check p, ap mark e)
+no_list name rows (Swap order form) p e = omega (arith, ap mark p.0, ap mark e)
+no_list name rows (Filter selection form) p e = omega (arith, ap mark p.0, ap mark e)
+
 no_handshake : (name : Text) (rows : List Row) (command : Command) → NamesCommand name rows command → name ≡ codes "handshake" → ⊥
 no_handshake name rows (Show times escapes) p e = omega (arith, ap mark p.0, ap mark e)
 no_handshake name rows (Json times) p e = omega (arith, ap mark p.0, ap mark e)
-no_handshake name rows (Listing selection width) p e = omega (arith, ap mark p.0, ap mark e)
 no_handshake name rows Check p e = omega (arith, marked name rows Check p, ap mark e)
 no_handshake name rows (Swap order form) p e = omega (arith, ap mark p.0, ap mark e)
 no_handshake name rows (Filter selection form) p e = omega (arith, ap mark p.0, ap mark e)
@@ -302,6 +304,16 @@ same_named (Some sub) (Messages c s) (Messages d t) p q = (same_command sub.0 su
 same_named (Some sub) (Count s f) (Count t g) p q = (same_settings sub.1 s t p.1 q.1, same_form f g p.2 q.2)
 same_named (Some sub) (Calls s f) (Calls t g) p q = (same_settings sub.1 s t p.1 q.1, same_wanted sub.1 f g p.2 q.2)
 same_named (Some sub) (Handshake x) (Handshake y) p q = same_side_word x y (some_is (side_word x) (side_word y) (sym p.1 ∙ q.1))
+same_named (Some sub) (Listing s a) (Listing t b) p q =
+    (same_settings sub.1 s t p.1 q.1, same_selection sub.1 a.selection b.selection p.2.selection q.2.selection, same_number _ 80 a.width b.width p.2.width.0 q.2.width.0)
+same_named (Some sub) (Messages c s) (Listing t b) p q = no_list sub.0 sub.1 c p.0 q.0
+same_named (Some sub) (Listing s a) (Messages d t) p q = no_list sub.0 sub.1 d q.0 p.0
+same_named (Some sub) (Count s f) (Listing t b) p q = absurd (let e = sym (ap mark p.0) ∙ ap mark q.0 in omega (arith, e))
+same_named (Some sub) (Listing s a) (Count t g) p q = absurd (let e = sym (ap mark p.0) ∙ ap mark q.0 in omega (arith, e))
+same_named (Some sub) (Calls s f) (Listing t b) p q = absurd (let e = sym (ap mark p.0) ∙ ap mark q.0 in omega (arith, e))
+same_named (Some sub) (Listing s a) (Calls t g) p q = absurd (let e = sym (ap mark p.0) ∙ ap mark q.0 in omega (arith, e))
+same_named (Some sub) (Handshake x) (Listing t b) p q = absurd (let e = sym (ap mark p.0) ∙ ap mark q.0 in omega (arith, e))
+same_named (Some sub) (Listing s a) (Handshake y) p q = absurd (let e = sym (ap mark p.0) ∙ ap mark q.0 in omega (arith, e))
 same_named (Some sub) (Messages c s) (Count t g) p q = no_count sub.0 sub.1 c p.0 q.0
 same_named (Some sub) (Messages c s) (Handshake y) p q = no_handshake sub.0 sub.1 c p.0 q.0
 same_named (Some sub) (Count s f) (Messages d t) p q = no_count sub.0 sub.1 d q.0 p.0

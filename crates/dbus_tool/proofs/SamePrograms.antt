@@ -30,11 +30,11 @@ use Rattle.cli_options.specs.Owners.{lacks_owner}
 use Rattle.cli_options.specs.declared.asked.Asked.{Asked}
 use Rattle.cli_options.specs.declared.file_form.FileForm.{FileForm}
 use Rattle.cli_options.specs.declared.file_form.FileForm.TheVariants.{AsRead, Raw}
-use Rattle.cli_options.specs.declared.asked.Asked.TheVariants.{Messages, Count, Calls, Handshake}
+use Rattle.cli_options.specs.declared.asked.Asked.TheVariants.{Messages, Count, List as Listing, Calls, Handshake}
 use Rattle.cli_options.specs.declared.form.CountForm.{CountForm}
 use Rattle.dbus_handshake_input.specs.declared.side.Side.{Side}
 use Rattle.cli_options.specs.declared.command.Command.{Command}
-use Rattle.cli_options.specs.declared.command.Command.TheVariants.{Filter, List as Listing}
+use Rattle.cli_options.specs.declared.command.Command.TheVariants.{Filter}
 use Rattle.cli_options.specs.declared.selection.Selection.{Selection}
 use Rattle.cli_options.specs.declared.settings.Settings.{Settings}
 use Rattle.cli_options.specs.declared.wanted_calls.WantedCalls.{WantedCalls}
@@ -81,9 +81,9 @@ takes_none name rows own is f l (inr named) = l (sym is ∙ ap mark named.0)
 no_fault : (sub : Option (Text × List Row)) (asked : Asked) (refused : RefusedRule) → Names sub asked → HasRuleFault sub refused → ⊥
 no_fault None asked refused p h = p
 no_fault (Some sub) (Messages (Filter selection form) settings) refused p h = none_refused sub.1 selection refused p.0.1 h.0.refuses
-no_fault (Some sub) (Messages (Listing selection width) settings) refused p h = none_refused sub.1 selection refused p.0.1 h.0.refuses
 no_fault (Some sub) (Messages command settings) refused p h = takes_none sub.0 sub.1 (mark_of command) (marked sub.0 sub.1 command p.0) (λ e. omega (arith, e)) (λ e. omega (arith, e)) h.0.named
 no_fault (Some sub) (Count settings form) refused p h = takes_none sub.0 sub.1 (mark (codes "count")) (ap mark p.0) (λ e. omega (arith, e)) (λ e. omega (arith, e)) h.0.named
+no_fault (Some sub) (Listing settings wanted) refused p h = none_refused sub.1 wanted.selection refused p.2.selection h.0.refuses
 no_fault (Some sub) (Calls settings wanted) refused p h = takes_none sub.0 sub.1 (mark (codes "calls")) (ap mark p.0) (λ e. omega (arith, e)) (λ e. omega (arith, e)) h.0.named
 no_fault (Some sub) (Handshake side) refused p h = takes_none sub.0 sub.1 (mark (codes "handshake")) (ap mark p.0) (λ e. omega (arith, e)) (λ e. omega (arith, e)) h.0.named
 
@@ -107,6 +107,11 @@ one_way_too (Messages c s) (Messages d t) h one = ((acts_as c d h.0).exact one.0
 one_way_too (Count s f) (Count t g) h one = subst (λ (x : Settings). x.explains ≡ false) h.0 one
 one_way_too (Calls s f) (Calls t g) h one = subst (λ (x : Settings). x.explains ≡ false) h.0 one
 one_way_too (Handshake a) (Handshake b) h one = tt
+one_way_too (Listing s a) b h one = absurd one
+one_way_too (Messages c s) (Listing t b) h one = absurd h
+one_way_too (Count s f) (Listing t b) h one = absurd h
+one_way_too (Calls s f) (Listing t b) h one = absurd h
+one_way_too (Handshake a) (Listing t b) h one = absurd h
 one_way_too (Handshake a) (Calls t g) h one = absurd h
 one_way_too (Messages c s) (Calls t g) h one = absurd h
 one_way_too (Count s f) (Calls t g) h one = absurd h
@@ -122,7 +127,7 @@ one_way_too (Count s f) (Handshake b) h one = absurd h
 
 -- without a note
 module _ {R W E : Type 0} (left : R → Option (List ℕ)) (calls failures : R → ℕ) (packets : R → Option Packets) (packet : R → Option Packet) (old new : ReadAhead R) (w : Writing W) (e : Writing E) (settings : Settings) where
-  unnoted : (c : Command) (end : ExitStatus) → end ≢ status.Failed → settings.explains ≡ false → RunsNoted left calls failures packets packet old new w e settings c end
+  unnoted : (c : Command) (end : ExitStatus) → end ≢ status.Failed → settings.explains ≡ false → RunsNoted left calls failures packets packet old new w e settings (lacks_owner c) (Run c) end
       → DoesTask left calls failures packets packet old new w e settings (Run c) end
   unnoted c end done off does = elim does [
     | inl h ↦ (
@@ -312,6 +317,11 @@ module _ {R S W V E F : Type 0} (one_table : OneTable) (left : R → Option (Lis
       called_alike settings wanted told one does (subst (λ (x : WantedCalls). Does other_left other_calls other_failures other_packets other_packet s0 s1 v f (Ok (Calls settings x)) other) (sym same.1) there)
   alike (Handshake side) (Handshake b) same one told does doing =
       listed_alike side does (subst (λ (x : Side). Does other_left other_calls other_failures other_packets other_packet s0 s1 v f (Ok (Handshake x)) other) (sym same) doing)
+  alike (Listing t a) b same one told does doing = absurd one
+  alike (Messages c t) (Listing u b) same one told does doing = absurd same
+  alike (Count t g) (Listing u b) same one told does doing = absurd same
+  alike (Calls t g) (Listing u b) same one told does doing = absurd same
+  alike (Handshake side) (Listing u b) same one told does doing = absurd same
   alike (Handshake side) (Messages d u) same one told does doing = absurd same
   alike (Handshake side) (Count u g) same one told does doing = absurd same
   alike (Messages c t) (Count u g) same one told does doing = absurd same

@@ -10,7 +10,7 @@ use Rattle.cli_options.specs.Named.{IsNamedBy}
 use Rattle.cli_options.specs.declared.asked.Asked.{Asked}
 use Rattle.cli_options.specs.declared.file_form.FileForm.{FileForm}
 use Rattle.cli_options.specs.declared.file_form.FileForm.TheVariants.{AsRead, Raw}
-use Rattle.cli_options.specs.declared.asked.Asked.TheVariants.{Messages, Count, Calls, Handshake}
+use Rattle.cli_options.specs.declared.asked.Asked.TheVariants.{Messages, Count, List as Listing, Calls, Handshake}
 use Rattle.cli_options.specs.declared.settings.Settings.{Settings}
 use Rattle.cli_report.specs.Devices.{Writing}
 use Rattle.cli_report.specs.declared.ending.ExitStatus.{ExitStatus}
@@ -20,11 +20,12 @@ use Rattle.cli_run.specs.Output.{IsExact, form_of}
 use Rattle.dbus_tool.specs.Handshaking.{TakesHandshake, ahead}
 use Rattle.dbus_tool.specs.Words.{RunsWords}
 
--- what is asked for is done in one way: it is not `json` and no `show` with times, and nothing is
--- explained
+-- what is asked for is done in one way: it is neither `json` nor `list` and no `show` with times, and
+-- nothing is explained
 abbrev pub IsOneWay : Asked → Type 0
 IsOneWay (Messages command settings) = IsExact command × (settings.explains ≡ false)
 IsOneWay (Count settings form) = settings.explains ≡ false
+IsOneWay (Listing settings wanted) = ⊥
 IsOneWay (Calls settings wanted) = settings.explains ≡ false
 IsOneWay (Handshake side) = Unit {0}
 
@@ -54,10 +55,11 @@ module _ {R S : Type 0} (left : R → Option (List ℕ)) (calls failures : R →
   RunAlike Raw settings = TellAlike settings
   RunAlike AsRead settings = AreOfSamePacketsFrom settings
 
-  -- what is asked for has one output: `count` and `calls` write times of packets too
+  -- what is asked for has one output: `count`, `list` and `calls` write times of packets too
   abbrev pub AskAlike : Asked → Type 0
   AskAlike (Messages command settings) = RunAlike (form_of command) settings
   AskAlike (Count settings form) = AreOfSamePacketsFrom settings
+  AskAlike (Listing settings wanted) = AreOfSamePacketsFrom settings
   AskAlike (Calls settings wanted) = AreOfSamePacketsFrom settings
   AskAlike (Handshake side) = Unit {0}
 

@@ -11,17 +11,17 @@ use Rattle.dbus_device.specs.declared.packet.Packet.{Packet}
 use Rattle.dbus_device.specs.declared.writing.WrittenOnly.{WrittenOnly}
 use Rattle.cli_options.specs.Named.{IsNamedBy}
 use Rattle.cli_options.specs.Told.{TellsFault}
-use Rattle.cli_options.specs.Owners.{lacks_owner}
+use Rattle.cli_options.specs.Owners.{lacks_owner, selection_lacks_owner}
 use Rattle.cli_run.specs.ByName.{CountsByName}
 use Rattle.cli_run.specs.CallListing.{ListsCalls}
+use Rattle.cli_run.specs.LineListing.{ListsLines}
 use Rattle.cli_report.specs.Devices.{Reading, Writing, writing}
 use Rattle.cli_run.specs.Running.{RunsWith}
 use Rattle.cli_report.specs.Telling.{Told}
 use Rattle.dbus_handshake_input.specs.declared.fault.HandshakeFault.{HandshakeFault}
 use Rattle.dbus_handshake_input.specs.declared.read_ahead.ReadAhead.{ReadAhead}
 use Rattle.cli_options.specs.declared.asked.Asked.{Asked}
-use Rattle.cli_options.specs.declared.asked.Asked.TheVariants.{Messages, Count, Calls, Handshake}
-use Rattle.cli_options.specs.declared.command.Command.{Command}
+use Rattle.cli_options.specs.declared.asked.Asked.TheVariants.{Messages, Count, List as Listing, Calls, Handshake}
 use Rattle.cli_options.specs.declared.form.CountForm.{CountForm}
 use Rattle.cli_options.specs.declared.form.CountForm.TheVariants as asked
 use Rattle.dbus_count.specs.declared.form.Form as tables
@@ -37,7 +37,7 @@ use Rattle.cli_report.specs.declared.ending.ExitStatus.TheVariants as status
 use Rattle.cli_report.specs.declared.ending.Cause.TheVariants as cause
 use Rattle.dbus_tool.specs.Handshaking.{Shows, StopsBy, TakesHandshake, TellsHandshake, ahead, Lists}
 use Rattle.dbus_tool.specs.declared.words.Task.{Task}
-use Rattle.dbus_tool.specs.declared.words.Task.TheVariants.{Run, CountAll, ListAll}
+use Rattle.dbus_tool.specs.declared.words.Task.TheVariants.{Run, CountAll, ListAll, ListLines}
 
 -- What is written of a rule that is refused.
 
@@ -72,12 +72,13 @@ table_form asked.Json = written.Json
 abbrev pub calls_wanted : WantedCalls → Wanted
 calls_wanted wanted = record { form = if wanted.as_json then InJson else InWords; unanswered = wanted.unanswered; errors = wanted.errors; slower = wanted.slower }
 
--- what is done with messages by settings: a command is run, they are counted by their names, or
--- their calls are listed
+-- what is done with messages by settings: a command is run, they are counted by their names, their
+-- calls are listed, or they are
 abbrev pub DoesBy : {R W E : Type 0} → Reading R → Writing W → Writing E → Settings → Task → ExitStatus → Type 0
 DoesBy r w e settings (Run command) end = RunsWith r w e settings (2 ^ 32) command end
 DoesBy r w e settings (CountAll form) end = CountsByName r w e settings (table_form form) (2 ^ 32) end
 DoesBy r w e settings (ListAll wanted) end = ListsCalls r w e settings (calls_wanted wanted) (2 ^ 32) end
+DoesBy r w e settings (ListLines wanted) end = ListsLines r w e settings wanted (2 ^ 32) end
 
 -- what is said of a rule whose sender has no owner
 abbrev pub owner_note : List ℕ
@@ -98,17 +99,18 @@ module _ {R W E : Type 0} (left : R → Option (List ℕ)) (calls failures : R �
       ⊎ ((why : HandshakeFault) × TakesHandshake left calls failures settings.handshake old new (Err why) × (w.new ≡ w.old) × TellsHandshake e.held e.failures e.old e.new why end)
 
 module _ {R W E : Type 0} (left : R → Option (List ℕ)) (calls failures : R → ℕ) (packets : R → Option Packets) (packet : R → Option Packet) (old new : ReadAhead R) (w : Writing W) (e : Writing E) where
-  -- a note is written before a command is run; or a write of it failed
-  abbrev pub RunsNoted : Settings → Command → ExitStatus → Type 0
-  RunsNoted settings command end =
-      ((begun : E) × Notes e.held e.failures (settings.explains && lacks_owner command) e.old begun (Ok tt)
-      × DoesTask left calls failures packets packet old new w (writing e.held e.failures begun e.new) settings (Run command) end)
-      ⊎ ((new ≡ old) × (w.new ≡ w.old) × (end ≡ status.Failed) × (n : WrittenOnly) × Notes e.held e.failures (settings.explains && lacks_owner command) e.old e.new (Err n))
+  -- a note is written before the task is done, if an owner is not known; or a write of it failed
+  abbrev pub RunsNoted : Settings → (lacks_owner : Bool) → Task → ExitStatus → Type 0
+  RunsNoted settings lacks_owner task end =
+      ((begun : E) × Notes e.held e.failures (settings.explains && lacks_owner) e.old begun (Ok tt)
+      × DoesTask left calls failures packets packet old new w (writing e.held e.failures begun e.new) settings task end)
+      ⊎ ((new ≡ old) × (w.new ≡ w.old) × (end ≡ status.Failed) × (n : WrittenOnly) × Notes e.held e.failures (settings.explains && lacks_owner) e.old e.new (Err n))
 
-  -- what is done for a command by its settings, for `count`, for `calls`, for the side whose
-  -- handshake is listed, or for words that name nothing
+  -- what is done for a command by its settings, for `count`, for `list`, for `calls`, for the side
+  -- whose handshake is listed, or for words that name nothing
   abbrev pub Does : Result Asked UsageFault → ExitStatus → Type 0
-  Does (Ok (Messages command settings)) end = RunsNoted settings command end
+  Does (Ok (Messages command settings)) end = RunsNoted settings (lacks_owner command) (Run command) end
+  Does (Ok (Listing settings wanted)) end = RunsNoted settings (selection_lacks_owner wanted.selection) (ListLines wanted) end
   Does (Ok (Count settings form)) end = DoesTask left calls failures packets packet old new w e settings (CountAll form) end
   Does (Ok (Calls settings wanted)) end = DoesTask left calls failures packets packet old new w e settings (ListAll wanted) end
   Does (Ok (Handshake side)) end = Lists left calls failures old new w e side end

@@ -12,7 +12,7 @@ mod words;
 
 pub use cli_options::{
     Asked, Command, CountForm, RefusedRule, Selection, Settings, Side, UsageFault, WantedCalls,
-    Window, command_of,
+    WantedLines, Window, command_of,
 };
 pub use cli_report::ExitStatus;
 pub use cli_run::{run, run_reads, run_with, run_within};

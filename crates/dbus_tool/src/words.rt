@@ -1,6 +1,5 @@
 //! The program over the words of its command line.
 ghost use Rattle.std.specs.Prelude.{◌≡◌, ◌&&◌, map, string_bytes};
-ghost use Rattle.cli_options.specs.Owners.{lacks_owner};
 ghost use Rattle.cli_report.specs.Devices.{writing};
 ghost use Rattle.dbus_tool.specs.Handshaking.{Shows, TakesHandshake, TellsHandshake, Lists};
 ghost use Rattle.dbus_tool.specs.Words.{DoesTask, Notes, RefusesRule, RunsWords, ShowsText, calls_wanted, table_form};
@@ -9,10 +8,11 @@ use crate::lines::handshake_line;
 use crate::listing::write_lines;
 use crate::rule_lines::rule_text;
 use cli_options::{
-    Asked, Command, CountForm, RefusedRule, Settings, UsageFault, WantedCalls, command_of,
+    Asked, Command, CountForm, RefusedRule, Settings, UsageFault, WantedCalls, WantedLines,
+    command_of,
 };
 use cli_report::{Cause, ExitStatus, Unwritten, give_up};
-use cli_run::{count_by_name, list_calls, run_with};
+use cli_run::{count_by_name, list_calls, list_lines, run_with};
 use dbus_call_lines::{Form, Wanted};
 use dbus_handshake_input::{HandshakeFault, ReadAhead, Side, pass_handshake};
 use dbus_stream::{MOST_READS, Sink, Source, WrittenOnly, write_all};
@@ -30,7 +30,7 @@ const OWNER_NOTE: &str =
 /// explain it, if they ask for explanations.
 ///
 /// If they ask for explanations, and a rule of `list` or `filter` asks for a well-known sender of
-/// which no owner is known, as `cli_options::Command::lacks_owner` says, a line on the second
+/// which no owner is known, as `cli_options::Selection::lacks_owner` says, a line on the second
 /// writer says so first, and how to give owners.
 ///
 /// If they name the side of a handshake, that is taken first, as
@@ -43,6 +43,9 @@ const OWNER_NOTE: &str =
 /// If they name `count`, the second writer gets the report of what is refused as from [`run_with`],
 /// and then the first gets the tables of the number of messages with each name, as
 /// [`dbus_count::Counts::tables`] says.
+///
+/// If they name `list`, the first writer gets the lines of the messages, as from
+/// [`cli_run::list_lines`].
 ///
 /// If they name `calls`, the first writer gets the lines of the calls in the messages, as from
 /// [`cli_run::list_calls`].
@@ -70,10 +73,25 @@ pub fn run_words<R: Source, W: Sink, E: Sink>(
         (map string_bytes words.now) result }
 {
     match command_of(alloc, words) {
-        Ok(Asked::Messages(command, settings)) => match note_owners(&command, settings, second) {
-            Ok(()) => do_task(alloc, Task::Run(command), settings, reader, first, second),
-            Err(WrittenOnly(_)) => ExitStatus::Failed,
-        },
+        Ok(Asked::Messages(command, settings)) => {
+            match note_owners(command.lacks_owner(), settings, second) {
+                Ok(()) => do_task(alloc, Task::Run(command), settings, reader, first, second),
+                Err(WrittenOnly(_)) => ExitStatus::Failed,
+            }
+        }
+        Ok(Asked::List(settings, wanted)) => {
+            match note_owners(wanted.selection.lacks_owner(), settings, second) {
+                Ok(()) => do_task(
+                    alloc,
+                    Task::ListLines(wanted),
+                    settings,
+                    reader,
+                    first,
+                    second,
+                ),
+                Err(WrittenOnly(_)) => ExitStatus::Failed,
+            }
+        }
         Ok(Asked::Count(settings, form)) => {
             do_task(alloc, Task::CountAll(form), settings, reader, first, second)
         }
@@ -97,16 +115,16 @@ pub fn run_words<R: Source, W: Sink, E: Sink>(
     }
 }
 
-// Says of a rule whose sender has no owner that it has none, if the settings explain.
+// Says of a rule whose sender has no owner that it has none, if there is one and the settings
+// explain.
 fn note_owners<E: Sink>(
-    command: &Command,
+    lacks_owner: bool,
     settings: Settings,
     second: &mut E,
 ) -> Result<(), WrittenOnly>
-    ensures { Notes E.held E.failures (settings.explains && lacks_owner command.now) second.old
-        second.new result }
+    ensures { Notes E.held E.failures (settings.explains && lacks_owner) second.old second.new result }
 {
-    if settings.explains && command.lacks_owner() {
+    if settings.explains && lacks_owner {
         write_all(second, OWNER_NOTE.as_bytes())
     } else {
         Ok(())
@@ -122,6 +140,8 @@ enum Task {
     CountAll(CountForm),
     // Their calls are listed.
     ListAll(WantedCalls),
+    // They are listed, a line for each.
+    ListLines(WantedLines),
 }
 
 // Does it by the settings, after the handshake if they name its side.
@@ -148,6 +168,9 @@ fn do_task<R: Source, W: Sink, E: Sink>(
             }
             Task::ListAll(wanted) => {
                 list_calls(alloc, settings, calls_wanted(wanted), reader, first, second)
+            }
+            Task::ListLines(wanted) => {
+                list_lines(alloc, settings, &wanted, reader, first, second)
             }
         },
         Err(fault) => refuse_handshake(alloc, fault, second),

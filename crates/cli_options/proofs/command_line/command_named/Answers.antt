@@ -17,8 +17,9 @@ returns-in_err-command c =
     let other : c.in-Some.name.now ≡ codes "handshake" → ⊥ = search rules in
     let uncounted : c.in-Some.name.now ≡ codes "count" → ⊥ = search rules in
     let unlisted : c.in-Some.name.now ≡ codes "calls" → ⊥ = search rules in
+    let unlined : c.in-Some.name.now ≡ codes "list" → ⊥ = search rules in
     let p = err_from_is_err_and c.from_residual-in_err-command.result c.from_residual-in_err-command.ensures.1 in
-    rw (sub, p.1, p.2) (told_under_settings (c.in-Some.name.now, _) c.in_ok-settings.settings c.in_err-command.field-0.0 other uncounted unlisted c.in_ok-settings.ensures c.in_err-command.ensures)
+    rw (sub, p.1, p.2) (told_under_settings (c.in-Some.name.now, _) c.in_ok-settings.settings c.in_err-command.field-0.0 other uncounted unlisted unlined c.in_ok-settings.ensures c.in_err-command.ensures)
 
 pub returns : goal.returns
 returns c =

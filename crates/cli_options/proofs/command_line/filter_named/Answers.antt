@@ -1,4 +1,3 @@
-use Rattle.std.proofs.Common.{inl, refl}
 use Rattle.std.proofs.lemmas.Result.{err_from_is_err_and}
 use Rattle.cli_options.proofs.Tells.{unselected_told}
 use Rattle.cli_options.proofs.command_line.filter_named.Goals as goal
@@ -6,4 +5,4 @@ use Rattle.cli_options.proofs.command_line.filter_named.Goals as goal
 pub returns-in_err-selection : goal.returns-in_err-selection
 returns-in_err-selection c =
     let p = err_from_is_err_and c.from_residual.result c.from_residual.ensures.1 in
-    rw (p.1, p.2) (unselected_told _ _ c.in_err-selection.field-0.0 (inl refl) c.in_err-selection.ensures)
+    rw (p.1, p.2) (unselected_told _ c.in_err-selection.field-0.0 c.in_err-selection.ensures)

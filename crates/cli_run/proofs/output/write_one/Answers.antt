@@ -25,9 +25,6 @@ returns-in-JsonLine g c = λ order m whole.
     let told = rw c.told-told.ensures at c.write_json_line.ensures order m whole in
     rw c.in-JsonLine.is told
 
-pub returns-in-Line : goal.returns-in-Line
-returns-in-Line g c = λ order m whole. rw c.in-Line.is (c.write_list_line.ensures order m whole)
-
 pub returns-in-InOrder : goal.returns-in-InOrder
 returns-in-InOrder g c = λ order m whole.
     let form = c.in-InOrder.form in
