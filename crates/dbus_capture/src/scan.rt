@@ -194,6 +194,10 @@ impl Scan {
             self.head.push(piece);
             return piece.len();
         }
+        if self.head.len() == 0 {
+            self.decode(&piece[..missing]);
+            return missing;
+        }
         let stage = self.head.stage();
         let (bytes, size) = mem::replace(&mut self.head, Head::new(stage)).with(&piece[..missing]);
         self.decode(&bytes[..size]);
