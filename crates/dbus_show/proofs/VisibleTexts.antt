@@ -1,15 +1,16 @@
 -- A text whose hidden characters are seen is text, and which characters it has.
-use Rattle.std.proofs.Common.{◌≡◌, ℕ, suc, ◌<◌, List, [], ◌∷◌, ◌++◌, Bool, true, false, cond, refl, sym, ap, ◌∙◌, arith, append-nil}
+use Rattle.std.proofs.Common.{◌≡◌, ℕ, suc, ◌<◌, List, [], ◌∷◌, ◌++◌, Bool, true, false, cond, refl, sym, ap, subst, ◌∙◌, arith, append-nil}
 use Rattle.std.proofs.Math.Utf8.{scalar, scalars}
 use Rattle.std.specs.Char.{encode_utf8}
 use Rattle.std.specs.Char.Escape.{escape_unicode}
 use Rattle.std.specs.List.{AllByRecursion, flat_map}
-use Rattle.std.specs.Str.{IsAscii, IsUtf8, chars, encode_utf8_all}
+use Rattle.std.specs.Str.{IsAscii, IsUtf8, NonePass, chars, encode_utf8_all}
 use Rattle.std.proofs.lemmas.Bool.{and_parts}
 use Rattle.std.proofs.lemmas.Bool.Decides.{nat_tests}
-use Rattle.std.proofs.lemmas.Str.{chars-encodes, encodes-IsAscii, encodes-append, scalars-chars}
-use Rattle.dbus_show.specs.Escapes.{is_hidden, visible}
-use Rattle.dbus_show.proofs.EscapedText.{unicode_ascii}
+use Rattle.std.proofs.lemmas.Str.{IsUtf8-from_ascii, chars-IsAscii, chars-encodes, encodes-IsAscii, encodes-append, scalars-chars}
+use Rattle.dbus_show.specs.Escapes.{is_escaped, is_hidden, visible}
+use Rattle.dbus_show.specs.declared.escapes.Escapes.TheVariants.{Hidden}
+use Rattle.dbus_show.proofs.EscapedText.{plain_itself, unicode_ascii}
 
 pub both_scalars : (a b : List ℕ) → scalars a ≡ true → scalars b ≡ true → scalars (a ++ b) ≡ true
 both_scalars [] b p q = q
@@ -57,3 +58,16 @@ module _ (text : List ℕ) (utf8 : IsUtf8 text) where
 
   pub visible_utf8 : IsUtf8 (visible text)
   visible_utf8 = (flat_map shown (chars text), (all_scalars (chars text) (scalars-chars text utf8), shown_all (chars text)))
+
+-- ---- texts without hidden characters
+
+ascii_seen : (c : ℕ) → c < 128 → is_hidden c ≡ false
+ascii_seen c low = grind (arith, nat_tests)
+
+none_hidden : (text : List ℕ) → IsAscii text → NonePass (is_escaped Hidden) text
+none_hidden [] ascii = tt
+none_hidden (c ∷ cs) ascii = (ascii_seen c (ascii 0), none_hidden cs (λ i. ascii (suc i)))
+
+-- a text of ASCII is as it is
+pub ascii_visible : (text : List ℕ) → IsAscii text → visible text ≡ text
+ascii_visible text ascii = plain_itself Hidden text (IsUtf8-from_ascii text ascii) (subst (NonePass (is_escaped Hidden)) (sym (chars-IsAscii text ascii)) (none_hidden text ascii))

@@ -58,6 +58,9 @@ pub fn write_hex<D: Draft>(draft: &mut D, bytes: &[u8])
 {
     let mut start = 0;
     while bytes.len() - start > BLOCK {
+        if draft.is_full() {
+            return;
+        }
         write_block(draft, &bytes[start..start + BLOCK]);
         start += BLOCK;
     }

@@ -20,7 +20,12 @@ impl<D: Draft> Draft for Visible<'_, D> {
     ghost gains = { Sees D.gains };
 
     fn push_str(&mut self, text: &str) {
-        if !self.draft.is_full() {
+        if self.draft.is_full() {
+            return;
+        }
+        if text.is_ascii() {
+            self.draft.push_str(text);
+        } else {
             write_escaped(self.draft, text, Escapes::Hidden);
         }
     }

@@ -1,12 +1,19 @@
-use Rattle.std.proofs.Common.{refl}
+use Rattle.std.proofs.Common.{ℕ, List, refl, rules, sym, subst}
 use Rattle.dbus_show.specs.Escapes.{visible}
-use Rattle.dbus_show.proofs.VisibleTexts.{visible_utf8}
+use Rattle.dbus_show.proofs.VisibleTexts.{ascii_visible, visible_utf8}
 use Rattle.dbus_show.proofs.visible.VisibleDraft.push_str.Goals as goal
 
 -- src/visible.rt:22:5
-pub returns-else-not-is_full : goal.returns-else-not-is_full
-returns-else-not-is_full g c = record {
+pub returns-then-is_full : goal.returns-then-is_full
+returns-then-is_full g c = record {
   same = refl;
   is_text = c.utf8.text;
-  gained = c.is_full.ensures c.if-not-is_full.false (visible c.args.text.now) (visible_utf8 c.args.text.now c.utf8.text);
+  gained = c.is_full.ensures c.if-is_full.true (visible c.args.text.now) (visible_utf8 c.args.text.now c.utf8.text);
+}
+
+pub returns-then-is_ascii : goal.returns-then-is_ascii
+returns-then-is_ascii g c = record {
+  same = refl;
+  is_text = c.utf8.text;
+  gained = subst (λ (t : List ℕ). g.D.Draft.gains c.args.self.now.draft.now t c.push_str.new.self) (sym (ascii_visible c.args.text.now (search rules))) c.push_str.ensures;
 }
