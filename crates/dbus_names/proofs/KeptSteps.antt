@@ -12,6 +12,10 @@ pub on_err : {T E P Q : Type 0} (r : Result T E) → (P → Q) → OnErr r P →
 on_err (Ok x) f p = p
 on_err (Err e) f p = f p
 
+pub both_ok : {T E : Type 0} (P Q : Type 0) (r : Result T E) → OnOk r P → OnOk r Q → OnOk r (P × Q)
+both_ok P Q (Ok x) p q = (p, q)
+both_ok P Q (Err e) p q = p
+
 -- Of a waiting call something is seen.
 module _ {T U : Type 0} (f : T → U) where
   abbrev pub seen : Waiting T → Waiting U

@@ -1,2 +1,4 @@
 pub mod KeptSteps
 pub mod OpenNames
+pub mod Naming
+pub mod WantedNames

@@ -1,5 +1,6 @@
--- The calls that a table of names keeps are the open ones whose replies tell who has a name.
-use Rattle.std.specs.Prelude.{◌≡◌, ◌↔◌, ℕ, List, Bool, Some}
+-- The calls that a table of names keeps are the open ones whose replies tell who has a name, and the
+-- names by which connections are known are wanted.
+use Rattle.std.specs.Prelude.{◌≡◌, ◌↔◌, ℕ, List, Bool, true, Some}
 use Rattle.dbus_message_model.specs.Messages.{MessageTree}
 use Rattle.dbus_rule_set.specs.Owners.{OwnerSet}
 use Rattle.dbus_calls.specs.Events.{caller_of}
@@ -15,3 +16,7 @@ IsAsked wants messages caller serial asked = (call : MessageTree) × IsOpen (λ 
 abbrev pub KeepsOpenCalls : Type 0
 KeepsOpenCalls = (wants : List ℕ → Bool) (owners : OwnerSet) (messages : List MessageTree) (caller : List ℕ) (serial : ℕ) (asked : NameCall) →
     ((known_after_all wants (known_first owners) messages).calls caller serial ≡ Some asked) ↔ IsAsked wants messages caller serial asked
+
+-- a name by which a connection is known is wanted
+abbrev pub KnowsWanted : Type 0
+KnowsWanted = (wants : List ℕ → Bool) (owners : OwnerSet) (messages : List MessageTree) (unique name : List ℕ) → (known_after_all wants (known_first owners) messages).names unique ≡ Some name → wants name ≡ true

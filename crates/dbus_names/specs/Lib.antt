@@ -1,3 +1,4 @@
+pub mod Filters
 pub mod NameCalls
 pub mod Telling
 pub mod NameStates

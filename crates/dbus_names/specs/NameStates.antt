@@ -1,5 +1,8 @@
 -- Who has which name, as the messages of an input tell it one after the other.
 use Rattle.std.specs.Prelude.{ℕ, List, [], ◌∷◌, Bool, true, false, Option, None, Some, if◌then◌else◌}
+use Rattle.std.specs.FinSet.{contains}
+use Rattle.std.specs.Option.{option_or}
+use Rattle.std.specs.Str.{bytes_eq}
 use Rattle.dbus_message_model.specs.Messages.{MessageTree}
 use Rattle.dbus_rule_set.specs.Owners.{OwnerSet, owned_anew, without_owner, without_owners}
 use Rattle.dbus_calls.specs.Events.{Event, event_of}
@@ -10,14 +13,19 @@ use Rattle.dbus_calls.specs.Waiting.{Waiting, after_reply, answered, with_call, 
 use Rattle.dbus_names.specs.NameCalls.{NameCall, name_call_of, receiver_of}
 use Rattle.dbus_names.specs.Telling.{told_by}
 
--- the owners of names, and the open calls whose replies tell more
+-- the name by which each connection is known, of which this is the unique name
+abbrev pub KnownNames : Type 0
+KnownNames = (unique : List ℕ) → Option (List ℕ)
+
+-- the owners of names, the open calls whose replies tell more, and the names of connections
 pub record NameState : Type 0 where
   pub owners : OwnerSet
   pub calls : Waiting NameCall
+  pub names : KnownNames
 
--- these are known, and no call is open
+-- these are known, no call is open, and no message told a name
 abbrev pub known_first : OwnerSet → NameState
-known_first owners = record { owners = owners; calls = no_calls }
+known_first owners = record { owners = owners; calls = no_calls; names = λ unique. None }
 
 -- the owners after what is said of one
 abbrev pub owners_by : Change → OwnerSet → OwnerSet
@@ -43,12 +51,38 @@ calls_after w (Replies c s sender) asked = after_reply receiver_of (w c s) c s s
 calls_after w (Leaves name) asked = without_caller name w
 calls_after w Passes asked = w
 
+-- ---- the name of a connection
+
+-- the name, if the connection has it
+abbrev pub if_had : OwnerSet → (unique : List ℕ) → Option (List ℕ) → Option (List ℕ)
+if_had os unique None = None
+if_had os unique (Some name) = if contains os (record { name = name; unique = unique }) then Some name else None
+
+-- the name that it is said to have from now on
+abbrev pub name_said : Option Change → (unique : List ℕ) → Option (List ℕ)
+name_said (Some (Owned o)) unique = if bytes_eq o.unique unique then Some o.name else None
+name_said change unique = None
+
+-- after what is said, with these owners: it keeps its name as long as it has it, or else it is known
+-- by the one that it is said to have
+abbrev pub named_by : Option Change → OwnerSet → KnownNames → KnownNames
+named_by said os names unique = option_or (if_had os unique (names unique)) (if_had os unique (name_said said unique))
+
+-- a connection that is gone is known by none
+abbrev pub names_left : Event → KnownNames → KnownNames
+names_left (Leaves name) names unique = if bytes_eq name unique then None else names unique
+names_left event names unique = names unique
+
 -- Of the names that are wanted.
 module _ (wants : List ℕ → Bool) where
   -- the owners after what is said, if it is of such a name
   abbrev pub owners_after : Option Change → OwnerSet → OwnerSet
   owners_after None os = os
   owners_after (Some change) os = if wants (name_of change) then owners_by change os else os
+
+  abbrev pub wanted_change : Option Change → Option Change
+  wanted_change None = None
+  wanted_change (Some change) = if wants (name_of change) then Some change else None
 
   abbrev pub wanted_call : Option NameCall → Option NameCall
   wanted_call None = None
@@ -58,13 +92,18 @@ module _ (wants : List ℕ → Bool) where
   abbrev pub asked_by : MessageTree → Option NameCall
   asked_by m = wanted_call (name_call_of m)
 
+  -- what is known after a message that says this
+  abbrev pub known_by : (said : Option Change) → NameState → MessageTree → NameState
+  known_by said state m =
+      record {
+        owners = owners_after said state.owners;
+        calls = calls_after state.calls (event_of m) (asked_by m);
+        names = named_by (wanted_change said) (owners_after said state.owners) (names_left (event_of m) state.names);
+      }
+
   -- what is known after a message
   abbrev pub known_after : NameState → MessageTree → NameState
-  known_after state m =
-      record {
-        owners = owners_after (told_by (answered_by state.calls (event_of m)) m) state.owners;
-        calls = calls_after state.calls (event_of m) (asked_by m);
-      }
+  known_after state m = known_by (told_by (answered_by state.calls (event_of m)) m) state m
 
   -- after several
   abbrev pub known_after_all : NameState → List MessageTree → NameState

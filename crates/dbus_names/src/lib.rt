@@ -8,10 +8,13 @@
 //! at [`Names`].
 #![tactic(auto)]
 
+mod filter;
+mod first_names;
 mod kept_call;
 pub mod laws;
 mod name_call;
 mod names;
 mod telling;
 
-pub use names::{NameFilter, Names};
+pub use filter::{NameFilter, WellKnownNames};
+pub use names::Names;

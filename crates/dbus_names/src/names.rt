@@ -1,41 +1,36 @@
 //! Who has which name.
 #![tactic(auto)]
 
-ghost use Rattle.std.specs.Prelude.{◌≡◌, ℕ, List, Bool, IfOk, OnErr, OnOk, option_map};
+ghost use Rattle.std.specs.Prelude.{◌≡◌, ℕ, List, Bool, Some, IfOk, OnErr, OnOk, option_map};
 ghost use Rattle.dbus_value_model.specs.declared.order.Order.{Order};
 ghost use Rattle.dbus_message_model.specs.Messages.{MessageTree};
 ghost use Rattle.dbus_view.specs.Views.{Views};
-ghost use Rattle.dbus_calls.specs.Changes.{change_seen};
+ghost use Rattle.dbus_calls.specs.Changes.{change_seen, owner_seen};
 ghost use Rattle.dbus_calls.specs.Events.{event_of};
 ghost use Rattle.dbus_calls.specs.Events.Event.{Calls};
-ghost use Rattle.dbus_names.specs.Kept.{call_kept, call_seen, calls_of, state_of};
-ghost use Rattle.dbus_names.specs.NameStates.{answered_by, asked_by, calls_after, known_after, known_first, owners_after, owners_by};
+ghost use Rattle.dbus_names.specs.Kept.{call_kept, call_seen, calls_of, first_of, kept_names, state_of};
+ghost use Rattle.dbus_names.specs.NameStates.{answered_by, asked_by, calls_after, known_after, known_first, named_by, names_left, owners_after, owners_by, wanted_change};
 ghost use Rattle.dbus_names.specs.Telling.{reply_told};
 ghost use Rattle.dbus_calls.specs.OwnerChanges.{change_of};
+ghost use Rattle.dbus_calls.specs.OwnerChanges.Change.{Owned};
+ghost use Rattle.dbus_rule_set.specs.Owners.{owned_anew};
 
+use crate::filter::NameFilter;
+use crate::first_names::FirstNames;
 use crate::kept_call::KeptCall;
 use crate::name_call::{NameCall, name_call_of};
 use crate::telling::holder_told;
-use dbus_calls::{CallSeen, Event, OpenCalls, OwnerChange, event_of, owner_change};
+use dbus_calls::{CallSeen, Event, NameOwner, OpenCalls, OwnerChange, event_of, owner_change};
 use dbus_rule_set::Owners;
 use dbus_view::MessageView;
 use std::alloc::{AllocError, Global};
 
-/// Which names are wanted.
-pub trait NameFilter {
-    // Whether it wants a name.
-    ghost wanted: { Self → List ℕ → Bool };
-
-    /// Whether this name is wanted.
-    fn wants(&self, name: &str) -> bool
-        ensures { result ≡ wanted self.now name.now };
-}
-
 /// Who has which name, as messages tell it one after the other, in the order of their input.
 ///
-/// It holds memory for the owners of names that are wanted, and for the open calls whose replies
-/// tell more of these. A message takes time for its own header and the logarithm of the number of
-/// names and open calls; if a caller is gone, for each of its calls.
+/// It holds memory for the owners of names that are wanted, for one name of each connection that is
+/// not gone, and for the open calls whose replies tell more. A message takes time for its own header
+/// and the logarithm of the number of names and open calls; if a caller is gone, for each of its
+/// calls.
 ///
 /// ```rust
 /// use dbus_names::Names;
@@ -51,6 +46,7 @@ pub struct Names {
     alloc: Global,
     owners: Owners,
     calls: OpenCalls<KeptCall>,
+    first: FirstNames,
 }
 
 impl Names {
@@ -62,6 +58,7 @@ impl Names {
             alloc,
             owners,
             calls: OpenCalls::new(alloc),
+            first: FirstNames::new(alloc),
         }
     }
 
@@ -70,6 +67,16 @@ impl Names {
         ensures { result.now ≡ (state_of self.now).owners }
     {
         &self.owners
+    }
+
+    /// The name by which the connection of this unique name is known, if it is: the first one that
+    /// a message told, until the connection loses it or is gone; then the next one that a message
+    /// tells. It takes time for the logarithm of the number of connections. D-Bus Specification,
+    /// "Message Bus Names".
+    pub fn name_of(&self, unique: &str) -> Option<&str>
+        ensures { option_map (λ name. name.now) result ≡ (state_of self.now).names unique.now }
+    {
+        self.first.of(unique, &self.owners)
     }
 
     /// Takes the next message, and learns from it who has a name that is wanted: by a signal of the
@@ -85,8 +92,8 @@ impl Names {
         ensures unchanged { OnErr result ((state_of self.new).owners ≡ (state_of self.old).owners) }
     {
         match self.pair(view, filter)? {
-            Some(call) => note_reply(view, &call, filter, &mut self.owners),
-            None => note_signal(view, filter, &mut self.owners),
+            Some(call) => note_reply(view, &call, filter, &mut self.owners, &mut self.first),
+            None => note_signal(view, filter, &mut self.owners, &mut self.first),
         }
     }
 
@@ -97,6 +104,8 @@ impl Names {
         filter: &F,
     ) -> Result<Option<KeptCall>, AllocError>
         ensures owners { self.new.owners ≡ self.old.owners }
+        ensures names { (order : Order) (m : MessageTree) → Views view.now order m →
+            OnOk result ((u : List ℕ) → first_of self.new.first u ≡ names_left (event_of m) (first_of self.old.first) u) }
         ensures calls { (order : Order) (m : MessageTree) → Views view.now order m →
             OnOk result ((c : List ℕ) (s : ℕ) → calls_of self.new c s ≡
             calls_after (calls_of self.old) (event_of m) (asked_by (F.wanted filter.now) m) c s) }
@@ -113,6 +122,7 @@ impl Names {
             }
             Event::Departure(name) => {
                 self.calls.close_all(name);
+                self.first.forget(name);
                 Ok(None)
             }
             Event::Other => Ok(None),
@@ -127,6 +137,7 @@ impl Names {
         asked: Option<NameCall<'_>>,
     ) -> Result<(), AllocError>
         ensures owners { self.new.owners ≡ self.old.owners }
+        ensures names { self.new.first ≡ self.old.first }
         ensures calls { OnOk result ((c : List ℕ) (s : ℕ) → calls_of self.new c s ≡
             calls_after (calls_of self.old)
             (Calls call.entry.caller.now call.entry.serial call.entry.wants_reply)
@@ -158,15 +169,19 @@ fn asked_by<'a, F: NameFilter>(view: &MessageView<'a>, filter: &F) -> Option<Nam
     }
 }
 
-// Changes the owners by the message as the reply to a call.
+// Changes the owners and the names of connections by the message as the reply to a call.
 fn note_reply<F: NameFilter>(
     view: &MessageView,
     call: &KeptCall,
     filter: &F,
     owners: &mut Owners,
+    first: &mut FirstNames,
 ) -> Result<(), AllocError>
     ensures noted { (order : Order) (m : MessageTree) → Views view.now order m →
         OnOk result (owners.new ≡ owners_after (F.wanted filter.now) (reply_told (call_kept call.now) m) owners.old) }
+    ensures named { (order : Order) (m : MessageTree) → Views view.now order m →
+        OnOk result ((u : List ℕ) → kept_names first.new owners.new u ≡
+        named_by (wanted_change (F.wanted filter.now) (reply_told (call_kept call.now) m)) owners.new (kept_names first.old owners.old) u) }
     ensures unchanged { OnErr result (owners.new ≡ owners.old) }
 {
     let Some(unique) = holder_told(view, call.holder) else {
@@ -174,39 +189,49 @@ fn note_reply<F: NameFilter>(
     };
     let name = call.name.as_str();
     if filter.wants(name) {
-        owners.set(name, unique)
+        note_owner(NameOwner { name, unique }, owners, first)
     } else {
         Ok(())
     }
 }
 
-// Changes the owners by the message as a signal of the bus.
+// Changes the owners and the names of connections by the message as a signal of the bus.
 fn note_signal<F: NameFilter>(
     view: &MessageView,
     filter: &F,
     owners: &mut Owners,
+    first: &mut FirstNames,
 ) -> Result<(), AllocError>
     ensures noted { (order : Order) (m : MessageTree) → Views view.now order m →
         OnOk result (owners.new ≡ owners_after (F.wanted filter.now) (change_of m) owners.old) }
+    ensures named { (order : Order) (m : MessageTree) → Views view.now order m →
+        OnOk result ((u : List ℕ) → kept_names first.new owners.new u ≡
+        named_by (wanted_change (F.wanted filter.now) (change_of m)) owners.new (kept_names first.old owners.old) u) }
     ensures unchanged { OnErr result (owners.new ≡ owners.old) }
 {
     let Some(change) = owner_change(view) else {
         return Ok(());
     };
     if filter.wants(change.name()) {
-        note(change, owners)
+        note(change, owners, first)
     } else {
         Ok(())
     }
 }
 
-// Changes the owners by what is said of one.
-fn note(change: OwnerChange<'_>, owners: &mut Owners) -> Result<(), AllocError>
+// Changes the owners and the names of connections by what is said of a name.
+fn note(
+    change: OwnerChange<'_>,
+    owners: &mut Owners,
+    first: &mut FirstNames,
+) -> Result<(), AllocError>
     ensures noted { OnOk result (owners.new ≡ owners_by (change_seen change.entry) owners.old) }
+    ensures named { OnOk result ((u : List ℕ) → kept_names first.new owners.new u ≡
+        named_by (Some (change_seen change.entry)) owners.new (kept_names first.old owners.old) u) }
     ensures unchanged { OnErr result (owners.new ≡ owners.old) }
 {
     match change {
-        OwnerChange::Owned(owner) => owners.set(owner.name, owner.unique),
+        OwnerChange::Owned(owner) => note_owner(owner, owners, first),
         OwnerChange::Free(name) => {
             owners.remove(name);
             Ok(())
@@ -216,4 +241,19 @@ fn note(change: OwnerChange<'_>, owners: &mut Owners) -> Result<(), AllocError>
             Ok(())
         }
     }
+}
+
+// Changes the owners and the names of connections: a name has this owner from now on.
+fn note_owner(
+    owner: NameOwner<'_>,
+    owners: &mut Owners,
+    first: &mut FirstNames,
+) -> Result<(), AllocError>
+    ensures noted { OnOk result (owners.new ≡ owned_anew owner.entry.name.now owner.entry.unique.now owners.old) }
+    ensures named { OnOk result ((u : List ℕ) → kept_names first.new owners.new u ≡
+        named_by (Some (Owned (owner_seen owner.entry))) owners.new (kept_names first.old owners.old) u) }
+    ensures unchanged { OnErr result (owners.new ≡ owners.old) }
+{
+    first.note(owner.name, owner.unique, owners)?;
+    owners.set(owner.name, owner.unique)
 }
