@@ -1,6 +1,8 @@
 pub mod CutTexts
 pub mod CutSteps
 pub mod ReadCharacters
+pub mod JoinSteps
+mod QuotedTexts
 mod Ends
 mod Clocks
 mod Shown

@@ -5,4 +5,6 @@ pub mod BriefValues
 pub mod BriefLaws
 pub mod Columns
 pub mod Pairs
+pub mod Joining
+pub mod JoiningLaws
 pub mod Lines

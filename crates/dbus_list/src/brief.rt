@@ -49,7 +49,9 @@ impl ValueForm for Brief {
 
     #[inline]
     fn text<D: Draft>(draft: &mut D, _code: u8, text: &str) {
-        write_quoted(draft, text);
+        if !draft.is_full() {
+            write_quoted(draft, text);
+        }
     }
 
     #[inline]

@@ -15,13 +15,22 @@ const LONGEST_NAME: usize = 255;
 /// The cells of a name's column, if a line has no bound.
 const UNBOUNDED_COLUMN: usize = 20;
 
+/// How many spaces are appended at once: more than most columns lack.
+const MOST_SPACES: usize = 32;
+
+/// So many spaces.
+const SPACES: &str = "                                ";
+
 /// Appends so many spaces.
 fn write_spaces<D: Draft>(draft: &mut D, count: usize)
     ensures { D.gains draft.old (replicate count 32) draft.new }
 {
-    for _ in 0..count {
-        draft.push_code(b' ');
+    let mut left = count;
+    while left > MOST_SPACES {
+        draft.push_str(SPACES);
+        left -= MOST_SPACES;
     }
+    draft.push_str(&SPACES[..left]);
 }
 
 /// Appends a number at the right of a column of so many cells.

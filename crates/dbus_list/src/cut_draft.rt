@@ -3,9 +3,10 @@
 
 ghost use Rattle.std.specs.Prelude.{◌≡◌, ℕ, [], List, codes};
 ghost use Rattle.std.specs.Char.{encode_utf8, IsScalar};
+ghost use Rattle.std.specs.Str.{IsAscii};
 ghost use Rattle.dbus_list.specs.Cuts.{cells, cut};
 ghost use Rattle.dbus_list.specs.Cutting.{Gains, HasCut};
-ghost use Rattle.dbus_list.specs.declared.cut_draft.Room.TheVariants.{Full};
+ghost use Rattle.dbus_list.specs.declared.cut_draft.Room.TheVariants.{Full, Left};
 
 use crate::characters::push_char;
 use dbus_show::Draft;
@@ -98,6 +99,19 @@ impl<'d, D: Draft> CutDraft<'d, D> {
         }
     }
 
+    /// Appends ASCII characters, of which so many and one more fit: those at once.
+    fn push_ascii(&mut self, left: u16, text: &str)
+        requires room { self.old.room ≡ Left left }
+        requires ascii { IsAscii text.now }
+        ensures { Gains D.gains self.old text.now self.new }
+    {
+        let fits = text.len().min(usize::from(left));
+        let (front, rest) = text.split_at(fits);
+        self.room = Room::Left(left - fits as u16);
+        self.draft.push_str(front);
+        self.push_each(rest);
+    }
+
     /// Ends the text.
     pub(crate) fn finish(&mut self)
         ensures same { self.new.draft.ghost_name ≡ self.old.draft.ghost_name }
@@ -118,10 +132,7 @@ impl<D: Draft> Draft for CutDraft<'_, D> {
     fn push_str(&mut self, text: &str) {
         match self.room {
             Room::Unbounded => self.draft.push_str(text),
-            Room::Left(left) if text.len() <= usize::from(left) && text.is_ascii() => {
-                self.room = Room::Left(left - text.len() as u16);
-                self.draft.push_str(text);
-            }
+            Room::Left(left) if text.is_ascii() => self.push_ascii(left, text),
             Room::Full => {}
             _ => self.push_each(text),
         }

@@ -14,6 +14,7 @@ use crate::about::write_about;
 use crate::brief::Brief;
 use crate::columns::{write_clock, write_column, write_right};
 use crate::cut_draft::CutDraft;
+use crate::joined_draft::JoinedDraft;
 use crate::known_call::AnsweredCall;
 use crate::names::{destination_of, sender_of};
 use dbus_json::LinePlace;
@@ -75,6 +76,25 @@ fn write_text<D: Draft>(
     write_body::<Brief, D>(draft, whole, " ", ", ");
 }
 
+/// Appends it with its pieces joined.
+fn write_joined<D: Draft>(
+    draft: &mut D,
+    line: u16,
+    whole: &Whole<'_>,
+    place: LinePlace,
+    answered: Option<AnsweredCall<'_>>,
+)
+    requires { IsValidatedWhole whole.now.limits whole.now.bytes.now whole.now.validated.now }
+    ensures { (m : MessageTree) → IsWholeOf whole.now m →
+        GainsSome D.gains draft.old
+        (IsListed line place (option_map call_seen answered.entry) whole.now.validated.now.order m)
+        draft.new }
+{
+    let mut joined = JoinedDraft::new(draft);
+    write_text(&mut joined, line, whole, place, answered);
+    joined.finish();
+}
+
 /// Appends a validated message as one line for a reader, which ends in a line feed. `answered` is
 /// the call that it answers, if it is a reply to one that is known.
 ///
@@ -105,7 +125,7 @@ pub fn write_line<D: Draft>(
         draft.new }
 {
     let mut line = CutDraft::new(draft, width);
-    write_text(
+    write_joined(
         &mut Visible { draft: &mut line },
         width,
         whole,

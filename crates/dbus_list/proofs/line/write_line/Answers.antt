@@ -9,7 +9,7 @@ use Rattle.dbus_list.proofs.line.write_line.Goals as goal
 pub returns : goal.returns
 returns g c = λ m whole.
     let gains = g.D.Draft.gains in
-    let w = c.write_text.ensures m whole in
+    let w = c.write_joined.ensures m whole in
     let sees = w.2 in
     let more = sees.gained in
     let cuts = more.more c.args.draft.now c.args.width [] c.new-line.ensures.begins in
