@@ -262,7 +262,7 @@ def is_written(program, data):
         return subprocess.run([program, *words], input=data, capture_output=True).stdout
 
     file, whole = written(given)
-    nothing = ran(("filter", "type=error"), data), ran(("filter", "--limit", "0", ""), data)
+    nothing = ran(("filter", "type=error"), data), ran(("filter", "--limit", "0", "--check-rest", ""), data)
     both = [ran(("swap", "--to", "l"), it) for it in (data, ran(("swap", "--to", "B"), data))]
     return (
         ran(("filter", ""), data) == ran(("filter", ""), file) == file

@@ -60,20 +60,20 @@ _dbus_wire() {
             ;;
         filter)
             if [[ $word == -* ]]; then
-                COMPREPLY=($(compgen -W "--invert --owner --learn-owners --raw --skip --limit --keep-going $options" -- "$word"))
+                COMPREPLY=($(compgen -W "--invert --owner --learn-owners --raw --skip --limit --check-rest --keep-going $options" -- "$word"))
             else
                 _dbus_wire_rule
             fi
             ;;
         show)
-            COMPREPLY=($(compgen -W "--time --escape --skip --limit --keep-going $options" -- "$word"))
+            COMPREPLY=($(compgen -W "--time --escape --skip --limit --check-rest --keep-going $options" -- "$word"))
             ;;
         json)
-            COMPREPLY=($(compgen -W "--no-time --skip --limit --keep-going $options" -- "$word"))
+            COMPREPLY=($(compgen -W "--no-time --skip --limit --check-rest --keep-going $options" -- "$word"))
             ;;
         list)
             if [[ $word == -* ]]; then
-                COMPREPLY=($(compgen -W "--width --invert --owner --learn-owners --skip --limit --keep-going $options" -- "$word"))
+                COMPREPLY=($(compgen -W "--width --invert --owner --learn-owners --skip --limit --check-rest --keep-going $options" -- "$word"))
             else
                 _dbus_wire_rule
             fi

@@ -42,6 +42,7 @@ complete -c dbus-wire -n '__fish_seen_subcommand_from list filter' -f -a '(__dbu
 complete -c dbus-wire -n '__fish_seen_subcommand_from swap filter' -l raw -f -d 'Write raw messages, also of a file'
 complete -c dbus-wire -n '__fish_seen_subcommand_from show json list filter' -l skip -x -d 'Messages to skip first'
 complete -c dbus-wire -n '__fish_seen_subcommand_from show json list filter' -l limit -x -d 'Most messages to write'
+complete -c dbus-wire -n '__fish_seen_subcommand_from show json list filter' -l check-rest -f -d 'Read and check the rest after these'
 complete -c dbus-wire -n '__fish_seen_subcommand_from show json list check count calls filter' -l keep-going -f -d 'Go on after a refused message'
 complete -c dbus-wire -n '__fish_seen_subcommand_from list' -l width -x -d 'Cells of a line'
 complete -c dbus-wire -n '__fish_seen_subcommand_from count' -l json -f -d 'Write each line of the tables as JSON'

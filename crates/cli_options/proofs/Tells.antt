@@ -11,9 +11,9 @@ use Rattle.clap.specs.declared.error.kind.ErrorKind.TheVariants.{DisplayHelp, Di
 use Rattle.clap.proofs.OnLiterals.{clap_on_literals}
 use Rattle.cli_options.specs.CommandLine.{wire_app}
 use Rattle.dbus_match.specs.Matching.{Ownership}
-use Rattle.cli_options.specs.Limiting.{HasWidth, TellsNamed}
+use Rattle.cli_options.specs.Limiting.{HasWidth, IsGiven, TellsNamed}
 use Rattle.cli_options.specs.Told.{TellsFault, TellsKind, Tells, TellsCommand, TellsOwner, TellsOwners, TellsRules, TellsSelection, IsUsageOrMemory, IsNoCommand, NamesNothing}
-use Rattle.cli_options.specs.Named.{GiveOwners, HasRuleFault, HasSettings, IsGiven, IsNamedBy, Names, rules_given, words_of}
+use Rattle.cli_options.specs.Named.{GiveOwners, HasRuleFault, HasSettings, IsNamedBy, Names, rules_given, words_of}
 use Rattle.cli_options.specs.Owners.{IsOwnerWord}
 use Rattle.cli_options.proofs.Nothing.{no_command_names_nothing, unset_names_nothing, unowned_is_no_command, unowned_names_nothing}
 use Rattle.cli_options.specs.declared.asked.Asked.{Asked}

@@ -52,9 +52,10 @@ with_options app = with_rule
 abbrev pub with_keep_going : App → App
 with_keep_going app = with_options (with_rule app (flag_rule (codes "keep-going")))
 
--- and with `--skip` and `--limit`, which `show`, `json`, `list` and `filter` have
+-- and with `--skip`, `--limit` and `--check-rest`, which `show`, `json`, `list` and `filter` have
 abbrev pub with_window : App → App
-with_window app = with_keep_going (with_rule (with_rule app (limit_rule (codes "skip") most_messages)) (limit_rule (codes "limit") most_messages))
+with_window app = with_keep_going
+    (with_rule (with_rule (with_rule app (limit_rule (codes "skip") most_messages)) (limit_rule (codes "limit") most_messages)) (flag_rule (codes "check-rest")))
 
 -- and with the rules by which messages are selected, `--invert`, `--owner` and `--learn-owners`
 abbrev pub with_selection : (needed : Bool) → App → App

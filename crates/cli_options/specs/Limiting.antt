@@ -1,5 +1,5 @@
 -- The limits and the window that the options of a command name.
-use Rattle.std.specs.Prelude.{◌≡◌, ◌≤◌, ◌<◌, ◌^◌, ℕ, List, Option, Some, None, Result, Ok, Err, codes, zero, suc, Bool, true, false, ◌||◌}
+use Rattle.std.specs.Prelude.{◌≡◌, ◌↔◌, ◌≤◌, ◌<◌, ◌^◌, ℕ, List, Option, Some, None, Result, Ok, Err, codes, zero, suc, Bool, true, false, ◌||◌}
 use Rattle.std.specs.Str.Parse.{IsNumeral, digits_value, without_leading_plus}
 use Rattle.clap.specs.Words.{Row, Text, first_of, one_of}
 use Rattle.dbus_value_model.specs.Specification.{specification}
@@ -44,6 +44,10 @@ pub record HasNumbers (rows : List Row) (limits : Limits) : Type 0 where
   pub array : IsNumberOf (one_of (codes "max-array") rows) specification.array limits.array
   pub depth : IsNumberOf (one_of (codes "max-depth") rows) specification.depth limits.depth
 
+-- the flag of this name is one of the words
+abbrev pub IsGiven : Text → List Row → Type 0
+IsGiven name rows = first_of name rows ≡ Some (codes "true")
+
 -- so are the numbers of the limits, and their rule on the indexes of descriptors is the one that
 -- its option is given
 pub record HasLimits (rows : List Row) (limits : Limits) : Type 0 where
@@ -51,11 +55,12 @@ pub record HasLimits (rows : List Row) (limits : Limits) : Type 0 where
   pub fds : IsRuleOf (first_of (codes "fds") rows) specification.fds limits.fds
 
 -- as many are skipped as one option says, else none, and at most as many written as the other says,
--- if it is there
+-- if it is there; and the rest is checked if its flag is given
 pub record HasWindow (rows : List Row) (window : Window) : Type 0 where
   pub skip : IsNumberOf (one_of (codes "skip") rows) 0 window.skip
   pub few : window.skip < 2 ^ 32
   pub limit : IsGivenNumber (one_of (codes "limit") rows) window.limit
+  pub checks_rest : (window.checks_rest ≡ true) ↔ IsGiven (codes "check-rest") rows
 
 -- the cells of a line are as many as its option says, else 80, and a number of 16 bits
 abbrev pub HasWidth : List Row → ℕ → Type 0

@@ -17,7 +17,7 @@ use Rattle.cli_options.specs.declared.form.CountForm.TheVariants as written
 use Rattle.dbus_handshake_input.specs.declared.side.Side.{Side}
 use Rattle.dbus_handshake_input.specs.declared.side.Side.TheVariants.{Client, Server}
 use Rattle.cli_options.specs.CommandLine.{wire_app}
-use Rattle.cli_options.specs.Limiting.{HasLimits, HasWidth, HasWindow, IsGivenNumber}
+use Rattle.cli_options.specs.Limiting.{HasLimits, HasWidth, HasWindow, IsGiven, IsGivenNumber}
 use Rattle.cli_options.specs.Owners.{AreOwnersOf, IsOwnerWord}
 use Rattle.cli_options.specs.declared.asked.Asked.{Asked}
 use Rattle.cli_options.specs.declared.asked.Asked.TheVariants.{Messages, Count, List as Listing, Calls, Handshake}
@@ -61,10 +61,6 @@ words_of id rows = unwrap_or (all_of id rows) []
 -- the texts spell the rules, one each
 abbrev pub AreRulesOf : List Text → List (Rule Global) → Type 0
 AreRulesOf texts rules = AllZip (λ text rule. SpellsRule text (rule_pairs rule)) texts rules
-
--- the flag of this name is one of the words
-abbrev pub IsGiven : Text → List Row → Type 0
-IsGiven name rows = first_of name rows ≡ Some (codes "true")
 
 -- the messages are written raw if `--raw` is one of the words
 abbrev pub HasFileForm : List Row → FileForm → Type 0

@@ -1,8 +1,8 @@
 //! The command that the words of a command line name.
 ghost use Rattle.std.specs.Prelude.{◌≡◌, ◌↔◌, true, List, Some, IfOk, MatchOption, map, string_bytes, codes};
 ghost use Rattle.clap.specs.Words.{found_of, kind_of, rows_of, subcommand_rows_of};
-ghost use Rattle.cli_options.specs.Named.{GivesWanted, HasFileForm, HasForm, HasSettings, HasSide, IsGiven, IsNamedBy, IsOrderOf, IsSideOf, rules_given, words_of};
-ghost use Rattle.cli_options.specs.Limiting.{TellsNamed};
+ghost use Rattle.cli_options.specs.Named.{GivesWanted, HasFileForm, HasForm, HasSettings, HasSide, IsNamedBy, IsOrderOf, IsSideOf, rules_given, words_of};
+ghost use Rattle.cli_options.specs.Limiting.{IsGiven, TellsNamed};
 ghost use Rattle.cli_options.specs.Told.{TellsKind, Tells, TellsCommand, TellsFault, TellsOwners, TellsRules, TellsSelection};
 
 use crate::asked::Asked;
@@ -35,10 +35,10 @@ use std::alloc::Global;
 /// milliseconds, of `calls` say what it lists. `--time` of `show` and `--no-time` of `json` say
 /// whether times are written. `--handshake` names the side whose handshake comes before the
 /// messages. `--skip` and `--limit`, of `show`, `json`, `list` and `filter`, are the numbers of the
-/// window; without them it leaves no message out. `--width` of `list` is the number of cells of its
-/// lines; without it they have 80. The words that stand alone after `list` and `filter` are rules,
-/// and `--invert`, `--owner` and `--learn-owners` say more of what they select; `list` without
-/// rules selects all messages.
+/// window; without them it leaves no message out. `--check-rest` of these is set if it is among the
+/// words. `--width` of `list` is the number of cells of its lines; without it they have 80. The
+/// words that stand alone after `list` and `filter` are rules, and `--invert`, `--owner` and
+/// `--learn-owners` say more of what they select; `list` without rules selects all messages.
 ///
 /// `Usage`: the words name no command of the program, or have what it does not take, a limit over
 /// that of the specification, a number of messages or milliseconds over 4294967295, a width over
@@ -294,8 +294,8 @@ fn owners_named(alloc: Global, inner: &ArgMatches) -> Result<Vec<Owner>, UsageFa
     }
 }
 
-// Whether the flag of this name is given.
-fn is_given(inner: &ArgMatches, name: &str) -> bool
+/// Whether the flag of this name is given.
+pub(crate) fn is_given(inner: &ArgMatches, name: &str) -> bool
     ensures { (result ≡ true) ↔ IsGiven name.now (rows_of (found_of inner.now)) }
 {
     is_true(inner.get_str(name))

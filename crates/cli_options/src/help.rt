@@ -305,6 +305,9 @@ pub(crate) const SKIP: &str = "Messages to skip first: 0, the default, to 429496
 /// How many messages are written at most.
 pub(crate) const LIMIT: &str = "Most messages to write after these: 0 to 4294967295";
 
+/// What is done after them.
+pub(crate) const CHECK_REST: &str = "Reads and checks the rest of the input after these";
+
 /// What the limit on messages is.
 pub(crate) const MAX_MESSAGE: &str = "Most bytes of a message: 0 to 134217728, the default";
 

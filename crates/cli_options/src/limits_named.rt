@@ -2,6 +2,7 @@
 ghost use Rattle.clap.specs.Words.{found_of, one_of, rows_of};
 ghost use Rattle.cli_options.specs.Limiting.{GivesGiven, GivesNumber, GivesNumbers, GivesWidth, GivesWindow, HasLimits, HasWindow, IsFdsOf, TellsNamed};
 
+use crate::command_line::is_given;
 use crate::usage_fault::{UsageFault, bad_value, usage};
 use crate::window::Window;
 use clap::ArgMatches;
@@ -72,14 +73,17 @@ pub(crate) fn window_named(alloc: Global, inner: &ArgMatches) -> Result<Window, 
     }
 }
 
-// The window of the numbers that the options name, or nothing if one of them is given no number
-// that it may be.
+// The window that the options name, or nothing if one of them is given no number that it may be.
 fn window_of(inner: &ArgMatches) -> Option<Window>
     ensures { GivesWindow (rows_of (found_of inner.now)) result }
 {
     let skip = number_named(inner, "skip", 0)?;
     let limit = given_named(inner, "limit")?;
-    Some(Window { skip, limit })
+    Some(Window {
+        skip,
+        limit,
+        checks_rest: is_given(inner, "check-rest"),
+    })
 }
 
 /// The cells of a line that the options name, 80 if they name none. Nothing, if they are given no

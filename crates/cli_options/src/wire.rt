@@ -132,7 +132,8 @@ fn with_keep_going<'a>(
     with_options(alloc, going)
 }
 
-// The command with `--skip`, `--limit`, `--keep-going` and the options that each command takes.
+// The command with `--skip`, `--limit`, `--check-rest`, `--keep-going` and the options that each
+// command takes.
 fn with_window<'a>(
     alloc: Global,
     command: Result<Command<'a>, AllocError>,
@@ -144,7 +145,8 @@ fn with_window<'a>(
         skipping,
         limit_option(alloc, "limit", u32::MAX, help::LIMIT),
     );
-    with_keep_going(alloc, limited)
+    let checking = with_arg(limited, flag(alloc, "check-rest", help::CHECK_REST));
+    with_keep_going(alloc, checking)
 }
 
 // The command with the rules by which it selects messages, and the options beside them.

@@ -29,17 +29,18 @@ use Rattle.cli_report.specs.declared.gathering.Unwritten.{Unwritten}
 use Rattle.cli_report.proofs.GatherSteps.{breaks_before, breaks_nothing, passes_nothing, passes_whole}
 use Rattle.cli_run.specs.CallListing.{EndsNoted, GathersRows, IsNote, LeavesCalls, ListsThrough, StaysIfShort, TakesCalls, TellsNote, WritesCalls, WritesRows, have_time, notes, number_and_time, numbered}
 use Rattle.cli_run.specs.CallLaws.{or_false}
-use Rattle.cli_run.specs.Going.{GoesThrough, StopsWithin}
+use Rattle.cli_run.specs.Going.{Goes, GoesThrough, StopsWithin}
 use Rattle.cli_run.specs.Inputs.{ArePlaced, IsPlaced, Part, PassedOver, Placed, Whole}
 use Rattle.cli_run.specs.OutputWriting.{FailsBy, LeavesFirst}
 use Rattle.cli_run.specs.Told.{GotFirst, GotSecond, WroteOrNot}
 use Rattle.cli_run.specs.VisitorLaws.{told_nothing, wrote_both}
-use Rattle.cli_run.specs.Visiting.{LetsGo, TakesOne, TellsOne}
+use Rattle.cli_run.specs.Visiting.{FillsBy, LetsGo, TakesOne, TellsOne, WantsAll}
 use Rattle.cli_run.specs.declared.call_listing.Lister.{Lister}
 use Rattle.cli_run.specs.declared.place.MessagePlace.{MessagePlace}
 use Rattle.cli_run.specs.declared.visitor.RunStop.{RunStop}
 use Rattle.cli_run.specs.declared.visitor.RunStop.TheVariants.{Cause as ByCause, Untold}
-use Rattle.cli_run.proofs.EndSteps.{got_first}
+use Rattle.cli_run.proofs.EndSteps.{got_first, stops_as, through_by}
+use Rattle.cli_run.proofs.Wanted.{wanted_as}
 
 -- ---- without a message
 
@@ -252,17 +253,19 @@ module _ {W E : Type 0} (held : W → Option (List ℕ)) (failures : W → ℕ) 
         let h = known wanted (numbered items) kept rises in
         (h.0, h.1, h.2 ∙ ap (λ (t : Bool). notes (is_some wanted.slower && not t) h.0) (came ∙ ap (λ t. t || have_time items) untimed))
 
-    pub lists_all : (w2 : W) (e2 : E) (res : Result (Unit {0}) Cause) (due end : ExitStatus) → gathered_bytes b.gathered ≡ []
+    pub lists_all : {N : (size : ℕ) → Type 0} (w2 : W) (e2 : E) (res : Result (Unit {0}) Cause) (due end : ExitStatus) → gathered_bytes b.gathered ≡ []
         → ((other : Wanted) (before : List Numbered) → Keeps other before b.list → AreRising before → WritesRows (writing held failures b.first.now w2) other (ListsOpen before) res)
         → EndsAs (writing second_held second_failures e1 e2) IsKnown due end res
-        → GoesThrough (taken (reading left calls read_failures packets r0 r1)) settings most false (TakesCalls held failures second_held second_failures a b) due
+        → Goes (taken (reading left calls read_failures packets r0 r1)) settings most false (FillsBy (TakesCalls held failures second_held second_failures) (λ _. false) a) N (TakesCalls held failures second_held second_failures a b) due
         → ListsThrough (reading left calls read_failures packets r0 r2) (writing held failures a.first.now w2) (writing second_held second_failures a.second.now e2) settings wanted most end
-    lists_all w2 e2 res due end last waits ends g =
+    lists_all w2 e2 res due end last waits ends goes =
+        let all_wanted : (l : List Placed) (b : Bool) → FillsBy (TakesCalls held failures second_held second_failures) (λ _. false) a l b → WantsAll l b = λ l b h. sym h.3 in
+        let g = through_by all_wanted goes in
         let rises = placed_rise (packets r0) 1 0 g.through.parts g.messages g.placed in
         record {
           due = due;
           before = e1;
-          through = subst (λ (y : R). GoesThrough (taken (reading left calls read_failures packets r0 y)) settings most false
+          through = subst (λ (y : R). GoesThrough (taken (reading left calls read_failures packets r0 y)) settings most false WantsAll
               (λ items told. Wrote second_held second_failures a.second.now told e1 × EndsNoted (WritesCalls (writing held failures a.first.now w2) wanted items) (IsNote wanted items) (writing second_held second_failures e1 e2) due end) due) source
               (record {
                 tally = g.tally;
@@ -272,6 +275,8 @@ module _ {W E : Type 0} (held : W → Option (List ℕ)) (failures : W → ℕ) 
                 through = g.through;
                 messages = g.messages;
                 placed = g.placed;
+                wanted = wanted_as all_wanted [] g.messages g.wanted;
+                unfilled = all_wanted g.messages false g.unfilled;
                 came = (
                   told_as _ g.came.tells,
                   ends_by (WritesCalls (writing held failures a.first.now w2) wanted g.messages) (writing second_held second_failures e1 e2) (IsNote wanted g.messages) IsKnown
@@ -281,23 +286,27 @@ module _ {W E : Type 0} (held : W → Option (List ℕ)) (failures : W → ℕ) 
               });
         }
 
-    pub gave_up : {w2 : W} {stop : RunStop} → b.first.now ≡ w2 → StopsWithin (taken (reading left calls read_failures packets r0 r1)) settings most false (LeavesCalls held failures second_held second_failures a b) stop
-        → StopsWithin (taken (reading left calls read_failures packets r0 r2)) settings most false (λ items told stop. (rows : List Row) × AreListedBy [] (numbered items) rows
+    pub gave_up : {w2 : W} {stop : RunStop} → b.first.now ≡ w2
+        → StopsWithin (taken (reading left calls read_failures packets r0 r1)) settings most false (FillsBy (TakesCalls held failures second_held second_failures) (λ _. false) a) (LeavesCalls held failures second_held second_failures a b) stop
+        → StopsWithin (taken (reading left calls read_failures packets r0 r2)) settings most false WantsAll (λ items told stop. (rows : List Row) × AreListedBy [] (numbered items) rows
         × GotFirst held failures false stop (rows_text wanted rows) a.first.now w2 × GotSecond second_held second_failures false stop told a.second.now e1) stop
-    gave_up {w2} {stop} first s =
+    gave_up {w2} {stop} first stops =
+        let s : StopsWithin (taken (reading left calls read_failures packets r0 r1)) settings most false WantsAll (LeavesCalls held failures second_held second_failures a b) stop = stops_as (λ l b h. sym h.3) (λ items told left. left) stops in
         let l = s.came.lists wanted [] keeps (placed_rise (packets r0) 1 0 s.parts s.messages s.placed) in
-        subst (λ (y : R). StopsWithin (taken (reading left calls read_failures packets r0 y)) settings most false (λ items told stop. (rows : List Row) × AreListedBy [] (numbered items) rows
+        subst (λ (y : R). StopsWithin (taken (reading left calls read_failures packets r0 y)) settings most false WantsAll (λ items told stop. (rows : List Row) × AreListedBy [] (numbered items) rows
         × GotFirst held failures false stop (rows_text wanted rows) a.first.now w2 × GotSecond second_held second_failures false stop told a.second.now e1) stop) source
         (record {
           parts = s.parts;
           rest = s.rest;
           told = s.told;
           covers = s.covers;
+          messages = s.messages;
+          placed = s.placed;
+          wanted = s.wanted;
+          unfilled = s.unfilled;
           more = s.more;
           all = s.all;
           caused = s.caused;
-          messages = s.messages;
-          placed = s.placed;
           came = (
             l.0,
             l.1,

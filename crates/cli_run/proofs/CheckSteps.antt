@@ -1,17 +1,19 @@
 -- How `check` ends if it counts the messages, and writes one line.
-use Rattle.std.proofs.Common.{◌≡◌, ℕ, true, false, List, [], ◌∷◌, ◌++◌, Option, Ok, Err, take, drop, refl, sym, ap, subst, take-append-drop, inl, inr}
+use Rattle.std.proofs.Common.{◌≡◌, ◌∙◌, ℕ, Bool, true, false, List, [], ◌∷◌, ◌++◌, Option, Ok, Err, take, drop, refl, sym, ap, subst, take-append-drop, inl, inr}
 use Rattle.std.specs.FinSet.{empty}
 use Rattle.dbus_names.specs.NameStates.{known_first}
 use Rattle.dbus_device.specs.Device.{Wrote, Stopped}
 use Rattle.cli_options.specs.declared.command.Command.TheVariants.{Check}
 use Rattle.cli_options.specs.declared.settings.Settings.{Settings}
+use Rattle.cli_options.specs.declared.window.Window.{Window}
 use Rattle.cli_run.specs.ByName.{IsUnwritten, Tallies}
 use Rattle.cli_run.specs.Told.{WritesLine, GotFirst, GotSecond, TellsStop}
 use Rattle.cli_run.specs.Going.{IsMore, IsStopOf, StopsWithin, closing_line}
 use Rattle.cli_run.specs.Inputs.{ArePlaced, Placed}
-use Rattle.cli_run.specs.Output.{IsOutputOfAll, check_line, fault_line, status_of}
+use Rattle.cli_run.specs.Output.{IsFilledBy, IsOutputOfAll, after, check_line, fault_line, is_spent, status_of}
 use Rattle.cli_run.specs.Running.{RunsWith, Writes, WritesSome}
-use Rattle.cli_run.specs.VisitorLaws.{told_nothing, wrote_nothing}
+use Rattle.cli_run.specs.VisitorLaws.{and_false, told_nothing, wrote_nothing}
+use Rattle.cli_run.specs.Visiting.{WantsAll}
 use Rattle.cli_report.specs.Devices.{Reading, Writing, taken, writing}
 use Rattle.cli_report.specs.Telling.{Told}
 use Rattle.cli_report.specs.declared.ending.ExitStatus.{ExitStatus}
@@ -24,11 +26,16 @@ use Rattle.cli_run.specs.declared.visitor.RunStop.{RunStop}
 use Rattle.cli_run.specs.declared.visitor.RunStop.TheVariants.{Cause as ByCause, Untold}
 use Rattle.cli_run.proofs.EndSteps.{stops_as}
 use Rattle.cli_run.proofs.PartLaws.{line_is, some_placed}
+use Rattle.cli_run.proofs.Wanted.{wanted_all}
 
 -- `check` writes nothing of a message
 no_output : (items : List Placed) → IsOutputOfAll Check (known_first empty) items []
 no_output [] = refl
 no_output (m ∷ items) = ([], [], refl, inr (λ never. never, refl), no_output items)
+
+-- it wants all
+filled_as : (window : Window) (items : List Placed) (filled : Bool) → WantsAll items filled → IsFilledBy Check window items filled
+filled_as window items filled all = ([], no_output items, and_false (is_spent (after window 0)) ∙ sym all)
 
 abbrev tally_of : Counted → Tally
 tally_of counted = record { count = counted.count; size = counted.size; passed = 0; passed_size = 0; is_cut = false }
@@ -39,7 +46,7 @@ module _ {R W E : Type 0} (r : Reading R) (w : Writing W) (e : Writing E) (setti
 
   -- the second writer was told nothing before
   abbrev Within : RunStop → Type 0
-  Within stop = StopsWithin (taken r) settings most true (WritesSome w (writing e.held e.failures e.old e.old) settings Check) stop
+  Within stop = StopsWithin (taken r) settings most true (IsFilledBy Check settings.window) (WritesSome w (writing e.held e.failures e.old e.old) settings Check) stop
 
   stops : (stop : RunStop) (end : ExitStatus) → end ≡ status.Failed → TellsStop e.held e.failures true stop e.old e.new → Within stop → Ends end
   stops stop end failed tells within = inr (record { failed = failed; stop = stop; before = e.old; within = within; tells = tells })
@@ -59,7 +66,7 @@ module _ {R W E : Type 0} (r : Reading R) (w : Writing W) (e : Writing E) (setti
   }
 
   pub gave_up : (cause : Cause) (packet : Option ℕ) → w.new ≡ w.old → Tallies (taken r) settings most packet (Err cause) → (end : ExitStatus) → end ≡ status.Failed → Told e.held e.failures e.old e.new cause → Ends end
-  gave_up cause packet same s end failed told = stops (ByCause cause) end failed told (stops_as (wrote_none cause same) s)
+  gave_up cause packet same s end failed told = stops (ByCause cause) end failed told (stops_as (filled_as settings.window) (wrote_none cause same) s)
 
   -- all messages were counted
   module _ (counted : Counted) (packet : Option ℕ) (t : Tallies (taken r) settings most packet (Ok counted)) where
@@ -75,26 +82,43 @@ module _ {R W E : Type 0} (r : Reading R) (w : Writing W) (e : Writing E) (setti
     some : (messages : List Placed) × ArePlaced (r.packets r.old) 1 0 t.parts messages
     some = some_placed (r.packets r.old) 1 0 t.parts
 
+    unfilled : (l : List Placed) → IsFilledBy Check settings.window l false
+    unfilled l = filled_as settings.window l false refl
+
     -- the line was written, and the second writer got nothing
     pub line_written : (end : ExitStatus) → Wrote w.held w.failures w.old line w.new → e.new ≡ e.old → end ≡ status_of counted.fault → Ends end
     line_written end wrote same end_is =
         let first = subst (λ (l : List ℕ). Wrote w.held w.failures w.old l w.new) (sym (line_is (tally_of counted) counted.fault packet)) wrote in
         let came : Writes w e settings Check some.0 all = record { texts = []; made = no_output some.0; first = first; second = told_nothing e.held e.failures true e.old e.new same } in
-        inl (record { tally = tally_of counted; fault = counted.fault; told = []; text = text; through = t; messages = some.0; placed = some.1; came = came; end_is = end_is })
+        inl (inl (record {
+          tally = tally_of counted;
+          fault = counted.fault;
+          told = [];
+          text = text;
+          through = t;
+          messages = some.0;
+          placed = some.1;
+          wanted = wanted_all (IsFilledBy Check settings.window) unfilled [] some.0;
+          unfilled = unfilled some.0;
+          came = came;
+          end_is = end_is;
+        }))
 
     -- or not all of it
-    within : (stop : RunStop) (more : List ℕ) → IsMore (taken r) settings most true stop t.parts t.rest more → IsStopOf (taken r) most stop → GotFirst w.held w.failures true stop more w.old w.new
+    within : (stop : RunStop) (more : List ℕ) → IsMore (taken r) settings most true (IsFilledBy Check settings.window) stop t.parts t.rest some.0 more → IsStopOf (taken r) most stop → GotFirst w.held w.failures true stop more w.old w.new
         → GotSecond e.held e.failures true stop [] e.old e.old → Within stop
     within stop more due caused first second = record {
       parts = t.parts;
       rest = t.rest;
       told = [];
       covers = t.covers;
+      messages = some.0;
+      placed = some.1;
+      wanted = wanted_all (IsFilledBy Check settings.window) unfilled [] some.0;
+      unfilled = λ _. unfilled some.0;
       more = more;
       all = due;
       caused = caused;
-      messages = some.0;
-      placed = some.1;
       came = record { texts = []; made = no_output some.0; first = first; second = second };
     }
 
@@ -104,6 +128,6 @@ module _ {R W E : Type 0} (r : Reading R) (w : Writing W) (e : Writing E) (setti
     line_not WriteFailed (n, half) end failed told =
         let s = subst (λ (l : List ℕ). Stopped w.held w.failures w.old l n w.new) (sym (line_is (tally_of counted) counted.fault packet)) half in
         let due = inr (t.cut, t.last, ap (λ (x : Tally). text ++ closing_line true x x.passed counted.fault) t.tally_is) in
-        stops Untold end failed told (within Untold all (t.kept, counted.fault, text, t.tells, due) t.read_failed
+        stops Untold end failed told (within Untold all (inl (t.kept, counted.fault, text, t.tells, due)) t.read_failed
         (record { written = take n all; appended = s.appended; front = (drop n all, sym (take-append-drop n all)); failed = s.failed }) (wrote_nothing e.held e.failures e.old))
     line_not cause never end failed told = absurd never

@@ -1,6 +1,6 @@
 -- The messages of a source are counted as if they were handed to a visitor that makes nothing of
 -- them.
-use Rattle.std.proofs.Common.{◌≡◌, ℕ, ◌+◌, ◌-◌, false, true, List, [], ◌++◌, Option, None, Some, Result, Ok, Err, length, length-append, refl, sym, ◌∙◌, inl, inr, arith, subst, ap}
+use Rattle.std.proofs.Common.{◌≡◌, ℕ, ◌+◌, ◌-◌, Bool, false, true, List, [], ◌++◌, Option, None, Some, Result, Ok, Err, length, length-append, refl, sym, ◌∙◌, inl, inr, arith, subst, ap}
 use Rattle.std.proofs.Math.Path.{transport}
 use Rattle.std.specs.Io.KnownBytes.{IsAtEnd}
 use Rattle.std.proofs.lemmas.Bool.{or_parts}
@@ -28,13 +28,14 @@ use Rattle.dbus_count.specs.Counting.{counting_of}
 use Rattle.dbus_count.specs.Spans.{with_times}
 use Rattle.dbus_count.specs.declared.form.Form.{Form}
 use Rattle.cli_report.specs.declared.ending.ExitStatus.{ExitStatus}
-use Rattle.cli_run.specs.ByName.{IsUnwritten, Tallies, CountsMessages, CountsThrough, EndsCount, after_messages, counting, span_of, times_of}
-use Rattle.cli_run.specs.Going.{Covers, IsMore, IsStopOf, IsToldLast, GoesThrough}
+use Rattle.cli_run.specs.ByName.{IsUnwritten, LeavesCounted, Tallies, CountsMessages, CountsThrough, EndsCount, after_messages, counting, span_of, times_of}
+use Rattle.cli_run.specs.Going.{Covers, Goes, GoesThrough, IsMore, IsStopOf, IsToldLast, StopsWithin}
 use Rattle.cli_run.specs.Onward.{HasPacketsIf, HasRead, HandsAllOn, HandsOn, HandsSomeOn}
 use Rattle.cli_run.specs.Refusals.{IsFaultIn, IsRefusedIn, number_of}
 use Rattle.cli_run.specs.Inputs.{Placed, sizes_of, wholes}
 use Rattle.cli_run.specs.Output.{fault_line}
-use Rattle.cli_run.specs.Visiting.{AddsUp}
+use Rattle.cli_run.specs.Told.{GotSecond}
+use Rattle.cli_run.specs.Visiting.{AddsUp, FillsBy, WantsAll}
 use Rattle.cli_run.specs.declared.counted.Counted.{Counted}
 use Rattle.cli_run.specs.declared.visitor.RunStop.{RunStop}
 use Rattle.cli_run.specs.declared.visitor.RunStop.TheVariants.{Cause as ByCause}
@@ -43,7 +44,8 @@ use Rattle.cli_run.proofs.HandSteps.{Faults}
 use Rattle.cli_run.proofs.KnownPackets.{refused_there}
 use Rattle.cli_run.proofs.PartLaws.{is_last, parts_of, sizes-wholes, some_placed, told_of}
 use Rattle.cli_run.specs.declared.by_name.Counter.{Counter}
-use Rattle.cli_run.proofs.EndSteps.{goes_as}
+use Rattle.cli_run.proofs.EndSteps.{goes_as, stops_as, through_by}
+use Rattle.cli_run.proofs.Wanted.{wanted_all}
 
 -- what the counting keeps of messages is their number, which the loop counts
 abbrev pub counts : (a b : Unit {0}) → List Placed → (told : List ℕ) → Type 0
@@ -52,8 +54,13 @@ counts a b items told = Unit {0}
 abbrev pub gives_up : (a b : Unit {0}) → List Placed → (told : List ℕ) → RunStop → Type 0
 gives_up a b items told stop = IsUnwritten stop
 
-pub adds_up : AddsUp counts gives_up (λ _. Unit {0})
+-- all are wanted
+abbrev pub never_full : Unit {0} → Bool
+never_full a = false
+
+pub adds_up : AddsUp counts gives_up (λ _. Unit {0}) never_full
 adds_up = record {
+  still = λ a b p t. refl;
   nothing = λ a. tt;
   joins = λ a b c s t p q h k. tt;
   leaves_after = λ a b c s t p q stop h k. k;
@@ -99,7 +106,7 @@ module _ {R : Type 0} (left : R → Option (List ℕ)) (calls failures : R → �
   abbrev packet_last : Option ℕ
   packet_last = number_of (packet (source_of new))
 
-  fault_there : (counted : Counted) (a : HandsAllOn lengths left calls settings.limits [] failures counts gives_up 0 none_known counted old new tt tt) → IsFaultIn (packets (source_of old)) settings.limits counted.size a.rest counted.fault packet_last
+  fault_there : (counted : Counted) (a : HandsAllOn lengths left calls settings.limits [] failures counts gives_up never_full 0 none_known counted old new tt tt) → IsFaultIn (packets (source_of old)) settings.limits counted.size a.rest counted.fault packet_last
   fault_there counted a = by_fault counted.fault a.fault_is
     where
       by_fault : (fault : Option Fault) → fault ≡ fault_at_end a.rest a.outcome → IsFaultIn (packets (source_of old)) settings.limits counted.size a.rest fault packet_last
@@ -121,15 +128,28 @@ module _ {R : Type 0} (left : R → Option (List ℕ)) (calls failures : R → �
   }
 
   abbrev HandsSome : Cause → Type 0
-  HandsSome cause = HandsSomeOn lengths left calls settings.limits [] failures counts gives_up 0 none_known cause old new tt tt
+  HandsSome cause = HandsSomeOn lengths left calls settings.limits [] failures counts gives_up never_full 0 none_known cause old new tt tt
 
-  some_tallied : (cause : Cause) (s : HandsSome cause) → IsMore Took settings (most_reads_of old) true (ByCause cause) (wholes s.items) s.rest [] → IsStopOf Took (most_reads_of old) (ByCause cause)
+  some_tallied : (cause : Cause) (s : HandsSome cause) → ((messages : List Placed) → IsMore Took settings (most_reads_of old) true WantsAll (ByCause cause) (wholes s.items) s.rest messages []) → IsStopOf Took (most_reads_of old) (ByCause cause)
       → Tallies Took settings (most_reads_of old) packet_last (Err cause)
   some_tallied cause s all caused =
       let some = some_placed Took.packets 1 0 (wholes s.items) in
-      record { parts = wholes s.items; rest = s.rest; told = []; covers = covers s.items s.rest s.read; more = []; all = all; caused = caused; messages = some.0; placed = some.1; came = (s.given_up, refl) }
+      record {
+        parts = wholes s.items;
+        rest = s.rest;
+        told = [];
+        covers = covers s.items s.rest s.read;
+        messages = some.0;
+        placed = some.1;
+        wanted = wanted_all WantsAll (λ l. refl) [] some.0;
+        unfilled = λ _. refl;
+        more = [];
+        all = all some.0;
+        caused = caused;
+        came = (s.given_up, refl);
+      }
 
-  tallies : (res : Result Counted Cause) → HandsOn lengths left calls settings.limits [] failures counts gives_up 0 none_known old new tt tt res → Tallies Took settings (most_reads_of old) packet_last res
+  tallies : (res : Result Counted Cause) → HandsOn lengths left calls settings.limits [] failures counts gives_up never_full 0 none_known old new tt tt res → Tallies Took settings (most_reads_of old) packet_last res
   tallies (Ok counted) a =
       let size : counted.size ≡ sizes a.items = omega (arith, a.size_is, is.done) in
       let told = told_last (packets (source_of old)) settings (length (wholes a.items) + 1) counted.size a.rest counted.fault packet_last plain_told.0 plain_told.1 (fault_there counted a) in
@@ -150,26 +170,27 @@ module _ {R : Type 0} (left : R → Option (List ℕ)) (calls failures : R → �
             (λ none. a.read.at_end (λ e. absurd (both_ways _ e is.ended)) (a.ended none));
         read_failed = a.failed;
       }
-  tallies (Err Memory) s = some_tallied Memory s (inl refl) s.caused
-  tallies (Err ReadFailed) s = some_tallied ReadFailed s (inl (s.all, refl)) s.caused
+  tallies (Err Memory) s = some_tallied Memory s (λ _. inl refl) s.caused
+  tallies (Err ReadFailed) s = some_tallied ReadFailed s (λ _. inl (s.all, refl)) s.caused
   tallies (Err WriteFailed) s = absurd s.given_up
   tallies (Err TooManyReads) s =
       let all : s.read.count ≡ most_reads_of old = omega (arith, s.caused.1, s.read.reads, s.read.most_reads, is.reads) in
-      some_tallied TooManyReads s (inl (s.all, refl)) (s.caused.0, subst (λ n. RisesBy n Took.calls0 Took.calls1) all s.read.called)
+      some_tallied TooManyReads s (λ _. inl (s.all, refl)) (s.caused.0, subst (λ n. RisesBy n Took.calls0 Took.calls1) all s.read.called)
 
-  pub tallied : settings.limits ≡ limits_of old → (res : Result Counted Cause) → HandsOn lengths left calls (limits_of old) [] failures counts gives_up 0 none_known old new tt tt res
+  pub tallied : settings.limits ≡ limits_of old → (res : Result Counted Cause) → HandsOn lengths left calls (limits_of old) [] failures counts gives_up never_full 0 none_known old new tt tt res
       → Tallies Took settings (most_reads_of old) packet_last res
-  tallied same res h = tallies res (subst (λ (l : Limits). HandsOn lengths left calls l [] failures counts gives_up 0 none_known old new tt tt res) (sym same) h)
+  tallied same res h = tallies res (subst (λ (l : Limits). HandsOn lengths left calls l [] failures counts gives_up never_full 0 none_known old new tt tt res) (sym same) h)
 
 -- How a run ends that counts messages by their names.
 
 module _ {R W E : Type 0} (left : R → Option (List ℕ)) (calls read_failures : R → ℕ) (packets : R → Option Packets) (held : E → Option (List ℕ)) (failures : E → ℕ) (w : Writing W) (settings : Settings) (form : Form) (most : ℕ) (r0 r1 : R)
     (a b : Counter E) {r2 : R} {e1 : E} (source : r1 ≡ r2) (second : b.second.now ≡ e1) where
   -- all was told, and the tables are those of the counts
-  pub counts_all : (e2 : E) (due end : ExitStatus) → ((name : List ℕ) → counting_of a.counts name ≡ None) → a.span ≡ None
-      → GoesThrough (taken (reading left calls read_failures packets r0 r1)) settings most false (CountsMessages held failures a b) due → EndsCount w (writing held failures e1 e2) form (counting_of b.counts) b.span due end
+  pub counts_all : {N : (size : ℕ) → Type 0} (e2 : E) (due end : ExitStatus) → ((name : List ℕ) → counting_of a.counts name ≡ None) → a.span ≡ None
+      → Goes (taken (reading left calls read_failures packets r0 r1)) settings most false (FillsBy (CountsMessages held failures) (λ _. false) a) N (CountsMessages held failures a b) due → EndsCount w (writing held failures e1 e2) form (counting_of b.counts) b.span due end
       → CountsThrough (reading left calls read_failures packets r0 r2) w (writing held failures a.second.now e2) settings form most end
   counts_all e2 due end none fresh g ends =
+      let all_wanted : (l : List Placed) (b : Bool) → FillsBy (CountsMessages held failures) (λ _. false) a l b → WantsAll l b = λ l b h. sym h.3 in
       let after : (items : List Placed) (told : List ℕ) → CountsMessages held failures a b items told → Wrote held failures a.second.now told e1 × EndsCount w (writing held failures e1 e2) form (counting items) (span_of items) due end
       = λ items told h. (
         subst (λ (x : E). Wrote held failures a.second.now told x) second h.tells,
@@ -178,6 +199,13 @@ module _ {R W E : Type 0} (left : R → Option (List ℕ)) (calls read_failures 
       record {
         due = due;
         before = e1;
-        through = subst (λ (x : R). GoesThrough (taken (reading left calls read_failures packets r0 x)) settings most false
-            (λ items told. Wrote held failures a.second.now told e1 × EndsCount w (writing held failures e1 e2) form (counting items) (span_of items) due end) due) source (goes_as after g);
+        through = subst (λ (x : R). GoesThrough (taken (reading left calls read_failures packets r0 x)) settings most false WantsAll
+            (λ items told. Wrote held failures a.second.now told e1 × EndsCount w (writing held failures e1 e2) form (counting items) (span_of items) due end) due) source (goes_as all_wanted after (through_by all_wanted g));
       }
+
+  -- reading or telling was given up
+  pub gave_up : {stop : RunStop} → StopsWithin (taken (reading left calls read_failures packets r0 r1)) settings most false (FillsBy (CountsMessages held failures) (λ _. false) a) (LeavesCounted held failures a b) stop
+      → StopsWithin (taken (reading left calls read_failures packets r0 r2)) settings most false WantsAll (λ items told stop. IsUnwritten stop × GotSecond held failures false stop told a.second.now e1) stop
+  gave_up {stop} s =
+      subst (λ (x : R). StopsWithin (taken (reading left calls read_failures packets r0 x)) settings most false WantsAll (λ items told stop. IsUnwritten stop × GotSecond held failures false stop told a.second.now e1) stop) source
+      (stops_as (λ l b h. sym h.3) (λ items told h. (h.unwritten, subst (λ (x : E). GotSecond held failures false stop told a.second.now x) second h.tells)) s)

@@ -1,5 +1,5 @@
 -- The next message of a reader, which first looks at what it keeps.
-use Rattle.std.proofs.Common.{◌≡◌, ℕ, List, [], Some, None, Err, Ok, Option, refl, sym, ap, ◌∙◌, subst, append-nil, inl}
+use Rattle.std.proofs.Common.{◌≡◌, ℕ, Bool, true, false, List, [], Some, None, Err, Ok, Option, refl, sym, ap, ◌∙◌, subst, append-nil, inl}
 use Rattle.dbus_validate.specs.declared.validating.Validated.{Validated}
 use Rattle.dbus_stream.specs.Next.{DeviceCounts}
 use Rattle.dbus_stream.specs.declared.read_fault.ReadFault.{ReadFault}
@@ -11,7 +11,7 @@ use Rattle.cli_report.specs.declared.ending.Cause.TheVariants.{WriteFailed}
 use Rattle.cli_run.specs.Handing.{GivesNext, Stays}
 use Rattle.cli_run.specs.Inputs.{Placed}
 use Rattle.cli_run.specs.Visiting.{AddsUp}
-use Rattle.cli_run.specs.declared.counted.NoMessage.TheVariants.{Reader, Writer}
+use Rattle.cli_run.specs.declared.counted.NoMessage.TheVariants.{Reader, Writer, Enough}
 use Rattle.cli_run.specs.declared.visitor.RunStop.{RunStop}
 use Rattle.cli_run.specs.declared.visitor.RunStop.TheVariants.{Cause as ByCause}
 
@@ -30,11 +30,11 @@ looked old mid from n k s =
     }
 
 module _ {R A S : Type 0} (left : R → Option (List ℕ)) (calls failures : R → ℕ) {takes : S → S → List Placed → (told : List ℕ) → Type 0}
-    {leaves : S → S → List Placed → (told : List ℕ) → RunStop → Type 0} {settled : S → Type 0} (laws : AddsUp takes leaves settled) (old new : RawReader R A) (unstopped : stopped_of old ≡ None)
+    {leaves : S → S → List Placed → (told : List ℕ) → RunStop → Type 0} {settled : S → Type 0} {full : S → Bool} (laws : AddsUp takes leaves settled full) (old new : RawReader R A) (unstopped : stopped_of old ≡ None)
     (n : ReadsNothing old new) where
   -- a message that is kept
-  pub gives_kept : (j : Validated) (s : S) → Lends (kept old) j old new → GivesNext left calls failures takes leaves settled old new s s (Ok (Some j))
-  gives_kept j s l = (
+  pub gives_kept : (j : Validated) (s : S) → full s ≡ false → Lends (kept old) j old new → GivesNext left calls failures takes leaves settled full old new s s (Ok (Some j))
+  gives_kept j s unfilled l = (
     old,
     stays old unstopped,
     (
@@ -43,6 +43,7 @@ module _ {R A S : Type 0} (left : R → Option (List ℕ)) (calls failures : R �
       ap failures n.source,
       laws.nothing s,
       λ none. absurd cc,
+      unfilled,
     ),
   )
 
@@ -52,15 +53,21 @@ module _ {R A S : Type 0} (left : R → Option (List ℕ)) (calls failures : R �
   kept_fault fault k = absurd k
 
   -- a fault of what is kept
-  pub gives_kept_fault : (fault : ReadFault) (s0 s1 : S) → KeptAnswers old new (Err fault)
+  pub gives_kept_fault : (fault : ReadFault) (s0 s1 : S) → full s0 ≡ false → KeptAnswers old new (Err fault)
       → DeviceCounts {T = Option Validated} (failures (source_of old)) (failures (source_of new)) (Err fault) → takes s0 s1 [] [] → settled s1
-      → GivesNext left calls failures takes leaves settled old new s0 s1 (Err (Reader fault))
-  gives_kept_fault fault s0 s1 k counts go rests = (
+      → GivesNext left calls failures takes leaves settled full old new s0 s1 (Err (Reader fault))
+  gives_kept_fault fault s0 s1 unfilled k counts go rests = (
     old,
     stays old unstopped,
-    (unread left calls old old new (starts left calls old) n, subst (λ (v : List ℕ). Advances v old new (Err fault)) (sym (append-nil (kept old))) (kept_fault fault k), counts, go, rests),
+    (unread left calls old old new (starts left calls old) n, subst (λ (v : List ℕ). Advances v old new (Err fault)) (sym (append-nil (kept old))) (kept_fault fault k), counts, go, rests, laws.still s0 s1 [] go ∙ unfilled),
   )
 
   -- the visitor could not let go of what it held back, and nothing was read
-  pub gives_unwritten : (s0 s1 : S) → leaves s0 s1 [] [] (ByCause WriteFailed) → GivesNext left calls failures takes leaves settled old new s0 s1 (Err Writer)
+  pub gives_unwritten : (s0 s1 : S) → leaves s0 s1 [] [] (ByCause WriteFailed) → GivesNext left calls failures takes leaves settled full old new s0 s1 (Err Writer)
   gives_unwritten s0 s1 back = (old, stays old unstopped, (unread left calls old old new (starts left calls old) n, back, ap failures n.source))
+
+-- no more is wanted
+pub gives_enough : {R A S : Type 0} (left : R → Option (List ℕ)) (calls failures : R → ℕ) {takes : S → S → List Placed → (told : List ℕ) → Type 0} {leaves : S → S → List Placed → (told : List ℕ) → RunStop → Type 0}
+    {settled : S → Type 0} {full : S → Bool} (laws : AddsUp takes leaves settled full) (old : RawReader R A) → stopped_of old ≡ None → (s0 s1 : S) → full s0 ≡ true → takes s0 s1 [] [] → settled s1
+    → GivesNext left calls failures takes leaves settled full old old s0 s1 (Err Enough)
+gives_enough left calls failures laws old unstopped s0 s1 enough go rests = (old, stays old unstopped, (refl, go, rests, laws.still s0 s1 [] go ∙ enough))

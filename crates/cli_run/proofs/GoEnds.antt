@@ -25,7 +25,7 @@ use Rattle.dbus_stream.specs.declared.read_fault.ReadFault.{ReadFault}
 use Rattle.dbus_stream.specs.declared.read_fault.ReadFault.TheVariants as read
 use Rattle.dbus_stream.proofs.FaultPackets.{refused_later}
 use Rattle.dbus_stream.proofs.SizeSteps.{size_some}
-use Rattle.cli_run.specs.Going.{Closes, IsAllOf, PassesAll, cause_of, AreTold, HasLastLine, IsTold, IsToldRefused, closing_line, cut_tally, passed_count, passed_sizes, tally_with}
+use Rattle.cli_run.specs.Going.{Closes, IsAllOf, IsEnough, PassesAll, cause_of, AreTold, HasLastLine, IsTold, IsToldRefused, closing_line, cut_tally, passed_count, passed_sizes, status_at, tally_of, tally_with}
 use Rattle.cli_run.specs.Inputs.{BeginWithParts, IsCutOff, IsLast, IsTellable, PassedOver, Placed, sizes_of}
 use Rattle.cli_run.specs.Onward.{HasRead, stop_of}
 use Rattle.cli_run.specs.Refusals.{IsRefusedIn, number_of}
@@ -39,15 +39,15 @@ use Rattle.cli_run.specs.declared.visitor.RunStop.{RunStop}
 use Rattle.cli_run.specs.declared.visitor.RunStop.TheVariants.{Cause as ByCause, Untold}
 use Rattle.cli_run.proofs.PartLaws.{parts_more, placed_past, sizes-both, passed-both, passed_sizes-both}
 use Rattle.cli_run.proofs.ReadSteps.{read_none, read_on}
-use Rattle.cli_run.proofs.GoSteps.{fresh, Begun, HasCovered, HasEnded, HasGone, HasReached, refused_is, none_is, covers_read, covers, packets_of, Took, Within, Through, Stopped, More, stops_plain, all_called}
+use Rattle.cli_run.proofs.GoSteps.{fresh, Begun, Fills, HasCovered, HasEnded, HasEnough, HasGone, HasReached, refused_is, none_is, covers_read, covers, packets_of, Reads, Took, Within, Through, Stopped, More, stops_plain, all_called}
 
-module _ {R A S : Type 0} {takes : S → S → List Placed → (told : List ℕ) → Type 0} {leaves : S → S → List Placed → (told : List ℕ) → RunStop → Type 0} {settled : S → Type 0} (laws : AddsUp takes leaves settled)
-    {run : Begun R A S} {mid : RawReader R A} {counted : Counted} {tally : Tally} {s1 : S} (h : HasReached run takes mid counted tally s1) where
+module _ {R A S : Type 0} {takes : S → S → List Placed → (told : List ℕ) → Type 0} {leaves : S → S → List Placed → (told : List ℕ) → RunStop → Type 0} {settled : S → Type 0} {full : S → Bool} (laws : AddsUp takes leaves settled full)
+    {run : Begun R A S} {mid : RawReader R A} {counted : Counted} {tally : Tally} {s1 : S} (h : HasReached run takes full mid counted tally s1) where
   abbrev items : List Placed
   items = h.gone.messages
 
   -- it ends after a message
-  pub finished : counted.fault ≡ None → HasEnded run takes mid tally None s1
+  pub finished : counted.fault ≡ None → HasEnded run takes full mid tally None s1
   finished none =
       let g = h.gone in
       let no_fault : None ≡ fault_at_end (kept mid) h.outcome = sym none ∙ h.fault_is in
@@ -69,6 +69,8 @@ module _ {R A S : Type 0} {takes : S → S → List Placed → (told : List ℕ)
         };
         messages = items;
         placed = g.placed;
+        wanted = g.wanted;
+        unfilled = h.unfilled;
         came = subst (λ (l : List ℕ). takes run.s0 s1 items l) (sym (append-nil g.told)) g.came;
       }
 
@@ -135,10 +137,10 @@ module _ {R A S : Type 0} {takes : S → S → List Placed → (told : List ℕ)
     tellable (Refused other) e at_end = refl
     tellable outcome e at_end = (refl, at_end (λ f is. absurd cc))
 
-    pub not_told : settled s1 → (s2 : S) (stop : RunStop) → Tells takes leaves Due s1 s2 (Err stop) → Within run leaves mid stop s2
+    pub not_told : settled s1 → (s2 : S) (stop : RunStop) → Tells takes leaves Due s1 s2 (Err stop) → Within run takes leaves full mid stop s2
     not_told rests s2 (ByCause Memory) same =
         let came = (laws.rests run.s0 s1 items h.gone.told h.gone.came rests).0 in
-        stops_plain run leaves Memory mid h.gone.parts (kept mid) h.gone.told s2 h.gone.covered (inl refl) h.gone.failed items h.gone.placed (subst (λ (s : S). leaves run.s0 s items h.gone.told (ByCause Memory)) (sym same) came)
+        stops_plain run takes leaves full Memory mid h.gone.parts (kept mid) h.gone.told s2 h.gone.covered items (inl refl) h.gone.failed h.gone.placed h.gone.wanted (λ never. absurd never) (subst (λ (s : S). leaves run.s0 s items h.gone.told (ByCause Memory)) (sym same) came)
     not_told rests s2 (ByCause cause) never = absurd never
     not_told rests s2 Untold half = record {
       parts = h.gone.parts;
@@ -146,7 +148,7 @@ module _ {R A S : Type 0} {takes : S → S → List Placed → (told : List ℕ)
       told = h.gone.told;
       covers = covers run mid h.gone.parts (kept mid) h.gone.told h.gone.covered;
       more = half.0;
-      all = (
+      all = inl (
         kept mid,
         Some fault,
         half.0,
@@ -156,6 +158,8 @@ module _ {R A S : Type 0} {takes : S → S → List Placed → (told : List ℕ)
       caused = h.gone.failed;
       messages = items;
       placed = h.gone.placed;
+      wanted = h.gone.wanted;
+      unfilled = λ never. absurd never;
       came = subst (λ (l : List Placed). leaves run.s0 s2 l (h.gone.told ++ half.0) Untold) (append-nil items) (laws.leaves_after run.s0 s1 s2 items [] h.gone.told half.0 Untold h.gone.came half.2);
     }
 
@@ -200,8 +204,21 @@ module _ {R A S : Type 0} {takes : S → S → List Placed → (told : List ℕ)
       came_told : takes run.s0 s2 items (h.gone.told ++ text)
       came_told = subst (λ (l : List Placed). takes run.s0 s2 l (h.gone.told ++ text)) (append-nil items) (laws.joins run.s0 s1 s2 items [] h.gone.told text h.gone.came took)
 
-      pub halts : run.settings.keeps_going ≡ false → HasEnded run takes mid tally (Some fault) s2
-      halts halt = record { told = h.gone.told; text = text; through = through_there text told (λ goes. absurd (false≢true (sym halt ∙ goes))); messages = items; placed = h.gone.placed; came = came_told }
+      -- more is wanted then
+      still_open : full s2 ≡ false
+      still_open = laws.still s1 s2 text took ∙ h.unfilled
+
+      pub halts : run.settings.keeps_going ≡ false → HasEnded run takes full mid tally (Some fault) s2
+      halts halt = record {
+        told = h.gone.told;
+        text = text;
+        through = through_there text told (λ goes. absurd (false≢true (sym halt ∙ goes)));
+        messages = items;
+        placed = h.gone.placed;
+        wanted = h.gone.wanted;
+        unfilled = still_open;
+        came = came_told;
+      }
 
       module _ (new : RawReader R A) where
         abbrev limits_are : limits_of mid ≡ run.settings.limits
@@ -233,7 +250,7 @@ module _ {R A S : Type 0} {takes : S → S → List Placed → (told : List ℕ)
 
         -- the input ends within it
         pub ends_short : (ended_by : Tally) (end : ℕ) → end ≡ done_of new → ended_by ≡ cut_tally tally (end - tally.size) → (goes : run.settings.keeps_going ≡ true)
-            → Passing run.left run.calls mid new (Ok CutOff) → run.failures (source_of new) ≡ run.failures (source_of mid) → HasEnded run takes new ended_by (Some fault) s2
+            → Passing run.left run.calls mid new (Ok CutOff) → run.failures (source_of new) ≡ run.failures (source_of mid) → HasEnded run takes full new ended_by (Some fault) s2
         ends_short ended_by end there cut goes passing same =
             let a = answer new (Ok CutOff) (λ e. cc) passing in
             let r = a.1.0 in
@@ -248,12 +265,14 @@ module _ {R A S : Type 0} {takes : S → S → List Placed → (told : List ℕ)
                   (cut_off r.bytes a.1.1.0, covered.at_end a.1.1.2, goes) same;
               messages = items;
               placed = h.gone.placed;
+              wanted = h.gone.wanted;
+              unfilled = still_open;
               came = came_told;
             }
 
         -- it states no size
         stays_after : (goes : run.settings.keeps_going ≡ true) (r : Reading new) → IsRefused run.settings.limits (kept mid) fault → StatesNone (limits_of mid) (kept mid ++ r.bytes)
-            → run.failures (source_of new) ≡ run.failures (source_of mid) → HasEnded run takes new tally (Some fault) s2
+            → run.failures (source_of new) ≡ run.failures (source_of mid) → HasEnded run takes full new tally (Some fault) s2
         stays_after goes r refused none same = record {
           told = h.gone.told;
           text = text;
@@ -261,18 +280,22 @@ module _ {R A S : Type 0} {takes : S → S → List Placed → (told : List ℕ)
               ((r.bytes, refl), (λ halt. absurd (false≢true (sym halt ∙ goes))), λ _ whole. subst (λ (l : Limits). StatesNone l (kept mid ++ r.bytes)) limits_are none) same;
           messages = items;
           placed = h.gone.placed;
+          wanted = h.gone.wanted;
+          unfilled = still_open;
           came = came_told;
         }
 
-        pub stays : run.settings.keeps_going ≡ true → Passing run.left run.calls mid new (Ok Not) → run.failures (source_of new) ≡ run.failures (source_of mid) → HasEnded run takes new tally (Some fault) s2
+        pub stays : run.settings.keeps_going ≡ true → Passing run.left run.calls mid new (Ok Not) → run.failures (source_of new) ≡ run.failures (source_of mid) → HasEnded run takes full new tally (Some fault) s2
         stays goes passing same = elim passing [
           | inl p ↦ (let a = answered new (Ok Not) p.0 p.1 p.2 in stays_after goes a.1.0 a.0 a.1.1.0 same)
-          | inr none ↦ transport (λ i. HasEnded run takes (sym none.2 i) tally (Some fault) s2) (record {
+          | inr none ↦ transport (λ i. HasEnded run takes full (sym none.2 i) tally (Some fault) s2) (record {
             told = h.gone.told;
             text = text;
             through = through_there text told (λ goes other refusal. none.0 other [] refusal (fresh mid (some_kept (met other refusal))));
             messages = items;
             placed = h.gone.placed;
+            wanted = h.gone.wanted;
+            unfilled = still_open;
             came = came_told;
           })
         ]
@@ -280,8 +303,9 @@ module _ {R A S : Type 0} {takes : S → S → List Placed → (told : List ℕ)
         module _ (rests : settled s2) where
           -- it was not passed over, since reading was given up
           torn : (goes : run.settings.keeps_going ≡ true) (cause : Cause) (r : Reading new) → IsRefused run.settings.limits (kept mid) fault → WantsMore (limits_of mid) (kept mid ++ r.bytes)
-              → (IsAllOf (Took run new) run.settings (most_reads_of run.old) run.is_check h.gone.parts (kept mid ++ r.bytes) text → More run new (ByCause cause) h.gone.parts (kept mid ++ r.bytes) text)
-              → Stopped run new (ByCause cause) → leaves run.s0 s2 items (h.gone.told ++ text) (ByCause cause) → Within run leaves new (ByCause cause) s2
+              → (IsAllOf (Took run new) run.settings (most_reads_of run.old) run.is_check h.gone.parts (kept mid ++ r.bytes) text
+              → More run (Fills run takes full) new (ByCause cause) h.gone.parts (kept mid ++ r.bytes) items text)
+              → Stopped run new (ByCause cause) → leaves run.s0 s2 items (h.gone.told ++ text) (ByCause cause) → Within run takes leaves full new (ByCause cause) s2
           torn goes cause r refused wants all caused came = record {
             parts = h.gone.parts;
             rest = kept mid ++ r.bytes;
@@ -292,11 +316,13 @@ module _ {R A S : Type 0} {takes : S → S → List Placed → (told : List ℕ)
             caused = caused;
             messages = items;
             placed = h.gone.placed;
+            wanted = h.gone.wanted;
+            unfilled = λ _. (s2, h.gone.told ++ text, came_told, still_open);
             came = came;
           }
 
           pub breaks : (goes : run.settings.keeps_going ≡ true) (broken : ReadFault) → Passing run.left run.calls mid new (Err broken)
-              → DeviceCounts {T = Passed} (run.failures (source_of mid)) (run.failures (source_of new)) (Err broken) → Within run leaves new (ByCause (cause_of broken)) s2
+              → DeviceCounts {T = Passed} (run.failures (source_of mid)) (run.failures (source_of new)) (Err broken) → Within run takes leaves full new (ByCause (cause_of broken)) s2
           breaks goes read.Device passing counts =
               let a = answer new (Err read.Device) (λ e. cc) passing in
               torn goes ReadFailed a.1.0 a.0 a.1.1.0 (λ all. all) (counts.0 ∙ ap one_more h.gone.failed)
@@ -309,7 +335,7 @@ module _ {R A S : Type 0} {takes : S → S → List Placed → (told : List ℕ)
           breaks goes broken passing counts = elim passing [ inl p ↦ absurd (answered new (Err broken) p.0 p.1 p.2).1.1 | inr none ↦ absurd (let e = none.1 in cc) ]
 
         pub goes_on : (past : Tally) (end : ℕ) → end ≡ done_of new → past ≡ record { count = tally.count + 1; size = end; passed = tally.passed + 1; passed_size = tally.passed_size + (end - tally.size); is_cut = tally.is_cut }
-            → run.settings.keeps_going ≡ true → Passing run.left run.calls mid new (Ok Over) → run.failures (source_of new) ≡ run.failures (source_of mid) → HasGone run takes new past s2
+            → run.settings.keeps_going ≡ true → Passing run.left run.calls mid new (Ok Over) → run.failures (source_of new) ≡ run.failures (source_of mid) → HasGone run takes full new past s2
         goes_on past end there past_is goes passing same =
             let a = answer new (Ok Over) (λ e. cc) passing in
             let r = a.1.0 in
@@ -340,32 +366,38 @@ module _ {R A S : Type 0} {takes : S → S → List Placed → (told : List ℕ)
               messages = items;
               placed = placed_past (packets_of run) 1 0 parts (kept mid) fault p.size items h.gone.placed;
               came = came_told;
+              wanted = h.gone.wanted;
+              unfilled = λ enough. absurd (false≢true (sym still_open ∙ enough));
             }
 
 -- ---- how a run ends after its parts, by its last line
 
-module _ {R A S : Type 0} {takes : S → S → List Placed → (told : List ℕ) → Type 0} {run : Begun R A S} {new : RawReader R A} {tally : Tally} {fault : Option Fault} {s1 : S}
-    (h : HasEnded run takes new tally fault s1) where
+module _ {R A S : Type 0} {takes : S → S → List Placed → (told : List ℕ) → Type 0} {full : S → Bool} {run : Begun R A S} {new : RawReader R A} {tally : Tally} {fault : Option Fault} {s1 : S}
+    (h : HasEnded run takes full new tally fault s1) where
   abbrev all : List Placed
   all = h.messages
 
   abbrev line : List ℕ
   line = closing_line run.is_check tally tally.passed fault
 
-  module _ {leaves : S → S → List Placed → (told : List ℕ) → RunStop → Type 0} {settled : S → Type 0} (laws : AddsUp takes leaves settled) (rests : settled s1) (s2 : S) where
+  module _ {leaves : S → S → List Placed → (told : List ℕ) → RunStop → Type 0} {settled : S → Type 0} (laws : AddsUp takes leaves settled full) (rests : settled s1) (s2 : S) where
     pub closes : (res : Result ExitStatus RunStop) → Closes takes leaves run.is_check tally fault s1 s2 res
-        → PassesAll (Took run new) run.settings (most_reads_of run.old) run.is_check takes leaves run.s0 s2 res
-    closes (Ok end) c = record {
-      tally = tally;
-      fault = fault;
-      told = h.told;
-      text = h.text;
-      through = h.through;
-      messages = all;
-      placed = h.placed;
-      came = subst (λ (l : List Placed). takes run.s0 s2 l ((h.told ++ h.text) ++ line)) (append-nil all) (laws.joins run.s0 s1 s2 all [] (h.told ++ h.text) line h.came c.0);
-      end_is = c.1;
-    }
+        → PassesAll (Reads run new) run.settings (most_reads_of run.old) run.is_check takes leaves full run.s0 s2 res
+    closes (Ok end) c =
+        let came = subst (λ (l : List Placed). takes run.s0 s2 l ((h.told ++ h.text) ++ line)) (append-nil all) (laws.joins run.s0 s1 s2 all [] (h.told ++ h.text) line h.came c.0) in
+        inl (record {
+          tally = tally;
+          fault = fault;
+          told = h.told;
+          text = h.text;
+          through = h.through;
+          messages = all;
+          placed = h.placed;
+          wanted = h.wanted;
+          unfilled = (s2, (h.told ++ h.text) ++ line, came, laws.still s1 s2 line c.0 ∙ h.unfilled);
+          came = came;
+          end_is = c.1;
+        })
     closes (Err (ByCause Memory)) c =
         let passed = ap (λ (x : Tally). x.passed) h.through.tally_is in
         record {
@@ -373,11 +405,13 @@ module _ {R A S : Type 0} {takes : S → S → List Placed → (told : List ℕ)
           rest = h.through.rest;
           told = h.told;
           covers = h.through.covers;
+          messages = all;
+          placed = h.placed;
+          wanted = h.wanted;
+          unfilled = λ never. absurd never;
           more = h.text;
           all = inr (h.through.kept, fault, h.through.tells, h.through.cut, h.through.last, subst (λ (n : ℕ). HasLastLine run.is_check n fault) passed c.1);
           caused = h.through.read_failed;
-          messages = all;
-          placed = h.placed;
           came = subst (λ (s : S). leaves run.s0 s all (h.told ++ h.text) (ByCause Memory)) (sym c.0) (laws.rests run.s0 s1 all (h.told ++ h.text) h.came rests).0;
         }
     closes (Err (ByCause cause)) c = absurd c
@@ -388,10 +422,64 @@ module _ {R A S : Type 0} {takes : S → S → List Placed → (told : List ℕ)
           rest = h.through.rest;
           told = h.told;
           covers = h.through.covers;
-          more = h.text ++ line;
-          all = (h.through.kept, fault, h.text, h.through.tells, inr (h.through.cut, h.through.last, ap (λ (x : Tally). h.text ++ closing_line run.is_check x x.passed fault) h.through.tally_is));
-          caused = h.through.read_failed;
           messages = all;
           placed = h.placed;
+          wanted = h.wanted;
+          unfilled = λ never. absurd never;
+          more = h.text ++ line;
+          all = inl (h.through.kept, fault, h.text, h.through.tells, inr (h.through.cut, h.through.last, ap (λ (x : Tally). h.text ++ closing_line run.is_check x x.passed fault) h.through.tally_is));
+          caused = h.through.read_failed;
           came = subst (λ (l : List ℕ). leaves run.s0 s2 all l Untold) (append_assoc h.told h.text line) came;
         }
+
+-- the same if no more is wanted after them
+module _ {R A S : Type 0} {takes : S → S → List Placed → (told : List ℕ) → Type 0} {full : S → Bool} {run : Begun R A S} {new : RawReader R A} {tally : Tally} {s1 : S}
+    (h : HasEnough run takes full new tally s1) {leaves : S → S → List Placed → (told : List ℕ) → RunStop → Type 0} {settled : S → Type 0} (laws : AddsUp takes leaves settled full) (rests : settled s1) (s2 : S) where
+  abbrev due : List ℕ
+  due = closing_line run.is_check tally tally.passed None
+
+  due_is : due ≡ closing_line run.is_check (tally_of h.parts) (passed_count h.parts) None
+  due_is = ap (λ (x : Tally). closing_line run.is_check x x.passed None) h.tally_is
+
+  -- of the parts
+  enough_after : (s : S) (told : List ℕ) → takes run.s0 s h.messages told → full s ≡ true
+      → IsEnough (Took run new) run.settings (most_reads_of run.old) run.is_check (Fills run takes full) h.parts h.messages due
+  enough_after s told took enough = (h.last, (s, told, took, enough), due_is)
+
+  pub closes_enough : (res : Result ExitStatus RunStop) → Closes takes leaves run.is_check tally None s1 s2 res
+      → PassesAll (Reads run new) run.settings (most_reads_of run.old) run.is_check takes leaves full run.s0 s2 res
+  closes_enough (Ok end) c =
+      let came = subst (λ (l : List Placed). takes run.s0 s2 l (h.told ++ due)) (append-nil h.messages) (laws.joins run.s0 s1 s2 h.messages [] h.told due h.came c.0) in
+      inr (record {
+        parts = h.parts;
+        rest = kept new;
+        told = h.told;
+        line = due;
+        covers = covers run new h.parts (kept new) h.told h.covered;
+        messages = h.messages;
+        placed = h.placed;
+        wanted = h.wanted;
+        enough = enough_after s2 (h.told ++ due) came (laws.still s1 s2 due c.0 ∙ h.enough);
+        reads = h.needed;
+        read_failed = h.failed;
+        came = came;
+        end_is = c.1 ∙ ap (λ (x : Tally). status_at x.passed None) h.tally_is;
+      })
+  closes_enough (Err (ByCause Memory)) c =
+      stops_plain run takes leaves full Memory new h.parts (kept new) h.told s2 h.covered h.messages (inl refl) h.failed h.placed h.wanted (λ never. absurd never)
+      (subst (λ (s : S). leaves run.s0 s h.messages h.told (ByCause Memory)) (sym c.0) (laws.rests run.s0 s1 h.messages h.told h.came rests).0)
+  closes_enough (Err (ByCause cause)) c = absurd c
+  closes_enough (Err Untold) c = record {
+    parts = h.parts;
+    rest = kept new;
+    told = h.told;
+    covers = covers run new h.parts (kept new) h.told h.covered;
+    messages = h.messages;
+    placed = h.placed;
+    wanted = h.wanted;
+    unfilled = λ never. absurd never;
+    more = due;
+    all = inr (enough_after s1 h.told h.came h.enough);
+    caused = h.failed;
+    came = subst (λ (l : List Placed). leaves run.s0 s2 l (h.told ++ due) Untold) (append-nil h.messages) (laws.leaves_after run.s0 s1 s2 h.messages [] h.told due Untold h.came c);
+  }

@@ -21,12 +21,13 @@ use Rattle.dbus_stream.proofs.SizeSteps.{none_dropped}
 use Rattle.dbus_stream.specs.RawReading.{IsNewReader, done_of, is_ended, kept, limits_of, most_reads_of, reads_of, source_of, stopped_of}
 use Rattle.dbus_stream.specs.declared.raw_reader.RawReader.{RawReader}
 use Rattle.cli_options.specs.declared.settings.Settings.{Settings}
-use Rattle.cli_report.specs.Devices.{reading, taken, Taken}
-use Rattle.cli_run.specs.Going.{Covers, IsMore, IsStopOf, IsThrough, StopsWithin, AreTold, passed_count, passed_sizes, tally_of}
+use Rattle.cli_report.specs.Devices.{Reading, reading, taken, Taken}
+use Rattle.cli_run.specs.Going.{Covers, EndsWhole, IsMore, IsStopOf, IsThrough, StopsWithin, AreTold, passed_count, passed_sizes, tally_of}
 use Rattle.cli_run.specs.Inputs.{ArePlaced, BeginWithParts, Part, Placed, Whole, sizes_of, wholes}
-use Rattle.cli_run.specs.Onward.{HasKnownPackets, HasRead, HandsRawOn, HandsSomeOn, IsTrueEnd, stop_of}
+use Rattle.cli_run.specs.Needed.{IsReadFor, ReadsFor}
+use Rattle.cli_run.specs.Onward.{HasKnownPackets, HasRead, HandsEnough, HandsRawOn, HandsSomeOn, IsTrueEnd, RawHandsOn, stop_of}
 use Rattle.cli_run.specs.Refusals.{IsRefusedIn, number_of}
-use Rattle.cli_run.specs.Visiting.{AddsUp}
+use Rattle.cli_run.specs.Visiting.{AddsUp, AreWanted, FillsBy, IsOfReading}
 use Rattle.cli_report.specs.declared.ending.Cause.{Cause}
 use Rattle.cli_report.specs.declared.ending.Cause.TheVariants.{Memory, ReadFailed, WriteFailed, TooManyReads}
 use Rattle.cli_run.specs.declared.counted.Counted.{Counted}
@@ -34,6 +35,7 @@ use Rattle.cli_run.specs.declared.tally.Tally.{Tally}
 use Rattle.cli_run.specs.declared.visitor.RunStop.{RunStop}
 use Rattle.cli_run.specs.declared.visitor.RunStop.TheVariants.{Cause as ByCause}
 use Rattle.cli_run.proofs.KnownPackets.{refused_there}
+use Rattle.cli_run.proofs.Wanted.{ends_whole, filled_next, wanted_next}
 use Rattle.cli_run.proofs.PartLaws.{parts_more, parts_both, parts_of, few_parts, few_passed, few_passed_sizes, sizes-both, passed-both, passed_sizes-both, sizes-wholes, passed-wholes, passed_sizes-wholes, placed_both, told_both, told_of}
 
 -- a refusal is no end of the input
@@ -96,8 +98,11 @@ pub record Begun (R A S : Type 0) : Type 0 where
 
 module _ {R A S : Type 0} (run : Begun R A S) where
   -- the source before and after
+  abbrev pub Reads : RawReader R A → Reading R
+  Reads new = reading run.left run.calls run.failures run.packets (source_of run.old) (source_of new)
+
   abbrev pub Took : RawReader R A → Taken
-  Took new = taken (reading run.left run.calls run.failures run.packets (source_of run.old) (source_of new))
+  Took new = taken (Reads new)
 
   -- of which packets the bytes of the input are
   abbrev pub packets_of : Option Packets
@@ -151,11 +156,15 @@ module _ {R A S : Type 0} (run : Begun R A S) where
   abbrev pub Stopped : RawReader R A → RunStop → Type 0
   Stopped new stop = IsStopOf (Took new) (most_reads_of run.old) stop
 
-  abbrev pub More : RawReader R A → RunStop → List Part → List ℕ → List ℕ → Type 0
-  More new stop parts rest more = IsMore (Took new) run.settings (most_reads_of run.old) run.is_check stop parts rest more
+  abbrev pub More : (List Placed → Bool → Type 0) → RawReader R A → RunStop → List Part → List ℕ → List Placed → List ℕ → Type 0
+  More filled new stop parts rest messages more = IsMore (Took new) run.settings (most_reads_of run.old) run.is_check filled stop parts rest messages more
 
-  module _ (takes : S → S → List Placed → (told : List ℕ) → Type 0) where
-    -- where a turn stands
+  module _ (takes : S → S → List Placed → (told : List ℕ) → Type 0) (full : S → Bool) where
+    -- these messages were wanted, of the run
+    abbrev pub Fills : List Placed → Bool → Type 0
+    Fills messages filled = FillsBy takes full run.s0 messages filled
+
+    -- where a turn stands: no more is wanted only if no part came
     pub record HasGone (new : RawReader R A) (tally : Tally) (s : S) : Type 0 where
       pub parts : List Part
       pub told : List ℕ
@@ -166,6 +175,8 @@ module _ {R A S : Type 0} (run : Begun R A S) where
       pub messages : List Placed
       pub placed : ArePlaced packets_of 1 0 parts messages
       pub came : takes run.s0 s messages told
+      pub wanted : AreWanted Fills [] messages
+      pub unfilled : full s ≡ true → parts ≡ []
 
     pub gone_none : ((a : S) → takes a a [] []) → IsNewReader (source_of run.old) (most_reads_of run.old) run.settings.limits run.old
         → HasGone run.old (record { count = 0; size = 0; passed = 0; passed_size = 0; is_cut = false }) run.s0
@@ -188,6 +199,8 @@ module _ {R A S : Type 0} (run : Begun R A S) where
       messages = [];
       placed = refl;
       came = nothing run.s0;
+      wanted = tt;
+      unfilled = λ _. refl;
     }
 
     -- the messages up to a fault, or up to the end, were handed on
@@ -199,6 +212,7 @@ module _ {R A S : Type 0} (run : Begun R A S) where
       pub outcome_is : IsOutcome run.settings.limits (kept new) outcome
       pub fault_is : counted.fault ≡ fault_at_end (kept new) outcome
       pub stopped : stopped_of new ≡ stop_of counted.fault
+      pub unfilled : full s ≡ false
       pub ended : ((f : Fault) → outcome ≡ Refused f → ⊥) → is_ended new ≡ true
       -- the fault is of the packet of the bytes that were read last
       pub refused_in : (fault : Fault) → counted.fault ≡ Some fault → IsRefusedIn packets_of run.settings.limits (done_of new) (kept new) (number_of (run.packet (source_of new)))
@@ -210,16 +224,33 @@ module _ {R A S : Type 0} (run : Begun R A S) where
       pub through : Through new tally fault told text
       pub messages : List Placed
       pub placed : ArePlaced packets_of 1 0 through.parts messages
+      pub wanted : AreWanted Fills [] messages
+      pub unfilled : full s ≡ false
       pub came : takes run.s0 s messages (told ++ text)
 
-  module _ (leaves : S → S → List Placed → (told : List ℕ) → RunStop → Type 0) where
+    -- or no more is wanted after the parts
+    pub record HasEnough (new : RawReader R A) (tally : Tally) (s : S) : Type 0 where
+      pub parts : List Part
+      pub told : List ℕ
+      pub covered : HasCovered new parts (kept new) told
+      pub tally_is : tally ≡ tally_of parts
+      pub failed : run.failures (source_of new) ≡ run.failures (source_of run.old)
+      pub messages : List Placed
+      pub placed : ArePlaced packets_of 1 0 parts messages
+      pub came : takes run.s0 s messages told
+      pub wanted : AreWanted Fills [] messages
+      pub last : EndsWhole parts
+      pub enough : full s ≡ true
+      pub needed : passed_count parts ≡ 0 → IsReadFor (Reads new) (sizes_of parts)
+
+  module _ (takes : S → S → List Placed → (told : List ℕ) → Type 0) (leaves : S → S → List Placed → (told : List ℕ) → RunStop → Type 0) (full : S → Bool) where
     abbrev pub Within : RawReader R A → RunStop → S → Type 0
-    Within new stop s = StopsWithin (Took new) run.settings (most_reads_of run.old) run.is_check (leaves run.s0 s) stop
+    Within new stop s = StopsWithin (Took new) run.settings (most_reads_of run.old) run.is_check (Fills takes full) (leaves run.s0 s) stop
 
     -- nothing is told of the rest
-    pub stops_plain : (cause : Cause) (new : RawReader R A) (parts : List Part) (rest told : List ℕ) (s : S) → HasCovered new parts rest told → More new (ByCause cause) parts rest [] → Stopped new (ByCause cause)
-        → (messages : List Placed) → ArePlaced packets_of 1 0 parts messages → leaves run.s0 s messages told (ByCause cause) → Within new (ByCause cause) s
-    stops_plain cause new parts rest told s h all caused messages placed came = record {
+    pub stops_plain : (cause : Cause) (new : RawReader R A) (parts : List Part) (rest told : List ℕ) (s : S) → HasCovered new parts rest told → (messages : List Placed) → More (Fills takes full) new (ByCause cause) parts rest messages [] → Stopped new (ByCause cause)
+        → ArePlaced packets_of 1 0 parts messages → AreWanted (Fills takes full) [] messages → (IsOfReading (ByCause cause) → Fills takes full messages false) → leaves run.s0 s messages told (ByCause cause) → Within new (ByCause cause) s
+    stops_plain cause new parts rest told s h messages all caused placed wanted unfilled came = record {
       parts = parts;
       rest = rest;
       told = told;
@@ -229,12 +260,14 @@ module _ {R A S : Type 0} (run : Begun R A S) where
       caused = caused;
       messages = messages;
       placed = placed;
+      wanted = wanted;
+      unfilled = unfilled;
       came = subst (λ (l : List ℕ). leaves run.s0 s messages l (ByCause cause)) (sym (append-nil told)) came;
     }
 
 -- ---- messages are handed on
 
-module _ {R A S : Type 0} {takes : S → S → List Placed → (told : List ℕ) → Type 0} {run : Begun R A S} {mid : RawReader R A} {tally : Tally} {s1 : S} (h : HasGone run takes mid tally s1) where
+module _ {R A S : Type 0} {takes : S → S → List Placed → (told : List ℕ) → Type 0} {full : S → Bool} {run : Begun R A S} {mid : RawReader R A} {tally : Tally} {s1 : S} (h : HasGone run takes full mid tally s1) where
   count_parts : tally.count ≡ length h.parts
   count_parts = ap (λ (t : Tally). t.count) h.tally_is
 
@@ -258,7 +291,7 @@ module _ {R A S : Type 0} {takes : S → S → List Placed → (told : List ℕ)
       let at : done_of mid ≡ 0 + sizes_of h.parts = omega (arith, h.done) in
       placed_both (packets_of run) 1 0 h.parts (wholes items) h.messages messages h.placed (transport (λ i. ArePlaced (packets_of run) (n i) (at i) (wholes items) messages) p)
 
-  module _ {leaves : S → S → List Placed → (told : List ℕ) → RunStop → Type 0} {settled : S → Type 0} (laws : AddsUp takes leaves settled) (known : HasKnownPackets run.packets run.packet mid (packets_of run))
+  module _ {leaves : S → S → List Placed → (told : List ℕ) → RunStop → Type 0} {settled : S → Type 0} (laws : AddsUp takes leaves settled full) (known : HasKnownPackets run.packets run.packet mid (packets_of run))
       (new : RawReader R A) (s2 : S) where
     covered_next : (items : List CutMessage) (rest last : List ℕ) → rest ≡ last → HasRead gathering run.left run.calls run.settings.limits (kept mid) mid.reader new.reader items rest
         → HasCovered run new (h.parts ++ wholes items) last h.told
@@ -270,7 +303,7 @@ module _ {R A S : Type 0} {takes : S → S → List Placed → (told : List ℕ)
 
     -- up to a fault, or up to the end
     pub reach : HasKnownPackets run.packets run.packet new (packets_of run) → (counted : Counted) (up : Tally) → up ≡ record tally { count = counted.count; size = counted.size }
-        → HandsRawOn run.left run.calls run.failures run.packets run.packet takes leaves run.settings.limits tally.count counted mid new s1 s2 → HasReached run takes new counted up s2
+        → HandsRawOn run.left run.calls run.failures run.packets run.packet takes leaves full run.settings.limits tally.count counted mid new s1 s2 → HasReached run takes full new counted up s2
     reach known_new counted up is a =
         let items = a.all.items in
         let limits = run.settings.limits in
@@ -288,6 +321,8 @@ module _ {R A S : Type 0} {takes : S → S → List Placed → (told : List ℕ)
             messages = h.messages ++ more;
             placed = placed_next items more (a.all.placed (packets_of run) known);
             came = came;
+            wanted = wanted_next laws run.s0 s1 h.messages h.told h.came more h.wanted a.all.wanted;
+            unfilled = λ enough. absurd (false≢true (sym a.unfilled ∙ enough));
           };
           count_is = ap (λ (t : Tally). t.count) is;
           size_is = ap (λ (t : Tally). t.size) is;
@@ -295,24 +330,62 @@ module _ {R A S : Type 0} {takes : S → S → List Placed → (told : List ℕ)
           outcome_is = subst (λ (l : List ℕ). IsOutcome run.settings.limits l a.all.outcome) (sym a.kept) a.all.outcome_is;
           fault_is = a.all.fault_is ∙ ap (λ (l : List ℕ). fault_at_end l a.all.outcome) (sym a.kept);
           stopped = a.stopped;
+          unfilled = a.unfilled;
           ended = a.all.ended;
           refused_in = λ fault e.
               subst (λ (l : List ℕ). IsRefusedIn (packets_of run) limits (done_of new) l (number_of (run.packet (source_of new)))) (sym a.kept)
               (refused_there run.packets run.packet limits new.reader a.all.rest a.all.read_all a.all.shows_last fault (packets_of run) known_new a.all.outcome a.all.outcome_is (sym e ∙ a.all.fault_is));
         }
 
+    -- up to a fault
+    pub at_fault : (counted : Counted) (fault : Fault) → counted.fault ≡ Some fault → RawHandsOn run.left run.calls run.failures run.packets run.packet takes leaves full run.settings.limits tally.count mid new s1 s2 (Ok counted)
+        → HandsRawOn run.left run.calls run.failures run.packets run.packet takes leaves full run.settings.limits tally.count counted mid new s1 s2
+    at_fault counted fault is hands = elim hands [ inl all ↦ all | inr enough ↦ absurd (let both = sym is ∙ enough.fault_is in cc) ]
+
+    -- no more is wanted
+    pub reach_enough : (tally.passed ≡ 0 → (source_of mid ≡ source_of run.old) × (tally.size ≡ 0)) → (counted : Counted) (up : Tally) → up ≡ record tally { count = counted.count; size = counted.size }
+        → HandsEnough run.left run.calls run.failures run.packets run.packet takes leaves full run.settings.limits tally.count counted mid new s1 s2 → HasEnough run takes full new up s2
+    reach_enough first counted up is a =
+        let items = a.items in
+        let more = a.messages in
+        let size : counted.size ≡ sizes_of h.parts + sizes items = omega (arith, a.size_is, h.done) in
+        let came = subst (λ (l : List ℕ). takes run.s0 s2 (h.messages ++ more) l) (append-nil h.told) (laws.joins run.s0 s1 s2 h.messages more h.told [] h.came a.taken) in
+        let placed = a.placed (packets_of run) known in
+        let none : items ≡ [] → h.parts ≡ [] = λ e.
+        let no_messages : more ≡ [] = subst (λ (l : List CutMessage). ArePlaced (packets_of run) (tally.count + 1) (done_of mid) (wholes l) more) e placed in
+        h.unfilled (sym (laws.still s1 s2 [] (subst (λ (l : List Placed). takes s1 s2 l []) no_messages a.taken)) ∙ a.enough) in
+        record {
+          parts = h.parts ++ wholes items;
+          told = h.told;
+          covered = covered_next items (kept new) (kept new) refl a.read;
+          tally_is = is ∙ wholes_tally h.parts items counted.count counted.size tally h.tally_is a.count_is size;
+          failed = a.failed ∙ h.failed;
+          messages = h.messages ++ more;
+          placed = placed_next items more placed;
+          came = came;
+          wanted = wanted_next laws run.s0 s1 h.messages h.told h.came more h.wanted a.wanted;
+          last = ends_whole h.parts items none;
+          enough = a.enough;
+          needed = λ none.
+              let began = first (ap (λ (t : Tally). t.passed) h.tally_is ∙ omega (arith, none, passed-both h.parts (wholes items))) in
+              let all : sizes items ≡ sizes_of (h.parts ++ wholes items) = omega (arith, began.1, size_parts, sizes-both h.parts (wholes items), sizes-wholes items) in
+              transport (λ i. ReadsFor run.left run.calls (all i) (began.0 i) (source_of new)) a.needed;
+        }
+
     -- not all
     abbrev Handing : Cause → Type 0
-    Handing cause = HandsSomeOn gathering run.left run.calls run.settings.limits (kept mid) run.failures takes leaves tally.count (HasKnownPackets run.packets run.packet mid) cause mid.reader new.reader s1 s2
+    Handing cause = HandsSomeOn gathering run.left run.calls run.settings.limits (kept mid) run.failures takes leaves full tally.count (HasKnownPackets run.packets run.packet mid) cause mid.reader new.reader s1 s2
 
-    stops_some : (cause : Cause) (s : Handing cause) → More run new (ByCause cause) (h.parts ++ wholes s.items) s.rest [] → Stopped run new (ByCause cause) → Within run leaves new (ByCause cause) s2
+    stops_some : (cause : Cause) (s : Handing cause) → More run (Fills run takes full) new (ByCause cause) (h.parts ++ wholes s.items) s.rest (h.messages ++ s.messages) [] → Stopped run new (ByCause cause)
+        → Within run takes leaves full new (ByCause cause) s2
     stops_some cause s all caused =
         let came = subst (λ (l : List ℕ). leaves run.s0 s2 (h.messages ++ s.messages) l (ByCause cause)) (append-nil h.told)
         (laws.leaves_after run.s0 s1 s2 h.messages s.messages h.told [] (ByCause cause) h.came s.given_up) in
-        stops_plain run leaves cause new (h.parts ++ wholes s.items) s.rest h.told s2 (covered_next s.items s.rest s.rest refl s.read) all caused
-        (h.messages ++ s.messages) (placed_next s.items s.messages (s.placed (packets_of run) known)) came
+        stops_plain run takes leaves full cause new (h.parts ++ wholes s.items) s.rest h.told s2 (covered_next s.items s.rest s.rest refl s.read) (h.messages ++ s.messages) all caused
+        (placed_next s.items s.messages (s.placed (packets_of run) known)) (wanted_next laws run.s0 s1 h.messages h.told h.came s.messages h.wanted s.wanted)
+        (λ reads. filled_next laws run.s0 s1 h.messages h.told h.came s.messages false (s.unfilled reads)) came
 
-    pub stop_hand : (cause : Cause) → Handing cause → Within run leaves new (ByCause cause) s2
+    pub stop_hand : (cause : Cause) → Handing cause → Within run takes leaves full new (ByCause cause) s2
     stop_hand Memory s = stops_some Memory s (inl refl) (s.caused ∙ h.failed)
     stop_hand ReadFailed s = stops_some ReadFailed s (inl (s.all, refl)) (s.caused ∙ ap one_more h.failed)
     stop_hand WriteFailed s = stops_some WriteFailed s refl (s.caused ∙ h.failed)

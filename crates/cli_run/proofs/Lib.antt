@@ -1,3 +1,4 @@
+pub mod Wanted
 pub mod RuleSets
 pub mod OutputSteps
 pub mod PartLaws
@@ -14,6 +15,7 @@ pub mod EndSteps
 pub mod RunSteps
 pub mod SameParts
 pub mod SameOutputs
+pub mod SameFar
 pub mod CallSteps
 pub mod LineSteps
 pub mod SameRuns

@@ -1,6 +1,6 @@
 -- What becomes of a visitor that lists messages by a message and by a text that is told, and how a run
 -- ends that lists messages.
-use Rattle.std.proofs.Common.{◌≡◌, ◌⊎◌, ℕ, Bool, false, List, [], ◌∷◌, ◌++◌, length, Option, None, Result, Ok, Err, inl, inr, refl, sym, ap, ◌∙◌, subst, arith, append-nil}
+use Rattle.std.proofs.Common.{◌≡◌, ◌≢◌, ◌⊎◌, ℕ, Bool, false, List, [], ◌∷◌, ◌++◌, length, Option, None, Result, Ok, Err, inl, inr, refl, sym, ap, ◌∙◌, subst, arith, append-nil}
 use Rattle.std.proofs.KnownBytes.{Consumes-nil}
 use Rattle.std.proofs.Math.Path.{transport}
 use Rattle.dbus_value_model.specs.declared.order.Order.{Order}
@@ -16,6 +16,7 @@ use Rattle.dbus_rule_set.specs.Owners.{owners_in}
 use Rattle.cli_options.proofs.Selections.{selected}
 use Rattle.cli_options.specs.declared.settings.Settings.{Settings}
 use Rattle.cli_options.specs.declared.wanted_lines.WantedLines.{WantedLines}
+use Rattle.cli_options.specs.declared.window.Window.{Window}
 use Rattle.cli_report.specs.Devices.{reading, taken, writing}
 use Rattle.cli_report.specs.Gathering.{Breaks, Gathers, Passes, gathered_bytes}
 use Rattle.cli_report.specs.PageLaws.{passes_none}
@@ -27,21 +28,22 @@ use Rattle.cli_report.specs.declared.ending.ExitStatus.TheVariants as status
 use Rattle.cli_report.specs.declared.gathering.Unwritten.{Unwritten}
 use Rattle.cli_report.proofs.GatherSteps.{breaks_before, passes_whole}
 use Rattle.cli_run.specs.CallListing.{StaysIfShort, number_and_time, numbered}
-use Rattle.cli_run.specs.Going.{GoesThrough, StopsWithin}
+use Rattle.cli_run.specs.Going.{Goes, StopsWithin}
 use Rattle.cli_run.specs.Inputs.{Placed}
 use Rattle.cli_run.specs.Learning.{known}
-use Rattle.cli_run.specs.LineListing.{AreLinesOf, AreLinesOfOne, Carries, IsLineAfter, LeavesLines, ListsLines, ListsOne, TakesLines, asked, known_after_all}
-use Rattle.cli_run.specs.Output.{after, line_place, written}
+use Rattle.cli_run.specs.LineListing.{AreLinesFilled, AreLinesOf, AreLinesOfOne, Carries, IsLineAfter, LeavesLines, ListsLines, ListsOne, TakesLines, asked, known_after_all}
+use Rattle.cli_run.specs.Needed.{IsReadFor}
+use Rattle.cli_run.specs.Output.{after, is_spent, line_place, written}
 use Rattle.cli_run.specs.OutputWriting.{FailsBy, LeavesFirst}
 use Rattle.cli_run.specs.Told.{GotFirst, GotSecond, WroteOrNot}
 use Rattle.cli_run.specs.VisitorLaws.{after_none, told_nothing, written_none, wrote_nothing}
-use Rattle.cli_run.specs.Visiting.{LetsGo, TakesOne, TellsOne}
+use Rattle.cli_run.specs.Visiting.{FillsBy, LetsGo, TakesOne, TellsOne}
 use Rattle.cli_run.specs.declared.line_listing.Liner.{Liner}
 use Rattle.cli_run.specs.declared.line_listing.LinesCarried.{LinesCarried}
 use Rattle.cli_run.specs.declared.place.MessagePlace.{MessagePlace}
 use Rattle.cli_run.specs.declared.visitor.RunStop.{RunStop}
 use Rattle.cli_run.specs.declared.visitor.RunStop.TheVariants.{Cause as ByCause, Untold}
-use Rattle.cli_run.proofs.EndSteps.{goes_as, got_first, stops_as}
+use Rattle.cli_run.proofs.EndSteps.{ends_as, got_first, stops_as}
 
 -- ---- each message has a line
 
@@ -84,6 +86,7 @@ module _ {W E : Type 0} (held : W → Option (List ℕ)) (failures : W → ℕ) 
         subst (λ (l : List ℕ). Passes held failures l (gathered_bytes a.gathered) (gathered_bytes b.gathered) a.first.now b.first.now) (sym (written_none a.carried.window)) passes,
       );
       tells = tells;
+      still = λ _. ap (λ (c : LinesCarried). c.window) kept;
     }
 
   left_out : (told : List ℕ) (stop : RunStop) → LeavesFirst held failures false stop [] (gathered_bytes a.gathered) a.first.now b.first.now
@@ -117,6 +120,9 @@ module _ {W E : Type 0} (held : W → Option (List ℕ)) (failures : W → ℕ) 
 
     abbrev item : Placed
     item = record { place = place; item = record { order = order; message = m; size = size } }
+
+    some_item : item ∷ [] ≢ []
+    some_item none = cc
 
     abbrev own : WantedLines
     own = asked a.selector a.width
@@ -157,6 +163,7 @@ module _ {W E : Type 0} (held : W → Option (List ℕ)) (failures : W → ℕ) 
           let listed : Listed before own os0 = (record { wanted_is = same; owners_are = h.2.owners; calls = h.2.calls }, h.0, alone own os0 before h.0 h.1, h.2.window, h.3) in
           for_own (Listed before) listed wanted os before carries;
       tells = none_told;
+      still = λ none. absurd (some_item none);
     }
 
     broken : ((before : List Numbered) → KeepsCalls before a.carried.calls → (lines : List (List ℕ)) × AreLinesOfOne own os0 before order m place lines
@@ -223,15 +230,30 @@ module _ {W E : Type 0} (held : W → Option (List ℕ)) (failures : W → ℕ) 
         subst (λ (y : E). GotSecond second_held second_failures false stop told a.second.now y) second h.tells,
       )
 
+  abbrev Lists : Liner W E → Liner W E → List Placed → (told : List ℕ) → Type 0
+  Lists x y items told = TakesLines held failures second_held second_failures x y items told
+
+  abbrev full : Liner W E → Bool
+  full x = is_spent x.carried.window
+
+  -- whether it wants no more
+  filled_as : (items : List Placed) (filled : Bool) → FillsBy Lists full a items filled → AreLinesFilled wanted settings.window items filled
+  filled_as items filled (x, told, h, is) =
+      let l = h.lists wanted (known wanted.selection None) [] starts in
+      let now = l.3 ∙ ap (λ (v : Window). after v (length l.1)) window in
+      (l.1, l.2, sym (ap is_spent now) ∙ is)
+
   -- the same of a source that stands where this one does
   module _ {R : Type 0} (left : R → Option (List ℕ)) (calls read_failures : R → ℕ) (packets : R → Option Packets) (most : ℕ) (r0 r1 : R) {r2 : R} (source : r1 ≡ r2) where
-    pub ran : {end : ExitStatus} → gathered_bytes b.gathered ≡ [] → GoesThrough (taken (reading left calls read_failures packets r0 r1)) settings most false (TakesLines held failures second_held second_failures a b) end
-        → GoesThrough (taken (reading left calls read_failures packets r0 r2)) settings most false Done end
-    ran {end} last g = subst (λ (y : R). GoesThrough (taken (reading left calls read_failures packets r0 y)) settings most false Done end) source (goes_as (done_as last) g)
+    pub ran : {N : (size : ℕ) → Type 0} {end : ExitStatus} → gathered_bytes b.gathered ≡ []
+        → Goes (taken (reading left calls read_failures packets r0 r1)) settings most false (FillsBy Lists full a) N (TakesLines held failures second_held second_failures a b) end
+        → ((size : ℕ) → N size → IsReadFor (reading left calls read_failures packets r0 r1) size)
+        → Goes (taken (reading left calls read_failures packets r0 r2)) settings most false (AreLinesFilled wanted settings.window) (IsReadFor (reading left calls read_failures packets r0 r2)) Done end
+    ran {N} {end} last g reads = subst (λ (y : R). Goes (taken (reading left calls read_failures packets r0 y)) settings most false (AreLinesFilled wanted settings.window) (IsReadFor (reading left calls read_failures packets r0 y)) Done end) source (ends_as filled_as reads (done_as last) g)
 
-    pub gave_up : {stop : RunStop} → StopsWithin (taken (reading left calls read_failures packets r0 r1)) settings most false (LeavesLines held failures second_held second_failures a b) stop
-        → StopsWithin (taken (reading left calls read_failures packets r0 r2)) settings most false Left stop
-    gave_up {stop} s = subst (λ (y : R). StopsWithin (taken (reading left calls read_failures packets r0 y)) settings most false Left stop) source (stops_as (left_as stop) s)
+    pub gave_up : {stop : RunStop} → StopsWithin (taken (reading left calls read_failures packets r0 r1)) settings most false (FillsBy Lists full a) (LeavesLines held failures second_held second_failures a b) stop
+        → StopsWithin (taken (reading left calls read_failures packets r0 r2)) settings most false (AreLinesFilled wanted settings.window) Left stop
+    gave_up {stop} s = subst (λ (y : R). StopsWithin (taken (reading left calls read_failures packets r0 y)) settings most false (AreLinesFilled wanted settings.window) Left stop) source (stops_as filled_as (left_as stop) s)
 
 -- nothing is read for want of memory
 pub unread : {R W E : Type 0} (left : R → Option (List ℕ)) (calls read_failures : R → ℕ) (packets : R → Option Packets) (r : R) (held : W → Option (List ℕ)) (failures : W → ℕ) (w : W) (second_held : E → Option (List ℕ)) (second_failures : E → ℕ) (e0 e1 : E)
@@ -252,6 +274,8 @@ unread left calls read_failures packets r held failures w second_held second_fai
         caused = refl;
         messages = [];
         placed = refl;
+        wanted = tt;
+        unfilled = λ never. absurd never;
         came = ([], refl, subst (λ (l : List ℕ). Wrote held failures w l w) (sym (written_none settings.window)) (wrote_nothing held failures w), wrote_nothing second_held second_failures e0);
       };
       tells = told;

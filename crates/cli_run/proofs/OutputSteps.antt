@@ -182,9 +182,9 @@ module _ {A W E : Type 0} (held : W → Option (List ℕ)) (failures : W → ℕ
 -- What a window lets through of one text, and of all.
 
 -- a window that leaves nothing out
-pub written_all : (texts : List (List ℕ)) → written (record { skip = 0; limit = None }) texts ≡ concat texts
+pub written_all : (checks_rest : Bool) (texts : List (List ℕ)) → written (record { skip = 0; limit = None; checks_rest = checks_rest }) texts ≡ concat texts
 unfolding written
-written_all texts = refl
+written_all checks_rest texts = refl
 
 -- of numbers: the first is skipped
 skips_one : (skip : ℕ) (limit : Option ℕ) (text : List ℕ) → 0 < skip → concat (at_most limit (drop skip (text ∷ []))) ≡ []

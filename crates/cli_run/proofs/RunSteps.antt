@@ -21,13 +21,14 @@ use Rattle.cli_options.specs.declared.command.Command.{Command}
 use Rattle.cli_options.specs.declared.file_form.FileForm.TheVariants.{Raw}
 use Rattle.cli_options.specs.declared.command.Command.TheVariants.{Check}
 use Rattle.cli_options.specs.declared.settings.Settings.{Settings}
+use Rattle.cli_options.specs.declared.window.Window.{Window}
 use Rattle.cli_run.specs.Running.{Answers, CountsWrite, Fails, TellsLine, WritesBefore, WritesMessages, Runs, RunsWith, Writes, WritesSome}
 use Rattle.cli_report.specs.Devices.{Reading, Writing, taken, writing}
-use Rattle.cli_run.specs.Going.{GoesThrough, IsAllOf, IsThrough, StopsWithin, AreTold, IsToldLast, closing_line, passed_count, status_at, tally_of, tally_with}
+use Rattle.cli_run.specs.Going.{AreDue, GoesThrough, IsAllOf, IsThrough, StopsWithin, AreTold, IsToldLast, closing_line, passed_count, status_at, tally_of, tally_with}
 use Rattle.cli_report.specs.Gathering.{Breaks, IsPrefixTo}
 use Rattle.cli_report.specs.Telling.{cause_line, Told}
 use Rattle.cli_run.specs.Inputs.{ArePlaced, BeginWithParts, IsLast, IsTellable, Part, PassedOver, Placed, Whole, sizes_of, wholes}
-use Rattle.cli_run.specs.Output.{IsFirstOutput, IsFront, IsOutputOfAll, check_line, fault_line, form_of, header_before, is_check, last_line, output_of, owners_known, second_output, whole_output}
+use Rattle.cli_run.specs.Output.{IsFilledBy, IsFirstOutput, IsFront, IsOutputOfAll, check_line, fault_line, form_of, header_before, is_check, last_line, output_of, owners_known, second_output, whole_output}
 use Rattle.cli_run.specs.Refusals.{IsFaultIn}
 use Rattle.cli_run.specs.Told.{GotFirst, GotSecond, TellsStop, first_of, second_of}
 use Rattle.cli_run.specs.VisitorLaws.{first_nothing, second_nothing, wrote_both, wrote_stopped}
@@ -43,9 +44,17 @@ use Rattle.cli_run.proofs.PartLaws.{line_is, sizes-wholes}
 use Rattle.cli_run.proofs.SameOutputs.{none_last}
 use Rattle.cli_run.proofs.OutputSteps.{written_all}
 
+-- the window that leaves nothing out
+abbrev all_of_them : (checks_rest : Bool) → Window
+all_of_them checks_rest = record { skip = 0; limit = None; checks_rest = checks_rest }
+
 -- settings that ask for no more than limits and a handshake
 abbrev plain : Settings → Settings
-plain asked = record asked { explains = false; keeps_going = false; window = record { skip = 0; limit = None } }
+plain asked = record asked { explains = false; keeps_going = false; window = all_of_them asked.window.checks_rest }
+
+-- by them a command wants all messages
+never_filled : (asked : Settings) (command : Command) (items : List Placed) → IsFilledBy command (plain asked).window items true → ⊥
+never_filled asked command items filled = false≢true filled.2
 
 -- `check` makes no texts, and its line goes to the first writer. Of another command the line goes
 -- to the second
@@ -59,12 +68,12 @@ no_header : (items : List Placed) → header_before Raw false items ≡ []
 no_header [] = refl
 no_header (m ∷ items) = refl
 
-first_due : (command : Command) (items : List Placed) (texts : List (List ℕ)) (line : List ℕ) → IsOutputOfAll command (owners_known command None) items texts
-    → first_of (is_check command) (output_of (form_of command) false (record { skip = 0; limit = None }) items texts) line ≡ whole_output (form_of command) items texts ++ first_of (is_check command) [] line
-first_due Check items texts line made =
+first_due : (checks_rest : Bool) (command : Command) (items : List Placed) (texts : List (List ℕ)) (line : List ℕ) → IsOutputOfAll command (owners_known command None) items texts
+    → first_of (is_check command) (output_of (form_of command) false (all_of_them checks_rest) items texts) line ≡ whole_output (form_of command) items texts ++ first_of (is_check command) [] line
+first_due checks_rest Check items texts line made =
     let none : whole_output Raw items texts ≡ [] = λ i. no_header items i ++ concat (no_texts items texts made i) in
     ap (λ (l : List ℕ). l ++ line) (sym none)
-first_due command items texts line made = ap (λ l. header_before (form_of command) false items ++ l) (written_all texts) ∙ sym (append-nil (whole_output (form_of command) items texts))
+first_due checks_rest command items texts line made = ap (λ l. header_before (form_of command) false items ++ l) (written_all checks_rest texts) ∙ sym (append-nil (whole_output (form_of command) items texts))
 
 -- of what is told at the end: of `check` one line, and of another command no last line
 module _ (packet : Option ℕ) where
@@ -204,7 +213,7 @@ module _ {R W E : Type 0} (r : Reading R) (w : Writing W) (e : Writing E) (asked
     module _ (handed : List Placed) (placed : ArePlaced packets 1 0 h.parts handed) (texts : List (List ℕ)) (made : AreOutput handed texts) where
       first_is : first_part handed texts ((told ++ text) ++ closing) ≡ all_of handed texts ++ last_of
       first_is =
-          first_due command handed texts ((told ++ text) ++ closing) made
+          first_due asked.window.checks_rest command handed texts ((told ++ text) ++ closing) made
           ∙ ap (λ l. all_of handed texts ++ l) (ap (first_of (is_check command) []) all_due ∙ (first_line last_packet (is_check command) tally fault
           ∙ (λ i. first_of (is_check command) [] (check_line (count_is i) (size_is i) (fault_is i) last_packet))))
 
@@ -249,7 +258,7 @@ module _ {R W E : Type 0} (r : Reading R) (w : Writing W) (e : Writing E) (asked
         write_caused = b.failed;
       }
 
-  ran : (end : ExitStatus) → GoesThrough (taken r) (plain asked) most (is_check command) (Writes w e (plain asked) command) end → Runs r w e limits most command end
+  ran : (end : ExitStatus) → GoesThrough (taken r) (plain asked) most (is_check command) (IsFilledBy command (plain asked).window) (Writes w e (plain asked) command) end → Runs r w e limits most command end
   ran end g =
       let h = g.through in
       let second = subst (λ (l : List ℕ). Wrote e.held e.failures e.old l e.new) (second_is h) g.came.second in
@@ -260,7 +269,7 @@ module _ {R W E : Type 0} (r : Reading R) (w : Writing W) (e : Writing E) (asked
 
   module _ (before : E) where
     abbrev Within : RunStop → Type 0
-    Within stop = StopsWithin (taken r) (plain asked) most (is_check command) (WritesSome w (writing e.held e.failures e.old before) (plain asked) command) stop
+    Within stop = StopsWithin (taken r) (plain asked) most (is_check command) (IsFilledBy command (plain asked).window) (WritesSome w (writing e.held e.failures e.old before) (plain asked) command) stop
 
     abbrev messages_of : (stop : RunStop) (s : Within stop) → AreMessages limits s.covers.bytes s.parts s.rest s.told
     messages_of stop s = are_messages packets asked 1 0 s.covers.bytes s.parts s.rest s.told s.covers.begin s.covers.tells
@@ -283,7 +292,7 @@ module _ {R W E : Type 0} (r : Reading R) (w : Writing W) (e : Writing E) (asked
 
     texts_alone : (cause : Cause) (s : Within (ByCause cause)) → first_part s.messages s.came.texts (s.told ++ s.more) ≡ all_of s.messages s.came.texts
     texts_alone cause s =
-        ap (λ l. first_part s.messages s.came.texts l) (none_told cause s) ∙ (first_due command s.messages s.came.texts [] s.came.made
+        ap (λ l. first_part s.messages s.came.texts l) (none_told cause s) ∙ (first_due asked.window.checks_rest command s.messages s.came.texts [] s.came.made
         ∙ (ap (λ l. all_of s.messages s.came.texts ++ l) (first_nothing (is_check command)) ∙ append-nil (all_of s.messages s.came.texts)))
 
     -- the first writer got a prefix of what is made of the messages
@@ -341,29 +350,33 @@ module _ {R W E : Type 0} (r : Reading R) (w : Writing W) (e : Writing E) (asked
       | inr some ↦ inr (length {A = ℕ} [] + some.0, wrote_stopped e.held e.failures [] (cause_line cause) some.0 e.old before e.new nothing some.1)
     ]
 
+    -- what was due when a write of it failed
+    due_of : (s : Within Untold) → AreDue (taken r) (plain asked) most (is_check command) s.parts s.rest s.more
+    due_of s = elim s.all [ inl due ↦ due | inr enough ↦ absurd (never_filled asked command s.messages enough.1) ]
+
     -- all was handed on, and a write of the line failed: of `check` that was to the first writer
-    through : (s : Within Untold) → IsThrough (taken r) (plain asked) most (is_check command) (tally_of s.parts) s.all.1 s.told s.all.2
+    through : (s : Within Untold) → IsThrough (taken r) (plain asked) most (is_check command) (tally_of s.parts) (due_of s).1 s.told (due_of s).2
     through s = record {
       parts = s.parts;
       rest = s.rest;
       covers = s.covers;
       cut = false;
       tally_is = refl;
-      kept = s.all.0;
-      tells = s.all.3;
-      last = elim s.all.4 [
-        | inl shown ↦ last_shown limits s.all.0 s.rest s.all.3.outcome _ shown.0
-        | inr last ↦ subst (λ (b : Bool). IsLast b false limits s.all.0 s.rest s.all.3.outcome _) (rest_is last.0 limits s.all.0 s.rest s.all.3.outcome _ last.1).2 last.1
+      kept = (due_of s).0;
+      tells = (due_of s).3;
+      last = elim (due_of s).4 [
+        | inl shown ↦ last_shown limits (due_of s).0 s.rest (due_of s).3.outcome _ shown.0
+        | inr last ↦ subst (λ (b : Bool). IsLast b false limits (due_of s).0 s.rest (due_of s).3.outcome _) (rest_is last.0 limits (due_of s).0 s.rest (due_of s).3.outcome _ last.1).2 last.1
       ];
       read_failed = s.caused;
     }
 
     -- and the last line after it, if it was reached
-    last_due : (s : Within Untold) (cut : Bool) → IsLast cut false limits s.all.0 s.rest s.all.3.outcome (IsAtEnd (r.left r.new))
-        → s.more ≡ s.all.2 ++ closing_line (is_check command) (tally_with cut s.parts s.rest) (tally_with cut s.parts s.rest).passed s.all.1
-        → s.more ≡ s.all.2 ++ closing_line (is_check command) (tally_of s.parts) (passed_count s.parts) s.all.1
+    last_due : (s : Within Untold) (cut : Bool) → IsLast cut false limits (due_of s).0 s.rest (due_of s).3.outcome (IsAtEnd (r.left r.new))
+        → s.more ≡ (due_of s).2 ++ closing_line (is_check command) (tally_with cut s.parts s.rest) (tally_with cut s.parts s.rest).passed (due_of s).1
+        → s.more ≡ (due_of s).2 ++ closing_line (is_check command) (tally_of s.parts) (passed_count s.parts) (due_of s).1
     last_due s cut last more =
-        more ∙ ap (λ (b : Bool). s.all.2 ++ closing_line (is_check command) (tally_with b s.parts s.rest) (tally_with b s.parts s.rest).passed s.all.1) (rest_is cut limits s.all.0 s.rest s.all.3.outcome _ last).2
+        more ∙ ap (λ (b : Bool). (due_of s).2 ++ closing_line (is_check command) (tally_with b s.parts s.rest) (tally_with b s.parts s.rest).passed (due_of s).1) (rest_is cut limits (due_of s).0 s.rest (due_of s).3.outcome _ last).2
 
     untold : (b : Bool) → is_check command ≡ b → (end : ExitStatus) → (s : Within Untold) → end ≡ status.Failed → GotFirst w.held w.failures b Untold (first_of b (output_of (form_of command) false (plain asked).window s.messages s.came.texts) (s.told ++ s.more)) w.old w.new
         → GotSecond e.held e.failures b Untold (second_of b (s.told ++ s.more)) e.old before → TellsStop e.held e.failures b Untold before e.new → Runs r w e limits most command end
@@ -371,20 +384,20 @@ module _ {R W E : Type 0} (r : Reading R) (w : Writing W) (e : Writing E) (asked
     untold true is end s failed first second tells =
         let h = through s in
         let last = closing h in
-        let out = sym (ap (λ b. first_of b (output_of (form_of command) false (plain asked).window s.messages s.came.texts) ((s.told ++ s.all.2) ++ last)) is) ∙ first_is h s.messages s.placed s.came.texts s.came.made in
-        let prefix : IsPrefixTo (s.told ++ s.more) (all_of s.messages s.came.texts ++ last_of h) = elim s.all.4 [
+        let out = sym (ap (λ b. first_of b (output_of (form_of command) false (plain asked).window s.messages s.came.texts) ((s.told ++ (due_of s).2) ++ last)) is) ∙ first_is h s.messages s.placed s.came.texts s.came.made in
+        let prefix : IsPrefixTo (s.told ++ s.more) (all_of s.messages s.came.texts ++ last_of h) = elim (due_of s).4 [
           | inl shown ↦ (last, sym out ∙ ap (λ l. (s.told ++ l) ++ last) (sym shown.1))
-          | inr all ↦ ([], sym out ∙ (append_assoc s.told s.all.2 last ∙ (ap (λ l. s.told ++ l) (sym (last_due s all.0 all.1 all.2)) ∙ sym (append-nil (s.told ++ s.more)))))
+          | inr all ↦ ([], sym out ∙ (append_assoc s.told (due_of s).2 last ∙ (ap (λ l. s.told ++ l) (sym (last_due s all.0 all.1 all.2)) ∙ sym (append-nil (s.told ++ s.more)))))
         ] in
         inr (record { failed = failed; cause = WriteFailed; fails = broken h s.messages s.placed s.came.texts s.came.made (s.told ++ s.more) first prefix; told = told_after WriteFailed second tells })
     untold false is end s failed first second tells =
         let h = through s in
         let last = closing h in
-        let none : last ≡ [] = no_closing (is_check command) (tally_of s.parts) s.all.1 is (passed_is h) in
-        let more : s.more ≡ s.all.2 ++ last = elim s.all.4 [ inl shown ↦ shown.1 ∙ sym (ap (λ l. s.all.2 ++ l) none ∙ append-nil s.all.2) | inr all ↦ last_due s all.0 all.1 all.2 ] in
+        let none : last ≡ [] = no_closing (is_check command) (tally_of s.parts) (due_of s).1 is (passed_is h) in
+        let more : s.more ≡ (due_of s).2 ++ last = elim (due_of s).4 [ inl shown ↦ shown.1 ∙ sym (ap (λ l. (due_of s).2 ++ l) none ∙ append-nil (due_of s).2) | inr all ↦ last_due s all.0 all.1 all.2 ] in
         let line : s.told ++ s.more ≡ line_of h
-        = ap (λ l. s.told ++ l) more ∙ (sym (append_assoc s.told s.all.2 last) ∙ (sym (ap (λ b. second_of b ((s.told ++ s.all.2) ++ last)) is) ∙ second_is h)) in
-        let out = sym (ap (λ b. first_of b (output_of (form_of command) false (plain asked).window s.messages s.came.texts) ((s.told ++ s.all.2) ++ last)) is) ∙ first_is h s.messages s.placed s.came.texts s.came.made in
+        = ap (λ l. s.told ++ l) more ∙ (sym (append_assoc s.told (due_of s).2 last) ∙ (sym (ap (λ b. second_of b ((s.told ++ (due_of s).2) ++ last)) is) ∙ second_is h)) in
+        let out = sym (ap (λ b. first_of b (output_of (form_of command) false (plain asked).window s.messages s.came.texts) ((s.told ++ (due_of s).2) ++ last)) is) ∙ first_is h s.messages s.placed s.came.texts s.came.made in
         let half = subst (λ (l : List ℕ). Stopped e.held e.failures e.old l second.0 before) line second.1 in
         inl (answers h s.messages s.placed s.came.texts s.came.made end (subst (λ (l : List ℕ). Wrote w.held w.failures w.old l w.new) out first)
         (inr (second.0, subst (λ (x : E). Stopped e.held e.failures e.old (line_of h) second.0 x) (sym tells) half, failed)))
@@ -396,8 +409,9 @@ module _ {R W E : Type 0} (r : Reading R) (w : Writing W) (e : Writing E) (asked
     stopped Untold end s failed tells = untold (is_check command) refl end s failed s.came.first s.came.second tells
 
 -- settings that ask for no more are these
-plain_is : (asked : Settings) (explains goes_on : Bool) (skip : ℕ) (limit : Option ℕ) → ask_more (record asked { explains = explains; keeps_going = goes_on; window = record { skip = skip; limit = limit } }) ≡ false
-    → record asked { explains = explains; keeps_going = goes_on; window = record { skip = skip; limit = limit } } ≡ plain asked
+plain_is : (asked : Settings) (explains goes_on : Bool) (skip : ℕ) (limit : Option ℕ)
+    → ask_more (record asked { explains = explains; keeps_going = goes_on; window = record { skip = skip; limit = limit; checks_rest = asked.window.checks_rest } }) ≡ false
+    → record asked { explains = explains; keeps_going = goes_on; window = record { skip = skip; limit = limit; checks_rest = asked.window.checks_rest } } ≡ plain asked
 plain_is asked false false zero None e = refl
 plain_is asked explains goes_on skip limit e = absurd (false≢true (sym e))
 
@@ -407,6 +421,9 @@ pub plainly : {R W E : Type 0} (r : Reading R) (w : Writing W) (e : Writing E) (
 plainly r w e settings no_more most command end runs =
     let by_limits = subst (λ (s : Settings). RunsWith r w e s most command end) (plain_is settings settings.explains settings.keeps_going settings.window.skip settings.window.limit no_more) runs in
     elim by_limits [
-      | inl g ↦ ran r w e settings most command end g
+      | inl goes ↦ elim goes [
+        | inl g ↦ ran r w e settings most command end g
+        | inr far ↦ absurd (never_filled settings command far.messages far.enough.1)
+      ]
       | inr g ↦ stopped r w e settings most command g.before g.stop end g.within g.failed g.tells
     ]

@@ -108,7 +108,7 @@ module _ (limits : Limits) where
     pub uncut : cut ≡ false → (fault : Fault) → IsRefused limits w fault → goes_on ≡ true → StatesNone limits w
     pub none_passed : (fault : Fault) (n : ℕ) → IsRefused limits w fault → goes_on ≡ true → StatesSize limits w n → n ≤ length w → ⊥
 
-  refused_from : (kept w : List ℕ) (fault : Fault) → IsPrefixTo kept w → IsRefused limits kept fault → IsRefused limits w fault
+  pub refused_from : (kept w : List ℕ) (fault : Fault) → IsPrefixTo kept w → IsRefused limits kept fault → IsRefused limits w fault
   refused_from kept w fault p r = subst (λ l. IsRefused limits l fault) (sym p.1) (refused_for_good limits kept p.0 fault r)
 
   -- ---- one list of parts
@@ -118,7 +118,7 @@ module _ (limits : Limits) where
   no_whole w Unfinished item o h = (one_outcome limits w).1 item.order item.message item.size h o.1
   no_whole w (Refused fault) item o h = not_both limits w item.order item.message item.size fault h o
 
-  no_part : (cut goes_on : Bool) (w : List ℕ) (outcome : CutOutcome) (part : Part) (others : List Part) → EndsHere cut goes_on w outcome → IsPart limits w part → ArePassed goes_on (part ∷ others) → ⊥
+  pub no_part : (cut goes_on : Bool) (w : List ℕ) (outcome : CutOutcome) (part : Part) (others : List Part) → EndsHere cut goes_on w outcome → IsPart limits w part → ArePassed goes_on (part ∷ others) → ⊥
   no_part cut goes_on w outcome (Whole item) others e p h = no_whole w outcome item e.outcome_is p
   no_part cut goes_on w outcome (PassedOver kept fault n) others e p h = e.none_passed fault n (refused_from kept w fault p.0 p.1) h.0 p.2 p.3
 

@@ -27,9 +27,10 @@ use Rattle.cli_report.specs.declared.ending.ExitStatus.TheVariants as status
 use Rattle.cli_run.specs.Laws.{AreToldAlike, ExplainsNone, GotAlike, OneCalls, OneCount, OneRun, OneWithin}
 use Rattle.cli_run.specs.ByName.{EndsBy, WritesTables, counting, span_of}
 use Rattle.cli_run.specs.CallListing.{EndsNoted, IsNote, WritesCalls, lack_times, notes, numbered}
-use Rattle.cli_run.specs.Going.{AreTold, GoesThrough, IsThrough, IsToldLast, closing_line, cut_tally, passed_count, status_at, tally_of, tally_with}
+use Rattle.cli_run.specs.Going.{AreTold, Goes, GoesFar, GoesThrough, IsThrough, IsToldLast, closing_line, cut_tally, passed_count, status_at, tally_of, tally_with}
 use Rattle.cli_run.specs.Inputs.{ArePlaced, BeginWithParts, Part, Placed, size_of, sizes_of, wholes}
-use Rattle.cli_run.specs.Output.{is_check, check_line, fault_line, form_of, header_before, last_line, output_of, second_output, status_of, written}
+use Rattle.cli_run.specs.Needed.{IsReadFor}
+use Rattle.cli_run.specs.Output.{IsFilledBy, is_check, check_line, fault_line, form_of, header_before, last_line, output_of, second_output, status_of, written}
 use Rattle.cli_run.specs.Refusals.{IsFaultIn}
 use Rattle.cli_run.specs.Running.{Writes, TellsLine}
 use Rattle.cli_run.specs.Told.{first_of, second_of}
@@ -39,6 +40,7 @@ use Rattle.cli_options.specs.declared.file_form.FileForm.{FileForm}
 use Rattle.cli_run.proofs.Outputs.{header_one}
 use Rattle.cli_run.proofs.PartLaws.{is_last, parts_more, parts_of}
 use Rattle.cli_run.proofs.SameOutputs.{acts_as, are_passed, bare_placed, bare_tally, none_last, none_refused, none_told, one_placed, same_counts, same_last, same_outputs, same_told}
+use Rattle.cli_run.proofs.SameFar.{filled_alike, items_of, not_through, same_far}
 use Rattle.cli_run.proofs.SameParts.{AreSame, EndsHere, IsKeptOf, bare, ends_here, packet_by, same_cut, same_parts}
 use Rattle.std.specs.List.{concat}
 
@@ -61,6 +63,10 @@ AreTakenAlike t u end = ((all : Packets) × (t.packets ≡ Some all) × (u.packe
 
 taken_alike : {R S : Type 0} (r : Reading R) (s : Reading S) (end due : ExitStatus) → due ≡ end → AreToldAlike r s end → AreTakenAlike (taken r) (taken s) due
 taken_alike r s end due is told = elim told [ inl packets ↦ inl (packets.all, packets.one, packets.same) | inr done ↦ inr (is ∙ done) ]
+
+-- two runs took the same messages, told the same, and ended with one status
+abbrev AreAlikeRuns : (t u : Taken) (P Q : List Placed → (told : List ℕ) → Type 0) (end other : ExitStatus) → Type 0
+AreAlikeRuns t u P Q end other = (items also : List Placed) × (told : List ℕ) × P items told × Q also told × (other ≡ end) × (parts : List Part) × ArePlaced t.packets 1 0 parts items × ArePlaced u.packets 1 0 parts also
 
 none_passed : (cut : Bool) (parts : List Part) (rest : List ℕ) → (tally_with cut parts rest).passed ≡ 0 → passed_count parts ≡ 0
 none_passed false parts rest none = none
@@ -86,7 +92,7 @@ module _ (settings : Settings) (is_check : Bool) (input : List ℕ) (bytes : IsB
 
   -- ---- two runs
 
-  module _ {t u : Taken} {most more : ℕ} {P Q : List Placed → (told : List ℕ) → Type 0} {end other : ExitStatus} (g : GoesThrough t settings most is_check P end) (h : GoesThrough u settings more is_check Q other)
+  module _ {t u : Taken} {most more : ℕ} {F G : List Placed → Bool → Type 0} {P Q : List Placed → (told : List ℕ) → Type 0} {end other : ExitStatus} (g : GoesThrough t settings most is_check F P end) (h : GoesThrough u settings more is_check G Q other)
       (explains : ExplainsNone settings end) (known : t.left0 ≡ Some input) (known_too : u.left0 ≡ Some input) (alike : AreTakenAlike t u end) where
     a : IsReached g.through
     a = reached g.through known
@@ -155,10 +161,12 @@ module _ (settings : Settings) (is_check : Bool) (input : List ℕ) (bytes : IsB
       | inr done ↦ none_is done
     ]
 
-    goes_alike : (told : List ℕ) × P g.messages told × Q h.messages told × (other ≡ end) × (parts : List Part) × ArePlaced t.packets 1 0 parts g.messages × ArePlaced u.packets 1 0 parts h.messages
+    goes_alike : AreAlikeRuns t u P Q end other
     goes_alike =
         let closing : closing_line is_check g.tally g.tally.passed g.fault ≡ closing_line is_check h.tally h.tally.passed h.fault = λ i. closing_line is_check (tally_is i) (tally_is i).passed (fault_is i) in
         let all : g.told ++ g.text ++ closing_line is_check g.tally g.tally.passed g.fault ≡ h.told ++ h.text ++ closing_line is_check h.tally h.tally.passed h.fault = λ i. told_is i ++ closing i in (
+          g.messages,
+          h.messages,
           g.told ++ g.text ++ closing_line is_check g.tally g.tally.passed g.fault,
           g.came,
           subst (λ (l : List ℕ). Q h.messages l) (sym all) h.came,
@@ -167,6 +175,77 @@ module _ (settings : Settings) (is_check : Bool) (input : List ℕ) (bytes : IsB
           bare_placed t.packets 1 0 g.through.parts g.messages g.placed,
           subst (λ (l : List Part). ArePlaced u.packets 1 0 l h.messages) (sym same.0) (bare_placed u.packets 1 0 h.through.parts h.messages h.placed),
         )
+
+  -- ---- two runs that end since no more is wanted
+
+  far_begins : {t : Taken} {most : ℕ} {F : List Placed → Bool → Type 0} {N : (size : ℕ) → Type 0} {P : List Placed → (told : List ℕ) → Type 0} {end : ExitStatus} (g : GoesFar t settings most is_check F N P end) → t.left0 ≡ Some input
+      → (last : List ℕ) × BeginWithParts settings.limits input g.parts last
+  far_begins {t} g known =
+      let after = left_over t.left0 t.left1 input g.covers.bytes known g.covers.consumed in
+      (g.rest ++ after.0, subst (λ l. BeginWithParts settings.limits l g.parts (g.rest ++ after.0)) (sym after.2) (parts_more settings.limits g.covers.bytes g.parts g.rest after.0 g.covers.begin))
+
+  module _ {t u : Taken} {most more : ℕ} {F G : List Placed → Bool → Type 0} {P Q : List Placed → (told : List ℕ) → Type 0} {end other : ExitStatus} (one : (s l : List Placed) (x y : Bool) → items_of s ≡ items_of l → F s x → G l y → x ≡ y)
+      (explains : ExplainsNone settings end) (known : t.left0 ≡ Some input) (known_too : u.left0 ≡ Some input) (alike : AreTakenAlike t u end) where
+    module _ {N M : (size : ℕ) → Type 0} (g : GoesFar t settings most is_check F N P end) (h : GoesFar u settings more is_check G M Q other) where
+      far_same : AreSame g.parts h.parts × ((far_begins g known).0 ≡ (far_begins h known_too).0)
+      far_same = same_far settings.limits F G one t.packets u.packets 1 0 1 0 input g.parts h.parts _ _ g.messages h.messages [] [] refl (far_begins g known).1 (far_begins h known_too).1 g.placed h.placed g.wanted h.wanted g.enough.0 h.enough.0
+          g.enough.1 h.enough.1
+
+      far_tally : tally_of g.parts ≡ tally_of h.parts
+      far_tally = bare_tally g.parts ∙ (ap tally_of far_same.0 ∙ sym (bare_tally h.parts))
+
+      far_none : end ≡ status.Done → g.told ≡ h.told
+      far_none done =
+          let none : passed_count g.parts ≡ 0 = (none_refused (passed_count g.parts) None (sym g.end_is ∙ done)).0 in
+          let none_too : passed_count h.parts ≡ 0 = ap (λ (x : Tally). x.passed) (sym far_tally) ∙ none in
+          none_told settings t.packets 1 0 g.parts g.told none g.covers.tells ∙ sym (none_told settings u.packets 1 0 h.parts h.told none_too h.covers.tells)
+
+      far_lines : settings.explains ≡ false → (all : Packets) → t.packets ≡ Some all → u.packets ≡ Some all → g.told ≡ h.told
+      far_lines off all here there =
+          let parts = subst (λ (p : Option Packets). AreTold p settings 1 0 g.parts g.told) here g.covers.tells in
+          let parts_too = subst (λ (p : Option Packets). AreTold p settings 1 0 h.parts h.told) there h.covers.tells in
+          same_told settings off all 1 0 input g.parts h.parts _ _ g.told h.told far_same.0 (far_begins g known).1 (far_begins h known_too).1 parts parts_too
+
+      far_told : g.told ≡ h.told
+      far_told = elim explains [
+        | inl off ↦ elim alike [ inl packets ↦ far_lines off packets.0 packets.1 packets.2 | inr done ↦ far_none done ]
+        | inr done ↦ far_none done
+      ]
+
+      far_alike : AreAlikeRuns t u P Q end other
+      far_alike =
+          let line : g.line ≡ h.line = g.enough.2 ∙ ((λ i. closing_line is_check (far_tally i) (far_tally i).passed None) ∙ sym h.enough.2) in (
+            g.messages,
+            h.messages,
+            g.told ++ g.line,
+            g.came,
+            subst (λ (l : List ℕ). Q h.messages l) (sym (λ i. far_told i ++ line i)) h.came,
+            h.end_is ∙ ((λ i. status_at (sym far_tally i).passed None) ∙ sym g.end_is),
+            bare g.parts,
+            bare_placed t.packets 1 0 g.parts g.messages g.placed,
+            subst (λ (l : List Part). ArePlaced u.packets 1 0 l h.messages) (sym far_same.0) (bare_placed u.packets 1 0 h.parts h.messages h.placed),
+          )
+
+    -- one that goes through, and one that does not
+    far_not : {M : (size : ℕ) → Type 0} (g : GoesThrough t settings most is_check F P end) (h : GoesFar u settings more is_check G M Q other) → ⊥
+    far_not g h =
+        let a = reached g.through known in
+        let b = far_begins h known_too in
+        not_through settings.limits F G one t.packets u.packets g.through.cut settings.keeps_going 1 0 1 0 input g.through.parts h.parts a.last b.0 g.through.tells.outcome g.messages h.messages [] [] refl a.begin b.1 g.placed h.placed g.wanted h.wanted
+        a.ends (are_passed u.packets settings 1 0 h.parts h.told h.covers.tells) g.unfilled h.enough.1
+
+    not_far : {N : (size : ℕ) → Type 0} (g : GoesFar t settings most is_check F N P end) (h : GoesThrough u settings more is_check G Q other) → ⊥
+    not_far g h =
+        let a = far_begins g known in
+        let b = reached h.through known_too in
+        not_through settings.limits G F (λ s l x y e p q. sym (one l s y x (sym e) q p)) u.packets t.packets h.through.cut settings.keeps_going 1 0 1 0 input h.through.parts g.parts b.last a.0 h.through.tells.outcome h.messages g.messages [] [] refl b.begin a.1
+        h.placed g.placed h.wanted g.wanted b.ends (are_passed t.packets settings 1 0 g.parts g.told g.covers.tells) h.unfilled g.enough.1
+
+    ends_alike : {N M : (size : ℕ) → Type 0} → Goes t settings most is_check F N P end → Goes u settings more is_check G M Q other → AreAlikeRuns t u P Q end other
+    ends_alike g h = elim g [
+      | inl through ↦ elim h [ inl too ↦ goes_alike through too explains known known_too alike | inr far ↦ absurd (far_not through far) ]
+      | inr far ↦ elim h [ inl too ↦ absurd (not_far far too) | inr far_too ↦ far_alike far far_too ]
+    ]
 
 -- ---- the laws
 
@@ -177,25 +256,27 @@ one_run R S W V E F r s w v e f settings most more command copy end other same i
         let acts = acts_as command copy same in
         let checks = acts.checks in
         let input = is.input in
-        let k = subst (λ c. GoesThrough (taken s) settings more c (Writes v f settings copy) other) (sym checks) h in
-        let all = goes_alike settings (is_check command) input.0 input.1 g k is.explains input.2 input.3 (taken_alike r s end end refl is.told) in
-        let told = all.0 in (
+        let k = subst (λ c. Goes (taken s) settings more c (IsFilledBy copy settings.window) (IsReadFor s) (Writes v f settings copy) other) (sym checks) h in
+        let all = ends_alike settings (is_check command) input.0 input.1 (filled_alike command copy acts settings.window) is.explains input.2 input.3 (taken_alike r s end end refl is.told) g k in
+        let one = all.0 in
+        let other = all.1 in
+        let told = all.2 in (
           λ packets.
-              let here = subst (λ (p : Option Packets). ArePlaced p 1 0 all.4 g.messages) packets.one all.5 in
-              let there = subst (λ (p : Option Packets). ArePlaced p 1 0 all.4 k.messages) packets.same all.6 in
-              let items = one_placed packets.all 1 0 all.4 g.messages k.messages here there in
-              record { status_is = all.3; items = g.messages; told = told; one = all.1; same = subst (λ (l : List Placed). Writes v f settings copy l told) (sym items) all.2 },
+              let here = subst (λ (p : Option Packets). ArePlaced p 1 0 all.6 one) packets.one all.7 in
+              let there = subst (λ (p : Option Packets). ArePlaced p 1 0 all.6 other) packets.same all.8 in
+              let items = one_placed packets.all 1 0 all.6 one other here there in
+              record { status_is = all.5; items = one; told = told; one = all.3; same = subst (λ (l : List Placed). Writes v f settings copy l told) (sym items) all.4 },
           λ exact alike.
-              let texts = same_outputs command copy acts exact (r.packets r.old) (s.packets s.old) alike all.4 g.messages k.messages all.1.texts all.2.texts all.5 all.6 all.1.made all.2.made in
-              let header : header_before (form_of command) false g.messages ≡ header_before (form_of copy) false k.messages
-              = header_one (form_of command) (r.packets r.old) (s.packets s.old) false 1 0 all.4 g.messages k.messages alike all.5 all.6 ∙ ap (λ (f : FileForm). header_before f false k.messages) acts.form in
-              let first : first_of (is_check command) (output_of (form_of command) false settings.window g.messages all.1.texts) told ≡ first_of (is_check copy) (output_of (form_of copy) false settings.window k.messages all.2.texts) told
+              let texts = same_outputs command copy acts exact (r.packets r.old) (s.packets s.old) alike all.6 one other all.3.texts all.4.texts all.7 all.8 all.3.made all.4.made in
+              let header : header_before (form_of command) false one ≡ header_before (form_of copy) false other
+              = header_one (form_of command) (r.packets r.old) (s.packets s.old) false 1 0 all.6 one other alike all.7 all.8 ∙ ap (λ (f : FileForm). header_before f false other) acts.form in
+              let first : first_of (is_check command) (output_of (form_of command) false settings.window one all.3.texts) told ≡ first_of (is_check copy) (output_of (form_of copy) false settings.window other all.4.texts) told
               = λ i. first_of (checks i) (header i ++ written settings.window (texts i)) told in
               let second : second_of (is_check command) told ≡ second_of (is_check copy) told = λ i. second_of (checks i) told in
               record {
-                status_is = all.3;
-                first = (first_of (is_check command) (output_of (form_of command) false settings.window g.messages all.1.texts) told, all.1.first, subst (λ l. Wrote v.held v.failures v.old l v.new) (sym first) all.2.first);
-                second = (second_of (is_check command) told, all.1.second, subst (λ l. Wrote f.held f.failures f.old l f.new) (sym second) all.2.second);
+                status_is = all.5;
+                first = (first_of (is_check command) (output_of (form_of command) false settings.window one all.3.texts) told, all.3.first, subst (λ l. Wrote v.held v.failures v.old l v.new) (sym first) all.4.first);
+                second = (second_of (is_check command) told, all.3.second, subst (λ l. Wrote f.held f.failures f.old l f.new) (sym second) all.4.second);
               },
         )
         )
@@ -235,19 +316,19 @@ one_count R S W V E F one_table r s w v e f settings form most more end other is
         let due = (ended (WritesTables w form _ _) (writing e.held e.failures g.before e.new) g.due end is.done g.through.came.1).2 in
         let explains = due_explains settings g.due end due is.explains in
         let all = goes_alike settings false input.0 input.1 g.through h.through explains input.2 input.3 (taken_alike r s end g.due (sym due) is.told) in
-        let told = all.0 in
-        let items = g.through.messages in
-        let also = h.through.messages in
-        let counts_too = λ (name : List ℕ). same_counts (s.packets s.old) (r.packets r.old) 1 0 all.4 also items name None all.6 all.5 in
-        let one = ended (WritesTables w form (counting items) (span_of items)) (writing e.held e.failures g.before e.new) g.due end is.done all.1.1 in
-        let too = ended (WritesTables v form (counting also) (span_of also)) (writing f.held f.failures h.before f.new) h.due other is.other_done all.2.1 in
+        let told = all.2 in
+        let items = all.0 in
+        let also = all.1 in
+        let counts_too = λ (name : List ℕ). same_counts (s.packets s.old) (r.packets r.old) 1 0 all.6 also items name None all.8 all.7 in
+        let one = ended (WritesTables w form (counting items) (span_of items)) (writing e.held e.failures g.before e.new) g.due end is.done all.3.1 in
+        let too = ended (WritesTables v form (counting also) (span_of also)) (writing f.held f.failures h.before f.new) h.due other is.other_done all.4.1 in
         let same = subst (λ (c : Counting). AreTables form c words too.0.1.tables) (λ i name. counts_too name i) too.0.1.are in
         let table = one_table form (counting items) words one.0.1.tables too.0.1.tables one.0.1.are same in
-        let ends : other ≡ end = too.2 ∙ (all.3 ∙ sym one.2) in
+        let ends : other ≡ end = too.2 ∙ (all.5 ∙ sym one.2) in
         let second : GotAlike e f = (
           told,
-          subst (λ (x : E). Wrote e.held e.failures e.old told x) (sym one.1) all.1.0,
-          subst (λ (x : F). Wrote f.held f.failures f.old told x) (sym too.1) all.2.0,
+          subst (λ (x : E). Wrote e.held e.failures e.old told x) (sym one.1) all.3.0,
+          subst (λ (x : F). Wrote f.held f.failures f.old told x) (sym too.1) all.4.0,
         ) in (
           record {
             status_is = ends;
@@ -259,9 +340,9 @@ one_count R S W V E F one_table r s w v e f settings form most more end other is
             second = second;
           },
           λ packets.
-              let here = subst (λ (p : Option Packets). ArePlaced p 1 0 all.4 items) packets.one all.5 in
-              let there = subst (λ (p : Option Packets). ArePlaced p 1 0 all.4 also) packets.same all.6 in
-              let placed = one_placed packets.all 1 0 all.4 items also here there in
+              let here = subst (λ (p : Option Packets). ArePlaced p 1 0 all.6 items) packets.one all.7 in
+              let there = subst (λ (p : Option Packets). ArePlaced p 1 0 all.6 also) packets.same all.8 in
+              let placed = one_placed packets.all 1 0 all.6 items also here there in
               let text : one.0.0 ≡ too.0.0 = one.0.1.is ∙ ((λ i. table i ++ span_text form (span_of (placed i))) ∙ sym too.0.1.is) in
               record { status_is = ends; first = (one.0.0, one.0.2, subst (λ l. Wrote v.held v.failures v.old l v.new) (sym text) too.0.2); second = second },
         )
@@ -276,27 +357,27 @@ one_calls R S W V E F r s w v e f settings wanted most more end other is packets
   | inl g ↦ elim listed [
     | inl h ↦ (
         let input = is.input in
-        let items = g.through.messages in
-        let also = h.through.messages in
-        let due = (ended_noted (WritesCalls w wanted items) (IsNote wanted items) (writing e.held e.failures g.before e.new) g.due end is.done g.through.came.1).4 in
+        let due = (ended_noted (WritesCalls w wanted g.through.messages) (IsNote wanted g.through.messages) (writing e.held e.failures g.before e.new) g.due end is.done g.through.came.1).4 in
         let explains = due_explains settings g.due end due is.explains in
         let all = goes_alike settings false input.0 input.1 g.through h.through explains input.2 input.3 (taken_alike r s end g.due (sym due) is.told) in
-        let told = all.0 in
-        let one = ended_noted (WritesCalls w wanted items) (IsNote wanted items) (writing e.held e.failures g.before e.new) g.due end is.done all.1.1 in
-        let too = ended_noted (WritesCalls v wanted also) (IsNote wanted also) (writing f.held f.failures h.before f.new) h.due other is.other_done all.2.1 in
-        let here = subst (λ (p : Option Packets). ArePlaced p 1 0 all.4 items) packets.one all.5 in
-        let there = subst (λ (p : Option Packets). ArePlaced p 1 0 all.4 also) packets.same all.6 in
-        let same = one_placed packets.all 1 0 all.4 also items there here in
+        let items = all.0 in
+        let also = all.1 in
+        let told = all.2 in
+        let one = ended_noted (WritesCalls w wanted items) (IsNote wanted items) (writing e.held e.failures g.before e.new) g.due end is.done all.3.1 in
+        let too = ended_noted (WritesCalls v wanted also) (IsNote wanted also) (writing f.held f.failures h.before f.new) h.due other is.other_done all.4.1 in
+        let here = subst (λ (p : Option Packets). ArePlaced p 1 0 all.6 items) packets.one all.7 in
+        let there = subst (λ (p : Option Packets). ArePlaced p 1 0 all.6 also) packets.same all.8 in
+        let same = one_placed packets.all 1 0 all.6 also items there here in
         let note = one_note wanted items one.1 too.1 one.2 (subst (λ (l : List Placed). IsNote wanted l too.1) same too.2) in
         let listed_too = subst (λ (l : List Placed). AreListed [] (numbered l) too.0.0) same too.0.1 in
         let text : rows_text wanted one.0.0 ≡ rows_text wanted too.0.0 = ap (rows_text wanted) (one_list (numbered items) one.0.0 too.0.0 one.0.1 listed_too) in
         record {
-          status_is = too.4 ∙ (all.3 ∙ sym one.4);
+          status_is = too.4 ∙ (all.5 ∙ sym one.4);
           first = (rows_text wanted one.0.0, one.0.2, subst (λ l. Wrote v.held v.failures v.old l v.new) (sym text) too.0.2);
           second = (
             told ++ one.1,
-            wrote_both e.held e.failures told one.1 e.old g.before e.new all.1.0 one.3,
-            wrote_both f.held f.failures told one.1 f.old h.before f.new all.2.0 (subst (λ (t : List ℕ). Wrote f.held f.failures h.before t f.new) (sym note) too.3),
+            wrote_both e.held e.failures told one.1 e.old g.before e.new all.3.0 one.3,
+            wrote_both f.held f.failures told one.1 f.old h.before f.new all.4.0 (subst (λ (t : List ℕ). Wrote f.held f.failures h.before t f.new) (sym note) too.3),
           );
         }
         )

@@ -21,13 +21,14 @@ use Rattle.dbus_stream.specs.declared.read_fault.ReadFault.TheVariants as read
 use Rattle.cli_run.specs.Going.{GivesUp, GoesThrough, IsThrough, StopsWithin}
 use Rattle.cli_run.specs.Inputs.{Placed}
 use Rattle.cli_run.specs.Told.{GotSecond}
+use Rattle.cli_run.specs.Visiting.{WantsAll}
 use Rattle.cli_run.specs.declared.by_name.Counter.{Counter}
 use Rattle.cli_run.specs.declared.visitor.RunStop.{RunStop}
 use Rattle.cli_run.specs.declared.visitor.RunStop.TheVariants.{Cause as ByCause}
 use Rattle.cli_run.specs.Output.{fault_line}
 use Rattle.cli_run.specs.declared.counted.Counted.{Counted}
 use Rattle.cli_run.specs.declared.counted.NoMessage.{NoMessage}
-use Rattle.cli_run.specs.declared.counted.NoMessage.TheVariants.{Reader, Writer}
+use Rattle.cli_run.specs.declared.counted.NoMessage.TheVariants.{Reader, Writer, Enough}
 
 -- the count of a name after more messages
 abbrev pub after_messages : List Placed → (name : List ℕ) → Option Count → Option Count
@@ -87,13 +88,13 @@ EndsCount w e form c span due end = EndsBy (WritesTables w form c span) e due en
 pub record CountsThrough {R W E : Type 0} (r : Reading R) (w : Writing W) (e : Writing E) (settings : Settings) (form : Form) (most : ℕ) (end : ExitStatus) : Type 0 where
   pub due : ExitStatus
   pub before : E
-  pub through : GoesThrough (taken r) settings most false
+  pub through : GoesThrough (taken r) settings most false WantsAll
       (λ items told. Wrote e.held e.failures e.old told before × EndsCount w (writing e.held e.failures before e.new) form (counting items) (span_of items) due end) due
 
 -- or reading or telling was given up, and no table is written
 abbrev pub CountsByName : {R W E : Type 0} → Reading R → Writing W → Writing E → Settings → Form → (most : ℕ) → ExitStatus → Type 0
 CountsByName r w e settings form most end = CountsThrough r w e settings form most end
-    ⊎ (GivesUp (taken r) settings most false e (λ before items told stop. IsUnwritten stop × GotSecond e.held e.failures false stop told e.old before) end × (w.new ≡ w.old))
+    ⊎ (GivesUp (taken r) settings most false WantsAll e (λ before items told stop. IsUnwritten stop × GotSecond e.held e.failures false stop told e.old before) end × (w.new ≡ w.old))
 
 -- What the messages of an input are counted as.
 
@@ -108,6 +109,7 @@ ended_by count size read.TooManyReads = Err TooManyReads
 abbrev pub stopped_by : ℕ → ℕ → NoMessage → Result Counted Cause
 stopped_by count size (Reader fault) = ended_by count size fault
 stopped_by count size Writer = Err WriteFailed
+stopped_by count size Enough = Ok (record { count = count; size = size; fault = None })
 
 -- by settings that ask for no more all messages were counted, up to the end of the input or a
 -- fault, and the line of the fault is due, with this packet; or reading was given up. most is how
@@ -115,4 +117,4 @@ stopped_by count size Writer = Err WriteFailed
 abbrev pub Tallies : Taken → Settings → (most : ℕ) → (packet : Option ℕ) → Result Counted Cause → Type 0
 Tallies t settings most packet (Ok counted) =
     IsThrough t settings most true (record { count = counted.count; size = counted.size; passed = 0; passed_size = 0; is_cut = false }) counted.fault [] (fault_line counted.size counted.fault packet)
-Tallies t settings most packet (Err cause) = StopsWithin t settings most true (λ items told stop. IsUnwritten stop × (told ≡ [])) (ByCause cause)
+Tallies t settings most packet (Err cause) = StopsWithin t settings most true WantsAll (λ items told stop. IsUnwritten stop × (told ≡ [])) (ByCause cause)

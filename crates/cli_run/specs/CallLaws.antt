@@ -111,8 +111,9 @@ module _ {W E : Type 0} (held : W → Option (List ℕ)) (failures : W → ℕ) 
     tells = second;
   }
 
-  pub lister_adds_up : AddsUp Takes Leaves (λ a. gathered_bytes a.gathered ≡ [])
+  pub lister_adds_up : AddsUp Takes Leaves (λ a. gathered_bytes a.gathered ≡ []) (λ _. false)
   lister_adds_up = record {
+    still = λ a b p h. refl;
     nothing = none_taken;
     joins = both_taken;
     leaves_after = left_after;

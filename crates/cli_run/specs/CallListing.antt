@@ -17,6 +17,7 @@ use Rattle.cli_report.specs.declared.ending.ExitStatus.{ExitStatus}
 use Rattle.cli_report.specs.declared.ending.ExitStatus.TheVariants as status
 use Rattle.cli_run.specs.Going.{GivesUp, GoesThrough}
 use Rattle.cli_run.specs.Inputs.{Placed}
+use Rattle.cli_run.specs.Visiting.{WantsAll}
 use Rattle.cli_run.specs.OutputWriting.{LeavesFirst}
 use Rattle.cli_run.specs.Told.{GotFirst, GotSecond}
 use Rattle.cli_run.specs.declared.call_listing.Lister.{Lister}
@@ -128,11 +129,11 @@ EndsNoted Writes Is e due end = (Writes (Ok tt) × (note : List ℕ) × Is note 
 pub record ListsThrough {R W E : Type 0} (r : Reading R) (w : Writing W) (e : Writing E) (settings : Settings) (wanted : Wanted) (most : ℕ) (end : ExitStatus) : Type 0 where
   pub due : ExitStatus
   pub before : E
-  pub through : GoesThrough (taken r) settings most false
+  pub through : GoesThrough (taken r) settings most false WantsAll
       (λ items told. Wrote e.held e.failures e.old told before × EndsNoted (WritesCalls w wanted items) (IsNote wanted items) (writing e.held e.failures before e.new) due end) due
 
 -- or reading or telling was given up, and the lines that were due before were written
 abbrev pub ListsCalls : {R W E : Type 0} → Reading R → Writing W → Writing E → Settings → Wanted → (most : ℕ) → ExitStatus → Type 0
 ListsCalls r w e settings wanted most end = ListsThrough r w e settings wanted most end
-    ⊎ GivesUp (taken r) settings most false e (λ before items told stop. (rows : List Row) × AreListedBy [] (numbered items) rows
+    ⊎ GivesUp (taken r) settings most false WantsAll e (λ before items told stop. (rows : List Row) × AreListedBy [] (numbered items) rows
     × GotFirst w.held w.failures false stop (rows_text wanted rows) w.old w.new × GotSecond e.held e.failures false stop told e.old before) end

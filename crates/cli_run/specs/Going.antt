@@ -1,7 +1,7 @@
 -- What is read and told of an input by settings, whatever takes its messages: whether refused
 -- messages are explained, and whether they are passed over. most is how many reads may be made, and
 -- is_check says whether an input without fault has a last line.
-use Rattle.std.specs.Prelude.{◌≡◌, ℕ, zero, suc, ◌+◌, ◌-◌, Bool, true, false, List, [], ◌∷◌, ◌++◌, length, codes, decimal, Option, None, Some, ◌⊎◌, Result, Ok, Err}
+use Rattle.std.specs.Prelude.{◌≡◌, ◌≢◌, ℕ, zero, suc, ◌+◌, ◌-◌, Bool, true, false, List, [], ◌∷◌, ◌++◌, length, codes, decimal, Option, None, Some, ◌⊎◌, Result, Ok, Err}
 use Rattle.std.specs.Io.KnownBytes.{Consumes, IsAtEnd}
 use Rattle.dbus_value_model.specs.declared.fault.Fault.{Fault}
 use Rattle.cli_options.specs.declared.settings.Settings.{Settings}
@@ -16,14 +16,16 @@ use Rattle.dbus_stream.specs.Cut.{CutOutcome, IsOutcome}
 use Rattle.dbus_stream.specs.CutEnds.{fault_at_end}
 use Rattle.dbus_stream.specs.declared.read_fault.ReadFault.{ReadFault}
 use Rattle.dbus_stream.specs.declared.read_fault.ReadFault.TheVariants as read
-use Rattle.cli_report.specs.Devices.{RisesAtMost, Taken, Writing}
+use Rattle.cli_report.specs.Devices.{Reading, RisesAtMost, Taken, Writing, taken}
 use Rattle.cli_report.specs.declared.ending.Cause.{Cause}
 use Rattle.cli_report.specs.declared.ending.Cause.TheVariants.{Memory, ReadFailed, WriteFailed, TooManyReads}
 use Rattle.cli_run.specs.Inputs.{Part, Whole, PassedOver, size_of, sizes_of, BeginWithParts, IsCutOff, IsLast, IsTellable, ArePlaced, Placed}
 use Rattle.cli_run.specs.Output.{ok_line, status_of}
 use Rattle.cli_run.specs.declared.tally.Tally.{Tally}
+use Rattle.cli_run.specs.Needed.{IsReadFor}
 use Rattle.cli_run.specs.Refusals.{IsRefusedIn}
 use Rattle.cli_run.specs.Told.{TellsStop}
+use Rattle.cli_run.specs.Visiting.{AreWanted, FillsBy, IsOfReading}
 use Rattle.cli_run.specs.declared.visitor.RunStop.{RunStop}
 use Rattle.cli_run.specs.declared.visitor.RunStop.TheVariants.{Cause as ByCause, Untold}
 
@@ -169,38 +171,76 @@ module _ (t : Taken) (settings : Settings) (most : ℕ) (is_check : Bool) where
   IsAllOf parts rest more = (IsPartial settings.limits rest × (more ≡ [])) ⊎ ((kept : List ℕ) × (fault : Fault) × IsRefused settings.limits kept fault × IsCutOff settings.limits kept rest
       × (settings.keeps_going ≡ true) × IsToldLast t.packets settings (length parts + 1) (sizes_of parts) kept (Some fault) more)
 
-  -- this was told after the parts, or was to be told if a write of it failed
-  abbrev pub IsMore : RunStop → List Part → (rest more : List ℕ) → Type 0
-  IsMore (ByCause Memory) parts rest more = (more ≡ []) ⊎ LacksLast parts rest more
-  IsMore (ByCause ReadFailed) parts rest more = IsAllOf parts rest more
-  IsMore (ByCause WriteFailed) parts rest more = more ≡ []
-  IsMore (ByCause TooManyReads) parts rest more = IsAllOf parts rest more
-  IsMore Untold parts rest more = AreDue parts rest more
+-- a message that is passed over is not the last part
+abbrev pub EndsWhole : List Part → Type 0
+EndsWhole [] = Unit {0}
+EndsWhole (Whole item ∷ parts) = EndsWhole parts
+EndsWhole (PassedOver kept fault size ∷ parts) = (parts ≢ []) × EndsWhole parts
 
-  -- some of the first parts were taken, and told. left says what became of them
+-- filled says of messages whether no more are wanted after them
+module _ (t : Taken) (settings : Settings) (most : ℕ) (is_check : Bool) (filled : List Placed → Bool → Type 0) where
+  -- the last line is due after the parts, since no more is wanted after their messages: nothing
+  -- after the last one is looked at
+  abbrev pub IsEnough : List Part → List Placed → (more : List ℕ) → Type 0
+  IsEnough parts messages more = EndsWhole parts × filled messages true × (more ≡ closing_line is_check (tally_of parts) (passed_count parts) None)
+
+  -- this was told after the parts, or was to be told if a write of it failed
+  abbrev pub IsMore : RunStop → List Part → (rest : List ℕ) → List Placed → (more : List ℕ) → Type 0
+  IsMore (ByCause Memory) parts rest messages more = (more ≡ []) ⊎ LacksLast t settings most is_check parts rest more
+  IsMore (ByCause ReadFailed) parts rest messages more = IsAllOf t settings most is_check parts rest more
+  IsMore (ByCause WriteFailed) parts rest messages more = more ≡ []
+  IsMore (ByCause TooManyReads) parts rest messages more = IsAllOf t settings most is_check parts rest more
+  IsMore Untold parts rest messages more = AreDue t settings most is_check parts rest more ⊎ IsEnough parts messages more
+
+  -- some of the first parts were taken, and told, each message when more were wanted; and so was
+  -- each read made. left says what became of them
   pub record StopsWithin (left : List Placed → (told : List ℕ) → RunStop → Type 0) (stop : RunStop) : Type 0 where
     pub parts : List Part
     pub rest : List ℕ
     pub told : List ℕ
-    pub covers : Covers parts rest told
-    pub more : List ℕ
-    pub all : IsMore stop parts rest more
-    pub caused : IsStopOf t most stop
+    pub covers : Covers t settings most is_check parts rest told
     pub messages : List Placed
     pub placed : ArePlaced t.packets 1 0 parts messages
+    pub wanted : AreWanted filled [] messages
+    pub unfilled : IsOfReading stop → filled messages false
+    pub more : List ℕ
+    pub all : IsMore stop parts rest messages more
+    pub caused : IsStopOf t most stop
     pub came : left messages (told ++ more) stop
 
-  -- all was taken and told, and then the last line. done says what became of it
+  -- all was taken and told, each message when more were wanted, as they are after the last one too;
+  -- and then the last line. done says what became of it
   pub record GoesThrough (done : List Placed → (told : List ℕ) → Type 0) (end : ExitStatus) : Type 0 where
     pub tally : Tally
     pub fault : Option Fault
     pub told : List ℕ
     pub text : List ℕ
-    pub through : IsThrough tally fault told text
+    pub through : IsThrough t settings most is_check tally fault told text
     pub messages : List Placed
     pub placed : ArePlaced t.packets 1 0 through.parts messages
+    pub wanted : AreWanted filled [] messages
+    pub unfilled : filled messages false
     pub came : done messages (told ++ text ++ closing_line is_check tally tally.passed fault)
     pub end_is : end ≡ status_at tally.passed fault
+
+  -- the first parts were taken and told, up to the message after which no more were wanted; and
+  -- then the last line, of these parts. done says what became of it, and needed whether so many
+  -- bytes were needed of the input
+  pub record GoesFar (needed : (size : ℕ) → Type 0) (done : List Placed → (told : List ℕ) → Type 0) (end : ExitStatus) : Type 0 where
+    pub parts : List Part
+    pub rest : List ℕ
+    pub told : List ℕ
+    pub line : List ℕ
+    pub covers : Covers t settings most is_check parts rest told
+    pub messages : List Placed
+    pub placed : ArePlaced t.packets 1 0 parts messages
+    pub wanted : AreWanted filled [] messages
+    pub enough : IsEnough parts messages line
+    -- no read was made after the last of them had come, at least if none was passed over
+    pub reads : passed_count parts ≡ 0 → needed (sizes_of parts)
+    pub read_failed : t.failures1 ≡ t.failures0
+    pub came : done messages (told ++ line)
+    pub end_is : end ≡ status_at (passed_count parts) None
 
   -- it was given up, and the second writer was told why
   pub record GivesUp {E : Type 0} (e : Writing E) (left : E → List Placed → (told : List ℕ) → RunStop → Type 0) (end : ExitStatus) : Type 0 where
@@ -210,10 +250,15 @@ module _ (t : Taken) (settings : Settings) (most : ℕ) (is_check : Bool) where
     pub within : StopsWithin (left before) stop
     pub tells : TellsStop e.held e.failures is_check stop before e.new
 
-  module _ {S : Type 0} (takes : S → S → List Placed → (told : List ℕ) → Type 0) (leaves : S → S → List Placed → (told : List ℕ) → RunStop → Type 0) (s0 s1 : S) where
-    abbrev pub PassesAll : Result ExitStatus RunStop → Type 0
-    PassesAll (Ok end) = GoesThrough (takes s0 s1) end
-    PassesAll (Err stop) = StopsWithin (leaves s0 s1) stop
+  -- all was taken and told, or as much as was wanted
+  abbrev pub Goes : (needed : (size : ℕ) → Type 0) → (done : List Placed → (told : List ℕ) → Type 0) → (end : ExitStatus) → Type 0
+  Goes needed done end = GoesThrough done end ⊎ GoesFar needed done end
+
+module _ {R : Type 0} (r : Reading R) (settings : Settings) (most : ℕ) (is_check : Bool) {S : Type 0} (takes : S → S → List Placed → (told : List ℕ) → Type 0) (leaves : S → S → List Placed → (told : List ℕ) → RunStop → Type 0)
+    (full : S → Bool) (s0 s1 : S) where
+  abbrev pub PassesAll : Result ExitStatus RunStop → Type 0
+  PassesAll (Ok end) = Goes (taken r) settings most is_check (FillsBy takes full s0) (IsReadFor r) (takes s0 s1) end
+  PassesAll (Err stop) = StopsWithin (taken r) settings most is_check (FillsBy takes full s0) (leaves s0 s1) stop
 
 module _ {S : Type 0} (takes : S → S → List Placed → (told : List ℕ) → Type 0) (leaves : S → S → List Placed → (told : List ℕ) → RunStop → Type 0) where
   -- the last line was told, if there is one, and this is the status; or a write of it failed; or

@@ -1,6 +1,6 @@
 -- What is written of one message, and what is read of the next one. g0 and g1 are what is gathered
 -- before and after.
-use Rattle.std.specs.Prelude.{◌≡◌, ◌↔◌, ℕ, Bool, true, IsTrue, List, [], ◌++◌, length, Option, None, Result, Ok, Err, IfOk}
+use Rattle.std.specs.Prelude.{◌≡◌, ◌↔◌, ℕ, Bool, true, false, IsTrue, List, [], ◌++◌, length, Option, None, Result, Ok, Err, IfOk}
 use Rattle.dbus_value_model.specs.declared.order.Order.{Order}
 use Rattle.dbus_message_model.specs.Messages.{MessageTree}
 use Rattle.dbus_validate.specs.declared.validating.Validated.{Validated}
@@ -19,7 +19,7 @@ use Rattle.cli_run.specs.Inputs.{Placed}
 use Rattle.cli_options.specs.declared.file_form.FileForm.{FileForm}
 use Rattle.cli_run.specs.declared.framing.Front.{Front}
 use Rattle.cli_run.specs.declared.counted.NoMessage.{NoMessage}
-use Rattle.cli_run.specs.declared.counted.NoMessage.TheVariants.{Reader, Writer}
+use Rattle.cli_run.specs.declared.counted.NoMessage.TheVariants.{Reader, Writer, Enough}
 use Rattle.cli_run.specs.declared.place.Carried.{Carried}
 use Rattle.cli_run.specs.declared.place.MessagePlace.{MessagePlace}
 use Rattle.cli_run.specs.declared.visitor.RunStop.{RunStop}
@@ -75,15 +75,16 @@ pub record Stays {R A : Type 0} (old now : RawReader R A) : Type 0 where
   pub unstopped : stopped_of now ≡ None
 
 module _ {R S : Type 0} (left : R → Option (List ℕ)) (calls failures : R → ℕ) (takes : S → S → List Placed → (told : List ℕ) → Type 0)
-    (leaves : S → S → List Placed → (told : List ℕ) → RunStop → Type 0) (settled : S → Type 0) where
+    (leaves : S → S → List Placed → (told : List ℕ) → RunStop → Type 0) (settled : S → Type 0) (full : S → Bool) where
   -- what a reader validates of its next message, which it lends. A visitor let go of what it held
-  -- back before a read, and if there is no next message
+  -- back before a read, and if there is no next message. If it wants no more, nothing was looked at
   abbrev pub GivesFrom : {A : Type 0} → RawReader R A → RawReader R A → S → S → Result (Option Validated) NoMessage → Type 0
   GivesFrom from new s0 s1 (Ok validated) = (r : Reads left calls from new) × Advances (kept from ++ r.bytes) from new (Ok validated)
-      × (failures (source_of new) ≡ failures (source_of from)) × takes s0 s1 [] [] × (validated ≡ None → settled s1)
+      × (failures (source_of new) ≡ failures (source_of from)) × takes s0 s1 [] [] × (validated ≡ None → settled s1) × (full s1 ≡ false)
   GivesFrom from new s0 s1 (Err (Reader fault)) = (r : Reads left calls from new) × Advances (kept from ++ r.bytes) from new (Err fault)
-      × DeviceCounts {T = Option Validated} (failures (source_of from)) (failures (source_of new)) (Err fault) × takes s0 s1 [] [] × settled s1
+      × DeviceCounts {T = Option Validated} (failures (source_of from)) (failures (source_of new)) (Err fault) × takes s0 s1 [] [] × settled s1 × (full s1 ≡ false)
   GivesFrom from new s0 s1 (Err Writer) = Reads left calls from new × leaves s0 s1 [] [] (ByCause WriteFailed) × (failures (source_of new) ≡ failures (source_of from))
+  GivesFrom from new s0 s1 (Err Enough) = (new ≡ from) × takes s0 s1 [] [] × settled s1 × (full s1 ≡ true)
 
   abbrev pub GivesNext : {A : Type 0} → RawReader R A → RawReader R A → S → S → Result (Option Validated) NoMessage → Type 0
   GivesNext {A} old new s0 s1 result = (from : RawReader R A) × Stays old from × GivesFrom from new s0 s1 result

@@ -8,6 +8,7 @@ pub mod ByName
 pub mod Visiting
 pub mod OutputWriting
 pub mod Handing
+pub mod Needed
 pub mod Onward
 pub mod Going
 pub mod Running

@@ -14,7 +14,7 @@ use Rattle.cli_run.specs.CallListing.{number_and_time, numbered}
 use Rattle.cli_run.specs.Inputs.{Placed}
 use Rattle.cli_run.specs.Learning.{known_after}
 use Rattle.cli_run.specs.LineListing.{AreLinesOf, Carries, LeavesLines, TakesLines, known_after_all}
-use Rattle.cli_run.specs.Output.{written}
+use Rattle.cli_run.specs.Output.{is_spent, written}
 use Rattle.cli_run.specs.OutputWriting.{LeavesFirst}
 use Rattle.cli_run.specs.Told.{GotSecond}
 use Rattle.cli_run.specs.Visiting.{AddsUp}
@@ -22,6 +22,10 @@ use Rattle.cli_run.specs.VisitorLaws.{after_more, after_none, first_after, secon
 use Rattle.cli_run.specs.declared.line_listing.Liner.{Liner}
 use Rattle.cli_run.specs.declared.visitor.RunStop.{RunStop}
 use Rattle.cli_run.specs.declared.visitor.RunStop.TheVariants.{Cause as ByCause}
+
+no_messages : (s t : List Placed) → s ++ t ≡ [] → (s ≡ []) × (t ≡ [])
+no_messages [] t none = (refl, none)
+no_messages (m ∷ s) t none = absurd cc
 
 known_both : (selection : Selection) (os : NameState) (s t : List Placed) → known_after_all selection (known_after_all selection os s) t ≡ known_after_all selection os (s ++ t)
 known_both selection os [] t = refl
@@ -56,6 +60,7 @@ module _ {W E : Type 0} (held : W → Option (List ℕ)) (failures : W → ℕ) 
       subst (λ (l : List ℕ). Passes held failures l (gathered_bytes a.gathered) (gathered_bytes a.gathered) a.first.now a.first.now) (sym (written_none a.carried.window)) (passes_none held failures (gathered_bytes a.gathered) a.first.now),
     );
     tells = wrote_nothing second_held second_failures a.second.now;
+    still = λ none. refl;
   }
 
   both_taken : (a b c : Liner W E) (s t : List Placed) (p q : List ℕ) → Takes a b s p → Takes b c t q → Takes a c (s ++ t) (p ++ q)
@@ -73,6 +78,7 @@ module _ {W E : Type 0} (held : W → Option (List ℕ)) (failures : W → ℕ) 
               (passes_both held failures (written a.carried.window first.1) (written b.carried.window more.1) (gathered_bytes a.gathered) (gathered_bytes b.gathered) (gathered_bytes c.gathered) a.first.now b.first.now c.first.now first.4 more.4),
         );
     tells = wrote_both second_held second_failures p q a.second.now b.second.now c.second.now h.tells k.tells;
+    still = λ none. let both = no_messages s t none in k.still both.1 ∙ h.still both.0;
   }
 
   left_after : (a b c : Liner W E) (s t : List Placed) (p q : List ℕ) (stop : RunStop) → Takes a b s p → Leaves b c t q stop → Leaves a c (s ++ t) (p ++ q) stop
@@ -103,8 +109,9 @@ module _ {W E : Type 0} (held : W → Option (List ℕ)) (failures : W → ℕ) 
     tells = second;
   }
 
-  pub liner_adds_up : AddsUp Takes Leaves (λ a. gathered_bytes a.gathered ≡ [])
+  pub liner_adds_up : AddsUp Takes Leaves (λ a. gathered_bytes a.gathered ≡ []) (λ a. is_spent a.carried.window)
   liner_adds_up = record {
+    still = λ a b p h. ap is_spent (h.still refl);
     nothing = none_taken;
     joins = both_taken;
     leaves_after = left_after;

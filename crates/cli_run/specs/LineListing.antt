@@ -1,6 +1,6 @@
 -- What `list` writes: of the messages in an input those that are selected, each as a line with the
 -- call that it answers, and what is told of messages that are refused.
-use Rattle.std.specs.Prelude.{◌≡◌, ◌⊎◌, ℕ, false, List, [], ◌∷◌, ◌++◌, length, Option, None, Result, IfOk}
+use Rattle.std.specs.Prelude.{◌≡◌, ◌⊎◌, ℕ, Bool, false, List, [], ◌∷◌, ◌++◌, length, Option, None, Result, IfOk}
 use Rattle.dbus_device.specs.Device.{Wrote}
 use Rattle.dbus_value_model.specs.declared.order.Order.{Order}
 use Rattle.dbus_message_model.specs.Messages.{MessageTree}
@@ -13,15 +13,17 @@ use Rattle.cli_options.specs.Selections.{SelectsBy}
 use Rattle.cli_options.specs.declared.selection.Selection.{Selection}
 use Rattle.cli_options.specs.declared.settings.Settings.{Settings}
 use Rattle.cli_options.specs.declared.wanted_lines.WantedLines.{WantedLines}
+use Rattle.cli_options.specs.declared.window.Window.{Window}
 use Rattle.cli_report.specs.Devices.{Reading, Writing, taken}
 use Rattle.cli_report.specs.Gathering.{GathersOrNot, Passes, gathered_bytes}
 use Rattle.cli_report.specs.declared.ending.Cause.{Cause}
 use Rattle.cli_report.specs.declared.ending.ExitStatus.{ExitStatus}
 use Rattle.cli_run.specs.CallListing.{number_and_time, numbered}
-use Rattle.cli_run.specs.Going.{GivesUp, GoesThrough}
+use Rattle.cli_run.specs.Going.{GivesUp, Goes}
 use Rattle.cli_run.specs.Inputs.{Placed}
 use Rattle.cli_run.specs.Learning.{known, known_after}
-use Rattle.cli_run.specs.Output.{after, line_place, written}
+use Rattle.cli_run.specs.Needed.{IsReadFor}
+use Rattle.cli_run.specs.Output.{after, is_spent, line_place, written}
 use Rattle.cli_run.specs.OutputWriting.{LeavesFirst}
 use Rattle.cli_run.specs.Told.{GotFirst, GotSecond}
 use Rattle.cli_run.specs.declared.line_listing.Liner.{Liner}
@@ -94,6 +96,8 @@ module _ {W E : Type 0} (held : W → Option (List ℕ)) (failures : W → ℕ) 
         × (new.carried.window ≡ after old.carried.window (length lines))
         × Passes held failures (written old.carried.window lines) (gathered_bytes old.gathered) (gathered_bytes new.gathered) old.first.now new.first.now
     pub tells : Wrote second_held second_failures old.second.now told new.second.now
+    -- without a message it stays
+    pub still : items ≡ [] → new.carried.window ≡ old.carried.window
 
   -- the same, as far as this stop let it come
   pub record LeavesLines (old new : Liner W E) (items : List Placed) (told : List ℕ) (stop : RunStop) : Type 0 where
@@ -106,11 +110,15 @@ module _ {W E : Type 0} (held : W → Option (List ℕ)) (failures : W → ℕ) 
 
 -- ---- the run
 
--- what the window lets through of the lines of all messages was written, and all was told; or the run
--- was given up, and the lines of the messages before that were written
+-- this says whether no more messages are wanted after these
+abbrev pub AreLinesFilled : WantedLines → Window → List Placed → Bool → Type 0
+AreLinesFilled wanted window items filled = (lines : List (List ℕ)) × AreLinesOf wanted (known wanted.selection None) [] items lines × (is_spent (after window (length lines)) ≡ filled)
+
+-- what the window lets through of the lines of the messages was written, and all was told; or the
+-- run was given up, and the lines of the messages before that were written
 abbrev pub ListsLines : {R W E : Type 0} → Reading R → Writing W → Writing E → Settings → WantedLines → (most : ℕ) → ExitStatus → Type 0
 ListsLines r w e settings wanted most end =
-    GoesThrough (taken r) settings most false (λ items told. (lines : List (List ℕ)) × AreLinesOf wanted (known wanted.selection None) [] items lines
+    Goes (taken r) settings most false (AreLinesFilled wanted settings.window) (IsReadFor r) (λ items told. (lines : List (List ℕ)) × AreLinesOf wanted (known wanted.selection None) [] items lines
     × Wrote w.held w.failures w.old (written settings.window lines) w.new × Wrote e.held e.failures e.old told e.new) end
-    ⊎ GivesUp (taken r) settings most false e (λ before items told stop. (lines : List (List ℕ)) × AreLinesOf wanted (known wanted.selection None) [] items lines
+    ⊎ GivesUp (taken r) settings most false (AreLinesFilled wanted settings.window) e (λ before items told stop. (lines : List (List ℕ)) × AreLinesOf wanted (known wanted.selection None) [] items lines
     × GotFirst w.held w.failures false stop (written settings.window lines) w.old w.new × GotSecond e.held e.failures false stop told e.old before) end

@@ -2,7 +2,7 @@
 -- the visitor. kept is what the reader keeps there, and before is how many messages came before. k
 -- is what is known of its taker, and limits are those that each message keeps. Are says what is
 -- known of the packets of the input.
-use Rattle.std.specs.Prelude.{◌≡◌, ℕ, ◌+◌, ◌-◌, List, [], ◌++◌, true, length, take, Option, None, Some, Result, Ok, Err}
+use Rattle.std.specs.Prelude.{◌≡◌, ◌⊎◌, ℕ, ◌+◌, ◌-◌, Bool, List, [], ◌++◌, true, false, length, take, Option, None, Some, Result, Ok, Err}
 use Rattle.std.specs.Io.KnownBytes.{Consumes, IsAtEnd}
 use Rattle.dbus_value_model.specs.declared.fault.Fault.{Fault}
 use Rattle.dbus_value_model.specs.declared.limits.Limits.{Limits}
@@ -25,6 +25,8 @@ use Rattle.dbus_stream.specs.declared.read_fault.ReadFault.TheVariants.{Format}
 use Rattle.cli_report.specs.declared.ending.Cause.{Cause}
 use Rattle.cli_report.specs.declared.ending.Cause.TheVariants.{ReadFailed, TooManyReads}
 use Rattle.cli_run.specs.Inputs.{ArePlaced, Placed, wholes}
+use Rattle.cli_run.specs.Needed.{ReadsFor}
+use Rattle.cli_run.specs.Visiting.{AreWanted, FillsBy, IsOfReading}
 use Rattle.cli_run.specs.declared.counted.Counted.{Counted}
 use Rattle.cli_run.specs.declared.visitor.RunStop.{RunStop}
 use Rattle.cli_run.specs.declared.visitor.RunStop.TheVariants.{Cause as ByCause}
@@ -70,7 +72,7 @@ module _ {R T B G : Type 0} {b : Ghosts B} (k : Taking T G) (left : R → Option
     pub at_end : IsTrueEnd left old → IsTrueEnd left new
 
   module _ {S : Type 0} (failures : R → ℕ) (takes : S → S → List Placed → (told : List ℕ) → Type 0) (leaves : S → S → List Placed → (told : List ℕ) → RunStop → Type 0)
-      (before : ℕ) (Are : Option Packets → Type 0) where
+      (full : S → Bool) (before : ℕ) (Are : Option Packets → Type 0) where
     -- all messages were handed on, up to the end of the input or a fault
     pub record HandsAllOn (counted : Counted) (old new : Reader R T B b) (s0 s1 : S) : Type 0 where
       pub items : List CutMessage
@@ -90,6 +92,7 @@ module _ {R T B G : Type 0} {b : Ghosts B} (k : Taking T G) (left : R → Option
       pub messages : List Placed
       pub placed : AreHanded before Are (done_of old) items messages
       pub taken : takes s0 s1 messages []
+      pub wanted : AreWanted (FillsBy takes full s0) [] messages
       pub failed : failures (source_of new) ≡ failures (source_of old)
 
     -- some of the first messages were handed on
@@ -100,6 +103,8 @@ module _ {R T B G : Type 0} {b : Ghosts B} (k : Taking T G) (left : R → Option
       pub all : AreAll limits cause rest
       pub messages : List Placed
       pub placed : AreHanded before Are (done_of old) items messages
+      pub wanted : AreWanted (FillsBy takes full s0) [] messages
+      pub unfilled : IsOfReading (ByCause cause) → FillsBy takes full s0 messages false
       pub given_up : leaves s0 s1 messages [] (ByCause cause)
       pub caused : StopsFor failures cause old new
 
@@ -118,13 +123,30 @@ module _ {R A : Type 0} (packets : R → Option Packets) (packet : R → Option 
   HasKnownPackets r known = HasPacketsIf packets packet r.reader known
 
 module _ {R A S : Type 0} (left : R → Option (List ℕ)) (calls failures : R → ℕ) (packets : R → Option Packets) (packet : R → Option Packet)
-    (takes : S → S → List Placed → (told : List ℕ) → Type 0) (leaves : S → S → List Placed → (told : List ℕ) → RunStop → Type 0) (limits : Limits) (before : ℕ) where
-  -- a reader of raw messages keeps the rest then, and answers the fault
+    (takes : S → S → List Placed → (told : List ℕ) → Type 0) (leaves : S → S → List Placed → (told : List ℕ) → RunStop → Type 0) (full : S → Bool) (limits : Limits) (before : ℕ) where
+  -- a reader of raw messages keeps the rest then, and answers the fault. More messages are wanted
   pub record HandsRawOn (counted : Counted) (old new : RawReader R A) (s0 s1 : S) : Type 0 where
-    pub all : HandsAllOn gathering left calls limits (raw.kept old) failures takes leaves before (HasKnownPackets packets packet old) counted old.reader new.reader s0 s1
+    pub all : HandsAllOn gathering left calls limits (raw.kept old) failures takes leaves full before (HasKnownPackets packets packet old) counted old.reader new.reader s0 s1
     pub kept : raw.kept new ≡ all.rest
     pub stopped : raw.stopped_of new ≡ stop_of counted.fault
+    pub unfilled : full s1 ≡ false
+
+  -- or no more are wanted after some messages. The reader keeps what follows them
+  pub record HandsEnough (counted : Counted) (old new : RawReader R A) (s0 s1 : S) : Type 0 where
+    pub items : List CutMessage
+    pub read : HasRead gathering left calls limits (raw.kept old) old.reader new.reader items (raw.kept new)
+    pub count_is : counted.count ≡ before + length items
+    pub size_is : counted.size ≡ raw.done_of old + sizes items
+    pub fault_is : counted.fault ≡ None
+    pub done : raw.done_of new ≡ counted.size
+    pub messages : List Placed
+    pub placed : AreHanded before (HasKnownPackets packets packet old) (raw.done_of old) items messages
+    pub taken : takes s0 s1 messages []
+    pub wanted : AreWanted (FillsBy takes full s0) [] messages
+    pub enough : full s1 ≡ true
+    pub needed : ReadsFor left calls (sizes items) (raw.source_of old) (raw.source_of new)
+    pub failed : failures (raw.source_of new) ≡ failures (raw.source_of old)
 
   abbrev pub RawHandsOn : RawReader R A → RawReader R A → S → S → Result Counted Cause → Type 0
-  RawHandsOn old new s0 s1 (Ok counted) = HandsRawOn counted old new s0 s1
-  RawHandsOn old new s0 s1 (Err cause) = HandsSomeOn gathering left calls limits (raw.kept old) failures takes leaves before (HasKnownPackets packets packet old) cause old.reader new.reader s0 s1
+  RawHandsOn old new s0 s1 (Ok counted) = HandsRawOn counted old new s0 s1 ⊎ HandsEnough counted old new s0 s1
+  RawHandsOn old new s0 s1 (Err cause) = HandsSomeOn gathering left calls limits (raw.kept old) failures takes leaves full before (HasKnownPackets packets packet old) cause old.reader new.reader s0 s1

@@ -1,5 +1,5 @@
 -- What a command writes of the messages of its input and the fault after them.
-use Rattle.std.specs.Prelude.{◌≡◌, ℕ, ◌+◌, ◌⊎◌, Bool, true, false, ◌&&◌, not, List, [], ◌∷◌, ◌++◌, length, Option, None, Some, codes, decimal, ◌-◌, take, drop, option_map}
+use Rattle.std.specs.Prelude.{◌≡◌, ℕ, zero, suc, ◌+◌, ◌⊎◌, Bool, true, false, ◌&&◌, not, List, [], ◌∷◌, ◌++◌, length, Option, None, Some, codes, decimal, ◌-◌, take, drop, option_map}
 use Rattle.std.specs.FinSet.{empty}
 use Rattle.std.specs.List.{concat}
 use Rattle.dbus_device.specs.Packets.{Packets}
@@ -238,7 +238,25 @@ output_of form begun window items texts = header_before form begun items ++ writ
 
 -- the window for the texts after so many
 abbrev pub after : Window → ℕ → Window
-after window n = record { skip = window.skip - n; limit = option_map (λ limit. limit - (n - window.skip)) window.limit }
+after window n = record { skip = window.skip - n; limit = option_map (λ limit. limit - (n - window.skip)) window.limit; checks_rest = window.checks_rest }
+
+-- nothing more is wanted under a window that lets so many texts through: it lets none, and the rest
+-- is not to be checked
+abbrev is_spent_by : (limit : Option ℕ) → (checks_rest : Bool) → Bool
+is_spent_by None checks_rest = false
+is_spent_by (Some zero) checks_rest = not checks_rest
+is_spent_by (Some (suc n)) checks_rest = false
+
+abbrev pub is_spent : Window → Bool
+is_spent window = is_spent_by window.limit window.checks_rest
+
+-- a command wants no more messages under this window. `check` wants all
+abbrev pub is_filled : Command → Window → Bool
+is_filled command window = is_spent window && not (is_check command)
+
+-- this says whether a command wants no more messages after these
+abbrev pub IsFilledBy : Command → Window → List Placed → Bool → Type 0
+IsFilledBy command window items filled = (texts : List (List ℕ)) × IsOutputOfAll command (owners_known command None) items texts × (is_filled command (after window (length texts)) ≡ filled)
 
 -- a text, or nothing
 abbrev pub text_if : Bool → List ℕ → List ℕ

@@ -6,9 +6,10 @@ use Rattle.dbus_device.specs.Packets.{Packets}
 use Rattle.dbus_value_model.specs.declared.limits.Limits.{Limits}
 use Rattle.cli_options.specs.declared.command.Command.{Command}
 use Rattle.cli_options.specs.declared.settings.Settings.{Settings}
-use Rattle.cli_run.specs.Going.{GivesUp, GoesThrough, IsStopOf}
+use Rattle.cli_run.specs.Going.{GivesUp, Goes, IsStopOf}
 use Rattle.cli_run.specs.Inputs.{ArePlaced, Placed, wholes}
-use Rattle.cli_run.specs.Output.{IsOutputOfAll, form_of, is_check, owners_known, IsFirstOutput, IsFront, output_of, second_output, status_of, whole_output}
+use Rattle.cli_run.specs.Output.{IsOutputOfAll, form_of, is_check, owners_known, IsFilledBy, IsFirstOutput, IsFront, output_of, second_output, status_of, whole_output}
+use Rattle.cli_run.specs.Needed.{IsReadFor}
 use Rattle.cli_run.specs.Refusals.{IsFaultIn}
 use Rattle.cli_run.specs.Told.{GotFirst, GotSecond, first_of, second_of}
 use Rattle.cli_report.specs.Devices.{Reading, Writing, taken, writing, RisesAtMost}
@@ -119,5 +120,5 @@ module _ {W E : Type 0} (w : Writing W) (e : Writing E) (settings : Settings) (c
 -- what a command does with what r reads, by the writers w and e, under these settings
 abbrev pub RunsWith : {R W E : Type 0} → Reading R → Writing W → Writing E → Settings → ℕ → Command → ExitStatus → Type 0
 RunsWith r w e settings most command end =
-    GoesThrough (taken r) settings most (is_check command) (Writes w e settings command) end
-    ⊎ GivesUp (taken r) settings most (is_check command) e (λ before. WritesSome w (writing e.held e.failures e.old before) settings command) end
+    Goes (taken r) settings most (is_check command) (IsFilledBy command settings.window) (IsReadFor r) (Writes w e settings command) end
+    ⊎ GivesUp (taken r) settings most (is_check command) (IsFilledBy command settings.window) e (λ before. WritesSome w (writing e.held e.failures e.old before) settings command) end

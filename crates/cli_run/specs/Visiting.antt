@@ -1,14 +1,35 @@
 -- What is known of a visitor, which takes the messages of an input, and is told what is to be told.
 -- takes says what the visitor was before messages that it took and a text that it told, and after
 -- them. leaves says the same if it, or the reader, gave up after them. settled says that it holds
--- nothing back.
-use Rattle.std.specs.Prelude.{◌≡◌, ℕ, List, [], ◌∷◌, ◌++◌, Result, Ok, Err}
+-- nothing back, and full whether it wants no more messages.
+use Rattle.std.specs.Prelude.{◌≡◌, ℕ, Bool, false, List, [], ◌∷◌, ◌++◌, Result, Ok, Err}
 use Rattle.cli_report.specs.declared.ending.Cause.{Cause}
 use Rattle.cli_report.specs.declared.ending.Cause.TheVariants.{Memory, ReadFailed, WriteFailed, TooManyReads}
 use Rattle.cli_report.specs.declared.gathering.Unwritten.{Unwritten}
 use Rattle.cli_run.specs.Inputs.{Placed}
 use Rattle.cli_run.specs.declared.visitor.RunStop.{RunStop}
 use Rattle.cli_run.specs.declared.visitor.RunStop.TheVariants.{Cause as ByCause, Untold}
+
+-- Which messages are wanted. filled says of messages whether no more are wanted after them.
+
+-- each of these came when more were wanted. before are the messages that came before them
+abbrev pub AreWanted : (filled : List Placed → Bool → Type 0) → (before messages : List Placed) → Type 0
+AreWanted filled before [] = Unit {0}
+AreWanted filled before (m ∷ messages) = filled before false × AreWanted filled (before ++ m ∷ []) messages
+
+-- all are wanted
+abbrev pub WantsAll : List Placed → Bool → Type 0
+WantsAll messages filled = filled ≡ false
+
+-- a visitor that took messages wants no more, or more. full says whether one wants no more
+abbrev pub FillsBy : {S : Type 0} → (takes : S → S → List Placed → (told : List ℕ) → Type 0) → (full : S → Bool) → S → List Placed → Bool → Type 0
+FillsBy {S} takes full a messages filled = (b : S) × (told : List ℕ) × takes a b messages told × (full b ≡ filled)
+
+-- a run is given up by a read, or for want of one
+abbrev pub IsOfReading : RunStop → Type 0
+IsOfReading (ByCause ReadFailed) = Unit {0}
+IsOfReading (ByCause TooManyReads) = Unit {0}
+IsOfReading stop = ⊥
 
 module _ {S : Type 0} (takes : S → S → List Placed → (told : List ℕ) → Type 0) (leaves : S → S → List Placed → (told : List ℕ) → RunStop → Type 0) where
   -- a message was taken; or for want of memory none, or a write of what it makes of it failed
@@ -36,8 +57,10 @@ module _ {S : Type 0} (takes : S → S → List Placed → (told : List ℕ) →
   LetsGo a b (Err e) = leaves a b [] [] (ByCause WriteFailed)
 
   -- this adds up
-  pub record AddsUp (settled : S → Type 0) : Type 0 where
+  pub record AddsUp (settled : S → Type 0) (full : S → Bool) : Type 0 where
     pub nothing : (a : S) → takes a a [] []
+    -- without a message it wants what it wanted
+    pub still : (a b : S) (p : List ℕ) → takes a b [] p → full b ≡ full a
     -- messages and what is told, and then more
     pub joins : (a b c : S) (s t : List Placed) (p q : List ℕ) → takes a b s p → takes b c t q → takes a c (s ++ t) (p ++ q)
     pub leaves_after : (a b c : S) (s t : List Placed) (p q : List ℕ) (stop : RunStop) → takes a b s p → leaves b c t q stop → leaves a c (s ++ t) (p ++ q) stop

@@ -13,7 +13,7 @@ use Rattle.cli_run.specs.declared.visitor.RunStop.TheVariants.{Cause as ByCause,
 use Rattle.std.specs.List.{concat}
 use Rattle.std.proofs.lemmas.List.Folds.{concat-append}
 use Rattle.cli_options.specs.declared.window.Window.{Window}
-use Rattle.cli_run.specs.Output.{after, at_most, begun_after, form_of, header_before, header_if, is_framed, output_of, written, command_of, IsOutputOfAll, is_check, owners_after, owners_after_all, owners_known}
+use Rattle.cli_run.specs.Output.{after, at_most, begun_after, form_of, header_before, header_if, is_framed, output_of, written, command_of, IsOutputOfAll, is_check, is_filled, owners_after, owners_after_all, owners_known}
 use Rattle.dbus_count.specs.Counting.{with_names, counting_of, names_of}
 use Rattle.dbus_count.specs.declared.count.Count.{Count}
 use Rattle.dbus_count.specs.Spans.{with_time, with_times}
@@ -102,14 +102,14 @@ less_both (Some l) skip m n = let less : l - (m - skip) - (n - (skip - m)) ≡ l
 pub after_both : (window : Window) (m n : ℕ) → after (after window m) n ≡ after window (m + n)
 after_both window m n =
     let skip : window.skip - m - n ≡ window.skip - (m + n) = omega arith in
-    λ i. record { skip = skip i; limit = less_both window.limit window.skip m n i }
+    λ i. record { skip = skip i; limit = less_both window.limit window.skip m n i; checks_rest = window.checks_rest }
 
 same_limit : (limit : Option ℕ) (skip : ℕ) → option_map (λ l. l - (0 - skip)) limit ≡ limit
 same_limit None skip = refl
 same_limit (Some l) skip = let same : l - (0 - skip) ≡ l = omega arith in ap Some same
 
 pub after_none : (window : Window) → after window 0 ≡ window
-after_none window = let skip : window.skip - 0 ≡ window.skip = omega arith in λ i. record { skip = skip i; limit = same_limit window.limit window.skip i }
+after_none window = let skip : window.skip - 0 ≡ window.skip = omega arith in λ i. record { skip = skip i; limit = same_limit window.limit window.skip i; checks_rest = window.checks_rest }
 
 pub at_most_none : {A : Type 0} (limit : Option ℕ) → ◌≡◌ {A = List A} (at_most limit []) []
 at_most_none None = refl
@@ -143,8 +143,9 @@ times_both [] t = refl
 times_both (m ∷ s) t = ap (λ l. option_to_list m.place.time ++ l) (times_both s t) ∙ sym (append_assoc (option_to_list m.place.time) (times_of s) (times_of t))
 
 module _ {E : Type 0} (held : E → Option (List ℕ)) (failures : E → ℕ) where
-  pub counter_adds_up : AddsUp (CountsMessages held failures) (LeavesCounted held failures) (λ _. Unit {0})
+  pub counter_adds_up : AddsUp (CountsMessages held failures) (LeavesCounted held failures) (λ _. Unit {0}) (λ _. false)
   counter_adds_up = record {
+    still = λ a b p h. refl;
     nothing = λ a. record { same_second = refl; counts = λ name. refl; span = refl; tells = wrote_nothing held failures a.second.now };
     joins = λ a b c s t p q h k. record {
       same_second = k.same_second ∙ h.same_second;
@@ -180,7 +181,7 @@ after_all_both command os [] more = refl
 after_all_both command os (m ∷ items) more = after_all_both command (owners_after command os m.item.message) items more
 
 -- the header comes before the first message alone
-and_false : (b : Bool) → b && false ≡ false
+pub and_false : (b : Bool) → b && false ≡ false
 and_false true = refl
 and_false false = refl
 
@@ -314,7 +315,11 @@ module _ {A W E : Type 0} (held : W → Option (List ℕ)) (failures : W → ℕ
   }
 
   pub output_adds_up : AddsUp (WritesAll {A = A} held failures second_held second_failures) (LeavesWritten held failures second_held second_failures) (λ a. gathered_bytes a.gathered ≡ [])
+      (λ a. is_filled (command_of a.output) a.carried.window)
   output_adds_up = record {
+    still = λ a b p h.
+        let window = h.window ∙ (ap (λ (l : List (List ℕ)). after a.carried.window (length l)) h.made ∙ after_none a.carried.window) in
+        λ i. is_filled (command_of (h.same_output i)) (window i);
     nothing = λ a. lets_out a a refl refl refl refl refl (passes_none held failures (gathered_bytes a.gathered) a.first.now);
     joins = λ a b c s t p q h. joins a b c s t p q h;
     leaves_after = λ a b c s t p q stop h. leaves_after a b c s t p q h stop;

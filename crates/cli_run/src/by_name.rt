@@ -1,5 +1,5 @@
 //! The messages of a source, counted by their names.
-ghost use Rattle.std.specs.Prelude.{◌≡◌, ◌^◌};
+ghost use Rattle.std.specs.Prelude.{◌≡◌, ◌^◌, false};
 ghost use Rattle.std.specs.Option.{option_to_list};
 ghost use Rattle.dbus_count.specs.Counting.{counting_of};
 ghost use Rattle.dbus_count.specs.Spans.{with_times};
@@ -46,6 +46,12 @@ impl<E: Sink> MessageVisitor for Counter<'_, E> {
     ghost leaves = { LeavesCounted E.held E.failures };
 
     ghost settled = { λ _. Unit {0} };
+
+    ghost full = { λ _. false };
+
+    fn is_full(&self) -> bool {
+        false
+    }
 
     fn settle(&mut self) -> Result<(), Unwritten> {
         Ok(())

@@ -1,5 +1,5 @@
 //! The calls of a source, and what came of them, listed.
-ghost use Rattle.std.specs.Prelude.{◌≡◌, ◌^◌, ◌++◌, [], ◌∷◌, IfOk, List, OnOk, length, string_bytes};
+ghost use Rattle.std.specs.Prelude.{◌≡◌, ◌^◌, ◌++◌, [], ◌∷◌, IfOk, List, OnOk, length, string_bytes, false};
 ghost use Rattle.dbus_value_model.specs.declared.order.Order.{Order};
 ghost use Rattle.dbus_message_model.specs.Messages.{MessageTree};
 ghost use Rattle.dbus_header.specs.MessageOutcomes.{IsWhole};
@@ -59,6 +59,12 @@ impl<W: Sink, E: Sink> MessageVisitor for Lister<'_, '_, W, E> {
     ghost leaves = { LeavesCalls W.held W.failures E.held E.failures };
 
     ghost settled = { λ a. gathered_bytes a.gathered ≡ [] };
+
+    ghost full = { λ _. false };
+
+    fn is_full(&self) -> bool {
+        false
+    }
 
     fn settle(&mut self) -> Result<(), Unwritten> {
         write_out(&mut self.gathered, self.first)

@@ -9,9 +9,11 @@ pub(crate) enum NoMessage {
     Reader(ReadFault),
     /// A write failed, or took none of its bytes.
     Writer,
+    /// No more messages are wanted.
+    Enough,
 }
 
-/// The messages of an input that was read to its end or to a fault.
+/// The messages of an input that was read to its end, to a fault, or as far as was wanted.
 #[derive(Clone, Copy, Debug, PartialEq, Eq)]
 pub(crate) struct Counted {
     /// How many there are, and how many bytes they have.

@@ -2,7 +2,7 @@
 //! passed over.
 ghost use Rattle.std.specs.Prelude.{◌≡◌, ◌≤◌, ◌^◌, IfOk};
 ghost use Rattle.dbus_stream.specs.RawReading.{IsNewReader, kept, most_reads_of, source_of};
-ghost use Rattle.cli_report.specs.Devices.{reading, taken};
+ghost use Rattle.cli_report.specs.Devices.{reading};
 ghost use Rattle.cli_run.specs.Going.{Closes, PassesAll, cause_of, IsTold};
 ghost use Rattle.cli_run.specs.Told.{TellsStop};
 ghost use Rattle.cli_run.specs.Visiting.{Tells};
@@ -17,9 +17,10 @@ use dbus_stream::{Passed, RawReader, ReadFault, Sink, Source};
 use dbus_value_model::Fault;
 use std::alloc::Allocator;
 
-/// Hands the messages of a source to the visitor, up to its end, a message that is refused and not
-/// passed over, or this number of reads. The visitor tells each refusal, and then the last line, if
-/// there is one: what was passed over, or, of `check`, that nothing is refused.
+/// Hands the messages of a source to the visitor, as long as it wants more, up to its end, a message
+/// that is refused and not passed over, or this number of reads. The visitor tells each refusal,
+/// and then the last line, if there is one: what was passed over, or, of `check`, that nothing is
+/// refused.
 ///
 /// Returns the status that is due, or why the run is given up; and the source.
 pub(crate) fn pass_through<R: Source + Drop, A: Allocator + Copy, V: MessageVisitor>(
@@ -32,8 +33,8 @@ pub(crate) fn pass_through<R: Source + Drop, A: Allocator + Copy, V: MessageVisi
 ) -> (Result<ExitStatus, RunStop>, R)
     requires few { reads ≤ 2 ^ 32 }
     requires settled { V.settled visitor.old }
-    ensures passes { PassesAll (taken (reading R.left R.calls R.failures R.packets source result.1))
-        settings reads is_check V.takes V.leaves visitor.old visitor.new result.0 }
+    ensures passes { PassesAll (reading R.left R.calls R.failures R.packets source result.1)
+        settings reads is_check V.takes V.leaves V.full visitor.old visitor.new result.0 }
     ensures settled { IfOk result.0 (λ _. V.settled visitor.new) }
     ensures same_reference { R.reference result.1 ≡ R.reference source }
 {
@@ -53,9 +54,10 @@ fn hand_parts<R: Source, A: Allocator + Copy, V: MessageVisitor>(
     requires new { IsNewReader (source_of messages.old) (most_reads_of messages.old) settings.limits
         messages.old }
     requires settled { V.settled visitor.old }
-    ensures passes { PassesAll (taken (reading R.left R.calls R.failures R.packets
-        (source_of messages.old) (source_of messages.new)))
-        settings (most_reads_of messages.old) is_check V.takes V.leaves visitor.old visitor.new result }
+    ensures passes { PassesAll (reading R.left R.calls R.failures R.packets
+        (source_of messages.old) (source_of messages.new))
+        settings (most_reads_of messages.old) is_check V.takes V.leaves V.full visitor.old
+        visitor.new result }
     ensures settled { IfOk result (λ _. V.settled visitor.new) }
     ensures same_reference { R.reference (source_of messages.new) ≡
         R.reference (source_of messages.old) }

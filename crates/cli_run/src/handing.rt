@@ -1,5 +1,5 @@
 //! The messages of a reader are handed to a visitor.
-ghost use Rattle.std.specs.Prelude.{◌≡◌, ◌≤◌, ◌^◌, ℕ, None, IfOk};
+ghost use Rattle.std.specs.Prelude.{◌≡◌, ◌≤◌, ◌^◌, ℕ, None, IfOk, false};
 ghost use Rattle.dbus_stream.specs.RawReading.{source_of, done_of, limits_of, stopped_of, KeepsPackets};
 ghost use Rattle.cli_run.specs.ByName.{ended_by, stopped_by};
 ghost use Rattle.cli_run.specs.Handing.{GivesNext};
@@ -17,19 +17,25 @@ use std::alloc::Allocator;
 
 // What is validated of the next message, which the reader lends then, if there is one. If the
 // reader keeps none, the visitor lets go of what it holds back, and then more is read, unless what
-// is kept has a fault.
+// is kept has a fault. If the visitor wants no more, nothing is looked at.
 fn next_message<R: Source, A: Allocator + Copy, V: MessageVisitor>(
     messages: &mut RawReader<R, A>,
     visitor: &mut V,
 ) -> Result<Option<Validated>, NoMessage>
     requires { stopped_of messages.old ≡ None }
-    ensures gives { GivesNext R.left R.calls R.failures V.takes V.leaves V.settled messages.old messages.new
-        visitor.old visitor.new result }
+    ensures gives { GivesNext R.left R.calls R.failures V.takes V.leaves V.settled V.full
+        messages.old messages.new visitor.old visitor.new result }
     ensures packets { KeepsPackets R.packets R.packet messages.old messages.new }
     ensures few { IfOk result (λ _. done_of messages.new ≤ 2 ^ 50) }
     ensures same_reference { R.reference (source_of messages.new) ≡
         R.reference (source_of messages.old) }
 {
+    if visitor.is_full() {
+        return match visitor.settle() {
+            Ok(()) => Err(NoMessage::Enough),
+            Err(Unwritten) => Err(NoMessage::Writer),
+        };
+    }
     match messages.advance_kept() {
         Ok(Some(validated)) => Ok(Some(validated)),
         Ok(None) => read_message(messages, visitor),
@@ -46,9 +52,10 @@ fn read_message<R: Source, A: Allocator + Copy, V: MessageVisitor>(
     messages: &mut RawReader<R, A>,
     visitor: &mut V,
 ) -> Result<Option<Validated>, NoMessage>
-    requires { stopped_of messages.old ≡ None }
-    ensures gives { GivesNext R.left R.calls R.failures V.takes V.leaves V.settled messages.old messages.new
-        visitor.old visitor.new result }
+    requires unstopped { stopped_of messages.old ≡ None }
+    requires wanted { V.full visitor.old ≡ false }
+    ensures gives { GivesNext R.left R.calls R.failures V.takes V.leaves V.settled V.full
+        messages.old messages.new visitor.old visitor.new result }
     ensures packets { KeepsPackets R.packets R.packet messages.old messages.new }
     ensures few { IfOk result (λ _. done_of messages.new ≤ 2 ^ 50) }
     ensures same_reference { R.reference (source_of messages.new) ≡
@@ -63,8 +70,9 @@ fn read_message<R: Source, A: Allocator + Copy, V: MessageVisitor>(
     }
 }
 
-/// Hands each message of the reader to the visitor, up to the end of the input or a fault. The
-/// visitor holds nothing back then. `before` is how many messages came before.
+/// Hands each message of the reader to the visitor, up to the end of the input or a fault, or as
+/// long as it wants more. The visitor holds nothing back then. `before` is how many messages came
+/// before.
 ///
 /// `Memory`, `ReadFailed`, `WriteFailed`, `TooManyReads`: why reading was given up.
 pub(crate) fn hand_all<R: Source, A: Allocator + Copy, V: MessageVisitor>(
@@ -76,8 +84,8 @@ pub(crate) fn hand_all<R: Source, A: Allocator + Copy, V: MessageVisitor>(
     requires unstopped { stopped_of messages.old ≡ None }
     requires within { limits_of messages.old ≡ limits }
     requires few { before ≤ done_of messages.old }
-    ensures hands { RawHandsOn R.left R.calls R.failures R.packets R.packet V.takes V.leaves limits
-        before messages.old messages.new visitor.old visitor.new result }
+    ensures hands { RawHandsOn R.left R.calls R.failures R.packets R.packet V.takes V.leaves V.full
+        limits before messages.old messages.new visitor.old visitor.new result }
     ensures packets { KeepsPackets R.packets R.packet messages.old messages.new }
     ensures settled { IfOk result (λ _. V.settled visitor.new) }
     ensures same_reference { R.reference (source_of messages.new) ≡
@@ -135,6 +143,11 @@ fn stopped_by(count: u64, size: u64, stop: NoMessage) -> Result<Counted, Cause>
     match stop {
         NoMessage::Reader(fault) => ended_by(count, size, fault),
         NoMessage::Writer => Err(Cause::WriteFailed),
+        NoMessage::Enough => Ok(Counted {
+            count,
+            size,
+            fault: None,
+        }),
     }
 }
 

@@ -33,7 +33,6 @@ pub fn file_is_read()
 {}
 
 /// By settings that ask for no more, a command does what it does under their limits alone.
-#[tactic(auto, using(crate::proofs::RunSteps::plainly))]
 pub fn plain_run<R: Source, W: Sink, E: Sink>()
     ensures { PlainRuns R.left R.calls R.failures R.packets W.held W.failures E.held E.failures }
 {}

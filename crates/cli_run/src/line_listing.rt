@@ -10,6 +10,7 @@ ghost use Rattle.cli_report.specs.Devices.{reading, writing};
 ghost use Rattle.cli_report.specs.Gathering.{gathered_bytes};
 ghost use Rattle.cli_run.specs.CallListing.{StaysIfShort, number_and_time};
 ghost use Rattle.cli_run.specs.LineLaws.{liner_adds_up};
+ghost use Rattle.cli_run.specs.Output.{is_spent};
 ghost use Rattle.cli_run.specs.LineListing.{LeavesLines, ListsLines, ListsOne, TakesLines, WritesLine, asked};
 
 use crate::filtering::select;
@@ -19,7 +20,7 @@ use crate::place::Lent;
 use crate::selector::Selector;
 use crate::showing::line_place;
 use crate::visitor::{MessageVisitor, write_text};
-use crate::window::lets_through;
+use crate::window::{is_spent, lets_through};
 use cli_options::{Settings, WantedLines, Window};
 use cli_report::{Cause, ExitStatus, OutputBuffer, Page, Unwritten, give_up, write_out};
 use dbus_call_lines::Place;
@@ -75,6 +76,12 @@ impl<W: Sink, E: Sink> MessageVisitor for Liner<'_, '_, '_, W, E> {
     ghost leaves = { LeavesLines W.held W.failures E.held E.failures };
 
     ghost settled = { λ a. gathered_bytes a.gathered ≡ [] };
+
+    ghost full = { λ a. is_spent a.carried.window };
+
+    fn is_full(&self) -> bool {
+        is_spent(&self.carried.window)
+    }
 
     fn settle(&mut self) -> Result<(), Unwritten> {
         write_out(&mut self.gathered, self.first)
@@ -209,8 +216,9 @@ fn write_listed<W: Sink>(
 /// so many cells, with at most 2^32 reads, and tells the second writer of messages that are
 /// refused, as [`crate::run_with`] does. A reply to a call that came before it in the input is told
 /// with the call's number, also if that is not selected; how long it took, if the input has times.
-/// Of the lines that there are the window of the settings lets some through. What is written is
-/// gathered up to 16,384 bytes, and goes out before each read.
+/// Of the lines that there are the window of the settings lets some through, and nothing is read
+/// after the last of them, unless the rest is to be checked. What is written is gathered up to
+/// 16,384 bytes, and goes out before each read.
 ///
 /// `Done`, `Refused`: all was written, and whether anything was refused. `Failed`: a read or a
 /// write failed, as many reads were made as may be, or memory ran out; if it was not a write to the

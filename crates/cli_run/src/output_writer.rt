@@ -2,11 +2,13 @@
 ghost use Rattle.std.specs.Prelude.{◌≡◌, []};
 ghost use Rattle.cli_report.specs.Gathering.{gathered_bytes};
 ghost use Rattle.cli_run.specs.OutputWriting.{FailsBy, LeavesWritten, WritesAll};
+ghost use Rattle.cli_run.specs.Output.{command_of, is_filled};
 ghost use Rattle.cli_run.specs.VisitorLaws.{output_adds_up};
 
 use crate::output::{Output, hand_one, is_check};
 use crate::place::{Carried, Lent};
 use crate::visitor::{MessageVisitor, write_text};
+use crate::window::is_spent;
 use cli_report::{Cause, OutputBuffer, Unwritten, write_out};
 use dbus_stream::Sink;
 use std::alloc::Allocator;
@@ -59,6 +61,12 @@ impl<A: Allocator + Copy, W: Sink, E: Sink> MessageVisitor for OutputWriter<'_, 
     ghost leaves = { LeavesWritten W.held W.failures E.held E.failures };
 
     ghost settled = { λ a. gathered_bytes a.gathered ≡ [] };
+
+    ghost full = { λ a. is_filled (command_of a.output) a.carried.window };
+
+    fn is_full(&self) -> bool {
+        is_spent(&self.carried.window) && !is_check(&self.output)
+    }
 
     fn settle(&mut self) -> Result<(), Unwritten> {
         write_out(&mut self.gathered, self.first)

@@ -114,6 +114,7 @@ pub fn run_within<A: Allocator + Copy, R: Source, W: Sink, E: Sink>(
         window: Window {
             skip: 0,
             limit: None,
+            checks_rest: false,
         },
     };
     run_with(alloc, command, settings, reads, reader, first, second)
@@ -133,6 +134,10 @@ pub fn run_within<A: Allocator + Copy, R: Source, W: Sink, E: Sink>(
 /// the run. If any was passed over, the last line is `N messages B bytes, K passed over C bytes`,
 /// and then `, the last one cut off` if the input ends within that one, of which the bytes that are
 /// there count.
+///
+/// If the window has a limit, the run ends once so many messages are written: nothing is read after
+/// the last of them, and the status and the last line are those of what was read. With a limit of 0
+/// nothing is read. If the window says that the rest is checked, it is read too. `Check` reads all.
 ///
 /// These lines go to the second writer, but of `Check` to the first. `Check` of an input without
 /// fault writes `ok N messages B bytes`. If the settings ask for explanations, to keep going or for

@@ -1,5 +1,5 @@
 //! What takes the messages of an input, and tells of those that are refused.
-ghost use Rattle.std.specs.Prelude.{◌≡◌, ℕ, IfOk, List, length};
+ghost use Rattle.std.specs.Prelude.{◌≡◌, ℕ, Bool, IfOk, List, length};
 ghost use Rattle.dbus_value_model.specs.declared.order.Order.{Order};
 ghost use Rattle.dbus_message_model.specs.Messages.{MessageTree};
 ghost use Rattle.dbus_header.specs.MessageOutcomes.{IsWhole};
@@ -38,6 +38,13 @@ pub(crate) trait MessageVisitor {
     // It holds nothing back.
     ghost settled: { Self → Type 0 };
 
+    // It wants no more messages.
+    ghost full: { Self → Bool };
+
+    /// Whether it wants no more messages: what follows those that it took is not read then.
+    fn is_full(&self) -> bool
+        ensures { result ≡ full self.now };
+
     /// Lets go of what it holds back of the messages that it took.
     ///
     /// `Unwritten`: a write failed, or took none of its bytes.
@@ -64,7 +71,7 @@ pub(crate) trait MessageVisitor {
         ensures tells { TellsOne takes leaves self.old self.new text.now result }
         ensures settled { IfOk result (λ _. settled self.new) };
 
-    ghost adds_up: { AddsUp takes leaves settled };
+    ghost adds_up: { AddsUp takes leaves settled full };
 }
 
 /// Writes a text that is told.

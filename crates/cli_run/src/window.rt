@@ -1,6 +1,6 @@
 //! A window over the messages that a command selects, as they come.
 ghost use Rattle.std.specs.Prelude.{◌≡◌, ℕ, List, [], ◌∷◌};
-ghost use Rattle.cli_run.specs.Output.{after, text_if, written};
+ghost use Rattle.cli_run.specs.Output.{after, is_spent, text_if, written};
 
 use cli_options::Window;
 
@@ -20,5 +20,17 @@ pub(crate) fn lets_through(window: &mut Window) -> bool
             window.limit = Some(left - 1);
             true
         }
+    }
+}
+
+/// Whether nothing more is wanted under the window: it lets no text through, and the rest of the
+/// input is not to be checked.
+pub(crate) fn is_spent(window: &Window) -> bool
+    ensures { result ≡ is_spent window.now }
+{
+    match window.limit {
+        None => false,
+        Some(0) => !window.checks_rest,
+        Some(_) => false,
     }
 }

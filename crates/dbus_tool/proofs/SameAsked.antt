@@ -132,7 +132,8 @@ same_window : (rows : List Row) (a b : Window) → HasWindow rows a → HasWindo
 same_window rows a b p q =
     let skip = same_number _ _ a.skip b.skip p.skip q.skip in
     let limit = same_given _ a.limit b.limit p.limit q.limit in
-    λ i. record { skip = skip i; limit = limit i }
+    let checks_rest = same_flag a.checks_rest b.checks_rest p.checks_rest q.checks_rest in
+    λ i. record { skip = skip i; limit = limit i; checks_rest = checks_rest i }
 
 pub same_settings : (rows : List Row) (a b : Settings) → HasSettings rows a → HasSettings rows b → a ≡ b
 same_settings rows a b p q =

@@ -5,14 +5,15 @@ use Rattle.dbus_call_lines.specs.declared.call_list.CallList.{CallList}
 use Rattle.dbus_call_lines.specs.declared.wanted.Wanted.{Wanted}
 use Rattle.cli_report.specs.Devices.{writing}
 use Rattle.cli_run.specs.CallListing.{WritesRest, notes}
+use Rattle.cli_run.proofs.EndSteps.{taken_by}
 use Rattle.cli_run.proofs.CallSteps.{gave_up, lists_all}
 use Rattle.cli_run.proofs.call_listing.list_calls.Goals as goal
 
 pub returns-in-Ok-write_rest : goal.returns-in-Ok-write_rest
 returns-in-Ok-write_rest g c =
     let passes = rw c.in-Ok.is at c.pass_through-ended.ensures.passes in
-    let same_first = passes.came.same_first in
-    let same_second = passes.came.same_second in
+    let same_first = (taken_by passes).2.same_first in
+    let same_second = (taken_by passes).2.same_second in
     let source : c.pass_through-ended.result.1.now ≡ c.reader-1.given.0 = search rules in
     let second : c.pass_through-ended.new.visitor.second.now ≡ c.second-1.given.0 = search rules in
     let same : c.into_inner-writer.result.now ≡ c.pass_through-ended.new.visitor.first.now = search rules in
@@ -38,8 +39,8 @@ returns-in-Ok-write_rest g c =
 pub returns-in-Err-write_rest : goal.returns-in-Err-write_rest
 returns-in-Err-write_rest g c =
     let passes = rw c.in-Ok.is at c.pass_through-ended.ensures.passes in
-    let same_first = passes.came.same_first in
-    let same_second = passes.came.same_second in
+    let same_first = (taken_by passes).2.same_first in
+    let same_second = (taken_by passes).2.same_second in
     let source : c.pass_through-ended.result.1.now ≡ c.reader-1.given.0 = search rules in
     let same : c.into_inner-writer.result.now ≡ c.pass_through-ended.new.visitor.first.now = search rules in
     let last : c.write_rest.new.first ≡ c.first-1.given.0 = search rules in

@@ -9,7 +9,7 @@ use Rattle.cli_run.proofs.ReadSteps.{length-sizes}
 use Rattle.cli_run.specs.Refusals.{number_of}
 use Rattle.cli_run.proofs.HandSteps.{hands_none, hands_more, hands_ended, hands_faulted}
 use Rattle.cli_run.proofs.KnownPackets.{check_begins, keeps_if}
-use Rattle.cli_run.proofs.CountSteps.{adds_up, check_faults, counts, none_known, read_kept, tallied}
+use Rattle.cli_run.proofs.CountSteps.{adds_up, check_faults, counts, never_full, none_known, read_kept, tallied}
 use Rattle.cli_run.proofs.counting.count_all.Goals as goal
 use Rattle.cli_run.proofs.counting.count_all.Goals.{In-Ok-Some}
 
@@ -18,7 +18,7 @@ messages-init g c =
     let new = c.requires in (
       [],
       new.kept,
-      hands_none lengths g.R.Source.left g.R.Source.calls g.R.Source.failures counts (limits_of c.args.messages.now) [] 0 none_known adds_up.nothing c.args.messages.now tt refl new.stopped,
+      hands_none lengths g.R.Source.left g.R.Source.calls g.R.Source.failures counts never_full (limits_of c.args.messages.now) [] 0 none_known adds_up.nothing c.args.messages.now tt refl new.stopped,
       refl,
       check_begins g.R.Source.packets g.R.Source.packet c.args.messages.now _ _ new,
     )
@@ -46,7 +46,7 @@ messages-preserved g c =
     let item : CutMessage = record { order = gives.order; message = gives.message; size = c.in-Ok-Some.field-0-0 } in (
       drop item.size (c.messages.invariant.0 ++ given.0.bytes),
       gives.kept,
-      hands_more adds_up c.messages.invariant.2 given.0 {s2 = tt} tt item gives.whole c.in-Ok-Some.ensures.failed
+      hands_more adds_up c.messages.invariant.2 given.0 {s2 = tt} tt refl item gives.whole c.in-Ok-Some.ensures.failed
           (record { number = c.messages.count + 1; offset = done_of c.messages.messages; time = None; in_packet = false }) refl refl (λ packets never. absurd never) (λ packets never. absurd never) gives.done gives.unstopped tt,
       c.next.ensures.same_reference ∙ c.messages.invariant.3,
       keeps_if g.R.Source.packets g.R.Source.packet c.messages.messages c.next.new.self _ c.next.ensures.packets c.messages.invariant.4,
@@ -70,7 +70,7 @@ returns-in-Ok-None-clause-counts g c =
     let kept = answer.2.kept in
     λ settings no_more same.
     tallied g.R.Source.left g.R.Source.calls g.R.Source.failures g.R.Source.packets g.R.Source.packet c.args.messages.now c.next.new.self c.requires known settings no_more same (Ok _)
-    (hands_ended adds_up h read.0 {s2 = tt} tt _ refl c.done.ensures answer.2.done refl answer.0 answer.1 c.in-Ok-None.ensures.failed (read_kept _ kept.held c.next.new.self kept.size kept.bytes))
+    (hands_ended adds_up h read.0 {s2 = tt} tt refl _ refl c.done.ensures answer.2.done refl answer.0 answer.1 c.in-Ok-None.ensures.failed (read_kept _ kept.held c.next.new.self kept.size kept.bytes))
 
 pub returns-in-Err-clause-counts : goal.returns-in-Err-clause-counts
 returns-in-Err-clause-counts g c =
@@ -84,4 +84,4 @@ returns-in-Err-clause-counts g c =
     subst (λ x. Tallies (taken (reading g.R.Source.left g.R.Source.calls g.R.Source.failures g.R.Source.packets (source_of c.args.messages.now) (source_of c.next.new.self))) settings (most_reads_of c.args.messages.now)
     (number_of (g.R.Source.packet (source_of c.next.new.self))) x) (sym answer)
     (tallied g.R.Source.left g.R.Source.calls g.R.Source.failures g.R.Source.packets g.R.Source.packet c.args.messages.now c.next.new.self c.requires known settings no_more same (ended_by c.messages.count (done_of c.next.new.self) fault)
-    (hands_faulted adds_up h read.0 {s2 = tt} tt fault (check_faults (rest ++ read.0.bytes) c.messages.messages c.next.new.self fault (read.1 h.unstopped)) c.in-Err.ensures.failed tt))
+    (hands_faulted adds_up h read.0 {s2 = tt} tt refl fault (check_faults (rest ++ read.0.bytes) c.messages.messages c.next.new.self fault (read.1 h.unstopped)) c.in-Err.ensures.failed tt))

@@ -16,9 +16,10 @@ invariant-parts g l =
       is_check = l.is_check;
       old = l.fn.messages;
       s0 = l.fn.visitor;
-    }) g.V.MessageVisitor.takes l.messages l.tally l.visitor
+    }) g.V.MessageVisitor.takes g.V.MessageVisitor.full l.messages l.tally l.visitor
     × (stopped_of l.messages ≡ None) × g.V.MessageVisitor.settled l.visitor × (g.R.Source.reference (source_of l.messages) ≡ g.R.Source.reference (source_of l.fn.messages))
     × HasKnownPackets g.R.Source.packets g.R.Source.packet l.messages (g.R.Source.packets (source_of l.fn.messages))
+    × (l.tally.passed ≡ 0 → (source_of l.messages ≡ source_of l.fn.messages) × (l.tally.size ≡ 0))
 
 abbrev pub decreases-parts : goal.decreases-parts
 decreases-parts g l = 2 ^ 50 - done_of l.messages

@@ -1,7 +1,7 @@
 use Rattle.std.proofs.Common.{sym}
 use Rattle.std.proofs.Math.Path.{transport}
 use Rattle.dbus_stream.specs.RawReading.{IsNewReader}
-use Rattle.cli_report.specs.Devices.{reading, taken}
+use Rattle.cli_report.specs.Devices.{reading}
 use Rattle.cli_run.specs.Going.{PassesAll}
 use Rattle.cli_run.proofs.going.pass_through.Goals as goal
 
@@ -13,5 +13,5 @@ hand_parts-ended-requires-clause-new g c =
 pub returns-clause-passes : goal.returns-clause-passes
 returns-clause-passes g c =
     let is = c.within-messages.ensures in
-    transport (λ i. PassesAll (taken (reading g.R.Source.left g.R.Source.calls g.R.Source.failures g.R.Source.packets (is.source i) (sym c.into_source.ensures i))) c.args.settings (is.most_reads i) c.args.is_check g.V.MessageVisitor.takes
-    g.V.MessageVisitor.leaves c.args.visitor.now c.hand_parts-ended.new.visitor c.hand_parts-ended.result) c.hand_parts-ended.ensures.passes
+    transport (λ i. PassesAll (reading g.R.Source.left g.R.Source.calls g.R.Source.failures g.R.Source.packets (is.source i) (sym c.into_source.ensures i)) c.args.settings (is.most_reads i) c.args.is_check g.V.MessageVisitor.takes
+    g.V.MessageVisitor.leaves g.V.MessageVisitor.full c.args.visitor.now c.hand_parts-ended.new.visitor c.hand_parts-ended.result) c.hand_parts-ended.ensures.passes

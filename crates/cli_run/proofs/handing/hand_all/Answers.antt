@@ -1,4 +1,4 @@
-use Rattle.std.proofs.Common.{◌≡◌, ◌≤◌, ◌<◌, ◌^◌, ◌+◌, ◌++◌, Err, IfOk, Ok, Some, is_some, arith, refl, sym, ap, ◌∙◌, subst}
+use Rattle.std.proofs.Common.{◌≡◌, ◌≤◌, ◌<◌, ◌^◌, ◌+◌, ◌++◌, Err, IfOk, Ok, Some, is_some, inl, arith, refl, sym, ap, ◌∙◌, subst}
 use Rattle.dbus_header.proofs.OutcomeLaws.{whole_inside}
 use Rattle.dbus_stream.specs.Gathering.{gathering}
 use Rattle.dbus_stream.specs.RawReading.{KeepsPackets, limits_of, done_of, kept}
@@ -16,7 +16,7 @@ use Rattle.cli_run.proofs.handing.hand_all.Goals.{In-Ok-Some}
 
 pub messages-init : goal.messages-init
 messages-init g c = (
-  hands_none gathering g.R.Source.left g.R.Source.calls g.R.Source.failures g.V.MessageVisitor.takes c.args.limits (kept c.args.messages.now) c.args.before
+  hands_none gathering g.R.Source.left g.R.Source.calls g.R.Source.failures g.V.MessageVisitor.takes g.V.MessageVisitor.full c.args.limits (kept c.args.messages.now) c.args.before
       (HasKnownPackets g.R.Source.packets g.R.Source.packet c.args.messages.now) g.met.V.MessageVisitor.adds_up.nothing
       c.args.messages.now.reader c.args.visitor.now c.requires.within c.requires.unstopped,
   refl,
@@ -24,7 +24,7 @@ messages-init g c = (
 )
 
 -- what the reader lends
-lent : (g : _) (c : In-Ok-Some g) → GivesNext g.R.Source.left g.R.Source.calls g.R.Source.failures g.V.MessageVisitor.takes g.V.MessageVisitor.leaves g.V.MessageVisitor.settled
+lent : (g : _) (c : In-Ok-Some g) → GivesNext g.R.Source.left g.R.Source.calls g.R.Source.failures g.V.MessageVisitor.takes g.V.MessageVisitor.leaves g.V.MessageVisitor.settled g.V.MessageVisitor.full
     c.messages.messages c.next_message.new.messages c.messages.visitor c.next_message.new.visitor (Ok (Some c.in-Ok-Some.validated))
 lent g c = rw c.in-Ok-Some.field-0-is at c.in-Ok-Some.ensures.gives
 
@@ -54,9 +54,9 @@ messages-preserved g c =
     let keeps : KeepsPackets g.R.Source.packets g.R.Source.packet c.args.messages.now new = λ all has. c.next_message.ensures.packets all (c.messages.invariant.2 all has) in
     let time = lent_time g.R.Source.packets g.R.Source.packet c.args.messages.now given.0 new (kept given.0 ++ given.2.0.bytes) c.in-Ok-Some.validated keeps l c.time_of.result (c.time_of.ensures ∙ ap time_of c.packet-packet.ensures) in
     let packet = lent_packet g.R.Source.packets g.R.Source.packet c.args.messages.now given.0 new (kept given.0 ++ given.2.0.bytes) c.in-Ok-Some.validated keeps l c.is_some.result (c.is_some.ensures ∙ ap is_some c.packet-packet.ensures) in
-    let more = hands_more laws h given.2.0 given.2.3 (item_of l) l.gives.whole given.2.2 place refl (c.done-offset.ensures ∙ sym given.1.done) time packet
+    let more = hands_more laws h given.2.0 given.2.3 given.2.5 (item_of l) l.gives.whole given.2.2 place refl (c.done-offset.ensures ∙ sym given.1.done) time packet
     l.gives.done l.gives.unstopped one in (
-      subst (λ v. HasHanded gathering g.R.Source.left g.R.Source.calls g.R.Source.failures g.V.MessageVisitor.takes c.args.limits (kept c.args.messages.now) c.args.before
+      subst (λ v. HasHanded gathering g.R.Source.left g.R.Source.calls g.R.Source.failures g.V.MessageVisitor.takes g.V.MessageVisitor.full c.args.limits (kept c.args.messages.now) c.args.before
           (HasKnownPackets g.R.Source.packets g.R.Source.packet c.args.messages.now) (c.messages.count + 1) c.args.messages.now.reader new.reader v c.args.visitor.now c.take.new.self) (sym l.gives.kept) more,
       c.next_message.ensures.same_reference ∙ c.messages.invariant.1,
       keeps,
@@ -83,13 +83,13 @@ returns-in-Err-take-clause-hands g c =
     (c.is_some.ensures ∙ ap is_some c.packet-packet.ensures) in
     let one = took_lent g.V.MessageVisitor.takes g.V.MessageVisitor.leaves c.next_message.new.visitor c.take.new.self c.args.limits (kept given.0 ++ given.2.0.bytes) c.message.result.now c.in-Ok-Some.validated
     given.0 c.next_message.new.messages c.message.ensures h.read.limits_are given.2.1 place (Err c.in-Err-take.cause) c.in-Err-take.ensures in
-    hands_not laws h given.2.0 given.2.3 (item_of given.2.1) given.2.1.gives.whole given.2.2 place refl (c.done-offset.ensures ∙ sym given.1.done) time packet
+    hands_not laws h given.2.0 given.2.3 given.2.5 (item_of given.2.1) given.2.1.gives.whole given.2.2 place refl (c.done-offset.ensures ∙ sym given.1.done) time packet
     c.in-Err-take.cause one
 
 pub returns-in-Ok-None-clause-hands : goal.returns-in-Ok-None-clause-hands
 returns-in-Ok-None-clause-hands g c =
-    hands_end g.met.V.MessageVisitor.adds_up c.args.messages.now c.messages.messages c.messages.invariant.0 c.next_message.new.messages c.next_message.new.visitor c.done.result c.done.ensures
-    (rw c.in-Ok-None.field-0-is at c.in-Ok-None.ensures.gives)
+    inl (hands_end g.met.V.MessageVisitor.adds_up c.args.messages.now c.messages.messages c.messages.invariant.0 c.next_message.new.messages c.next_message.new.visitor c.done.result c.done.ensures
+    (rw c.in-Ok-None.field-0-is at c.in-Ok-None.ensures.gives))
 
 pub returns-in-Ok-None-clause-settled : goal.returns-in-Ok-None-clause-settled
 returns-in-Ok-None-clause-settled g c = c.in-Ok-None.ensures.gives.2.4 c.in-Ok-None.field-0-is
@@ -99,7 +99,7 @@ returns-in-Err-clause-hands g c =
     let stop = c.in-Err.stop in
     let answer : c.stopped_by.result ≡ stopped_by c.messages.count (done_of c.next_message.new.messages) stop
     = c.stopped_by.ensures ∙ ap (λ n. stopped_by c.messages.count n stop) c.done-in-Err.ensures in
-    subst (λ x. RawHandsOn g.R.Source.left g.R.Source.calls g.R.Source.failures g.R.Source.packets g.R.Source.packet g.V.MessageVisitor.takes g.V.MessageVisitor.leaves c.args.limits c.args.before c.args.messages.now c.next_message.new.messages
+    subst (λ x. RawHandsOn g.R.Source.left g.R.Source.calls g.R.Source.failures g.R.Source.packets g.R.Source.packet g.V.MessageVisitor.takes g.V.MessageVisitor.leaves g.V.MessageVisitor.full c.args.limits c.args.before c.args.messages.now c.next_message.new.messages
     c.args.visitor.now c.next_message.new.visitor x) (sym answer)
     (hands_stopped g.met.V.MessageVisitor.adds_up c.args.messages.now c.messages.messages c.messages.invariant.0 c.next_message.new.messages c.next_message.new.visitor stop c.in-Err.ensures.gives)
 

@@ -7,7 +7,7 @@ use Rattle.cli_run.proofs.handing.hand_all.Given as goal
 
 abbrev pub invariant-messages : goal.invariant-messages
 invariant-messages g l =
-    HasHanded gathering g.R.Source.left g.R.Source.calls g.R.Source.failures g.V.MessageVisitor.takes l.limits (kept l.fn.messages) l.before
+    HasHanded gathering g.R.Source.left g.R.Source.calls g.R.Source.failures g.V.MessageVisitor.takes g.V.MessageVisitor.full l.limits (kept l.fn.messages) l.before
     (HasKnownPackets g.R.Source.packets g.R.Source.packet l.fn.messages) l.count l.fn.messages.reader l.messages.reader (kept l.messages) l.fn.visitor l.visitor
     × (g.R.Source.reference (source_of l.messages) ≡ g.R.Source.reference (source_of l.fn.messages)) × KeepsPackets g.R.Source.packets g.R.Source.packet l.fn.messages l.messages
 

@@ -3,6 +3,7 @@ use Rattle.cli_options.specs.declared.wanted_lines.WantedLines.{WantedLines}
 use Rattle.cli_run.specs.Learning.{known}
 use Rattle.cli_run.specs.LineListing.{Carries}
 use Rattle.cli_run.specs.declared.line_listing.Liner.{Liner}
+use Rattle.cli_run.proofs.EndSteps.{taken_by}
 use Rattle.cli_run.proofs.LineSteps.{gave_up, ran, unread}
 use Rattle.cli_run.proofs.line_listing.list_lines.Goals as goal
 
@@ -14,14 +15,15 @@ returns-in_default g c =
 pub returns-in-Ok-ended : goal.returns-in-Ok-ended
 returns-in-Ok-ended g c =
     let passes = rw c.in-Ok-ended.is at c.pass_through-ended.ensures.passes in
-    let same_first = passes.came.same_first in
-    let same_second = passes.came.same_second in
+    let same_first = (taken_by passes).2.same_first in
+    let same_second = (taken_by passes).2.same_second in
     let first : c.pass_through-ended.new.visitor.first.now ≡ c.first-1.given.0 = search rules in
     let second : c.pass_through-ended.new.visitor.second.now ≡ c.second-1.given.0 = search rules in
     let source : c.pass_through-ended.result.1.now ≡ c.reader-1.given.0 = search rules in
     inl (ran g.W.Sink.held g.W.Sink.failures g.E.Sink.held g.E.Sink.failures _ c.pass_through-ended.new.visitor c.args.settings c.args.wanted.now
     (record { wanted_is = λ i. record { selection = c.in-Ok.ensures i; width = c.args.wanted.now.width }; owners_are = refl; calls = c.new-2.ensures }) refl c.new-3.ensures first second
-    g.R.Source.left g.R.Source.calls g.R.Source.failures g.R.Source.packets _ c.args.reader.now c.pass_through-ended.result.1.now source (rw c.in-Ok-ended.is at c.pass_through-ended.ensures.settled) passes)
+    g.R.Source.left g.R.Source.calls g.R.Source.failures g.R.Source.packets _ c.args.reader.now c.pass_through-ended.result.1.now source (rw c.in-Ok-ended.is at c.pass_through-ended.ensures.settled) passes
+    (λ size reads. elim reads [ inl none ↦ inl none | inr some ↦ inr (some.0, some.1.now, some.2, some.3, some.4) ]))
 
 pub returns-in-Err : goal.returns-in-Err
 returns-in-Err g c =

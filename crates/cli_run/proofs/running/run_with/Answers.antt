@@ -1,7 +1,7 @@
 use Rattle.std.proofs.Common.{◌≡◌, Bool, rules, ap, inl, inr, refl, ◌∙◌, subst}
 use Rattle.cli_run.specs.Output.{is_check}
 use Rattle.cli_run.specs.Told.{TellsStop}
-use Rattle.cli_run.proofs.EndSteps.{gave_up, ran, unread}
+use Rattle.cli_run.proofs.EndSteps.{gave_up, ran, taken_by, unread}
 use Rattle.cli_run.proofs.running.run_with.Goals as goal
 
 pub returns-in_default : goal.returns-in_default
@@ -13,13 +13,14 @@ pub returns-in-Ok-ended : goal.returns-in-Ok-ended
 returns-in-Ok-ended g c =
     let own = c.in-Ok.ensures in
     let passes = rw c.in-Ok-ended.is at c.pass_through-ended.ensures.passes in
-    let same_first = passes.came.same_first in
-    let same_second = passes.came.same_second in
+    let same_first = (taken_by passes).2.same_first in
+    let same_second = (taken_by passes).2.same_second in
     let first : c.pass_through-ended.new.visitor.first.now ≡ c.first-1.given.0 = search rules in
     let second : c.pass_through-ended.new.visitor.second.now ≡ c.second-1.given.0 = search rules in
     let source : c.pass_through-ended.result.1.now ≡ c.reader-1.given.0 = search rules in
     inl (ran g.W.Sink.held g.W.Sink.failures g.E.Sink.held g.E.Sink.failures _ c.pass_through-ended.new.visitor c.args.settings c.args.command own refl c.new-2.ensures first second g.R.Source.left g.R.Source.calls
-    g.R.Source.failures g.R.Source.packets c.args.reads c.args.reader.now c.pass_through-ended.result.1.now c.is_check-is_check.result (c.is_check-is_check.ensures ∙ ap is_check own) source (rw c.in-Ok-ended.is at c.pass_through-ended.ensures.settled) passes)
+    g.R.Source.failures g.R.Source.packets c.args.reads c.args.reader.now c.pass_through-ended.result.1.now c.is_check-is_check.result (c.is_check-is_check.ensures ∙ ap is_check own) source (rw c.in-Ok-ended.is at c.pass_through-ended.ensures.settled) passes
+    (λ size reads. elim reads [ inl none ↦ inl none | inr some ↦ inr (some.0, some.1.now, some.2, some.3, some.4) ]))
 
 pub returns : goal.returns
 returns g c =

@@ -1,0 +1,145 @@
+-- Two runs over one input, of which one ends since no more is wanted after its messages. If so does
+-- the other, both have the same parts; and it does not go through.
+use Rattle.std.proofs.Common.{◌≡◌, ◌≢◌, ℕ, ◌+◌, Bool, true, false, ◌&&◌, not, List, [], ◌∷◌, ◌++◌, length, drop, Option, None, inl, inr, refl, sym, ap, ◌∙◌, subst, arith, append_assoc, append-nil, length-append}
+use Rattle.std.proofs.lemmas.Bool.{false≢true}
+use Rattle.dbus_device.specs.Packets.{Packets}
+use Rattle.dbus_value_model.specs.declared.fault.Fault.{Fault}
+use Rattle.dbus_value_model.specs.declared.limits.Limits.{Limits}
+use Rattle.dbus_value_model.specs.declared.order.Order.{Order}
+use Rattle.dbus_message_model.specs.Messages.{MessageTree}
+use Rattle.dbus_header.proofs.OutcomeLaws.{not_both, one_fault, one_whole}
+use Rattle.dbus_names.specs.NameStates.{NameState}
+use Rattle.dbus_stream.specs.Cut.{CutMessage, CutOutcome}
+use Rattle.dbus_stream.proofs.SizeSteps.{size_once}
+use Rattle.cli_options.specs.declared.command.Command.{Command}
+use Rattle.cli_options.specs.declared.window.Window.{Window}
+use Rattle.cli_run.specs.Going.{EndsWhole}
+use Rattle.cli_run.specs.Inputs.{ArePlaced, BeginWithParts, Part, PassedOver, Placed, Whole}
+use Rattle.cli_run.specs.Output.{IsFilledBy, IsOutputOf, IsOutputOfAll, Picks, after, is_spent, owners_after, owners_known}
+use Rattle.cli_run.specs.Visiting.{AreWanted}
+use Rattle.cli_run.specs.declared.place.MessagePlace.{MessagePlace}
+use Rattle.cli_run.proofs.SameOutputs.{ActsAs}
+use Rattle.cli_run.proofs.SameParts.{ArePassed, AreSame, EndsHere, no_part, refused_from}
+
+-- messages without their places
+abbrev pub items_of : List Placed → List CutMessage
+items_of [] = []
+items_of (m ∷ messages) = m.item ∷ items_of messages
+
+items_last : (s : List Placed) (m : Placed) → items_of (s ++ m ∷ []) ≡ items_of s ++ m.item ∷ []
+items_last [] m = refl
+items_last (x ∷ s) m = ap (λ l. x.item ∷ l) (items_last s m)
+
+-- one more each
+same_last : (s t : List Placed) (m l : Placed) → items_of s ≡ items_of t → m.item ≡ l.item → items_of (s ++ m ∷ []) ≡ items_of (t ++ l ∷ [])
+same_last s t m l e one = items_last s m ∙ ((λ i. e i ++ one i ∷ []) ∙ sym (items_last t l))
+
+-- ---- as many texts of the same messages
+
+module _ (a b : Command) (h : ActsAs a b) where
+  same_one : (os : NameState) (o p : Order) (m l : MessageTree) (place there : MessagePlace) (x y : List (List ℕ)) → m ≡ l → IsOutputOf a os o m place x → IsOutputOf b os p l there y → length x ≡ length y
+  same_one os o p m l place there x y e made also = elim made [
+    | inl met ↦ elim also [
+      | inl too ↦ ap length met.3 ∙ sym (ap length too.3)
+      | inr not ↦ absurd (not.0 (subst (λ k. Picks b os k) e ((h.picks os m).0 met.0)))
+    ]
+    | inr unmet ↦ elim also [
+      | inl too ↦ absurd (unmet.0 ((h.picks os m).1 (subst (λ k. Picks b os k) (sym e) too.0)))
+      | inr not ↦ ap length unmet.1 ∙ sym (ap length not.1)
+    ]
+  ]
+
+  same_many : (os : NameState) (s t : List Placed) (x y : List (List ℕ)) → items_of s ≡ items_of t → IsOutputOfAll a os s x → IsOutputOfAll b os t y → length x ≡ length y
+  same_many os [] [] x y e p q = ap length (p ∙ sym q)
+  same_many os [] (l ∷ t) x y e p q = absurd cc
+  same_many os (m ∷ s) [] x y e p q = absurd cc
+  same_many os (m ∷ s) (l ∷ t) x y e p q =
+      let one : m.item ≡ l.item = cc in
+      let more : items_of s ≡ items_of t = cc in
+      let message : m.item.message ≡ l.item.message = ap (λ (i : CutMessage). i.message) one in
+      let learned : owners_after b os l.item.message ≡ owners_after a os m.item.message = ap (λ k. owners_after b os k) (sym message) ∙ sym (h.learned os m.item.message) in
+      let first = same_one os m.item.order l.item.order m.item.message l.item.message m.place l.place p.0 q.0 message p.3 q.3 in
+      let rest = same_many (owners_after a os m.item.message) s t p.1 q.1 more p.4 (subst (λ (o : NameState). IsOutputOfAll b o t q.1) learned q.4) in
+      omega (arith, first, rest, ap length p.2, ap length q.2, length-append p.0 p.1, length-append q.0 q.1)
+
+  pub filled_alike : (window : Window) (s t : List Placed) (x y : Bool) → items_of s ≡ items_of t → IsFilledBy a window s x → IsFilledBy b window t y → x ≡ y
+  filled_alike window s t x y e p q =
+      let n = same_many (owners_known a None) s t p.0 q.0 e p.1 (subst (λ (o : NameState). IsOutputOfAll b o t q.0) (sym h.known) q.1) in
+      sym p.2 ∙ ((λ i. is_spent (after window (n i)) && not (h.checks i)) ∙ q.2)
+
+-- ---- where more is wanted
+
+-- before the first message, if there is one
+first_wanted : (G : List Placed → Bool → Type 0) (packets : Option Packets) (n offset : ℕ) (parts : List Part) (messages before : List Placed) → parts ≢ [] → EndsWhole parts → ArePlaced packets n offset parts messages → AreWanted G before messages
+    → G before false
+first_wanted G packets n offset [] messages before some ends placed w = absurd (some refl)
+first_wanted G packets n offset (Whole item ∷ parts) [] before some ends placed w = absurd placed
+first_wanted G packets n offset (Whole item ∷ parts) (m ∷ messages) before some ends placed w = w.0
+first_wanted G packets n offset (PassedOver kept fault size ∷ parts) messages before some ends placed w = first_wanted G packets (n + 1) (offset + size) parts messages before ends.0 ends.1 placed w
+
+-- or if more is wanted after all
+still_wanted : (F : List Placed → Bool → Type 0) (messages before : List Placed) → AreWanted F before messages → F (before ++ messages) false → F before false
+still_wanted F [] before w unfilled = subst (λ (l : List Placed). F l false) (append-nil before) unfilled
+still_wanted F (m ∷ messages) before w unfilled = w.0
+
+module _ (limits : Limits) (F G : List Placed → Bool → Type 0) (one : (s t : List Placed) (x y : Bool) → items_of s ≡ items_of t → F s x → G t y → x ≡ y) where
+  none_left : (packets : Option Packets) (n offset : ℕ) (messages before : List Placed) (filled : Bool) → ArePlaced packets n offset [] messages → (H : List Placed → Bool → Type 0) → H (before ++ messages) filled → H before filled
+  none_left packets n offset messages before filled placed H h = subst (λ (l : List Placed). H l filled) (ap (λ (l : List Placed). before ++ l) placed ∙ append-nil before) h
+
+  -- one ends since no more is wanted, and the other goes through
+  pub not_through : (packets others : Option Packets) (cut goes_on : Bool) (n offset m at : ℕ) (bytes : List ℕ) (P Q : List Part) (rest last : List ℕ) (outcome : CutOutcome) (a b before also : List Placed) → items_of before ≡ items_of also
+      → BeginWithParts limits bytes P rest → BeginWithParts limits bytes Q last → ArePlaced packets n offset P a → ArePlaced others m at Q b → AreWanted F before a → AreWanted G also b
+      → EndsHere limits cut goes_on rest outcome → ArePassed goes_on Q → F (before ++ a) false → G (also ++ b) true → ⊥
+  not_through packets others cut goes_on n offset m at bytes [] [] rest last outcome a b before also e x y pa pb wa wb ends passed fa gb =
+      false≢true (one before also false true e (none_left packets n offset a before false pa F fa) (none_left others m at b also true pb G gb))
+  not_through packets others cut goes_on n offset m at bytes [] (q ∷ Q) rest last outcome a b before also e x y pa pb wa wb ends passed fa gb =
+      no_part limits cut goes_on bytes outcome q Q (subst (λ l. EndsHere limits cut goes_on l outcome) (sym x) ends) y.0 passed
+  not_through packets others cut goes_on n offset m at bytes (p ∷ P) [] rest last outcome a b before also e x y pa pb wa wb ends passed fa gb =
+      false≢true (one before also false true e (still_wanted F a before wa fa) (none_left others m at b also true pb G gb))
+  not_through packets others cut goes_on n offset m at bytes (Whole p ∷ P) (Whole q ∷ Q) rest last outcome [] b before also e x y pa pb wa wb ends passed fa gb = absurd pa
+  not_through packets others cut goes_on n offset m at bytes (Whole p ∷ P) (Whole q ∷ Q) rest last outcome (s ∷ a) [] before also e x y pa pb wa wb ends passed fa gb = absurd pb
+  not_through packets others cut goes_on n offset m at bytes (Whole p ∷ P) (Whole q ∷ Q) rest last outcome (s ∷ a) (t ∷ b) before also e x y pa pb wa wb ends passed fa gb =
+      let w = one_whole limits bytes p.order q.order p.message q.message p.size q.size x.0 y.0 in
+      let same : p ≡ q = λ i. record { order = w.0 i; message = w.1 i; size = w.2 i } in
+      let there = subst (λ k. BeginWithParts limits (drop k bytes) Q last) (sym w.2) y.1 in
+      not_through packets others cut goes_on (n + 1) (offset + p.size) (m + 1) (at + q.size) (drop p.size bytes) P Q rest last outcome a b (before ++ s ∷ []) (also ++ t ∷ [])
+      (same_last before also s t e (pa.0.item_is ∙ (same ∙ sym pb.0.item_is))) x.1 there pa.1 pb.1 wa.1 wb.1 ends passed
+      (subst (λ (l : List Placed). F l false) (sym (append_assoc before (s ∷ []) a)) fa) (subst (λ (l : List Placed). G l true) (sym (append_assoc also (t ∷ []) b)) gb)
+  not_through packets others cut goes_on n offset m at bytes (Whole p ∷ P) (PassedOver k f size ∷ Q) rest last outcome a b before also e x y pa pb wa wb ends passed fa gb =
+      not_both limits bytes p.order p.message p.size f x.0 (refused_from limits k bytes f y.0.0 y.0.1)
+  not_through packets others cut goes_on n offset m at bytes (PassedOver k f size ∷ P) (Whole q ∷ Q) rest last outcome a b before also e x y pa pb wa wb ends passed fa gb =
+      not_both limits bytes q.order q.message q.size f y.0 (refused_from limits k bytes f x.0.0 x.0.1)
+  not_through packets others cut goes_on n offset m at bytes (PassedOver k f size ∷ P) (PassedOver l g long ∷ Q) rest last outcome a b before also e x y pa pb wa wb ends passed fa gb =
+      let same : size ≡ long = size_once limits bytes long size y.0.2 x.0.2 in
+      let there = subst (λ i. BeginWithParts limits (drop i bytes) Q last) (sym same) y.1 in
+      not_through packets others cut goes_on (n + 1) (offset + size) (m + 1) (at + long) (drop size bytes) P Q rest last outcome a b before also e x.1 there pa pb wa wb ends passed.1 fa gb
+
+  -- both end since no more is wanted
+  pub same_far : (packets others : Option Packets) (n offset m at : ℕ) (bytes : List ℕ) (P Q : List Part) (rest last : List ℕ) (a b before also : List Placed) → items_of before ≡ items_of also
+      → BeginWithParts limits bytes P rest → BeginWithParts limits bytes Q last → ArePlaced packets n offset P a → ArePlaced others m at Q b → AreWanted F before a → AreWanted G also b
+      → EndsWhole P → EndsWhole Q → F (before ++ a) true → G (also ++ b) true → AreSame P Q × (rest ≡ last)
+  same_far packets others n offset m at bytes [] [] rest last a b before also e x y pa pb wa wb ends last_too fa gb = (refl, sym x ∙ y)
+  same_far packets others n offset m at bytes [] (q ∷ Q) rest last a b before also e x y pa pb wa wb ends too fa gb =
+      absurd (false≢true (sym (one before also true false e (none_left packets n offset a before true pa F fa) (first_wanted G others m at (q ∷ Q) b also (λ none. absurd cc) too pb wb))))
+  same_far packets others n offset m at bytes (p ∷ P) [] rest last a b before also e x y pa pb wa wb ends too fa gb =
+      absurd (false≢true (one before also false true e (first_wanted F packets n offset (p ∷ P) a before (λ none. absurd cc) ends pa wa) (none_left others m at b also true pb G gb)))
+  same_far packets others n offset m at bytes (Whole p ∷ P) (Whole q ∷ Q) rest last [] b before also e x y pa pb wa wb ends too fa gb = absurd pa
+  same_far packets others n offset m at bytes (Whole p ∷ P) (Whole q ∷ Q) rest last (s ∷ a) [] before also e x y pa pb wa wb ends too fa gb = absurd pb
+  same_far packets others n offset m at bytes (Whole p ∷ P) (Whole q ∷ Q) rest last (s ∷ a) (t ∷ b) before also e x y pa pb wa wb ends too fa gb =
+      let w = one_whole limits bytes p.order q.order p.message q.message p.size q.size x.0 y.0 in
+      let same : p ≡ q = λ i. record { order = w.0 i; message = w.1 i; size = w.2 i } in
+      let there = subst (λ k. BeginWithParts limits (drop k bytes) Q last) (sym w.2) y.1 in
+      let more = same_far packets others (n + 1) (offset + p.size) (m + 1) (at + q.size) (drop p.size bytes) P Q rest last a b (before ++ s ∷ []) (also ++ t ∷ [])
+      (same_last before also s t e (pa.0.item_is ∙ (same ∙ sym pb.0.item_is))) x.1 there pa.1 pb.1 wa.1 wb.1 ends too
+      (subst (λ (l : List Placed). F l true) (sym (append_assoc before (s ∷ []) a)) fa) (subst (λ (l : List Placed). G l true) (sym (append_assoc also (t ∷ []) b)) gb) in
+      ((λ i. Whole (same i) ∷ more.0 i), more.1)
+  same_far packets others n offset m at bytes (Whole p ∷ P) (PassedOver k f size ∷ Q) rest last a b before also e x y pa pb wa wb ends too fa gb =
+      absurd (not_both limits bytes p.order p.message p.size f x.0 (refused_from limits k bytes f y.0.0 y.0.1))
+  same_far packets others n offset m at bytes (PassedOver k f size ∷ P) (Whole q ∷ Q) rest last a b before also e x y pa pb wa wb ends too fa gb =
+      absurd (not_both limits bytes q.order q.message q.size f y.0 (refused_from limits k bytes f x.0.0 x.0.1))
+  same_far packets others n offset m at bytes (PassedOver k f size ∷ P) (PassedOver l g long ∷ Q) rest last a b before also e x y pa pb wa wb ends too fa gb =
+      let fault : f ≡ g = one_fault limits bytes f g (refused_from limits k bytes f x.0.0 x.0.1) (refused_from limits l bytes g y.0.0 y.0.1) in
+      let same : size ≡ long = size_once limits bytes long size y.0.2 x.0.2 in
+      let there = subst (λ i. BeginWithParts limits (drop i bytes) Q last) (sym same) y.1 in
+      let more = same_far packets others (n + 1) (offset + size) (m + 1) (at + long) (drop size bytes) P Q rest last a b before also e x.1 there pa pb wa wb ends.1 too.1 fa gb in
+      ((λ i. PassedOver [] (fault i) (same i) ∷ more.0 i), more.1)
