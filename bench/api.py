@@ -16,7 +16,7 @@ from sources import TYPES, all_items, all_types, cases, exports, methods
 PAGE = ROOT / "docs" / "API.md"
 
 # What a program names in its line of crates.txt. A call is listed under the first of them that has it.
-CALLERS = """dbus_c dbus_page dbus_value dbus_message dbus_compose dbus_body dbus_validate dbus_swap dbus_stream dbus_device dbus_capture dbus_pcap dbus_match dbus_rule_set dbus_calls dbus_names dbus_auth dbus_handshake_input
+CALLERS = """dbus_c dbus_page dbus_value dbus_message dbus_compose dbus_body dbus_validate dbus_resync dbus_swap dbus_stream dbus_device dbus_capture dbus_pcap dbus_match dbus_rule_set dbus_calls dbus_names dbus_auth dbus_handshake_input
     dbus_auth_lines dbus_count dbus_call_lines dbus_list dbus_show dbus_show_handshake dbus_show_view dbus_json dbus_explain dbus_types dbus_texts dbus_tool cli_run
     cli_options cli_report""".split()
 
@@ -27,7 +27,7 @@ NOT_CALLED = ("_tests", "case_questions", "refusing_alloc")
 HEADINGS = {
     "Read a message": "dbus_decode dbus_message_model dbus_header",
     "Look at a message without a tree": "dbus_view/view.rt dbus_view dbus_values/values.rt dbus_values dbus_unmarshal/copying.rt dbus_count",
-    "Check bytes": "dbus_check dbus_validate/validating.rt dbus_validate",
+    "Check bytes": "dbus_check dbus_validate/validating.rt dbus_validate dbus_resync",
     "Make a message and encode it": "dbus_compose dbus_build dbus_encode dbus_body dbus_swap",
     "Values alone": "dbus_unmarshal dbus_marshal dbus_value_model",
     "Read and write streams": """dbus_stream/cutter.rt dbus_stream/message_reader.rt dbus_stream/raw_reader.rt dbus_stream/check_reader.rt

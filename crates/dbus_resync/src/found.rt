@@ -1,0 +1,13 @@
+//! What a search for a message comes to.
+
+/// What a search for a message comes to.
+#[derive(Clone, Copy, Debug, PartialEq, Eq)]
+pub enum Found {
+    /// A message begins at this offset, and at none before.
+    At(usize),
+    /// No message begins at any offset.
+    Nowhere,
+    /// The effort is spent: no message begins at the offsets that were looked at, and to look at
+    /// the next would take more.
+    Spent,
+}

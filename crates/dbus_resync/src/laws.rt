@@ -1,0 +1,14 @@
+//! Laws of damaged bytes. Each function's contract is one, and it does nothing at run time.
+ghost use Rattle.dbus_resync.specs.DamagedInputs.{NextIsMet, OneWay};
+
+/// Damaged bytes are made of messages, of bytes that are lost before the next one, and of a rest in
+/// which none begins, in one way, under any limits and by any window.
+pub fn one_way()
+    ensures { OneWay }
+{}
+
+/// Damage costs no message after it: whatever the bytes before a valid message are, no more than
+/// these are lost, if the window has all of them and the message.
+pub fn next_is_met()
+    ensures { NextIsMet }
+{}
