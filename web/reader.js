@@ -79,7 +79,7 @@ class Reader {
     return this.written((room, count) => this.calls.dbus_page_json(...slice(this.data + offset, length), BigInt(this.told + PLACE), ...room, count));
   }
 
-  // Why no message begins at the offset: the three lines of `dbus-wire check --explain`.
+  // Why no message begins at the offset: the lines of `dbus-wire check --explain`.
   explain(number, offset) {
     return this.written((room, count) =>
       this.calls.dbus_page_explain(...slice(this.data + offset, this.length - offset), BigInt(number), BigInt(offset), ...room, count));

@@ -31,10 +31,10 @@ Output:",
             $going,
             "
 
-  With --explain three lines after a refusal say where the fault is, and what
-  has to be there. If a pcap or pcapng file cannot be read to its end, the last
-  line on standard error is `capture refused at P: NAME`, with the place in the
-  file.
+  With --explain lines after a refusal say which message it is, where its fault
+  is, and what has to be there. If a pcap or pcapng file cannot be read to its
+  end, the last line on standard error is `capture refused at P: NAME`, with the
+  place in the file.
 
 Exit status:
   0  the whole input is messages, or help was asked for
@@ -294,7 +294,7 @@ pub(crate) const OWNER: &str = "The owner of a name, as org.a.B=:1.7; any number
 pub(crate) const LEARN_OWNERS: &str = "Learns owners from the input, from then on";
 
 /// What `--explain` does.
-pub(crate) const EXPLAIN: &str = "Explains what is refused, in three more lines";
+pub(crate) const EXPLAIN: &str = "Explains what is refused, in more lines";
 
 /// What `--keep-going` of all commands but `swap` does.
 pub(crate) const KEEP_GOING: &str = "Goes on after a refused message";

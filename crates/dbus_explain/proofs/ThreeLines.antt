@@ -1,4 +1,4 @@
--- What is told of a fault are three lines.
+-- What is told of a fault are lines.
 use Rattle.std.proofs.Common.{◌≡◌, ℕ, zero, suc, ◌-◌, List, [], ◌∷◌, ◌++◌, replicate, chars, IsUtf8, ◌&&◌, ◌||◌, nat_eq, nat_lt, take, drop, codes, decimal, refl, sym, ap, ◌∙◌}
 use Rattle.std.proofs.Common.{append_assoc, append-nil, Option, None, Some, false, ◌≤◌, ◌<◌, ◌+◌, length, get_or, min, ap₂, subst, arith}
 use Rattle.std.specs.List.{flat_map, list_all}
@@ -10,14 +10,15 @@ use Rattle.hex.specs.Hex.{encode_lower}
 use Rattle.dbus_value_model.specs.declared.fault.Reason.{Reason}
 use Rattle.dbus_show.specs.ShownMessages.{line_feeds, field_name}
 use Rattle.dbus_show.specs.ShownValues.{quoted}
-use Rattle.dbus_show.proofs.LineFeeds.{IsOneLine, line_literal, line_append, line_either, line_flat, line_decimal, line_hex, line_quoted}
+use Rattle.dbus_show.proofs.LineFeeds.{IsOneLine, line_literal, line_append, line_either, line_flat, line_decimal, line_hex, line_quoted, line_escaped}
 use Rattle.dbus_value_model.specs.declared.fault.Reason.TheVariants.{FieldMissing}
 use Rattle.dbus_show.proofs.FieldTexts.{then}
 use Rattle.dbus_show.specs.Escapes.{escaped, visible}
-use Rattle.dbus_show.specs.declared.escapes.Escapes.TheVariants.{Shown}
+use Rattle.dbus_show.specs.declared.escapes.Escapes.TheVariants.{Shown, Line}
 use Rattle.dbus_explain.proofs.VisibleLines.{line_visible}
 use Rattle.dbus_explain.specs.Explained.{IsMarkAt, bytes_line, place_line, rule_line, mark_line, quoted_line, AreLines, byte_text, marked}
 use Rattle.dbus_explain.specs.Explained.{window}
+use Rattle.dbus_explain.specs.Heads.{head_lines, head_part}
 use Rattle.dbus_explain.specs.Looks.{begins, is_letter, look_of, look_text}
 use Rattle.dbus_explain.specs.Names.{IsFieldName, in_field, behind_fields, text_part, IsValueName, in_value, behind_values, IsNameOf, first, missing}
 use Rattle.dbus_explain.specs.Names.{field, padding, value, code_name, first_part, path_text, step_text, is_missing}
@@ -149,13 +150,19 @@ line_look_of bytes =
 line_look : (refused : Refused) → IsOneLine (look_text refused)
 line_look refused = line_either (nat_eq refused.offset 0 && nat_eq refused.fault.at 0) _ _ (line_look_of refused.bytes.now) (literal [] refl)
 
--- ---- three of them
+-- ---- three of them, and four
 
 three : (a b c text : List ℕ) → IsOneLine a → IsOneLine b → IsOneLine c
     → text ≡ (a ++ codes "\n") ++ ((b ++ codes "\n") ++ ((c ++ codes "\n") ++ [])) → AreLines (a ∷ b ∷ c ∷ []) text
 three a b c text ha hb hc is =
     let P : List ℕ → Type 0 = λ line. line_feeds line ≡ 0 in
     record { whole = All-cons P a (b ∷ c ∷ []) ha.none (All-cons P b (c ∷ []) hb.none (All-cons P c [] hc.none (All-nil P))); text_is = is }
+
+four : (a b c d text : List ℕ) → IsOneLine a → IsOneLine b → IsOneLine c → IsOneLine d
+    → text ≡ (a ++ codes "\n") ++ ((b ++ codes "\n") ++ ((c ++ codes "\n") ++ ((d ++ codes "\n") ++ []))) → AreLines (a ∷ b ∷ c ∷ d ∷ []) text
+four a b c d text ha hb hc hd is =
+    let P : List ℕ → Type 0 = λ line. line_feeds line ≡ 0 in
+    record { whole = All-cons P a (b ∷ c ∷ d ∷ []) ha.none (All-cons P b (c ∷ d ∷ []) hb.none (All-cons P c (d ∷ []) hc.none (All-cons P d [] hd.none (All-nil P)))); text_is = is }
 
 -- the ends of two lines come with the beginnings of the next
 message_text : (a b c : List ℕ) → a ++ (codes "\n " ++ (b ++ (codes "\n  " ++ (c ++ codes "\n")))) ≡ (a ++ codes "\n")
@@ -166,6 +173,17 @@ message_text a b c =
     sym (append_assoc a nl (((codes " " ++ b) ++ nl) ++ (last ++ []))
     ∙ ap (λ s. a ++ (nl ++ (codes " " ++ s))) (append_assoc b nl (last ++ []) ∙ ap (λ s. b ++ (nl ++ s)) (append-nil last)))
 
+-- the same with another line behind the first
+headed_text : (a h b c : List ℕ) → a ++ ((codes "\n  " ++ h) ++ (codes "\n " ++ (b ++ (codes "\n  " ++ (c ++ codes "\n"))))) ≡ (a ++ codes "\n")
+    ++ (((codes "  " ++ h) ++ codes "\n") ++ (((codes " " ++ b) ++ codes "\n") ++ (((codes "  " ++ c) ++ codes "\n") ++ [])))
+headed_text a h b c =
+    let nl = codes "\n" in
+    let last = (codes "  " ++ c) ++ nl in
+    let tail = ((codes " " ++ b) ++ nl) ++ (last ++ []) in
+    sym (append_assoc a nl (((codes "  " ++ h) ++ nl) ++ tail)
+    ∙ ap (λ s. a ++ (nl ++ (codes "  " ++ s))) (append_assoc h nl tail
+    ∙ ap (λ s. h ++ (nl ++ (codes " " ++ s))) (append_assoc b nl (last ++ []) ∙ ap (λ s. b ++ (nl ++ s)) (append-nil last))))
+
 rule_text : (a b c : List ℕ) → codes "  " ++ (a ++ (codes "\n" ++ (b ++ (codes "\n  " ++ (c ++ codes "\n"))))) ≡ ((codes "  " ++ a)
     ++ codes "\n") ++ ((b ++ codes "\n") ++ (((codes "  " ++ c) ++ codes "\n") ++ []))
 rule_text a b c =
@@ -174,17 +192,31 @@ rule_text a b c =
     sym (ap (λ s. codes "  " ++ s) (append_assoc a nl ((b ++ nl) ++ (last ++ []))
     ∙ ap (λ s. a ++ (nl ++ s)) (append_assoc b nl (last ++ []) ∙ ap (λ s. b ++ (nl ++ s)) (append-nil last))))
 
-pub message_lines : (refused : Refused) (bytes : List ℕ) (reason : Reason) (at : ℕ) (name rule : List ℕ) → IsNameOf bytes reason at name
+-- the rule and what is said behind it, in one
+joined_rule : (front shown rule look : List ℕ) → front ++ (codes "\n " ++ (shown ++ (codes "\n  " ++ (rule ++ (look ++ codes "\n")))))
+    ≡ front ++ (codes "\n " ++ (shown ++ (codes "\n  " ++ ((rule ++ look) ++ codes "\n"))))
+joined_rule front shown rule look = ap (λ (s : List ℕ). front ++ (codes "\n " ++ (shown ++ (codes "\n  " ++ s)))) (sym (append_assoc rule look (codes "\n")))
+
+pub message_lines : (refused : Refused) (bytes : List ℕ) (reason : Reason) (at : ℕ) (name rule : List ℕ) (head : Option (List ℕ)) → IsNameOf bytes reason at name
     → line_feeds rule ≡ 0
-    → AreLines (place_line refused at name ∷ bytes_line bytes at ∷ rule_line (rule ++ look_text refused) ∷ [])
-    (place_line refused at name ++ (codes "\n " ++ (window bytes at ++ (codes "\n  " ++ (rule ++ (look_text refused ++ codes "\n"))))))
-message_lines refused bytes reason at name rule is one =
+    → AreLines (place_line refused at name ∷ (head_lines head ++ (bytes_line bytes at ∷ rule_line (rule ++ look_text refused) ∷ [])))
+    (place_line refused at name ++ (head_part head ++ (codes "\n " ++ (window bytes at ++ (codes "\n  " ++ (rule ++ (look_text refused ++ codes "\n")))))))
+message_lines refused bytes reason at name rule None is one =
     let place = place_line refused at name in
     let shown = window bytes at in
     let look = look_text refused in
     three place (bytes_line bytes at) (rule_line (rule ++ look)) _ (line_place refused bytes reason at name is) (line_bytes bytes at)
     (after_literal (codes "  ") (rule ++ look) refl (line_append rule look (literal rule one) (line_look refused)))
-    (ap (λ (s : List ℕ). place ++ (codes "\n " ++ (shown ++ (codes "\n  " ++ s)))) (sym (append_assoc rule look (codes "\n"))) ∙ message_text place shown (rule ++ look))
+    (joined_rule place shown rule look ∙ message_text place shown (rule ++ look))
+message_lines refused bytes reason at name rule (Some h) is one =
+    let place = place_line refused at name in
+    let shown = window bytes at in
+    let look = look_text refused in
+    let line = escaped Line h in
+    four place (codes "  " ++ line) (bytes_line bytes at) (rule_line (rule ++ look)) _ (line_place refused bytes reason at name is)
+    (after_literal (codes "  ") line refl (line_escaped Line refl h)) (line_bytes bytes at)
+    (after_literal (codes "  ") (rule ++ look) refl (line_append rule look (literal rule one) (line_look refused)))
+    (ap (λ (s : List ℕ). place ++ s) (joined_rule (codes "\n  " ++ line) shown rule look) ∙ headed_text place line shown (rule ++ look))
 
 line_blanks : (n : ℕ) → IsOneLine (replicate n 32)
 line_blanks zero = literal [] refl

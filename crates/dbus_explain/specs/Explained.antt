@@ -1,5 +1,5 @@
 -- The lines that explain why a message is refused. Which text says the rule is not stated.
-use Rattle.std.specs.Prelude.{◌≡◌, ℕ, ◌<◌, ◌≤◌, List, ◌++◌, codes, ◌-◌, [], ◌∷◌, take, drop, length, replicate, decimal, min, chars, IsCharBoundary}
+use Rattle.std.specs.Prelude.{◌≡◌, ℕ, ◌<◌, ◌≤◌, List, ◌++◌, codes, ◌-◌, [], ◌∷◌, take, drop, length, replicate, decimal, min, chars, IsCharBoundary, Option}
 use Rattle.std.specs.List.{All, flat_map}
 use Rattle.dbus_show.specs.ShownMessages.{line_feeds}
 use Rattle.hex.specs.Hex.{encode_lower}
@@ -7,6 +7,7 @@ use Rattle.dbus_value_model.specs.declared.fault.Fault.{Fault}
 use Rattle.dbus_show.specs.Escapes.{escaped, visible}
 use Rattle.dbus_show.specs.ShownValues.{quoted}
 use Rattle.dbus_show.specs.declared.escapes.Escapes.TheVariants.{Shown}
+use Rattle.dbus_explain.specs.Heads.{IsHead, head_lines}
 use Rattle.dbus_explain.specs.Looks.{look_text}
 use Rattle.dbus_explain.specs.Names.{IsNameOf}
 use Rattle.dbus_explain.specs.declared.message.Refused.{Refused}
@@ -48,15 +49,18 @@ bytes_line bytes at = codes " " ++ window bytes at
 abbrev pub rule_line : List ℕ → List ℕ
 rule_line rule = codes "  " ++ rule
 
--- a line of the place, one of the bytes around it, and one of the rule that they break; and, if the
--- input does not begin as a message does, of what it is
+-- a line of the place, one of the head of the message if its type is whole, one of the bytes around
+-- the place, and one of the rule that they break; and, if the input does not begin as a message
+-- does, of what it is
 pub record IsExplained (refused : Refused) (text : List ℕ) : Type 0 where
   pub name : List ℕ
+  pub head : Option (List ℕ)
   pub rule : List ℕ
   pub named : IsNameOf refused.bytes.now refused.fault.reason (place_in refused.bytes.now refused.fault) name
+  pub headed : IsHead refused.bytes.now (place_in refused.bytes.now refused.fault) refused.number head
   pub lines : AreLines
-      (place_line refused (place_in refused.bytes.now refused.fault) name ∷ bytes_line refused.bytes.now (place_in refused.bytes.now refused.fault)
-      ∷ rule_line (rule ++ look_text refused) ∷ []) text
+      (place_line refused (place_in refused.bytes.now refused.fault) name ∷ (head_lines head ++ (bytes_line refused.bytes.now (place_in refused.bytes.now refused.fault)
+      ∷ rule_line (rule ++ look_text refused) ∷ []))) text
 
 -- The lines that explain why a match rule is refused. Which text says what may be there is not
 -- stated.

@@ -4,3 +4,6 @@ pub mod Names
 pub mod Looks
 pub mod Blanking
 pub mod BlankingLaws
+pub mod Escaping
+pub mod EscapingLaws
+pub mod Heads

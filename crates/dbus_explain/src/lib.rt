@@ -1,13 +1,16 @@
 //! Why a message or a match rule is refused, explained for a reader: the place of the fault, what
 //! is there, and what has to be there.
 //!
-//! For a fault of [`Refused`] bytes [`explain_message`] writes its place in the message, the bytes
-//! there, and the rule that they break with its section of the D-Bus Specification. For a fault of
+//! For a fault of [`Refused`] bytes [`explain_message`] writes its place in the message, the head of
+//! the message as it is shown, the bytes at the place, and the rule that they break with its section
+//! of the D-Bus Specification. For a fault of
 //! a match rule [`explain_rule`] writes the rule, a mark below the place, and what may be there.
 //! They write to a `Draft`.
 #![tactic(auto)]
 
 mod blanks;
+mod escaping;
+mod head;
 mod looks;
 mod message;
 mod path;

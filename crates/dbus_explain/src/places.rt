@@ -1,12 +1,12 @@
 //! Where in a message a fault is, by name. D-Bus Specification, "Message Format", "Header Fields".
 #![tactic(auto)]
 
-ghost use Rattle.std.specs.Prelude.{◌≡◌, ◌<◌, ◌≤◌, ℕ, List, IfSome, length, true};
+ghost use Rattle.std.specs.Prelude.{◌≡◌, ◌<◌, ◌≤◌, ◌^◌, ℕ, List, IfSome, length, true};
 ghost use Rattle.dbus_texts.specs.Types.{TypeTree, TypeTrees, IsShaped, AreShaped, sig, sigs};
 ghost use Rattle.dbus_explain.specs.Names.{IsFieldName, IsNameOf, IsValueName, code_name};
 ghost use Rattle.dbus_explain.specs.Names.{first_part, path_text, text_part};
 ghost use Rattle.dbus_explain.specs.Places.{AreBodyTypes, IsAmong, IsInField, IsPath};
-ghost use Rattle.dbus_explain.specs.Places.{IsSignatureField, body_begin, order_of};
+ghost use Rattle.dbus_explain.specs.Places.{IsSignatureField, body_begin, fields_end, order_of};
 ghost use Rattle.dbus_explain.specs.declared.path.PathStep.{PathStep as StepTo};
 
 use crate::path::{PathStep, write_step};
@@ -16,10 +16,10 @@ use dbus_types::TextKind;
 use dbus_value_model::{Order, Reason, padding_length};
 
 /// Where the header fields begin.
-const FIELDS: usize = 16;
+pub(crate) const FIELDS: usize = 16;
 
 /// The type of a header field.
-const FIELD: &[u8] = b"(yv)";
+pub(crate) const FIELD: &[u8] = b"(yv)";
 
 /// The code of the field that has the types of the body.
 const SIGNATURE: u8 = 8;
@@ -38,7 +38,7 @@ pub(crate) fn write_name<D: Draft>(draft: &mut D, bytes: &[u8], reason: Reason, 
         return;
     }
     let order = order_of(bytes);
-    let fields_end = FIELDS + order.u32_at(bytes, 12) as usize;
+    let fields_end = end_of_fields(bytes);
     let body = fields_end + usize::from(padding_length(8, fields_end as u64));
     let search = Search { bytes, order, at };
     if let Reason::FieldMissing(_) = reason {
@@ -52,8 +52,17 @@ pub(crate) fn write_name<D: Draft>(draft: &mut D, bytes: &[u8], reason: Reason, 
     }
 }
 
-// The byte order of a message that is at fault: little, if its first byte says none.
-fn order_of(bytes: &[u8]) -> Order
+/// Where the header fields end, by the length that is stated of them.
+pub(crate) fn end_of_fields(bytes: &[u8]) -> usize
+    requires { 16 ≤ length bytes.now }
+    ensures fields { result ≡ fields_end bytes.now }
+    ensures near { result < 2 ^ 33 }
+{
+    FIELDS + order_of(bytes).u32_at(bytes, 12) as usize
+}
+
+/// The byte order of a message that is at fault: little, if its first byte says none.
+pub(crate) fn order_of(bytes: &[u8]) -> Order
     ensures { result ≡ order_of bytes.now }
 {
     match bytes {
@@ -102,7 +111,7 @@ fn field_at(search: &Search) -> Option<(usize, u8)>
         types: FIELD,
         place: FIELDS,
     };
-    let (_, field) = search.after_values(first)?;
+    let (_, field) = search.after_values(first);
     let place = search.aligned(field.place, b'(')?;
     if place >= search.bytes.len() {
         return None;

@@ -99,26 +99,26 @@ impl<'a> Search<'a> {
 
     /// How many values of the type are passed from the place on, and where the next one is, in
     /// which the fault is.
-    pub(crate) fn after_values(&self, first: ValuePlace<'a>) -> Option<(usize, ValuePlace<'a>)>
+    pub(crate) fn after_values(&self, first: ValuePlace<'a>) -> (usize, ValuePlace<'a>)
         requires { first.place ≤ self.now.at }
-        ensures types { IfSome result (λ r. r.1.types.now ≡ first.entry.types.now) }
-        ensures passed { IfSome result (λ r. (t : TypeTree) → sig t ≡ first.entry.types.now →
-            IsShaped true t →
-            Pass self.now.bytes.now self.now.at t r.0 first.entry.place r.1.place ×
-            IsIn self.now.bytes.now self.now.at t r.1.place) }
-        ensures within { IfSome result (λ r. r.1.place ≤ self.now.at) }
+        ensures types { result.1.types.now ≡ first.entry.types.now }
+        ensures passed { (t : TypeTree) → sig t ≡ first.entry.types.now → IsShaped true t →
+            Pass self.now.bytes.now self.now.at t result.0 first.entry.place result.1.place ×
+            IsIn self.now.bytes.now self.now.at t result.1.place }
+        ensures within { result.1.place ≤ self.now.at }
     {
         let types = first.types;
+        let most = self.bytes.len();
         let mut place = first.place;
         // Each value has a byte at least.
-        for count in 0..self.bytes.len() {
+        for count in 0..most {
             let spot = ValuePlace { types, place };
             match self.passed(spot) {
                 Some(after) => place = after,
-                None => return Some((count, spot)),
+                None => return (count, spot),
             }
         }
-        None
+        (most, ValuePlace { types, place })
     }
 
     /// Of values of these types, which begin at the place, the one in which the fault is, and its
@@ -185,7 +185,7 @@ impl<'a> Search<'a> {
         let (index, element) = self.after_values(ValuePlace {
             types,
             place: first,
-        })?;
+        });
         Some((self.step_to(element, index), element))
     }
 

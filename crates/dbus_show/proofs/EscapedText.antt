@@ -5,8 +5,10 @@ use Rattle.std.proofs.Math.Seq.{take-add}
 use Rattle.std.proofs.lemmas.List.{take_rest, take-append-drop}
 use Rattle.std.proofs.lemmas.List.Concat.{flat_map-append}
 use Rattle.std.specs.Str.{IsAscii, NonePass}
+use Rattle.std.specs.Char.{is_ascii_control}
 use Rattle.std.specs.Char.Escape.{escape_unicode, hex_digit_at}
 use Rattle.std.proofs.lemmas.Bool.{eqb-true, le-ltb, ltb-true}
+use Rattle.std.proofs.lemmas.Bool.Decides.{nat_tests}
 use Rattle.std.proofs.lemmas.List.Elements.{All-weaker}
 use Rattle.std.proofs.lemmas.List.Sums.{AllPass-from_list_all}
 use Rattle.std.proofs.lemmas.Str.{IsAscii-append, chars-append, chars_past_char, encodes-chars}
@@ -14,7 +16,7 @@ use Rattle.std.proofs.lemmas.Str.Ascii.{IsAscii-cons, IsAscii-from_all, IsAscii-
 use Rattle.hex.specs.Hex.{lower_digits, encode_lower, encode_with}
 use Rattle.dbus_show.specs.Escapes.{escape, escaped, is_escaped, is_hidden, is_quote, units_text}
 use Rattle.dbus_show.specs.declared.escapes.Escapes.{Escapes}
-use Rattle.dbus_show.specs.declared.escapes.Escapes.TheVariants.{Shown, Json, Hidden}
+use Rattle.dbus_show.specs.declared.escapes.Escapes.TheVariants.{Shown, Json, Hidden, Line}
 
 module _ (escapes : Escapes) where
   -- what is written of a character
@@ -114,10 +116,28 @@ not_hidden c h k =
     (λ e. let t : is_hidden 92 ≡ true = subst (λ x. is_hidden x ≡ true) e k in cc)
     (quote_is c h)
 
+not_in_line : (c : ℕ) → is_quote c ≡ true → is_escaped Line c ≡ true → ⊥
+not_in_line c h k =
+    ⊎_elim (λ e. let t : is_escaped Line 34 ≡ true = subst (λ x. is_escaped Line x ≡ true) e k in cc)
+    (λ e. let t : is_escaped Line 92 ≡ true = subst (λ x. is_escaped Line x ≡ true) e k in cc)
+    (quote_is c h)
+
 pub quote_escape : (escapes : Escapes) (c : ℕ) → is_escaped escapes c ≡ true → is_quote c ≡ true → escape escapes c ≡ 92 ∷ c ∷ []
 quote_escape Shown c h is = ap (λ b. cond b (92 ∷ c ∷ []) (codes "\\x" ++ encode_lower (c ∷ []))) is
 quote_escape Json c h is = ap (λ b. cond b (92 ∷ c ∷ []) (units_text c)) is
 quote_escape Hidden c h is = absurd (not_hidden c is h)
+quote_escape Line c h is = absurd (not_in_line c is h)
 
 pub shown_escape : (escapes : Escapes) (c : ℕ) → escapes ≡ Shown → is_quote c ≡ false → escape escapes c ≡ codes "\\x" ++ encode_lower (c ∷ [])
 shown_escape escapes c e is = ap (λ k. escape k c) e ∙ ap (λ b. cond b (92 ∷ c ∷ []) (codes "\\x" ++ encode_lower (c ∷ []))) is
+
+pub shown_ascii : (escapes : Escapes) (c : ℕ) → escapes ≡ Shown → is_escaped escapes c ≡ true → c < 128
+shown_ascii escapes c e h = shown (subst (λ k. is_escaped k c ≡ true) e h) where
+  shown : is_escaped Shown c ≡ true → c < 128
+  shown k = grind (arith, nat_tests)
+
+pub control_ascii : (c : ℕ) → is_ascii_control c ≡ true → c < 128
+control_ascii c h = grind (arith, nat_tests)
+
+pub line_escape : (escapes : Escapes) (c : ℕ) (b : Bool) → escapes ≡ Line → is_ascii_control c ≡ b → escape escapes c ≡ cond b (codes "\\x" ++ encode_lower (c ∷ [])) (escape_unicode c)
+line_escape escapes c b e is = ap (λ k. escape k c) e ∙ ap (λ b. cond b (codes "\\x" ++ encode_lower (c ∷ [])) (escape_unicode c)) is

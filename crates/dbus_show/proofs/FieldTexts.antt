@@ -1,6 +1,6 @@
 -- The header's line of a valid message, and its whole text, have no other line feeds than those at
 -- the ends of lines.
-use Rattle.std.proofs.Common.{◌≡◌, ◌≢◌, ℕ, suc, Bool, true, false, eqb, cond, IsTrue, List, [], ◌∷◌, ◌++◌, ⊎_elim, length, map, codes, decimal, Option, Some, None, IfSome, refl, sym, subst, arith, ◌+◌, ◌<◌, get_or, take, ap, ◌∙◌}
+use Rattle.std.proofs.Common.{append_assoc, ◌≡◌, ◌≢◌, ℕ, suc, Bool, true, false, eqb, cond, IsTrue, List, [], ◌∷◌, ◌++◌, ⊎_elim, length, map, codes, decimal, Option, Some, None, IfSome, refl, sym, subst, arith, ◌+◌, ◌<◌, get_or, take, ap, ◌∙◌}
 use Rattle.std.specs.List.{flat_map, AllByRecursion}
 use Rattle.std.specs.Option.{unwrap_or}
 use Rattle.std.proofs.lemmas.List.{take_more}
@@ -16,7 +16,7 @@ use Rattle.dbus_value_model.specs.Values.{ValueTree, NumberValue, TextValue, val
 use Rattle.dbus_message_model.specs.Messages.{FieldTree, MessageTree, order_byte, is_known, field_struct, Want, OfType, Name, Serial, want, is_particular, Suits, AreFields}
 use Rattle.dbus_message_model.specs.MessageTypes.{type_name}
 use Rattle.dbus_message_model.proofs.Widening.{widest_valid}
-use Rattle.dbus_show.specs.ShownMessages.{line_feeds, OneForEachLine, kind_text, field_name, bare, field_value, field_text, start_text, header_line, body_line}
+use Rattle.dbus_show.specs.ShownMessages.{line_feeds, OneForEachLine, kind_text, field_name, bare, field_value, field_text, front_text, start_text, header_line, body_line}
 use Rattle.dbus_show.specs.ShownValues.{value_text, value_texts}
 use Rattle.dbus_show.proofs.LineFeeds.{IsOneLine, AreLines, feeds_append, line_literal, line_append, line_cons, line_either, line_decimal, line_hex, line_sigs, line_value, lines_of}
 
@@ -157,6 +157,14 @@ record IsEnded (t : List ℕ) : Type 0 where
 
 ended : (s t : List ℕ) → IsOneLine s → IsEnded t → IsEnded (s ++ t)
 ended s t hs ht = let e = feeds_append s t in record { one = omega (arith, hs.none, ht.one) }
+
+-- what follows the type of a message stands behind the line as far as that
+pub front_then : (order : Order) (kind number : ℕ) (more : List ℕ)
+    → front_text order kind number ++ more ≡ codes "#" ++ (decimal number ++ (codes " " ++ ((order_byte order ∷ []) ++ (codes " " ++ (kind_text kind ++ more)))))
+front_then order kind number more =
+    let letter = order_byte order in
+    ap (λ s. 35 ∷ s) (append_assoc (decimal number) (32 ∷ letter ∷ 32 ∷ (kind_text kind ++ [])) more
+    ∙ ap (λ s. decimal number ++ (32 ∷ letter ∷ 32 ∷ s)) (append_assoc (kind_text kind) [] more))
 
 start_line : (order : Order) (kind serial flags number : ℕ) → IsOneLine (start_text order kind serial flags number)
 start_line order kind serial flags number =

@@ -1,6 +1,7 @@
 -- The texts of values have no line feed.
-use Rattle.std.proofs.Common.{◌≡◌, ◌≢◌, ℕ, zero, suc, ◌+◌, ◌/◌, ◌%◌, ℤ, pos, negsuc, Bool, true, false, cond, eqb, ltb, List, [], ◌∷◌, ◌++◌, nat_lt, get_or, codes, decimal, chars, encode_utf8, refl, ap, subst, arith}
-use Rattle.std.specs.Char.Escape.{encode_utf16}
+use Rattle.std.proofs.Common.{◌≡◌, ◌≢◌, ℕ, zero, suc, ◌+◌, ◌/◌, ◌%◌, ℤ, pos, negsuc, Bool, true, false, cond, eqb, ltb, map, List, [], ◌∷◌, ◌++◌, nat_lt, get_or, codes, decimal, chars, encode_utf8, refl, ap, subst, arith}
+use Rattle.std.specs.Char.{is_ascii_control}
+use Rattle.std.specs.Char.Escape.{encode_utf16, escape_unicode, hex_digit_at}
 use Rattle.std.proofs.Math.Utf8.{encode}
 use Rattle.std.specs.List.{flat_map}
 use Rattle.std.specs.Fmt.{digits, digits_onto, digit_glyph, signed_decimal}
@@ -17,7 +18,7 @@ use Rattle.dbus_show.specs.ShownMessages.{line_feeds}
 use Rattle.dbus_show.specs.Escapes.{escape, escaped, is_escaped, is_quote, quoted_by, units_text}
 use Rattle.dbus_show.specs.ShownValues.{number_text, joined, bytes_in, value_text, value_texts}
 use Rattle.dbus_show.specs.declared.escapes.Escapes.{Escapes}
-use Rattle.dbus_show.specs.declared.escapes.Escapes.TheVariants.{Shown, Json, Hidden}
+use Rattle.dbus_show.specs.declared.escapes.Escapes.TheVariants.{Shown, Json, Hidden, Line}
 
 -- ---- lists
 
@@ -140,6 +141,24 @@ line_encode c h =
 line_units : (c : ℕ) → IsOneLine (units_text c)
 line_units c = line_flat _ (λ u. line_append (codes "\\u") _ (line_literal (codes "\\u") refl) (line_hex (u / 256 ∷ u % 256 ∷ []))) (encode_utf16 c)
 
+line_places : (c : ℕ) (places : List ℕ) → IsOneLine (map (λ p. hex_digit_at p c) places)
+line_places c [] = line_literal [] refl
+line_places c (p ∷ places) = line_cons (hex_digit_at p c) (map (λ p. hex_digit_at p c) places) (glyph_value (nat_lt (c / p % 16) 10) (c / p % 16)) (line_places c places)
+
+spelled : (c : ℕ) (places : List ℕ) → IsOneLine (92 ∷ 117 ∷ 123 ∷ (map (λ p. hex_digit_at p c) places ++ 125 ∷ []))
+spelled c places =
+    let digits = map (λ p. hex_digit_at p c) places in
+    line_append (92 ∷ 117 ∷ 123 ∷ []) (digits ++ 125 ∷ []) (line_literal (92 ∷ 117 ∷ 123 ∷ []) refl) (line_append digits (125 ∷ []) (line_places c places) (line_literal (125 ∷ []) refl))
+
+pub line_unicode : (c : ℕ) → IsOneLine (escape_unicode c)
+line_unicode c =
+    line_either (nat_lt c 0x10) _ _ (spelled c (1 ∷ []))
+    (line_either (nat_lt c 0x100) _ _ (spelled c (0x10 ∷ 1 ∷ []))
+    (line_either (nat_lt c 0x1000) _ _ (spelled c (0x100 ∷ 0x10 ∷ 1 ∷ []))
+    (line_either (nat_lt c 0x1_0000) _ _ (spelled c (0x1000 ∷ 0x100 ∷ 0x10 ∷ 1 ∷ []))
+    (line_either (nat_lt c 0x10_0000) _ _ (spelled c (0x1_0000 ∷ 0x1000 ∷ 0x100 ∷ 0x10 ∷ 1 ∷ []))
+    (spelled c (0x10_0000 ∷ 0x1_0000 ∷ 0x1000 ∷ 0x100 ∷ 0x10 ∷ 1 ∷ []))))))
+
 line_backslashed : (c : ℕ) → is_quote c ≡ true → IsOneLine (92 ∷ c ∷ [])
 line_backslashed c h = line_cons 92 (c ∷ []) (λ e. omega arith) (line_cons c [] (λ e. let k : is_quote 10 ≡ true = subst (λ x. is_quote x ≡ true) e h in cc) (line_literal [] refl))
 
@@ -148,12 +167,17 @@ line_escape : (escapes : Escapes) → is_escaped escapes 10 ≡ true → (c : �
 line_escape Shown h c = line_if (is_quote c) _ _ (line_backslashed c) (λ _. line_append (codes "\\x") (encode_lower (c ∷ [])) (line_literal (codes "\\x") refl) (line_hex (c ∷ [])))
 line_escape Json h c = line_if (is_quote c) _ _ (line_backslashed c) (λ _. line_units c)
 line_escape Hidden h c = absurd (cc)
+line_escape Line h c = line_either (is_ascii_control c) _ _ (line_append (codes "\\x") (encode_lower (c ∷ [])) (line_literal (codes "\\x") refl) (line_hex (c ∷ []))) (line_unicode c)
 
 line_written : (escapes : Escapes) → is_escaped escapes 10 ≡ true → (c : ℕ) → IsOneLine (cond (is_escaped escapes c) (escape escapes c) (encode_utf8 c))
 line_written escapes h c = line_if (is_escaped escapes c) _ _ (λ _. line_escape escapes h c) (λ other. line_encode c (λ e. let k : is_escaped escapes 10 ≡ false = subst (λ x. is_escaped escapes x ≡ false) e other in cc))
 
+-- a text with its escapes, if a line feed is among those that are escaped
+pub line_escaped : (escapes : Escapes) → is_escaped escapes 10 ≡ true → (text : List ℕ) → IsOneLine (escaped escapes text)
+line_escaped escapes h text = line_flat _ (line_written escapes h) (chars text)
+
 pub line_quoted : (escapes : Escapes) → is_escaped escapes 10 ≡ true → (text : List ℕ) → IsOneLine (quoted_by escapes text)
-line_quoted escapes h text = between (codes "\"") (escaped escapes text) (codes "\"") refl (line_flat _ (line_written escapes h) (chars text)) refl
+line_quoted escapes h text = between (codes "\"") (escaped escapes text) (codes "\"") refl (line_escaped escapes h text) refl
 
 -- ---- signatures
 

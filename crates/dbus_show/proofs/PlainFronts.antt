@@ -15,7 +15,7 @@ use Rattle.std.specs.Char.{is_ascii_control}
 use Rattle.dbus_show.specs.Escapes.{is_escaped, is_hidden, is_quote}
 use Rattle.dbus_show.specs.PlainFronts.{IsEscapedAt, IsPlainFront, is_beyond, is_stop}
 use Rattle.dbus_show.specs.declared.escapes.Escapes.{Escapes}
-use Rattle.dbus_show.specs.declared.escapes.Escapes.TheVariants.{Shown, Json, Hidden}
+use Rattle.dbus_show.specs.declared.escapes.Escapes.TheVariants.{Shown, Json, Hidden, Line}
 use Rattle.dbus_show.specs.declared.runs.Beyond.{Beyond}
 use Rattle.dbus_show.specs.declared.runs.Beyond.TheVariants.{Each, Leads}
 
@@ -56,6 +56,10 @@ lead_4 c l =
 either_is : (a b : Bool) → (a || b) ≡ true → (a ≡ true) ⊎ (b ≡ true)
 either_is true b h = inl refl
 either_is false b h = inr h
+
+either_right : (a : Bool) {b : Bool} → b ≡ true → (a || b) ≡ true
+either_right true h = refl
+either_right false h = h
 
 in_range : (lo hi c : ℕ) → is_in_range lo hi c ≡ true → (lo ≤ c) × (c ≤ hi)
 in_range lo hi c h = (grind (arith, nat_tests), grind (arith, nat_tests))
@@ -114,6 +118,7 @@ escaped_stop : (escapes : Escapes) (c : ℕ) → is_escaped escapes c ≡ true �
 escaped_stop Shown c h = ascii_lead c h
 escaped_stop Json c h = ⊎_elim (λ k. ascii_lead c k) (λ k. beyond_stops Leads (lead_byte c) (hidden_lead c k)) (either_is (is_quote c || is_ascii_control c) (is_hidden c) h)
 escaped_stop Hidden c h = beyond_stops Leads (lead_byte c) (hidden_lead c h)
+escaped_stop Line c h = ⊎_elim (λ k. ascii_lead c (either_right (is_quote c) k)) (λ k. beyond_stops Leads (lead_byte c) (hidden_lead c k)) (either_is (is_ascii_control c) (is_hidden c) h)
 
 -- every stop of the one kind is one of the other
 leads_each : (b : ℕ) → is_stop Leads b ≡ true → is_stop Each b ≡ true

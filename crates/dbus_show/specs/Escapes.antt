@@ -7,7 +7,7 @@ use Rattle.std.specs.Int.{is_in_range}
 use Rattle.std.specs.List.{concat, flat_map}
 use Rattle.hex.specs.Hex.{encode_lower}
 use Rattle.dbus_show.specs.declared.escapes.Escapes.{Escapes}
-use Rattle.dbus_show.specs.declared.escapes.Escapes.TheVariants.{Shown, Json, Hidden}
+use Rattle.dbus_show.specs.declared.escapes.Escapes.TheVariants.{Shown, Json, Hidden, Line}
 
 -- A hidden character, beyond ASCII, is one that a terminal may obey, or that it does not draw: the
 -- controls U+0080 to U+009F; what ends a line, turns the direction of writing, or joins and parts
@@ -26,6 +26,7 @@ abbrev pub is_escaped : Escapes → ℕ → Bool
 is_escaped Shown c = is_quote c || is_ascii_control c
 is_escaped Json c = is_quote c || is_ascii_control c || is_hidden c
 is_escaped Hidden c = is_hidden c
+is_escaped Line c = is_ascii_control c || is_hidden c
 
 -- the units of a character in UTF-16, each as `\u` and four hexadecimal digits
 abbrev pub units_text : ℕ → List ℕ
@@ -33,11 +34,13 @@ units_text c = flat_map (λ u. codes "\\u" ++ encode_lower (u / 256 ∷ u % 256 
 
 -- What stands for a character that is escaped: a backslash and itself, if it is a quotation mark or
 -- a backslash; of any other, in a text that is shown, `\x` and two hexadecimal digits; in JSON, its
--- units; or `\u{`, its code in hexadecimal and `}`.
+-- units; or `\u{`, its code in hexadecimal and `}`. In a line it is `\x` for a control character of
+-- ASCII, and `\u{` for a hidden one.
 abbrev pub escape : Escapes → ℕ → List ℕ
 escape Shown c = if is_quote c then 92 ∷ c ∷ [] else codes "\\x" ++ encode_lower (c ∷ [])
 escape Json c = if is_quote c then 92 ∷ c ∷ [] else units_text c
 escape Hidden c = escape_unicode c
+escape Line c = if is_ascii_control c then codes "\\x" ++ encode_lower (c ∷ []) else escape_unicode c
 
 -- a text with its escapes: every other character is itself
 abbrev pub escaped : Escapes → List ℕ → List ℕ

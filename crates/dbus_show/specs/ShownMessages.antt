@@ -39,6 +39,10 @@ field_value f = if is_known f.code then bare f.value else value_text f.value
 abbrev pub field_text : FieldTree → List ℕ
 field_text f = codes " " ++ (field_name f.code ++ (codes "=" ++ field_value f))
 
+-- the header's line as far as the message type
+abbrev pub front_text : Order → (kind number : ℕ) → List ℕ
+front_text order kind number = concat (codes "#" ∷ decimal number ∷ codes " " ∷ (order_byte order ∷ []) ∷ codes " " ∷ kind_text kind ∷ [])
+
 -- the header's line as far as its fields
 abbrev pub start_text : Order → (kind serial flags : ℕ) → (number : ℕ) → List ℕ
 start_text order kind serial flags number = concat

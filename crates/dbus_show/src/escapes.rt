@@ -1,7 +1,7 @@
 //! Which characters of a text are escaped, and what stands for them.
 #![tactic(auto)]
 
-ghost use Rattle.std.specs.Prelude.{◌≡◌, ◌/◌, ◌%◌, ◌∷◌, [], ◌++◌, codes, true};
+ghost use Rattle.std.specs.Prelude.{◌≡◌, ◌<◌, ◌/◌, ◌%◌, ◌∷◌, [], ◌++◌, codes, true};
 ghost use Rattle.std.specs.Char.Escape.{escape_unicode};
 ghost use Rattle.hex.specs.Hex.{encode_lower};
 ghost use Rattle.dbus_show.specs.Escapes.{escape, is_escaped, is_hidden, is_quote, units_text};
@@ -19,6 +19,9 @@ pub enum Escapes {
     Json,
     /// Hidden characters alone, as `\u{202e}`.
     Hidden,
+    /// What may not be in a line that a terminal shows: control characters of ASCII as `\x1b`, and
+    /// hidden characters as `\u{202e}`.
+    Line,
 }
 
 /// Whether a character is hidden: beyond ASCII, a terminal may obey it, or it is not drawn.
@@ -61,6 +64,7 @@ pub(crate) fn is_escaped(character: char, escapes: Escapes) -> bool
             is_quote(character) || character.is_ascii_control() || is_hidden(character)
         }
         Escapes::Hidden => is_hidden(character),
+        Escapes::Line => character.is_ascii_control() || is_hidden(character),
     }
 }
 
@@ -96,6 +100,15 @@ fn write_code<D: Draft>(draft: &mut D, character: char)
     }
 }
 
+/// Appends a character of ASCII as `\x` and two digits.
+fn write_ascii<D: Draft>(draft: &mut D, character: char)
+    requires { character < 128 }
+    ensures { D.gains draft.old (codes "\\x" ++ encode_lower (character ∷ [])) draft.new }
+{
+    draft.push_str("\\x");
+    write_byte(draft, character as u8);
+}
+
 /// Appends what stands for a character that is escaped.
 pub(crate) fn write_escape<D: Draft>(draft: &mut D, character: char, escapes: Escapes)
     requires { is_escaped escapes character ≡ true }
@@ -107,11 +120,15 @@ pub(crate) fn write_escape<D: Draft>(draft: &mut D, character: char, escapes: Es
         return;
     }
     match escapes {
-        Escapes::Shown => {
-            draft.push_str("\\x");
-            write_byte(draft, character as u8);
-        }
+        Escapes::Shown => write_ascii(draft, character),
         Escapes::Json => write_units(draft, character),
         Escapes::Hidden => write_code(draft, character),
+        Escapes::Line => {
+            if character.is_ascii_control() {
+                write_ascii(draft, character);
+            } else {
+                write_code(draft, character);
+            }
+        }
     }
 }

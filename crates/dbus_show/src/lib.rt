@@ -28,6 +28,6 @@ pub use fields::write_field_name;
 pub use hexadecimal::write_hex;
 pub use numbers::write_integer;
 pub use quoted::{write_escaped, write_quoted, write_quoted_by};
-pub use show::{write_kind, write_start};
+pub use show::{write_front, write_kind, write_start};
 pub use string_draft::StringDraft;
 pub use visible::Visible;

@@ -83,10 +83,10 @@ led_each lead [] = refl
 led_each lead (t ∷ texts) = sym (append_assoc lead t (flat_map (λ (text : List ℕ). lead ++ text) texts))
 
 -- the fields
-abbrev AreNamed : List (ℕ × FieldTree) → List (List ℕ) → Type 0
+abbrev pub AreNamed : List (ℕ × FieldTree) → List (List ℕ) → Type 0
 AreNamed ps texts = AreFieldTexts (λ _ code v text. text ≡ named code v) (filter (λ _. true) ps) texts
 
-fields_are : (n : ℕ) (fs : List FieldTree) (texts : List (List ℕ)) → AreNamed (enumerate_from n fs) texts → led [] [] texts ≡ flat_map field_text fs
+pub fields_are : (n : ℕ) (fs : List FieldTree) (texts : List (List ℕ)) → AreNamed (enumerate_from n fs) texts → led [] [] texts ≡ flat_map field_text fs
 fields_are n [] [] h = refl
 fields_are n [] (t ∷ texts) h = absurd h
 fields_are n (f ∷ fs) [] h = absurd h

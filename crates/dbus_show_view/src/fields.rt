@@ -5,13 +5,16 @@ ghost use Rattle.std.specs.Prelude.{◌≡◌, ◌++◌, ℕ, List, codes, true}
 ghost use Rattle.dbus_types.specs.SignatureCodes.{AreLengths};
 ghost use Rattle.dbus_value_model.specs.Values.{ValueTree};
 ghost use Rattle.dbus_walk.specs.Standing.{StandsAt, StandsThere, end_of};
-ghost use Rattle.dbus_show.specs.ShownMessages.{bare, field_name};
+ghost use Rattle.std.specs.List.{flat_map};
+ghost use Rattle.dbus_message_model.specs.Messages.{FieldTree};
+ghost use Rattle.dbus_show.specs.ShownMessages.{bare, field_name, field_text};
+ghost use Rattle.dbus_value_text.specs.Runs.{AreInRun, IsRun};
 ghost use Rattle.dbus_show_view.specs.Plain.{named};
 
 use crate::plain::Plain;
 use dbus_message_model::field_table::is_known;
 use dbus_show::{Draft, push_field_name, write_field_name, write_integer};
-use dbus_value_text::{FieldForm, write_value};
+use dbus_value_text::{FieldForm, FieldRun, write_field_run, write_value};
 use dbus_walk::{Layout, MessageBytes, Spot, layout, text_in};
 
 /// All fields, each after a space and its name.
@@ -42,6 +45,16 @@ impl FieldForm for Named {
         }
         write_value::<Plain, D>(draft, source, spot)
     }
+}
+
+/// Appends the header fields of a run as [`show_validated`](crate::show_validated) has them: each
+/// after a space, as its name, `=` and its value. D-Bus Specification, "Header Fields".
+pub fn write_shown_fields<D: Draft>(draft: &mut D, run: &FieldRun<'_>)
+    requires stand { IsRun run.now }
+    ensures shown { (fs : List FieldTree) (rest : List ℕ) → AreInRun run.now fs rest →
+        D.gains draft.old (flat_map field_text fs) draft.new }
+{
+    write_field_run(draft, run, &Named, "", "");
 }
 
 /// Appends a space, the name of a field and `=`.

@@ -1,4 +1,5 @@
 pub mod Gaining
 pub mod Forms
+pub mod Runs
 pub mod Writing
 pub mod WritingLaws

@@ -17,7 +17,7 @@ mod writer;
 
 pub use body::write_body;
 pub use field_form::FieldForm;
-pub use fields::{FieldsTaken, write_fields};
+pub use fields::{FieldRun, FieldsTaken, write_field_run, write_fields};
 pub use numbers::write_number_at;
 pub use texts::write_types;
 pub use value_form::ValueForm;

@@ -1,9 +1,7 @@
-use Rattle.std.proofs.Common.{rules, ◌≡◌, ℕ, ◌+◌, ◌<◌, ◌≤◌, List, take, drop, codes, ap, ◌∙◌, subst}
+use Rattle.std.proofs.Common.{rules, ◌≡◌, ℕ, ◌+◌, ◌<◌, ◌≤◌, List, codes, ap, ◌∙◌, subst}
 use Rattle.dbus_value_model.specs.Bytes.{gap_to}
-use Rattle.dbus_value_model.specs.Reading.{number_of}
-use Rattle.dbus_value_model.specs.declared.order.Order.{Order}
 use Rattle.dbus_explain.specs.Names.{first, missing, field, padding, value, first_part, is_missing}
-use Rattle.dbus_explain.specs.Places.{body_begin, fields_end}
+use Rattle.dbus_explain.specs.Places.{body_begin}
 use Rattle.dbus_explain.proofs.ThreeLines.{other_reason}
 use Rattle.dbus_explain.proofs.places.write_name.Goals as goal
 
@@ -16,7 +14,7 @@ returns-in-FieldMissing g c = (codes "the end of the header fields", missing c.i
 pub returns-then-at-fields_end : goal.returns-then-at-fields_end
 returns-then-at-fields_end g c =
     let bytes = c.args.bytes.now in
-    let fields : 16 + c.u32_at.result ≡ fields_end bytes = ap (λ (n : ℕ). 16 + n) (c.u32_at.ensures.spelled ∙ ap (λ (o : Order). number_of o (take 4 (drop 12 bytes))) c.order_of-order.ensures) in
+    let fields = c.end_of_fields-fields_end.ensures.fields in
     let before = subst (λ (n : ℕ). c.args.at < n) fields c.if-at-fields_end.true in (
       c.write_field.ensures.0,
       field c.write_field.ensures.0 c.if-at-lt-FIELDS.false (other_reason c.args.reason c.in_default.not-FieldMissing) before c.write_field.ensures.1,
@@ -26,9 +24,9 @@ returns-then-at-fields_end g c =
 pub returns-then-at-body : goal.returns-then-at-body
 returns-then-at-body g c =
     let bytes = c.args.bytes.now in
-    let fields : 16 + c.u32_at.result ≡ fields_end bytes = ap (λ (n : ℕ). 16 + n) (c.u32_at.ensures.spelled ∙ ap (λ (o : Order). number_of o (take 4 (drop 12 bytes))) c.order_of-order.ensures) in
-    let gap : c.from.result ≡ gap_to 8 (16 + c.u32_at.result) = search rules in
-    let body : 16 + c.u32_at.result + c.from.result ≡ body_begin bytes = ap (λ (n : ℕ). 16 + c.u32_at.result + n) gap ∙ ap (λ (n : ℕ). n + gap_to 8 n) fields in
+    let fields = c.end_of_fields-fields_end.ensures.fields in
+    let gap : c.from.result ≡ gap_to 8 (c.end_of_fields-fields_end.result) = search rules in
+    let body : c.end_of_fields-fields_end.result + c.from.result ≡ body_begin bytes = ap (λ (n : ℕ). c.end_of_fields-fields_end.result + n) gap ∙ ap (λ (n : ℕ). n + gap_to 8 n) fields in
     let behind = subst (λ (n : ℕ). n ≤ c.args.at) fields c.if-at-fields_end.false in
     let before = subst (λ (n : ℕ). c.args.at < n) body c.if-at-body.true in
     (codes "the padding after the header fields", padding c.if-at-lt-FIELDS.false (other_reason c.args.reason c.in_default.not-FieldMissing) behind before, c.push_str-then-at-body.ensures)
@@ -36,9 +34,9 @@ returns-then-at-body g c =
 pub returns-else-at-body : goal.returns-else-at-body
 returns-else-at-body g c =
     let bytes = c.args.bytes.now in
-    let fields : 16 + c.u32_at.result ≡ fields_end bytes = ap (λ (n : ℕ). 16 + n) (c.u32_at.ensures.spelled ∙ ap (λ (o : Order). number_of o (take 4 (drop 12 bytes))) c.order_of-order.ensures) in
-    let gap : c.from.result ≡ gap_to 8 (16 + c.u32_at.result) = search rules in
-    let body : 16 + c.u32_at.result + c.from.result ≡ body_begin bytes = ap (λ (n : ℕ). 16 + c.u32_at.result + n) gap ∙ ap (λ (n : ℕ). n + gap_to 8 n) fields in
+    let fields = c.end_of_fields-fields_end.ensures.fields in
+    let gap : c.from.result ≡ gap_to 8 (c.end_of_fields-fields_end.result) = search rules in
+    let body : c.end_of_fields-fields_end.result + c.from.result ≡ body_begin bytes = ap (λ (n : ℕ). c.end_of_fields-fields_end.result + n) gap ∙ ap (λ (n : ℕ). n + gap_to 8 n) fields in
     let behind = subst (λ (n : ℕ). n ≤ c.args.at) body c.if-at-body.false in (
       c.write_value.ensures.0,
       value c.write_value.ensures.0 c.if-at-lt-FIELDS.false (other_reason c.args.reason c.in_default.not-FieldMissing) behind c.write_value.ensures.1,

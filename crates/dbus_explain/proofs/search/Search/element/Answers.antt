@@ -10,13 +10,13 @@ pub returns-clause-leads : goal.returns-clause-leads
 returns-clause-leads c = λ t is shaped.
     let self = c.args.self.now in
     let place = c.args.place in
-    let spot = c.in_ok-index.element in
-    let passed = c.in_ok-index.ensures.passed t is shaped in
+    let spot = c.after_values-index.result.1 in
+    let passed = c.after_values-index.ensures.passed t is shaped in
     let first = element_at t place c.in_ok-length.length c.in_ok-skip.field-0 c.in_ok-first.first (c.in_ok-length.ensures.gap (ArrayType t) refl) c.in_ok-skip.ensures.some.0 (c.in_ok-first.ensures.gap t (code_is t c.args.types.now is)) in
-    let there = is ∙ sym c.in_ok-index.ensures.types in (
+    let there = is ∙ sym c.after_values-index.ensures.types in (
       t,
       there,
       shaped,
-      entered_by self.bytes.now self.at t place spot.place c.in_ok-index.index c.step_to.result
-          (subst (λ (p : ℕ). Pass self.bytes.now self.at t c.in_ok-index.index p spot.place) first passed.0) passed.1 (c.step_to.ensures t there shaped),
+      entered_by self.bytes.now self.at t place spot.place c.after_values-index.result.0 c.step_to.result
+          (subst (λ (p : ℕ). Pass self.bytes.now self.at t c.after_values-index.result.0 p spot.place) first passed.0) passed.1 (c.step_to.ensures t there shaped),
     )
