@@ -25,5 +25,5 @@ returns g c =
     let ascii : IsAscii front = subst IsAscii (sym c.split_at.ensures.front) (IsAscii-take text fits c.requires.ascii) in
     let whole : front ++ rest ≡ text = ap (λ (t : List ℕ). t ++ rest) c.split_at.ensures.front ∙ ap (λ (t : List ℕ). take fits text ++ t) c.split_at.ensures.back ∙ take-append-drop fits text in
     let first = stepped gains c.args.self.now _ front refl (IsUtf8-from_ascii front ascii) (room.Left left) (room.Left (left - fits)) c.requires.room refl
-        (ascii_fits gains g.met.D.Draft.joins c.args.self.now.draft.now c.push_str.new.self front left fits ascii size small c.push_str.ensures) in
+    (ascii_fits gains g.met.D.Draft.joins c.args.self.now.draft.now c.push_str.new.self front left fits ascii size small c.push_str.ensures) in
     subst (λ (t : List ℕ). Gains gains c.args.self.now t c.push_each.new.self) whole (joins gains c.args.self.now _ c.push_each.new.self front rest first c.push_each.ensures)
