@@ -48,6 +48,11 @@ impl Taker for Lengths {
         piece: &[u8],
         given: &mut Option<u64>,
     ) -> Result<usize, StreamFault> {
+        // So it is before each read.
+        if piece.is_empty() {
+            *given = None;
+            return Ok(0);
+        }
         // A message that lies whole in the piece is validated there.
         if held == 0 {
             if let Some(validated) = validate(piece, self.limits) {

@@ -1,10 +1,11 @@
 use mathlib.Core.Logic.{∥∥₁_elim}
-use Rattle.std.proofs.Common.{◌≡◌, ℕ, ◌+◌, ◌++◌, [], ap, arith, sym, subst, ◌∙◌}
+use Rattle.std.proofs.Common.{◌≡◌, ℕ, ◌+◌, List, ◌++◌, [], length, ap, arith, sym, subst, ◌∙◌, append-nil}
 use Rattle.std.proofs.Math.Logic.{∥∥₁_map}
 use Rattle.std.specs.Coded.{le_prop}
 use Rattle.std.proofs.Math.Nat.{zero-add}
+use Rattle.std.proofs.lemmas.Bool.{eqb-true}
 use Rattle.std.proofs.lemmas.List.{nil_from_length}
-use Rattle.dbus_header.specs.MessageOutcomes.{IsWhole}
+use Rattle.dbus_header.specs.MessageOutcomes.{IsPartial, IsWhole}
 use Rattle.dbus_header.proofs.OutcomeLaws.{nothing_partial, whole_inside}
 use Rattle.dbus_value_model.specs.declared.limits.Limits.{Limits}
 use Rattle.dbus_check.specs.Checks.{Takes}
@@ -13,6 +14,14 @@ use Rattle.dbus_stream.specs.CheckReading.{lengths}
 use Rattle.dbus_stream.specs.Taking.{Completes}
 use Rattle.dbus_stream.proofs.CutterSteps.{ends_later}
 use Rattle.dbus_stream.proofs.lengths.LengthsTaker.take_piece.Goals as goal
+
+pub returns-then-is_empty-clause-takes : goal.returns-then-is_empty-clause-takes
+returns-then-is_empty-clause-takes c = λ w holds size.
+    let t = c.args.self.now in
+    let piece = c.args.piece.now in
+    let length_none : length piece ≡ 0 = eqb-true (length piece) 0 (sym c.is_empty.ensures ∙ c.if-is_empty.true) in
+    let same : w ≡ w ++ piece = sym (ap (λ (p : List ℕ). w ++ p) (nil_from_length piece length_none) ∙ append-nil w) in
+    (subst (IsPartial t.limits) same holds.1, sym length_none, record { holds = subst (λ v. lengths.holds t v) same holds; rests = tt })
 
 pub returns-in-Some-clause-within : goal.returns-in-Some-clause-within
 returns-in-Some-clause-within c =
