@@ -13,6 +13,7 @@ use Rattle.dbus_show.specs.Escapes.{escaped}
 use Rattle.dbus_show.specs.ShownMessages.{field_text, front_text, start_text}
 use Rattle.dbus_show.specs.declared.escapes.Escapes.TheVariants.{Line}
 use Rattle.dbus_explain.specs.Places.{IsIn, fields_end, order_of}
+use Rattle.dbus_explain.specs.declared.head.FirstPart.{FirstPart}
 
 -- these header fields are spelled one after another behind the first sixteen bytes, and end at the
 -- place or before it; no other one behind them does
@@ -31,6 +32,10 @@ flags_of bytes = slice_index bytes 2
 
 abbrev pub serial_of : List ℕ → ℕ
 serial_of bytes = number_of (order_of bytes) (take 4 (drop 8 bytes))
+
+-- what a head has of the first sixteen bytes
+abbrev pub first_part_of : List ℕ → FirstPart
+first_part_of bytes = record { order = order_of bytes; kind = kind_of bytes; flags = flags_of bytes; serial = serial_of bytes }
 
 -- What is whole before the place: nothing; the message type; or the first sixteen bytes and header
 -- fields. It is told as the message is shown.

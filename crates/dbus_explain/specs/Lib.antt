@@ -7,3 +7,4 @@ pub mod BlankingLaws
 pub mod Escaping
 pub mod EscapingLaws
 pub mod Heads
+pub mod Members

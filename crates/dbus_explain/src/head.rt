@@ -2,26 +2,38 @@
 //! Format", "Header Fields".
 #![tactic(auto)]
 
-ghost use Rattle.std.specs.Prelude.{◌≡◌, ◌<◌, ◌≤◌, ◌++◌, ℕ, List, Option, Some, length};
-ghost use Rattle.std.specs.List.{flat_map};
+ghost use Rattle.std.specs.Prelude.{◌≡◌, ◌<◌, ◌≤◌, ℕ, List, Option, Some, length, min};
 ghost use Rattle.dbus_message_model.specs.Messages.{FieldTree};
 ghost use Rattle.dbus_show.specs.Escapes.{escaped};
-ghost use Rattle.dbus_show.specs.ShownMessages.{field_text};
 ghost use Rattle.dbus_show.specs.declared.escapes.Escapes.TheVariants.{Line};
-ghost use Rattle.dbus_value_text.specs.Runs.{AreInRun};
-ghost use Rattle.dbus_explain.specs.Heads.{AreWhole, IsHead, head_part};
+ghost use Rattle.dbus_value_text.specs.Runs.{AreInRun, IsRun};
+ghost use Rattle.dbus_explain.specs.Heads.{AreWhole, IsHead, first_part_of, head_part};
+ghost use Rattle.dbus_explain.specs.Places.{fields_end};
 
 use crate::escaping::Escaping;
 use crate::places::{FIELD, FIELDS, end_of_fields, order_of};
 use crate::search::{Search, ValuePlace};
 use dbus_show::{Draft, Escapes, write_front, write_start};
 use dbus_show_view::write_shown_fields;
-use dbus_value_model::DEPTH_LIMIT;
+use dbus_value_model::{DEPTH_LIMIT, Order};
 use dbus_value_text::FieldRun;
 use dbus_walk::MessageBytes;
 
 /// The offset after the message type.
-const TYPE_END: usize = 2;
+pub(crate) const TYPE_END: usize = 2;
+
+/// What a head has of the first sixteen bytes of a message.
+#[derive(Clone, Copy)]
+pub(crate) struct FirstPart {
+    /// The byte order.
+    pub(crate) order: Order,
+    /// The message type.
+    pub(crate) kind: u8,
+    /// The flags.
+    pub(crate) flags: u8,
+    /// The serial.
+    pub(crate) serial: u32,
+}
 
 /// Appends the line of the head, behind the line before it, if the message type is whole before the
 /// place.
@@ -58,33 +70,53 @@ fn write_parts<D: Draft>(draft: &mut D, bytes: &[u8], number: u64, at: usize)
     ensures { (head : List ℕ) × IsHead bytes.now at number (Some head) ×
         D.gains draft.old head draft.new }
 {
-    let order = order_of(bytes);
-    let kind = bytes[1];
     if at < FIELDS {
-        write_front(draft, order, kind, number);
+        write_front(draft, order_of(bytes), bytes[1], number);
         return;
     }
-    let serial = order.u32_at(bytes, 8);
-    write_start(draft, order, kind, serial, bytes[2], number);
-    let search = Search {
-        bytes,
-        order,
-        at: at.min(end_of_fields(bytes)),
-    };
-    write_fields(draft, &search);
+    let first = first_part(bytes);
+    write_start(
+        draft,
+        first.order,
+        first.kind,
+        first.serial,
+        first.flags,
+        number,
+    );
+    write_shown_fields(draft, &whole_fields(bytes, at));
 }
 
-// Appends the header fields that are whole before the place.
-fn write_fields<D: Draft>(draft: &mut D, search: &Search)
-    requires { 16 ≤ search.now.at }
-    ensures { (fs : List FieldTree) × AreWhole search.now.bytes.now search.now.at fs ×
-        D.gains draft.old (flat_map field_text fs) draft.new }
+/// What a head has of the first sixteen bytes.
+pub(crate) fn first_part(bytes: &[u8]) -> FirstPart
+    requires { 16 ≤ length bytes.now }
+    ensures { result ≡ first_part_of bytes.now }
 {
-    write_shown_fields(draft, &whole_fields(search));
+    let order = order_of(bytes);
+    FirstPart {
+        order,
+        kind: bytes[1],
+        flags: bytes[2],
+        serial: order.u32_at(bytes, 8),
+    }
 }
 
-// Where the header fields are that are whole before the place.
-fn whole_fields<'a>(search: &Search<'a>) -> FieldRun<'a>
+/// Where the header fields are that are whole before the place.
+pub(crate) fn whole_fields(bytes: &[u8], at: usize) -> FieldRun<'_>
+    requires begun { 16 ≤ at }
+    requires within { at ≤ length bytes.now }
+    ensures stand { IsRun result }
+    ensures fields { (fs : List FieldTree) × (rest : List ℕ) × AreInRun result fs rest ×
+        AreWhole bytes.now (min at (fields_end bytes.now)) fs }
+{
+    fields_before(&Search {
+        bytes,
+        order: order_of(bytes),
+        at: at.min(end_of_fields(bytes)),
+    })
+}
+
+// The same before the place of a search.
+fn fields_before<'a>(search: &Search<'a>) -> FieldRun<'a>
     requires { 16 ≤ search.now.at }
     ensures { (fs : List FieldTree) × (rest : List ℕ) × AreInRun result fs rest ×
         AreWhole search.now.bytes.now search.now.at fs }

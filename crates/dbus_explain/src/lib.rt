@@ -5,13 +5,15 @@
 //! the message as it is shown, the bytes at the place, and the rule that they break with its section
 //! of the D-Bus Specification. For a fault of
 //! a match rule [`explain_rule`] writes the rule, a mark below the place, and what may be there.
-//! They write to a `Draft`.
+//! They write to a `Draft`, as does [`write_refusal_members`], which says the same of a message in
+//! JSON.
 #![tactic(auto)]
 
 mod blanks;
 mod escaping;
 mod head;
 mod looks;
+mod members;
 mod message;
 mod path;
 mod places;
@@ -21,5 +23,6 @@ mod search;
 mod values;
 mod window;
 
+pub use members::write_refusal_members;
 pub use message::{Refused, explain_message};
 pub use rule::explain_rule;

@@ -67,8 +67,8 @@ pub fn explain_message<D: Draft>(draft: &mut D, refused: &Refused)
     draft.push_str("\n");
 }
 
-// The place of the fault, or the end of the bytes if it is past them.
-fn place_in(bytes: &[u8], fault: Fault) -> usize
+/// The place of the fault, or the end of the bytes if it is past them.
+pub(crate) fn place_in(bytes: &[u8], fault: Fault) -> usize
     ensures { result ≡ place_in bytes.now fault }
 {
     fault.at.min(bytes.len() as u64) as usize

@@ -27,7 +27,7 @@ use Rattle.dbus_value_text.specs.Forms.{AreFieldTexts, led}
 use Rattle.dbus_json.specs.JsonValues.{plain, string, listed, array, member, object, IsDouble, IsNumber, IsJson, AreJson}
 use Rattle.dbus_json.specs.Times.{digit_at, powers, fraction_digits, seconds_text, time_members}
 use Rattle.dbus_json.specs.declared.place.LinePlace.{LinePlace}
-use Rattle.dbus_json.specs.JsonMessages.{type_text, IsKnown, IsOther, known_fields, other_fields, is_before_known, place_members, first_members, IsOneLineEach, start_text}
+use Rattle.dbus_json.specs.JsonMessages.{type_text, IsKnown, IsOther, known_fields, other_fields, is_before_known, place_members, first_members, IsOneLineEach, start_text, front_members, head_members, fields_text}
 
 -- ---- the parts of JSON
 
@@ -166,13 +166,7 @@ time_line (Some n) =
 
 -- those of the first members that stand after the time
 abbrev pub last_members : Order → (size kind flags serial : ℕ) → List (List ℕ)
-last_members order size kind flags serial =
-    member (codes "length") (decimal size)
-    ∷ member (codes "order") (plain (order_byte order ∷ []))
-    ∷ member (codes "type") (type_text kind)
-    ∷ member (codes "flags") (decimal flags)
-    ∷ member (codes "serial") (decimal serial)
-    ∷ []
+last_members order size kind flags serial = member (codes "length") (decimal size) ∷ head_members order kind flags serial
 
 pub one_line_each : IsOneLineEach
 one_line_each order m place text is =
@@ -216,8 +210,13 @@ parts_joined : (first known others values : List ℕ)
     ≡ (codes "{" ++ ((first ++ (known ++ (codes ",\"fields\":[" ++ ((others ++ codes "]") ++ (codes ",\"body\":[" ++ (values ++ codes "]")))))) ++ codes "}")) ++ codes "\n"
 parts_joined first known others values = simp append_assoc
 
+fields_joined : (start known others values : List ℕ)
+    → start ++ ((known ++ (codes ",\"fields\":[" ++ (others ++ codes "]"))) ++ (codes ",\"body\":[" ++ (values ++ codes "]}\n")))
+    ≡ start ++ (known ++ (codes ",\"fields\":[" ++ (others ++ (codes "],\"body\":[" ++ (values ++ codes "]}\n")))))
+fields_joined start known others values = simp append_assoc
+
 pub line_is : (t : List ℕ) (ts known others values : List (List ℕ))
-    → (codes "{" ++ listed (t ∷ ts)) ++ (led (codes ",") (codes ",") known ++ (codes ",\"fields\":[" ++ (led [] (codes ",") others ++ (codes "],\"body\":[" ++ (led [] (codes ",") values ++ codes "]}\n")))))
+    → (codes "{" ++ listed (t ∷ ts)) ++ (fields_text known others ++ (codes ",\"body\":[" ++ (led [] (codes ",") values ++ codes "]}\n")))
     ≡ object ((t ∷ ts) ++ (known ++ (member (codes "fields") (array others) ∷ member (codes "body") (array values) ∷ []))) ++ codes "\n"
 line_is t ts known others values =
     let y = λ (x : List ℕ). codes "," ++ x in
@@ -226,11 +225,38 @@ line_is t ts known others values =
     let all : listed ((t ∷ ts) ++ (known ++ two)) ≡ listed (t ∷ ts) ++ (more known ++ (codes ",\"fields\":[" ++ ((listed others ++ codes "]") ++ (codes ",\"body\":[" ++ (listed values ++ codes "]"))))) =
     ap (λ (s : List ℕ). t ++ s) (flat_map-append y ts (known ++ two) ∙ ap (λ (s : List ℕ). more ts ++ s) (flat_map-append y known two ∙ ap (λ (s : List ℕ). more known ++ s) last))
     ∙ sym (append_assoc t (more ts) (more known ++ (codes ",\"fields\":[" ++ ((listed others ++ codes "]") ++ (codes ",\"body\":[" ++ (listed values ++ codes "]")))))) in
-    ap (λ (s : List ℕ). (codes "{" ++ listed (t ∷ ts)) ++ (s ++ (codes ",\"fields\":[" ++ (led [] (codes ",") others ++ (codes "],\"body\":[" ++ (led [] (codes ",") values ++ codes "]}\n")))))) (led_more known)
+    fields_joined (codes "{" ++ listed (t ∷ ts)) (led (codes ",") (codes ",") known) (led [] (codes ",") others) (led [] (codes ",") values)
+    ∙ ap (λ (s : List ℕ). (codes "{" ++ listed (t ∷ ts)) ++ (s ++ (codes ",\"fields\":[" ++ (led [] (codes ",") others ++ (codes "],\"body\":[" ++ (led [] (codes ",") values ++ codes "]}\n")))))) (led_more known)
     ∙ ap (λ (s : List ℕ). (codes "{" ++ listed (t ∷ ts)) ++ (more known ++ (codes ",\"fields\":[" ++ (s ++ (codes "],\"body\":[" ++ (led [] (codes ",") values ++ codes "]}\n")))))) (sym (listed_led others))
     ∙ ap (λ (s : List ℕ). (codes "{" ++ listed (t ∷ ts)) ++ (more known ++ (codes ",\"fields\":[" ++ (listed others ++ (codes "],\"body\":[" ++ (s ++ codes "]}\n")))))) (sym (listed_led values))
     ∙ parts_joined (listed (t ∷ ts)) (more known) (listed others) (listed values)
     ∙ ap (λ (s : List ℕ). (codes "{" ++ (s ++ codes "}")) ++ codes "\n") (sym all)
+
+-- the flags and the serial stand behind the order and the type
+pub head_is : (order : Order) (kind flags serial : ℕ) → listed (front_members order kind) ++ (codes ",\"flags\":" ++ (decimal flags ++ (codes ",\"serial\":" ++ (decimal serial ++ [])))) ≡ listed (head_members order kind flags serial)
+head_is order kind flags serial =
+    let more = codes ",\"flags\":" ++ (decimal flags ++ (codes ",\"serial\":" ++ (decimal serial ++ []))) in
+    ap (λ (s : List ℕ). codes "\"order\":\"" ++ (order_byte order ∷ (codes "\",\"type\":" ++ s))) (append_assoc (type_text kind) [] more)
+
+-- a header by its parts, as they are written
+header_joined : (first known others : List ℕ)
+    → codes "{" ++ (first ++ ((known ++ (codes ",\"fields\":[" ++ (others ++ codes "]"))) ++ codes "}"))
+    ≡ codes "{" ++ ((first ++ (known ++ (codes ",\"fields\":[" ++ (others ++ codes "]")))) ++ codes "}")
+header_joined first known others = simp append_assoc
+
+pub header_is : (t : List ℕ) (ts known others : List (List ℕ))
+    → codes "{" ++ (listed (t ∷ ts) ++ (fields_text known others ++ codes "}")) ≡ object ((t ∷ ts) ++ (known ++ (member (codes "fields") (array others) ∷ [])))
+header_is t ts known others =
+    let y = λ (x : List ℕ). codes "," ++ x in
+    let one = member (codes "fields") (array others) ∷ [] in
+    let last : more one ≡ codes ",\"fields\":[" ++ (listed others ++ codes "]") = simp append-nil in
+    let all : listed ((t ∷ ts) ++ (known ++ one)) ≡ listed (t ∷ ts) ++ (more known ++ (codes ",\"fields\":[" ++ (listed others ++ codes "]"))) =
+    ap (λ (s : List ℕ). t ++ s) (flat_map-append y ts (known ++ one) ∙ ap (λ (s : List ℕ). more ts ++ s) (flat_map-append y known one ∙ ap (λ (s : List ℕ). more known ++ s) last))
+    ∙ sym (append_assoc t (more ts) (more known ++ (codes ",\"fields\":[" ++ (listed others ++ codes "]")))) in
+    ap (λ (s : List ℕ). codes "{" ++ (listed (t ∷ ts) ++ ((s ++ (codes ",\"fields\":[" ++ (led [] (codes ",") others ++ codes "]"))) ++ codes "}"))) (led_more known)
+    ∙ ap (λ (s : List ℕ). codes "{" ++ (listed (t ∷ ts) ++ ((more known ++ (codes ",\"fields\":[" ++ (s ++ codes "]"))) ++ codes "}"))) (sym (listed_led others))
+    ∙ header_joined (listed (t ∷ ts)) (more known) (listed others)
+    ∙ ap (λ (s : List ℕ). codes "{" ++ (s ++ codes "}")) (sym all)
 
 -- what is written of the time and of what stands after it
 pub before_rest : (time : Option ℕ) (rest : List (List ℕ)) → led (codes ",") (codes ",") (time_members time) ++ more rest ≡ more (time_members time ++ rest)

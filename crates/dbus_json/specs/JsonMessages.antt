@@ -59,18 +59,40 @@ AreKnown fs texts = AreFieldTexts (λ _ code v text. IsKnown code v text) (known
 abbrev pub AreOthers : List FieldTree → List (List ℕ) → Type 0
 AreOthers fs texts = AreFieldTexts (λ place code v text. IsOther (is_before_known fs place) place code v text) (other_fields fs) texts
 
+-- the byte order and the message type
+abbrev pub front_members : Order → (kind : ℕ) → List (List ℕ)
+front_members order kind =
+    member (codes "order") (plain (order_byte order ∷ []))
+    ∷ member (codes "type") (type_text kind)
+    ∷ []
+
+-- and the flags and the serial
+abbrev pub head_members : Order → (kind flags serial : ℕ) → List (List ℕ)
+head_members order kind flags serial =
+    member (codes "order") (plain (order_byte order ∷ []))
+    ∷ member (codes "type") (type_text kind)
+    ∷ member (codes "flags") (decimal flags)
+    ∷ member (codes "serial") (decimal serial)
+    ∷ []
+
+-- the texts of header fields: of the known ones, and of the others
+abbrev pub AreFields : List FieldTree → (known others : List (List ℕ)) → Type 0
+AreFields fs known others = AreKnown fs known × AreOthers fs others
+
+-- A header as an object: its fields are as in a line.
+pub record IsJsonHeader (order : Order) (kind flags serial : ℕ) (fs : List FieldTree) (text : List ℕ) : Type 0 where
+  pub known : List (List ℕ)
+  pub others : List (List ℕ)
+  pub fields : AreFields fs known others
+  pub is : text ≡ object (head_members order kind flags serial ++ (known ++ (member (codes "fields") (array others) ∷ [])))
+
 -- what stands before the header fields, of a message of so many bytes
 abbrev pub first_members : LinePlace → Order → (size kind flags serial : ℕ) → List (List ℕ)
 first_members place order size kind flags serial =
     member (codes "number") (decimal place.number)
     ∷ member (codes "offset") (decimal place.offset)
     ∷ (time_members place.time
-    ++ (member (codes "length") (decimal size)
-    ∷ member (codes "order") (plain (order_byte order ∷ []))
-    ∷ member (codes "type") (type_text kind)
-    ∷ member (codes "flags") (decimal flags)
-    ∷ member (codes "serial") (decimal serial)
-    ∷ []))
+    ++ (member (codes "length") (decimal size) ∷ head_members order kind flags serial))
 
 -- The line of a message that has this place: the known fields are members of the object, and all
 -- other fields, and the values of the body, stand in two arrays.
@@ -91,6 +113,10 @@ pub record IsJsonLine (order : Order) (m : MessageTree) (place : LinePlace) (tex
 -- what stands before the header fields
 abbrev pub start_text : Validated → LinePlace → List ℕ
 start_text j place = codes "{" ++ listed (first_members place j.order j.length j.kind j.flags j.serial)
+
+-- the header fields, each after a comma
+abbrev pub fields_text : (known others : List (List ℕ)) → List ℕ
+fields_text known others = led (codes ",") (codes ",") known ++ (codes ",\"fields\":[" ++ (led [] (codes ",") others ++ codes "]"))
 
 -- what stands behind the value of such a field
 abbrev pub end_text : (before_known : Bool) → (place : ℕ) → List ℕ

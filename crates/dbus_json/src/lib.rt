@@ -6,6 +6,7 @@
 
 mod doubles;
 mod fields;
+mod header;
 mod json;
 pub mod laws;
 mod line;
@@ -14,6 +15,7 @@ mod texts;
 mod times;
 
 pub use doubles::finite;
+pub use header::{write_header, write_header_front};
 pub use line::write_json;
 pub use place::LinePlace;
 pub use texts::write_string;

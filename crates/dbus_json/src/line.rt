@@ -9,30 +9,14 @@ ghost use Rattle.dbus_validate.specs.Validating.{IsValidated, WasValidated, IsWh
 ghost use Rattle.dbus_value_text.specs.Forms.{led};
 ghost use Rattle.dbus_json.specs.JsonMessages.{AreOthers, IsJsonLine, type_text, start_text};
 
-use crate::fields::{KnownFields, OtherFields};
+use crate::header::{write_head, write_header_fields};
 use crate::json::Json;
 use crate::place::LinePlace;
 use crate::times::write_time;
-use dbus_message_model::message_type::type_name;
-use dbus_message_model::order_byte;
 use dbus_show::{Draft, write_integer};
 use dbus_validate::{Validated, Whole};
 use dbus_value_model::Limits;
-use dbus_value_text::{FieldsTaken, write_body, write_fields};
-
-/// Appends the name of a message type, or its number if it has none.
-fn write_type<D: Draft>(draft: &mut D, kind: u8)
-    ensures { D.gains draft.old (type_text kind) draft.new }
-{
-    match type_name(kind) {
-        Some(name) => {
-            draft.push_code(b'"');
-            draft.push_str(name);
-            draft.push_code(b'"');
-        }
-        None => write_integer(draft, kind),
-    }
-}
+use dbus_value_text::{FieldRun, write_body};
 
 /// Appends what comes before the header fields.
 fn write_start<D: Draft>(draft: &mut D, validated: &Validated, place: LinePlace)
@@ -45,35 +29,14 @@ fn write_start<D: Draft>(draft: &mut D, validated: &Validated, place: LinePlace)
     write_time(draft, place.time);
     draft.push_str(",\"length\":");
     write_integer(draft, validated.length);
-    draft.push_str(",\"order\":\"");
-    draft.push_code(order_byte(validated.order));
-    draft.push_str("\",\"type\":");
-    write_type(draft, validated.kind);
-    draft.push_str(",\"flags\":");
-    write_integer(draft, validated.flags);
-    draft.push_str(",\"serial\":");
-    write_integer(draft, validated.serial);
-}
-
-/// Appends the fields that are not known, with commas between them, unless all are known. It is
-/// given which are.
-fn write_others<D: Draft>(draft: &mut D, whole: &Whole<'_>, known: FieldsTaken)
-    requires validated { WasValidated whole.now }
-    requires all { (m : MessageTree) → IsWholeOf whole.now m →
-        known.all ≡ list_all (λ f. is_known f.code) m.fields }
-    requires end { (m : MessageTree) → IsWholeOf whole.now m → (place : ℕ) →
-        list_any (λ f. is_known f.code) (drop place m.fields) ≡ nat_lt place known.end }
-    ensures written { (m : MessageTree) → IsWholeOf whole.now m →
-        (texts : List (List ℕ)) × AreOthers m.fields texts ×
-        D.gains draft.old (led [] (codes ",") texts) draft.new }
-{
-    if known.all {
-        return;
-    }
-    let others = OtherFields {
-        known_end: known.end,
-    };
-    write_fields(draft, whole, &others, "", ",");
+    draft.push_code(b',');
+    write_head(
+        draft,
+        validated.order,
+        validated.kind,
+        validated.flags,
+        validated.serial,
+    );
 }
 
 /// Appends the message that the bytes begin with as a line of JSON, which ends in a line feed. It
@@ -110,10 +73,8 @@ pub fn write_json<D: Draft>(
         validated,
     };
     write_start(draft, validated, place);
-    let known = write_fields(draft, &whole, &KnownFields, ",", ",");
-    draft.push_str(",\"fields\":[");
-    write_others(draft, &whole, known);
-    draft.push_str("],\"body\":[");
+    write_header_fields(draft, &FieldRun::of(&whole));
+    draft.push_str(",\"body\":[");
     write_body::<Json, D>(draft, &whole, "", ",");
     draft.push_str("]}\n");
 }

@@ -1,17 +1,12 @@
-use Rattle.std.proofs.Common.{arith, refl, drop}
-use Rattle.dbus_explain.specs.Places.{field_type}
-use Rattle.dbus_explain.proofs.WholeFields.{fields_passed, fields_stand}
+use Rattle.std.proofs.Common.{ℕ, ap, min, subst, ◌∙◌}
+use Rattle.dbus_explain.specs.Heads.{AreWhole}
 use Rattle.dbus_explain.proofs.head.whole_fields.Goals as goal
 
 pub returns : goal.returns
 returns c =
-    let search = c.args.search.now in
-    let bytes = search.bytes.now in
-    let end = c.after_values.result.1.place in
-    let passed = c.after_values.ensures.passed field_type refl (tt, (tt, tt)) in
-    let fields = fields_passed bytes search.at c.after_values.result.0 16 end passed.0 in (
-      fields.0,
-      drop end bytes,
-      record { some = omega arith; stand = rw search.order_is (fields_stand bytes search.at fields.0 16 end (omega arith) fields.1) },
-      record { end = end; spelled = fields.1; within = c.after_values.ensures.within; last = passed.1 },
-    )
+    let run = c.fields_before.ensures in
+    let at = c.min.ensures ∙ ap (λ (n : ℕ). min c.args.at n) c.end_of_fields.ensures.fields in
+    record {
+      stand = (run.0, run.1, run.2);
+      fields = (run.0, run.1, run.2, subst (λ (n : ℕ). AreWhole c.args.bytes.now n run.0) at run.3);
+    }

@@ -15,16 +15,16 @@ returns g c = record {
       let j = c.args.validated.now in
       let spelled = whole_bytes c.args.limits c.args.bytes.now j.order m j.length whole in
       let parts = told_parts c.args.limits c.args.bytes.now j c.requires.validated m whole in
-      let known = c.write_fields-known.ensures.written m whole in
-      let others = c.write_others.ensures.written m whole in
+      let it = c.of.ensures.fields m whole in
+      let fields = c.write_header_fields.ensures.written m.fields it.0 it.1 in
       let values = c.write_body.ensures.written m whole in
       let first = first_members c.args.place j.order (length (message_bytes j.order m)) m.kind m.flags m.serial in
-      let text = object (first ++ (known.0 ++ (member (codes "fields") (array others.0) ∷ member (codes "body") (array values.0) ∷ []))) ++ codes "\n" in
+      let text = object (first ++ (fields.0 ++ (member (codes "fields") (array fields.1) ∷ member (codes "body") (array values.0) ∷ []))) ++ codes "\n" in
       let start = subst (λ (s : List ℕ). g.D.Draft.gains c.args.draft.now s c.write_start.new.draft) (start_is j m c.args.place spelled.1 parts) c.write_start.ensures in
-      let is : IsJsonLine j.order m c.args.place text = record { known = known.0; knows = known.1; others = others.0; other = others.1; values = values.0; body = are_json m.body values.0 values.1; is = refl } in (
+      let is : IsJsonLine j.order m c.args.place text = record { known = fields.0; knows = fields.2.0; others = fields.1; other = fields.2.1; values = values.0; body = are_json m.body values.0 values.1; is = refl } in (
         text,
         is,
-        subst (λ (s : List ℕ). g.D.Draft.gains c.args.draft.now s c.push_str-3.new.self) (line_is (member (codes "number") (decimal c.args.place.number)) (later_members c.args.place j.order (length (message_bytes j.order m)) m.kind m.flags m.serial) known.0 others.0 values.0)
-            (then g.D.Draft.gains g.met.D.Draft.joins start (then g.D.Draft.gains g.met.D.Draft.joins known.2 (then g.D.Draft.gains g.met.D.Draft.joins c.push_str.ensures (then g.D.Draft.gains g.met.D.Draft.joins others.2 (then g.D.Draft.gains g.met.D.Draft.joins c.push_str-2.ensures (then g.D.Draft.gains g.met.D.Draft.joins values.2 c.push_str-3.ensures)))))),
+        subst (λ (s : List ℕ). g.D.Draft.gains c.args.draft.now s c.push_str-2.new.self) (line_is (member (codes "number") (decimal c.args.place.number)) (later_members c.args.place j.order (length (message_bytes j.order m)) m.kind m.flags m.serial) fields.0 fields.1 values.0)
+            (then g.D.Draft.gains g.met.D.Draft.joins start (then g.D.Draft.gains g.met.D.Draft.joins fields.3 (then g.D.Draft.gains g.met.D.Draft.joins c.push_str.ensures (then g.D.Draft.gains g.met.D.Draft.joins values.2 c.push_str-2.ensures)))),
       );
 }

@@ -1,4 +1,4 @@
-use Rattle.std.proofs.Common.{ℕ, List, [], ◌∷◌, append-nil, decimal, sym, subst}
+use Rattle.std.proofs.Common.{ℕ, List, subst}
 use Rattle.dbus_show.proofs.FieldTexts.{then}
 use Rattle.dbus_json.proofs.OneLines.{before_rest, last_members}
 use Rattle.dbus_json.proofs.line.write_start.Goals as goal
@@ -6,10 +6,6 @@ use Rattle.dbus_json.proofs.line.write_start.Goals as goal
 pub returns : goal.returns
 returns g c =
     let j = c.args.validated.now in
-    let letter = subst (λ b. g.D.Draft.gains c.push_str-4.new.self (b ∷ []) c.push_code.new.self) c.order_byte.ensures.named c.push_code.ensures in
-    let serial = subst (λ s. g.D.Draft.gains c.push_str-7.new.self s c.write_integer-5.new.draft) (sym (append-nil (decimal j.serial))) c.write_integer-5.ensures in
-    let rest = then g.D.Draft.gains g.met.D.Draft.joins c.push_str-3.ensures (then g.D.Draft.gains g.met.D.Draft.joins c.write_integer-3.ensures (then g.D.Draft.gains g.met.D.Draft.joins c.push_str-4.ensures (then g.D.Draft.gains g.met.D.Draft.joins letter
-    (then g.D.Draft.gains g.met.D.Draft.joins c.push_str-5.ensures (then g.D.Draft.gains g.met.D.Draft.joins c.write_type.ensures (then g.D.Draft.gains g.met.D.Draft.joins c.push_str-6.ensures (then g.D.Draft.gains g.met.D.Draft.joins c.write_integer-4.ensures
-    (then g.D.Draft.gains g.met.D.Draft.joins c.push_str-7.ensures serial)))))))) in
-    let time = subst (λ (s : List ℕ). g.D.Draft.gains c.write_integer-2.new.draft s c.write_integer-5.new.draft) (before_rest c.args.place.time (last_members j.order j.length j.kind j.flags j.serial)) (then g.D.Draft.gains g.met.D.Draft.joins c.write_time.ensures rest) in
+    let rest = then g.D.Draft.gains g.met.D.Draft.joins c.push_str-3.ensures (then g.D.Draft.gains g.met.D.Draft.joins c.write_integer-3.ensures (then g.D.Draft.gains g.met.D.Draft.joins c.push_code.ensures c.write_head.ensures)) in
+    let time = subst (λ (s : List ℕ). g.D.Draft.gains c.write_integer-2.new.draft s c.write_head.new.draft) (before_rest c.args.place.time (last_members j.order j.length j.kind j.flags j.serial)) (then g.D.Draft.gains g.met.D.Draft.joins c.write_time.ensures rest) in
     then g.D.Draft.gains g.met.D.Draft.joins c.push_str.ensures (then g.D.Draft.gains g.met.D.Draft.joins c.write_integer.ensures (then g.D.Draft.gains g.met.D.Draft.joins c.push_str-2.ensures (then g.D.Draft.gains g.met.D.Draft.joins c.write_integer-2.ensures time)))

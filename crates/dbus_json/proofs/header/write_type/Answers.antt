@@ -2,7 +2,7 @@ use Rattle.std.proofs.Common.{ap, decimal, option_map, subst}
 use Rattle.std.specs.Option.{unwrap_or}
 use Rattle.dbus_show.proofs.FieldTexts.{then}
 use Rattle.dbus_json.specs.JsonValues.{plain}
-use Rattle.dbus_json.proofs.line.write_type.Goals as goal
+use Rattle.dbus_json.proofs.header.write_type.Goals as goal
 
 pub returns-in-Some : goal.returns-in-Some
 returns-in-Some g c =

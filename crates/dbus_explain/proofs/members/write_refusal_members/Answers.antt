@@ -1,0 +1,25 @@
+use Rattle.std.proofs.Common.{◌++◌, ◌∷◌, [], ℕ, List, codes, refl, subst}
+use Rattle.dbus_show.proofs.FieldTexts.{then}
+use Rattle.dbus_json.specs.JsonValues.{listed, member, string}
+use Rattle.dbus_explain.specs.Explained.{place_in}
+use Rattle.dbus_explain.specs.Members.{IsJsonHead}
+use Rattle.dbus_explain.specs.Names.{IsNameOf}
+use Rattle.dbus_explain.proofs.MemberTexts.{members_joined}
+use Rattle.dbus_explain.proofs.members.write_refusal_members.Goals as goal
+
+pub returns : goal.returns
+returns g c =
+    let gains = g.D.Draft.gains in
+    let joins = g.met.D.Draft.joins in
+    let refused = c.args.refused.now in
+    let bytes = refused.bytes.now in
+    let name = c.write_place.ensures.0 in
+    let rule = c.rule_of.result.now in
+    let header = c.write_whole_header.ensures.0 in
+    let named = subst (λ (n : ℕ). IsNameOf bytes refused.fault.reason n name) c.place_in-at.ensures c.write_place.ensures.1 in
+    let headed = subst (λ (n : ℕ). IsJsonHead bytes n header) c.place_in-at.ensures c.write_whole_header.ensures.1 in
+    let all = then gains joins c.push_str.ensures (then gains joins c.write_place.ensures.2 (then gains joins c.push_str-2.ensures (then gains joins c.write_string.ensures (then gains joins c.push_str-3.ensures c.write_whole_header.ensures.2)))) in (
+      listed (member (codes "place") (string name) ∷ member (codes "rule") (string rule) ∷ member (codes "header") header ∷ []),
+      record { name = name; rule = rule; header = header; named = named; headed = headed; is = refl },
+      subst (λ (s : List ℕ). gains c.args.draft.now s c.write_whole_header.new.draft) (members_joined name rule header) all,
+    )
