@@ -25,7 +25,7 @@ sys.path.insert(0, str(ROOT / "cases"))
 
 from read_cases import DATA, read_bytes, read_cases, read_parts  # noqa: E402
 
-REFUSED = re.compile(r"refused at (\d+): \S+ in message (\d+) at (\d+)(?: in packet \d+)?\n((?:  .*\n){3})?")
+REFUSED = re.compile(r"refused at (\d+): \S+ in message (\d+) at (\d+)(?: in packet \d+)?\n((?:  .*\n){3,4})?")
 CUT = re.compile(rb"^capture: \d+ cut packets passed over$", re.M)
 FAULT = re.compile(r"^capture refused at (\d+): ", re.M)
 # The files with bytes of messages, and the columns that have them.
@@ -62,7 +62,7 @@ def is_capture(data):
 
 def without_bytes(explanation):
     lines = explanation.splitlines()
-    return [lines[0], lines[2]] if len(lines) == 3 else lines
+    return [*lines[:-2], lines[-1]] if len(lines) > 2 else lines
 
 
 def side_of(data):
