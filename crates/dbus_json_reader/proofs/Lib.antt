@@ -1,1 +1,5 @@
 mod Decimals
+mod Bits
+mod Narrow
+pub mod Going
+pub mod Shapes

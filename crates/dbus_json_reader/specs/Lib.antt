@@ -1,1 +1,2 @@
 pub mod JsonNumbers
+pub mod JsonValues

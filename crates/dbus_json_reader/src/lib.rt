@@ -1,8 +1,17 @@
 //! Lines of JSON, as `dbus_json` writes them, read back: what their values spell.
 #![tactic(auto)]
 
+mod basics;
+mod doubles;
 mod integers;
 mod numbers;
+mod texts;
+mod unread;
+mod values;
 
+pub use doubles::double;
 pub use integers::{signed_in, unsigned_in};
-pub use numbers::{signed_64, unsigned, unsigned_64};
+pub use numbers::{signed_16, signed_32, signed_64, unsigned, unsigned_64};
+pub use texts::text;
+pub use unread::Unread;
+pub use values::{read_value, read_values};

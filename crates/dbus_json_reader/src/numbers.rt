@@ -3,7 +3,7 @@
 
 ghost use Rattle.std.specs.Prelude.{◌≡◌, ◌^◌, ◌<◌, ◌≤◌, ℕ, ℤ, None, IfSome, FitsSigned, decimal};
 ghost use Rattle.std.specs.Fmt.{signed_decimal};
-ghost use Rattle.std.specs.Int.{w64};
+ghost use Rattle.std.specs.Int.{w16, w32, w64};
 ghost use Rattle.json.specs.Json.{number};
 ghost use Rattle.json.specs.Value.{value_view};
 ghost use Rattle.dbus_json_reader.specs.JsonNumbers.{SpellsWide};
@@ -54,4 +54,26 @@ pub fn signed_64<A: Allocator>(json: &Value<'_, A>) -> Option<i64>
         Value::Number(text) | Value::String(text) => signed_in(text.as_bytes()),
         _ => None,
     }
+}
+
+/// The signed number of 32 bits that a value is: a number in decimal, with no point, no exponent, no
+/// plus and no minus before a zero. It is `None` of any other value. RFC 8259, section 6.
+pub fn signed_32<A: Allocator>(json: &Value<'_, A>) -> Option<i32>
+    ensures some { IfSome result (λ z. value_view json.now ≡ number (signed_decimal z)) }
+    ensures none { result ≡ None → (z : ℤ) → FitsSigned w32 z →
+        value_view json.now ≡ number (signed_decimal z) → ⊥ }
+{
+    let Value::Number(text) = json else {
+        return None;
+    };
+    i32::try_from(signed_in(text.as_bytes())?).ok()
+}
+
+/// The signed number of 16 bits that a value is, as in [`signed_32`]. RFC 8259, section 6.
+pub fn signed_16<A: Allocator>(json: &Value<'_, A>) -> Option<i16>
+    ensures some { IfSome result (λ z. value_view json.now ≡ number (signed_decimal z)) }
+    ensures none { result ≡ None → (z : ℤ) → FitsSigned w16 z →
+        value_view json.now ≡ number (signed_decimal z) → ⊥ }
+{
+    i16::try_from(signed_32(json)?).ok()
 }
