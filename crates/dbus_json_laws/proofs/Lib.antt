@@ -4,3 +4,4 @@ mod Values
 mod Mixing
 mod Fields
 mod Lines
+mod OneValue

@@ -245,7 +245,7 @@ boolean_same m n h k e =
     ]
 
 -- which numbers are in decimal
-coded_same : (k : NumberCode) → (k ≡ DOUBLE → ⊥) → (m n : ℕ) → values.IsNumber k m → values.IsNumber k n → number_text k m ≡ number_text k n → m ≡ n
+pub coded_same : (k : NumberCode) → (k ≡ DOUBLE → ⊥) → (m n : ℕ) → values.IsNumber k m → values.IsNumber k n → number_text k m ≡ number_text k n → m ≡ n
 coded_same BYTE other m n h k e = decimal_injective m n (omega (arith, h)) (omega (arith, k)) e
 coded_same BOOLEAN other m n h k e = boolean_same m n h k e
 coded_same INT16 other m n h k e = kept_same w16 m n h k (half_fits (2 ^ 16) (2 ^ 15) m h (omega arith) (omega arith)) (half_fits (2 ^ 16) (2 ^ 15) n k (omega arith) (omega arith)) e
@@ -277,7 +277,7 @@ unfolding low_first
 low_bytes zero n = tt
 low_bytes (suc w) n = (omega arith, low_bytes w (n / 256))
 
-num_bytes : (w n : ℕ) → IsBytes (num Big w n)
+pub num_bytes : (w n : ℕ) → IsBytes (num Big w n)
 unfolding num
 num_bytes w n = IsBytes-reverse (low_first w n) (low_bytes w n)
 
@@ -309,7 +309,7 @@ not_nan nan e = absurd (true≢false (sym e))
 not_nan (inf s) e = absurd (true≢false (sym e))
 not_nan (fin s m x) e = tt
 
-bits_same : (m n : ℕ) → m < 256 ^ 8 → n < 256 ^ 8 → float_is_finite (from_bits binary64 m) ≡ true → float_is_finite (from_bits binary64 n) ≡ true → from_bits binary64 m ≡ from_bits binary64 n → m ≡ n
+pub bits_same : (m n : ℕ) → m < 256 ^ 8 → n < 256 ^ 8 → float_is_finite (from_bits binary64 m) ≡ true → float_is_finite (from_bits binary64 n) ≡ true → from_bits binary64 m ≡ from_bits binary64 n → m ≡ n
 bits_same m n h k f g e = sym (to_bits-of_bits binary64 m h (not_nan _ f)) ∙ ap (to_bits binary64) e ∙ to_bits-of_bits binary64 n k (not_nan _ g)
 
 -- what is bare, and what begins with a quotation mark

@@ -54,7 +54,7 @@ Alike NoValues ys = Unit {0}
 Alike (MoreValues x xs) NoValues = Unit {0}
 Alike (MoreValues x xs) (MoreValues y ys) = (type_of x ≡ type_of y) × Alike xs ys
 
-alike_all : (t : TypeTree) (xs ys : ValueTrees) → AllOf t xs → AllOf t ys → Alike xs ys
+pub alike_all : (t : TypeTree) (xs ys : ValueTrees) → AllOf t xs → AllOf t ys → Alike xs ys
 alike_all t NoValues ys h k = tt
 alike_all t (MoreValues x xs) NoValues h k = tt
 alike_all t (MoreValues x xs) (MoreValues y ys) h k = (h.0 ∙ sym k.0, alike_all t xs ys h.1 k.1)
@@ -74,7 +74,7 @@ alike_types (MoreValues x xs) (MoreValues y ys) e = (ap (first_type VariantType)
 
 -- ---- arrays of BYTE
 
-bytes_of : (t : TypeTree) (xs : ValueTrees) → is_byte t ≡ true → AllOf t xs → AllOf (NumberType BYTE) xs
+pub bytes_of : (t : TypeTree) (xs : ValueTrees) → is_byte t ≡ true → AllOf t xs → AllOf (NumberType BYTE) xs
 bytes_of (NumberType BYTE) xs e h = h
 bytes_of t xs e h = absurd (true≢false (sym e))
 
@@ -94,7 +94,7 @@ are_bytes : (xs : ValueTrees) → AllOf (NumberType BYTE) xs → AreSound xs →
 are_bytes NoValues h k = tt
 are_bytes (MoreValues x xs) h k = let b = one_byte x xs h.0 k.0 in subst IsBytes (sym b.first) (b.fits, are_bytes xs h.1 k.1)
 
-bytes_same : (xs ys : ValueTrees) → AllOf (NumberType BYTE) xs → AllOf (NumberType BYTE) ys → AreSound xs → AreSound ys → bytes_in xs ≡ bytes_in ys → xs ≡ ys
+pub bytes_same : (xs ys : ValueTrees) → AllOf (NumberType BYTE) xs → AllOf (NumberType BYTE) ys → AreSound xs → AreSound ys → bytes_in xs ≡ bytes_in ys → xs ≡ ys
 bytes_same NoValues NoValues h k f g e = refl
 bytes_same NoValues (MoreValues y ys) h k f g e = absurd (none _ _ (e ∙ (one_byte y ys k.0 g.0).first))
   where
@@ -194,19 +194,19 @@ bracket_stop r = record { first = 93; rest = r; is = refl; ends = bracket_ends }
 pub brace_stop : (r : List ℕ) → Stop (125 ∷ r)
 brace_stop r = record { first = 125; rest = r; is = refl; ends = brace_ends }
 
-abbrev element : TypeTree → TypeTree
+abbrev pub element : TypeTree → TypeTree
 element (ArrayType t) = t
 element t = t
 
-abbrev parts_of : TypeTree → TypeTrees
+abbrev pub parts_of : TypeTree → TypeTrees
 parts_of (StructType ts) = ts
 parts_of t = NoTypes
 
-abbrev key_of : TypeTree → TypeTree
+abbrev pub key_of : TypeTree → TypeTree
 key_of (EntryType k v) = k
 key_of t = t
 
-abbrev held_by : TypeTree → TypeTree
+abbrev pub held_by : TypeTree → TypeTree
 held_by (EntryType k v) = v
 held_by t = t
 

@@ -2,8 +2,19 @@
 #![tactic(auto)]
 
 ghost use Rattle.dbus_json_laws.specs.Laws.{IsOneMessageALine};
+ghost use Rattle.dbus_json_laws.specs.Reading.{IsOneValueEach, IsDoubleKept};
 
 /// No two messages have one line of JSON: it keeps the order, the header and the body.
 pub fn one_message_for_a_line()
     ensures { IsOneMessageALine }
+{}
+
+/// No JSON spells two values of one type.
+pub fn one_value_for_json()
+    ensures { IsOneValueEach }
+{}
+
+/// The text of a DOUBLE spells that DOUBLE, with its bits.
+pub fn doubles_kept()
+    ensures { IsDoubleKept }
 {}

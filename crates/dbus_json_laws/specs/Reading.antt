@@ -1,0 +1,18 @@
+-- JSON that is read back.
+-- RFC 8259, of the values of the D-Bus Specification, "Type System".
+use Rattle.std.specs.Prelude.{◌≡◌, ◌⊎◌, ℕ, List}
+use Rattle.json.specs.Json.{Json, number, string}
+use Rattle.dbus_texts.specs.Types.{TypeTree}
+use Rattle.dbus_value_model.specs.Values.{ValueTree}
+use Rattle.dbus_json.specs.JsonValues.{IsDouble, plain}
+use Rattle.dbus_json_reader.specs.JsonNumbers.{SpellsDouble}
+use Rattle.dbus_json_reader.specs.JsonValues.{IsRead}
+
+-- No JSON spells two values of one type.
+abbrev pub IsOneValueEach : Type 0
+IsOneValueEach = (depth other : ℕ) (t : TypeTree) (x y : ValueTree) (j : Json) → IsRead depth t x j → IsRead other t y j → x ≡ y
+
+-- What `json` writes of a DOUBLE is a number that spells it, or within quotation marks the digits of
+-- a string that spells it.
+abbrev pub IsDoubleKept : Type 0
+IsDoubleKept = (bits : ℕ) (text : List ℕ) → IsDouble bits text → SpellsDouble bits (number text) ⊎ ((digits : List ℕ) × (text ≡ plain digits) × SpellsDouble bits (string digits))
