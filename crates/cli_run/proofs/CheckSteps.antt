@@ -69,12 +69,15 @@ module _ {R W E : Type 0} (r : Reading R) (w : Writing W) (e : Writing E) (setti
   gave_up cause packet same s end failed told = stops (ByCause cause) end failed told (stops_as (filled_as settings.window) (wrote_none cause same) s)
 
   -- all messages were counted
-  module _ (counted : Counted) (packet : Option ℕ) (t : Tallies (taken r) settings most packet (Ok counted)) where
+  module _ (counted : Counted) (packet : Option ℕ) (t : Tallies (taken r) settings most packet (Ok counted)) (halts : settings.keeps_going ≡ false) where
     abbrev text : List ℕ
     text = fault_line counted.size counted.fault packet
 
     abbrev all : List ℕ
-    all = text ++ closing_line true (tally_of counted) 0 counted.fault
+    all = text ++ closing_line true settings.keeps_going (tally_of counted) 0 counted.fault
+
+    all_is : all ≡ check_line counted.count counted.size counted.fault packet
+    all_is = ap (λ (b : Bool). text ++ closing_line true b (tally_of counted) 0 counted.fault) halts ∙ line_is (tally_of counted) counted.fault packet
 
     abbrev line : List ℕ
     line = check_line counted.count counted.size counted.fault packet
@@ -88,7 +91,7 @@ module _ {R W E : Type 0} (r : Reading R) (w : Writing W) (e : Writing E) (setti
     -- the line was written, and the second writer got nothing
     pub line_written : (end : ExitStatus) → Wrote w.held w.failures w.old line w.new → e.new ≡ e.old → end ≡ status_of counted.fault → Ends end
     line_written end wrote same end_is =
-        let first = subst (λ (l : List ℕ). Wrote w.held w.failures w.old l w.new) (sym (line_is (tally_of counted) counted.fault packet)) wrote in
+        let first = subst (λ (l : List ℕ). Wrote w.held w.failures w.old l w.new) (sym all_is) wrote in
         let came : Writes w e settings Check some.0 all = record { texts = []; made = no_output some.0; first = first; second = told_nothing e.held e.failures true e.old e.new same } in
         inl (inl (record {
           tally = tally_of counted;
@@ -126,8 +129,8 @@ module _ {R W E : Type 0} (r : Reading R) (w : Writing W) (e : Writing E) (setti
     line_not Memory same end failed told =
         stops (ByCause Memory) end failed told (within (ByCause Memory) [] (inl refl) t.read_failed (told_nothing w.held w.failures true w.old w.new same) (wrote_nothing e.held e.failures e.old))
     line_not WriteFailed (n, half) end failed told =
-        let s = subst (λ (l : List ℕ). Stopped w.held w.failures w.old l n w.new) (sym (line_is (tally_of counted) counted.fault packet)) half in
-        let due = inr (t.cut, t.last, ap (λ (x : Tally). text ++ closing_line true x x.passed counted.fault) t.tally_is) in
+        let s = subst (λ (l : List ℕ). Stopped w.held w.failures w.old l n w.new) (sym all_is) half in
+        let due = inr (t.cut, t.last, ap (λ (x : Tally). text ++ closing_line true settings.keeps_going x x.passed counted.fault) t.tally_is) in
         stops Untold end failed told (within Untold all (inl (t.kept, counted.fault, text, t.tells, due)) t.read_failed
         (record { written = take n all; appended = s.appended; front = (drop n all, sym (take-append-drop n all)); failed = s.failed }) (wrote_nothing e.held e.failures e.old))
     line_not cause never end failed told = absurd never

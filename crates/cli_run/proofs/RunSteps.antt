@@ -77,11 +77,11 @@ first_due checks_rest command items texts line made = ap (λ l. header_before (f
 
 -- of what is told at the end: of `check` one line, and of another command no last line
 module _ (packet : Option ℕ) where
-  first_line : (is_check : Bool) (t : Tally) (fault : Option Fault) → first_of is_check [] (fault_line t.size fault packet ++ closing_line is_check t 0 fault) ≡ first_of is_check [] (check_line t.count t.size fault packet)
+  first_line : (is_check : Bool) (t : Tally) (fault : Option Fault) → first_of is_check [] (fault_line t.size fault packet ++ closing_line is_check false t 0 fault) ≡ first_of is_check [] (check_line t.count t.size fault packet)
   first_line true t fault = line_is t fault packet
   first_line false t fault = refl
 
-  second_line : (is_check : Bool) (t : Tally) (fault : Option Fault) → second_of is_check (fault_line t.size fault packet ++ closing_line is_check t 0 fault) ≡ second_of is_check (fault_line t.size fault packet)
+  second_line : (is_check : Bool) (t : Tally) (fault : Option Fault) → second_of is_check (fault_line t.size fault packet ++ closing_line is_check false t 0 fault) ≡ second_of is_check (fault_line t.size fault packet)
   second_line true t fault = refl
   second_line false t None = refl
   second_line false t (Some fault) = append-nil (fault_line t.size (Some fault) packet)
@@ -109,9 +109,9 @@ are_messages packets asked n offset bytes (Whole item ∷ parts) rest told b t =
 are_messages packets asked n offset bytes (PassedOver kept fault size ∷ parts) rest told b t = absurd (false≢true t.3.0)
 
 -- then another command has no last line
-no_closing : (is_check : Bool) (tally : Tally) (fault : Option Fault) → is_check ≡ false → tally.passed ≡ 0 → closing_line is_check tally tally.passed fault ≡ []
-no_closing is_check tally None other none = λ i. closing_line (other i) tally (none i) None
-no_closing is_check tally (Some fault) other none = λ i. closing_line (other i) tally (none i) (Some fault)
+no_closing : (is_check : Bool) (tally : Tally) (fault : Option Fault) → is_check ≡ false → tally.passed ≡ 0 → closing_line is_check false tally tally.passed fault ≡ []
+no_closing is_check tally None other none = λ i. closing_line (other i) false tally (none i) None
+no_closing is_check tally (Some fault) other none = λ i. closing_line (other i) false tally (none i) (Some fault)
 
 -- all that was kept is the rest
 rest_is : (cut : Bool) (limits : Limits) (kept rest : List ℕ) (outcome : CutOutcome) (at_end : Type 0) → IsLast cut false limits kept rest outcome at_end
@@ -153,7 +153,7 @@ module _ {R W E : Type 0} (r : Reading R) (w : Writing W) (e : Writing E) (asked
   -- all messages were handed on
   module _ {tally : Tally} {fault : Option Fault} {told text : List ℕ} (h : IsThrough (taken r) (plain asked) most (is_check command) tally fault told text) where
     abbrev closing : List ℕ
-    closing = closing_line (is_check command) tally tally.passed fault
+    closing = closing_line (is_check command) false tally tally.passed fault
 
     messages : AreMessages limits h.covers.bytes h.parts h.rest told
     messages = are_messages packets asked 1 0 h.covers.bytes h.parts h.rest told h.covers.begin h.covers.tells
@@ -198,10 +198,10 @@ module _ {R W E : Type 0} (r : Reading R) (w : Writing W) (e : Writing E) (asked
         let place : sizes_of h.parts ≡ sizes messages.items = ap (λ (t : Tally). t.size) (sym tally_is) ∙ size_is in
         transport (λ i. IsFaultIn packets limits (place i) (sym rest_kept.0 i) (fault_is i) last_packet) fault_told.1
 
-    all_due : (told ++ text) ++ closing ≡ fault_line tally.size fault last_packet ++ closing_line (is_check command) tally 0 fault
+    all_due : (told ++ text) ++ closing ≡ fault_line tally.size fault last_packet ++ closing_line (is_check command) false tally 0 fault
     all_due =
         let line = fault_told.2 ∙ ap (λ (t : Tally). fault_line t.size fault last_packet) (sym tally_is) in
-        λ i. (messages.none_told i ++ line i) ++ closing_line (is_check command) tally (passed_is i) fault
+        λ i. (messages.none_told i ++ line i) ++ closing_line (is_check command) false tally (passed_is i) fault
 
     second_is : second_of (is_check command) ((told ++ text) ++ closing) ≡ line_of
     second_is = ap (second_of (is_check command)) all_due ∙ (second_line last_packet (is_check command) tally fault ∙ (λ i. second_of (is_check command) (fault_line (size_is i) (fault_is i) last_packet)))
@@ -281,7 +281,8 @@ module _ {R W E : Type 0} (r : Reading R) (w : Writing W) (e : Writing E) (asked
       | inr lacks ↦ (
           let uncut = (rest_is lacks.3 limits lacks.0 s.rest lacks.2.outcome _ lacks.4).2 in
           let none = ap (λ (b : Bool). (tally_with b s.parts s.rest).passed) uncut ∙ (messages_of (ByCause Memory) s).none_passed in
-          none_last (plain asked) packets (length s.parts + 1) (sizes_of s.parts) lacks.0 lacks.1 s.more (lacks.5 none).0 lacks.2.told
+          let faultless : lacks.1 ≡ None = elim (lacks.5 none) [ inl whole ↦ whole.0 | inr goes ↦ absurd (false≢true goes.1) ] in
+          none_last (plain asked) packets (length s.parts + 1) (sizes_of s.parts) lacks.0 lacks.1 s.more faultless lacks.2.told
           )
     ]
     none_more WriteFailed s = s.all
@@ -373,10 +374,10 @@ module _ {R W E : Type 0} (r : Reading R) (w : Writing W) (e : Writing E) (asked
 
     -- and the last line after it, if it was reached
     last_due : (s : Within Untold) (cut : Bool) → IsLast cut false limits (due_of s).0 s.rest (due_of s).3.outcome (IsAtEnd (r.left r.new))
-        → s.more ≡ (due_of s).2 ++ closing_line (is_check command) (tally_with cut s.parts s.rest) (tally_with cut s.parts s.rest).passed (due_of s).1
-        → s.more ≡ (due_of s).2 ++ closing_line (is_check command) (tally_of s.parts) (passed_count s.parts) (due_of s).1
+        → s.more ≡ (due_of s).2 ++ closing_line (is_check command) false (tally_with cut s.parts s.rest) (tally_with cut s.parts s.rest).passed (due_of s).1
+        → s.more ≡ (due_of s).2 ++ closing_line (is_check command) false (tally_of s.parts) (passed_count s.parts) (due_of s).1
     last_due s cut last more =
-        more ∙ ap (λ (b : Bool). (due_of s).2 ++ closing_line (is_check command) (tally_with b s.parts s.rest) (tally_with b s.parts s.rest).passed (due_of s).1) (rest_is cut limits (due_of s).0 s.rest (due_of s).3.outcome _ last).2
+        more ∙ ap (λ (b : Bool). (due_of s).2 ++ closing_line (is_check command) false (tally_with b s.parts s.rest) (tally_with b s.parts s.rest).passed (due_of s).1) (rest_is cut limits (due_of s).0 s.rest (due_of s).3.outcome _ last).2
 
     untold : (b : Bool) → is_check command ≡ b → (end : ExitStatus) → (s : Within Untold) → end ≡ status.Failed → GotFirst w.held w.failures b Untold (first_of b (output_of (form_of command) false (plain asked).window s.messages s.came.texts) (s.told ++ s.more)) w.old w.new
         → GotSecond e.held e.failures b Untold (second_of b (s.told ++ s.more)) e.old before → TellsStop e.held e.failures b Untold before e.new → Runs r w e limits most command end

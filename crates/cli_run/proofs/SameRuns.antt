@@ -163,11 +163,11 @@ module _ (settings : Settings) (is_check : Bool) (input : List ℕ) (bytes : IsB
 
     goes_alike : AreAlikeRuns t u P Q end other
     goes_alike =
-        let closing : closing_line is_check g.tally g.tally.passed g.fault ≡ closing_line is_check h.tally h.tally.passed h.fault = λ i. closing_line is_check (tally_is i) (tally_is i).passed (fault_is i) in
-        let all : g.told ++ g.text ++ closing_line is_check g.tally g.tally.passed g.fault ≡ h.told ++ h.text ++ closing_line is_check h.tally h.tally.passed h.fault = λ i. told_is i ++ closing i in (
+        let closing : closing_line is_check settings.keeps_going g.tally g.tally.passed g.fault ≡ closing_line is_check settings.keeps_going h.tally h.tally.passed h.fault = λ i. closing_line is_check settings.keeps_going (tally_is i) (tally_is i).passed (fault_is i) in
+        let all : g.told ++ g.text ++ closing_line is_check settings.keeps_going g.tally g.tally.passed g.fault ≡ h.told ++ h.text ++ closing_line is_check settings.keeps_going h.tally h.tally.passed h.fault = λ i. told_is i ++ closing i in (
           g.messages,
           h.messages,
-          g.told ++ g.text ++ closing_line is_check g.tally g.tally.passed g.fault,
+          g.told ++ g.text ++ closing_line is_check settings.keeps_going g.tally g.tally.passed g.fault,
           g.came,
           subst (λ (l : List ℕ). Q h.messages l) (sym all) h.came,
           h.end_is ∙ ((λ i. status_at (sym tally_is i).passed (sym fault_is i)) ∙ sym g.end_is),
@@ -214,7 +214,7 @@ module _ (settings : Settings) (is_check : Bool) (input : List ℕ) (bytes : IsB
 
       far_alike : AreAlikeRuns t u P Q end other
       far_alike =
-          let line : g.line ≡ h.line = g.enough.2 ∙ ((λ i. closing_line is_check (far_tally i) (far_tally i).passed None) ∙ sym h.enough.2) in (
+          let line : g.line ≡ h.line = g.enough.2 ∙ ((λ i. closing_line is_check settings.keeps_going (far_tally i) (far_tally i).passed None) ∙ sym h.enough.2) in (
             g.messages,
             h.messages,
             g.told ++ g.line,

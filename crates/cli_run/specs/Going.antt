@@ -1,7 +1,7 @@
 -- What is read and told of an input by settings, whatever takes its messages: whether refused
 -- messages are explained, and whether they are passed over. most is how many reads may be made, and
 -- is_check says whether an input without fault has a last line.
-use Rattle.std.specs.Prelude.{◌≡◌, ◌≢◌, ℕ, zero, suc, ◌+◌, ◌-◌, Bool, true, false, List, [], ◌∷◌, ◌++◌, length, codes, decimal, Option, None, Some, ◌⊎◌, Result, Ok, Err}
+use Rattle.std.specs.Prelude.{◌≡◌, ◌≢◌, ℕ, zero, suc, ◌+◌, ◌-◌, Bool, true, false, List, [], ◌∷◌, ◌++◌, length, codes, decimal, Option, None, Some, is_some, ◌⊎◌, Result, Ok, Err}
 use Rattle.std.specs.Io.KnownBytes.{Consumes, IsAtEnd}
 use Rattle.dbus_value_model.specs.declared.fault.Fault.{Fault}
 use Rattle.cli_options.specs.declared.settings.Settings.{Settings}
@@ -96,15 +96,18 @@ abbrev pub whole_line : (is_check : Bool) → (count size : ℕ) → List ℕ
 whole_line true count size = ok_line count size
 whole_line false count size = []
 
--- the last line: what was passed over, if anything was; or that of an input without fault
-abbrev pub closing_line : (is_check : Bool) → Tally → (passed : ℕ) → Option Fault → List ℕ
-closing_line is_check t zero None = whole_line is_check t.count t.size
-closing_line is_check t zero (Some fault) = []
-closing_line is_check t (suc n) fault = counts_line t
+-- the last line: what was passed over, if anything was refused and the run is to go on; or that of
+-- an input without fault
+abbrev pub closing_line : (is_check goes_on : Bool) → Tally → (passed : ℕ) → Option Fault → List ℕ
+closing_line is_check goes_on t zero None = whole_line is_check t.count t.size
+closing_line is_check false t zero (Some fault) = []
+closing_line is_check true t zero (Some fault) = counts_line t
+closing_line is_check goes_on t (suc n) fault = counts_line t
 
--- there is a last line: a message was passed over, or `check` found no fault
-abbrev pub HasLastLine : (is_check : Bool) → (passed : ℕ) → Option Fault → Type 0
-HasLastLine is_check passed fault = passed ≡ 0 → (fault ≡ None) × (is_check ≡ true)
+-- there is a last line: a message was passed over; or `check` found no fault; or a run that is to go
+-- on found one
+abbrev pub HasLastLine : (is_check goes_on : Bool) → (passed : ℕ) → Option Fault → Type 0
+HasLastLine is_check goes_on passed fault = passed ≡ 0 → ((fault ≡ None) × (is_check ≡ true)) ⊎ ((is_some fault ≡ true) × (goes_on ≡ true))
 
 -- anything was refused
 abbrev pub status_at : (passed : ℕ) → Option Fault → ExitStatus
@@ -158,12 +161,12 @@ module _ (t : Taken) (settings : Settings) (most : ℕ) (is_check : Bool) where
   AreDue parts rest more = (kept : List ℕ) × (fault : Option Fault) × (text : List ℕ) × (tells : TellsRest parts kept fault text)
       × ((IsTellable kept rest tells.outcome (IsAtEnd t.left1) × (more ≡ text))
       ⊎ ((cut : Bool) × IsLast cut settings.keeps_going settings.limits kept rest tells.outcome (IsAtEnd t.left1)
-      × (more ≡ text ++ closing_line is_check (tally_with cut parts rest) (tally_with cut parts rest).passed fault)))
+      × (more ≡ text ++ closing_line is_check settings.keeps_going (tally_with cut parts rest) (tally_with cut parts rest).passed fault)))
 
   -- all is told but the last line
   abbrev pub LacksLast : List Part → (rest more : List ℕ) → Type 0
   LacksLast parts rest more = (kept : List ℕ) × (fault : Option Fault) × (tells : TellsRest parts kept fault more)
-      × (cut : Bool) × IsLast cut settings.keeps_going settings.limits kept rest tells.outcome (IsAtEnd t.left1) × HasLastLine is_check (tally_with cut parts rest).passed fault
+      × (cut : Bool) × IsLast cut settings.keeps_going settings.limits kept rest tells.outcome (IsAtEnd t.left1) × HasLastLine is_check settings.keeps_going (tally_with cut parts rest).passed fault
 
   -- all that was read was taken and told: the rest is neither a message nor refused, or a refused
   -- message was told of which not all bytes came
@@ -182,7 +185,7 @@ module _ (t : Taken) (settings : Settings) (most : ℕ) (is_check : Bool) (fille
   -- the last line is due after the parts, since no more is wanted after their messages: nothing
   -- after the last one is looked at
   abbrev pub IsEnough : List Part → List Placed → (more : List ℕ) → Type 0
-  IsEnough parts messages more = EndsWhole parts × filled messages true × (more ≡ closing_line is_check (tally_of parts) (passed_count parts) None)
+  IsEnough parts messages more = EndsWhole parts × filled messages true × (more ≡ closing_line is_check settings.keeps_going (tally_of parts) (passed_count parts) None)
 
   -- this was told after the parts, or was to be told if a write of it failed
   abbrev pub IsMore : RunStop → List Part → (rest : List ℕ) → List Placed → (more : List ℕ) → Type 0
@@ -220,7 +223,7 @@ module _ (t : Taken) (settings : Settings) (most : ℕ) (is_check : Bool) (fille
     pub placed : ArePlaced t.packets 1 0 through.parts messages
     pub wanted : AreWanted filled [] messages
     pub unfilled : filled messages false
-    pub came : done messages (told ++ text ++ closing_line is_check tally tally.passed fault)
+    pub came : done messages (told ++ text ++ closing_line is_check settings.keeps_going tally tally.passed fault)
     pub end_is : end ≡ status_at tally.passed fault
 
   -- the first parts were taken and told, up to the message after which no more were wanted; and
@@ -263,8 +266,8 @@ module _ {R : Type 0} (r : Reading R) (settings : Settings) (most : ℕ) (is_che
 module _ {S : Type 0} (takes : S → S → List Placed → (told : List ℕ) → Type 0) (leaves : S → S → List Placed → (told : List ℕ) → RunStop → Type 0) where
   -- the last line was told, if there is one, and this is the status; or a write of it failed; or
   -- for want of memory it was not told
-  abbrev pub Closes : (is_check : Bool) → Tally → Option Fault → S → S → Result ExitStatus RunStop → Type 0
-  Closes is_check tally fault a b (Ok end) = takes a b [] (closing_line is_check tally tally.passed fault) × (end ≡ status_at tally.passed fault)
-  Closes is_check tally fault a b (Err (ByCause Memory)) = (b ≡ a) × HasLastLine is_check tally.passed fault
-  Closes is_check tally fault a b (Err (ByCause cause)) = ⊥
-  Closes is_check tally fault a b (Err Untold) = leaves a b [] (closing_line is_check tally tally.passed fault) Untold
+  abbrev pub Closes : (is_check goes_on : Bool) → Tally → Option Fault → S → S → Result ExitStatus RunStop → Type 0
+  Closes is_check goes_on tally fault a b (Ok end) = takes a b [] (closing_line is_check goes_on tally tally.passed fault) × (end ≡ status_at tally.passed fault)
+  Closes is_check goes_on tally fault a b (Err (ByCause Memory)) = (b ≡ a) × HasLastLine is_check goes_on tally.passed fault
+  Closes is_check goes_on tally fault a b (Err (ByCause cause)) = ⊥
+  Closes is_check goes_on tally fault a b (Err Untold) = leaves a b [] (closing_line is_check goes_on tally tally.passed fault) Untold

@@ -78,7 +78,7 @@ pub(crate) fn ok_line<A: Allocator + Copy>(
     format!(in alloc; "ok {count} messages {size} bytes\n")
 }
 
-/// What is written at last if messages were passed over.
+/// What is written at last if messages were refused, and the run is to go on.
 pub(crate) fn counts_line<A: Allocator + Copy>(
     alloc: A,
     tally: Tally,

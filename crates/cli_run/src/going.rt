@@ -19,8 +19,8 @@ use std::alloc::Allocator;
 
 /// Hands the messages of a source to the visitor, as long as it wants more, up to its end, a message
 /// that is refused and not passed over, or this number of reads. The visitor tells each refusal,
-/// and then the last line, if there is one: what was passed over, or, of `check`, that nothing is
-/// refused.
+/// and then the last line, if there is one: what was passed over, if anything was refused and the
+/// run is to go on, or, of `check`, that nothing is refused.
 ///
 /// Returns the status that is due, or why the run is given up; and the source.
 pub(crate) fn pass_through<R: Source + Drop, A: Allocator + Copy, V: MessageVisitor>(
@@ -62,6 +62,7 @@ fn hand_parts<R: Source, A: Allocator + Copy, V: MessageVisitor>(
     ensures same_reference { R.reference (source_of messages.new) ≡
         R.reference (source_of messages.old) }
 {
+    let goes_on = settings.keeps_going;
     let mut tally = Tally {
         count: 0,
         size: 0,
@@ -77,7 +78,7 @@ fn hand_parts<R: Source, A: Allocator + Copy, V: MessageVisitor>(
         tally = tally.up_to(counted);
         let fault = match counted.fault {
             Some(fault) => fault,
-            None => return close(alloc, is_check, tally, None, visitor),
+            None => return close(alloc, is_check, goes_on, tally, None, visitor),
         };
         let refusal = RefusedMessage {
             number: counted.count + 1,
@@ -90,15 +91,15 @@ fn hand_parts<R: Source, A: Allocator + Copy, V: MessageVisitor>(
             Err(stop) => return Err(stop),
         }
         if !settings.keeps_going {
-            return close(alloc, is_check, tally, Some(fault), visitor);
+            return close(alloc, is_check, goes_on, tally, Some(fault), visitor);
         }
         match messages.pass_over() {
             Ok(Passed::Over) => tally = tally.past(messages.done()),
             Ok(Passed::CutOff) => {
                 let ended = tally.at_end(messages.done());
-                return close(alloc, is_check, ended, Some(fault), visitor);
+                return close(alloc, is_check, goes_on, ended, Some(fault), visitor);
             }
-            Ok(Passed::Not) => return close(alloc, is_check, tally, Some(fault), visitor),
+            Ok(Passed::Not) => return close(alloc, is_check, goes_on, tally, Some(fault), visitor),
             Err(fault) => return Err(RunStop::Cause(cause_of(fault))),
         }
     }
@@ -134,15 +135,16 @@ fn tell<R: Source, A: Allocator + Copy, V: MessageVisitor>(
 fn close<A: Allocator + Copy, V: MessageVisitor>(
     alloc: A,
     is_check: bool,
+    goes_on: bool,
     tally: Tally,
     fault: Option<Fault>,
     visitor: &mut V,
 ) -> Result<ExitStatus, RunStop>
     requires { V.settled visitor.old }
-    ensures closes { Closes V.takes V.leaves is_check tally fault visitor.old visitor.new result }
+    ensures closes { Closes V.takes V.leaves is_check goes_on tally fault visitor.old visitor.new result }
     ensures settled { IfOk result (λ _. V.settled visitor.new) }
 {
-    let Ok(line) = closing_line(alloc, is_check, tally, fault) else {
+    let Ok(line) = closing_line(alloc, is_check, goes_on, tally, fault) else {
         return Err(RunStop::Cause(Cause::Memory));
     };
     match visitor.tell(line.as_str()) {

@@ -131,8 +131,8 @@ pub fn run_within<A: Allocator + Copy, R: Source, W: Sink, E: Sink>(
 /// O`, with ` in packet K` as above: the place of the fault, and where the message begins, from the
 /// start of the input, and its number among all messages of the input. The numbers and offsets of
 /// those after it count it. A message that states no such size is told by that line too, and ends
-/// the run. If any was passed over, the last line is `N messages B bytes, K passed over C bytes`,
-/// and then `, the last one cut off` if the input ends within that one, of which the bytes that are
+/// the run. If any was refused, the last line is `N messages B bytes, K passed over C bytes`, and
+/// then `, the last one cut off` if the input ends within that one, of which the bytes that are
 /// there count.
 ///
 /// If the window has a limit, the run ends once so many messages are written: nothing is read after

@@ -83,19 +83,20 @@ impl Tally {
     }
 }
 
-/// The last line, if there is one: what was passed over; or of `check` that of an input without
-/// fault.
+/// The last line, if there is one: what was passed over, if anything was refused and the run is to
+/// go on; or of `check` that of an input without fault.
 pub(crate) fn closing_line<A: Allocator + Copy>(
     alloc: A,
     is_check: bool,
+    goes_on: bool,
     tally: Tally,
     fault: Option<Fault>,
 ) -> Result<String<A>, AllocError>
     ensures line { IfOk result (λ line. string_bytes line ≡
-        closing_line is_check tally tally.passed fault) }
-    ensures due { IfErr result (λ _. HasLastLine is_check tally.passed fault) }
+        closing_line is_check goes_on tally tally.passed fault) }
+    ensures due { IfErr result (λ _. HasLastLine is_check goes_on tally.passed fault) }
 {
-    if tally.passed > 0 {
+    if tally.passed > 0 || (goes_on && fault.is_some()) {
         return counts_line(alloc, tally);
     }
     if fault.is_none() && is_check {

@@ -1,5 +1,6 @@
 use Rattle.std.proofs.Common.{◌≡◌, Ok, Err, rules, refl, sym, ap, ◌∙◌}
 use Rattle.std.proofs.Math.Path.{transport}
+use Rattle.std.proofs.lemmas.Bool.{or_parts}
 use Rattle.cli_report.specs.Devices.{reading, taken, writing}
 use Rattle.cli_run.specs.ByName.{Tallies}
 use Rattle.cli_run.specs.Refusals.{number_of}
@@ -14,7 +15,7 @@ returns-in-Ok-write_count g c =
     line_written (reading g.R.Source.left g.R.Source.calls g.R.Source.failures g.R.Source.packets c.args.reader.now _) (writing g.W.Sink.held g.W.Sink.failures c.args.first.now c.write_count.new.first)
     (writing g.E.Sink.held g.E.Sink.failures c.args.second.now _) c.args.settings c.args.reads c.in-Ok.counted c.number_of-packet.result
     (transport (λ i. Tallies (taken (reading g.R.Source.left g.R.Source.calls g.R.Source.failures g.R.Source.packets c.args.reader.now (source i))) c.args.settings c.args.reads (packet i) (Ok c.in-Ok.counted)) tallies)
-    c.status_of.result c.in-Ok-write_count.ensures refl c.status_of.ensures
+    (or_parts _ _ (or_parts _ _ c.requires.no_more).0).1 c.status_of.result c.in-Ok-write_count.ensures refl c.status_of.ensures
 
 pub returns-in-Err-write_count : goal.returns-in-Err-write_count
 returns-in-Err-write_count g c =
@@ -24,7 +25,7 @@ returns-in-Err-write_count g c =
     line_not (reading g.R.Source.left g.R.Source.calls g.R.Source.failures g.R.Source.packets c.args.reader.now _) (writing g.W.Sink.held g.W.Sink.failures c.args.first.now c.write_count.new.first)
     (writing g.E.Sink.held g.E.Sink.failures c.args.second.now c.give_up.new.second) c.args.settings c.args.reads c.in-Ok.counted c.number_of-packet.result
     (transport (λ i. Tallies (taken (reading g.R.Source.left g.R.Source.calls g.R.Source.failures g.R.Source.packets c.args.reader.now (source i))) c.args.settings c.args.reads (packet i) (Ok c.in-Ok.counted)) tallies)
-    c.in-Err-write_count.cause c.in-Err-write_count.ensures c.give_up.result c.give_up.ensures.failed c.give_up.ensures.told
+    (or_parts _ _ (or_parts _ _ c.requires.no_more).0).1 c.in-Err-write_count.cause c.in-Err-write_count.ensures c.give_up.result c.give_up.ensures.failed c.give_up.ensures.told
 
 pub returns-in-Err : goal.returns-in-Err
 returns-in-Err g c =
