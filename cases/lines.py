@@ -9,6 +9,7 @@ import decimal
 import itertools
 import math
 import pathlib
+import re
 import struct
 import subprocess
 import sys
@@ -26,6 +27,7 @@ SIGNED = {"n": 16, "i": 32, "x": 64}
 BRACKETS = {"(": "()", "{": "{}", "v": "<>", "a": "[]"}
 HIDDEN = [(0x80, 0x9F), (0xAD, 0xAD), (0x61C, 0x61C), (0x180E, 0x180E), (0x200B, 0x200F), (0x2028, 0x202E), (0x2060, 0x206F), (0xFEFF, 0xFEFF)]
 HIDDEN += [(0xFFF9, 0xFFFB), (0xE0000, 0xE0FFF)]
+WELL_KNOWN = re.compile(r"[A-Za-z_-][A-Za-z0-9_-]*(\.[A-Za-z_-][A-Za-z0-9_-]*)+")
 
 
 def is_hidden(letter):
@@ -111,13 +113,53 @@ class Message(seen.Message):
         number = self.number_of(seen.REPLY_SERIAL)
         return self.named(seen.DESTINATION) or "", 0 if number == "none" else int(number)
 
+    def strings(self):
+        """The STRINGs that the body begins with."""
+        self.at = self.body
+        found = []
+        for kind in self.types[: len(self.types) - len(self.types.lstrip("s"))]:
+            self.align(seen.ALIGNMENTS[kind])
+            found.append(self.text(seen.ALIGNMENTS[kind]).decode())
+        return found
+
+    def told_by_the_bus(self, member, types):
+        """Whether it is a signal of the bus with this member and these types."""
+        names = [self.named(it) for it in (seen.SENDER, seen.INTERFACE, seen.MEMBER)]
+        return self.kind() == SIGNAL and names == [BUS, BUS, member] and self.types == types
+
     def departed(self):
         """The name that nobody has any more, as this signal of the bus says."""
-        names = [self.named(it) for it in (seen.SENDER, seen.INTERFACE, seen.MEMBER)]
-        if self.kind() != SIGNAL or names != [BUS, BUS, "NameOwnerChanged"] or self.types != "sss":
+        if not self.told_by_the_bus("NameOwnerChanged", "sss"):
             return None
-        name, _, owner = self.values()
-        return name[1:-1] if owner == '""' else None
+        name, _, owner = self.strings()
+        return None if owner else name
+
+    def change(self):
+        """A name, and who has it from now on, or else who lost it; as this signal of the bus says."""
+        to = self.named(seen.DESTINATION)
+        if self.told_by_the_bus("NameOwnerChanged", "sss"):
+            name, _, owner = self.strings()
+            return name, owner, None
+        if to is not None and self.told_by_the_bus("NameAcquired", "s"):
+            return *self.strings(), to, None
+        if to is not None and self.told_by_the_bus("NameLost", "s"):
+            return *self.strings(), None, to
+        return None
+
+    def replied(self, call):
+        """The same as this reply to the call says."""
+        to, member, asked = call.named(seen.DESTINATION), call.named(seen.MEMBER), call.strings()
+        if self.kind() != REPLY or to is None:
+            return None
+        if to != BUS:
+            name, owner = to, self.named(seen.SENDER)
+        elif asked and member == "GetNameOwner":
+            name, owner = asked[0], next(iter(self.strings()), None)
+        elif asked and member == "RequestName" and self.types[:1] == "u" and self.values()[0] in ("1", "4"):
+            name, owner = asked[0], self.named(seen.DESTINATION)
+        else:
+            return None
+        return (name, owner, None) if (owner or "").startswith(":") else None
 
     def named(self, code):
         """The text of a header field, or None."""
@@ -156,6 +198,22 @@ def answers(messages):
     return found
 
 
+def known_names(messages, calls):
+    """After each message the name by which each connection is known."""
+    owners, names = {}, {}
+    for n, message in enumerate(messages):
+        names.pop(message.departed(), None)
+        said = message.replied(messages[calls[n]]) if n in calls else message.change()
+        name, owner, loser = said or ("", None, None)
+        if WELL_KNOWN.fullmatch(name) and len(name) < 256 and name != BUS:
+            if loser is None or owners.get(name) == loser:
+                owners[name] = owner
+            names = {it: known for it, known in names.items() if owners.get(known) == it}
+            if owner:
+                names.setdefault(owner, name)
+        yield dict(names)
+
+
 def took(sent, replied):
     """How many milliseconds a reply took, if both times are known."""
     if sent is None or replied is None:
@@ -185,13 +243,21 @@ def about(message, most, answered):
     return f"signal {member}" if kind == SIGNAL else f"type {kind} {member}"
 
 
-def line_of(number, time, message, answered, width):
+def connection(name, known, width, most):
+    """A connection by its own name, and the one by which it is known in brackets, if that fits."""
+    room = max(0, most - len(name) - 2) if width else 255
+    if known and len(short(known, room)) <= room:
+        return f"{name}({short(known, room)})"
+    return short(name, most)
+
+
+def line_of(number, time, message, answered, known, width):
     """The line of a message."""
     data, most = message.data, max(6, min(30, width // 5 - 4)) if width else 255
     column = most if width else 20
     sender = message.named(seen.SENDER) or "-"
     destination = message.named(seen.DESTINATION) or ("*" if data[1] == SIGNAL else "-")
-    names = [short(it, most).ljust(column) for it in (sender, destination)]
+    names = [connection(it, known.get(it), width, most).ljust(column) for it in (sender, destination)]
     text = f"{number:4} {clock(time) if time is not None else ''}{len(data):5} {' > '.join(names)} {about(message, most, answered)}"
     values = ", ".join(message.values())
     shown = "".join(f"\\u{{{ord(it):x}}}" if is_hidden(it) else it for it in f"{text} {values}" if message.types) if message.types else text
@@ -243,10 +309,12 @@ def main(program, *paths):
         ends = itertools.accumulate(map(len, messages))
         times = [next((time for time, after in zip(given.times, given.ends) if end <= after), None) for end in ends]
         seen_messages = [*map(Message, messages)]
-        calls = {n: (call, seen_messages[call].named(seen.MEMBER) or "-") for n, call in answers(seen_messages).items()}
+        answered = answers(seen_messages)
+        known = [*known_names(seen_messages, answered)]
+        calls = {n: (call, seen_messages[call].named(seen.MEMBER) or "-") for n, call in answered.items()}
         told = {n: f"#{call + 1} {member}{took(times[call], times[n])}" for n, (call, member) in calls.items()}
         for width in WIDTHS:
-            wanted = [line_of(n + 1, time, it, told.get(n), width) for n, (time, it) in enumerate(zip(times, seen_messages))]
+            wanted = [line_of(n + 1, time, it, told.get(n), known[n], width) for n, (time, it) in enumerate(zip(times, seen_messages))]
             ran = subprocess.run([program, "list", "--width", str(width)], input=data, capture_output=True)
             found = ran.stdout.decode().split("\n")[:-1]
             lines += len(wanted)

@@ -133,12 +133,13 @@ pub(crate) const LIST_MORE: &str = more!(
   day in UTC if the file has it, its size in bytes, `SENDER > DESTINATION`, and
   of a call or a signal its member with the types of its values, of a reply the
   number and the member of its call and how long it took if the file has times,
-  or the call's serial if the call was not seen; and the values. `*` is the
-  destination of a signal to all, and `-` is in place of what a message does not
-  say. What does not fit the width is cut, and `~` ends the line; `~` begins a
-  name of which only the last elements are written. Characters that a terminal
-  obeys or does not draw are written as \\x1b or \\u{202e}. If the input is
-  refused, `refused at P: NAME` on standard error.
+  or the call's serial if the call was not seen; and the values. `:1.2(~Lab)` is
+  a connection with the name that messages up to this one tell it to have. `*`
+  is the destination of a signal to all, and `-` is in place of what a message
+  does not say. What does not fit the width is cut, and `~` ends the line; `~`
+  begins a name of which only the last elements are written. Characters that a
+  terminal obeys or does not draw are written as \\x1b or \\u{202e}. If the
+  input is refused, `refused at P: NAME` on standard error.
 
   With rules only the messages that match one of them are listed, or with
   --invert none of them; numbers count all. Rules and owners of names are those

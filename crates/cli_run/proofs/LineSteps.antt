@@ -11,8 +11,8 @@ use Rattle.dbus_call_lines.specs.Listing.{Numbered, nth}
 use Rattle.dbus_list.specs.Pairs.{KeepsCalls}
 use Rattle.dbus_list.proofs.Paired.{some_told}
 use Rattle.dbus_list.proofs.SomeLines.{some_line_each}
-use Rattle.dbus_names.specs.NameStates.{NameState}
-use Rattle.dbus_rule_set.specs.Owners.{owners_in}
+use Rattle.dbus_names.specs.Kept.{state_of}
+use Rattle.dbus_names.specs.NameStates.{KnownNames, NameState}
 use Rattle.cli_options.proofs.Selections.{selected}
 use Rattle.cli_options.specs.declared.settings.Settings.{Settings}
 use Rattle.cli_options.specs.declared.wanted_lines.WantedLines.{WantedLines}
@@ -30,8 +30,9 @@ use Rattle.cli_report.proofs.GatherSteps.{breaks_before, passes_whole}
 use Rattle.cli_run.specs.CallListing.{StaysIfShort, number_and_time, numbered}
 use Rattle.cli_run.specs.Going.{Goes, StopsWithin}
 use Rattle.cli_run.specs.Inputs.{Placed}
-use Rattle.cli_run.specs.Learning.{known}
-use Rattle.cli_run.specs.LineListing.{AreLinesFilled, AreLinesOf, AreLinesOfOne, Carries, IsLineAfter, LeavesLines, ListsLines, ListsOne, TakesLines, asked, known_after_all}
+use Rattle.cli_run.specs.Laws.{SomeLines}
+use Rattle.cli_run.specs.LineListing.{AreLinesFilled, AreLinesOf, AreLinesOfOne, Carries, IsLineAfter, LeavesLines, ListsLines, ListsOne, TakesLines, asked}
+use Rattle.cli_run.specs.LineNames.{first_names, names_after, names_after_all, owners_for, told_beside}
 use Rattle.cli_run.specs.Needed.{IsReadFor}
 use Rattle.cli_run.specs.Output.{after, is_spent, line_place, written}
 use Rattle.cli_run.specs.OutputWriting.{FailsBy, LeavesFirst}
@@ -47,29 +48,39 @@ use Rattle.cli_run.proofs.EndSteps.{ends_as, got_first, stops_as}
 
 -- ---- each message has a line
 
-pub some_line : (wanted : WantedLines) (before : List Numbered) (order : Order) (m : MessageTree) (place : MessagePlace) → (line : List ℕ) × IsLineAfter wanted before order m place line
-some_line wanted before order m place =
+pub some_line : (wanted : WantedLines) (names : KnownNames) (before : List Numbered) (order : Order) (m : MessageTree) (place : MessagePlace) → (line : List ℕ) × IsLineAfter wanted names before order m place line
+some_line wanted names before order m place =
     let call = some_told before (nth (number_and_time place) m) in
-    let line = some_line_each wanted.width (line_place place) call.0 order m in
+    let line = some_line_each wanted.width (line_place place) (told_beside call.0 names m) order m in
     (line.0, (call.0, call.1, line.1))
 
 pub some_lines_of_one : (wanted : WantedLines) (os : NameState) (before : List Numbered) (order : Order) (m : MessageTree) (place : MessagePlace) → (lines : List (List ℕ)) × AreLinesOfOne wanted os before order m place lines
 some_lines_of_one wanted os before order m place =
-    let some = some_line wanted before order m place in
-    elim (selected wanted.selection (owners_in os.owners) m) [
+    let some = some_line wanted (names_after os m).names before order m place in
+    elim (selected wanted.selection (owners_for wanted.selection os) m) [
       | inl h ↦ (some.0 ∷ [], inl (h, some.0, some.1, refl))
       | inr n ↦ ([], inr (n, refl))
     ]
 
+pub some_lines_of_all : (wanted : WantedLines) (os : NameState) (before : List Numbered) (items : List Placed) → (lines : List (List ℕ)) × AreLinesOf wanted os before items lines
+some_lines_of_all wanted os before [] = ([], refl)
+some_lines_of_all wanted os before (m ∷ items) =
+    let one = some_lines_of_one wanted os before m.item.order m.item.message m.place in
+    let more = some_lines_of_all wanted (names_after os m.item.message) (before ++ nth (number_and_time m.place) m.item.message ∷ []) items in
+    (one.0 ++ more.0, (one.0, more.0, one.1, more.1, refl))
+
+pub some_lines : SomeLines
+some_lines wanted items = some_lines_of_all wanted (first_names wanted.selection) [] items
+
 -- ---- without a message
 
 module _ {W E : Type 0} (held : W → Option (List ℕ)) (failures : W → ℕ) (second_held : E → Option (List ℕ)) (second_failures : E → ℕ) (a b : Liner W E)
-    (same_first : b.first.ghost_name ≡ a.first.ghost_name) (same_second : b.second.ghost_name ≡ a.second.ghost_name) (same : asked b.selector b.width ≡ asked a.selector a.width) where
+    (same_first : b.first.ghost_name ≡ a.first.ghost_name) (same_second : b.second.ghost_name ≡ a.second.ghost_name) (same : asked b.selector ≡ asked a.selector) where
   module _ (kept : b.carried ≡ a.carried) where
     carries_too : (wanted : WantedLines) (os : NameState) (before : List Numbered) → Carries wanted os before a → Carries wanted os (before ++ []) b
     carries_too wanted os before carries = record {
       wanted_is = same ∙ carries.wanted_is;
-      owners_are = ap (λ (c : LinesCarried). known wanted.selection c.learned) kept ∙ carries.owners_are;
+      names_are = ap (λ (c : LinesCarried). state_of c.names) kept ∙ carries.names_are;
       calls = transport (λ i. KeepsCalls (sym (append-nil before) i) (sym kept i).calls) carries.calls;
     }
 
@@ -125,10 +136,10 @@ module _ {W E : Type 0} (held : W → Option (List ℕ)) (failures : W → ℕ) 
     some_item none = cc
 
     abbrev own : WantedLines
-    own = asked a.selector a.width
+    own = asked a.selector
 
     abbrev os0 : NameState
-    os0 = known own.selection a.carried.learned
+    os0 = state_of a.carried.names
 
     abbrev Takes : Result (Unit {0}) Cause → Type 0
     Takes res = TakesOne (TakesLines held failures second_held second_failures) (LeavesLines held failures second_held second_failures) a b item res
@@ -137,9 +148,9 @@ module _ {W E : Type 0} (held : W → Option (List ℕ)) (failures : W → ℕ) 
     abbrev pub ListsIt : (now : LinesCarried) (g : List ℕ) (w : W) → Result (Unit {0}) Cause → Type 0
     ListsIt now g w res = (before : List Numbered) → KeepsCalls before a.carried.calls → ListsOne (writing held failures a.first.now w) own before order m place a.carried now (gathered_bytes a.gathered) g res
 
-    -- what holds for what it lists and the owners that it knows
+    -- what holds for what it lists and the names that it knows
     for_own : (P : WantedLines → NameState → Type 0) → P own os0 → (wanted : WantedLines) (os : NameState) (before : List Numbered) → Carries wanted os before a → P wanted os
-    for_own P p wanted os before carries = subst (P wanted) carries.owners_are (subst (λ (w : WantedLines). P w (known w.selection a.carried.learned)) carries.wanted_is p)
+    for_own P p wanted os before carries = subst (P wanted) carries.names_are (subst (λ (w : WantedLines). P w os0) carries.wanted_is p)
 
     alone : (wanted : WantedLines) (os : NameState) (before : List Numbered) (lines : List (List ℕ)) → AreLinesOfOne wanted os before order m place lines → AreLinesOf wanted os before (item ∷ []) lines
     alone wanted os before lines are = (lines, [], are, refl, sym (append-nil lines))
@@ -148,7 +159,7 @@ module _ {W E : Type 0} (held : W → Option (List ℕ)) (failures : W → ℕ) 
     none_told = told_nothing second_held second_failures false a.second.now b.second.now untold
 
     abbrev Listed : (before : List Numbered) → WantedLines → NameState → Type 0
-    Listed before wanted os = Carries wanted (known_after_all wanted.selection os (item ∷ [])) (before ++ numbered (item ∷ [])) b × (lines : List (List ℕ)) × AreLinesOf wanted os before (item ∷ []) lines
+    Listed before wanted os = Carries wanted (names_after_all os (item ∷ [])) (before ++ numbered (item ∷ [])) b × (lines : List (List ℕ)) × AreLinesOf wanted os before (item ∷ []) lines
         × (b.carried.window ≡ after a.carried.window (length lines)) × Passes held failures (written a.carried.window lines) (gathered_bytes a.gathered) (gathered_bytes b.gathered) a.first.now b.first.now
 
     abbrev Broken : (before : List Numbered) → WantedLines → NameState → Type 0
@@ -160,7 +171,7 @@ module _ {W E : Type 0} (held : W → Option (List ℕ)) (failures : W → ℕ) 
       same_second = same_second;
       lists = λ wanted os before carries.
           let h = p before carries.calls in
-          let listed : Listed before own os0 = (record { wanted_is = same; owners_are = h.2.owners; calls = h.2.calls }, h.0, alone own os0 before h.0 h.1, h.2.window, h.3) in
+          let listed : Listed before own os0 = (record { wanted_is = same; names_are = h.2.names; calls = h.2.calls }, h.0, alone own os0 before h.0 h.1, h.2.window, h.3) in
           for_own (Listed before) listed wanted os before carries;
       tells = none_told;
       still = λ none. absurd (some_item none);
@@ -204,17 +215,17 @@ module _ {W E : Type 0} (held : W → Option (List ℕ)) (failures : W → ℕ) 
 
 -- the writers at the end are w2 and e2
 module _ {W E : Type 0} (held : W → Option (List ℕ)) (failures : W → ℕ) (second_held : E → Option (List ℕ)) (second_failures : E → ℕ) (a b : Liner W E) (settings : Settings) (wanted : WantedLines)
-    (starts : Carries wanted (known wanted.selection None) [] a) (window : a.carried.window ≡ settings.window) (none : gathered_bytes a.gathered ≡ []) {w2 : W} {e2 : E} (first : b.first.now ≡ w2) (second : b.second.now ≡ e2) where
+    (starts : Carries wanted (first_names wanted.selection) [] a) (window : a.carried.window ≡ settings.window) (none : gathered_bytes a.gathered ≡ []) {w2 : W} {e2 : E} (first : b.first.now ≡ w2) (second : b.second.now ≡ e2) where
   abbrev Done : List Placed → (told : List ℕ) → Type 0
-  Done items told = (lines : List (List ℕ)) × AreLinesOf wanted (known wanted.selection None) [] items lines × Wrote held failures a.first.now (written settings.window lines) w2 × Wrote second_held second_failures a.second.now told e2
+  Done items told = (lines : List (List ℕ)) × AreLinesOf wanted (first_names wanted.selection) [] items lines × Wrote held failures a.first.now (written settings.window lines) w2 × Wrote second_held second_failures a.second.now told e2
 
   abbrev Left : List Placed → (told : List ℕ) → RunStop → Type 0
-  Left items told stop = (lines : List (List ℕ)) × AreLinesOf wanted (known wanted.selection None) [] items lines × GotFirst held failures false stop (written settings.window lines) a.first.now w2
+  Left items told stop = (lines : List (List ℕ)) × AreLinesOf wanted (first_names wanted.selection) [] items lines × GotFirst held failures false stop (written settings.window lines) a.first.now w2
       × GotSecond second_held second_failures false stop told a.second.now e2
 
   done_as : gathered_bytes b.gathered ≡ [] → (items : List Placed) (told : List ℕ) → TakesLines held failures second_held second_failures a b items told → Done items told
   done_as last items told h =
-      let l = h.lists wanted (known wanted.selection None) [] starts in (
+      let l = h.lists wanted (first_names wanted.selection) [] starts in (
         l.1,
         l.2,
         transport (λ i. Wrote held failures a.first.now (written (window i) l.1) (first i)) (passes_whole held failures (written a.carried.window l.1) (gathered_bytes a.gathered) (gathered_bytes b.gathered) a.first.now b.first.now none last l.4),
@@ -223,7 +234,7 @@ module _ {W E : Type 0} (held : W → Option (List ℕ)) (failures : W → ℕ) 
 
   left_as : (stop : RunStop) (items : List Placed) (told : List ℕ) → LeavesLines held failures second_held second_failures a b items told stop → Left items told stop
   left_as stop items told h =
-      let l = h.lists wanted (known wanted.selection None) [] starts in (
+      let l = h.lists wanted (first_names wanted.selection) [] starts in (
         l.0,
         l.1,
         transport (λ i. GotFirst held failures false stop (written (window i) l.0) a.first.now (first i)) (got_first held failures (gathered_bytes a.gathered) a.first.now b.first.now none false stop (written a.carried.window l.0) l.2),
@@ -239,7 +250,7 @@ module _ {W E : Type 0} (held : W → Option (List ℕ)) (failures : W → ℕ) 
   -- whether it wants no more
   filled_as : (items : List Placed) (filled : Bool) → FillsBy Lists full a items filled → AreLinesFilled wanted settings.window items filled
   filled_as items filled (x, told, h, is) =
-      let l = h.lists wanted (known wanted.selection None) [] starts in
+      let l = h.lists wanted (first_names wanted.selection) [] starts in
       let now = l.3 ∙ ap (λ (v : Window). after v (length l.1)) window in
       (l.1, l.2, sym (ap is_spent now) ∙ is)
 

@@ -31,6 +31,9 @@ use Rattle.dbus_call_lines.specs.declared.wanted.Wanted.{Wanted}
 use Rattle.cli_run.specs.ByName.{CountsByName}
 use Rattle.cli_run.specs.CallListing.{ListsCalls}
 use Rattle.cli_run.specs.Inputs.{Placed}
+use Rattle.cli_run.specs.LineListing.{AreLinesOf}
+use Rattle.cli_run.specs.LineNames.{first_names}
+use Rattle.cli_options.specs.declared.wanted_lines.WantedLines.{WantedLines}
 
 -- of each list of messages, and a fault after them or none, which is of this packet, the command
 -- has an output, whatever the packets are
@@ -161,3 +164,7 @@ OneCount R S W V E F = (r : Reading R) (s : Reading S) (w : Writing W) (v : Writ
 abbrev pub OneCalls : (R S W V E F : Type 0) → Type 0
 OneCalls R S W V E F = (r : Reading R) (s : Reading S) (w : Writing W) (v : Writing V) (e : Writing E) (f : Writing F) (settings : Settings) (wanted : Wanted) (most more : ℕ) (end other : ExitStatus)
     → AreOfOneInput r s settings end other → AreOfSamePackets r s → ListsCalls r w e settings wanted most end → ListsCalls s v f settings wanted more other → EndAlike w v e f end other
+
+-- of each list of messages `list` has lines
+abbrev pub SomeLines : Type 0
+SomeLines = (wanted : WantedLines) (items : List Placed) → (lines : List (List ℕ)) × AreLinesOf wanted (first_names wanted.selection) [] items lines

@@ -13,6 +13,7 @@ pub mod Onward
 pub mod Going
 pub mod Running
 pub mod CallListing
+pub mod LineNames
 pub mod LineListing
 pub mod LineLaws
 pub mod VisitorLaws

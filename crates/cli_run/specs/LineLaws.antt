@@ -4,7 +4,6 @@ use Rattle.std.proofs.Common.{◌≡◌, ℕ, false, List, [], ◌∷◌, ◌++�
 use Rattle.std.proofs.Math.Path.{transport}
 use Rattle.dbus_call_lines.specs.Listing.{Numbered, nth}
 use Rattle.dbus_names.specs.NameStates.{NameState}
-use Rattle.cli_options.specs.declared.selection.Selection.{Selection}
 use Rattle.cli_options.specs.declared.wanted_lines.WantedLines.{WantedLines}
 use Rattle.cli_report.specs.Gathering.{Passes, gathered_bytes}
 use Rattle.cli_report.specs.PageLaws.{passes_both, passes_none}
@@ -12,8 +11,8 @@ use Rattle.cli_report.specs.declared.ending.Cause.TheVariants.{Memory, ReadFaile
 use Rattle.cli_run.specs.CallLaws.{after_both}
 use Rattle.cli_run.specs.CallListing.{number_and_time, numbered}
 use Rattle.cli_run.specs.Inputs.{Placed}
-use Rattle.cli_run.specs.Learning.{known_after}
-use Rattle.cli_run.specs.LineListing.{AreLinesOf, Carries, LeavesLines, TakesLines, known_after_all}
+use Rattle.cli_run.specs.LineListing.{AreLinesOf, Carries, LeavesLines, TakesLines}
+use Rattle.cli_run.specs.LineNames.{names_after, names_after_all}
 use Rattle.cli_run.specs.Output.{is_spent, written}
 use Rattle.cli_run.specs.OutputWriting.{LeavesFirst}
 use Rattle.cli_run.specs.Told.{GotSecond}
@@ -27,18 +26,18 @@ no_messages : (s t : List Placed) → s ++ t ≡ [] → (s ≡ []) × (t ≡ [])
 no_messages [] t none = (refl, none)
 no_messages (m ∷ s) t none = absurd cc
 
-known_both : (selection : Selection) (os : NameState) (s t : List Placed) → known_after_all selection (known_after_all selection os s) t ≡ known_after_all selection os (s ++ t)
-known_both selection os [] t = refl
-known_both selection os (m ∷ s) t = known_both selection (known_after selection os m.item.message) s t
+names_both : (os : NameState) (s t : List Placed) → names_after_all (names_after_all os s) t ≡ names_after_all os (s ++ t)
+names_both os [] t = refl
+names_both os (m ∷ s) t = names_both (names_after os m.item.message) s t
 
 -- messages after others
 lines_of_both : (wanted : WantedLines) (os : NameState) (before : List Numbered) (s t : List Placed) (a b : List (List ℕ)) → AreLinesOf wanted os before s a
-    → AreLinesOf wanted (known_after_all wanted.selection os s) (before ++ numbered s) t b → AreLinesOf wanted os before (s ++ t) (a ++ b)
+    → AreLinesOf wanted (names_after_all os s) (before ++ numbered s) t b → AreLinesOf wanted os before (s ++ t) (a ++ b)
 lines_of_both wanted os before [] t a b p q = transport (λ i. AreLinesOf wanted os (append-nil before i) t (sym p i ++ b)) q
 lines_of_both wanted os before (m ∷ s) t a b p q =
     let x : Numbered = nth (number_and_time m.place) m.item.message in
-    let os1 = known_after wanted.selection os m.item.message in
-    let rest = lines_of_both wanted os1 (before ++ x ∷ []) s t p.1 b p.3 (subst (λ (l : List Numbered). AreLinesOf wanted (known_after_all wanted.selection os1 s) l t b) (sym (append_assoc before (x ∷ []) (numbered s))) q) in
+    let os1 = names_after os m.item.message in
+    let rest = lines_of_both wanted os1 (before ++ x ∷ []) s t p.1 b p.3 (subst (λ (l : List Numbered). AreLinesOf wanted (names_after_all os1 s) l t b) (sym (append_assoc before (x ∷ []) (numbered s))) q) in
     (p.0, p.1 ++ b, p.2, rest, ap (λ l. l ++ b) p.4 ∙ append_assoc p.0 p.1 b)
 
 module _ {W E : Type 0} (held : W → Option (List ℕ)) (failures : W → ℕ) (second_held : E → Option (List ℕ)) (second_failures : E → ℕ) where
@@ -69,8 +68,8 @@ module _ {W E : Type 0} (held : W → Option (List ℕ)) (failures : W → ℕ) 
     same_second = k.same_second ∙ h.same_second;
     lists = λ wanted os before carries.
         let first = h.lists wanted os before carries in
-        let more = k.lists wanted (known_after_all wanted.selection os s) (before ++ numbered s) first.0 in (
-          transport (λ i. Carries wanted (known_both wanted.selection os s t i) (sym (after_both before s t) i) c) more.0,
+        let more = k.lists wanted (names_after_all os s) (before ++ numbered s) first.0 in (
+          transport (λ i. Carries wanted (names_both os s t i) (sym (after_both before s t) i) c) more.0,
           first.1 ++ more.1,
           lines_of_both wanted os before s t first.1 more.1 first.2 more.2,
           more.3 ∙ after_more a.carried.window b.carried.window first.1 more.1 first.3,
@@ -87,7 +86,7 @@ module _ {W E : Type 0} (held : W → Option (List ℕ)) (failures : W → ℕ) 
     same_second = k.same_second ∙ h.same_second;
     lists = λ wanted os before carries.
         let first = h.lists wanted os before carries in
-        let more = k.lists wanted (known_after_all wanted.selection os s) (before ++ numbered s) first.0 in (
+        let more = k.lists wanted (names_after_all os s) (before ++ numbered s) first.0 in (
           first.1 ++ more.0,
           lines_of_both wanted os before s t first.1 more.0 first.2 more.1,
           subst (λ (l : List ℕ). LeavesFirst held failures false stop l (gathered_bytes a.gathered) a.first.now c.first.now) (written_more a.carried.window b.carried.window first.1 more.0 first.3)

@@ -58,8 +58,8 @@ fn first_known(alloc: Global, owners: &[Owner]) -> Result<Names, AllocError>
     Ok(Names::new(alloc, owners_of(alloc, owners)?))
 }
 
-// These owners, each once.
-fn owners_of(alloc: Global, owners: &[Owner]) -> Result<Owners, AllocError>
+/// These owners, each once.
+pub(crate) fn owners_of(alloc: Global, owners: &[Owner]) -> Result<Owners, AllocError>
     ensures { IfOk result (λ all. all ≡ from_list (ownerships owners.now)) }
 {
     let mut all = Owners::new(alloc);

@@ -18,6 +18,7 @@ mod handing;
 pub mod laws;
 mod learning;
 mod line_listing;
+mod line_selector;
 mod output;
 mod output_writer;
 mod place;

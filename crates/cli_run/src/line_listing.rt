@@ -5,7 +5,8 @@ ghost use Rattle.dbus_message_model.specs.Messages.{MessageTree};
 ghost use Rattle.dbus_header.specs.MessageOutcomes.{IsWhole};
 ghost use Rattle.dbus_validate.specs.Validating.{IsValidatedWhole};
 ghost use Rattle.dbus_call_lines.specs.Listing.{Numbered, nth};
-ghost use Rattle.dbus_list.specs.Pairs.{KeepsCalls, TellsCall, call_seen, told};
+ghost use Rattle.dbus_list.specs.Pairs.{KeepsCalls, TellsCall, told};
+ghost use Rattle.dbus_list.specs.Told.{told_seen};
 ghost use Rattle.cli_report.specs.Devices.{reading, writing};
 ghost use Rattle.cli_report.specs.Gathering.{gathered_bytes};
 ghost use Rattle.cli_run.specs.CallListing.{StaysIfShort, number_and_time};
@@ -13,18 +14,17 @@ ghost use Rattle.cli_run.specs.LineLaws.{liner_adds_up};
 ghost use Rattle.cli_run.specs.Output.{is_spent};
 ghost use Rattle.cli_run.specs.LineListing.{LeavesLines, ListsLines, ListsOne, TakesLines, WritesLine, asked};
 
-use crate::filtering::select;
 use crate::going::{pass_through, tell_stop};
+use crate::line_selector::{LineSelector, beside, first_names, learn_names};
 use crate::output_writer::{First, fail_by};
 use crate::place::Lent;
-use crate::selector::Selector;
 use crate::showing::line_place;
 use crate::visitor::{MessageVisitor, write_text};
 use crate::window::{is_spent, lets_through};
 use cli_options::{Settings, WantedLines, Window};
 use cli_report::{Cause, ExitStatus, OutputBuffer, Page, Unwritten, give_up, write_out};
 use dbus_call_lines::Place;
-use dbus_list::{AnsweredCall, CallTable, KnownCall, write_line};
+use dbus_list::{Beside, CallTable, KnownCall, write_line};
 use dbus_names::Names;
 use dbus_stream::{MOST_READS, Sink, Source};
 use dbus_validate::Whole;
@@ -36,8 +36,8 @@ use std::alloc::{AllocError, Global};
 pub(crate) struct LinesCarried {
     /// The window for the messages that follow.
     pub(crate) window: Window,
-    /// What is known of the owners of names, once a message was looked at.
-    pub(crate) learned: Option<Names>,
+    /// Who has which name.
+    pub(crate) names: Names,
     /// The calls that wait for their replies.
     pub(crate) calls: CallTable,
 }
@@ -46,9 +46,7 @@ pub(crate) struct LinesCarried {
 #[derive(Drop)]
 pub(crate) struct Liner<'s, 'a, 'b, W, E> {
     /// Which messages are listed.
-    pub(crate) selector: Selector<'s>,
-    /// The most cells of a line.
-    pub(crate) width: u16,
+    pub(crate) selector: LineSelector<'s>,
     /// What is carried on to the next message.
     pub(crate) carried: LinesCarried,
     /// What is gathered for the first writer.
@@ -90,7 +88,6 @@ impl<W: Sink, E: Sink> MessageVisitor for Liner<'_, '_, '_, W, E> {
     fn take(&mut self, lent: &Lent<'_>) -> Result<(), Cause> {
         let listed = list_one(
             &self.selector,
-            self.width,
             lent,
             &mut self.carried,
             &mut self.gathered,
@@ -112,8 +109,7 @@ impl<W: Sink, E: Sink> MessageVisitor for Liner<'_, '_, '_, W, E> {
 // Takes a message: its line is written or gathered if it is selected, and the window lets it
 // through.
 fn list_one<W: Sink>(
-    selector: &Selector,
-    width: u16,
+    selector: &LineSelector,
     lent: &Lent<'_>,
     carried: &mut LinesCarried,
     gathered: &mut OutputBuffer,
@@ -123,7 +119,7 @@ fn list_one<W: Sink>(
     ensures lists { (order : Order) (m : MessageTree) →
         IsWhole lent.now.limits lent.now.bytes.now order m (length lent.now.bytes.now) →
         (before : List Numbered) → KeepsCalls before carried.old.calls →
-        ListsOne (writing W.held W.failures first.old first.new) (asked selector.now width) before
+        ListsOne (writing W.held W.failures first.old first.new) (asked selector.now) before
         order m lent.now.place carried.old carried.new
         (gathered_bytes gathered.old) (gathered_bytes gathered.new) result }
     ensures stays { StaysIfShort (writing W.held W.failures first.old first.new)
@@ -132,14 +128,16 @@ fn list_one<W: Sink>(
     let Ok(answered) = answered_call(lent, &mut carried.calls) else {
         return Err(Cause::Memory);
     };
-    let Ok(selected) = select(selector, lent, &mut carried.learned) else {
+    let selected = selector.selects(lent, &carried.names);
+    let Ok(_) = learn_names(lent, &mut carried.names) else {
         return Err(Cause::Memory);
     };
     if !selected {
         return Ok(());
     }
     if lets_through(&mut carried.window) {
-        write_listed(width, lent, &answered, gathered, first)
+        let told = beside(lent, &answered, &carried.names);
+        write_listed(selector.width, lent, told, gathered, first)
     } else {
         Ok(())
     }
@@ -166,21 +164,11 @@ fn answered_call(lent: &Lent<'_>, calls: &mut CallTable) -> Result<Option<KnownC
     calls.take(place, &view)
 }
 
-// What the line of a reply of this time tells of the call that it answers, if it answers one.
-fn told_of(answered: &Option<KnownCall>, time: Option<u64>) -> Option<AnsweredCall<'_>>
-    ensures { option_map call_seen result ≡ option_map (told time) answered.now }
-{
-    match answered {
-        Some(call) => Some(call.told(time)),
-        None => None,
-    }
-}
-
-// Writes or gathers the line of the message, of at most so many cells.
+// Writes or gathers the line of the message, of at most so many cells, which tells this beside it.
 fn write_listed<W: Sink>(
     width: u16,
     lent: &Lent<'_>,
-    answered: &Option<KnownCall>,
+    told: Beside<'_>,
     gathered: &mut OutputBuffer,
     first: &mut W,
 ) -> Result<(), Cause>
@@ -188,7 +176,7 @@ fn write_listed<W: Sink>(
     ensures written { (order : Order) (m : MessageTree) →
         IsWhole lent.now.limits lent.now.bytes.now order m (length lent.now.bytes.now) →
         WritesLine (writing W.held W.failures first.old first.new) width
-        (option_map (told lent.now.place.time) answered.now) order m lent.now.place
+        (told_seen told.entry) order m lent.now.place
         (gathered_bytes gathered.old) (gathered_bytes gathered.new) result }
     ensures stays { StaysIfShort (writing W.held W.failures first.old first.new)
         (gathered_bytes gathered.old) (gathered_bytes gathered.new) result }
@@ -203,8 +191,7 @@ fn write_listed<W: Sink>(
         limits: lent.limits,
         validated: &lent.validated,
     };
-    let call = told_of(answered, lent.place.time);
-    write_line(&mut page, width, &whole, line_place(lent.place), call);
+    write_line(&mut page, width, &whole, line_place(lent.place), told);
     if page.failed {
         Err(Cause::WriteFailed)
     } else {
@@ -215,10 +202,11 @@ fn write_listed<W: Sink>(
 /// Lists the messages of a source on the first writer, each that is selected as a line of at most
 /// so many cells, with at most 2^32 reads, and tells the second writer of messages that are
 /// refused, as [`crate::run_with`] does. A reply to a call that came before it in the input is told
-/// with the call's number, also if that is not selected; how long it took, if the input has times.
-/// Of the lines that there are the window of the settings lets some through, and nothing is read
-/// after the last of them, unless the rest is to be checked. What is written is gathered up to
-/// 16,384 bytes, and goes out before each read.
+/// with the call's number, also if that is not selected; how long it took, if the input has times. A
+/// connection is told with the name that it is known to have, by the messages up to this one. Of the
+/// lines that there are the window of the settings lets some through, and nothing is read after the
+/// last of them, unless the rest is to be checked. What is written is gathered up to 16,384 bytes,
+/// and goes out before each read.
 ///
 /// `Done`, `Refused`: all was written, and whether anything was refused. `Failed`: a read or a
 /// write failed, as many reads were made as may be, or memory ran out; if it was not a write to the
@@ -236,15 +224,17 @@ pub fn list_lines<R: Source, W: Sink, E: Sink>(
         (writing E.held E.failures second.old second.new)
         settings wanted.now (2 ^ 32) result }
 {
-    let Ok(selector) = Selector::new(&wanted.selection) else {
+    let Ok(selector) = LineSelector::new(alloc, wanted) else {
+        return give_up(Cause::Memory, second);
+    };
+    let Ok(names) = first_names(alloc, wanted) else {
         return give_up(Cause::Memory, second);
     };
     let mut liner = Liner {
         selector,
-        width: wanted.width,
         carried: LinesCarried {
             window: settings.window,
-            learned: None,
+            names,
             calls: CallTable::new(alloc),
         },
         gathered: OutputBuffer::new(),

@@ -84,7 +84,7 @@ member_printed w h = element_printed is_word_start is_word starts_word in_word w
 interface_printed : (w : List ℕ) → IsInterface w → ArePrinted w
 interface_printed w h = joined_printed is_word_start is_word starts_word in_word w h
 
-bus_printed : (w : List ℕ) → IsBusName w → ArePrinted w
+pub bus_printed : (w : List ℕ) → IsBusName w → ArePrinted w
 bus_printed w h = ⊎_elim
     (λ unique. subst ArePrinted (sym unique.2) ((omega arith, omega arith), joined_printed is_dashed is_dashed in_dashed in_dashed unique.0 unique.1))
     (λ known. joined_printed is_dashed_start is_dashed starts_dashed in_dashed w known) h

@@ -33,13 +33,14 @@ use Rattle.dbus_calls.specs.Events.{destination_of, reply_serial_of, sender_of, 
 use Rattle.dbus_call_lines.specs.CallLines.{took_text}
 use Rattle.dbus_call_lines.specs.Durations.{milliseconds_text, sign, three_digits as took_digits}
 use Rattle.dbus_call_lines.specs.declared.elapsed.Elapsed.{Elapsed}
-use Rattle.dbus_call_lines.proofs.Printed.{destination_printed, error_printed, interface_is_printed, member_is_printed, sender_printed}
+use Rattle.dbus_call_lines.proofs.Printed.{bus_printed, destination_printed, error_printed, interface_is_printed, member_is_printed, sender_printed}
 use Rattle.dbus_json.specs.Times.{digit_at}
 use Rattle.dbus_json.specs.declared.place.LinePlace.{LinePlace}
 use Rattle.dbus_list.specs.BriefValues.{AreBrief, IsBrief, IsBriefDouble, IsBriefNumber, bracketed, other_double}
-use Rattle.dbus_list.specs.Columns.{clock, column, ends, first_short, name_cells, name_column, right, short, three_digits, two_digits}
+use Rattle.dbus_list.specs.Columns.{clock, column, connection, ends, first_short, known_room, name_cells, name_column, right, short, with_known, three_digits, two_digits}
 use Rattle.dbus_list.specs.Pairs.{ToldCall}
-use Rattle.dbus_list.specs.Lines.{ArePlain, IsListed, IsToldWithin, about, about_kind, answered_part, call_part, columns, error_part, interface_part, known_part, member_of, nobody, or_dash, time_part}
+use Rattle.dbus_list.specs.Told.{Told}
+use Rattle.dbus_list.specs.Lines.{ArePlain, IsCallWithin, IsListed, IsNameKnown, IsToldWithin, about, about_kind, answered_part, call_part, columns, error_part, interface_part, known_part, member_of, nobody, or_dash, time_part}
 
 -- a byte that is no control character of ASCII
 abbrev pub IsPlain : ℕ → Type 0
@@ -294,10 +295,19 @@ plain_short most name h = plain_if (nat_le (length name) most) name (codes "~" +
 plain_right : (n : ℕ) (text : List ℕ) → ArePlain text → ArePlain (right n text)
 plain_right n text h = plain_both (replicate (n - length text) 32) text (plain_spaces (n - length text)) h
 
-plain_column : (line : ℕ) (name : List ℕ) → ArePlain name → ArePlain (column line name)
-plain_column line name h =
-    let text = short (name_cells line) name in
-    plain_both text (replicate (name_column line - length text) 32) (plain_short (name_cells line) name h) (plain_spaces (name_column line - length text))
+plain_with : (line : ℕ) (name known : List ℕ) → ArePlain name → ArePlain known → ArePlain (with_known line name known)
+plain_with line name known h k =
+    plain_if (nat_le (length known) (known_room line name)) (name ++ (codes "(" ++ (known ++ codes ")"))) (short (name_cells line) name)
+    (λ _. plain_both name (codes "(" ++ (known ++ codes ")")) h (refl, plain_both known (codes ")") k (refl, tt))) (λ _. plain_short (name_cells line) name h)
+
+plain_connection : (line : ℕ) (name : List ℕ) (known : Option (List ℕ)) → ArePlain name → IsNameKnown known → ArePlain (connection line name known)
+plain_connection line name None h k = plain_short (name_cells line) name h
+plain_connection line name (Some known) h k = plain_with line name (short (known_room line name) known) h (plain_short (known_room line name) known (plain_range known (bus_printed known k.0)))
+
+plain_column : (line : ℕ) (name : List ℕ) (known : Option (List ℕ)) → ArePlain name → IsNameKnown known → ArePlain (column line name known)
+plain_column line name known h k =
+    let text = connection line name known in
+    plain_both text (replicate (name_column line - length text) 32) (plain_connection line name known h k) (plain_spaces (name_column line - length text))
 
 digit_drawn : (n power : ℕ) → IsPlain (digit_at n power)
 digit_drawn n power = above (digit_at n power) (omega arith) (omega arith)
@@ -356,11 +366,11 @@ module _ (limits : Limits) (order : Order) (m : MessageTree) (is : IsMessage lim
       plain_both (interface_part line (text_at field.INTERFACE m)) (name ++ (codes "(" ++ types)) (plain_interface line (text_at field.INTERFACE m) (plain_range _ (interface_is_printed limits order m is)))
       (plain_both name (codes "(" ++ types) (plain_range name (member_is_printed limits order m is)) (refl, plain_both (sigs (types_of m.body)) (codes ")") (plain_sigs (types_of m.body)) (refl, tt)))
 
-  plain_answered : (answered : Option ToldCall) → IsToldWithin limits answered → ArePlain (answered_part answered m)
+  plain_answered : (answered : Option ToldCall) → IsCallWithin limits answered → ArePlain (answered_part answered m)
   plain_answered None within = plain_both (codes "serial ") (decimal (reply_serial_of m)) (plain_known (codes "serial ") refl) (plain_decimal (reply_serial_of m))
   plain_answered (Some told) within = plain_known_call told (subst (λ (call : ToldCall). ArePlain call.member) (sym within.4) (plain_range _ (member_is_printed limits within.0 within.1.message within.3)))
 
-  plain_error : (answered : Option ToldCall) → IsToldWithin limits answered → ArePlain (error_part line answered m)
+  plain_error : (answered : Option ToldCall) → IsCallWithin limits answered → ArePlain (error_part line answered m)
   plain_error answered within = plain_both (short (name_cells line) (or_dash (text_at field.ERROR_NAME m))) _ (plain_short (name_cells line) _ (plain_range _ (error_printed limits order m is)))
       (plain_both (codes " to ") (answered_part answered m) (plain_known (codes " to ") refl) (plain_answered answered within))
 
@@ -368,7 +378,7 @@ module _ (limits : Limits) (order : Order) (m : MessageTree) (is : IsMessage lim
   plain_call = plain_if (wants_reply m) (member_of line m) (member_of line m ++ codes " no reply wanted") (λ _. plain_member)
       (λ _. plain_both (member_of line m) (codes " no reply wanted") plain_member (plain_known (codes " no reply wanted") refl))
 
-  plain_about : (kind : ℕ) (answered : Option ToldCall) → IsToldWithin limits answered → ArePlain (about_kind kind line answered m)
+  plain_about : (kind : ℕ) (answered : Option ToldCall) → IsCallWithin limits answered → ArePlain (about_kind kind line answered m)
   plain_about kind answered within =
       plain_if (kind == message.METHOD_CALL) (call_part line m) _ (λ _. plain_call)
       (λ _. plain_if (kind == message.METHOD_RETURN) (codes "reply to " ++ answered_part answered m) _ (λ _. plain_both (codes "reply to ") (answered_part answered m) (plain_known (codes "reply to ") refl) (plain_answered answered within))
@@ -380,21 +390,22 @@ module _ (limits : Limits) (order : Order) (m : MessageTree) (is : IsMessage lim
   plain_nobody : (kind : ℕ) → ArePlain (nobody kind)
   plain_nobody kind = plain_if (kind == message.SIGNAL) (codes "*") (codes "-") (λ _. (refl, tt)) (λ _. (refl, tt))
 
-  plain_columns : (place : LinePlace) → ArePlain (columns line place order m)
-  plain_columns place =
+  plain_columns : (place : LinePlace) (told : Told) → IsToldWithin limits told → ArePlain (columns line place told order m)
+  plain_columns place told within =
       let bytes = decimal (length (message_bytes order m)) in
       let to = unwrap_or (destination_of m) (nobody m.kind) in
-      let destination = column line to ++ codes " " in
-      let sender = column line (or_dash (sender_of m)) ++ (codes " > " ++ destination) in
+      let destination = column line to told.destination ++ codes " " in
+      let from = or_dash (sender_of m) in
+      let sender = column line from told.sender ++ (codes " > " ++ destination) in
       let size = right 5 bytes ++ (codes " " ++ sender) in
-      let named = plain_column line to (plain_or (destination_of m) (nobody m.kind) (plain_range _ (destination_printed limits order m is)) (plain_nobody m.kind)) in
+      let named = plain_column line to told.destination (plain_or (destination_of m) (nobody m.kind) (plain_range _ (destination_printed limits order m is)) (plain_nobody m.kind)) within.2 in
       plain_both (right 4 (decimal place.number)) (codes " " ++ (time_part place.time ++ size)) (plain_right 4 (decimal place.number) (plain_decimal place.number)) (
         refl,
         plain_both (time_part place.time) size (plain_time place.time)
             (plain_both (right 5 bytes) (codes " " ++ sender) (plain_right 5 bytes (plain_decimal (length (message_bytes order m)))) (
               refl,
-              plain_both (column line (or_dash (sender_of m))) (codes " > " ++ destination) (plain_column line (or_dash (sender_of m)) (plain_range _ (sender_printed limits order m is)))
-                  (plain_both (codes " > ") destination (plain_known (codes " > ") refl) (plain_both (column line to) (codes " ") named (refl, tt))),
+              plain_both (column line from told.sender) (codes " > " ++ destination) (plain_column line from told.sender (plain_range _ (sender_printed limits order m is)) within.1)
+                  (plain_both (codes " > ") destination (plain_known (codes " > ") refl) (plain_both (column line to told.destination) (codes " ") named (refl, tt))),
             )),
       )
 
@@ -402,9 +413,9 @@ module _ (limits : Limits) (order : Order) (m : MessageTree) (is : IsMessage lim
   plain_led [] h = tt
   plain_led (value ∷ values) h = (refl, plain_joined (value ∷ values) h)
 
-  pub plain_text : (place : LinePlace) (answered : Option ToldCall) (text : List ℕ) → IsToldWithin limits answered → IsListed line place answered order m text → ArePlain text
-  plain_text place answered text within h = subst ArePlain (sym h.is)
-      (plain_both (columns line place order m) _ (plain_columns place) (plain_both (about line answered m) _ (plain_about m.kind answered within) (plain_led h.values (plain_briefs limits.depth m.body h.values is.formed_body h.brief))))
+  pub plain_text : (place : LinePlace) (told : Told) (text : List ℕ) → IsToldWithin limits told → IsListed line place told order m text → ArePlain text
+  plain_text place told text within h = subst ArePlain (sym h.is)
+      (plain_both (columns line place told order m) _ (plain_columns place told within) (plain_both (about line told.answered m) _ (plain_about m.kind told.answered within.0) (plain_led h.values (plain_briefs limits.depth m.body h.values is.formed_body h.brief))))
 
 -- ---- characters
 

@@ -51,6 +51,6 @@ mutual
       (one.0 ∷ more.0, (one.1, more.1))
 
 pub some_line_each : IsSomeLineEach
-some_line_each cells place answered order m =
+some_line_each cells place told order m =
     let values = some_briefs m.body in
     (_, (_, record { values = values.0; brief = values.1; is = refl }, refl))

@@ -1,6 +1,6 @@
 -- The columns of a line, and names that fit one. D-Bus says nothing of terminals; of what elements
 -- names are made, the D-Bus Specification, "Valid Names".
-use Rattle.std.specs.Prelude.{ℕ, ◌-◌, ◌/◌, ◌%◌, nat_eq, nat_lt, nat_le, List, [], ◌∷◌, ◌++◌, length, codes, if◌then◌else◌, max, min, replicate}
+use Rattle.std.specs.Prelude.{ℕ, ◌-◌, ◌/◌, ◌%◌, nat_eq, nat_lt, nat_le, List, [], ◌∷◌, ◌++◌, length, Option, None, Some, codes, if◌then◌else◌, max, min, replicate}
 use Rattle.dbus_json.specs.Times.{digit_at}
 
 -- a text at the right or the left of a column of so many cells
@@ -36,9 +36,22 @@ name_cells line = if nat_eq line 0 then 255 else max 6 (min 30 (line / 5 - 4))
 abbrev pub name_column : (line : ℕ) → ℕ
 name_column line = if nat_eq line 0 then 20 else name_cells line
 
--- a name in its column
-abbrev pub column : (line : ℕ) → (name : List ℕ) → List ℕ
-column line name = left (name_column line) (short (name_cells line) name)
+-- how many cells are left behind a name for another one in brackets
+abbrev pub known_room : (line : ℕ) → (name : List ℕ) → ℕ
+known_room line name = if nat_eq line 0 then 255 else name_cells line - length name - 2
+
+-- the other one is behind it if its last element fits
+abbrev pub with_known : (line : ℕ) → (name known : List ℕ) → List ℕ
+with_known line name known = if nat_le (length known) (known_room line name) then name ++ (codes "(" ++ (known ++ codes ")")) else short (name_cells line) name
+
+-- a connection by a name of its own, and by the one by which it is known, each as it fits
+abbrev pub connection : (line : ℕ) → (name : List ℕ) → (known : Option (List ℕ)) → List ℕ
+connection line name None = short (name_cells line) name
+connection line name (Some known) = with_known line name (short (known_room line name) known)
+
+-- the same in its column
+abbrev pub column : (line : ℕ) → (name : List ℕ) → (known : Option (List ℕ)) → List ℕ
+column line name known = left (name_column line) (connection line name known)
 
 -- ---- times
 

@@ -7,4 +7,5 @@ pub mod Columns
 pub mod Pairs
 pub mod Joining
 pub mod JoiningLaws
+pub mod Told
 pub mod Lines

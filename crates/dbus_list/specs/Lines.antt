@@ -3,7 +3,9 @@ use Rattle.std.specs.Prelude.{◌≡◌, ℕ, ◌<◌, ◌≤◌, false, List, [
 use Rattle.std.specs.Char.{is_ascii_control}
 use Rattle.std.specs.List.{AllByRecursion}
 use Rattle.std.specs.Str.{IsUtf8, chars}
+use Rattle.dbus_texts.specs.Kinds.{IsKind}
 use Rattle.dbus_texts.specs.Types.{sigs}
+use Rattle.dbus_texts.specs.declared.text_kind.TextKind.TheVariants.{BusName}
 use Rattle.dbus_value_model.specs.declared.limits.Limits.{Limits}
 use Rattle.dbus_value_model.specs.declared.order.Order.{Order}
 use Rattle.dbus_value_model.specs.Values.{types_of}
@@ -20,6 +22,7 @@ use Rattle.dbus_list.specs.BriefValues.{AreBrief}
 use Rattle.dbus_list.specs.Columns.{clock, column, name_cells, right, short}
 use Rattle.dbus_list.specs.Cuts.{cut, width}
 use Rattle.dbus_list.specs.Pairs.{ToldCall, told_of}
+use Rattle.dbus_list.specs.Told.{Told}
 
 abbrev pub or_dash : Option (List ℕ) → List ℕ
 or_dash text = unwrap_or text (codes "-")
@@ -34,10 +37,10 @@ time_part (Some nanoseconds) = clock nanoseconds ++ codes " "
 abbrev pub nobody : (kind : ℕ) → List ℕ
 nobody kind = if kind == message.SIGNAL then codes "*" else codes "-"
 
-abbrev pub columns : (line : ℕ) → LinePlace → Order → MessageTree → List ℕ
-columns line place order m =
+abbrev pub columns : (line : ℕ) → LinePlace → Told → Order → MessageTree → List ℕ
+columns line place told order m =
     right 4 (decimal place.number) ++ (codes " " ++ (time_part place.time ++ (right 5 (decimal (length (message_bytes order m))) ++ (codes " "
-    ++ (column line (or_dash (sender_of m)) ++ (codes " > " ++ (column line (unwrap_or (destination_of m) (nobody m.kind)) ++ codes " ")))))))
+    ++ (column line (or_dash (sender_of m)) told.sender ++ (codes " > " ++ (column line (unwrap_or (destination_of m) (nobody m.kind)) told.destination ++ codes " ")))))))
 
 -- ---- what the message is
 
@@ -83,11 +86,11 @@ about line answered m = about_kind m.kind line answered m
 -- ---- the line
 
 -- The text of a message, of which a line of so many cells has what fits: after the columns, what
--- the message is, and the values of its body. answered is what is told of the call that it answers.
-pub record IsListed (line : ℕ) (place : LinePlace) (answered : Option ToldCall) (order : Order) (m : MessageTree) (text : List ℕ) : Type 0 where
+-- the message is, and the values of its body.
+pub record IsListed (line : ℕ) (place : LinePlace) (told : Told) (order : Order) (m : MessageTree) (text : List ℕ) : Type 0 where
   pub values : List (List ℕ)
   pub brief : AreBrief m.body values
-  pub is : text ≡ columns line place order m ++ (about line answered m ++ led (codes " ") (codes ", ") values)
+  pub is : text ≡ columns line place told order m ++ (about line told.answered m ++ led (codes " ") (codes ", ") values)
 
 -- a text as it fits so many cells: each hidden character is seen, and what is too much is cut
 abbrev pub fitted : (cells : ℕ) → (text : List ℕ) → List ℕ
@@ -97,14 +100,14 @@ abbrev pub line_of : (cells : ℕ) → (text : List ℕ) → List ℕ
 line_of n text = fitted n text ++ codes "\n"
 
 -- the line of a message
-abbrev pub IsLine : (cells : ℕ) → LinePlace → (answered : Option ToldCall) → Order → MessageTree → List ℕ → Type 0
-IsLine n place answered order m line = (text : List ℕ) × IsListed n place answered order m text × (line ≡ line_of n text)
+abbrev pub IsLine : (cells : ℕ) → LinePlace → Told → Order → MessageTree → List ℕ → Type 0
+IsLine n place told order m line = (text : List ℕ) × IsListed n place told order m text × (line ≡ line_of n text)
 
 -- What holds of lines.
 
--- Each message has a line, whatever its place and the call that it answers.
+-- Each message has a line, whatever its place and what is told beside it.
 abbrev pub IsSomeLineEach : Type 0
-IsSomeLineEach = (cells : ℕ) (place : LinePlace) (answered : Option ToldCall) (order : Order) (m : MessageTree) → (line : List ℕ) × IsLine cells place answered order m line
+IsSomeLineEach = (cells : ℕ) (place : LinePlace) (told : Told) (order : Order) (m : MessageTree) → (line : List ℕ) × IsLine cells place told order m line
 
 -- What fits so many cells has no more of them, if they are not 0.
 abbrev pub Fits : Type 0
@@ -118,15 +121,23 @@ abbrev pub HideNothing : Type 0
 HideNothing = (n : ℕ) (text : List ℕ) → IsUtf8 text → AreSeen (chars (fitted n text))
 
 -- what is told of a call is so of one within the limits
-abbrev pub IsToldWithin : Limits → Option ToldCall → Type 0
-IsToldWithin limits None = Unit {0}
-IsToldWithin limits (Some told) = (order : Order) × (call : Numbered) × (replied : Option ℕ) × IsMessage limits order call.message × (told ≡ told_of replied call)
+abbrev pub IsCallWithin : Limits → Option ToldCall → Type 0
+IsCallWithin limits None = Unit {0}
+IsCallWithin limits (Some told) = (order : Order) × (call : Numbered) × (replied : Option ℕ) × IsMessage limits order call.message × (told ≡ told_of replied call)
+
+-- and a name by which a connection is known is a bus name
+abbrev pub IsNameKnown : Option (List ℕ) → Type 0
+IsNameKnown None = Unit {0}
+IsNameKnown (Some name) = IsKind BusName name
+
+abbrev pub IsToldWithin : Limits → Told → Type 0
+IsToldWithin limits told = IsCallWithin limits told.answered × IsNameKnown told.sender × IsNameKnown told.destination
 
 -- None of them is a control character of ASCII, if the text is of a message within the limits, and
--- so is the call that it answers.
+-- what is told beside it is so.
 abbrev pub ArePlain : (characters : List ℕ) → Type 0
 ArePlain cs = AllByRecursion (λ c. is_ascii_control c ≡ false) cs
 
 abbrev pub ControlNothing : Type 0
-ControlNothing = (limits : Limits) (order : Order) (m : MessageTree) (n : ℕ) (place : LinePlace) (answered : Option ToldCall) (text : List ℕ) → IsMessage limits order m → IsToldWithin limits answered → IsListed n place answered order m text
+ControlNothing = (limits : Limits) (order : Order) (m : MessageTree) (n : ℕ) (place : LinePlace) (told : Told) (text : List ℕ) → IsMessage limits order m → IsToldWithin limits told → IsListed n place told order m text
     → IsUtf8 text → ArePlain (chars (fitted n text))

@@ -1,8 +1,8 @@
 //! The columns of a line, and names that fit one. D-Bus Specification, "Valid Names".
 #![tactic(auto)]
 
-ghost use Rattle.std.specs.Prelude.{◌≡◌, decimal, length, replicate};
-ghost use Rattle.dbus_list.specs.Columns.{clock, column, ends, first_short, name_cells, right, short};
+ghost use Rattle.std.specs.Prelude.{◌≡◌, decimal, length, nat_le, replicate};
+ghost use Rattle.dbus_list.specs.Columns.{clock, ends, first_short, name_cells, right, short};
 
 use dbus_json::digit_at;
 use dbus_show::Draft;
@@ -10,10 +10,7 @@ use itoa::Buffer;
 use std::str;
 
 /// The most bytes of a name. D-Bus Specification, "Valid Names".
-const LONGEST_NAME: usize = 255;
-
-/// The cells of a name's column, if a line has no bound.
-const UNBOUNDED_COLUMN: usize = 20;
+pub(crate) const LONGEST_NAME: usize = 255;
 
 /// How many spaces are appended at once: more than most columns lack.
 const MOST_SPACES: usize = 32;
@@ -22,7 +19,7 @@ const MOST_SPACES: usize = 32;
 const SPACES: &str = "                                ";
 
 /// Appends so many spaces.
-fn write_spaces<D: Draft>(draft: &mut D, count: usize)
+pub(crate) fn write_spaces<D: Draft>(draft: &mut D, count: usize)
     ensures { D.gains draft.old (replicate count 32) draft.new }
 {
     let mut left = count;
@@ -68,6 +65,13 @@ fn short_end(name: &str, most: usize) -> &str
     rest
 }
 
+/// Whether a name fits so many cells, with its last element at least.
+pub(crate) fn fits(name: &str, most: usize) -> bool
+    ensures { result ≡ nat_le (length (short most name.now)) most }
+{
+    name.len() <= most || short_end(name, most).len() < most
+}
+
 /// Appends a name as it fits so many cells: how many it takes.
 pub(crate) fn write_short<D: Draft>(draft: &mut D, name: &str, most: usize) -> usize
     ensures written { D.gains draft.old (short most name.now) draft.new }
@@ -81,16 +85,6 @@ pub(crate) fn write_short<D: Draft>(draft: &mut D, name: &str, most: usize) -> u
     draft.push_code(b'~');
     draft.push_str(end);
     end.len() + 1
-}
-
-/// Appends a name in its column of a line of so many cells.
-pub(crate) fn write_column<D: Draft>(draft: &mut D, name: &str, line: u16)
-    ensures { D.gains draft.old (column line name.now) draft.new }
-{
-    let cells = name_cells(line);
-    let taken = write_short(draft, name, cells);
-    let column = if line == 0 { UNBOUNDED_COLUMN } else { cells };
-    write_spaces(draft, column.saturating_sub(taken));
 }
 
 /// The time of day in UTC, so many nanoseconds after 1970 began, in ASCII. POSIX.1-2017, Base

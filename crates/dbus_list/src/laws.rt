@@ -3,7 +3,7 @@
 
 ghost use Rattle.dbus_list.specs.Lines.{ControlNothing, Fits, HideNothing, IsSomeLineEach};
 
-/// Each message has a line, whatever its place and the call that it answers.
+/// Each message has a line, whatever its place and what is told beside it.
 pub fn some_line_for_a_message()
     ensures { IsSomeLineEach }
 {}
@@ -19,7 +19,8 @@ pub fn lines_hide_nothing()
 {}
 
 /// The line of a message has no control character of ASCII before the line feed that ends it,
-/// whatever the message holds that is within the limits, and the call that it answers.
+/// whatever the message holds that is within the limits, if the call that it answers is so too, and
+/// names by which connections are known are bus names.
 pub fn lines_control_nothing()
     ensures { ControlNothing }
 {}

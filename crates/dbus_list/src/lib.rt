@@ -6,10 +6,12 @@
 #![tactic(auto)]
 
 mod about;
+mod beside;
 mod brief;
 mod call_table;
 mod characters;
 mod columns;
+mod connections;
 mod cut_draft;
 mod joined_draft;
 mod known_call;
@@ -17,6 +19,7 @@ pub mod laws;
 mod line;
 mod names;
 
+pub use beside::Beside;
 pub use call_table::CallTable;
 pub use known_call::{AnsweredCall, KnownCall};
 pub use line::write_line;

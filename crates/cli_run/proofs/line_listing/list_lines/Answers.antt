@@ -1,6 +1,5 @@
 use Rattle.std.proofs.Common.{◌≡◌, [], rules, inl, inr, refl, sym, ap}
 use Rattle.cli_options.specs.declared.wanted_lines.WantedLines.{WantedLines}
-use Rattle.cli_run.specs.Learning.{known}
 use Rattle.cli_run.specs.LineListing.{Carries}
 use Rattle.cli_run.specs.declared.line_listing.Liner.{Liner}
 use Rattle.cli_run.proofs.EndSteps.{taken_by}
@@ -12,6 +11,11 @@ returns-in_default g c =
     unread g.R.Source.left g.R.Source.calls g.R.Source.failures g.R.Source.packets c.args.reader.now g.W.Sink.held g.W.Sink.failures c.args.first.now g.E.Sink.held g.E.Sink.failures c.args.second.now c.give_up.new.second
     c.args.settings _ c.args.wanted.now c.give_up.result c.give_up.ensures.failed c.give_up.ensures.told
 
+pub returns-in_default-first_names : goal.returns-in_default-first_names
+returns-in_default-first_names g c =
+    unread g.R.Source.left g.R.Source.calls g.R.Source.failures g.R.Source.packets c.args.reader.now g.W.Sink.held g.W.Sink.failures c.args.first.now g.E.Sink.held g.E.Sink.failures c.args.second.now c.give_up-in_default-first_names.new.second
+    c.args.settings _ c.args.wanted.now c.give_up-in_default-first_names.result c.give_up-in_default-first_names.ensures.failed c.give_up-in_default-first_names.ensures.told
+
 pub returns-in-Ok-ended : goal.returns-in-Ok-ended
 returns-in-Ok-ended g c =
     let passes = rw c.in-Ok-ended.is at c.pass_through-ended.ensures.passes in
@@ -21,7 +25,7 @@ returns-in-Ok-ended g c =
     let second : c.pass_through-ended.new.visitor.second.now ≡ c.second-1.given.0 = search rules in
     let source : c.pass_through-ended.result.1.now ≡ c.reader-1.given.0 = search rules in
     inl (ran g.W.Sink.held g.W.Sink.failures g.E.Sink.held g.E.Sink.failures _ c.pass_through-ended.new.visitor c.args.settings c.args.wanted.now
-    (record { wanted_is = λ i. record { selection = c.in-Ok.ensures i; width = c.args.wanted.now.width }; owners_are = refl; calls = c.new-2.ensures }) refl c.new-3.ensures first second
+    (record { wanted_is = λ i. record { selection = c.in-Ok.ensures.selection i; width = c.in-Ok.ensures.width i }; names_are = c.in-Ok-first_names.ensures; calls = c.new-2.ensures }) refl c.new-3.ensures first second
     g.R.Source.left g.R.Source.calls g.R.Source.failures g.R.Source.packets _ c.args.reader.now c.pass_through-ended.result.1.now source (rw c.in-Ok-ended.is at c.pass_through-ended.ensures.settled) passes
     (λ size reads. elim reads [ inl none ↦ inl none | inr some ↦ inr (some.0, some.1.now, some.2, some.3, some.4) ]))
 
@@ -38,7 +42,7 @@ returns-in-Err g c =
       stop = c.in-Err.stop;
       before = c.second-1.given.0;
       within = gave_up g.W.Sink.held g.W.Sink.failures g.E.Sink.held g.E.Sink.failures _ c.pass_through-ended.new.visitor c.args.settings c.args.wanted.now
-          (record { wanted_is = λ i. record { selection = c.in-Ok.ensures i; width = c.args.wanted.now.width }; owners_are = refl; calls = c.new-2.ensures }) refl c.new-3.ensures first second
+          (record { wanted_is = λ i. record { selection = c.in-Ok.ensures.selection i; width = c.in-Ok.ensures.width i }; names_are = c.in-Ok-first_names.ensures; calls = c.new-2.ensures }) refl c.new-3.ensures first second
           g.R.Source.left g.R.Source.calls g.R.Source.failures g.R.Source.packets _ c.args.reader.now c.pass_through-ended.result.1.now source passes;
       tells = c.tell_stop.ensures.tells;
     })
