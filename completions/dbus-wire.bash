@@ -85,7 +85,7 @@ _dbus_wire() {
             COMPREPLY=($(compgen -W "--json --keep-going $options" -- "$word"))
             ;;
         calls)
-            COMPREPLY=($(compgen -W "--json --unanswered --errors --slower --keep-going $options" -- "$word"))
+            COMPREPLY=($(compgen -W "--json --members --unanswered --errors --slower --keep-going $options" -- "$word"))
             ;;
         handshake)
             COMPREPLY=($(compgen -W '--side -h --help' -- "$word"))

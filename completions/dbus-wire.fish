@@ -47,6 +47,7 @@ complete -c dbus-wire -n '__fish_seen_subcommand_from show json list check count
 complete -c dbus-wire -n '__fish_seen_subcommand_from list' -l width -x -d 'Cells of a line'
 complete -c dbus-wire -n '__fish_seen_subcommand_from count' -l json -f -d 'Write each line of the tables as JSON'
 complete -c dbus-wire -n '__fish_seen_subcommand_from calls' -l json -f -d 'Write each line as JSON'
+complete -c dbus-wire -n '__fish_seen_subcommand_from calls' -l members -f -d 'Sum the calls up by their members'
 complete -c dbus-wire -n '__fish_seen_subcommand_from calls' -l unanswered -f -d 'List the calls without a reply'
 complete -c dbus-wire -n '__fish_seen_subcommand_from calls' -l errors -f -d 'List the calls that an error answered'
 complete -c dbus-wire -n '__fish_seen_subcommand_from calls' -l slower -x -d 'List the calls replied to later, in milliseconds'

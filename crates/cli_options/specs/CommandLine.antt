@@ -87,7 +87,7 @@ abbrev pub count_app : App
 count_app = with_keep_going (with_rule (new_app (codes "count")) (flag_rule (codes "json")))
 
 abbrev pub calls_app : App
-calls_app = with_keep_going (with_rule (with_rule (with_rule (with_rule (new_app (codes "calls")) (flag_rule (codes "json"))) (flag_rule (codes "unanswered"))) (flag_rule (codes "errors")))
+calls_app = with_keep_going (with_rule (with_rule (with_rule (with_rule (with_rule (new_app (codes "calls")) (flag_rule (codes "json"))) (flag_rule (codes "members"))) (flag_rule (codes "unanswered"))) (flag_rule (codes "errors")))
     (limit_rule (codes "slower") most_messages))
 
 abbrev pub handshake_app : App

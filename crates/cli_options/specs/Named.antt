@@ -103,6 +103,7 @@ HasForm rows form = (form ≡ written.Json) ↔ IsGiven (codes "json") rows
 -- what `calls` is to list has each flag that is given, and the number of milliseconds
 pub record HasWanted (rows : List Row) (wanted : WantedCalls) : Type 0 where
   pub as_json : (wanted.as_json ≡ true) ↔ IsGiven (codes "json") rows
+  pub by_member : (wanted.by_member ≡ true) ↔ IsGiven (codes "members") rows
   pub unanswered : (wanted.unanswered ≡ true) ↔ IsGiven (codes "unanswered") rows
   pub errors : (wanted.errors ≡ true) ↔ IsGiven (codes "errors") rows
   pub slower : IsGivenNumber (one_of (codes "slower") rows) wanted.slower

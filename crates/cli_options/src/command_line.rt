@@ -31,7 +31,7 @@ use std::alloc::Global;
 /// descriptors, name the limits; one that they do not name is that of the specification. The flags
 /// `--explain`, and `--keep-going` of all commands but `swap`, are set if they are among the words,
 /// and `--json` of `count` is its form. `--raw`, of `filter` and `swap`, is the form in which they
-/// write messages. `--json`, `--unanswered`, `--errors` and `--slower`, in
+/// write messages. `--json`, `--members`, `--unanswered`, `--errors` and `--slower`, in
 /// milliseconds, of `calls` say what it lists. `--time` of `show` and `--no-time` of `json` say
 /// whether times are written. `--handshake` names the side whose handshake comes before the
 /// messages. `--skip` and `--limit`, of `show`, `json`, `list` and `filter`, are the numbers of the
@@ -127,6 +127,7 @@ fn wanted_named(inner: &ArgMatches) -> Option<WantedCalls>
     let slower = given_named(inner, "slower")?;
     Some(WantedCalls {
         as_json: is_given(inner, "json"),
+        by_member: is_given(inner, "members"),
         unanswered: is_given(inner, "unanswered"),
         errors: is_given(inner, "errors"),
         slower,

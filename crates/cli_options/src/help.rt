@@ -211,6 +211,11 @@ pub(crate) const CALLS_MORE: &str = more!(
   `refused at P: NAME` on standard error, and then the calls that wait there are
   listed. Memory is allocated for calls that wait.
 
+  With --members the table of the members comes instead, those with most time
+  first: `N calls N replies N errors N no reply MEMBER`, and before the member,
+  if the file has times, `T ms total T ms mean T ms longest`: how long the
+  METHOD_RETURNs took together, in the mean and at most.
+
   A reply answers the call of its serial, if its sender is the call's
   destination or the bus, or if that destination is a well-known name. Calls
   from before the capture are not seen, and their replies are not listed. If any
@@ -222,6 +227,9 @@ pub(crate) const CALLS_MORE: &str = more!(
 
 /// What `--json` of `calls` does.
 pub(crate) const CALLS_JSON: &str = "Writes each line as JSON";
+
+/// What `--members` of `calls` does.
+pub(crate) const MEMBERS: &str = "Sums the calls up by their members";
 
 /// What `--unanswered` of `calls` does.
 pub(crate) const UNANSWERED: &str = "Lists the calls that want a reply and have none";

@@ -6,6 +6,8 @@
 pub struct WantedCalls {
     /// Whether each line is an object of JSON, RFC 8259, in place of words.
     pub as_json: bool,
+    /// Whether a line is that of a member, with the sums of its calls, in place of a call's.
+    pub by_member: bool,
     /// Whether the calls to which no reply came are to be listed, of those that want one.
     pub unanswered: bool,
     /// Whether the calls that an ERROR answered are to be listed.

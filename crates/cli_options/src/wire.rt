@@ -233,7 +233,8 @@ fn calls_command<'a>(alloc: Global) -> Result<Command<'a>, AllocError>
         help::CALLS_MORE,
     );
     let formed = with_arg(calls, flag(alloc, "json", help::CALLS_JSON));
-    let waiting = with_arg(formed, flag(alloc, "unanswered", help::UNANSWERED));
+    let summing = with_arg(formed, flag(alloc, "members", help::MEMBERS));
+    let waiting = with_arg(summing, flag(alloc, "unanswered", help::UNANSWERED));
     let failing = with_arg(waiting, flag(alloc, "errors", help::ERRORS));
     let slower = limit_option(alloc, "slower", u32::MAX, help::SLOWER);
     with_keep_going(alloc, with_arg(failing, slower))

@@ -10,12 +10,13 @@ use Rattle.dbus_message_model.specs.Messages.{MessageTree}
 use Rattle.dbus_device.specs.Device.{Wrote}
 use Rattle.dbus_device.specs.Packets.{Packets}
 use Rattle.dbus_stream.specs.Cut.{CutMessage}
+use Rattle.dbus_call_lines.specs.CallLines.{front}
 use Rattle.dbus_call_lines.specs.Keeping.{Keeps, KnowsStray}
 use Rattle.dbus_call_lines.specs.Listing.{AreListedBy, AreRising, ListsAfter, ListsOpen, Numbered, Row, nth, rows_text}
 use Rattle.dbus_call_lines.specs.declared.wanted.Wanted.{Wanted}
 use Rattle.dbus_call_lines.proofs.Along.{listed_end}
 use Rattle.dbus_call_lines.proofs.Some.{front_rises, some_after}
-use Rattle.dbus_call_lines.proofs.Steps.{lines_both}
+use Rattle.dbus_call_lines.proofs.Written.{lines_both}
 use Rattle.cli_options.specs.declared.settings.Settings.{Settings}
 use Rattle.cli_report.specs.Devices.{Writing, reading, taken, writing}
 use Rattle.cli_report.specs.Gathering.{Breaks, Gathers, Passes, gathered_bytes}
@@ -51,7 +52,7 @@ module _ {W E : Type 0} (held : W → Option (List ℕ)) (failures : W → ℕ) 
   let_out told passes tells = record {
     same_first = same_first;
     same_second = same_second;
-    lists = λ wanted before keeps rising. (transport (λ i. Keeps wanted (sym (append-nil before) i) (sym same i)) keeps, [], refl, passes);
+    lists = λ wanted before keeps rising. (transport (λ i. Keeps front wanted (sym (append-nil before) i) (sym same i)) keeps, [], refl, passes);
     timed = timed ∙ or_false a.timed;
     tells = tells;
   }
@@ -90,8 +91,8 @@ module _ {W E : Type 0} (held : W → Option (List ℕ)) (failures : W → ℕ) 
 
   -- what is listed by it
   abbrev pub ListsIt : (g : List ℕ) (w : W) → Result (Unit {0}) Cause → Type 0
-  ListsIt g w res = (wanted : Wanted) (before : List Numbered) → Keeps wanted before a.list → AreRising (before ++ x ∷ [])
-      → OnOk res (Keeps wanted (before ++ x ∷ []) b.list) × GathersRows (writing held failures a.first.now w) wanted (ListsAfter before x) (gathered_bytes a.gathered) g res
+  ListsIt g w res = (wanted : Wanted) (before : List Numbered) → Keeps front wanted before a.list → AreRising (before ++ x ∷ [])
+      → OnOk res (Keeps front wanted (before ++ x ∷ []) b.list) × GathersRows (writing held failures a.first.now w) wanted (ListsAfter before x) (gathered_bytes a.gathered) g res
 
   none_told : Wrote second_held second_failures a.second.now [] b.second.now
   none_told = told_nothing second_held second_failures false a.second.now b.second.now same
@@ -105,7 +106,7 @@ module _ {W E : Type 0} (held : W → Option (List ℕ)) (failures : W → ℕ) 
     tells = none_told;
   }
 
-  broken : ((wanted : Wanted) (before : List Numbered) → Keeps wanted before a.list → AreRising (before ++ x ∷ [])
+  broken : ((wanted : Wanted) (before : List Numbered) → Keeps front wanted before a.list → AreRising (before ++ x ∷ [])
       → (rows : List Row) × ListsAfter before x rows × Breaks held failures (rows_text wanted rows) (gathered_bytes a.gathered) a.first.now b.first.now) → Takes (Err WriteFailed)
   broken p = record {
     same_first = same_first;
@@ -200,12 +201,12 @@ ends_by : {E : Type 0} (Writes : Result (Unit {0}) Cause → Type 0) (e : Writin
 ends_by Writes e Is Was into due end (Ok x) writes ends = inl (writes, ends.0, into ends.0 ends.1, ends.2)
 ends_by Writes e Is Was into due end (Err cause) writes ends = inr (cause, writes, ends.0, ends.1)
 
-module _ {W E : Type 0} (held : W → Option (List ℕ)) (failures : W → ℕ) (second_held : E → Option (List ℕ)) (second_failures : E → ℕ) (wanted : Wanted) (a b : Lister W E) (keeps : Keeps wanted [] a.list)
+module _ {W E : Type 0} (held : W → Option (List ℕ)) (failures : W → ℕ) (second_held : E → Option (List ℕ)) (second_failures : E → ℕ) (wanted : Wanted) (a b : Lister W E) (keeps : Keeps front wanted [] a.list)
     (none : gathered_bytes a.gathered ≡ []) (untimed : a.timed ≡ false) where
   -- what was written, and then what waits
   module _ (last : gathered_bytes b.gathered ≡ []) (items : List Placed) (rises : AreRising (numbered items)) (told : List ℕ) (h : TakesCalls held failures second_held second_failures a b items told) (w2 : W) where
     abbrev Lists : Type 0
-    Lists = Keeps wanted (numbered items) b.list × (rows : List Row) × AreListedBy [] (numbered items) rows
+    Lists = Keeps front wanted (numbered items) b.list × (rows : List Row) × AreListedBy [] (numbered items) rows
         × Passes held failures (rows_text wanted rows) (gathered_bytes a.gathered) (gathered_bytes b.gathered) a.first.now b.first.now
 
     lists : Lists
@@ -232,7 +233,7 @@ module _ {W E : Type 0} (held : W → Option (List ℕ)) (failures : W → ℕ) 
     writes l (Err ReadFailed) r = absurd r
     writes l (Err TooManyReads) r = absurd r
 
-    written : (res : Result (Unit {0}) Cause) → ((other : Wanted) (before : List Numbered) → Keeps other before b.list → AreRising before → WritesRows (writing held failures b.first.now w2) other (ListsOpen before) res)
+    written : (res : Result (Unit {0}) Cause) → ((other : Wanted) (before : List Numbered) → Keeps front other before b.list → AreRising before → WritesRows (writing held failures b.first.now w2) other (ListsOpen before) res)
         → WritesCalls (writing held failures a.first.now w2) wanted items res
     written res waits = writes lists res (waits wanted (numbered items) lists.0 rises)
 
@@ -246,15 +247,15 @@ module _ {W E : Type 0} (held : W → Option (List ℕ)) (failures : W → ℕ) 
 
     -- this is to be told of messages
     abbrev pub IsKnown : (note : List ℕ) → Type 0
-    IsKnown note = (other : Wanted) (before : List Numbered) → Keeps other before b.list → AreRising before → (stray : ℕ) × KnowsStray before stray × (note ≡ notes (is_some wanted.slower && not b.timed) stray)
+    IsKnown note = (other : Wanted) (before : List Numbered) → Keeps front other before b.list → AreRising before → (stray : ℕ) × KnowsStray before stray × (note ≡ notes (is_some wanted.slower && not b.timed) stray)
 
-    is_note : (items : List Placed) → b.timed ≡ (a.timed || have_time items) → Keeps wanted (numbered items) b.list → AreRising (numbered items) → (note : List ℕ) → IsKnown note → IsNote wanted items note
+    is_note : (items : List Placed) → b.timed ≡ (a.timed || have_time items) → Keeps front wanted (numbered items) b.list → AreRising (numbered items) → (note : List ℕ) → IsKnown note → IsNote wanted items note
     is_note items came kept rises note known =
         let h = known wanted (numbered items) kept rises in
         (h.0, h.1, h.2 ∙ ap (λ (t : Bool). notes (is_some wanted.slower && not t) h.0) (came ∙ ap (λ t. t || have_time items) untimed))
 
     pub lists_all : {N : (size : ℕ) → Type 0} (w2 : W) (e2 : E) (res : Result (Unit {0}) Cause) (due end : ExitStatus) → gathered_bytes b.gathered ≡ []
-        → ((other : Wanted) (before : List Numbered) → Keeps other before b.list → AreRising before → WritesRows (writing held failures b.first.now w2) other (ListsOpen before) res)
+        → ((other : Wanted) (before : List Numbered) → Keeps front other before b.list → AreRising before → WritesRows (writing held failures b.first.now w2) other (ListsOpen before) res)
         → EndsAs (writing second_held second_failures e1 e2) IsKnown due end res
         → Goes (taken (reading left calls read_failures packets r0 r1)) settings most false (FillsBy (TakesCalls held failures second_held second_failures) (λ _. false) a) N (TakesCalls held failures second_held second_failures a b) due
         → ListsThrough (reading left calls read_failures packets r0 r2) (writing held failures a.first.now w2) (writing second_held second_failures a.second.now e2) settings wanted most end

@@ -17,6 +17,7 @@ pub mod SameParts
 pub mod SameOutputs
 pub mod SameFar
 pub mod CallSteps
+pub mod SumSteps
 pub mod LineSteps
 pub mod SameRuns
 pub mod Files

@@ -12,10 +12,14 @@ use Rattle.dbus_value_model.specs.declared.limits.Limits.{Limits}
 use Rattle.dbus_count.specs.Counting.{Counting}
 use Rattle.dbus_count.specs.Spans.{span_text}
 use Rattle.dbus_count.specs.Tables.{AreTables, words, OneTable}
-use Rattle.dbus_call_lines.specs.Listing.{AreListed, rows_text}
+use Rattle.dbus_call_lines.specs.Keeping.{ended_rows}
+use Rattle.dbus_call_lines.specs.Listing.{AreListed, Row, rows_text}
 use Rattle.dbus_call_lines.specs.declared.wanted.Wanted.{Wanted}
 use Rattle.dbus_call_lines.proofs.Rows.{one_list}
 use Rattle.dbus_call_lines.proofs.Stray.{one_stray}
+use Rattle.dbus_call_members.specs.Summing.{members, sums}
+use Rattle.dbus_call_members.specs.Tables.{IsTable}
+use Rattle.dbus_call_members.proofs.OneTable.{one_table as one_member_table}
 use Rattle.dbus_stream.specs.Cut.{IsOutcome, BeginWith, CutMessage, CutOutcome, Refused, IsCut}
 use Rattle.dbus_stream.specs.CutEnds.{fault_at_end, sizes}
 use Rattle.dbus_stream.proofs.CutLaws.{IsCut-one, BeginWith-more}
@@ -24,9 +28,10 @@ use Rattle.cli_report.specs.Devices.{Reading, Taken, Writing, taken, writing}
 use Rattle.cli_report.specs.declared.ending.Cause.{Cause}
 use Rattle.cli_report.specs.declared.ending.ExitStatus.{ExitStatus}
 use Rattle.cli_report.specs.declared.ending.ExitStatus.TheVariants as status
-use Rattle.cli_run.specs.Laws.{AreToldAlike, ExplainsNone, GotAlike, OneCalls, OneCount, OneRun, OneWithin}
+use Rattle.cli_run.specs.Laws.{AreToldAlike, ExplainsNone, GotAlike, OneCalls, OneCount, OneRun, OneSums, OneWithin}
 use Rattle.cli_run.specs.ByName.{EndsBy, WritesTables, counting, span_of}
 use Rattle.cli_run.specs.CallListing.{EndsNoted, IsNote, WritesCalls, lack_times, notes, numbered}
+use Rattle.cli_run.specs.CallSumming.{WritesSums}
 use Rattle.cli_run.specs.Going.{AreTold, Goes, GoesFar, GoesThrough, IsThrough, IsToldLast, closing_line, cut_tally, passed_count, status_at, tally_of, tally_with}
 use Rattle.cli_run.specs.Inputs.{ArePlaced, BeginWithParts, Part, Placed, size_of, sizes_of, wholes}
 use Rattle.cli_run.specs.Needed.{IsReadFor}
@@ -384,6 +389,42 @@ one_calls R S W V E F r s w v e f settings wanted most more end other is packets
     | inr gave_up ↦ absurd (is.other_done gave_up.failed)
   ]
   | inr gave_up ↦ absurd (is.done gave_up.failed)
+]
+
+pub one_sums : (R S W V E F : Type 0) → OneSums R S W V E F
+one_sums R S W V E F r s w v e f settings wanted most more end other is packets lists listed = elim lists [
+  | inl g ↦ elim listed [
+    | inl h ↦ (
+        let input = is.input in
+        let due = (ended_noted (WritesSums w wanted g.through.messages) (IsNote wanted g.through.messages) (writing e.held e.failures g.before e.new) g.due end is.done g.through.came.1).4 in
+        let explains = due_explains settings g.due end due is.explains in
+        let all = goes_alike settings false input.0 input.1 g.through h.through explains input.2 input.3 (taken_alike r s end g.due (sym due) is.told) in
+        let items = all.0 in
+        let also = all.1 in
+        let told = all.2 in
+        let one = ended_noted (WritesSums w wanted items) (IsNote wanted items) (writing e.held e.failures g.before e.new) g.due end is.done all.3.1 in
+        let too = ended_noted (WritesSums v wanted also) (IsNote wanted also) (writing f.held f.failures h.before f.new) h.due other is.other_done all.4.1 in
+        let here = subst (λ (p : Option Packets). ArePlaced p 1 0 all.6 items) packets.one all.7 in
+        let there = subst (λ (p : Option Packets). ArePlaced p 1 0 all.6 also) packets.same all.8 in
+        let same = one_placed packets.all 1 0 all.6 also items there here in
+        let note = one_note wanted items one.1 too.1 one.2 (subst (λ (l : List Placed). IsNote wanted l too.1) same too.2) in
+        let listed_too = subst (λ (l : List Placed). AreListed [] (numbered l) too.0.1.0) same too.0.1.1 in
+        let rows = one_list (numbered items) one.0.1.0 too.0.1.0 one.0.1.1 listed_too in
+        let table = subst (λ (l : List Row). IsTable wanted.form (sums (ended_rows members wanted l)) too.0.0) (sym rows) too.0.1.2 in
+        let text : one.0.0 ≡ too.0.0 = one_member_table wanted.form (sums (ended_rows members wanted one.0.1.0)) one.0.0 too.0.0 one.0.1.2 table in
+        record {
+          status_is = too.4 ∙ (all.5 ∙ sym one.4);
+          first = (one.0.0, one.0.2, subst (λ l. Wrote v.held v.failures v.old l v.new) (sym text) too.0.2);
+          second = (
+            told ++ one.1,
+            wrote_both e.held e.failures told one.1 e.old g.before e.new all.3.0 one.3,
+            wrote_both f.held f.failures told one.1 f.old h.before f.new all.4.0 (subst (λ (t : List ℕ). Wrote f.held f.failures h.before t f.new) (sym note) too.3),
+          );
+        }
+        )
+    | inr gave_up ↦ absurd (is.other_done gave_up.0.failed)
+  ]
+  | inr gave_up ↦ absurd (is.done gave_up.0.failed)
 ]
 
 -- ---- runs under limits alone

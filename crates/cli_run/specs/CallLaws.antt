@@ -1,11 +1,12 @@
 -- The laws of the visitor that lists calls. They are here, and not in proofs/, because the trait's
 -- law names them.
 use Rattle.std.proofs.Common.{◌≡◌, ℕ, Bool, true, false, ◌||◌, is_some, List, [], ◌∷◌, ◌++◌, Option, refl, sym, ap, ◌∙◌, subst, append-nil, append_assoc}
+use Rattle.dbus_call_lines.specs.CallLines.{front}
 use Rattle.dbus_call_lines.specs.Keeping.{Keeps}
 use Rattle.dbus_call_lines.specs.Listing.{AreListedBy, AreRising, Numbered, Row, nth, rows_text}
 use Rattle.dbus_call_lines.proofs.Along.{listed_both}
 use Rattle.dbus_call_lines.proofs.Some.{front_rises}
-use Rattle.dbus_call_lines.proofs.Steps.{lines_both}
+use Rattle.dbus_call_lines.proofs.Written.{lines_both}
 use Rattle.cli_report.specs.Gathering.{Passes, gathered_bytes}
 use Rattle.cli_report.specs.PageLaws.{passes_both, passes_none}
 use Rattle.cli_run.specs.CallListing.{LeavesCalls, TakesCalls, have_time, number_and_time, numbered}
@@ -31,7 +32,7 @@ or_both : (x y z : Bool) → ((x || y) || z) ≡ (x || (y || z))
 or_both true y z = refl
 or_both false y z = refl
 
-times_both : (x : Bool) (s t : List Placed) → ((x || have_time s) || have_time t) ≡ (x || have_time (s ++ t))
+pub times_both : (x : Bool) (s t : List Placed) → ((x || have_time s) || have_time t) ≡ (x || have_time (s ++ t))
 times_both x [] t = ap (λ z. z || have_time t) (sym (or_false x))
 times_both x (m ∷ s) t = ap (λ z. z || have_time t) (sym (or_both x (is_some m.place.time) (have_time s))) ∙ (times_both (x || is_some m.place.time) s t ∙ or_both x (is_some m.place.time) (have_time (s ++ t)))
 
@@ -40,13 +41,13 @@ module _ (before : List Numbered) (s t : List Placed) where
   pub after_both : before ++ numbered (s ++ t) ≡ (before ++ numbered s) ++ numbered t
   after_both = ap (λ l. before ++ l) (numbered_both s t) ∙ sym (append_assoc before (numbered s) (numbered t))
 
-  rises_both : AreRising (before ++ numbered (s ++ t)) → AreRising ((before ++ numbered s) ++ numbered t)
+  pub rises_both : AreRising (before ++ numbered (s ++ t)) → AreRising ((before ++ numbered s) ++ numbered t)
   rises_both up = subst AreRising after_both up
 
-  rises_first : AreRising (before ++ numbered (s ++ t)) → AreRising (before ++ numbered s)
+  pub rises_first : AreRising (before ++ numbered (s ++ t)) → AreRising (before ++ numbered s)
   rises_first up = front_rises (before ++ numbered s) (numbered t) (rises_both up)
 
-  by_both : (a b : List Row) → AreListedBy before (numbered s) a → AreListedBy (before ++ numbered s) (numbered t) b → AreListedBy before (numbered (s ++ t)) (a ++ b)
+  pub by_both : (a b : List Row) → AreListedBy before (numbered s) a → AreListedBy (before ++ numbered s) (numbered t) b → AreListedBy before (numbered (s ++ t)) (a ++ b)
   by_both a b h k = subst (λ (l : List Numbered). AreListedBy before l (a ++ b)) (sym (numbered_both s t)) (listed_both before (numbered s) (numbered t) a b h k)
 
 module _ {W E : Type 0} (held : W → Option (List ℕ)) (failures : W → ℕ) (second_held : E → Option (List ℕ)) (second_failures : E → ℕ) where
@@ -61,7 +62,7 @@ module _ {W E : Type 0} (held : W → Option (List ℕ)) (failures : W → ℕ) 
     same_first = refl;
     same_second = refl;
     lists = λ wanted before keeps rising.
-        (subst (λ (l : List Numbered). Keeps wanted l a.list) (sym (append-nil before)) keeps, [], refl, passes_none held failures (gathered_bytes a.gathered) a.first.now);
+        (subst (λ (l : List Numbered). Keeps front wanted l a.list) (sym (append-nil before)) keeps, [], refl, passes_none held failures (gathered_bytes a.gathered) a.first.now);
     timed = or_false a.timed;
     tells = wrote_nothing second_held second_failures a.second.now;
   }
@@ -73,7 +74,7 @@ module _ {W E : Type 0} (held : W → Option (List ℕ)) (failures : W → ℕ) 
     lists = λ wanted before keeps rising.
         let first = h.lists wanted before keeps (rises_first before s t rising) in
         let more = k.lists wanted (before ++ numbered s) first.0 (rises_both before s t rising) in (
-          subst (λ (l : List Numbered). Keeps wanted l c.list) (sym (after_both before s t)) more.0,
+          subst (λ (l : List Numbered). Keeps front wanted l c.list) (sym (after_both before s t)) more.0,
           first.1 ++ more.1,
           by_both before s t first.1 more.1 first.2 more.2,
           subst (λ (l : List ℕ). Passes held failures l (gathered_bytes a.gathered) (gathered_bytes c.gathered) a.first.now c.first.now) (sym (lines_both wanted first.1 more.1))

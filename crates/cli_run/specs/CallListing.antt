@@ -3,6 +3,7 @@
 use Rattle.std.specs.Prelude.{◌≡◌, ◌⊎◌, ℕ, nat_eq, Bool, false, not, ◌||◌, ◌&&◌, if◌then◌else◌, codes, decimal, List, [], ◌∷◌, ◌++◌, map, Option, is_some, String, string_bytes, Result, Ok, Err}
 use Rattle.std.specs.declared.alloc.Global.{Global}
 use Rattle.dbus_device.specs.Device.{Stopped, Wrote}
+use Rattle.dbus_call_lines.specs.CallLines.{front}
 use Rattle.dbus_call_lines.specs.Keeping.{Keeps, KnowsStray}
 use Rattle.dbus_call_lines.specs.Listing.{AreListed, AreListedBy, AreRising, ListsOpen, Numbered, Row, nth, rows_text}
 use Rattle.dbus_call_lines.specs.declared.place.Place.{Place}
@@ -101,8 +102,8 @@ module _ {W E : Type 0} (held : W → Option (List ℕ)) (failures : W → ℕ) 
   pub record TakesCalls (old new : Lister W E) (items : List Placed) (told : List ℕ) : Type 0 where
     pub same_first : new.first.ghost_name ≡ old.first.ghost_name
     pub same_second : new.second.ghost_name ≡ old.second.ghost_name
-    pub lists : (wanted : Wanted) (before : List Numbered) → Keeps wanted before old.list → AreRising (before ++ numbered items)
-        → Keeps wanted (before ++ numbered items) new.list × (rows : List Row) × AreListedBy before (numbered items) rows
+    pub lists : (wanted : Wanted) (before : List Numbered) → Keeps front wanted before old.list → AreRising (before ++ numbered items)
+        → Keeps front wanted (before ++ numbered items) new.list × (rows : List Row) × AreListedBy before (numbered items) rows
         × Passes held failures (rows_text wanted rows) (gathered_bytes old.gathered) (gathered_bytes new.gathered) old.first.now new.first.now
     pub timed : new.timed ≡ (old.timed || have_time items)
     pub tells : Wrote second_held second_failures old.second.now told new.second.now
@@ -111,7 +112,7 @@ module _ {W E : Type 0} (held : W → Option (List ℕ)) (failures : W → ℕ) 
   pub record LeavesCalls (old new : Lister W E) (items : List Placed) (told : List ℕ) (stop : RunStop) : Type 0 where
     pub same_first : new.first.ghost_name ≡ old.first.ghost_name
     pub same_second : new.second.ghost_name ≡ old.second.ghost_name
-    pub lists : (wanted : Wanted) (before : List Numbered) → Keeps wanted before old.list → AreRising (before ++ numbered items)
+    pub lists : (wanted : Wanted) (before : List Numbered) → Keeps front wanted before old.list → AreRising (before ++ numbered items)
         → (rows : List Row) × AreListedBy before (numbered items) rows
         × LeavesFirst held failures false stop (rows_text wanted rows) (gathered_bytes old.gathered) old.first.now new.first.now
     pub tells : GotSecond second_held second_failures false stop told old.second.now new.second.now

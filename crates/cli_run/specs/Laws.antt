@@ -30,6 +30,7 @@ use Rattle.cli_run.specs.Output.{AreAlike, IsExact, IsFirstOutput, IsFront, IsOu
 use Rattle.dbus_call_lines.specs.declared.wanted.Wanted.{Wanted}
 use Rattle.cli_run.specs.ByName.{CountsByName}
 use Rattle.cli_run.specs.CallListing.{ListsCalls}
+use Rattle.cli_run.specs.CallSumming.{SumsCalls}
 use Rattle.cli_run.specs.Inputs.{Placed}
 use Rattle.cli_run.specs.LineListing.{AreLinesOf}
 use Rattle.cli_run.specs.LineNames.{first_names}
@@ -168,3 +169,8 @@ OneCalls R S W V E F = (r : Reading R) (s : Reading S) (w : Writing W) (v : Writ
 -- of each list of messages `list` has lines
 abbrev pub SomeLines : Type 0
 SomeLines = (wanted : WantedLines) (items : List Placed) → (lines : List (List ℕ)) × AreLinesOf wanted (first_names wanted.selection) [] items lines
+
+-- two runs that sum up calls, of the same packets
+abbrev pub OneSums : (R S W V E F : Type 0) → Type 0
+OneSums R S W V E F = (r : Reading R) (s : Reading S) (w : Writing W) (v : Writing V) (e : Writing E) (f : Writing F) (settings : Settings) (wanted : Wanted) (most more : ℕ) (end other : ExitStatus)
+    → AreOfOneInput r s settings end other → AreOfSamePackets r s → SumsCalls r w e settings wanted most end → SumsCalls s v f settings wanted more other → EndAlike w v e f end other

@@ -14,8 +14,10 @@ pub mod Going
 pub mod Running
 pub mod CallListing
 pub mod LineNames
+pub mod CallSumming
 pub mod LineListing
 pub mod LineLaws
 pub mod VisitorLaws
 pub mod CallLaws
+pub mod SumLaws
 pub mod Laws

@@ -4,6 +4,7 @@ ghost use Rattle.dbus_value_model.specs.declared.order.Order.{Order};
 ghost use Rattle.dbus_message_model.specs.Messages.{MessageTree};
 ghost use Rattle.dbus_header.specs.MessageOutcomes.{IsWhole};
 ghost use Rattle.dbus_validate.specs.Validating.{IsValidatedWhole};
+ghost use Rattle.dbus_call_lines.specs.CallLines.{front};
 ghost use Rattle.dbus_call_lines.specs.Keeping.{Keeps};
 ghost use Rattle.dbus_call_lines.specs.Listing.{AreRising, ListsAfter, ListsOpen, Numbered, nth};
 ghost use Rattle.dbus_call_lines.specs.declared.wanted.Wanted.{Wanted};
@@ -18,7 +19,7 @@ use crate::place::Lent;
 use crate::visitor::{MessageVisitor, write_text};
 use cli_options::Settings;
 use cli_report::{Cause, ExitStatus, OutputBuffer, Page, Unwritten, give_up, write_out};
-use dbus_call_lines::{CallList, Place, Wanted};
+use dbus_call_lines::{CallList, Lines, Place, Wanted};
 use dbus_stream::{MOST_READS, Sink, Source};
 use dbus_view::MessageView;
 use std::alloc::{AllocError, Global};
@@ -95,9 +96,9 @@ fn list_message<W: Sink>(
     requires { IsValidatedWhole lent.now.limits lent.now.bytes.now lent.now.validated }
     ensures lists { (order : Order) (m : MessageTree) →
         IsWhole lent.now.limits lent.now.bytes.now order m (length lent.now.bytes.now) →
-        (wanted : Wanted) (before : List Numbered) → Keeps wanted before list.old →
+        (wanted : Wanted) (before : List Numbered) → Keeps front wanted before list.old →
         AreRising (before ++ nth (number_and_time lent.now.place) m ∷ []) →
-        OnOk result (Keeps wanted (before ++ nth (number_and_time lent.now.place) m ∷ []) list.new) ×
+        OnOk result (Keeps front wanted (before ++ nth (number_and_time lent.now.place) m ∷ []) list.new) ×
         GathersRows (writing W.held W.failures first.old first.new) wanted
         (ListsAfter before (nth (number_and_time lent.now.place) m))
         (gathered_bytes gathered.old) (gathered_bytes gathered.new) result }
@@ -105,18 +106,20 @@ fn list_message<W: Sink>(
         (gathered_bytes gathered.old) (gathered_bytes gathered.new) result }
 {
     let view = MessageView::of_validated(lent.bytes, lent.limits, lent.validated);
-    let mut page = Page {
-        gathered,
-        first,
-        failed: false,
+    let mut lines = Lines {
+        draft: Page {
+            gathered,
+            first,
+            failed: false,
+        },
     };
     let place = Place {
         number: lent.place.number,
         time: lent.place.time,
     };
-    match list.take(&mut page, place, &view) {
+    match list.take(&mut lines, place, &view) {
         Ok(()) => {
-            if page.failed {
+            if lines.draft.failed {
                 Err(Cause::WriteFailed)
             } else {
                 Ok(())
@@ -169,8 +172,8 @@ pub fn list_calls<R: Source, W: Sink, E: Sink>(
     }
 }
 
-// Tells this note at the end, and returns the status that is due then.
-fn tell_note<E: Sink>(note: String, due: ExitStatus, second: &mut E) -> ExitStatus
+/// Tells this note at the end, and returns the status that is due then.
+pub(crate) fn tell_note<E: Sink>(note: String, due: ExitStatus, second: &mut E) -> ExitStatus
     ensures { TellsNote (writing E.held E.failures second.old second.new) (string_bytes note) due result }
 {
     match write_text(second, note.as_str()) {
@@ -179,9 +182,9 @@ fn tell_note<E: Sink>(note: String, due: ExitStatus, second: &mut E) -> ExitStat
     }
 }
 
-// What is told at the end: that no message has a time, if slow calls are wanted and none has; and
-// how many replies answer no call that was seen, if any.
-fn notes_of(alloc: Global, lacks_times: bool, stray: u64) -> Result<String, AllocError>
+/// What is told at the end: that no message has a time, if slow calls are wanted and none has; and
+/// how many replies answer no call that was seen, if any.
+pub(crate) fn notes_of(alloc: Global, lacks_times: bool, stray: u64) -> Result<String, AllocError>
     ensures { IfOk result (λ text. string_bytes text ≡ notes lacks_times stray) }
 {
     let times = times_note(lacks_times);
@@ -206,7 +209,7 @@ fn write_rest<W: Sink>(
     lacks_times: bool,
     first: &mut W,
 ) -> Result<String, Cause>
-    ensures { (wanted : Wanted) (before : List Numbered) → Keeps wanted before list →
+    ensures { (wanted : Wanted) (before : List Numbered) → Keeps front wanted before list →
         AreRising before → WritesRest (writing W.held W.failures first.old first.new) wanted before
         lacks_times result }
 {
@@ -221,7 +224,7 @@ fn write_rest<W: Sink>(
 
 // Writes the lines of the calls that wait at the end.
 fn write_waiting<W: Sink>(list: CallList, first: &mut W) -> Result<(), Cause>
-    ensures { (wanted : Wanted) (before : List Numbered) → Keeps wanted before list →
+    ensures { (wanted : Wanted) (before : List Numbered) → Keeps front wanted before list →
         AreRising before → WritesRows (writing W.held W.failures first.old first.new) wanted
         (ListsOpen before) result }
 {
@@ -241,20 +244,22 @@ fn gather_waiting<W: Sink>(
     gathered: &mut OutputBuffer,
     first: &mut W,
 ) -> Result<(), Cause>
-    ensures lists { (wanted : Wanted) (before : List Numbered) → Keeps wanted before list →
+    ensures lists { (wanted : Wanted) (before : List Numbered) → Keeps front wanted before list →
         AreRising before → GathersRows (writing W.held W.failures first.old first.new) wanted
         (ListsOpen before) (gathered_bytes gathered.old) (gathered_bytes gathered.new) result }
     ensures stays { StaysIfShort (writing W.held W.failures first.old first.new)
         (gathered_bytes gathered.old) (gathered_bytes gathered.new) result }
 {
-    let mut page = Page {
-        gathered,
-        first,
-        failed: false,
+    let mut lines = Lines {
+        draft: Page {
+            gathered,
+            first,
+            failed: false,
+        },
     };
-    match list.finish(&mut page) {
+    match list.finish(&mut lines) {
         Ok(()) => {
-            if page.failed {
+            if lines.draft.failed {
                 Err(Cause::WriteFailed)
             } else {
                 Ok(())

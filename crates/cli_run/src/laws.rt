@@ -2,7 +2,7 @@
 //! and it does nothing when it runs.
 #![tactic(auto)]
 
-ghost use Rattle.cli_run.specs.Laws.{OneCalls, OneCount, OneRun, OneWithin, OneFront, OneOutput, PlainRuns, SomeLines, SomeOutput, WritesFile};
+ghost use Rattle.cli_run.specs.Laws.{OneCalls, OneCount, OneRun, OneSums, OneWithin, OneFront, OneOutput, PlainRuns, SomeLines, SomeOutput, WritesFile};
 
 use dbus_count::laws::one_table;
 use dbus_stream::{Sink, Source};
@@ -68,4 +68,9 @@ pub fn one_calls<R, S, W, V, E, F>()
 /// Of each list of messages `list` has lines, of those that are selected.
 pub fn some_lines()
     ensures { SomeLines }
+{}
+
+/// The same of two runs that sum up calls.
+pub fn one_sums<R, S, W, V, E, F>()
+    ensures { OneSums R S W V E F }
 {}

@@ -2,12 +2,14 @@
 //!
 //! [`run_within`] runs a command under limits, with at most a given number of reads, [`run_with`]
 //! by settings, [`list_lines`] writes a line for each message, [`count_by_name`] counts messages by
-//! their names, and [`list_calls`] lists their calls. Each returns the exit status. `specs/` states
-//! what a command writes: of all but `Json` and lines it is a function of what it reads.
+//! their names, [`list_calls`] lists their calls, and [`sum_calls`] sums these up. Each returns the
+//! exit status. `specs/` states what a command writes: of all but `Json` and lines it is a function
+//! of what it reads.
 #![tactic(auto)]
 
 mod by_name;
 mod call_listing;
+mod call_summing;
 mod closing;
 mod counted;
 mod counting;
@@ -32,5 +34,6 @@ mod window;
 
 pub use by_name::count_by_name;
 pub use call_listing::list_calls;
+pub use call_summing::sum_calls;
 pub use line_listing::list_lines;
 pub use running::{run, run_reads, run_with, run_within};

@@ -10,15 +10,15 @@ use Rattle.dbus_calls.specs.OwnerChanges.{change_of}
 use Rattle.dbus_calls.specs.Kept.{waiting}
 use Rattle.dbus_calls.specs.Pairing.{run, stepped}
 use Rattle.dbus_calls.specs.Waiting.{Waiting, no_calls}
-use Rattle.dbus_call_lines.specs.Keeping.{Keeps, as_list, kept, kept_text}
-use Rattle.dbus_call_lines.specs.Listing.{AreThose, IsEnded, IsTaken, ListsAfter, Numbered, Row, is_unwanted, message_of, own_row, row, rows_text}
+use Rattle.dbus_call_lines.specs.Keeping.{EndedCall, Keeps, Texts, as_list, ended_kept, ended_rows, kept}
+use Rattle.dbus_call_lines.specs.Listing.{AreThose, IsEnded, IsTaken, ListsAfter, Numbered, Row, is_unwanted, message_of, own_row, row}
 use Rattle.dbus_call_lines.specs.Outcomes.{Outcome, outcome_by}
 use Rattle.dbus_call_lines.specs.Outcomes.Outcome.{Unwanted}
 use Rattle.dbus_call_lines.specs.declared.call_list.CallList.{CallList}
 use Rattle.dbus_call_lines.specs.declared.wanted.Wanted.{Wanted}
 use Rattle.dbus_call_lines.specs.declared.waiting_call.WaitingCall.{WaitingCall}
 use Rattle.dbus_call_lines.proofs.Rows.{either, here, none_in}
-use Rattle.dbus_call_lines.proofs.Steps.{AreKept, IsKept, kept_by, lines_kept, list_kept, run_push, to}
+use Rattle.dbus_call_lines.proofs.Steps.{AreKept, IsKept, kept_by, ended_of, list_kept, run_push, to}
 use Rattle.dbus_call_lines.proofs.Stray.{NextStray, knows_next}
 use Rattle.dbus_call_lines.proofs.Taken.{takes_ended}
 
@@ -74,33 +74,33 @@ module _ (before : List Numbered) (x : Numbered) (e : Event) (is : e ≡ event_o
   }
 
   -- its line, if the message has none of its own
-  pub lists_one : (wanted : Wanted) {S : Type 0} (gains : S → List ℕ → S → Type 0) (old new : S) (outcome : Outcome) (o : Option WaitingCall) (p : Option Numbered) → IsKept wanted o p
-      → ((call : Numbered) → IsTaken w e call ↔ (p ≡ Some call)) → outcome ≡ outcome_by x.place x.message → WantsNone e ≡ false → gains old (kept_text wanted outcome (as_list (option_map kept o))) new
-      → (rows : List Row) × ListsAfter before x rows × gains old (rows_text wanted rows) new
-  lists_one wanted {S} gains old new outcome o p same takes by none g =
+  pub lists_one : (texts : Texts) (wanted : Wanted) {S : Type 0} (gains : S → List EndedCall → S → Type 0) (old new : S) (outcome : Outcome) (o : Option WaitingCall) (p : Option Numbered) → IsKept texts wanted o p
+      → ((call : Numbered) → IsTaken w e call ↔ (p ≡ Some call)) → outcome ≡ outcome_by x.place x.message → WantsNone e ≡ false → gains old (ended_kept wanted outcome (as_list (option_map kept o))) new
+      → (rows : List Row) × ListsAfter before x rows × gains old (ended_rows texts wanted rows) new
+  lists_one texts wanted {S} gains old new outcome o p same takes by none g =
       let own : own_row before x ≡ [] = ap (λ b. if b then row Unwanted x ∷ [] else []) (not_unwanted x e is none) in
       let rows : List Row = map (row outcome) (as_list p) in
-      let text : kept_text wanted outcome (as_list (option_map kept o)) ≡ rows_text wanted rows
-      = ap (λ k. kept_text wanted outcome (as_list k)) same ∙ (ap (kept_text wanted outcome) (list_kept wanted p) ∙ lines_kept wanted outcome (as_list p)) in (
+      let text : ended_kept wanted outcome (as_list (option_map kept o)) ≡ ended_rows texts wanted rows
+      = ap (λ k. ended_kept wanted outcome (as_list k)) same ∙ (ap (ended_kept wanted outcome) (list_kept texts wanted p) ∙ ended_of texts wanted outcome (as_list p)) in (
         rows,
         record {
           calls = as_list p;
           calls_are = those p takes;
           rows_are = ap (λ (y : Outcome). map (row y) (as_list p)) by ∙ (sym (append-nil (map (row (outcome_by x.place x.message)) (as_list p))) ∙ ap (λ l. map (row (outcome_by x.place x.message)) (as_list p) ++ l) (sym own));
         },
-        subst (λ (t : List ℕ). gains old t new) text g,
+        subst (λ (t : List EndedCall). gains old t new) text g,
       )
 
   -- what is kept then
-  pub keeps_next : (wanted : Wanted) (list list' : CallList) → Keeps wanted before list → list'.wanted ≡ list.wanted → NextStray before x list.stray list'.stray → (u : Waiting WaitingCall)
-      → ((c : List ℕ) (s : ℕ) → waiting list'.open c s ≡ u c s) → AreKept wanted u (stepped to w e x) → Keeps wanted (before ++ x ∷ []) list'
+  pub keeps_next : (texts : Texts) (wanted : Wanted) (list list' : CallList) → Keeps texts wanted before list → list'.wanted ≡ list.wanted → NextStray before x list.stray list'.stray → (u : Waiting WaitingCall)
+      → ((c : List ℕ) (s : ℕ) → waiting list'.open c s ≡ u c s) → AreKept texts wanted u (stepped to w e x) → Keeps texts wanted (before ++ x ∷ []) list'
   unfolding Keeps
-  keeps_next wanted list list' keeps same next u are kept_then = (
+  keeps_next texts wanted list list' keeps same next u are kept_then = (
     same ∙ keeps.0,
-    kept_by wanted u (waiting list'.open) (stepped to w e x) (run message_of no_calls (before ++ x ∷ [])) are kept_then (run_push no_calls before x ∙ ap (λ f. stepped to w f x) (sym is)),
+    kept_by texts wanted u (waiting list'.open) (stepped to w e x) (run message_of no_calls (before ++ x ∷ [])) are kept_then (run_push no_calls before x ∙ ap (λ f. stepped to w f x) (sym is)),
     knows_next before x list.stray list'.stray keeps.2 next,
   )
 
-  pub are_kept : (wanted : Wanted) (list : CallList) → Keeps wanted before list → AreKept wanted (waiting list.open) w
+  pub are_kept : (texts : Texts) (wanted : Wanted) (list : CallList) → Keeps texts wanted before list → AreKept texts wanted (waiting list.open) w
   unfolding Keeps
-  are_kept wanted list keeps = keeps.1
+  are_kept texts wanted list keeps = keeps.1

@@ -18,13 +18,13 @@ use Rattle.dbus_calls.specs.Kept.{call_at, call_in, waiting}
 use Rattle.dbus_calls.specs.Pairing.{IsOpen, run}
 use Rattle.dbus_calls.specs.Waiting.{Waiting, no_calls}
 use Rattle.dbus_calls.proofs.Passes.{keeps_open}
-use Rattle.dbus_call_lines.specs.Keeping.{Keeps, WritesSorted, kept, kept_of}
-use Rattle.dbus_call_lines.specs.Listing.{AreRising, ListsOpen, Numbered, Row, message_of, row, rows_text}
+use Rattle.dbus_call_lines.specs.Keeping.{EndedCall, GainsSorted, Keeps, Texts, ended_rows, kept, kept_of}
+use Rattle.dbus_call_lines.specs.Listing.{AreRising, ListsOpen, Numbered, Row, message_of, row}
 use Rattle.dbus_call_lines.specs.Outcomes.Outcome.{Open}
 use Rattle.dbus_call_lines.specs.declared.call_list.CallList.{CallList}
 use Rattle.dbus_call_lines.specs.declared.waiting_call.WaitingCall.{WaitingCall}
 use Rattle.dbus_call_lines.specs.declared.wanted.Wanted.{Wanted}
-use Rattle.dbus_call_lines.proofs.OfCaller.{apart_of, call_kept, each_of, value_in, writes_those}
+use Rattle.dbus_call_lines.proofs.OfCaller.{apart_of, call_kept, each_of, value_in, gains_those}
 use Rattle.dbus_call_lines.proofs.Rows.{all_at, all_from, distinct_both, none_in, one_number, open_among}
 use Rattle.dbus_call_lines.proofs.Sorting.{Known, no_both, none_same, number, same, same_numbers}
 use Rattle.dbus_call_lines.proofs.Steps.{AreKept}
@@ -77,7 +77,7 @@ text_same a b is = is_eq-slice_cmp (string_bytes a) (string_bytes b) ∙ grind (
 numbers_same : (a b : ℕ) → a ≡ b → nat_eq a b ≡ true
 numbers_same a b is = grind arith
 
-module _ (wanted : Wanted) (before : List Numbered) (rising : AreRising before) where
+module _ (texts : Texts) (wanted : Wanted) (before : List Numbered) (rising : AreRising before) where
   abbrev w : Waiting Numbered
   w = run message_of no_calls before
 
@@ -92,7 +92,7 @@ module _ (wanted : Wanted) (before : List Numbered) (rising : AreRising before) 
   IsOf name n = WasOpen n × (name ≡ caller_of n.message)
 
   abbrev KnownOf : List ℕ → WaitingCall → Type 0
-  KnownOf name call = Known wanted (IsOf name) call
+  KnownOf name call = Known texts wanted (IsOf name) call
 
   -- a caller's calls are known, and no two are the same
   abbrev IsCaller : Entry → Type 0
@@ -117,41 +117,41 @@ module _ (wanted : Wanted) (before : List Numbered) (rising : AreRising before) 
   all_apart (e ∷ es) apart callers = distinct_both same (values_of e.1.entries) (values_in es) callers.0.0 (all_apart es apart.1 callers.1)
       (λ a b h k. apart_from e a (callers.0.1 a h) es apart.0 callers.1 b k)
 
-  all_known : (es : List Entry) → AllByRecursion IsCaller es → (call : WaitingCall) → Contains (values_in es) call → Known wanted WasOpen call
+  all_known : (es : List Entry) → AllByRecursion IsCaller es → (call : WaitingCall) → Contains (values_in es) call → Known texts wanted WasOpen call
   all_known [] callers call h = absurd (none_in call h)
   all_known (e ∷ es) callers call h = ⊎_elim
       (λ here. let k = callers.0.1 call here in (k.0, k.1.0, k.2))
       (λ later. all_known es callers.1 call later) (Contains-append_cases (values_of e.1.entries) (values_in es) call h)
 
   module _ (callers : BTreeMap (String Global) Calls) (ordered : IsOrdered string_cmp callers) (gets : All (λ e. get string_cmp callers e.0 ≡ Some e.1) callers.entries) (maps : AllByRecursion IsMap callers.entries)
-      (u : Waiting WaitingCall) (are : AreKept wanted u w) (kept_are : (c : List ℕ) (s : ℕ) → call_in (get_by_text callers c) s ≡ u c s) where
+      (u : Waiting WaitingCall) (are : AreKept texts wanted u w) (kept_are : (c : List ℕ) (s : ℕ) → call_in (get_by_text callers c) s ≡ u c s) where
     caller_at : (e : Entry) → get string_cmp callers e.0 ≡ Some e.1 → IsMap e → IsCaller e
     caller_at e got is =
         let name : List ℕ = string_bytes e.0 in
         let closed : (s : ℕ) → call_at e.1 s ≡ u name s = λ s. ap (λ (m : Option Calls). call_in m s) (sym got) ∙ kept_are name s in
         let by_key : (s : ℕ) (n : Numbered) → w name s ≡ Some n → IsOf name n = λ s n at. (let o = (keeps_open message_of before name s n).0 at in (o.0, o.1)) in
         let one_of : (a b : Numbered) → IsOf name a → IsOf name b → a.place.number ≡ b.place.number → a ≡ b = λ a b p q number. one a b p.0 q.0 number in
-        (apart_of wanted before (IsOf name) one_of name e.1 is.0 is.1 u are closed by_key, each_of wanted before (IsOf name) one_of name e.1 is.0 is.1 u are closed by_key)
+        (apart_of texts wanted before (IsOf name) one_of name e.1 is.0 is.1 u are closed by_key, each_of texts wanted before (IsOf name) one_of name e.1 is.0 is.1 u are closed by_key)
 
     callers_are : AllByRecursion IsCaller callers.entries
     callers_are = all_from IsCaller callers.entries (λ e h. caller_at e (All-contains (λ e. get string_cmp callers e.0 ≡ Some e.1) callers.entries e gets h) (all_at IsMap callers.entries e maps h))
 
-    all_open : (n : Numbered) → WasOpen n → (call : WaitingCall) × Contains (values_in callers.entries) call × (kept call ≡ kept_of wanted n)
+    all_open : (n : Numbered) → WasOpen n → (call : WaitingCall) × Contains (values_in callers.entries) call × (kept call ≡ kept_of texts wanted n)
     all_open n is =
         let name : List ℕ = caller_of n.message in
         let serial : ℕ = n.message.serial in
         let at : w name serial ≡ Some n = (keeps_open message_of before name serial n).1 (is, refl, refl) in
-        let k = call_kept wanted (u name serial) n (are name serial ∙ ap (option_map (kept_of wanted)) at) in
+        let k = call_kept texts wanted (u name serial) n (are name serial ∙ ap (option_map (kept_of texts wanted)) at) in
         (k.0, call_among (is_at (λ key. slice_cmp nat_cmp name (string_bytes key))) callers.entries serial k.0 (kept_are name serial ∙ k.1), k.2)
 
-    module _ {S : Type 0} (gains : S → List ℕ → S → Type 0) (old new : S) (h : WritesSorted gains wanted Open (values_in callers.entries) old new) where
-      pub lists_open : (rows : List Row) × ListsOpen before rows × gains old (rows_text wanted rows) new
+    module _ {S : Type 0} (gains : S → List EndedCall → S → Type 0) (old new : S) (h : GainsSorted gains wanted Open (values_in callers.entries) old new) where
+      pub lists_open : (rows : List Row) × ListsOpen before rows × gains old (ended_rows texts wanted rows) new
       lists_open =
-          let l = writes_those wanted WasOpen one (values_in callers.entries) (all_apart callers.entries (IsDistinct-from_sorted string_cmp (keys_of callers.entries) ordered) callers_are)
+          let l = gains_those texts wanted WasOpen one (values_in callers.entries) (all_apart callers.entries (IsDistinct-from_sorted string_cmp (keys_of callers.entries) ordered) callers_are)
           (all_known callers.entries callers_are) all_open gains Open old new h in
           (map (row Open) l.0, record { calls = l.0; calls_are = l.1; rows_are = refl }, l.2)
 
 -- by the form that the list keeps
-pub by_form : (wanted : Wanted) (before : List Numbered) (list : CallList) (P : Wanted → Type 0) → Keeps wanted before list → (AreKept list.wanted (waiting list.open) (run message_of no_calls before) → P list.wanted) → P wanted
+pub by_form : (texts : Texts) (wanted : Wanted) (before : List Numbered) (list : CallList) (P : Wanted → Type 0) → Keeps texts wanted before list → (AreKept texts list.wanted (waiting list.open) (run message_of no_calls before) → P list.wanted) → P wanted
 unfolding Keeps
-by_form wanted before list P keeps f = subst P keeps.0 (f (λ c s. subst (λ (z : Wanted). option_map kept (waiting list.open c s) ≡ option_map (kept_of z) (run message_of no_calls before c s)) (sym keeps.0) (keeps.1 c s)))
+by_form texts wanted before list P keeps f = subst P keeps.0 (f (λ c s. subst (λ (z : Wanted). option_map kept (waiting list.open c s) ≡ option_map (kept_of texts z) (run message_of no_calls before c s)) (sym keeps.0) (keeps.1 c s)))

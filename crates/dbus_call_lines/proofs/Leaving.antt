@@ -13,7 +13,7 @@ use Rattle.dbus_calls.specs.OwnerChanges.{change_of}
 use Rattle.dbus_calls.specs.Kept.{call_at, waiting}
 use Rattle.dbus_calls.specs.Pairing.{run}
 use Rattle.dbus_calls.specs.Waiting.{Waiting, no_calls, without_caller}
-use Rattle.dbus_call_lines.specs.Keeping.{Keeps, WritesSorted}
+use Rattle.dbus_call_lines.specs.Keeping.{EndedCall, GainsSorted, Keeps, Texts}
 use Rattle.dbus_call_lines.specs.Listing.{AreRising, IsEnded, IsTaken, Numbered, message_of, own_row, row}
 use Rattle.dbus_call_lines.specs.Outcomes.{Outcome, or_dash, outcome_by}
 use Rattle.dbus_call_lines.specs.Outcomes.Outcome.{Reply, Error, Unwanted, Left, Replaced}
@@ -22,7 +22,7 @@ use Rattle.dbus_call_lines.specs.declared.place.Place.{Place}
 use Rattle.dbus_call_lines.specs.declared.waiting_call.WaitingCall.{WaitingCall}
 use Rattle.dbus_call_lines.specs.declared.wanted.Wanted.{Wanted}
 use Rattle.dbus_call_lines.proofs.Ended.{are_kept, keeps_next, not_unwanted}
-use Rattle.dbus_call_lines.proofs.OfCaller.{all_of, apart_of, each_of, writes_those}
+use Rattle.dbus_call_lines.proofs.OfCaller.{all_of, apart_of, each_of, gains_those}
 use Rattle.dbus_call_lines.proofs.Rows.{one_number, open_among}
 use Rattle.dbus_call_lines.proofs.Steps.{left_kept}
 use Rattle.dbus_call_lines.proofs.Stray.{none_stray}
@@ -45,11 +45,11 @@ left_by : (x : Numbered) (c : List ℕ) → Leaves c ≡ event_of x.message → 
 left_by x c is = left_kind (x.message.kind == message.METHOD_CALL) (x.message.kind == message.METHOD_RETURN) (x.message.kind == message.ERROR) c (caller_of x.message) (replied_to x.message) x.message.serial
     (reply_serial_of x.message) x.place (wants_reply x.message) (sender_of x.message) (or_dash (text_at field.ERROR_NAME x.message)) (departed (change_of x.message)) is
 
-module _ (before : List Numbered) (x : Numbered) {S : Type 0} (gains : S → List ℕ → S → Type 0) (joins : (a b c : S) (s t : List ℕ) → gains a s b → gains b t c → gains a (s ++ t) c) (old new : S) (list list' : CallList)
-    (wanted : Wanted) (keeps : Keeps wanted before list) (same : list'.wanted ≡ list.wanted) (counted : list'.stray ≡ list.stray) (name : List ℕ) (is : Leaves name ≡ event_of x.message)
+module _ (texts : Texts) (before : List Numbered) (x : Numbered) {S : Type 0} (gains : S → List EndedCall → S → Type 0) (joins : (a b c : S) (s t : List EndedCall) → gains a s b → gains b t c → gains a (s ++ t) c) (old new : S) (list list' : CallList)
+    (wanted : Wanted) (keeps : Keeps texts wanted before list) (same : list'.wanted ≡ list.wanted) (counted : list'.stray ≡ list.stray) (name : List ℕ) (is : Leaves name ≡ event_of x.message)
     (left : (d : List ℕ) (t : ℕ) → waiting list'.open d t ≡ without_caller name (waiting list.open) d t) (rising : AreRising (before ++ x ∷ [])) (calls : BTreeMap ℕ WaitingCall)
     (ordered : IsOrdered nat_cmp calls) (gets : All (λ e. get nat_cmp calls e.0 ≡ Some e.1) calls.entries) (closed : (s : ℕ) → call_at calls s ≡ waiting list.open name s)
-    (h : WritesSorted gains list.wanted Left (values_of calls.entries) old new) where
+    (h : GainsSorted gains list.wanted Left (values_of calls.entries) old new) where
   abbrev w : Waiting Numbered
   w = run message_of no_calls before
 
@@ -66,15 +66,15 @@ module _ (before : List Numbered) (x : Numbered) {S : Type 0} (gains : S → Lis
   by_end n ended = subst (λ e. IsTaken w e n) (sym is) ((takes_ended before x n).0 ended)
 
   -- a caller that leaves, of which calls wait
-  pub leaves_some : Result before x gains joins old new list list' wanted
-  leaves_some = by_wanted before x gains joins old new list list' wanted keeps (λ k.
+  pub leaves_some : Result texts before x gains joins old new list list' wanted
+  leaves_some = by_wanted texts before x gains joins old new list list' wanted keeps (λ k.
       let u : Waiting WaitingCall = waiting list.open in
-      let are = are_kept before x (Leaves name) is list.wanted list k in
-      let l = writes_those list.wanted Ended one (values_of calls.entries) (apart_of list.wanted before Ended one name calls ordered gets u are closed by_key)
-      (each_of list.wanted before Ended one name calls ordered gets u are closed by_key)
-      (λ n ended. let at = by_end n ended in all_of list.wanted before Ended one name calls ordered gets u are closed by_key at.0 n at.1) gains Left old new h in
+      let are = are_kept before x (Leaves name) is texts list.wanted list k in
+      let l = gains_those texts list.wanted Ended one (values_of calls.entries) (apart_of texts list.wanted before Ended one name calls ordered gets u are closed by_key)
+      (each_of texts list.wanted before Ended one name calls ordered gets u are closed by_key)
+      (λ n ended. let at = by_end n ended in all_of texts list.wanted before Ended one name calls ordered gets u are closed by_key at.0 n at.1) gains Left old new h in
       let own : own_row before x ≡ [] = ap (λ b. if b then row Unwanted x ∷ [] else []) (not_unwanted x (Leaves name) is refl) in (
-        keeps_next before x (Leaves name) is list.wanted list list' k same (inr (none_stray before x (Leaves name) is refl, counted)) (without_caller name u) left (left_kept list.wanted u w are name 0),
+        keeps_next before x (Leaves name) is texts list.wanted list list' k same (inr (none_stray before x (Leaves name) is refl, counted)) (without_caller name u) left (left_kept texts list.wanted u w are name 0),
         map (row Left) l.0,
         record {
           calls = l.0;

@@ -4,6 +4,7 @@ pub mod Printed
 pub mod Taken
 pub mod Steps
 pub mod Stray
+pub mod Written
 mod Ended
 mod Takes
 mod Sorting

@@ -8,7 +8,7 @@ use Rattle.std.specs.Ordering.{is_lt, nat_cmp}
 use Rattle.std.proofs.lemmas.List.Sorted.{Contains-permutation, IsPermutation-sym, ranks_by, sorted_far}
 use Rattle.std.proofs.lemmas.Bool.Decides.{nat_tests}
 use Rattle.std.proofs.lemmas.Map.Keys.{IsDistinct-IsPermutation}
-use Rattle.dbus_call_lines.specs.Keeping.{KeptCall, kept, kept_of}
+use Rattle.dbus_call_lines.specs.Keeping.{KeptCall, Texts, kept, kept_of}
 use Rattle.dbus_call_lines.specs.Listing.{AreRising, AreThose, Numbered}
 use Rattle.dbus_call_lines.specs.declared.wanted.Wanted.{Wanted}
 use Rattle.dbus_call_lines.specs.declared.waiting_call.WaitingCall.{WaitingCall}
@@ -50,59 +50,59 @@ strict (w ∷ ws) up apart = (
   strict ws (tail_sorted w ws up) apart.1,
 )
 
-module _ (wanted : Wanted) (Is : Numbered → Type 0) where
+module _ (texts : Texts) (wanted : Wanted) (Is : Numbered → Type 0) where
   -- the calls of which these are kept
   pub record Behind (ws : List WaitingCall) : Type 0 where
     pub calls : List Numbered
-    pub texts : map (kept_of wanted) calls ≡ map kept ws
+    pub alike : map (kept_of texts wanted) calls ≡ map kept ws
     pub are : (n : Numbered) → Contains calls n → Is n
-    pub each : (w : WaitingCall) → Contains ws w → (n : Numbered) × Contains calls n × (kept w ≡ kept_of wanted n)
+    pub each : (w : WaitingCall) → Contains ws w → (n : Numbered) × Contains calls n × (kept w ≡ kept_of texts wanted n)
 
   abbrev pub Known : WaitingCall → Type 0
-  Known w = (n : Numbered) × Is n × (kept w ≡ kept_of wanted n)
+  Known w = (n : Numbered) × Is n × (kept w ≡ kept_of texts wanted n)
 
   pub behind : (ws : List WaitingCall) → ((w : WaitingCall) → Contains ws w → Known w) → Behind ws
-  behind [] known = record { calls = []; texts = refl; are = λ n h. absurd (none_in n h); each = λ w h. absurd (none_in w h) }
+  behind [] known = record { calls = []; alike = refl; are = λ n h. absurd (none_in n h); each = λ w h. absurd (none_in w h) }
   behind (w ∷ ws) known =
       let first = known w (here w ws) in
       let rest : Behind ws = behind ws (λ v h. known v (there w ws v h)) in
       record {
         calls = first.0 ∷ rest.calls;
-        texts = λ i. sym first.2 i ∷ rest.texts i;
+        alike = λ i. sym first.2 i ∷ rest.alike i;
         are = λ n h. ⊎_elim (λ is. subst Is is first.1) (λ more. rest.are n more) (either first.0 rest.calls n h);
         each = λ v h. ⊎_elim
-            (λ is. (first.0, here first.0 rest.calls, subst (λ (z : WaitingCall). kept z ≡ kept_of wanted first.0) is first.2))
+            (λ is. (first.0, here first.0 rest.calls, subst (λ (z : WaitingCall). kept z ≡ kept_of texts wanted first.0) is first.2))
             (λ more. let e = rest.each v more in (e.0, there first.0 rest.calls e.0 e.1, e.2)) (either w ws v h);
       }
 
-  numbers_above : (w : WaitingCall) (ws : List WaitingCall) (n : Numbered) (ns : List Numbered) → kept_of wanted n ≡ kept w → map (kept_of wanted) ns ≡ map kept ws
+  numbers_above : (w : WaitingCall) (ws : List WaitingCall) (n : Numbered) (ns : List Numbered) → kept_of texts wanted n ≡ kept w → map (kept_of texts wanted) ns ≡ map kept ws
       → AllByRecursion (λ (y : WaitingCall). nat_cmp (number w) (number y) ≡ Less) ws → AllByRecursion (λ (y : Numbered). nat_cmp n.place.number y.place.number ≡ Less) ns
-  numbers_above w [] n [] is texts all = tt
-  numbers_above w [] n (m ∷ ms) is texts all = absurd (no_cons (kept_of wanted m) (map (kept_of wanted) ms) texts)
+  numbers_above w [] n [] is alike all = tt
+  numbers_above w [] n (m ∷ ms) is alike all = absurd (no_cons (kept_of texts wanted m) (map (kept_of texts wanted) ms) alike)
     where
       no_cons : (k : KeptCall) (ks : List KeptCall) → k ∷ ks ≡ [] → ⊥
       no_cons k ks is = cc
-  numbers_above w (v ∷ vs) n [] is texts all = tt
-  numbers_above w (v ∷ vs) n (m ∷ ms) is texts all =
-      let heads : kept_of wanted m ≡ kept v = cc in
-      let tails : map (kept_of wanted) ms ≡ map kept vs = cc in
+  numbers_above w (v ∷ vs) n [] is alike all = tt
+  numbers_above w (v ∷ vs) n (m ∷ ms) is alike all =
+      let heads : kept_of texts wanted m ≡ kept v = cc in
+      let tails : map (kept_of texts wanted) ms ≡ map kept vs = cc in
       (ap (λ a. nat_cmp a m.place.number) (ap (λ k. k.place.number) is) ∙ (ap (λ a. nat_cmp (number w) a) (ap (λ k. k.place.number) heads) ∙ all.0), numbers_above w vs n ms is tails all.1)
 
-  numbers_rise : (ws : List WaitingCall) (ns : List Numbered) → map (kept_of wanted) ns ≡ map kept ws → IsStrictlySortedBy (λ (a b : WaitingCall). nat_cmp (number a) (number b)) ws → AreRising ns
+  numbers_rise : (ws : List WaitingCall) (ns : List Numbered) → map (kept_of texts wanted) ns ≡ map kept ws → IsStrictlySortedBy (λ (a b : WaitingCall). nat_cmp (number a) (number b)) ws → AreRising ns
   unfolding IsStrictlySortedBy
-  numbers_rise ws [] texts up = tt
-  numbers_rise [] (n ∷ ns) texts up = absurd (no_cons (kept_of wanted n) (map (kept_of wanted) ns) texts)
+  numbers_rise ws [] alike up = tt
+  numbers_rise [] (n ∷ ns) alike up = absurd (no_cons (kept_of texts wanted n) (map (kept_of texts wanted) ns) alike)
     where
       no_cons : (k : KeptCall) (ks : List KeptCall) → k ∷ ks ≡ [] → ⊥
       no_cons k ks is = cc
-  numbers_rise (w ∷ ws) (n ∷ ns) texts up =
-      let heads : kept_of wanted n ≡ kept w = cc in
-      let tails : map (kept_of wanted) ns ≡ map kept ws = cc in
+  numbers_rise (w ∷ ws) (n ∷ ns) alike up =
+      let heads : kept_of texts wanted n ≡ kept w = cc in
+      let tails : map (kept_of texts wanted) ns ≡ map kept ws = cc in
       (numbers_above w ws n ns heads tails up.0, numbers_rise ws ns tails up.1)
 
   -- kept, each once, and sorted: these are all
   module _ (one : (a b : Numbered) → Is a → Is b → a.place.number ≡ b.place.number → a ≡ b) (values sorted : List WaitingCall) (moved : IsPermutation values sorted) (up : IsSortedBy later sorted)
-      (apart : IsDistinct same values) (known : (w : WaitingCall) → Contains values w → Known w) (all : (n : Numbered) → Is n → (w : WaitingCall) × Contains values w × (kept w ≡ kept_of wanted n)) where
+      (apart : IsDistinct same values) (known : (w : WaitingCall) → Contains values w → Known w) (all : (n : Numbered) → Is n → (w : WaitingCall) × Contains values w × (kept w ≡ kept_of texts wanted n)) where
     pub found : Behind sorted
     found = behind sorted (λ w h. known w (Contains-permutation sorted values w (IsPermutation-sym values sorted moved) h))
 
@@ -115,7 +115,7 @@ module _ (wanted : Wanted) (Is : Numbered → Type 0) where
             let m = found.each w.0 (Contains-permutation values sorted w.0 moved w.1) in
             subst (λ (z : Numbered). Contains found.calls z) (one m.0 n (found.are m.0 m.1) is (ap (λ k. k.place.number) (sym m.2 ∙ w.2))) m.1,
       );
-      rising = numbers_rise sorted found.calls found.texts (strict sorted up (IsDistinct-IsPermutation same flips values sorted moved apart));
+      rising = numbers_rise sorted found.calls found.alike (strict sorted up (IsDistinct-IsPermutation same flips values sorted moved apart));
     }
 
 pub none_same : (b : Bool) → (b ≡ true → ⊥) → b ≡ false
@@ -130,10 +130,10 @@ same_numbers a b is = grind (arith, nat_tests)
 
 -- ---- the calls of a map, of which each has its own key
 
-module _ (wanted : Wanted) (Is : Numbered → Type 0) (one : (a b : Numbered) → Is a → Is b → a.place.number ≡ b.place.number → a ≡ b) {K : Type 0} (eq : K → K → Bool) (Key : K → Numbered → Type 0)
+module _ (texts : Texts) (wanted : Wanted) (Is : Numbered → Type 0) (one : (a b : Numbered) → Is a → Is b → a.place.number ≡ b.place.number → a ≡ b) {K : Type 0} (eq : K → K → Bool) (Key : K → Numbered → Type 0)
     (keys : (j k : K) (n : Numbered) → Key j n → Key k n → eq j k ≡ true) where
   abbrev pub KnownAt : K × WaitingCall → Type 0
-  KnownAt e = (n : Numbered) × Is n × (kept e.1 ≡ kept_of wanted n) × Key e.0 n
+  KnownAt e = (n : Numbered) × Is n × (kept e.1 ≡ kept_of texts wanted n) × Key e.0 n
 
   abbrev pub AreKnown : List (K × WaitingCall) → Type 0
   AreKnown es = AllByRecursion KnownAt es
@@ -153,8 +153,8 @@ module _ (wanted : Wanted) (Is : Numbered → Type 0) (one : (a b : Numbered) �
   distinct_values [] apart known = tt
   distinct_values (e ∷ es) apart known = (apart_values e known.0 es apart.0 known.1, distinct_values es apart.1 known.1)
 
-  pub values_known : (es : List (K × WaitingCall)) → AreKnown es → (w : WaitingCall) → Contains (values_of es) w → Known wanted Is w
+  pub values_known : (es : List (K × WaitingCall)) → AreKnown es → (w : WaitingCall) → Contains (values_of es) w → Known texts wanted Is w
   values_known [] known w h = absurd (none_in w h)
   values_known (e ∷ es) known w h = ⊎_elim
-      (λ is. (known.0.0, known.0.1, subst (λ (z : WaitingCall). kept z ≡ kept_of wanted known.0.0) is known.0.2))
+      (λ is. (known.0.0, known.0.1, subst (λ (z : WaitingCall). kept z ≡ kept_of texts wanted known.0.0) is known.0.2))
       (λ rest. values_known es known.1 w rest) (either e.1 (values_of es) w h)

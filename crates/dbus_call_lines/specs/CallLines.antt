@@ -23,11 +23,15 @@ abbrev pub member_text : (interface name : Option (List ℕ)) → List ℕ
 member_text None name = or_dash name
 member_text (Some interface) name = interface ++ (codes "." ++ or_dash name)
 
+-- the member that a call names
+abbrev pub called : MessageTree → List ℕ
+called call = member_text (text_at field.INTERFACE call) (text_at field.MEMBER call)
+
 -- the call: its number, who sent it to whom, and its member
 abbrev pub call_text : (number : ℕ) → MessageTree → List ℕ
 call_text number call =
     decimal number ++ (codes " " ++ (or_dash (sender_of call) ++ (codes " > " ++ (or_dash (destination_of call)
-    ++ (codes " " ++ member_text (text_at field.INTERFACE call) (text_at field.MEMBER call))))))
+    ++ (codes " " ++ called call)))))
 
 -- how long it took, if that is known
 abbrev pub took_text : Option Elapsed → List ℕ

@@ -3,3 +3,4 @@ pub mod Outcomes
 pub mod CallLines
 pub mod Listing
 pub mod Keeping
+pub mod LineSink

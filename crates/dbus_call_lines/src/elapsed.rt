@@ -39,8 +39,8 @@ pub fn time_between(from: Option<u64>, to: Option<u64>) -> Option<Elapsed>
 }
 
 /// Appends it in milliseconds with three digits behind the point, and leaves out what is behind
-/// them.
-pub(crate) fn write_milliseconds<D: Draft>(draft: &mut D, elapsed: Elapsed)
+/// them. It allocates nothing.
+pub fn write_milliseconds<D: Draft>(draft: &mut D, elapsed: Elapsed)
     ensures { D.gains draft.old (milliseconds_text elapsed) draft.new }
 {
     draft.push_str(sign_of(elapsed));
@@ -49,8 +49,9 @@ pub(crate) fn write_milliseconds<D: Draft>(draft: &mut D, elapsed: Elapsed)
     write_three_digits(draft, elapsed.nanoseconds / 1_000);
 }
 
-/// Appends it in milliseconds with six digits behind the point, which leave nothing out.
-pub(crate) fn write_exact<D: Draft>(draft: &mut D, elapsed: Elapsed)
+/// Appends it in milliseconds with six digits behind the point, which leave nothing out. It
+/// allocates nothing.
+pub fn write_exact<D: Draft>(draft: &mut D, elapsed: Elapsed)
     ensures { D.gains draft.old (exact_text elapsed) draft.new }
 {
     write_milliseconds(draft, elapsed);

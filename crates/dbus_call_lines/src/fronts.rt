@@ -6,7 +6,7 @@ ghost use Rattle.dbus_value_model.specs.declared.order.Order.{Order};
 ghost use Rattle.dbus_message_model.specs.Messages.{MessageTree};
 ghost use Rattle.dbus_json.specs.JsonValues.{listed};
 ghost use Rattle.dbus_view.specs.Views.{Views};
-ghost use Rattle.dbus_call_lines.specs.CallLines.{behind_commas, call_members, call_text, front, member_if, member_text};
+ghost use Rattle.dbus_call_lines.specs.CallLines.{behind_commas, call_members, call_text, called, front, member_if, member_text};
 
 use crate::form::Form;
 use crate::place::Place;
@@ -37,11 +37,20 @@ fn write_call<D: Draft>(draft: &mut D, number: u64, view: &MessageView)
     draft.push_str(" > ");
     draft.push_str(view.destination().unwrap_or("-"));
     draft.push_str(" ");
-    write_member(draft, view.interface(), view.member());
+    write_member(draft, view);
+}
+
+/// Appends the member that the call of the view names, behind its interface if it names one. It
+/// allocates nothing. D-Bus Specification, "Message Types" ("Method Calls").
+pub fn write_member<D: Draft>(draft: &mut D, view: &MessageView)
+    ensures { (order : Order) (m : MessageTree) → Views view.now order m →
+        D.gains draft.old (called m) draft.new }
+{
+    write_names(draft, view.interface(), view.member());
 }
 
 // Appends a member, behind its interface if it has one.
-fn write_member<D: Draft>(draft: &mut D, interface: Option<&str>, name: Option<&str>)
+fn write_names<D: Draft>(draft: &mut D, interface: Option<&str>, name: Option<&str>)
     ensures { D.gains draft.old (member_text (option_map (λ t. t.now) interface.entry) (option_map (λ t. t.now) name.entry)) draft.new }
 {
     let name = name.unwrap_or("-");

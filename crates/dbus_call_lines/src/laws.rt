@@ -3,12 +3,19 @@
 #![tactic(auto)]
 
 ghost use Rattle.dbus_call_lines.specs.CallLines.{HasTwoParts};
+ghost use Rattle.dbus_call_lines.specs.Keeping.{AreLines};
 ghost use Rattle.dbus_call_lines.specs.Listing.{OneLineEach, OneList, OnlyPrinted, SomeList, TakesEnded};
 
 /// The line of a call is its front, which says nothing of what came of the call, and its end, which
 /// says that alone.
 pub fn two_parts()
     ensures { HasTwoParts }
+{}
+
+/// What [`Lines`](crate::Lines) writes of the calls that a list adds is the lines of those that are
+/// wanted.
+pub fn are_lines()
+    ensures { AreLines }
 {}
 
 /// Each METHOD_CALL of an input is listed exactly once, and nothing else is: once it is known what

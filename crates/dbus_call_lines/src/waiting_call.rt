@@ -20,8 +20,8 @@ pub(crate) struct CallParts {
     pub(crate) place: Place,
     /// Its DESTINATION, if it has one.
     pub(crate) destination: Option<String>,
-    /// Its line, as far as it says nothing of what came of the call.
-    pub(crate) front: String,
+    /// What its sink keeps of it.
+    pub(crate) text: String,
 }
 
 impl Sent for WaitingCall {

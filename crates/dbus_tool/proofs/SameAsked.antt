@@ -266,10 +266,11 @@ same_form written.Text written.Json p q = p.1 (q.0 refl)
 same_wanted : (rows : List Row) (a b : WantedCalls) → HasWanted rows a → HasWanted rows b → a ≡ b
 same_wanted rows a b p q =
     let as_json = same_flag a.as_json b.as_json p.as_json q.as_json in
+    let by_member = same_flag a.by_member b.by_member p.by_member q.by_member in
     let unanswered = same_flag a.unanswered b.unanswered p.unanswered q.unanswered in
     let errors = same_flag a.errors b.errors p.errors q.errors in
     let slower = same_given _ a.slower b.slower p.slower q.slower in
-    λ i. record { as_json = as_json i; unanswered = unanswered i; errors = errors i; slower = slower i }
+    λ i. record { as_json = as_json i; by_member = by_member i; unanswered = unanswered i; errors = errors i; slower = slower i }
 
 no_count : (name : Text) (rows : List Row) (command : Command) → NamesCommand name rows command → name ≡ codes "count" → ⊥
 no_count name rows (Show times escapes) p e = omega (arith, ap mark p.0, ap mark e)

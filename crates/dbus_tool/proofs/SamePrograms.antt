@@ -1,5 +1,5 @@
 -- Two runs of the program by words that name one way, over the same input, end alike.
-use Rattle.std.proofs.Common.{◌≡◌, ◌≢◌, ℕ, Bool, false, ◌&&◌, List, [], ◌∷◌, ◌++◌, None, Some, Option, Result, Ok, Err, IfOk, string_bytes, codes, refl, sym, ap, ◌∙◌, subst, arith, inl, inr, append-nil}
+use Rattle.std.proofs.Common.{◌≡◌, ◌≢◌, ℕ, Bool, true, false, ◌&&◌, List, [], ◌∷◌, ◌++◌, None, Some, Option, Result, Ok, Err, IfOk, string_bytes, codes, refl, sym, ap, ◌∙◌, subst, arith, inl, inr, append-nil}
 use Rattle.std.specs.Io.KnownBytes.{Appends}
 use Rattle.std.specs.declared.alloc.Global.{Global}
 use Rattle.clap.specs.Words.{Row, Text, subcommand_of}
@@ -41,19 +41,20 @@ use Rattle.cli_options.specs.declared.wanted_calls.WantedCalls.{WantedCalls}
 use Rattle.cli_options.specs.declared.usage_fault.RefusedRule.{RefusedRule}
 use Rattle.cli_options.specs.declared.usage_fault.UsageFault.{UsageFault}
 use Rattle.cli_options.specs.declared.usage_fault.UsageFault.TheVariants.{Memory, Help, Version, Usage, Rule as BadRule}
-use Rattle.cli_report.specs.Devices.{Writing, writing}
+use Rattle.cli_report.specs.Devices.{Reading, Writing, writing}
 use Rattle.cli_report.specs.declared.ending.ExitStatus.{ExitStatus}
 use Rattle.cli_report.specs.declared.ending.ExitStatus.TheVariants as status
 use Rattle.cli_report.specs.Gathering.{Passes}
 use Rattle.cli_report.specs.declared.gathering.Unwritten.{Unwritten}
-use Rattle.cli_run.specs.Laws.{AreToldAlike, EndAlike, GotAlike, ReadAlike}
+use Rattle.cli_run.specs.Laws.{AreOfOneInput, AreOfSamePackets, AreToldAlike, EndAlike, GotAlike, ReadAlike}
+use Rattle.dbus_call_lines.specs.declared.wanted.Wanted.{Wanted}
 use Rattle.cli_run.specs.Output.{AreAlike, IsExact, form_of}
 use Rattle.cli_run.proofs.SameOutputs.{acts_as}
 use Rattle.cli_run.specs.VisitorLaws.{wrote_nothing}
-use Rattle.cli_run.proofs.SameRuns.{one_calls, one_count, one_run}
+use Rattle.cli_run.proofs.SameRuns.{one_calls, one_count, one_run, one_sums}
 use Rattle.dbus_tool.specs.Alike.{AreOfSamePacketsFrom, AskAlike, IsOneWay, NameOneWay, OneProgram, RunAlike, TellAlike}
 use Rattle.dbus_tool.specs.Handshaking.{TakesHandshake, TellsHandshake, ahead, handshake_line, EndsList, IsListed, Lengthens, Lists, WritesLines, last_line}
-use Rattle.dbus_tool.specs.Words.{Does, DoesBy, DoesTask, Notes, RunsNoted, calls_wanted, table_form}
+use Rattle.dbus_tool.specs.Words.{Does, DoesBy, DoesCalls, DoesTask, Notes, RunsNoted, calls_wanted, table_form}
 use Rattle.dbus_tool.specs.declared.words.Task.{Task}
 use Rattle.dbus_tool.specs.declared.words.Task.TheVariants.{Run, CountAll, ListAll}
 use Rattle.dbus_tool.proofs.SameAsked.{AreSameAsked, mark, mark_of, marked, same_asked}
@@ -298,10 +299,15 @@ module _ {R S W V E F : Type 0} (one_table : OneTable) (left : R → Option (Lis
       (one_count (ReadAhead R) (ReadAhead S) W V E F one_table (ahead left calls failures packets packet r r1) (ahead other_left other_calls other_failures other_packets other_packet s s1) w v e f settings (table_form form) _ _ end other
       (record { input = here; told = inl (same r s taken also); explains = inl off; done = done; other_done = other_done }) does doing).1 (same r s taken also))
 
+  either_alike : (r : Reading (ReadAhead R)) (s : Reading (ReadAhead S)) (settings : Settings) (by_member : Bool) (wanted : Wanted) → AreOfOneInput r s settings end other → AreOfSamePackets r s → DoesCalls r w e settings by_member wanted end
+      → DoesCalls s v f settings by_member wanted other → EndAlike w v e f end other
+  either_alike r s settings true wanted is same does doing = one_sums (ReadAhead R) (ReadAhead S) W V E F r s w v e f settings wanted _ _ end other is same does doing
+  either_alike r s settings false wanted is same does doing = one_calls (ReadAhead R) (ReadAhead S) W V E F r s w v e f settings wanted _ _ end other is same does doing
+
   called_alike : (settings : Settings) (wanted : WantedCalls) → SameFrom settings → settings.explains ≡ false → DoesTask left calls failures packets packet r0 r1 w e settings (ListAll wanted) end
       → DoesTask other_left other_calls other_failures other_packets other_packet s0 s1 v f settings (ListAll wanted) other → EndAlike w v e f end other
   called_alike settings wanted same off = tasks_alike settings (ListAll wanted) (ListAll wanted) (λ r s taken also here does doing.
-      one_calls (ReadAhead R) (ReadAhead S) W V E F (ahead left calls failures packets packet r r1) (ahead other_left other_calls other_failures other_packets other_packet s s1) w v e f settings (calls_wanted wanted) _ _ end other
+      either_alike (ahead left calls failures packets packet r r1) (ahead other_left other_calls other_failures other_packets other_packet s s1) settings wanted.by_member (calls_wanted wanted)
       (record { input = here; told = inl (same r s taken also); explains = inl off; done = done; other_done = other_done }) (same r s taken also) does doing)
 
   alike : (a b : Asked) → AreSameAsked a b → IsOneWay a → AskAlike left calls failures packets packet other_left other_calls other_failures other_packets other_packet r0 r1 s0 s1 end a → Does left calls failures packets packet r0 r1 w e (Ok a) end → Does other_left other_calls other_failures other_packets other_packet s0 s1 v f (Ok b) other → EndAlike w v e f end other

@@ -14,6 +14,7 @@ use Rattle.cli_options.specs.Told.{TellsFault}
 use Rattle.cli_options.specs.Owners.{lacks_owner, selection_lacks_owner}
 use Rattle.cli_run.specs.ByName.{CountsByName}
 use Rattle.cli_run.specs.CallListing.{ListsCalls}
+use Rattle.cli_run.specs.CallSumming.{SumsCalls}
 use Rattle.cli_run.specs.LineListing.{ListsLines}
 use Rattle.cli_report.specs.Devices.{Reading, Writing, writing}
 use Rattle.cli_run.specs.Running.{RunsWith}
@@ -72,12 +73,17 @@ table_form asked.Json = written.Json
 abbrev pub calls_wanted : WantedCalls → Wanted
 calls_wanted wanted = record { form = if wanted.as_json then InJson else InWords; unanswered = wanted.unanswered; errors = wanted.errors; slower = wanted.slower }
 
+-- calls are summed up by their members, or listed
+abbrev pub DoesCalls : {R W E : Type 0} → Reading R → Writing W → Writing E → Settings → (by_member : Bool) → Wanted → ExitStatus → Type 0
+DoesCalls r w e settings true wanted end = SumsCalls r w e settings wanted (2 ^ 32) end
+DoesCalls r w e settings false wanted end = ListsCalls r w e settings wanted (2 ^ 32) end
+
 -- what is done with messages by settings: a command is run, they are counted by their names, their
--- calls are listed, or they are
+-- calls are listed or summed up, or they are listed
 abbrev pub DoesBy : {R W E : Type 0} → Reading R → Writing W → Writing E → Settings → Task → ExitStatus → Type 0
 DoesBy r w e settings (Run command) end = RunsWith r w e settings (2 ^ 32) command end
 DoesBy r w e settings (CountAll form) end = CountsByName r w e settings (table_form form) (2 ^ 32) end
-DoesBy r w e settings (ListAll wanted) end = ListsCalls r w e settings (calls_wanted wanted) (2 ^ 32) end
+DoesBy r w e settings (ListAll wanted) end = DoesCalls r w e settings wanted.by_member (calls_wanted wanted) end
 DoesBy r w e settings (ListLines wanted) end = ListsLines r w e settings wanted (2 ^ 32) end
 
 -- what is said of a rule whose sender has no owner

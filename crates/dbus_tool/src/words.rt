@@ -1,8 +1,8 @@
 //! The program over the words of its command line.
 ghost use Rattle.std.specs.Prelude.{◌≡◌, ◌&&◌, map, string_bytes};
 ghost use Rattle.cli_report.specs.Devices.{writing};
-ghost use Rattle.dbus_tool.specs.Handshaking.{Shows, TakesHandshake, TellsHandshake, Lists};
-ghost use Rattle.dbus_tool.specs.Words.{DoesTask, Notes, RefusesRule, RunsWords, ShowsText, calls_wanted, table_form};
+ghost use Rattle.dbus_tool.specs.Handshaking.{Shows, TakesHandshake, TellsHandshake, Lists, ahead};
+ghost use Rattle.dbus_tool.specs.Words.{DoesCalls, DoesTask, Notes, RefusesRule, RunsWords, ShowsText, calls_wanted, table_form};
 
 use crate::lines::handshake_line;
 use crate::listing::write_lines;
@@ -12,7 +12,7 @@ use cli_options::{
     command_of,
 };
 use cli_report::{Cause, ExitStatus, Unwritten, give_up};
-use cli_run::{count_by_name, list_calls, list_lines, run_with};
+use cli_run::{count_by_name, list_calls, list_lines, run_with, sum_calls};
 use dbus_call_lines::{Form, Wanted};
 use dbus_handshake_input::{HandshakeFault, ReadAhead, Side, pass_handshake};
 use dbus_stream::{MOST_READS, Sink, Source, WrittenOnly, write_all};
@@ -48,7 +48,8 @@ const OWNER_NOTE: &str =
 /// [`cli_run::list_lines`].
 ///
 /// If they name `calls`, the first writer gets the lines of the calls in the messages, as from
-/// [`cli_run::list_calls`].
+/// [`cli_run::list_calls`], or with `--members` the table of their members, as from
+/// [`cli_run::sum_calls`].
 ///
 /// If they name `handshake` with a side, the first writer gets a line for each line of the side's
 /// handshake, its offset, the line and what it says, and then `ok N lines B bytes`; or, if the
@@ -138,7 +139,7 @@ enum Task {
     Run(Command),
     // The messages are counted by their names, for tables in this form.
     CountAll(CountForm),
-    // Their calls are listed.
+    // Their calls are listed, or summed up by their members.
     ListAll(WantedCalls),
     // They are listed, a line for each.
     ListLines(WantedLines),
@@ -167,13 +168,35 @@ fn do_task<R: Source, W: Sink, E: Sink>(
                 count_by_name(alloc, settings, table_form(form), reader, first, second)
             }
             Task::ListAll(wanted) => {
-                list_calls(alloc, settings, calls_wanted(wanted), reader, first, second)
+                do_calls(alloc, settings, wanted, reader, first, second)
             }
             Task::ListLines(wanted) => {
                 list_lines(alloc, settings, &wanted, reader, first, second)
             }
         },
         Err(fault) => refuse_handshake(alloc, fault, second),
+    }
+}
+
+// Lists the calls of messages, or sums them up by their members.
+fn do_calls<R: Source, W: Sink, E: Sink>(
+    alloc: Global,
+    settings: Settings,
+    wanted: WantedCalls,
+    reader: &mut ReadAhead<R>,
+    first: &mut W,
+    second: &mut E,
+) -> ExitStatus
+    ensures { DoesCalls (ahead R.left R.calls R.failures R.packets R.packet reader.old reader.new)
+        (writing W.held W.failures first.old first.new)
+        (writing E.held E.failures second.old second.new)
+        settings wanted.by_member (calls_wanted wanted) result }
+{
+    let list = calls_wanted(wanted);
+    if wanted.by_member {
+        sum_calls(alloc, settings, list, reader, first, second)
+    } else {
+        list_calls(alloc, settings, list, reader, first, second)
     }
 }
 

@@ -3,4 +3,4 @@ use Rattle.dbus_call_lines.proofs.call_list.CallList.stray_replies.Goals as goal
 
 pub returns : goal.returns
 unfolding Keeps
-returns c = λ wanted before keeps. keeps.2
+returns c = λ texts wanted before keeps. keeps.2

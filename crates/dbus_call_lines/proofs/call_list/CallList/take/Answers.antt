@@ -10,13 +10,13 @@ returns-in-Reply-clause-takes g c = λ order m views form before keeps rising.
 
 pub returns-in-None-clause-takes : goal.returns-in-None-clause-takes
 returns-in-None-clause-takes g c = λ order m views form before keeps rising.
-    leaves_none before (record { place = c.args.place; message = m }) g.D.Draft.gains g.met.D.Draft.joins c.args.draft.now c.args.draft.now c.args.self.now _ form keeps refl c.in-Departure.name.now 0 None refl
-    (ap event_seen (sym c.in-Departure.is) ∙ c.event_of.ensures order m views) c.close_all.ensures.left c.in-None.ensures.closed (g.met.D.Draft.nothing c.args.draft.now)
+    leaves_none g.S.CallSink.texts before (record { place = c.args.place; message = m }) g.S.CallSink.gains g.met.S.CallSink.joins c.args.sink.now c.args.sink.now c.args.self.now _ form keeps refl c.in-Departure.name.now 0 None refl
+    (ap event_seen (sym c.in-Departure.is) ∙ c.event_of.ensures order m views) c.close_all.ensures.left c.in-None.ensures.closed (g.met.S.CallSink.nothing c.args.sink.now)
 
 pub returns-in-Other-clause-takes : goal.returns-in-Other-clause-takes
 returns-in-Other-clause-takes g c = λ order m views form before keeps rising.
-    passes before (record { place = c.args.place; message = m }) g.D.Draft.gains g.met.D.Draft.joins c.args.draft.now c.args.draft.now c.args.self.now c.args.self.now form keeps refl [] 0 None refl
-    (ap event_seen (sym c.in-Other.is) ∙ c.event_of.ensures order m views) refl (g.met.D.Draft.nothing c.args.draft.now)
+    passes g.S.CallSink.texts before (record { place = c.args.place; message = m }) g.S.CallSink.gains g.met.S.CallSink.joins c.args.sink.now c.args.sink.now c.args.self.now c.args.self.now form keeps refl [] 0 None refl
+    (ap event_seen (sym c.in-Other.is) ∙ c.event_of.ensures order m views) refl (g.met.S.CallSink.nothing c.args.sink.now)
 
 if_all : {T E A B C D : Type 0} (r : Result T E) → OnOk r A → OnOk r B → OnOk r C → (A → B → C → D) → OnOk r D
 if_all (Ok x) a b c f = f a b c
@@ -25,6 +25,6 @@ if_all (Err e) a b c f = tt
 pub returns-in-Some-clause-takes : goal.returns-in-Some-clause-takes
 returns-in-Some-clause-takes g c = λ order m views form before keeps rising.
     let is = ap event_seen (sym c.in-Departure.is) ∙ c.event_of.ensures order m views in
-    if_all c.write_all.result c.write_all.ensures.ordered c.write_all.ensures.found c.write_all.ensures.writes
-    (λ ordered found writes. leaves_some before (record { place = c.args.place; message = m }) g.D.Draft.gains g.met.D.Draft.joins c.args.draft.now c.write_all.new.draft c.args.self.now _ form keeps refl refl
+    if_all c.add_all.result c.add_all.ensures.ordered c.add_all.ensures.found c.add_all.ensures.adds
+    (λ ordered found writes. leaves_some g.S.CallSink.texts before (record { place = c.args.place; message = m }) g.S.CallSink.gains g.met.S.CallSink.joins c.args.sink.now c.add_all.new.sink c.args.self.now _ form keeps refl refl
     c.in-Departure.name.now is c.close_all.ensures.left rising c.in-Some.calls ordered found c.in-Some.ensures.closed writes)

@@ -7,12 +7,12 @@ pub returns-in_ok-ended-clause-takes : goal.returns-in_ok-ended-clause-takes
 returns-in_ok-ended-clause-takes g c = λ order m views is form before keeps.
     let caller = c.args.call.caller.now in
     let serial = c.args.call.serial in
-    opens before (record { place = c.args.place; message = m }) g.D.Draft.gains g.met.D.Draft.joins c.args.draft.now c.write_ended.new.draft c.args.self.now _ form keeps refl caller serial c.in_ok-ended.ended c.in_ok-waiting.waiting refl
-    (ap (λ b. Calls caller serial b) (sym c.if-call.true) ∙ is) (c.in_ok-waiting.ensures order m views) c.in_ok-ended.ensures.opens c.in_ok-ended.ensures.before c.write_ended.ensures
+    opens g.S.CallSink.texts before (record { place = c.args.place; message = m }) g.S.CallSink.gains g.met.S.CallSink.joins c.args.sink.now c.add_ended.new.sink c.args.self.now _ form keeps refl caller serial c.in_ok-ended.ended c.in_ok-waiting.waiting refl
+    (ap (λ b. Calls caller serial b) (sym c.if-call.true) ∙ is) (c.in_ok-waiting.ensures order m views) c.in_ok-ended.ensures.opens c.in_ok-ended.ensures.before c.add_ended.ensures
 
 pub returns-else-call-clause-takes : goal.returns-else-call-clause-takes
 returns-else-call-clause-takes g c = λ order m views is form before keeps.
     let caller = c.args.call.caller.now in
     let serial = c.args.call.serial in
-    closes before (record { place = c.args.place; message = m }) g.D.Draft.gains g.met.D.Draft.joins c.args.draft.now c.write_unwanted.new.draft c.args.self.now _ form keeps refl caller serial c.close-ended.result c.write_ended-else-call.new.draft refl
-    (ap (λ b. Calls caller serial b) (sym c.if-call.false) ∙ is) c.close-ended.ensures.left c.close-ended.ensures.closed c.write_ended-else-call.ensures (c.write_unwanted.ensures order m views)
+    closes g.S.CallSink.texts before (record { place = c.args.place; message = m }) g.S.CallSink.gains g.met.S.CallSink.joins c.args.sink.now c.add_unwanted.new.sink c.args.self.now _ form keeps refl caller serial c.close-ended.result c.add_ended-else-call.new.sink refl
+    (ap (λ b. Calls caller serial b) (sym c.if-call.false) ∙ is) c.close-ended.ensures.left c.close-ended.ensures.closed c.add_ended-else-call.ensures (c.add_unwanted.ensures order m views)

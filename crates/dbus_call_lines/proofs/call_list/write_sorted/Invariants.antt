@@ -1,7 +1,0 @@
-use Rattle.std.proofs.Common.{map, take}
-use Rattle.dbus_call_lines.specs.Keeping.{kept, kept_text}
-use Rattle.dbus_call_lines.specs.Outcomes.{outcome_seen}
-use Rattle.dbus_call_lines.proofs.call_list.write_sorted.Given as goal
-
-abbrev pub invariant-loop-call : goal.invariant-loop-call
-invariant-loop-call g l = g.D.Draft.gains l.initial.draft (kept_text l.fn.wanted (outcome_seen l.fn.outcome) (map kept (map (λ call. call.now) (take l.call-index l.call-items)))) l.draft

@@ -1,0 +1,5 @@
+mod Pushing
+mod Added
+mod RowLaws
+mod TableTexts
+pub mod OneTable
