@@ -33,13 +33,14 @@ count_each() {
     count "$1" "$program" swap --to B
     count "$1" "$program" show
     count "$1" "$program" json
+    count "$1" "$program" list
     count "$1" "$program" count
     count "$1" "$folder/plain"
     if [ -n "$libdbus" ]; then count "$1" "$libdbus"; fi
     echo
 }
 
-printf '%-14s%8s%8s%8s%8s%8s%8s%8s%8s%8s\n' stream check filter 'swap l' 'swap B' show json count 'plain C' libdbus
+printf '%-14s%8s%8s%8s%8s%8s%8s%8s%8s%8s%8s\n' stream check filter 'swap l' 'swap B' show json list count 'plain C' libdbus
 for stream in session big-endian dictionaries objects texts structs bytes doubles; do
     count_each "$folder/$stream.dbus"
 done
