@@ -4,7 +4,7 @@ use Rattle.std.proofs.Math.Nat.{zero-add}
 use Rattle.std.proofs.Math.Seq.{take-append-add}
 use Rattle.dbus_value_model.specs.declared.limits.Limits.{Limits}
 use Rattle.dbus_header.specs.MessageOutcomes.{IsWhole}
-use Rattle.dbus_header.proofs.OutcomeLaws.{whole_inside}
+use Rattle.dbus_header.proofs.OutcomeLaws.{nothing_partial, whole_inside}
 use Rattle.dbus_validate.specs.declared.validating.Validated.{Validated}
 use Rattle.dbus_validate.specs.Validating.{IsValidated, IsValidatedWhole}
 use Rattle.dbus_validate.proofs.Headed.{own_validated}
@@ -35,6 +35,17 @@ module _ (old : GathererState) (piece : List ℕ) where
         holds = ap (λ b. under_way b held) open_ ∙ none;
         lends = λ some. (refl, refl);
       })
+
+  -- nothing is held once the next message is begun, and nothing came
+  pub waits_none : (limits : Limits) (held : List ℕ) (whole : Bool) (lent : ℕ) (w : List ℕ) → ◌≡◌ {A = GathererState} (record { limits = limits; held = held; whole = whole; lent = lent }) (begun old)
+      → under_way old.whole old.held ≡ w → held ≡ [] → piece ≡ [] → Takes gathering old w piece (record { limits = limits; held = held; whole = whole; lent = lent }) (Ok 0) None
+  waits_none limits held whole lent w e holds none bare =
+      let open_ : whole ≡ false = ap (λ (s : GathererState). s.whole) e in
+      let unlent : lent ≡ 0 = ap (λ (s : GathererState). s.lent) e in
+      let nothing : [] ≡ w = sym none ∙ (ap (λ (s : GathererState). s.held) e ∙ holds) in
+      let new : GathererState = record { limits = limits; held = held; whole = whole; lent = lent } in
+      subst (λ v. Takes gathering old v piece new (Ok 0) None) nothing
+      (subst (λ p. Takes gathering old [] p new (Ok 0) None) (sym bare) (nothing_partial old.limits, refl, record { holds = ap (λ b. under_way b held) open_ ∙ none; rests = (open_, unlent) }))
 
   -- the message that was gathered
   pub gathered : (w : List ℕ) (n : ℕ) (new : GathererState) (j : Validated) → under_way old.whole old.held ≡ w → Gathered (begun old) piece n new

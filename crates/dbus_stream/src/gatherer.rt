@@ -236,6 +236,11 @@ impl<A: Allocator + Copy> Taker for Gatherer<A> {
         if !self.held.is_empty() {
             return self.take_gathered(piece, given);
         }
+        // So it is before each read.
+        if piece.is_empty() {
+            *given = None;
+            return Ok(0);
+        }
         *given = validate(piece, self.limits);
         match given {
             Some(validated) => {
