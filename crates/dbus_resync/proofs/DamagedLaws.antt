@@ -12,7 +12,7 @@ use Rattle.dbus_resync.specs.DamagedInputs.{AreParts, IsLost, IsRest, Lost, Next
 
 module _ (limits : Limits) where
   -- where a message begins, bytes are left
-  begins_inside : (bytes : List ℕ) (k : ℕ) → BeginsAt limits bytes k → k < length bytes
+  pub begins_inside : (bytes : List ℕ) (k : ℕ) → BeginsAt limits bytes k → k < length bytes
   begins_inside bytes k b =
       let some = whole_inside limits (drop k bytes) b.0 b.1 b.2 b.3 in
       let long = length-drop k bytes in

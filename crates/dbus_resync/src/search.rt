@@ -15,8 +15,8 @@ use dbus_value_model::Limits;
 /// message begins there. `At`: the offset, if those up to it and it take no more than the effort.
 /// `Nowhere`: no message begins at any offset, and all of them take no more than the effort.
 /// `Spent`: none begins before some offset, and those up to it and it take more. So the time is at
-/// most that of validating as many bytes as the effort, and of reading 16 at each offset. Nothing is
-/// allocated. D-Bus Specification, "Message Format".
+/// most that of validating as many bytes as the effort, and of reading 16 at each offset. Nothing
+/// is allocated. D-Bus Specification, "Message Format".
 pub fn first_message(bytes: &[u8], limits: Limits, effort: usize) -> Found
     ensures finds { Finds limits bytes.now result }
     ensures effort { KeepsEffort limits bytes.now effort result }
