@@ -36,6 +36,7 @@ module _ {R A : Type 0} (left : R → Option (List ℕ)) (window : ℕ) where
     consumed = transport (λ i. Consumes (left (rests.source i)) (left (sym same i)) h.read) h.consumed;
     bytes_are = h.bytes_are ∙ ap (λ (l : List ℕ). l ++ h.read) is;
     needed = λ wide. h.needed (subst (λ (l : List ℕ). window ≤ length l) (sym is) wide);
+    few = h.few;
   }
 
   pub looks_on : (limits : Limits) (effort : ℕ) (kept : List ℕ) (old mid new last : Again R A) (found : Found) → Rests old mid → ahead_of mid ≡ kept ++ ahead_of old

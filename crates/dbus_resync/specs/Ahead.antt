@@ -1,6 +1,6 @@
 -- What a source that gives bytes again gives first, and how it goes on behind damage. left says what
 -- the device below has left.
-use Rattle.std.specs.Prelude.{◌≡◌, ◌⊎◌, ℕ, ◌<◌, ◌≤◌, IfOk, List, [], ◌∷◌, ◌++◌, length, take, drop, Option, None, Result, Ok, Err}
+use Rattle.std.specs.Prelude.{◌≡◌, ◌⊎◌, ℕ, ◌+◌, ◌<◌, ◌≤◌, IfOk, List, [], ◌∷◌, ◌++◌, length, take, drop, Option, None, Result, Ok, Err}
 use Rattle.std.specs.Io.KnownBytes.{Consumes, IsAtEnd}
 use Rattle.dbus_device.specs.Device.{one_more}
 use Rattle.dbus_device.specs.Packets.{Packets}
@@ -61,12 +61,14 @@ module _ {R A : Type 0} where
     pub packet : IfOk result (λ n. 0 < n → packet_of new ≡ None)
 
   module _ (left : R → Option (List ℕ)) where
-    -- these bytes are given, of which the last ones were read: none, if so many were there before
+    -- these bytes are given, of which the last ones were read: none, if so many were there before,
+    -- and no more than 4,096 past so many
     pub record HasRead (window : ℕ) (before : List ℕ) (old new : Again R A) (bytes : List ℕ) : Type 0 where
       pub read : List ℕ
       pub consumed : Consumes (left (source_of old)) (left (source_of new)) read
       pub bytes_are : bytes ≡ before ++ read
       pub needed : window ≤ length before → read ≡ []
+      pub few : 0 < length read → length bytes ≤ window + 4096
 
     -- as many as are wanted are there, or the device is at its end
     abbrev pub AreEnough : (window : ℕ) → Again R A → List ℕ → Type 0
@@ -74,7 +76,7 @@ module _ {R A : Type 0} where
 
     -- one read
     abbrev pub ReadsMore : Again R A → Again R A → Result ℕ Lack → Type 0
-    ReadsMore old new (Ok n) = (read : List ℕ) × Consumes (left (source_of old)) (left (source_of new)) read × (ahead_of new ≡ ahead_of old ++ read) × (length read ≡ n) × (n ≡ 0 → IsAtEnd (left (source_of new)))
+    ReadsMore old new (Ok n) = (read : List ℕ) × Consumes (left (source_of old)) (left (source_of new)) read × (ahead_of new ≡ ahead_of old ++ read) × (length read ≡ n) × (n ≤ 4096) × (n ≡ 0 → IsAtEnd (left (source_of new)))
     ReadsMore old new (Err lack) = Consumes (left (source_of old)) (left (source_of new)) [] × (ahead_of new ≡ ahead_of old)
 
     abbrev pub Fills : (window : ℕ) → Again R A → Again R A → Result (Unit {0}) Lack → Type 0

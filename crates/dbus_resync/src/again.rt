@@ -71,7 +71,7 @@ impl<R: Source, A: Allocator + Copy> Again<R, A> {
     /// Goes on behind damage. `kept` are bytes that came from this source and begin with no
     /// message. They and what follows, as many bytes in all as the window has, are looked at for
     /// the next message within the limits, as [`first_message`] does. What follows is read as far
-    /// as that needs.
+    /// as that needs, and up to 4,096 bytes further.
     ///
     /// `At`: what it gives next begins with that message; the bytes before it are dropped.
     /// `Nowhere`, `Spent`: what it gives next begins with the bytes that were kept.
