@@ -26,7 +26,7 @@ use dbus_value_model::Reason;
 /// `serial`, each known header field that is, by its name, and all others in the array `fields`.
 ///
 /// ```text
-/// "place":"body[0]","rule":"a BOOLEAN is 0 or 1 (..)","header":{"order":"l","type":"error"}
+/// "place":"the serial","rule":"a serial is not 0 (..)","header":{"order":"l","type":"error"}
 /// ```
 ///
 /// Any bytes and any fault are safe, and only the draft allocates. RFC 8259; D-Bus Specification,
