@@ -1,10 +1,10 @@
 -- Header fields that have one text in JSON are one row of fields.
-use Rattle.std.proofs.Common.{◌≡◌, ◌≢◌, ℕ, zero, suc, ◌+◌, ◌*◌, ◌^◌, ◌<◌, ◌≤◌, Bool, true, false, not, cond, eqb, List, [], ◌∷◌, ◌++◌, length, get_or, drop, map, filter, Option, Some, None, inl, inr, codes, decimal, refl, sym, ap, ◌∙◌, subst, arith, append_assoc}
+use Rattle.std.proofs.Common.{◌≡◌, ℕ, ◌+◌, ◌*◌, ◌^◌, ◌<◌, ◌≤◌, Bool, true, false, cond, eqb, List, [], ◌∷◌, ◌++◌, length, get_or, map, filter, Option, Some, None, inl, inr, codes, decimal, refl, sym, ap, ◌∙◌, subst, arith, append_assoc}
 use Rattle.std.proofs.lemmas.Bool.{cases_Bool, ne_eqb, eq-eqb, eqb-true, true≢false}
 use Rattle.std.proofs.lemmas.Fmt.{decimal_injective}
 use Rattle.std.proofs.lemmas.List.{append-nil, append_cancel_left, length-append}
 use Rattle.std.specs.List.{enumerate_from}
-use Rattle.dbus_texts.specs.Types.{TypeTree, TextType, NumberType, STRING, UINT32, sig}
+use Rattle.dbus_texts.specs.Types.{sig}
 use Rattle.dbus_value_model.specs.Spelling.{spelling, spellings}
 use Rattle.dbus_value_model.specs.declared.order.Order.{Order}
 use Rattle.dbus_value_model.specs.Values.{ValueTree, value_trees, type_of}
@@ -12,11 +12,11 @@ use Rattle.dbus_walk.proofs.Parts.{stands_positive}
 use Rattle.dbus_message_model.specs.Messages.{FieldTree, field_struct, want, is_known, is_particular, Want, Anything, OfType, Name, Serial, Suits, AreFields}
 use Rattle.dbus_show.specs.ShownMessages.{field_name}
 use Rattle.dbus_value_text.specs.Forms.{AreFieldTexts}
-use Rattle.dbus_json.specs.JsonValues.{plain, member, object, listed, IsJson}
+use Rattle.dbus_json.specs.JsonValues.{plain, member, object, listed}
 use Rattle.dbus_json.specs.JsonMessages.{IsKnown, IsOther, place_members, end_text}
 use Rattle.dbus_json.proofs.FieldTexts.{other_text}
-use Rattle.dbus_json_laws.proofs.Numbers.{Bare, AreAll, Ends, same_head, cut, decimal_bare, bare_literal, plain_same}
-use Rattle.dbus_json_laws.proofs.Values.{Sound, AreSound, Stop, more, comma_ends, bracket_ends, after_item, brace_stop, same_json, same_signature, not_bracket}
+use Rattle.dbus_json_laws.proofs.Numbers.{Bare, AreAll, same_head, cut, decimal_bare, bare_literal, plain_same}
+use Rattle.dbus_json_laws.proofs.Values.{Sound, AreSound, Stop, more, comma_ends, after_item, brace_stop, same_json, same_signature}
 use Rattle.dbus_json_laws.proofs.Mixing.{Placed, field_of, told}
 
 -- ---- what is known of a message's fields

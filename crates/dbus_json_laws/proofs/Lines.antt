@@ -1,10 +1,10 @@
 -- Messages that have one line of JSON are one message.
-use Rattle.std.proofs.Common.{◌≡◌, ◌≢◌, ℕ, zero, suc, ◌+◌, ◌*◌, ◌/◌, ◌%◌, ◌^◌, ◌<◌, ◌≤◌, Bool, true, false, not, cond, eqb, List, [], ◌∷◌, ◌++◌, length, get_or, drop, map, Option, Some, None, option_map, inl, inr, ◌⊎◌, codes, decimal, refl, sym, ap, ◌∙◌, subst, arith, append_assoc}
+use Rattle.std.proofs.Common.{◌≡◌, ◌≢◌, ℕ, ◌+◌, ◌*◌, ◌/◌, ◌<◌, Bool, true, false, not, cond, eqb, List, [], ◌∷◌, ◌++◌, length, get_or, map, Option, Some, None, option_map, inl, inr, ◌⊎◌, codes, decimal, refl, sym, ap, ◌∙◌, subst, arith, append_assoc}
 use Rattle.std.proofs.lemmas.Bool.{eqb-true, ne_eqb}
 use Rattle.std.proofs.lemmas.Fmt.{decimal_injective}
 use Rattle.std.proofs.lemmas.List.{append-nil, append_cancel_left}
 use Rattle.std.proofs.lemmas.List.Concat.{flat_map-append}
-use Rattle.std.specs.List.{enumerate_from, flat_map}
+use Rattle.std.specs.List.{enumerate_from}
 use Rattle.std.specs.Option.{unwrap_or}
 use Rattle.dbus_value_model.specs.declared.limits.Limits.{Limits}
 use Rattle.dbus_value_model.specs.declared.order.Order.{Order}
@@ -12,7 +12,6 @@ use Rattle.dbus_value_model.specs.declared.order.Order.TheVariants.{Little, Big}
 use Rattle.dbus_value_model.specs.Spelling.{contents_start}
 use Rattle.dbus_value_model.specs.Values.{ValueTrees, types_of}
 use Rattle.dbus_message_model.specs.Messages.{FieldTree, MessageTree, IsMessage, order_byte, message_bytes, field_array, field_type, is_known, body_signature}
-use Rattle.dbus_message_model.specs.MessageTypes.{type_name}
 use Rattle.dbus_texts.proofs.TypeTexts.{sigs_same}
 use Rattle.dbus_value_text.specs.Forms.{led}
 use Rattle.dbus_json.specs.declared.place.LinePlace.{LinePlace}

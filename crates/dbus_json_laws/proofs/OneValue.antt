@@ -1,5 +1,5 @@
 -- No JSON spells two values of one type; and what `json` writes of a DOUBLE spells it.
-use Rattle.std.proofs.Common.{◌≡◌, ℕ, zero, suc, ◌^◌, ◌<◌, Bool, true, false, cond, List, [], ◌∷◌, get_or, Option, Some, Result, Ok, inl, inr, ◌⊎◌, from_bits, refl, sym, ap, ◌∙◌, subst, arith}
+use Rattle.std.proofs.Common.{◌≡◌, ℕ, zero, suc, ◌^◌, ◌<◌, Bool, cond, List, [], ◌∷◌, get_or, Some, Result, Ok, inl, inr, from_bits, refl, sym, ap, ◌∙◌, subst, arith}
 use Rattle.std.proofs.lemmas.Bool.{cases_Bool}
 use Rattle.std.specs.Float.{Float, binary64, float_is_finite}
 use Rattle.hex.specs.Hex.{decode_of, encode_lower}
@@ -7,7 +7,7 @@ use Rattle.hex.specs.declared.error.FromHexError.{FromHexError}
 use Rattle.hex.proofs.HexLemmas.{decode_of-encode_lower}
 use Rattle.json.specs.Json as json
 use Rattle.json.specs.Json.{Json, Items, no_items, item, Members}
-use Rattle.dbus_texts.specs.Types.{NumberCode, BYTE, BOOLEAN, INT16, UINT16, INT32, UINT32, INT64, UINT64, DOUBLE, UNIX_FD, TextCode, TypeTree, NumberType, sig}
+use Rattle.dbus_texts.specs.Types.{NumberCode, BYTE, BOOLEAN, INT16, UINT16, INT32, UINT32, INT64, UINT64, DOUBLE, UNIX_FD, TextCode, TypeTree, sig}
 use Rattle.dbus_texts.specs.PlainTypes.{is_byte}
 use Rattle.dbus_value_model.specs.declared.order.Order.TheVariants.{Big}
 use Rattle.dbus_value_model.specs.Bytes.{num}
@@ -15,12 +15,10 @@ use Rattle.dbus_value_model.specs.ByteNumbers.{IsBytes}
 use Rattle.dbus_value_model.specs.Reading.{number_of}
 use Rattle.dbus_value_model.specs.Values as values
 use Rattle.dbus_value_model.specs.Values.{ValueTree, ValueTrees, NumberValue, TextValue, VariantValue, ArrayValue, StructValue, EntryValue, NoValues, MoreValues, type_of, types_of, AllOf, IsWellFormed}
-use Rattle.dbus_value_model.proofs.Numbers.{length-num, number_of-num}
-use Rattle.dbus_show.specs.ShownValues.{bytes_in, number_text}
-use Rattle.dbus_json_reader.specs.JsonNumbers.{SpellsWide, IsFinite, IsDigits, SpellsDouble, SpellsNumber}
-use Rattle.dbus_json_reader.specs.JsonValues.{IsTyped, Spells, AllSpell, IsRead}
+use Rattle.dbus_value_model.proofs.Numbers.{number_of-num}
+use Rattle.dbus_json_reader.specs.JsonNumbers.{SpellsWide, SpellsDouble, SpellsNumber}
+use Rattle.dbus_json_reader.specs.JsonValues.{IsTyped, Spells, AllSpell}
 use Rattle.dbus_json_reader.proofs.Shapes.{typed_same, one_type, strings_same, arrays_same, objects_same, pairs_same}
-use Rattle.dbus_json.specs.JsonValues.{IsDouble, plain}
 use Rattle.dbus_json_laws.specs.Reading.{IsOneValueEach, IsDoubleKept}
 use Rattle.dbus_json_laws.proofs.Numbers.{coded_same, bits_same, num_bytes}
 use Rattle.dbus_json_laws.proofs.Values.{Sound, AreSound, sound, Alike, alike_all, alike_types, bytes_of, bytes_same, element, parts_of, key_of, held_by}

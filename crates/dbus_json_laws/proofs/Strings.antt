@@ -1,6 +1,6 @@
 -- The escapes of JSON are read back.
 -- RFC 8259, section 7.
-use Rattle.std.proofs.Common.{◌≡◌, ℕ, zero, suc, ◌+◌, ◌-◌, ◌*◌, ◌/◌, ◌%◌, ◌<◌, ◌≤◌, Bool, true, false, cond, eqb, leb, ◌||◌, ◌&&◌, List, [], ◌∷◌, ◌++◌, Option, Some, None, option_and_then, inl, inr, ◌⊎◌, slice_index, chars, codes, encode_utf8, encode_utf8_all, IsUtf8, refl, sym, ap, ◌∙◌, subst, arith, append_assoc, drop}
+use Rattle.std.proofs.Common.{◌≡◌, ℕ, zero, suc, ◌+◌, ◌-◌, ◌*◌, ◌/◌, ◌%◌, ◌<◌, ◌≤◌, Bool, true, false, cond, eqb, leb, ◌||◌, List, [], ◌∷◌, ◌++◌, Option, Some, None, option_and_then, inl, inr, ◌⊎◌, slice_index, chars, codes, encode_utf8, encode_utf8_all, IsUtf8, refl, sym, ap, ◌∙◌, subst, arith, append_assoc, drop}
 use Rattle.std.proofs.lemmas.Bool.{cases_eq, cases_lt, ne_eqb, eq-eqb, eqb-true, le-ltb, lt-ltb, le-leb, lt-leb, or_parts, or_cases, and_parts, and_from, and_left, and_right, true≢false}
 use Rattle.std.proofs.lemmas.List.{append-nil, append_cancel_left}
 use Rattle.std.proofs.lemmas.Str.{encode_ascii, encodes-chars, scalars-chars}
@@ -9,7 +9,7 @@ use Rattle.std.specs.Int.{is_in_range}
 use Rattle.std.specs.List.{flat_map}
 use lib.Utf8.{scalar, scalars, encode, next, scalar_cases}
 use Rattle.hex.specs.Hex.{lower_digits, encode_with}
-use Rattle.json.specs.Text.{content, plain, after_u, after_high, prepend, code_unit, short_escape, is_high_surrogate, is_low_surrogate, surrogate_pair}
+use Rattle.json.specs.Text.{content, plain, after_high, prepend, code_unit, short_escape, is_high_surrogate, is_low_surrogate, surrogate_pair}
 use Rattle.dbus_show.specs.declared.escapes.Escapes.TheVariants.{Json}
 use Rattle.dbus_show.specs.Escapes.{escape, escaped, is_escaped, is_quote, is_hidden, units_text}
 use Rattle.dbus_json.specs.JsonValues.{string}

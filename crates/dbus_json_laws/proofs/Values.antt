@@ -1,10 +1,9 @@
 -- Values of one type that have one text in JSON are one value.
-use Rattle.std.proofs.Common.{◌≡◌, ◌≢◌, ℕ, zero, suc, ◌<◌, Bool, true, false, List, [], ◌∷◌, ◌++◌, drop, inl, inr, codes, refl, sym, ap, ◌∙◌, subst, arith, append_assoc, IsUtf8}
+use Rattle.std.proofs.Common.{◌≡◌, ℕ, zero, suc, ◌<◌, true, List, [], ◌∷◌, ◌++◌, drop, inl, inr, codes, refl, sym, ap, ◌∙◌, subst, arith, append_assoc, IsUtf8}
 use Rattle.std.proofs.lemmas.Bool.{cases_Bool, true≢false}
 use Rattle.std.proofs.lemmas.List.{append-nil, append_cancel_left}
 use Rattle.std.specs.List.{flat_map}
-use Rattle.hex.specs.Hex.{encode_lower}
-use Rattle.dbus_texts.specs.Types.{NumberCode, BYTE, TextCode, STRING, TypeTree, TypeTrees, NumberType, TextType, VariantType, ArrayType, StructType, EntryType, NoTypes, MoreTypes, sig}
+use Rattle.dbus_texts.specs.Types.{NumberCode, BYTE, TextCode, TypeTree, TypeTrees, NumberType, VariantType, ArrayType, StructType, EntryType, NoTypes, MoreTypes, sig}
 use Rattle.dbus_texts.specs.PlainTypes.{is_byte}
 use Rattle.dbus_types.proofs.PrefixSteps.{text_same}
 use Rattle.dbus_value_model.specs.ByteNumbers.{IsBytes}
@@ -13,9 +12,9 @@ use Rattle.dbus_value_model.specs.Values.{ValueTree, ValueTrees, NumberValue, Te
 use Rattle.dbus_walk.proofs.NumberFacts.{number_of_type}
 use Rattle.dbus_walk.proofs.ReadThere.{formed_utf8}
 use Rattle.dbus_show.specs.ShownValues.{bytes_in}
-use Rattle.dbus_json.specs.JsonValues.{plain, string, listed, array, member, object, IsJson, AreJson, IsNumber}
+use Rattle.dbus_json.specs.JsonValues.{plain, listed, array, member, object, IsJson, AreJson, IsNumber}
 use Rattle.dbus_json_laws.proofs.Strings.{same_string}
-use Rattle.dbus_json_laws.proofs.Numbers.{Bare, Ends, NoBracket, same_head, plain_hex_same, number_same, number_first}
+use Rattle.dbus_json_laws.proofs.Numbers.{Ends, NoBracket, same_head, plain_hex_same, number_same, number_first}
 
 -- ---- what is needed of a value
 

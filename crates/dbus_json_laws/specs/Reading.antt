@@ -12,7 +12,7 @@ use Rattle.dbus_json_reader.specs.JsonValues.{IsRead}
 abbrev pub IsOneValueEach : Type 0
 IsOneValueEach = (depth other : ℕ) (t : TypeTree) (x y : ValueTree) (j : Json) → IsRead depth t x j → IsRead other t y j → x ≡ y
 
--- What `json` writes of a DOUBLE is a number that spells it, or within quotation marks the digits of
--- a string that spells it.
+-- What `json` writes of a DOUBLE is a number that spells it, or, within quotation marks, digits that
+-- spell it as a string.
 abbrev pub IsDoubleKept : Type 0
 IsDoubleKept = (bits : ℕ) (text : List ℕ) → IsDouble bits text → SpellsDouble bits (number text) ⊎ ((digits : List ℕ) × (text ≡ plain digits) × SpellsDouble bits (string digits))

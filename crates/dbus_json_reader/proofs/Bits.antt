@@ -1,7 +1,7 @@
 -- The bits of DOUBLEs, and their digits.
-use Rattle.std.proofs.Common.{◌≡◌, ℕ, ◌*◌, ◌^◌, List, length, true, false, Result, Ok, Err, Option, Some, MatchResult, from_bits, refl, sym, ap, ◌∙◌, arith}
+use Rattle.std.proofs.Common.{◌≡◌, ℕ, ◌*◌, List, length, true, false, Result, Ok, Err, Some, MatchResult, from_bits, sym, ap, ◌∙◌, arith}
 use Rattle.std.specs.Float.{Float, binary64, float_is_finite}
-use Rattle.std.specs.Int.{w64, from_be_bytes, to_be_bytes}
+use Rattle.std.specs.Int.{w64, from_be_bytes}
 use Rattle.std.proofs.lemmas.Nat.{be_bytes_8}
 use Rattle.fast_float.specs.Parse.{parse_float}
 use Rattle.hex.specs.Hex.{decode_of, decode_sized}

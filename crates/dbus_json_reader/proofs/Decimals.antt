@@ -1,5 +1,5 @@
 -- Texts of integers in decimal.
-use Rattle.std.proofs.Common.{◌≡◌, ◌≢◌, ℕ, zero, suc, ◌-◌, ◌^◌, ◌<◌, ◌≤◌, ℤ, pos, negsuc, FitsSigned, take, drop, List, [], ◌∷◌, length, get_or, Option, Some, None, IfSome, Result, Ok, Err, decimal, refl, sym, ap, ◌∙◌, subst, arith}
+use Rattle.std.proofs.Common.{◌≡◌, ◌≢◌, ℕ, zero, suc, ◌-◌, ◌^◌, ◌<◌, ◌≤◌, ℤ, pos, negsuc, FitsSigned, take, drop, List, [], ◌∷◌, length, get_or, Option, Some, None, IfSome, Result, Ok, Err, decimal, refl, sym, ap, ◌∙◌, arith}
 use Rattle.std.specs.Fmt.{digits, signed_decimal}
 use Rattle.std.specs.Int.{w64}
 use Rattle.std.specs.Result.{result_ok}

@@ -1,5 +1,5 @@
 -- What a value of each type is, and the JSON that spells it.
-use Rattle.std.proofs.Common.{◌≡◌, ℕ, zero, suc, ◌+◌, ◌*◌, ◌^◌, ◌<◌, ◌≤◌, Bool, true, false, List, [], ◌∷◌, length, get_or, Vec, Result, Ok, Err, IsErrAnd, length-append, inl, inr, ◌⊎◌, codes, refl, sym, ap, ◌∙◌, subst, arith, rules}
+use Rattle.std.proofs.Common.{◌≡◌, ℕ, zero, suc, ◌*◌, ◌^◌, ◌<◌, true, false, List, [], ◌∷◌, length, get_or, Vec, Result, Ok, Err, IsErrAnd, length-append, inl, inr, codes, refl, sym, ap, ◌∙◌, subst, arith, rules}
 use Rattle.std.proofs.lemmas.Bool.{true≢false}
 use Rattle.std.proofs.lemmas.List.{append-nil}
 use Rattle.std.specs.Borrow.{Bor}
@@ -18,14 +18,14 @@ use Rattle.dbus_texts.specs.Types.{NumberCode, BYTE, BOOLEAN, INT16, UINT16, INT
 use Rattle.dbus_types.proofs.PrefixSteps.{text_same}
 use Rattle.dbus_types.specs.Alignments.{length_width}
 use Rattle.dbus_types.specs.SigTypes.{type_tree}
-use Rattle.dbus_types.specs.declared.sig_type.SigType.{SigType, Byte, Bool as BoolOf, I16, U16, I32, U32, I64, U64, Double, Fd, Str, Path, Sig, the_lemmas as type_lemmas}
+use Rattle.dbus_types.specs.declared.sig_type.SigType.{Byte, Bool as BoolOf, I16, U16, I32, U32, I64, U64, Double, Fd, Str, Path, Sig, the_lemmas as type_lemmas}
 use Rattle.dbus_value_model.specs.Values as values
 use Rattle.dbus_value_model.specs.Values.{ValueTree, ValueTrees, NumberValue, TextValue, VariantValue, ArrayValue, StructValue, EntryValue, NoValues, MoreValues, type_of, types_of, AllOf, IsWellFormed, AreWellFormed, value_trees}
 use Rattle.dbus_value_model.specs.ValueViews.{byte_values}
 use Rattle.dbus_value_model.specs.WantedTexts.{kind_of, IsWanted}
 use Rattle.dbus_show.specs.ShownValues.{bytes_in}
 use Rattle.dbus_json_reader.specs.JsonNumbers.{SpellsNumber}
-use Rattle.dbus_json_reader.specs.JsonValues.{IsTyped, Spells, AllSpell, IsRead, AreElements, AreRead}
+use Rattle.dbus_json_reader.specs.JsonValues.{IsTyped, IsRead, AreElements, AreRead}
 
 -- ---- JSON, level by level
 

@@ -34,7 +34,8 @@ SpellsDouble bits (boolean b) = ⊥
 SpellsDouble bits (array js) = ⊥
 SpellsDouble bits (object ms) = ⊥
 
--- a BOOLEAN is true or false, and any other number its text in decimal
+-- a BOOLEAN is true or false, a DOUBLE as above, and any other number its text in decimal, which of
+-- 64 bits a string may hold
 abbrev pub SpellsNumber : NumberCode → ℕ → Json → Type 0
 SpellsNumber BYTE n j = j ≡ number (number_text BYTE n)
 SpellsNumber BOOLEAN n j = (b : Bool) × (j ≡ boolean b) × (n ≡ cond b 1 0)

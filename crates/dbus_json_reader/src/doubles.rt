@@ -1,7 +1,7 @@
 //! DOUBLEs from JSON. RFC 8259, sections 6 and 7; D-Bus Specification, "Type System".
 #![tactic(auto)]
 
-ghost use Rattle.std.specs.Prelude.{◌≡◌, ◌^◌, ◌<◌, ℕ, None, IfSome, from_bits, true, false};
+ghost use Rattle.std.specs.Prelude.{◌≡◌, ℕ, None, IfSome, from_bits, true, false};
 ghost use Rattle.std.specs.Float.{binary64, float_is_finite};
 ghost use Rattle.json.specs.Value.{value_view};
 ghost use Rattle.dbus_json_reader.specs.JsonNumbers.{IsFinite, IsDigits, SpellsDouble};

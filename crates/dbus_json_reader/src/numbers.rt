@@ -56,8 +56,8 @@ pub fn signed_64<A: Allocator>(json: &Value<'_, A>) -> Option<i64>
     }
 }
 
-/// The signed number of 32 bits that a value is: a number in decimal, with no point, no exponent, no
-/// plus and no minus before a zero. It is `None` of any other value. RFC 8259, section 6.
+/// The signed number of 32 bits that a value is: a number in decimal, with no point, no exponent,
+/// no plus and no minus before a zero. It is `None` of any other value. RFC 8259, section 6.
 pub fn signed_32<A: Allocator>(json: &Value<'_, A>) -> Option<i32>
     ensures some { IfSome result (λ z. value_view json.now ≡ number (signed_decimal z)) }
     ensures none { result ≡ None → (z : ℤ) → FitsSigned w32 z →

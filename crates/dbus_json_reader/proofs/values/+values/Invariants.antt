@@ -1,4 +1,4 @@
-use Rattle.std.proofs.Common.{◌≡◌, ◌+◌, ◌-◌, ◌*◌, suc, length, drop}
+use Rattle.std.proofs.Common.{◌-◌, ◌*◌, suc, length, drop}
 use Rattle.json.specs.Tree.{json_tokens}
 use Rattle.json.specs.Value.{value_view, items_view}
 use Rattle.dbus_types.specs.SigTypes.{type_tree, type_trees_of}

@@ -1,8 +1,7 @@
 use Rattle.std.proofs.Common.{◌≡◌, ℕ, List, IfSome, Option, Some, None, codes, rules}
 use Rattle.std.specs.Borrow.{Bor}
-use Rattle.json.specs.Value.{value_view, members_view}
+use Rattle.json.specs.Value.{value_view}
 use Rattle.json.specs.declared.value.Value.{Value}
-use Rattle.dbus_json_reader.specs.JsonValues.{IsTyped}
 use Rattle.dbus_json_reader.proofs.Shapes.{two_members, in_order, turned}
 use Rattle.dbus_json_reader.proofs.values.typed_members.Goals as goal
 
