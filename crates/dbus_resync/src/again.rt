@@ -78,6 +78,34 @@ impl<R: Source, A: Allocator + Copy> Again<R, A> {
     ///
     /// `Memory`: an allocation failed. `Device`: a read failed. What it gives next begins with the
     /// bytes that were kept, if memory was there for them; else it is what it was.
+    ///
+    /// ```rust
+    /// use dbus_resync::{Again, Found};
+    /// use dbus_stream::{FromRead, RawReader, ReadFault};
+    /// use dbus_value_model::Limits;
+    ///
+    /// let mut source = Again::new(alloc, FromRead::new(rt.stdin()));
+    /// for _ in 0..u64::MAX {
+    ///     let mut reader = RawReader::new(alloc, source);
+    ///     for _ in 0..u64::MAX {
+    ///         match reader.advance() {
+    ///             Ok(Some(validated)) => println!(rt; "serial {}", validated.serial)?,
+    ///             Ok(None) => return Ok(()),
+    ///             Err(ReadFault::Format(_)) => break,
+    ///             Err(fault) => return Err(fault.into()),
+    ///         }
+    ///     }
+    ///     let (held, part) = reader.kept();
+    ///     let mut kept = Vec::new(alloc);
+    ///     kept.extend_from_slice(held)?;
+    ///     kept.extend_from_slice(part)?;
+    ///     source = reader.into_source();
+    ///     match source.go_on(kept.as_slice(), Limits::specification(), 1_048_576, 67_108_864) {
+    ///         Ok(Found::At(lost)) => println!(rt; "{lost} bytes lost")?,
+    ///         _ => break,
+    ///     }
+    /// }
+    /// ```
     pub fn go_on(
         &mut self,
         kept: &[u8],
