@@ -1,4 +1,5 @@
 mod Decimals
+mod OneByte
 mod Bits
 mod Narrow
 pub mod Going

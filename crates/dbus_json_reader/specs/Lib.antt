@@ -1,2 +1,3 @@
+pub mod JsonMembers
 pub mod JsonNumbers
 pub mod JsonValues
