@@ -18,7 +18,7 @@ use Rattle.dbus_json.specs.declared.place.LinePlace.{LinePlace}
 use Rattle.dbus_json.proofs.OneLines.{last_members, later_members, line_is}
 use Rattle.dbus_json.specs.Times.{digit_at, powers, fraction_digits, seconds_text, time_members}
 use Rattle.dbus_json.specs.JsonValues.{plain, member, array, object, listed, AreJson}
-use Rattle.dbus_json.specs.JsonMessages.{type_text, first_members, known_fields, other_fields, is_before_known, AreKnown, AreOthers}
+use Rattle.dbus_json.specs.JsonMessages.{type_text, first_members, known_fields, other_fields, is_before_known, AreKnown, AreOthers, fields_text}
 use Rattle.dbus_json_laws.proofs.Numbers.{Bare, AreAll, all_append, weaker, same_head, cut, decimal_bare, bare_literal, bare_at, bare_of, plain_same, low}
 use Rattle.dbus_json_laws.proofs.Values.{Stop, sound, are_sound, alike_types, more, after_item, comma_ends, same_listed}
 use Rattle.dbus_json_laws.proofs.Mixing.{Placed, mixing_kept}
@@ -173,6 +173,13 @@ led_listed : (texts : List (List ℕ)) → led [] (codes ",") texts ≡ listed t
 led_listed [] = refl
 led_listed (t ∷ texts) = refl
 
+-- the header fields before what follows them
+fields_cut : (known others : List (List ℕ)) (t : List ℕ) → fields_text known others ++ t ≡ led (codes ",") (codes ",") known ++ (codes ",\"fields\":[" ++ (led [] (codes ",") others ++ 93 ∷ t))
+fields_cut known others t =
+    let o = led [] (codes ",") others in
+    append_assoc (led (codes ",") (codes ",") known) (codes ",\"fields\":[" ++ (o ++ codes "]")) t
+    ∙ ap (λ (s : List ℕ). led (codes ",") (codes ",") known ++ (codes ",\"fields\":[" ++ s)) (append_assoc o (codes "]") t)
+
 line_cut : (order : Order) (m : MessageTree) (place : LinePlace) (known others values : List (List ℕ))
     → object (first_members place order (length (message_bytes order m)) m.kind m.flags m.serial ++ (known ++ (member (codes "fields") (array others) ∷ member (codes "body") (array values) ∷ []))) ++ codes "\n"
     ≡ line_of order m place known others values
@@ -183,6 +190,7 @@ line_cut order m place known others values =
     let later = later_members place order size m.kind m.flags m.serial in
     let tail = end_of known others values in
     sym (line_is number later known others values)
+    ∙ ap (λ (s : List ℕ). (codes "{" ++ listed (number ∷ later)) ++ s) (fields_cut known others (codes ",\"body\":[" ++ (led [] (codes ",") values ++ codes "]}\n")))
     ∙ ap (λ (s : List ℕ). (codes "{" ++ listed (number ∷ later)) ++ (s ++ (codes ",\"fields\":[" ++ (led [] (codes ",") others ++ (codes "],\"body\":[" ++ (led [] (codes ",") values ++ codes "]}\n")))))) (led_more known)
     ∙ ap (λ (s : List ℕ). (codes "{" ++ listed (number ∷ later)) ++ (more known ++ (codes ",\"fields\":[" ++ (s ++ (codes "],\"body\":[" ++ (led [] (codes ",") values ++ codes "]}\n")))))) (led_listed others)
     ∙ ap (λ (s : List ℕ). (codes "{" ++ listed (number ∷ later)) ++ (more known ++ (codes ",\"fields\":[" ++ (listed others ++ (codes "],\"body\":[" ++ (s ++ codes "]}\n")))))) (led_listed values)
