@@ -202,11 +202,11 @@ fn write_listed<W: Sink>(
 /// Lists the messages of a source on the first writer, each that is selected as a line of at most
 /// so many cells, with at most 2^32 reads, and tells the second writer of messages that are
 /// refused, as [`crate::run_with`] does. A reply to a call that came before it in the input is told
-/// with the call's number, also if that is not selected; how long it took, if the input has times. A
-/// connection is told with the name that it is known to have, by the messages up to this one. Of the
-/// lines that there are the window of the settings lets some through, and nothing is read after the
-/// last of them, unless the rest is to be checked. What is written is gathered up to 16,384 bytes,
-/// and goes out before each read.
+/// with the call's number, also if that is not selected; how long it took, if the input has times.
+/// A connection is told with the name that it is known to have, by the messages up to this one. Of
+/// the lines that there are the window of the settings lets some through, and nothing is read after
+/// the last of them, unless the rest is to be checked. What is written is gathered up to 16,384
+/// bytes, and goes out before each read.
 ///
 /// `Done`, `Refused`: all was written, and whether anything was refused. `Failed`: a read or a
 /// write failed, as many reads were made as may be, or memory ran out; if it was not a write to the

@@ -39,7 +39,10 @@ impl<'a> LineSelector<'a> {
     /// Of these lines.
     ///
     /// `AllocError`: an allocation failed.
-    pub(crate) fn new(alloc: Global, wanted: &'a WantedLines) -> Result<LineSelector<'a>, AllocError>
+    pub(crate) fn new(
+        alloc: Global,
+        wanted: &'a WantedLines,
+    ) -> Result<LineSelector<'a>, AllocError>
         ensures selection { IfOk result (λ selector. selector.selector.selection.now ≡ wanted.now.selection) }
         ensures width { IfOk result (λ selector. selector.width ≡ wanted.now.width) }
     {

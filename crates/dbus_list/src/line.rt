@@ -101,16 +101,16 @@ fn write_joined<D: Draft>(
     joined.finish();
 }
 
-/// Appends a validated message as one line for a reader, which ends in a line feed. `beside` is what
-/// is known of the message and its line tells too.
+/// Appends a validated message as one line for a reader, which ends in a line feed. `beside` is
+/// what is known of the message and its line tells too.
 ///
 /// The line has `width` cells of a terminal at most, or for 0 as many as it takes: what does not
 /// fit is cut, and `~` is in the last cell. It is the message's number; its time of day in UTC, if
 /// one is given; its size in bytes; its sender and destination, each with the name by which it is
-/// known in brackets, if that fits; for a call and a signal its member with the types of its values,
-/// for a reply the number and the member of the call, and how long it took, or if the call is not
-/// known its serial; and its values. Names are shortened by `~` to their last elements. No message
-/// is built from the bytes, and only the draft allocates.
+/// known in brackets, if that fits; for a call and a signal its member with the types of its
+/// values, for a reply the number and the member of the call, and how long it took, or if the call
+/// is not known its serial; and its values. Names are shortened by `~` to their last elements. No
+/// message is built from the bytes, and only the draft allocates.
 ///
 /// ```text
 ///   25 08:15:59.178   146 :1.3         > ~example.Lab ~example.Lab.Quick(s) "world"

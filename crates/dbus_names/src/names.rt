@@ -28,9 +28,9 @@ use std::alloc::{AllocError, Global};
 /// Who has which name, as messages tell it one after the other, in the order of their input.
 ///
 /// It holds memory for the owners of names that are wanted, for one name of each connection that is
-/// not gone, and for the open calls whose replies tell more. A message takes time for its own header
-/// and the logarithm of the number of names and open calls; if a caller is gone, for each of its
-/// calls.
+/// not gone, and for the open calls whose replies tell more. A message takes time for its own
+/// header and the logarithm of the number of names and open calls; if a caller is gone, for each of
+/// its calls.
 ///
 /// ```rust
 /// use dbus_names::Names;
