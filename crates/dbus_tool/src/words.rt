@@ -167,9 +167,7 @@ fn do_task<R: Source, W: Sink, E: Sink>(
             Task::CountAll(form) => {
                 count_by_name(alloc, settings, table_form(form), reader, first, second)
             }
-            Task::ListAll(wanted) => {
-                do_calls(alloc, settings, wanted, reader, first, second)
-            }
+            Task::ListAll(wanted) => { do_calls(alloc, settings, wanted, reader, first, second) }
             Task::ListLines(wanted) => {
                 list_lines(alloc, settings, &wanted, reader, first, second)
             }
