@@ -4,6 +4,7 @@ use Rattle.std.specs.Prelude.{ℕ, List, [], ◌++◌, codes, decimal, ◌≡◌
 use Rattle.dbus_value_model.specs.declared.fault.Reason.{Reason}
 use Rattle.dbus_value_model.specs.FaultTexts.{reason_text}
 use Rattle.dbus_explain.specs.Explained.{IsExplained}
+use Rattle.dbus_explain.specs.Members.{AreMembersOf}
 use Rattle.dbus_explain.specs.declared.message.Refused.{Refused}
 use Rattle.dbus_device.specs.Device.{Wrote, Stopped}
 use Rattle.cli_report.specs.declared.ending.Cause.{Cause}
@@ -36,19 +37,33 @@ line_of false refusal = refused_line (refusal.offset + refusal.fault.at) refusal
 line_of true refusal = codes "refused at " ++ (decimal (refusal.offset + refusal.fault.at) ++ (codes ": " ++ (reason_text refusal.fault.reason
     ++ (codes " in message " ++ (decimal refusal.number ++ (codes " at " ++ (decimal refusal.offset ++ (in_packet refusal.packet ++ codes "\n"))))))))
 
--- the lines that explain it
-pub record Explains (refusal : RefusedMessage) (kept text : List ℕ) : Type 0 where
+-- this explains it in a form
+pub record Explains (Is : Refused → List ℕ → Type 0) (refusal : RefusedMessage) (kept text : List ℕ) : Type 0 where
   pub refused : Refused
   pub bytes_are : refused.bytes.now ≡ kept
   pub fault_is : refused.fault ≡ refusal.fault
   pub number_is : refused.number ≡ refusal.number
   pub offset_is : refused.offset ≡ refusal.offset
-  pub explained : IsExplained refused text
+  pub explained : Is refused text
 
 -- its line, and then those that explain it, if that is wanted
 abbrev pub IsToldBy : (goes_on explains : Bool) → RefusedMessage → (kept text : List ℕ) → Type 0
 IsToldBy goes_on false refusal kept text = text ≡ line_of goes_on refusal
-IsToldBy goes_on true refusal kept text = (explained : List ℕ) × Explains refusal kept explained × (text ≡ line_of goes_on refusal ++ explained)
+IsToldBy goes_on true refusal kept text = (explained : List ℕ) × Explains IsExplained refusal kept explained × (text ≡ line_of goes_on refusal ++ explained)
+
+-- the number of its packet as a member of an object, if it is of one
+abbrev pub packet_member : Option ℕ → List ℕ
+packet_member None = []
+packet_member (Some number) = codes ",\"packet\":" ++ decimal number
+
+-- A line of JSON: an object of the fault and its place in the input, of the message's number and
+-- where it begins, of its packet, and of what explains it.
+pub record IsJsonRefusal (refusal : RefusedMessage) (kept text : List ℕ) : Type 0 where
+  pub members : List ℕ
+  pub explains : Explains AreMembersOf refusal kept members
+  pub is : text ≡ codes "{\"refused\":\"" ++ (reason_text refusal.fault.reason ++ (codes "\",\"offset\":" ++ (decimal (refusal.offset + refusal.fault.at)
+      ++ (codes ",\"message\":" ++ (decimal refusal.number ++ (codes ",\"begins\":" ++ (decimal refusal.offset ++ (packet_member refusal.packet
+      ++ (codes "," ++ (members ++ codes "}\n"))))))))))
 
 -- How a run ends, and what is told of one that fails.
 

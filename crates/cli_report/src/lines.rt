@@ -44,6 +44,24 @@ impl fmt::Display for InPacket {
     }
 }
 
+// The packet of a fault, as a member of an object of JSON that has others before it.
+#[derive(Clone, Copy)]
+pub(crate) struct PacketMember(pub(crate) Option<u64>);
+
+impl fmt::Display for PacketMember {
+    ghost use Rattle.std.specs.Prelude.{Some};
+    ghost use Rattle.cli_report.specs.Telling.{packet_member};
+
+    ghost output = { λ packet. Some (packet_member packet.0) };
+
+    fn fmt<W: fmt::Write>(&self, f: &mut fmt::Formatter<W>) -> fmt::Result {
+        match self.0 {
+            Some(number) => write!(f, ",\"packet\":{number}"),
+            None => Ok(()),
+        }
+    }
+}
+
 // The line of a cause.
 pub(crate) fn cause_line(cause: Cause) -> &'static str
     ensures { result.now ≡ cause_line cause }

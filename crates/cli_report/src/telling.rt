@@ -1,12 +1,12 @@
 //! The report of a message that is refused.
-ghost use Rattle.std.specs.Prelude.{◌≡◌, IfOk, OnOk, string_bytes};
-ghost use Rattle.dbus_explain.specs.Explained.{IsExplained};
+ghost use Rattle.std.specs.Prelude.{◌≡◌, ℕ, IfOk, List, OnOk, string_bytes};
 ghost use Rattle.dbus_stream.specs.RawReading.{kept};
-ghost use Rattle.cli_report.specs.Telling.{Explains, IsToldBy, line_of};
+ghost use Rattle.cli_report.specs.Explaining.{IsExplainedIn};
+ghost use Rattle.cli_report.specs.Telling.{Explains, IsJsonRefusal, IsToldBy, line_of};
 
-use crate::lines::{InPacket, refused_line};
-use dbus_explain::{Refused, explain_message};
-use dbus_show::StringDraft;
+use crate::lines::{InPacket, PacketMember, refused_line};
+use dbus_explain::{Refused, explain_message, write_refusal_members};
+use dbus_show::{Draft, StringDraft};
 use dbus_stream::{RawReader, Source};
 use dbus_value_model::Fault;
 use std::alloc::{AllocError, Allocator};
@@ -41,7 +41,7 @@ pub fn refusal_text<R: Source, A: Allocator + Copy>(
 {
     let mut text = line_of(alloc, goes_on, refusal)?;
     if explains {
-        let explained = explanation(alloc, refusal, messages)?;
+        let explained = explanation(alloc, Form::Lines, refusal, messages)?;
         text.push_str(explained.as_str())?;
     }
     Ok(text)
@@ -70,31 +70,75 @@ fn line_of<A: Allocator + Copy>(
     format!(in alloc; "refused at {place}: {reason} in message {number} at {offset}{in_packet}\n")
 }
 
-// The lines that explain a message that is refused, by the bytes that the reader keeps.
-fn explanation<R: Source, A: Allocator + Copy>(
+/// The report of a message that is refused as a line of JSON, by the bytes that the reader keeps:
+/// an object, and a line feed.
+///
+/// It has the name of the fault as `refused`; its place in the input as `offset`; the message's
+/// number as `message`, and where it begins as `begins`; the number of its packet as `packet`, if
+/// there is one; and then the members of [`write_refusal_members`].
+///
+/// `AllocError`: an allocation failed. RFC 8259.
+pub fn refusal_json<R: Source, A: Allocator + Copy>(
     alloc: A,
     refusal: RefusedMessage,
     messages: &RawReader<R, A>,
 ) -> Result<String<A>, AllocError>
-    ensures { IfOk result (λ text. Explains refusal (kept messages.now) (string_bytes text)) }
+    ensures { IfOk result (λ text.
+        IsJsonRefusal refusal (kept messages.now) (string_bytes text)) }
+{
+    let RefusedMessage {
+        number,
+        offset,
+        fault,
+        packet,
+    } = refusal;
+    let place = offset as u128 + fault.at as u128;
+    let reason = fault.reason;
+    let in_packet = PacketMember(packet);
+    let members = explanation(alloc, Form::Members, refusal, messages)?;
+    format!(in alloc;
+        "{{\"refused\":\"{reason}\",\"offset\":{place},\"message\":{number},\"begins\":{offset}{in_packet},{members}}}\n"
+    )
+}
+
+// In which form a message that is refused is explained.
+#[derive(Clone, Copy)]
+enum Form {
+    // As lines.
+    Lines,
+    // As members of an object of JSON.
+    Members,
+}
+
+// What explains a message that is refused, by the bytes that the reader keeps.
+fn explanation<R: Source, A: Allocator + Copy>(
+    alloc: A,
+    form: Form,
+    refusal: RefusedMessage,
+    messages: &RawReader<R, A>,
+) -> Result<String<A>, AllocError>
+    ensures { IfOk result (λ text.
+        Explains (IsExplainedIn form) refusal (kept messages.now) (string_bytes text)) }
 {
     let (held, part) = messages.kept();
     if held.is_empty() {
-        return explained_by(alloc, refusal, part);
+        return explained_by(alloc, form, refusal, part);
     }
     let mut joined = Vec::new(alloc);
     joined.extend_from_slice(held)?;
     joined.extend_from_slice(part)?;
-    explained_by(alloc, refusal, joined.as_slice())
+    explained_by(alloc, form, refusal, joined.as_slice())
 }
 
-// The lines that explain a message that is refused, by its bytes.
+// What explains a message that is refused, by its bytes.
 fn explained_by<A: Allocator + Copy>(
     alloc: A,
+    form: Form,
     refusal: RefusedMessage,
     bytes: &[u8],
 ) -> Result<String<A>, AllocError>
-    ensures { IfOk result (λ text. Explains refusal bytes.now (string_bytes text)) }
+    ensures { IfOk result (λ text.
+        Explains (IsExplainedIn form) refusal bytes.now (string_bytes text)) }
 {
     let refused = Refused {
         bytes,
@@ -103,15 +147,30 @@ fn explained_by<A: Allocator + Copy>(
         offset: refusal.offset,
     };
     let mut text = String::new(alloc);
-    explain_into(&mut text, &refused)?;
+    explain_into(&mut text, form, &refused)?;
     Ok(text)
 }
 
-// Writes the lines that explain a message that is refused into a string.
-fn explain_into<A: Allocator>(out: &mut String<A>, refused: &Refused) -> Result<(), AllocError>
-    ensures { OnOk result (IsExplained refused.now (string_bytes out.new)) }
+// Writes what explains a message that is refused into a string.
+fn explain_into<A: Allocator>(
+    out: &mut String<A>,
+    form: Form,
+    refused: &Refused,
+) -> Result<(), AllocError>
+    ensures { OnOk result (IsExplainedIn form refused.now (string_bytes out.new)) }
 {
     let mut draft = StringDraft::new(out);
-    explain_message(&mut draft, refused);
+    write_explained(&mut draft, form, refused);
     draft.finish()
+}
+
+// Appends what explains a message that is refused.
+fn write_explained<D: Draft>(draft: &mut D, form: Form, refused: &Refused)
+    ensures { (text : List ℕ) × IsExplainedIn form refused.now text ×
+        D.gains draft.old text draft.new }
+{
+    match form {
+        Form::Lines => explain_message(draft, refused),
+        Form::Members => write_refusal_members(draft, refused),
+    }
 }
