@@ -55,10 +55,10 @@ impl fmt::Display for PacketMember {
     ghost output = { λ packet. Some (packet_member packet.0) };
 
     fn fmt<W: fmt::Write>(&self, f: &mut fmt::Formatter<W>) -> fmt::Result {
-        match self.0 {
-            Some(number) => write!(f, ",\"packet\":{number}"),
-            None => Ok(()),
-        }
+        let Some(number) = self.0 else {
+            return Ok(());
+        };
+        write!(f, ",\"packet\":{number}")
     }
 }
 
