@@ -28,7 +28,9 @@ fn known_room(line: u16, name: &str) -> usize
     if line == 0 {
         return LONGEST_NAME;
     }
-    name_cells(line).saturating_sub(name.len()).saturating_sub(2)
+    name_cells(line)
+        .saturating_sub(name.len())
+        .saturating_sub(2)
 }
 
 /// Appends a name, and behind it in brackets the one by which its connection is known, if that fits
